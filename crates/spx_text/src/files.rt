@@ -1,0 +1,56 @@
+// The files that a program loads.
+ghost use Rattle.std.specs.Prelude.{◌≡◌, ◌⊎◌, ◌<◌, ◌++◌, List, ℕ, length, take, Option, IfSome, OnOk, OnErr, IsErrOf};
+ghost use Rattle.spx_text.specs.Loads.{failed_by, named_by, names, Appends};
+
+use std::alloc::Global;
+use thiserror::Error;
+
+/// Why a file was not loaded.
+#[derive(Clone, Copy, Debug, PartialEq, Eq, Error)]
+pub enum LoadFault {
+    /// The file could not be read, and its name is kept.
+    #[error("the file could not be read")]
+    Failed,
+    /// The file has more bytes than were asked for.
+    #[error("the file is too long")]
+    TooLong,
+    /// There is no room for the bytes, or for the name of a load that failed.
+    #[error("out of memory")]
+    Memory,
+}
+
+/// Files that are loaded whole, by name.
+pub trait Files {
+    /// The bytes of each name, where they are told.
+    ghost told: { Self → List ℕ → Option (List ℕ) };
+
+    /// The names whose loads failed, the oldest first.
+    ghost failed: { Self → List (List ℕ) };
+
+    /// Appends the bytes of the file of this name to `into`, at most `most` of them. After a refusal `into` is unchanged.
+    fn load(&mut self, name: &str, into: &mut Vec<u8>, most: usize) -> Result<(), LoadFault>
+        // No call changes what is told.
+        ensures told { (n : List ℕ) → told self.new n ≡ told self.old n }
+
+        // The name is kept exactly where the answer is `Failed`, and nothing is kept otherwise.
+        ensures failed { failed self.new ≡ failed self.old ++ failed_by result name.now }
+
+        ensures kept { OnOk result (take (length into.old.items) into.new.items ≡ into.old.items) }
+        ensures loaded { OnOk result (IfSome (told self.old name.now) (Appends most into.old.items into.new.items)) }
+        ensures too_long { IsErrOf result LoadFault.TooLong → IfSome (told self.old name.now) (λ bytes. most < length bytes) }
+        ensures refused { OnErr result (into.new.items ≡ into.old.items) };
+}
+
+// Keeps the name of a load that failed. The answer is `Memory` where there is no room for it.
+pub(crate) fn keep_name(alloc: Global, failed: &mut Vec<String>, name: &str) -> LoadFault
+    ensures names { names failed.new.items ≡ names failed.old.items ++ named_by result name.now }
+    ensures fault { (result ≡ LoadFault.Failed) ⊎ (result ≡ LoadFault.Memory) }
+{
+    match String::from_str(alloc, name) {
+        Ok(kept) => match failed.push(kept) {
+            Ok(()) => LoadFault::Failed,
+            Err(_) => LoadFault::Memory,
+        },
+        Err(_) => LoadFault::Memory,
+    }
+}

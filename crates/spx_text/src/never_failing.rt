@@ -1,0 +1,40 @@
+// Files and a sink that never fail.
+ghost use Rattle.std.specs.Prelude.{◌≡◌, [], ◌++◌, Some, None, unwrap_or};
+ghost use Rattle.spx_text.specs.Held.{bytes_held};
+
+use crate::memory_files::find;
+use crate::{Failed, Files, HeldFile, LoadFault, Sink};
+
+/// Files in memory. A name that is not held is an empty file.
+#[derive(Drop)]
+pub struct NoFailFiles {
+    pub held: Vec<HeldFile>,
+}
+
+impl Files for NoFailFiles {
+    ghost told = { λ files name. Some (unwrap_or (bytes_held files.held.items name) []) };
+
+    ghost failed = { λ _. [] };
+
+    fn load(&mut self, name: &str, into: &mut Vec<u8>, most: usize) -> Result<(), LoadFault> {
+        let bytes = find(self.held.as_slice(), name).unwrap_or(&[]);
+        if bytes.len() > most {
+            return Err(LoadFault::TooLong);
+        }
+        into.extend_from_slice(bytes).map_err(|_| LoadFault::Memory)
+    }
+}
+
+/// A sink that takes each piece whole, and keeps and tells no bytes.
+#[derive(Drop)]
+pub struct NoFailSink;
+
+impl Sink for NoFailSink {
+    ghost taken = { λ _. None };
+
+    ghost faults = { λ _. 0 };
+
+    fn write(&mut self, piece: &[u8]) -> Result<usize, Failed> {
+        Ok(piece.len())
+    }
+}
