@@ -1,0 +1,6 @@
+pub mod Shapes
+pub mod OnlyDigits
+pub mod OnePart
+pub mod OneSpelling
+pub mod Places
+mod OneTree

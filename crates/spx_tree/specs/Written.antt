@@ -1,0 +1,143 @@
+-- The forms with which a tree is written: one case for each production.
+use Rattle.std.specs.Prelude.{Bool, true, false, List, [], ◌∷◌, ◌++◌, map, Option, Some, None}
+use Rattle.spx_text.specs.declared.place.Place.{Place}
+use Rattle.spx_tree.specs.declared.token.Kind.{Kind}
+use Rattle.spx_tree.specs.declared.token.Kind.TheVariants as k
+use Rattle.spx_tree.specs.declared.expression.Identifier.{Identifier}
+use Rattle.spx_tree.specs.declared.expression.InfixOp.{InfixOp}
+use Rattle.spx_tree.specs.declared.expression.InfixOp.TheVariants as op
+use Rattle.spx_tree.specs.declared.expression.Expr.{Expr, end_of-Expr, more_of-Expr}
+use Rattle.spx_tree.specs.declared.expression.Expr.TheVariants.{Number, Name, Attribute, Infix'}
+use Rattle.spx_tree.specs.declared.statement.Stmt.{Stmt}
+use Rattle.spx_tree.specs.declared.statement.Stmt.TheVariants.{Assignment}
+use Rattle.spx_tree.specs.declared.annotation.DerivesItem.{DerivesItem}
+use Rattle.spx_tree.specs.declared.annotation.Derives.{Derives}
+use Rattle.spx_tree.specs.declared.annotation.Precondition.{Precondition}
+use Rattle.spx_tree.specs.declared.subprogram.WrittenMode.{WrittenMode}
+use Rattle.spx_tree.specs.declared.subprogram.WrittenMode.TheVariants as modes
+use Rattle.spx_tree.specs.declared.subprogram.Param.{Param}
+use Rattle.spx_tree.specs.declared.subprogram.Subprogram.{Subprogram}
+use Rattle.spx_tree.specs.declared.subprogram.Unit.{Unit}
+use Rattle.spx_tree.specs.declared.subprogram.Unit.TheVariants as unit
+use Rattle.spx_tree.specs.Form.{Form, bare, placed, named, literal}
+
+-- the mark of the tokens of a program's own text, and that of the tokens of annotations
+abbrev pub program : Bool
+program = false
+
+abbrev pub annotation : Bool
+annotation = true
+
+-- Lists.
+
+-- one after another
+abbrev pub joined : List (List Form) → List Form
+joined [] = []
+joined (x ∷ xs) = x ++ joined xs
+
+-- each item behind a separator
+abbrev pub behind : {A : Type 0} → Form → (A → List Form) → List A → List Form
+behind separator spell [] = []
+behind separator spell (x ∷ xs) = separator ∷ (spell x ++ behind separator spell xs)
+
+-- items with a separator between each and the next
+abbrev pub separated : {A : Type 0} → Form → (A → List Form) → List A → List Form
+separated separator spell [] = []
+separated separator spell (x ∷ xs) = spell x ++ behind separator spell xs
+
+-- what may be left out
+abbrev pub optional : {A : Type 0} → (A → List Form) → Option A → List Form
+optional spell None = []
+optional spell (Some x) = spell x
+
+-- Names and expressions (Ada 95 RM 4).
+
+-- identifier
+abbrev pub written_name : Bool → Identifier → List Form
+written_name marked name = named marked name ∷ []
+
+-- identifier {"," identifier}
+abbrev pub written_names : Bool → List Identifier → List Form
+written_names marked names = separated (bare marked k.Comma) (written_name marked) names
+
+-- the token that an operator is
+abbrev pub operator_kind : InfixOp → Kind
+operator_kind op.Add = k.Plus
+operator_kind op.Subtract = k.Minus
+operator_kind op.Equal = k.Equal
+operator_kind op.NotEqual = k.NotEqual
+operator_kind op.Less = k.Less
+operator_kind op.LessOrEqual = k.LessOrEqual
+operator_kind op.Greater = k.Greater
+operator_kind op.GreaterOrEqual = k.GreaterOrEqual
+
+-- two operands under an operator
+pattern abbrev pub operation : InfixOp → Place → Expr → Expr → Expr
+operation op place left right = Infix' op place tt (more_of-Expr left end_of-Expr) tt (more_of-Expr right end_of-Expr)
+
+-- number | identifier | identifier "'" identifier | operand operator operand
+abbrev pub written_expr : Bool → Expr → List Form
+written_expr marked (Number value place) = literal marked value place ∷ []
+written_expr marked (Name name) = named marked name ∷ []
+written_expr marked (Attribute prefix designator) = named marked prefix ∷ bare marked k.Apostrophe ∷ named marked designator ∷ []
+written_expr marked (operation op place left right) = written_expr marked left ++ placed marked (operator_kind op) place ∷ written_expr marked right
+
+-- Statements (Ada 95 RM 5).
+
+-- identifier ":=" expression ";"
+abbrev pub written_stmt : Stmt → List Form
+written_stmt (Assignment target expr) = named program target ∷ bare program k.Assignment ∷ (written_expr program expr ++ bare program k.Semicolon ∷ [])
+
+-- statement {statement}
+abbrev pub written_stmts : List Stmt → List Form
+written_stmts stmts = joined (map written_stmt stmts)
+
+-- Annotations (Barnes, High Integrity Software).
+
+-- ["*" {"," identifier} | names]
+abbrev pub written_imports : Option Place → List Identifier → List Form
+written_imports None names = written_names annotation names
+written_imports (Some place) names = placed annotation k.Asterisk place ∷ behind (bare annotation k.Comma) (written_name annotation) names
+
+-- names "from" imports
+abbrev pub written_item : DerivesItem → List Form
+written_item item = written_names annotation item.exports ++ bare annotation k.From ∷ written_imports item.imports.itself item.imports.names
+
+-- "derives" item {"&" item} ";"
+abbrev pub written_derives : Derives → List Form
+written_derives derives = placed annotation k.Derives derives.place ∷ (separated (bare annotation k.Ampersand) written_item derives.items ++ bare annotation k.Semicolon ∷ [])
+
+-- "pre" comparison ";"
+abbrev pub written_pre : Precondition → List Form
+written_pre pre = placed annotation k.Pre pre.place ∷ (written_expr annotation pre.condition ++ bare annotation k.Semicolon ∷ [])
+
+-- Subprograms (Ada 95 RM 6).
+
+-- ["in"] ["out"]
+abbrev pub written_mode : WrittenMode → List Form
+written_mode modes.Unwritten = []
+written_mode modes.In = bare program k.In ∷ []
+written_mode modes.Out = bare program k.Out ∷ []
+written_mode modes.InOut = bare program k.In ∷ bare program k.Out ∷ []
+
+-- names ":" mode identifier
+abbrev pub written_param : Param → List Form
+written_param param = written_names program param.names ++ bare program k.Colon ∷ (written_mode param.mode ++ written_name program param.type_name)
+
+-- param {";" param}
+abbrev pub written_formals : List Param → List Form
+written_formals formals = separated (bare program k.Semicolon) written_param formals
+
+-- "procedure" identifier "(" formals ")"  derives [pre]  "is" "begin" statements "end" [identifier] ";"
+abbrev pub written_subprogram : Subprogram → List Form
+written_subprogram sub =
+    placed program k.Procedure sub.place ∷ named program sub.name ∷ bare program k.LeftParenthesis ∷ (written_formals sub.formals ++ bare program k.RightParenthesis ∷ (written_derives sub.derives ++ (optional written_pre sub.pre
+    ++ (bare program k.Is ∷ bare program k.Begin ∷ (written_stmts sub.statements ++ (placed program k.End sub.end ∷ (optional (written_name program) sub.end_name ++ bare program k.Semicolon ∷ [])))))))
+
+-- subprogram
+abbrev pub written_unit : Unit → List Form
+written_unit (unit.Subprogram sub) = written_subprogram sub
+
+-- unit {unit}
+abbrev pub written : List Unit → List Form
+written units = joined (map written_unit units)
