@@ -1,0 +1,9 @@
+pub mod ReadsLaws
+pub mod FlowLaws
+pub mod Expressions
+pub mod Trees
+pub mod Found
+pub mod Words
+pub mod Names
+pub mod Formals
+pub mod Programs

@@ -1,0 +1,30 @@
+-- The dependency relation that a subprogram declares (Barnes, derives annotation).
+use Rattle.std.specs.Prelude.{ℕ, Bool, ◌&&◌, ◌||◌, ◌==◌, is_some}
+use Rattle.std.specs.List.{list_any}
+use Rattle.spx_core.specs.declared.program.VarId.{VarId}
+use Rattle.spx_core.specs.declared.dependency.CoreDerivesItem.{CoreDerivesItem}
+use Rattle.spx_core.specs.declared.dependency.CoreDerives.{CoreDerives}
+use Rattle.spx_core.specs.Uses.{mentions}
+
+abbrev pub has_export : VarId → CoreDerivesItem → Bool
+has_export v item = mentions v item.exports
+
+-- `*` imports the exports themselves
+abbrev pub has_import : VarId → CoreDerivesItem → Bool
+has_import v item = mentions v item.imports || (is_some item.itself && has_export v item)
+
+-- each export is derived from each import, and by `*` from itself
+abbrev pub has_pair : VarId → VarId → CoreDerivesItem → Bool
+has_pair import export item = has_export export item && (mentions import item.imports || (is_some item.itself && (import.0 == export.0)))
+
+-- the variable is an export
+abbrev pub exports : VarId → CoreDerives → Bool
+exports v d = list_any (has_export v) d.items
+
+-- the variable is an import
+abbrev pub imports : VarId → CoreDerives → Bool
+imports v d = list_any (has_import v) d.items
+
+-- the export is declared to be derived from the import
+abbrev pub derives : VarId → VarId → CoreDerives → Bool
+derives import export d = list_any (has_pair import export) d.items

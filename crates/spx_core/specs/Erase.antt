@@ -1,0 +1,74 @@
+-- The units that a program is made from: its names without what they denote.
+use Rattle.std.specs.Prelude.{List, map, option_map}
+use Rattle.spx_tree.specs.declared.expression.Identifier.{Identifier}
+use Rattle.spx_tree.specs.declared.expression.Expr.{Expr}
+use Rattle.spx_tree.specs.declared.expression.Expr.TheVariants.{Number, Name, Attribute, Infix}
+use Rattle.spx_tree.specs.declared.statement.Stmt.{Stmt}
+use Rattle.spx_tree.specs.declared.statement.Stmt.TheVariants as stmt
+use Rattle.spx_tree.specs.declared.annotation.DerivesItem.{DerivesItem}
+use Rattle.spx_tree.specs.declared.annotation.Derives.{Derives}
+use Rattle.spx_tree.specs.declared.annotation.Precondition.{Precondition}
+use Rattle.spx_tree.specs.declared.subprogram.Param.{Param}
+use Rattle.spx_tree.specs.declared.subprogram.Subprogram.{Subprogram}
+use Rattle.spx_tree.specs.declared.subprogram.Unit.{Unit}
+use Rattle.spx_tree.specs.declared.subprogram.Unit.TheVariants as unit
+use Rattle.spx_core.specs.declared.expression.CoreName.{CoreName}
+use Rattle.spx_core.specs.declared.expression.CoreExpr.{CoreExpr, CoreExpr-F, fold-CoreExpr}
+use Rattle.spx_core.specs.declared.expression.CoreStmt.{CoreStmt}
+use Rattle.spx_core.specs.declared.expression.CoreStmt.TheVariants.{Assignment}
+use Rattle.spx_core.specs.declared.dependency.CoreDerivesItem.{CoreDerivesItem}
+use Rattle.spx_core.specs.declared.dependency.CoreDerives.{CoreDerives}
+use Rattle.spx_core.specs.declared.subprogram.CoreParam.{CoreParam}
+use Rattle.spx_core.specs.declared.subprogram.CorePrecondition.{CorePrecondition}
+use Rattle.spx_core.specs.declared.subprogram.Sub.{Sub}
+use Rattle.spx_core.specs.declared.program.Program.{Program}
+
+abbrev pub erased_name : CoreName → Identifier
+erased_name name = name.name
+
+abbrev pub erased_names : List CoreName → List Identifier
+erased_names names = map erased_name names
+
+-- one level, whose parts are erased
+abbrev pub erased_step : CoreExpr-F Expr → Expr
+erased_step (CoreExpr-F.Number value place) = Number value place
+erased_step (CoreExpr-F.Name name) = Name (erased_name name)
+erased_step (CoreExpr-F.Attribute prefix designator) = Attribute (erased_name prefix) designator
+erased_step (CoreExpr-F.Infix op place left right) = Infix op place left right
+
+abbrev pub erased_expr : CoreExpr → Expr
+erased_expr = fold-CoreExpr Expr erased_step
+
+abbrev pub erased_stmt : CoreStmt → Stmt
+erased_stmt (Assignment target expr) = stmt.Assignment (erased_name target) (erased_expr expr)
+
+abbrev pub erased_item : CoreDerivesItem → DerivesItem
+erased_item item = record { exports = erased_names item.exports; imports = record { itself = item.itself; names = erased_names item.imports } }
+
+abbrev pub erased_derives : CoreDerives → Derives
+erased_derives derives = record { place = derives.place; items = map erased_item derives.items }
+
+abbrev pub erased_pre : CorePrecondition → Precondition
+erased_pre pre = record { place = pre.place; condition = erased_expr pre.condition }
+
+abbrev pub erased_param : CoreParam → Param
+erased_param param = record { names = param.names; mode = param.mode; type_name = erased_name param.type_name }
+
+abbrev pub erased_sub : Sub → Subprogram
+erased_sub sub = record {
+  place = sub.place;
+  name = sub.name;
+  formals = map erased_param sub.formals;
+  derives = erased_derives sub.derives;
+  pre = option_map erased_pre sub.pre;
+  statements = map erased_stmt sub.statements;
+  end = sub.end;
+  end_name = sub.end_name;
+}
+
+abbrev pub erased_unit : Sub → Unit
+erased_unit sub = unit.Subprogram (erased_sub sub)
+
+-- the units, in the order of their subprograms
+abbrev pub erased : Program → List Unit
+erased program = map erased_unit program.subs

@@ -1,0 +1,12 @@
+pub mod Places
+pub mod Uses
+pub mod Dependency
+pub mod Static
+pub mod Reads
+pub mod Formals
+pub mod Flow
+pub mod Rules
+pub mod Erase
+pub mod Visible
+pub mod Typed
+pub mod Resolved

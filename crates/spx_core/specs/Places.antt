@@ -1,0 +1,13 @@
+-- Where an expression stands.
+use Rattle.spx_text.specs.declared.place.Place.{Place}
+use Rattle.spx_core.specs.declared.expression.CoreExpr.{CoreExpr, CoreExpr-F, out-CoreExpr}
+
+-- an infix operation at its operator, every other node at its first token
+abbrev pub place_in : CoreExpr-F CoreExpr → Place
+place_in (CoreExpr-F.Number n place) = place
+place_in (CoreExpr-F.Name name) = name.name.place
+place_in (CoreExpr-F.Attribute prefix designator) = prefix.name.place
+place_in (CoreExpr-F.Infix op place left right) = place
+
+abbrev pub place_of : CoreExpr → Place
+place_of e = place_in (out-CoreExpr e)

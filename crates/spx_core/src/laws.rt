@@ -1,0 +1,20 @@
+// Laws of the definitions, each as the contract of a function that does nothing.
+ghost use Rattle.std.specs.Prelude.{◌≡◌, List, Some};
+ghost use Rattle.spx_tree.specs.declared.subprogram.Unit.{Unit};
+ghost use Rattle.spx_core.specs.declared.program.Program.{Program};
+ghost use Rattle.spx_core.specs.Erase.{erased};
+ghost use Rattle.spx_core.specs.Resolved.{resolved};
+ghost use Rattle.spx_core.specs.Visible.{Visible};
+
+/// At most one program is made from units.
+#[tactic(auto, using(crate::proofs::Programs::one_program_lem))]
+pub fn one_program()
+    ensures { (p q : Program) → Visible p → Visible q → erased p ≡ erased q → p ≡ q }
+{}
+
+/// What is found for units is the program that is made from them.
+#[tactic(auto, using(crate::proofs::Programs::visible_is_found))]
+pub fn resolution()
+    ensures sound { (units : List Unit) (p : Program) → resolved units ≡ Some p → (erased p ≡ units) × Visible p }
+    ensures complete { (p : Program) → Visible p → resolved (erased p) ≡ Some p }
+{}

@@ -1,0 +1,45 @@
+// Resolved subprograms.
+
+use crate::{CoreDerives, CoreExpr, CoreName, CoreStmt, VarId};
+use spx_text::Place;
+use spx_tree::{Identifier, WrittenMode};
+use sqlite_items::Items;
+
+/// The mode of a formal parameter (Ada 95 RM 6.1).
+#[derive(Clone, Copy, Debug, PartialEq, Eq)]
+pub enum Mode {
+    In,
+    Out,
+    InOut,
+}
+
+/// `names : mode type_name`
+#[derive(Debug, Drop)]
+pub struct CoreParam {
+    pub names: Items<Identifier>,
+    pub mode: WrittenMode,
+    pub type_name: CoreName,
+}
+
+/// A precondition, at the word `pre`.
+#[derive(Debug, Drop)]
+pub struct CorePrecondition {
+    pub place: Place,
+    pub condition: CoreExpr,
+}
+
+/// A procedure, at the word `procedure`.
+#[derive(Debug, Drop)]
+pub struct Sub {
+    pub place: Place,
+    pub name: Identifier,
+    pub formals: Items<CoreParam>,
+    /// The formals, one by one.
+    pub vars: Items<VarId>,
+    pub derives: CoreDerives,
+    pub pre: Option<CorePrecondition>,
+    pub statements: Items<CoreStmt>,
+    /// The place of the word `end`.
+    pub end: Place,
+    pub end_name: Option<Identifier>,
+}
