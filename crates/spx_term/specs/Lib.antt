@@ -1,0 +1,10 @@
+pub mod Equality
+pub mod Sorts
+pub mod Meaning
+pub mod Widths
+pub mod Folding
+pub mod Goals
+pub mod Shapes
+pub mod Intervals
+pub mod Plain
+pub mod Steps

@@ -1,0 +1,18 @@
+//! Logical terms, sequents and verification conditions.
+//!
+//! Trees are plain data: a contract sees a term as what it holds. A layer above may rely on this: a copy equals its
+//! source, `same` tells whether two terms are equal, and `fold` changes no value of a well-sorted term.
+#![tactic(auto)]
+
+mod condition;
+mod folding;
+mod interval;
+pub mod laws;
+mod term;
+mod value;
+
+pub use condition::{CondKind, Condition, Sequent};
+pub use folding::fold;
+pub use interval::Interval;
+pub use term::{Name, Sort, Symbol, Term, TermOp, copy_all, same};
+pub use value::Value;
