@@ -1,0 +1,85 @@
+-- The value of an expression depends on the variables that it uses.
+use Rattle.std.proofs.Common.{◌≡◌, true, ◌||◌, refl, sym, ap, ap₂, ◌∙◌}
+use Rattle.std.proofs.lemmas.Bool.{eq-eqb, or_right}
+use Rattle.spx_text.specs.declared.place.Place.{Place}
+use Rattle.spx_tree.specs.declared.expression.InfixOp.{InfixOp}
+use Rattle.spx_core.specs.declared.program.VarId.{VarId}
+use Rattle.spx_core.specs.declared.program.Program.{Program}
+use Rattle.spx_core.specs.declared.expression.Entity.{Entity}
+use Rattle.spx_core.specs.declared.expression.Entity.TheVariants.{TypeName, Variable, Subprogram}
+use Rattle.spx_core.specs.declared.expression.CoreName.{CoreName}
+use Rattle.spx_core.specs.declared.expression.CoreExpr.{CoreExpr}
+use Rattle.spx_core.specs.declared.expression.CoreExpr.TheVariants.{Name, Infix}
+use Rattle.spx_core.specs.Uses.{is_variable, denotes, uses, uses_step}
+use Rattle.spx_core.specs.Static.{static_value}
+use Rattle.spx_meaning.specs.Stores.{Store, look, type_of}
+use Rattle.spx_meaning.specs.Evaluation.{with_value, applied, checked, read, read_at, static_or, eval, eval-Number, eval-Name, eval-Attribute, eval-Infix}
+use Rattle.spx_meaning.specs.Annotations.{reading_of, seen, meant, meant_step}
+use Rattle.spx_core.proofs.Expressions.{fold-Number, fold-Name, fold-Attribute, fold-Infix}
+use Rattle.spx_meaning.proofs.Expressions.{Cases, induct}
+
+-- the stores agree on the variables that the expression uses
+abbrev pub AgreeOnUses : CoreExpr → Store → Store → Type 0
+AgreeOnUses e s t = (v : VarId) → uses v e ≡ true → look s v ≡ look t v
+
+pub uses-Name : (v : VarId) (name : CoreName) → uses v (Name name) ≡ denotes v name
+uses-Name v name = fold-Name (uses_step v) name
+
+pub uses-Infix : (v : VarId) (op : InfixOp) (place : Place) (a b : CoreExpr) → uses v (Infix op place a b) ≡ (uses v a || uses v b)
+uses-Infix v op place a b = fold-Infix (uses_step v) op place a b
+
+-- an operand's uses are the operation's
+pub uses_left : (v : VarId) (op : InfixOp) (place : Place) (a b : CoreExpr) → uses v a ≡ true → uses v (Infix op place a b) ≡ true
+uses_left v op place a b h = uses-Infix v op place a b ∙ ap (λ x. x || uses v b) h
+
+pub uses_right : (v : VarId) (op : InfixOp) (place : Place) (a b : CoreExpr) → uses v b ≡ true → uses v (Infix op place a b) ≡ true
+uses_right v op place a b h = uses-Infix v op place a b ∙ or_right (uses v a) (uses v b) h
+
+module _ (s t : Store) where
+  abbrev Same : CoreExpr → Type 0
+  Same e = AgreeOnUses e s t → eval s e ≡ eval t e
+
+  read_same : (place : Place) (entity : Entity) → ((v : VarId) → is_variable v entity ≡ true → look s v ≡ look t v) → read s place entity ≡ read t place entity
+  read_same place (Variable v) agree = ap (read_at place) (agree v (eq-eqb v.0 v.0 refl))
+  read_same place (TypeName u) agree = refl
+  read_same place (Subprogram f) agree = refl
+
+  same_cases : Cases Same
+  same_cases = record {
+    number = λ n place agree. eval-Number s n place ∙ sym (eval-Number t n place);
+    name = λ name agree. eval-Name s name ∙ read_same name.name.place name.entity (λ v h. agree v (uses-Name v name ∙ h)) ∙ sym (eval-Name t name);
+    attribute = λ prefix designator agree. eval-Attribute s prefix designator ∙ sym (eval-Attribute t prefix designator);
+    «infix» = λ op place a b p q agree.
+        eval-Infix s op place a b
+        ∙ ap₂ (λ x y. static_or (static_value (Infix op place a b)) (with_value x (λ u. with_value y (λ w. checked op place (applied op u w)))))
+        (p (λ v h. agree v (uses_left v op place a b h))) (q (λ v h. agree v (uses_right v op place a b h)))
+        ∙ sym (eval-Infix t op place a b);
+  }
+
+  pub eval_same : (e : CoreExpr) → Same e
+  eval_same = induct Same same_cases
+
+-- what an annotation means depends on the variables that it uses
+module _ (p : Program) (s t : Store) where
+  abbrev MeansSame : CoreExpr → Type 0
+  MeansSame e = AgreeOnUses e s t → meant p s s e ≡ meant p t t e
+
+  reading_same : (entity : Entity) → ((v : VarId) → is_variable v entity ≡ true → look s v ≡ look t v) → reading_of p s entity ≡ reading_of p t entity
+  reading_same (Variable v) agree = ap (seen (type_of p v)) (agree v (eq-eqb v.0 v.0 refl))
+  reading_same (TypeName u) agree = refl
+  reading_same (Subprogram f) agree = refl
+
+  means_cases : Cases MeansSame
+  means_cases = record {
+    number = λ n place agree. fold-Number (meant_step p s s) n place ∙ sym (fold-Number (meant_step p t t) n place);
+    name = λ name agree.
+        fold-Name (meant_step p s s) name ∙ reading_same name.entity (λ v h. agree v (uses-Name v name ∙ h)) ∙ sym (fold-Name (meant_step p t t) name);
+    attribute = λ prefix designator agree. fold-Attribute (meant_step p s s) prefix designator ∙ sym (fold-Attribute (meant_step p t t) prefix designator);
+    «infix» = λ op place a b f g agree.
+        fold-Infix (meant_step p s s) op place a b
+        ∙ ap₂ (applied op) (f (λ v h. agree v (uses_left v op place a b h))) (g (λ v h. agree v (uses_right v op place a b h)))
+        ∙ sym (fold-Infix (meant_step p t t) op place a b);
+  }
+
+  pub meant_same : (e : CoreExpr) → MeansSame e
+  meant_same = induct MeansSame means_cases

@@ -1,0 +1,8 @@
+pub mod Expressions
+pub mod Stores
+pub mod Evaluation
+pub mod Runs
+pub mod Flows
+pub mod Entries
+pub mod Scopes
+mod Examples

@@ -1,0 +1,109 @@
+-- The value of an expression in code, or the first check that fails.
+use Rattle.std.specs.Prelude.{◌≡◌, refl, ℤ, pos, if◌then◌else◌, Option, Some, None}
+use denote.Hole.Carrier.{hidden}
+use Rattle.spx_text.specs.declared.place.Place.{Place}
+use Rattle.spx_tree.specs.declared.expression.Identifier.{Identifier}
+use Rattle.spx_tree.specs.declared.expression.InfixOp.{InfixOp}
+use Rattle.spx_tree.specs.declared.expression.InfixOp.TheVariants as op
+use Rattle.spx_core.specs.declared.program.TypeId.TheVariants.{Integer}
+use Rattle.spx_core.specs.declared.expression.Entity.{Entity}
+use Rattle.spx_core.specs.declared.expression.Entity.TheVariants.{Variable}
+use Rattle.spx_core.specs.declared.expression.CoreName.{CoreName}
+use Rattle.spx_core.specs.declared.expression.CoreExpr.{CoreExpr, end_of-CoreExpr, more_of-CoreExpr}
+use Rattle.spx_core.specs.declared.expression.CoreExpr.TheBlock.{hidden-the_row-CoreExpr-0}
+use Rattle.spx_core.specs.declared.expression.CoreExpr.TheVariants.{Number, Name, Attribute, Infix, Infix'}
+use Rattle.spx_core.specs.Static.{Static, number, truth, attribute_value, static_value}
+use Rattle.spx_term.specs.declared.term.TermOp.{TermOp}
+use Rattle.spx_term.specs.declared.term.TermOp.TheVariants as term
+use Rattle.spx_term.specs.declared.value.Value.{Value}
+use Rattle.spx_term.specs.declared.value.Value.TheVariants as value
+use Rattle.spx_term.specs.Meaning.{value_of_op}
+use Rattle.spx_meaning.specs.declared.bad.BadKind.{BadKind}
+use Rattle.spx_meaning.specs.declared.bad.BadKind.TheVariants.{Overflow, Unset}
+use Rattle.spx_meaning.specs.Stores.{Store, look, is_in}
+
+-- what an evaluation gives
+pub data Answer : Type 0 where
+  Gives : Value → Answer
+  Fails : BadKind → Place → Answer
+
+-- goes on with the value, where there is one
+abbrev pub with_value : Answer → (Value → Answer) → Answer
+with_value (Gives x) go = go x
+with_value (Fails kind place) go = Fails kind place
+
+-- the operator of terms that has this operator's meaning
+abbrev pub term_op : InfixOp → TermOp
+term_op op.Add = term.Add
+term_op op.Subtract = term.Subtract
+term_op op.Equal = term.Equal
+term_op op.NotEqual = term.NotEqual
+term_op op.Less = term.Less
+term_op op.LessOrEqual = term.LessOrEqual
+term_op op.Greater = term.Greater
+term_op op.GreaterOrEqual = term.GreaterOrEqual
+
+-- the value of an operation on two values; numbers have no bound
+abbrev pub applied : InfixOp → Value → Value → Value
+applied op x y = value_of_op (term_op op) x y
+
+-- the value, if it lies in the base range
+abbrev pub in_base : Place → Value → Answer
+in_base place x = if is_in Integer x then Gives x else Fails Overflow place
+
+-- the result of an operation: that of + and - must lie in the base range (Ada 95 RM 3.5.4)
+abbrev pub checked : InfixOp → Place → Value → Answer
+checked op.Add place x = in_base place x
+checked op.Subtract place x = in_base place x
+checked _ place x = Gives x
+
+-- a read of a variable
+abbrev pub read_at : Place → Option Value → Answer
+read_at place (Some x) = Gives x
+read_at place None = Fails Unset place
+
+-- what denotes no variable counts as 0
+abbrev pub read : Store → Place → Entity → Answer
+read s place (Variable v) = read_at place (look s v)
+read s place _ = Gives (value.Number (pos 0))
+
+abbrev pub value_of_static : Static → Value
+value_of_static (number n) = value.Number n
+value_of_static (truth b) = value.Truth b
+
+-- the value of what is static, and else the answer
+abbrev pub static_or : Option Static → Answer → Answer
+static_or (Some x) answer = Gives (value_of_static x)
+static_or None answer = answer
+
+pattern abbrev pub infix_of : InfixOp → Place → CoreExpr → CoreExpr → CoreExpr
+infix_of op place a b = Infix' op place tt (more_of-CoreExpr a end_of-CoreExpr) tt (more_of-CoreExpr b end_of-CoreExpr)
+
+-- The value of an expression, evaluated from left to right; the first operand without a value decides.
+-- A static expression stands for its exact value and brings no check: a static rule has seen to that value
+-- (Ada 95 RM 4.9).
+unfoldable pub eval : Store → CoreExpr → Answer
+eval s (Number n place) = Gives (value.Number n)
+eval s (Name name) = read s name.name.place name.entity
+eval s (Attribute prefix designator) = Gives (value.Number (attribute_value designator.text))
+eval s (infix_of op place a b) =
+    static_or (static_value (Infix op place a b)) (with_value (eval s a) (λ x. with_value (eval s b) (λ y. checked op place (applied op x y))))
+
+pub eval-Number : (s : Store) (n : ℤ) (place : Place) → eval s (Number n place) ≡ Gives (value.Number n)
+unfolding eval
+eval-Number s n place = refl
+
+pub eval-Name : (s : Store) (name : CoreName) → eval s (Name name) ≡ read s name.name.place name.entity
+unfolding eval
+eval-Name s name = refl
+
+pub eval-Attribute : (s : Store) (prefix : CoreName) (designator : Identifier) → eval s (Attribute prefix designator) ≡ Gives (value.Number (attribute_value designator.text))
+unfolding eval
+eval-Attribute s prefix designator = refl
+
+pub eval-Infix : (s : Store) (op : InfixOp) (place : Place) (a b : CoreExpr) → eval s (Infix op place a b) ≡ static_or (static_value (Infix op place a b)) (with_value (eval s a) (λ x. with_value (eval s b) (λ y. checked op place (applied op x y))))
+unfolding eval hidden-the_row-CoreExpr-0 hidden
+eval-Infix s op place a b = refl
+
+-- evaluation at each form of an expression
+pub ruleset eval_forms = (eval-Number, eval-Name, eval-Attribute, eval-Infix)

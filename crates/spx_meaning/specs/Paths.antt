@@ -1,0 +1,223 @@
+-- The paths of a body, and its verification conditions.
+use Rattle.std.specs.Prelude.{◌≡◌, refl, ℕ, ℤ, pos, Bool, if◌then◌else◌, List, [], ◌∷◌, ◌++◌, map, flat_map, All, Option, Some, None, codes}
+use Rattle.std.specs.Fmt.{decimal}
+use Rattle.std.specs.List.{enumerate_from}
+use denote.Hole.Carrier.{hidden}
+use Rattle.spx_text.specs.declared.place.Place.{Place}
+use Rattle.spx_tree.specs.declared.expression.InfixOp.{InfixOp}
+use Rattle.spx_tree.specs.declared.expression.InfixOp.TheVariants as op
+use Rattle.spx_tree.specs.declared.expression.Identifier.{Identifier}
+use Rattle.spx_core.specs.declared.program.TheConstants.{INTEGER_FIRST, INTEGER_LAST}
+use Rattle.spx_core.specs.declared.program.VarId.{VarId}
+use Rattle.spx_core.specs.declared.expression.Entity.{Entity}
+use Rattle.spx_core.specs.declared.expression.Entity.TheVariants as entity
+use Rattle.spx_core.specs.declared.expression.CoreName.{CoreName}
+use Rattle.spx_core.specs.declared.expression.CoreExpr.{CoreExpr, CoreExpr-F, fold-CoreExpr, end_of-CoreExpr, more_of-CoreExpr}
+use Rattle.spx_core.specs.declared.expression.CoreExpr.TheBlock.{hidden-the_row-CoreExpr-0}
+use Rattle.spx_core.specs.declared.expression.CoreExpr.TheVariants as expr
+use Rattle.spx_core.specs.declared.expression.CoreExpr.TheVariants.{Infix'}
+use Rattle.spx_core.specs.declared.expression.CoreStmt.{CoreStmt}
+use Rattle.spx_core.specs.declared.expression.CoreStmt.TheVariants.{Assignment}
+use Rattle.spx_core.specs.declared.subprogram.CorePrecondition.{CorePrecondition}
+use Rattle.spx_core.specs.declared.subprogram.Sub.{Sub}
+use Rattle.spx_core.specs.Places.{place_of}
+use Rattle.spx_core.specs.Dependency.{exports, imports}
+use Rattle.spx_core.specs.Static.{Static, number, truth, attribute_value, operated_or, static_step}
+use Rattle.spx_term.specs.declared.condition.CondKind.{CondKind}
+use Rattle.spx_term.specs.declared.condition.CondKind.TheVariants.{Overflow, Range}
+use Rattle.spx_term.specs.declared.condition.Condition.{Condition}
+use Rattle.spx_term.specs.declared.term.Sort.TheVariants.{Integer}
+use Rattle.spx_term.specs.declared.term.Symbol.TheVariants as symbol
+use Rattle.spx_term.specs.declared.term.Name.{Name}
+use Rattle.spx_term.specs.declared.term.TermOp.{TermOp}
+use Rattle.spx_term.specs.declared.term.TermOp.TheVariants as sign
+use Rattle.spx_term.specs.declared.term.Term.{Term}
+use Rattle.spx_term.specs.declared.term.Term.TheVariants as term
+use Rattle.spx_term.specs.Goals.{goal_of}
+use Rattle.spx_term.specs.Plain.{Plain}
+use Rattle.spx_term.specs.Steps.{Tree, Cut, Assign, assume_all, check, Claim, claims_of, tidy}
+use Rattle.spx_term.specs.Widths.{fits}
+
+-- ---- static expressions
+
+-- a number is kept where it has at most 128 bits
+abbrev pub kept : Option Static → Option Static
+kept (Some (number n)) = if fits n then Some (number n) else None
+kept (Some (truth b)) = Some (truth b)
+kept None = None
+
+-- one level, of whose parts it is known
+abbrev pub literal_step : CoreExpr-F (Option Static) → Option Static
+literal_step (CoreExpr-F.Infix op place a b) = kept (operated_or op a b)
+literal_step (CoreExpr-F.Number n place) = static_step (CoreExpr-F.Number n place)
+literal_step (CoreExpr-F.Name name) = static_step (CoreExpr-F.Name name)
+literal_step (CoreExpr-F.Attribute prefix designator) = static_step (CoreExpr-F.Attribute prefix designator)
+
+-- the value of a static expression, where it and those of its parts have at most 128 bits
+abbrev pub literal : CoreExpr → Option Static
+literal = fold-CoreExpr (Option Static) literal_step
+
+-- ---- from expressions to terms
+
+-- the value of a variable now, and on entry
+abbrev pub now : VarId → Name
+now v = record { symbol = symbol.Now v.0; sort = Integer }
+
+abbrev pub entry : VarId → Name
+entry v = record { symbol = symbol.Entry v.0; sort = Integer }
+
+abbrev pub term_op : InfixOp → TermOp
+term_op op.Add = sign.Add
+term_op op.Subtract = sign.Subtract
+term_op op.Equal = sign.Equal
+term_op op.NotEqual = sign.NotEqual
+term_op op.Less = sign.Less
+term_op op.LessOrEqual = sign.LessOrEqual
+term_op op.Greater = sign.Greater
+term_op op.GreaterOrEqual = sign.GreaterOrEqual
+
+-- only variables have a value
+abbrev pub named : Entity → Term
+named (entity.Variable v) = term.Variable (now v)
+named (entity.TypeName t) = term.Number (pos 0)
+named (entity.Subprogram s) = term.Number (pos 0)
+
+-- a static expression stands as its literal
+abbrev pub static_term : Static → Term
+static_term (number n) = term.Number n
+static_term (truth b) = term.Truth b
+
+abbrev pub literal_or : Option Static → Term → Term
+literal_or (Some x) t = static_term x
+literal_or None t = t
+
+pattern abbrev pub infix_of : InfixOp → Place → CoreExpr → CoreExpr → CoreExpr
+infix_of op place a b = Infix' op place tt (more_of-CoreExpr a end_of-CoreExpr) tt (more_of-CoreExpr b end_of-CoreExpr)
+
+-- the term of an expression over the values now
+unfoldable pub term_of : CoreExpr → Term
+term_of (infix_of op place a b) = literal_or (literal (infix_of op place a b)) (term.Infix (term_op op) (term_of a) (term_of b))
+term_of (expr.Number n place) = term.Number n
+term_of (expr.Name name) = named name.entity
+term_of (expr.Attribute prefix designator) = term.Number (attribute_value designator.text)
+
+pub term_of-Infix : (op : InfixOp) (place : Place) (a b : CoreExpr) → term_of (expr.Infix op place a b) ≡ literal_or (literal (expr.Infix op place a b)) (term.Infix (term_op op) (term_of a) (term_of b))
+unfolding term_of hidden-the_row-CoreExpr-0 hidden
+term_of-Infix op place a b = refl
+
+pub term_of-Number : (n : ℤ) (place : Place) → term_of (expr.Number n place) ≡ term.Number n
+unfolding term_of
+term_of-Number n place = refl
+
+pub term_of-Name : (name : CoreName) → term_of (expr.Name name) ≡ named name.entity
+unfolding term_of
+term_of-Name name = refl
+
+pub term_of-Attribute : (prefix : CoreName) (designator : Identifier) → term_of (expr.Attribute prefix designator) ≡ term.Number (attribute_value designator.text)
+unfolding term_of
+term_of-Attribute prefix designator = refl
+
+pub ruleset term_forms = (term_of-Infix, term_of-Number, term_of-Name, term_of-Attribute)
+
+-- ---- checks
+
+-- the term lies in the type `Integer`
+abbrev pub in_integer : Term → List Term
+in_integer t = term.Infix sign.GreaterOrEqual t (term.Number INTEGER_FIRST) ∷ term.Infix sign.LessOrEqual t (term.Number INTEGER_LAST) ∷ []
+
+-- the result of `+` and of `-` lies in the base range (Ada 95 RM 4.5, 3.5.4)
+abbrev pub operation_check : InfixOp → Place → Term → Tree → Tree
+operation_check op.Add place t rest = check Overflow place (in_integer t) rest
+operation_check op.Subtract place t rest = check Overflow place (in_integer t) rest
+operation_check _ place t rest = rest
+
+-- a static expression is not evaluated
+abbrev pub unless_static : Option Static → Tree → Tree → Tree
+unless_static (Some x) rest checks = rest
+unless_static None rest checks = checks
+
+-- the checks of an expression, from left to right
+unfoldable pub checks : CoreExpr → Tree → Tree
+checks (infix_of op place a b) rest =
+    unless_static (literal (infix_of op place a b)) rest (checks a (checks b (operation_check op place (term_of (infix_of op place a b)) rest)))
+checks _ rest = rest
+
+pub checks-Infix : (op : InfixOp) (place : Place) (a b : CoreExpr) (rest : Tree) → checks (expr.Infix op place a b) rest ≡ unless_static (literal (expr.Infix op place a b)) rest (checks a (checks b (operation_check op place (term_of (expr.Infix op place a b)) rest)))
+unfolding checks hidden-the_row-CoreExpr-0 hidden
+checks-Infix op place a b rest = refl
+
+pub checks-Number : (n : ℤ) (place : Place) (rest : Tree) → checks (expr.Number n place) rest ≡ rest
+unfolding checks
+checks-Number n place rest = refl
+
+pub checks-Name : (name : CoreName) (rest : Tree) → checks (expr.Name name) rest ≡ rest
+unfolding checks
+checks-Name name rest = refl
+
+pub checks-Attribute : (prefix : CoreName) (designator : Identifier) (rest : Tree) → checks (expr.Attribute prefix designator) rest ≡ rest
+unfolding checks
+checks-Attribute prefix designator rest = refl
+
+pub ruleset check_forms = (checks-Infix, checks-Number, checks-Name, checks-Attribute)
+
+-- ---- statements
+
+-- the target stands for the value; only variables are assigned
+abbrev pub assigned : Entity → Term → Tree → Tree
+assigned (entity.Variable v) t rest = Assign (now v) t rest
+assigned (entity.TypeName u) t rest = rest
+assigned (entity.Subprogram s) t rest = rest
+
+-- the paths through a statement and then along the rest
+abbrev pub walk : CoreStmt → Tree → Tree
+walk (Assignment target e) rest =
+    checks e (check Range (place_of e) (in_integer (term_of e)) (assigned target.entity (term_of e) rest))
+
+abbrev pub walks : List CoreStmt → Tree → Tree
+walks [] rest = rest
+walks (s ∷ ss) rest = walk s (walks ss rest)
+
+-- ---- subprograms
+
+-- an exported variable stands for its entry value at the start
+abbrev pub entering : Sub → List VarId → Tree → Tree
+entering sub [] rest = rest
+entering sub (v ∷ vs) rest =
+    if exports v sub.derives then Assign (now v) (term.Variable (entry v)) (entering sub vs rest) else entering sub vs rest
+
+-- an import lies in its type
+abbrev pub import_facts : Sub → VarId → List Term
+import_facts sub v = if imports v sub.derives then in_integer (term.Variable (now v)) else []
+
+abbrev pub pre_facts : Option CorePrecondition → List Term
+pre_facts None = []
+pre_facts (Some pre) = term_of pre.condition ∷ []
+
+-- what is known at the start
+abbrev pub first_facts : Sub → List Term
+first_facts sub = flat_map (import_facts sub) sub.vars ++ pre_facts sub.pre
+
+-- the paths of the body
+abbrev pub tree_of : Sub → Tree
+tree_of sub = entering sub sub.vars (assume_all (first_facts sub) (walks sub.statements Cut))
+
+-- ---- conditions
+
+-- `SUB.N`
+abbrev pub condition_name : List ℕ → ℕ → List ℕ
+condition_name sub n = sub ++ (codes "." ++ decimal n)
+
+abbrev pub condition : List ℕ → ℕ → Claim → Condition
+condition sub n c = record { name = condition_name sub n; kind = c.kind; place = c.place; hyps = c.hyps; goals = c.goals }
+
+-- numbered in the order of the steps
+abbrev pub numbered : List ℕ → ℕ → List Claim → List Condition
+numbered sub n claims = map (λ p. condition sub p.0 p.1) (enumerate_from n claims)
+
+-- the verification conditions of a subprogram
+unfoldable pub conditions_of : Sub → List Condition
+conditions_of sub = numbered sub.name.text 1 (map tidy (claims_of (tree_of sub)))
+
+-- each condition needs no proof
+abbrev pub ArePlain : List Condition → Type 0
+ArePlain conditions = All (λ c. Plain c.hyps (goal_of c.goals)) conditions

@@ -1,0 +1,102 @@
+-- What statements and calls do to a store, within a bound.
+use Rattle.std.specs.Prelude.{ℕ, Bool, true, false, not, ◌||◌, if◌then◌else◌, List, [], ◌∷◌, is_some, Option, Some, None}
+use Rattle.std.specs.List.{list_all}
+use Rattle.spx_text.specs.declared.place.Place.{Place}
+use Rattle.spx_core.specs.declared.program.VarId.{VarId}
+use Rattle.spx_core.specs.declared.program.Var.{Var}
+use Rattle.spx_core.specs.declared.program.Program.{Program}
+use Rattle.spx_core.specs.declared.subprogram.Mode.{Mode}
+use Rattle.spx_core.specs.declared.subprogram.Mode.TheVariants as mode
+use Rattle.spx_core.specs.declared.subprogram.CorePrecondition.{CorePrecondition}
+use Rattle.spx_core.specs.declared.subprogram.Sub.{Sub}
+use Rattle.spx_core.specs.declared.expression.Entity.{Entity}
+use Rattle.spx_core.specs.declared.expression.Entity.TheVariants.{Variable}
+use Rattle.spx_core.specs.declared.expression.CoreStmt.{CoreStmt}
+use Rattle.spx_core.specs.declared.expression.CoreStmt.TheVariants.{Assignment}
+use Rattle.spx_core.specs.Places.{place_of}
+use Rattle.spx_core.specs.Dependency.{exports}
+use Rattle.spx_term.specs.declared.value.Value.{Value}
+use Rattle.spx_meaning.specs.declared.bad.BadKind.{BadKind}
+use Rattle.spx_meaning.specs.declared.bad.BadKind.TheVariants.{Pre, Range, Unset}
+use Rattle.spx_meaning.specs.Stores.{Store, look, put, declared, type_of, is_in}
+use Rattle.spx_meaning.specs.Evaluation.{Answer, Gives, Fails, eval}
+use Rattle.spx_meaning.specs.Annotations.{truth}
+
+-- how a run ends: at its end, at a check that fails, or not within its bound
+pub data Outcome : Type 0 where
+  Ended : Store → Outcome
+  Bad : BadKind → Place → Outcome
+  Later : Outcome
+
+-- what follows a run that has ended
+abbrev pub then_do : Outcome → (Store → Outcome) → Outcome
+then_do (Ended s) go = go s
+then_do (Bad kind place) go = Bad kind place
+then_do Later go = Later
+
+-- goes on with the value, where there is one
+abbrev pub use_value : Answer → (Value → Outcome) → Outcome
+use_value (Gives x) go = go x
+use_value (Fails kind place) go = Bad kind place
+
+-- a test that fails is bad
+abbrev pub demand : Bool → BadKind → Place → Store → Outcome
+demand true kind place s = Ended s
+demand false kind place s = Bad kind place
+
+-- gives a variable a value of its type (Ada 95 RM 5.2); what is no variable takes none
+abbrev pub assign : Program → Place → Entity → Store → Value → Outcome
+assign p place (Variable v) s x = demand (is_in (type_of p v) x) Range place (put s v (Some x))
+assign p place _ s x = Ended s
+
+-- a statement
+abbrev pub run_one : Program → ℕ → Store → CoreStmt → Outcome
+run_one p n s (Assignment target e) = use_value (eval s e) (assign p (place_of e) target.entity s)
+
+-- statements, one after another; the bound is handed down to each
+abbrev pub run : Program → ℕ → Store → List CoreStmt → Outcome
+run p n s [] = Ended s
+run p n s (stmt ∷ rest) = then_do (run_one p n s stmt) (λ t. run p n t rest)
+
+abbrev pub is_out_mode : Mode → Bool
+is_out_mode mode.In = false
+is_out_mode mode.Out = true
+is_out_mode mode.InOut = false
+
+abbrev pub is_out_var : Option Var → Bool
+is_out_var (Some var) = is_out_mode var.mode
+is_out_var None = false
+
+-- whether a formal has the mode `out`
+abbrev pub is_out : Program → VarId → Bool
+is_out p v = is_out_var (declared p v)
+
+-- the store without the values of `out` formals, which are unset on entry
+abbrev pub cleared : Program → Store → List VarId → Store
+cleared p s [] = s
+cleared p s (v ∷ rest) = if is_out p v then put (cleared p s rest) v None else cleared p s rest
+
+-- the store that the body of a subprogram begins with
+abbrev pub entry_of : Program → Sub → Store → Store
+entry_of p sub s = cleared p s sub.vars
+
+-- whether a precondition is true; none is true
+abbrev pub pre_holds : Program → Option CorePrecondition → Store → Bool
+pre_holds p (Some pre) s = truth p s s pre.condition
+pre_holds p None s = true
+
+-- the precondition, looked at on entry
+abbrev pub demand_pre : Program → Option CorePrecondition → Store → Outcome
+demand_pre p (Some pre) s = demand (truth p s s pre.condition) Pre pre.place s
+demand_pre p None s = Ended s
+
+-- whether each export is set
+abbrev pub exports_set : Sub → Store → Bool
+exports_set sub s = list_all (λ v. not (exports v sub.derives) || is_some (look s v)) sub.vars
+
+-- a call: `out` formals start unset, the precondition is looked at, the body is run, each export must be set at its end
+abbrev pub call : Program → ℕ → Sub → Store → Outcome
+call p n sub s =
+    then_do (demand_pre p sub.pre (entry_of p sub s)) (λ entry.
+    then_do (run p n entry sub.statements) (λ t.
+    demand (exports_set sub t) Unset sub.end t))

@@ -1,0 +1,54 @@
+-- Values in types, and the stores that a run goes through.
+use Rattle.std.specs.Prelude.{ℕ, zero, suc, Bool, false, ◌&&◌, int_le, List, [], ◌∷◌, Option, Some, None, slice_get}
+use Rattle.spx_core.specs.declared.program.TheConstants.{INTEGER_FIRST, INTEGER_LAST}
+use Rattle.spx_core.specs.declared.program.TypeId.{TypeId}
+use Rattle.spx_core.specs.declared.program.TypeId.TheVariants.{Integer}
+use Rattle.spx_core.specs.declared.program.VarId.{VarId}
+use Rattle.spx_core.specs.declared.program.Var.{Var}
+use Rattle.spx_core.specs.declared.program.Program.{Program}
+use Rattle.spx_term.specs.declared.value.Value.{Value}
+use Rattle.spx_term.specs.declared.value.Value.TheVariants.{Number, Truth}
+
+-- whether a value is one of the type (Ada 95 RM 3.5)
+abbrev pub is_in : TypeId → Value → Bool
+is_in Integer (Number n) = int_le INTEGER_FIRST n && int_le n INTEGER_LAST
+is_in Integer (Truth b) = false
+
+-- the first value of a type
+abbrev pub first_value : TypeId → Value
+first_value Integer = Number INTEGER_FIRST
+
+-- what is declared of a variable
+abbrev pub declared : Program → VarId → Option Var
+declared p v = slice_get p.vars v.0
+
+abbrev pub type_in : Option Var → TypeId
+type_in (Some var) = var.type_id
+type_in None = Integer
+
+-- the type of a variable
+abbrev pub type_of : Program → VarId → TypeId
+type_of p v = type_in (declared p v)
+
+-- a value for each variable that is set, by the variable's position; behind the end all are unset
+abbrev pub Store : Type 0
+Store = List (Option Value)
+
+abbrev pub at : Store → ℕ → Option Value
+at [] k = None
+at (x ∷ s) zero = x
+at (x ∷ s) (suc k) = at s k
+
+abbrev pub with_at : Store → ℕ → Option Value → Store
+with_at [] zero x = x ∷ []
+with_at [] (suc k) x = None ∷ with_at [] k x
+with_at (y ∷ s) zero x = x ∷ s
+with_at (y ∷ s) (suc k) x = y ∷ with_at s k x
+
+-- the value of a variable, if it is set
+abbrev pub look : Store → VarId → Option Value
+look s v = at s v.0
+
+-- the store in which the variable has this value, or is unset, and every other is as before
+abbrev pub put : Store → VarId → Option Value → Store
+put s v x = with_at s v.0 x
