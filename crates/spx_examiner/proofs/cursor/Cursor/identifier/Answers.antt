@@ -1,0 +1,22 @@
+use Rattle.std.proofs.Common.{ℕ, List, Some, sym, ap, ◌∙◌}
+use Rattle.spx_tree.specs.declared.token.Kind.TheVariants as k
+use Rattle.spx_tree.specs.Form.{forms_of}
+use Rattle.spx_examiner.specs.Reading.{name_in, taking}
+use Rattle.spx_examiner.proofs.Taking.{taking_there, taking_absent, refuses, within_rest}
+use Rattle.spx_examiner.proofs.cursor.Cursor.identifier.Goals as goal
+
+pub returns-in_default : goal.returns-in_default
+returns-in_default c =
+    let source = c.self.inside.source.now in
+    let fs = forms_of source c.self.inside.rest.now in
+    refuses _ _ (ap (taking name_in c.args.marked k.Identifier) (sym c.self.view_is) ∙ taking_absent name_in c.args.marked k.Identifier fs (c.in_default.ensures.seen source))
+
+pub invariant_of-self : goal.invariant_of-self
+invariant_of-self c = within_rest _ _ _ c.in-Some.token c.in-Some.ensures.parts c.self.invariant
+
+pub returns : goal.returns
+returns c =
+    let source = c.self.inside.source.now in
+    ap (taking name_in c.args.marked k.Identifier) (sym c.self.view_is)
+    ∙ taking_there name_in c.args.marked k.Identifier source c.self.inside.rest.now c.in-Some.rest.now c.in-Some.token c.in-Some.ensures.parts c.in-Some.ensures.same (c.in-Some.ensures.seen source)
+    ∙ ap (λ (text : List ℕ). Some (record { text = text; place = c.in-Some.token.place }, forms_of source c.in-Some.rest.now)) (sym c.in_ok-text.ensures)

@@ -1,0 +1,58 @@
+-- What each answer comes from.
+use Rattle.std.specs.Prelude.{◌≡◌, ◌≢◌, ◌⊎◌, ◌↔◌, ◌<◌, true, ℕ, Bool, nat_lt, length, List, [], ◌∷◌, ◌++◌, map, Contains, Option, Some, None, unwrap_or, Vec}
+use Rattle.std.specs.Global.{Global}
+use Rattle.std.specs.List.{list_any}
+use Rattle.spx_text.specs.Writes.{after, IsPart}
+use Rattle.spx_examiner.specs.declared.status.Status.{Status}
+use Rattle.spx_examiner.specs.declared.status.Status.TheVariants.{ReadFault, WriteFault, NoMemory}
+use Rattle.spx_examiner.specs.declared.judgement.Judgement.{Judgement}
+use Rattle.spx_examiner.specs.Words.{files_of, NamesFiles}
+use Rattle.spx_examiner.specs.Judgement.{status_of, text_of}
+
+-- the files tell these contents of these names
+abbrev pub Tells : (List ℕ → Option (List ℕ)) → List (List ℕ) → List (List ℕ) → Type 0
+Tells told names contents = map told names ≡ map Some contents
+
+-- a file has more bytes than it may have
+abbrev pub is_too_long : List ℕ → Bool
+is_too_long content = nat_lt 4194304 (length content)
+
+abbrev pub any_too_long : List (List ℕ) → Bool
+any_too_long contents = list_any is_too_long contents
+
+-- neither a fault nor want of memory
+pub record Concludes (status : Status) : Type 0 where
+  pub read : status ≢ ReadFault
+  pub written : status ≢ WriteFault
+  pub in_memory : status ≢ NoMemory
+
+-- the names that the words give as files, or none
+abbrev pub named : List (List ℕ) → List (List ℕ)
+named words = unwrap_or (files_of words) []
+
+-- for whatever contents the files tell of all the names in the words
+abbrev pub WhereTold : (List ℕ → Option (List ℕ)) → List (List ℕ) → (List (List ℕ) → Type 0) → Type 0
+WhereTold told words P = (contents : List (List ℕ)) → Tells told (named words) contents → P contents
+
+-- this answer is given exactly where its cause holds, faults and want of memory aside
+abbrev pub Exactly : Status → Type 0 → Status → Type 0
+Exactly answer cause status = Concludes status → (status ≡ answer) ↔ cause
+
+-- one of the files is too long
+abbrev pub PassesLimit : List (List ℕ) → Type 0
+PassesLimit contents = any_too_long contents ≡ true
+
+-- the load of one of these names failed, and no other
+abbrev pub OneFailed : List (List ℕ) → List (List ℕ) → List (List ℕ) → Type 0
+OneFailed names before now = (name : List ℕ) × Contains names name × (now ≡ before ++ name ∷ [])
+
+-- the status is that of some judgement, and its text was taken
+abbrev pub IsTaken : List (List ℕ) → Status → Option (List ℕ) → Option (List ℕ) → Type 0
+IsTaken words status before now = (j : Judgement) × (status ≡ status_of j) × (now ≡ after before (text_of (named words) j))
+
+-- a part of the text of some judgement was taken
+abbrev pub IsCutShort : List (List ℕ) → Option (List ℕ) → Option (List ℕ) → Type 0
+IsCutShort words before now = (j : Judgement) × IsPart before now (text_of (named words) j)
+
+abbrev pub contents_of : List (Vec ℕ Global) → List (List ℕ)
+contents_of loaded = map (λ bytes. bytes.items) loaded

@@ -1,0 +1,111 @@
+-- What the program is to answer and to write, by its words and the contents of the files that they name.
+use Rattle.std.specs.Prelude.{◌≡◌, ◌⊎◌, ⊤, ℕ, ◌+◌, false, List, [], ◌∷◌, ◌++◌, Option, codes}
+use Rattle.spx_text.specs.declared.place.Place.{Place}
+use Rattle.spx_tree.specs.declared.token.Token.{Token}
+use Rattle.spx_tree.specs.declared.subprogram.Unit.{Unit}
+use Rattle.spx_tree.specs.Spells.{Spells}
+use Rattle.spx_tree.specs.Form.{forms_of}
+use Rattle.spx_tree.specs.Written.{written}
+use Rattle.spx_tree.specs.Grammar.{IsFile}
+use Rattle.spx_core.specs.declared.program.Program.{Program}
+use Rattle.spx_core.specs.declared.rule.RuleName.TheVariants as rule
+use Rattle.spx_core.specs.Erase.{erased}
+use Rattle.spx_core.specs.Visible.{Visible}
+use Rattle.spx_core.specs.Typed.{Typed}
+use Rattle.spx_core.specs.Rules.{Obeys}
+use Rattle.spx_core.specs.Flow.{HasNoFlowFinding}
+use Rattle.spx_meaning.specs.Fit.{Clean}
+use Rattle.spx_meaning.specs.Laws.{NeverBad, TwoRuns}
+use Rattle.spx_examiner.specs.declared.status.Status.{Status}
+use Rattle.spx_examiner.specs.declared.report.Finding.{Finding}
+use Rattle.spx_examiner.specs.declared.judgement.Judgement.{Judgement}
+use Rattle.spx_examiner.specs.declared.judgement.Judgement.TheVariants.{Usage, FileSize, NoProgram, Examined}
+use Rattle.spx_examiner.specs.Words.{HasNoForm, NamesFiles}
+use Rattle.spx_examiner.specs.Judgement.{status_of, text_of}
+use Rattle.spx_examiner.specs.Findings.{findings_of}
+use Rattle.spx_text.specs.Writes.{after}
+use Rattle.spx_examiner.specs.Causes.{PassesLimit, any_too_long, named}
+
+-- ---- which program the contents spell
+
+-- the bytes of a file spell tokens with which these units are written
+pub record IsText (file : ℕ) (bytes : List ℕ) (units : List Unit) : Type 0 where
+  pub tokens : List Token
+  pub spelled : Spells file bytes tokens
+  pub grammatical : IsFile units
+  pub as_written : written units ≡ forms_of bytes tokens
+
+-- the units, file by file, from this file on
+abbrev pub AreTexts : ℕ → List (List ℕ) → List Unit → Type 0
+AreTexts file [] units = units ≡ []
+AreTexts file (bytes ∷ more) units = (front : List Unit) × (behind : List Unit) × (units ≡ front ++ behind) × IsText file bytes front × AreTexts (file + 1) more behind
+
+-- the contents spell this program: its units are the texts of the files, each name stands with what it denotes, and types fit
+pub record Is (contents : List (List ℕ)) (p : Program) : Type 0 where
+  pub texts : AreTexts 0 contents (erased p)
+  pub visible : Visible p
+  pub typed : Typed p
+
+-- this program is made from the units; it obeys the rules and has no flow finding
+pub record IsSoundFrom (units : List Unit) (p : Program) : Type 0 where
+  pub made : erased p ≡ units
+  pub visible : Visible p
+  pub typed : Typed p
+  pub obeys : Obeys p
+  pub flows : HasNoFlowFinding p
+
+-- the contents spell this program, which obeys the rules and has no flow finding
+pub record IsSound (contents : List (List ℕ)) (p : Program) : Type 0 where
+  pub spelled : Is contents p
+  pub obeys : Obeys p
+  pub flows : HasNoFlowFinding p
+
+-- The contents spell exactly this program, and its runs may be relied on: from a store that meets its precondition no run of a
+-- subprogram is bad, at any bound; and two ended runs that agree on the declared imports of an export give it one value.
+pub record IsReliable (contents : List (List ℕ)) (p : Program) : Type 0 where
+  pub spelled : Is contents p
+  pub only : (q : Program) → Is contents q → q ≡ p
+  pub never_bad : NeverBad p
+  pub two_runs : TwoRuns p
+
+-- ---- judgements
+
+-- the one finding on contents that spell no program
+abbrev pub no_program : Finding
+no_program = record { place = record { file = 0; line = 1; column = 1 }; rule = rule.P1; text = codes "expected another token" }
+
+-- what there is to report on contents: that they spell no program, or what the conditions of the one that they spell come to
+abbrev pub IsReportOn : List (List ℕ) → Judgement → Type 0
+IsReportOn contents Usage = ⊥
+IsReportOn contents FileSize = ⊥
+IsReportOn contents (NoProgram finding) = ((p : Program) → IsSound contents p → ⊥) × (finding ≡ no_program)
+IsReportOn contents (Examined p found) = IsSound contents p × (found ≡ findings_of p)
+
+-- a file is too long, or else there is this to report
+abbrev pub IsJudgedOn : List (List ℕ) → Judgement → Type 0
+IsJudgedOn contents j = (PassesLimit contents × (j ≡ FileSize)) ⊎ ((any_too_long contents ≡ false) × IsReportOn contents j)
+
+-- The judgement on words and on the contents of the files that they name, in the order of work: words without a form, then a
+-- file that is too long, then the report.
+pub data IsJudgement (words contents : List (List ℕ)) (j : Judgement) : Type 0 where
+  no_form : HasNoForm words → j ≡ Usage → IsJudgement words contents j
+  of_files : (files : List (List ℕ)) → NamesFiles words files → IsJudgedOn contents j → IsJudgement words contents j
+
+-- the status is that of the judgement, and its text was taken
+abbrev pub EndsAs : List (List ℕ) → List (List ℕ) → Status → Option (List ℕ) → Option (List ℕ) → Type 0
+EndsAs words contents status before now = (j : Judgement) × IsJudgement words contents j × (status ≡ status_of j) × (now ≡ after before (text_of (named words) j))
+
+-- the contents spell a program on which there is nothing to report
+abbrev pub AreClean : List (List ℕ) → Type 0
+AreClean contents = (p : Program) × Is contents p × Clean p
+
+-- the contents spell exactly one program, and its runs may be relied on
+abbrev pub AreReliable : List (List ℕ) → Type 0
+AreReliable contents = (p : Program) × IsReliable contents p
+
+-- what is known of the program in a judgement: where it is clean, its runs may be relied on
+abbrev pub IsAssured : Judgement → Type 0
+IsAssured Usage = ⊤
+IsAssured FileSize = ⊤
+IsAssured (NoProgram finding) = ⊤
+IsAssured (Examined p found) = Clean p → NeverBad p × TwoRuns p

@@ -1,0 +1,172 @@
+// The whole program.
+ghost use Rattle.std.specs.Prelude.{◌≡◌, ◌≢◌, ◌⊎◌, ◌↔◌, ℕ, List, length, false, None, IfOk, IsErrOf};
+ghost use Rattle.spx_text.specs.Loads.{names};
+ghost use Rattle.spx_text.specs.Writes.{Rose};
+ghost use Rattle.spx_examiner.specs.Words.{HasNoForm};
+ghost use Rattle.spx_examiner.specs.Judgement.{status_of, text_of};
+ghost use Rattle.spx_examiner.specs.Causes.{Concludes, Exactly, IsCutShort, IsTaken, OneFailed, PassesLimit, Tells, WhereTold, any_too_long, contents_of, named};
+ghost use Rattle.spx_meaning.specs.Fit.{Clean};
+ghost use Rattle.spx_meaning.specs.Laws.{NeverBad, TwoRuns};
+ghost use Rattle.spx_examiner.specs.Outcome.{AreClean, AreReliable, EndsAs, IsAssured, IsJudgedOn, IsJudgement, IsReportOn};
+
+use crate::Status;
+use crate::judgement::Judgement;
+use crate::load::{MOST_BYTES, load_all};
+use crate::phases::judge;
+use crate::soundness::{clean_is_fit, never_bad};
+use crate::twin::two_runs;
+use crate::words::files_of;
+use spx_core::Program;
+use spx_core::laws::one_program;
+use spx_text::{Failed, Files, LoadFault, Sink, write_all_pieces};
+use spx_tree::{one_spelling, one_tree};
+use std::alloc::{AllocError, Global};
+
+/// What ends the work before there is a text.
+#[derive(Clone, Copy, Debug, PartialEq, Eq, Drop)]
+enum Stop {
+    ReadFault,
+    NoMemory,
+}
+
+impl From<AllocError> for Stop {
+    ghost use Rattle.spx_examiner.specs.declared.program.Stop.TheVariants.{NoMemory};
+
+    ghost from_gives = { λ _ stop. stop ≡ NoMemory };
+
+    fn from(_: AllocError) -> Self {
+        Stop::NoMemory
+    }
+}
+
+/// What is to be written, and why.
+#[derive(Drop)]
+struct Report {
+    judgement: Judgement,
+    text: Vec<u8>,
+}
+
+/// What there is to report on the loaded files.
+fn examined(alloc: Global, loaded: &[Vec<u8>]) -> Result<Judgement, AllocError>
+    ensures report { length loaded.now ≡ 1 → any_too_long (contents_of loaded.now) ≡ false → IfOk result (IsReportOn (contents_of loaded.now)) }
+    ensures named { IfOk result (λ judgement. status_of judgement ≢ Status.Usage) }
+{
+    match loaded {
+        [bytes] if bytes.len() <= MOST_BYTES => judge(alloc, bytes.as_slice()),
+        _ => Ok(Judgement::FileSize),
+    }
+}
+
+/// What there is to report on the file of this name.
+#[tactic(auto, using(crate::proofs::Endings::endings))]
+fn judged<F: Files>(alloc: Global, named: &[String], files: &mut F) -> Result<Judgement, Stop>
+    requires { length named.now ≡ 1 }
+    ensures named { IfOk result (λ judgement. status_of judgement ≢ Status.Usage) }
+    ensures judged { (contents : List (List ℕ)) → Tells (F.told files.old) (names named.now) contents → IfOk result (IsJudgedOn contents) }
+    ensures failed { IsErrOf result Stop.ReadFault → OneFailed (names named.now) (F.failed files.old) (F.failed files.new) }
+    ensures none_failed { (IsErrOf result Stop.ReadFault → ⊥) → F.failed files.new ≡ F.failed files.old }
+{
+    match load_all(alloc, named, files) {
+        Ok(loaded) => Ok(examined(alloc, loaded.as_slice())?),
+        Err(LoadFault::TooLong) => Ok(Judgement::FileSize),
+        Err(LoadFault::Failed) => Err(Stop::ReadFault),
+        Err(LoadFault::Memory) => Err(Stop::NoMemory),
+    }
+}
+
+/// The text of a judgement on files of these names.
+fn reported(alloc: Global, files: &[String], judgement: Judgement) -> Result<Report, AllocError>
+    ensures judgement { IfOk result (λ made. made.judgement ≡ judgement) }
+    ensures text { IfOk result (λ made. made.text.items ≡ text_of (names files.now) judgement) }
+{
+    let text = judgement.text(alloc, files)?;
+    Ok(Report { judgement, text })
+}
+
+/// What the laws say of a program on which there is nothing to report.
+fn rely_on(program: &Program)
+    ensures { Clean program.now → NeverBad program.now × TwoRuns program.now }
+{
+    clean_is_fit(program);
+    never_bad(program);
+    two_runs(program);
+}
+
+/// What the laws say of the program in a judgement.
+fn assure(judgement: &Judgement)
+    ensures { IsAssured judgement.now }
+{
+    match judgement {
+        Judgement::Usage => {}
+        Judgement::FileSize => {}
+        Judgement::NoProgram(_) => {}
+        Judgement::Examined(program, _) => rely_on(program),
+    }
+}
+
+/// All the work but the writing.
+#[tactic(auto, using(crate::proofs::Endings::one_file))]
+fn prepare<F: Files>(alloc: Global, words: &[String], files: &mut F) -> Result<Report, Stop>
+    ensures text { IfOk result (λ made. made.text.items ≡ text_of (named (names words.now)) made.judgement) }
+    ensures usage { IfOk result (λ made. (status_of made.judgement ≡ Status.Usage) ↔ HasNoForm (names words.now)) }
+    ensures judged { WhereTold (F.told files.old) (names words.now) (λ contents.
+        IfOk result (λ made. IsJudgement (names words.now) contents made.judgement)) }
+    ensures failed { IsErrOf result Stop.ReadFault → OneFailed (named (names words.now)) (F.failed files.old) (F.failed files.new) }
+    ensures none_failed { (IsErrOf result Stop.ReadFault → ⊥) → F.failed files.new ≡ F.failed files.old }
+{
+    let Some(named) = files_of(words) else {
+        return Ok(reported(alloc, &[], Judgement::Usage)?);
+    };
+    let judgement = judged(alloc, named, files)?;
+    Ok(reported(alloc, named, judgement)?)
+}
+
+/// Does all that the program does, with the words behind its name.
+///
+/// The status is `Accepted` or `Refused` where the report on the files was written, `Usage` and `Limit` where the
+/// one line of that name was. Only the two faults and want of memory are answers that the words and the files do not
+/// decide.
+pub fn examine<F: Files, S: Sink>(
+    alloc: Global,
+    words: &[String],
+    files: &mut F,
+    sink: &mut S,
+) -> Status
+    // The text of a judgement was written, and the status is that judgement's: `Refused` exactly where the report has
+    // findings.
+    ensures judged { Concludes result → IsTaken (names words.now) result (S.taken sink.old) (S.taken sink.new) }
+
+    // The judgement is that of the words and of what the files tell.
+    ensures outcome { WhereTold (F.told files.old) (names words.now) (λ contents. Concludes result
+        → EndsAs (names words.now) contents result (S.taken sink.old) (S.taken sink.new)) }
+
+    // The headline: where a program is accepted, the bytes spell exactly one program, and its runs may be relied on.
+    ensures headline { WhereTold (F.told files.old) (names words.now) (λ contents. result ≡ Status.Accepted → AreReliable contents) }
+
+    ensures usage { Exactly Status.Usage (HasNoForm (names words.now)) result }
+    ensures limit { WhereTold (F.told files.old) (names words.now) (λ contents. Exactly Status.Limit (PassesLimit contents) result) }
+
+    // A read fault comes exactly where a load failed, of a file that the words name.
+    ensures read_fault { result ≡ Status.ReadFault → OneFailed (named (names words.now)) (F.failed files.old) (F.failed files.new) }
+    ensures no_read_fault { result ≢ Status.ReadFault → F.failed files.new ≡ F.failed files.old }
+
+    // A write fault comes only where the sink counted one, and then a part of a judgement's text was taken.
+    ensures write_fault { result ≡ Status.WriteFault → Rose (S.faults sink.old) (S.faults sink.new) }
+    ensures part { result ≡ Status.WriteFault → IsCutShort (names words.now) (S.taken sink.old) (S.taken sink.new) }
+
+    ensures nothing { (result ≡ Status.ReadFault) ⊎ (result ≡ Status.NoMemory) → S.taken sink.new ≡ S.taken sink.old }
+{
+    one_spelling();
+    one_tree();
+    one_program();
+    let made = match prepare(alloc, words, files) {
+        Ok(made) => made,
+        Err(Stop::ReadFault) => return Status::ReadFault,
+        Err(Stop::NoMemory) => return Status::NoMemory,
+    };
+    assure(&made.judgement);
+    match write_all_pieces(sink, made.text.as_slice()) {
+        Ok(()) => made.judgement.status(),
+        Err(Failed) => Status::WriteFault,
+    }
+}
