@@ -6,6 +6,7 @@ ghost use Rattle.spx_num.specs.Exact.{exact};
 
 use thiserror::Error;
 
+/// An operation on two whole numbers.
 #[derive(Clone, Copy, Debug, PartialEq, Eq)]
 pub enum Op {
     Add,

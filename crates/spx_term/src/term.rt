@@ -21,6 +21,7 @@ pub enum Symbol {
     Entry(usize),
 }
 
+/// A name in a term: which value it stands for, and of which sort that is.
 #[derive(Clone, Copy, Debug, PartialEq, Eq)]
 pub struct Name {
     pub symbol: Symbol,
@@ -41,6 +42,7 @@ pub enum TermOp {
     And,
 }
 
+/// A term over names and literals; a literal has at most 128 bits.
 #[derive(Debug, Drop)]
 pub enum Term {
     Number(i128),
@@ -59,6 +61,7 @@ impl Term {
         Ok(Term::Infix(op, left, right))
     }
 
+    /// An equal term.
     #[cycle(copy)]
     pub fn copy(&self, alloc: Global) -> Result<Term, AllocError>
         ensures { IfOk result (λ term. term ≡ self.now) }

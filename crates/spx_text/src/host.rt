@@ -21,6 +21,7 @@ pub struct HostFiles<'a, R: std::rt::Files> {
 }
 
 impl<'a, R: std::rt::Files> HostFiles<'a, R> {
+    /// Files of the host, none of which has failed yet.
     pub fn new(rt: &'a R, alloc: Global) -> Self
         ensures { ⟦<HostFiles<'a, R> as Files>⟧.failed result ≡ [] }
     {
@@ -89,6 +90,7 @@ pub struct HostSink<W: Write> {
 }
 
 impl<W: Write> HostSink<W> {
+    /// A sink over a writer, with no fault counted.
     pub fn new(out: W) -> Self
         ensures { ⟦<HostSink<W> as Sink>⟧.faults result ≡ 0 }
     {

@@ -29,6 +29,7 @@ pub struct MemFiles {
 }
 
 impl MemFiles {
+    /// These files; the loads whose numbers, from 0, are in `failing` fail.
     pub fn new(alloc: Global, held: Vec<HeldFile>, failing: Vec<u64>) -> Self
         ensures held { result.held.items ≡ held.items }
         ensures failing { result.failing.items ≡ failing.items }

@@ -25,6 +25,8 @@ pub struct MemSink {
 }
 
 impl MemSink {
+    /// An empty sink for `room` bytes, of which it takes `most` in one write; the writes whose numbers, from 0, are in
+    /// `failing` fail.
     pub fn new(
         alloc: Global,
         room: usize,

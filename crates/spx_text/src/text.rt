@@ -20,6 +20,7 @@ impl Model for Text {
 }
 
 impl Text {
+    /// A text of these bytes.
     pub fn new(alloc: Global, bytes: &[u8]) -> Result<Text, AllocError>
         ensures { IfOk result (λ text. text ≡ bytes.now) }
     {
@@ -28,18 +29,21 @@ impl Text {
         })
     }
 
+    /// Its bytes.
     pub fn as_bytes(&self) -> &[u8]
         ensures { result.now ≡ self.now }
     {
         self.bytes.as_slice()
     }
 
+    /// An equal text.
     pub fn copy(&self, alloc: Global) -> Result<Text, AllocError>
         ensures { IfOk result (λ text. text ≡ self.now) }
     {
         Text::new(alloc, self.as_bytes())
     }
 
+    /// Whether both have the same bytes; letter case counts.
     pub fn same(&self, other: &Text) -> bool
         ensures { IsTrue result ↔ (self.now ≡ other.now) }
     {
