@@ -3,4 +3,7 @@ pub mod OnlyDigits
 pub mod OnePart
 pub mod OneSpelling
 pub mod Places
+mod Maximal
+mod SpelledLine
+pub mod MoreLevels
 mod OneTree

@@ -1,12 +1,15 @@
 -- Trees that are written with the same forms are the same: a law for each production, whatever stands behind that does not go on with it.
-use Rattle.std.proofs.Common.{◌≡◌, ◌⊎◌, inl, inr, ℕ, ℤ, Bool, List, [], ◌∷◌, ◌++◌, Option, Some, None, refl, sym, ap, ap₂, ◌∙◌, append_assoc}
+use Rattle.std.proofs.Common.{◌≡◌, ◌⊎◌, inl, inr, ℕ, ◌+◌, ◌≤◌, ℤ, Bool, List, [], ◌∷◌, ◌++◌, Option, Some, None, refl, sym, ap, ap₂, subst, ◌∙◌, append_assoc, map, arith}
 use Rattle.std.specs.Prelude.{⊤}
+use Rattle.std.proofs.lemmas.List.{append-nil}
 use Rattle.spx_text.specs.declared.place.Place.{Place}
 use Rattle.spx_tree.specs.declared.token.Kind.{Kind}
 use Rattle.spx_tree.specs.declared.token.Kind.TheVariants as k
 use Rattle.spx_tree.specs.declared.expression.Identifier.{Identifier}
 use Rattle.spx_tree.specs.declared.expression.InfixOp.{InfixOp}
 use Rattle.spx_tree.specs.declared.expression.InfixOp.TheVariants as op
+use Rattle.spx_tree.specs.declared.expression.Layer.{Layer}
+use Rattle.spx_tree.specs.declared.expression.Layer.TheVariants as layer
 use Rattle.spx_tree.specs.declared.expression.Expr.{Expr}
 use Rattle.spx_tree.specs.declared.expression.Expr.TheVariants.{Number, Name, Attribute}
 use Rattle.spx_tree.specs.declared.statement.Stmt.{Stmt}
@@ -22,8 +25,9 @@ use Rattle.spx_tree.specs.declared.subprogram.Subprogram.{Subprogram}
 use Rattle.spx_tree.specs.declared.subprogram.Unit.{Unit}
 use Rattle.spx_tree.specs.declared.subprogram.Unit.TheVariants as unit
 use Rattle.spx_tree.specs.Form.{Nothing, Where, Spelled, Valued, Form, bare, placed, named}
-use Rattle.spx_tree.specs.Written.{behind, separated, written_name, written_names, written_expr, operator_kind, operation, written_stmt, written_stmts, written_imports, written_item, written_derives, written_pre, optional, written_mode, written_param, written_formals, written_subprogram, written, program, annotation}
-use Rattle.spx_tree.specs.Grammar.{Each, OneOrMore, One, IfThere, IsNames, IsOperand, IsAdding, IsRelational, IsSum, IsComparison, IsStmt, IsItem, IsDerives, IsPrecondition, IsParam, IsSubprogram, IsFile}
+use Rattle.spx_tree.specs.Written.{joined, behind, separated, written_name, written_names, written_expr, operator_kind, operation, written_stmt, written_stmts, written_imports, written_item, written_derives, written_pre, optional, written_mode, written_param, written_formals, written_subprogram, written_unit, written, program, annotation}
+use Rattle.spx_tree.specs.Grammar.{Each, OneOrMore, IfThere, IsNames, rank, layer_of, layer_in, LeftFits, RightFits, Layered, IsExpr, IsStmt, IsItem, IsDerives, IsPrecondition, IsParam, IsSubprogram, IsUnit, IsFile}
+use Rattle.spx_tree.proofs.MoreLevels.{file_more}
 
 -- Lists of forms.
 
@@ -87,25 +91,32 @@ name_once marked x y r s w w' v v' e = (spelled_is x y (kept_is (head_is e)), ta
 names_once : (marked : Bool) → Once (written_names marked) IsNames (Lacks (bare marked k.Comma))
 names_once marked x y r s fx fy lr ls e = separated_once (bare marked k.Comma) (written_name marked) (λ name. ⊤) (λ us. ⊤) (name_once marked) (λ us. tt) x y r s fx fy tt tt lr ls e
 
-operand_once : (marked : Bool) → Once (written_expr marked) IsOperand (Lacks (bare marked k.Apostrophe))
-operand_once marked (Number v p) (Number w q) r s fx fy lr ls e =
+-- an expression with no operator
+abbrev IsPrimary : Expr → Type 0
+IsPrimary (Number value place) = ⊤
+IsPrimary (Name name) = ⊤
+IsPrimary (Attribute prefix designator) = ⊤
+IsPrimary (operation op place left right) = ⊥
+
+primary_once : (marked : Bool) → Once (written_expr marked) IsPrimary (Lacks (bare marked k.Apostrophe))
+primary_once marked (Number v p) (Number w q) r s fx fy lr ls e =
     let same : Valued v p ≡ Valued w q = kept_is (head_is e) in
     let value : v ≡ w = cc in
     let place : p ≡ q = cc in
     (ap₂ (λ (z : ℤ) (a : Place). Number z a) value place, tail_is e)
-operand_once marked (Number v p) (Name y) r s fx fy lr ls e = let same : Valued v p ≡ Spelled y.text y.place = kept_is (head_is e) in absurd cc
-operand_once marked (Number v p) (Attribute y y') r s fx fy lr ls e = let same : Valued v p ≡ Spelled y.text y.place = kept_is (head_is e) in absurd cc
-operand_once marked (Number v p) (operation o q y z) r s fx fy lr ls e = absurd fy
-operand_once marked (Name x) (Number w q) r s fx fy lr ls e = let same : Spelled x.text x.place ≡ Valued w q = kept_is (head_is e) in absurd cc
-operand_once marked (Name x) (Name y) r s fx fy lr ls e = (ap (λ (n : Identifier). Name n) (spelled_is x y (kept_is (head_is e))), tail_is e)
-operand_once marked (Name x) (Attribute y y') r s fx fy lr ls e = absurd (lr _ (tail_is e))
-operand_once marked (Name x) (operation o q y z) r s fx fy lr ls e = absurd fy
-operand_once marked (Attribute x x') (Number w q) r s fx fy lr ls e = let same : Spelled x.text x.place ≡ Valued w q = kept_is (head_is e) in absurd cc
-operand_once marked (Attribute x x') (Name y) r s fx fy lr ls e = absurd (ls _ (sym (tail_is e)))
-operand_once marked (Attribute x x') (Attribute y y') r s fx fy lr ls e =
+primary_once marked (Number v p) (Name y) r s fx fy lr ls e = let same : Valued v p ≡ Spelled y.text y.place = kept_is (head_is e) in absurd cc
+primary_once marked (Number v p) (Attribute y y') r s fx fy lr ls e = let same : Valued v p ≡ Spelled y.text y.place = kept_is (head_is e) in absurd cc
+primary_once marked (Number v p) (operation o q y z) r s fx fy lr ls e = absurd fy
+primary_once marked (Name x) (Number w q) r s fx fy lr ls e = let same : Spelled x.text x.place ≡ Valued w q = kept_is (head_is e) in absurd cc
+primary_once marked (Name x) (Name y) r s fx fy lr ls e = (ap (λ (n : Identifier). Name n) (spelled_is x y (kept_is (head_is e))), tail_is e)
+primary_once marked (Name x) (Attribute y y') r s fx fy lr ls e = absurd (lr _ (tail_is e))
+primary_once marked (Name x) (operation o q y z) r s fx fy lr ls e = absurd fy
+primary_once marked (Attribute x x') (Number w q) r s fx fy lr ls e = let same : Spelled x.text x.place ≡ Valued w q = kept_is (head_is e) in absurd cc
+primary_once marked (Attribute x x') (Name y) r s fx fy lr ls e = absurd (ls _ (sym (tail_is e)))
+primary_once marked (Attribute x x') (Attribute y y') r s fx fy lr ls e =
     (ap₂ (λ (m n : Identifier). Attribute m n) (spelled_is x y (kept_is (head_is e))) (spelled_is x' y' (kept_is (head_is (tail_is (tail_is e))))), tail_is (tail_is (tail_is e)))
-operand_once marked (Attribute x x') (operation o q y z) r s fx fy lr ls e = absurd fy
-operand_once marked (operation o p x x') y r s fx fy lr ls e = absurd fx
+primary_once marked (Attribute x x') (operation o q y z) r s fx fy lr ls e = absurd fy
+primary_once marked (operation o p x x') y r s fx fy lr ls e = absurd fx
 
 operator_of : Kind → Option InfixOp
 operator_of k.Plus = Some op.Add
@@ -135,67 +146,194 @@ operator_is o o' e = let both : Some o ≡ Some o' = sym (operator_back o) ∙ a
 apart_operator : (marked : Bool) (o : InfixOp) (place : Place) (r : List Form) → Lacks (bare marked k.Apostrophe) (placed marked (operator_kind o) place ∷ r)
 apart_operator marked o place r fs e = let same : Where place ≡ Nothing = kept_is (head_is e) in cc
 
--- two operands under an operator
-two_once : (marked : Bool) (o o' : InfixOp) (p p' : Place) (x x' y y' : Expr) (r s : List Form) → IsOperand x → IsOperand x' → IsOperand y → IsOperand y' → Lacks (bare marked k.Apostrophe) r → Lacks (bare marked k.Apostrophe) s → written_expr marked (operation o p x x') ++ r ≡ written_expr marked (operation o' p' y y') ++ s → (operation o p x x' ≡ operation o' p' y y') × (r ≡ s)
-two_once marked o o' p p' x x' y y' r s fx fx' fy fy' lr ls e =
-    let left = operand_once marked x y (placed marked (operator_kind o) p ∷ (written_expr marked x' ++ r)) (placed marked (operator_kind o') p' ∷ (written_expr marked y' ++ s)) fx fy (apart_operator marked o p _) (apart_operator marked o' p' _) (regroup (written_expr marked x) _ r (written_expr marked y) _ s e) in
-    let sign = head_is left.1 in
-    let same_operator : o ≡ o' = operator_is o o' (ap (λ (f : Form). f.kind) sign) in
-    let same_place : p ≡ p' = where_is (kept_is sign) in
-    let right = operand_once marked x' y' r s fx' fy' lr ls (tail_is left.1) in
-    (ap₂ (λ (w : InfixOp) (q : Place). operation w q x x') same_operator same_place ∙ ap₂ (λ (z z' : Expr). operation o' p' z z') left.0 right.0, right.1)
+-- an adding operator, and the primary behind it
+record Link : Type 0 where
+  sign : InfixOp
+  place : Place
+  right : Expr
 
--- an operation, with what is known of its operator
-record IsOperation (By : InfixOp → Type 0) (x : Expr) : Type 0 where
+abbrev IsLink : Link → Type 0
+IsLink link = (layer_of link.sign ≡ layer.Sum) × IsPrimary link.right
+
+written_link : Bool → Link → List Form
+written_link marked link = placed marked (operator_kind link.sign) link.place ∷ written_expr marked link.right
+
+written_links : Bool → List Link → List Form
+written_links marked [] = []
+written_links marked (link ∷ links) = placed marked (operator_kind link.sign) link.place ∷ (written_expr marked link.right ++ written_links marked links)
+
+-- no form that goes on with a sum comes next
+record SumEnds (marked : Bool) (r : List Form) : Type 0 where
+  apart : Lacks (bare marked k.Apostrophe) r
+  over : (o : InfixOp) (place : Place) → layer_of o ≡ layer.Sum → Lacks (placed marked (operator_kind o) place) r
+
+apart_links : (marked : Bool) (links : List Link) (r : List Form) → Lacks (bare marked k.Apostrophe) r → Lacks (bare marked k.Apostrophe) (written_links marked links ++ r)
+unfolding written_links
+apart_links marked [] r lr = lr
+apart_links marked (link ∷ links) r lr = apart_operator marked link.sign link.place ((written_expr marked link.right ++ written_links marked links) ++ r)
+
+links_once : (marked : Bool) → Once (written_links marked) (Each IsLink) (SumEnds marked)
+unfolding written_links
+links_once marked [] [] r s fx fy er es e = (refl, e)
+links_once marked [] (y ∷ ys) r s fx fy er es e = absurd (er.over y.sign y.place fy.0.0 _ e)
+links_once marked (x ∷ xs) [] r s fx fy er es e = absurd (es.over x.sign x.place fx.0.0 _ (sym e))
+links_once marked (x ∷ xs) (y ∷ ys) r s fx fy er es e =
+    let sign : x.sign ≡ y.sign = operator_is x.sign y.sign (ap (λ (f : Form). f.kind) (head_is e)) in
+    let place : x.place ≡ y.place = where_is (kept_is (head_is e)) in
+    let right = primary_once marked x.right y.right (written_links marked xs ++ r) (written_links marked ys ++ s) fx.0.1 fy.0.1 (apart_links marked xs r er.apart) (apart_links marked ys s es.apart) (regroup (written_expr marked x.right) _ r (written_expr marked y.right) _ s (tail_is e)) in
+    let more = links_once marked xs ys r s fx.1 fy.1 er es right.1 in
+    let link : x ≡ y = ap₂ (λ (o : InfixOp) (p : Place). record { sign = o; place = p; right = x.right }) sign place ∙ ap (λ (z : Expr). record { sign = y.sign; place = y.place; right = z }) right.0 in
+    (ap₂ (λ (z : Link) (zs : List Link). z ∷ zs) link more.0, more.1)
+
+-- operators group to the left
+grouped : Expr → List Link → Expr
+grouped left [] = left
+grouped left (link ∷ links) = grouped (operation link.sign link.place left link.right) links
+
+grouped_last : (left : Expr) (links : List Link) (link : Link) → grouped left (links ++ link ∷ []) ≡ operation link.sign link.place (grouped left links) link.right
+unfolding grouped
+grouped_last left [] link = refl
+grouped_last left (other ∷ links) link = grouped_last (operation other.sign other.place left other.right) links link
+
+links_last : (marked : Bool) (links : List Link) (link : Link) → written_links marked (links ++ link ∷ []) ≡ written_links marked links ++ written_link marked link
+unfolding written_links written_link
+links_last marked [] link = ap (λ (fs : List Form). placed marked (operator_kind link.sign) link.place ∷ fs) (append-nil (written_expr marked link.right))
+links_last marked (other ∷ links) link =
+    ap (λ (fs : List Form). placed marked (operator_kind other.sign) other.place ∷ (written_expr marked other.right ++ fs)) (links_last marked links link)
+    ∙ ap (λ (fs : List Form). placed marked (operator_kind other.sign) other.place ∷ fs) (sym (append_assoc (written_expr marked other.right) (written_links marked links) (written_link marked link)))
+
+each_last : (links : List Link) (link : Link) → Each IsLink links → IsLink link → Each IsLink (links ++ link ∷ [])
+each_last [] link f g = (g, tt)
+each_last (other ∷ links) link f g = (f.0, each_last links link f.1 g)
+
+-- a sum, from left to right
+record IsChain (marked : Bool) (x : Expr) : Type 0 where
+  first : Expr
+  links : List Link
+  primary : IsPrimary first
+  each : Each IsLink links
+  is : x ≡ grouped first links
+  text : written_expr marked x ≡ written_expr marked first ++ written_links marked links
+
+adding_is : (o : InfixOp) → rank (layer_of o) ≤ 1 → layer_of o ≡ layer.Sum
+adding_is op.Add h = refl
+adding_is op.Subtract h = refl
+adding_is _ h = absurd (omega arith)
+
+primary_is : (x : Expr) → rank (layer_in x) ≤ 0 → IsPrimary x
+primary_is (Number v p) h = tt
+primary_is (Name n) h = tt
+primary_is (Attribute n m) h = tt
+primary_is (operation o p x y) h = absurd (no_primary o h)
+  where
+    no_primary : (o : InfixOp) → rank (layer_of o) ≤ 0 → ⊥
+    no_primary op.Add h = omega arith
+    no_primary op.Subtract h = omega arith
+    no_primary _ h = omega arith
+
+alone : (marked : Bool) (x : Expr) → IsPrimary x → IsChain marked x
+unfolding grouped written_links
+alone marked x p = record { first = x; links = []; primary = p; each = tt; is = refl; text = sym (append-nil (written_expr marked x)) }
+
+chain_of : (marked : Bool) (x : Expr) → Layered x → rank (layer_in x) ≤ 1 → IsChain marked x
+unfolding written_link
+chain_of marked (Number v p) l h = alone marked (Number v p) tt
+chain_of marked (Name n) l h = alone marked (Name n) tt
+chain_of marked (Attribute n m) l h = alone marked (Attribute n m) tt
+chain_of marked (operation o p x y) l h =
+    let sum = adding_is o h in
+    let c = chain_of marked x l.0 (subst (λ (a : Layer). LeftFits a (layer_in x)) sum l.2) in
+    let link : Link = record { sign = o; place = p; right = y } in
+    record {
+      first = c.first;
+      links = c.links ++ link ∷ [];
+      primary = c.primary;
+      each = each_last c.links link c.each (sum, primary_is y (subst (λ (a : Layer). RightFits a (layer_in y)) sum l.3));
+      is = ap (λ (z : Expr). operation o p z y) c.is ∙ sym (grouped_last c.first c.links link);
+      text = ap (λ (fs : List Form). fs ++ written_link marked link) c.text ∙ append_assoc (written_expr marked c.first) (written_links marked c.links) (written_link marked link) ∙ ap (λ (fs : List Form). written_expr marked c.first ++ fs) (sym (links_last marked c.links link));
+    }
+
+-- a sum
+abbrev IsSum : Expr → Type 0
+IsSum x = Layered x × (rank (layer_in x) ≤ 1)
+
+sum_once : (marked : Bool) → Once (written_expr marked) IsSum (SumEnds marked)
+sum_once marked x y r s fx fy er es e =
+    let a = chain_of marked x fx.0 fx.1 in
+    let b = chain_of marked y fy.0 fy.1 in
+    let first = primary_once marked a.first b.first (written_links marked a.links ++ r) (written_links marked b.links ++ s) a.primary b.primary (apart_links marked a.links r er.apart) (apart_links marked b.links s es.apart)
+    (regroup (written_expr marked a.first) _ r (written_expr marked b.first) _ s (ap (λ (fs : List Form). fs ++ r) (sym a.text) ∙ e ∙ ap (λ (fs : List Form). fs ++ s) b.text)) in
+    let links = links_once marked a.links b.links r s a.each b.each er es first.1 in
+    (a.is ∙ ap₂ grouped first.0 links.0 ∙ sym b.is, links.1)
+
+-- a relational operator between sums
+record IsRelation (x : Expr) : Type 0 where
   sign : InfixOp
   place : Place
   left : Expr
   right : Expr
   is : x ≡ operation sign place left right
-  by : By sign
-  left_fits : IsOperand left
-  right_fits : IsOperand right
+  by : layer_of sign ≡ layer.Relation
+  left_sum : IsSum left
+  right_sum : IsSum right
 
-sum_cases : (x : Expr) → IsSum x → IsOperand x ⊎ IsOperation IsAdding x
-sum_cases (Number v p) fit = inl tt
-sum_cases (Name n) fit = inl tt
-sum_cases (Attribute n m) fit = inl tt
-sum_cases (operation o p x y) fit = inr (record { sign = o; place = p; left = x; right = y; is = refl; by = fit.0; left_fits = fit.1; right_fits = fit.2 })
+relation_case : (o : InfixOp) (p : Place) (x y : Expr) → Layered (operation o p x y) → IsSum (operation o p x y) ⊎ IsRelation (operation o p x y)
+relation_case op.Add p x y l = inl (l, omega arith)
+relation_case op.Subtract p x y l = inl (l, omega arith)
+relation_case op.Equal p x y l = inr (record { sign = op.Equal; place = p; left = x; right = y; is = refl; by = refl; left_sum = (l.0, l.2); right_sum = (l.1, l.3) })
+relation_case op.NotEqual p x y l = inr (record { sign = op.NotEqual; place = p; left = x; right = y; is = refl; by = refl; left_sum = (l.0, l.2); right_sum = (l.1, l.3) })
+relation_case op.Less p x y l = inr (record { sign = op.Less; place = p; left = x; right = y; is = refl; by = refl; left_sum = (l.0, l.2); right_sum = (l.1, l.3) })
+relation_case op.LessOrEqual p x y l = inr (record { sign = op.LessOrEqual; place = p; left = x; right = y; is = refl; by = refl; left_sum = (l.0, l.2); right_sum = (l.1, l.3) })
+relation_case op.Greater p x y l = inr (record { sign = op.Greater; place = p; left = x; right = y; is = refl; by = refl; left_sum = (l.0, l.2); right_sum = (l.1, l.3) })
+relation_case op.GreaterOrEqual p x y l = inr (record { sign = op.GreaterOrEqual; place = p; left = x; right = y; is = refl; by = refl; left_sum = (l.0, l.2); right_sum = (l.1, l.3) })
 
-comparison_case : (x : Expr) → IsComparison x → IsOperation IsRelational x
-comparison_case (Number v p) fit = absurd fit
-comparison_case (Name n) fit = absurd fit
-comparison_case (Attribute n m) fit = absurd fit
-comparison_case (operation o p x y) fit = record { sign = o; place = p; left = x; right = y; is = refl; by = fit.0; left_fits = fit.1; right_fits = fit.2 }
+relation_cases : (x : Expr) → Layered x → IsSum x ⊎ IsRelation x
+relation_cases (Number v p) l = inl (l, omega arith)
+relation_cases (Name n) l = inl (l, omega arith)
+relation_cases (Attribute n m) l = inl (l, omega arith)
+relation_cases (operation o p x y) l = relation_case o p x y l
 
-operations_once : (marked : Bool) (By : InfixOp → Type 0) (x y : Expr) (r s : List Form) → IsOperation By x → IsOperation By y → Lacks (bare marked k.Apostrophe) r → Lacks (bare marked k.Apostrophe) s → written_expr marked x ++ r ≡ written_expr marked y ++ s → (x ≡ y) × (r ≡ s)
-operations_once marked By x y r s a b lr ls e =
-    let both = two_once marked a.sign b.sign a.place b.place a.left a.right b.left b.right r s a.left_fits a.right_fits b.left_fits b.right_fits lr ls
-    (ap (λ (z : Expr). written_expr marked z ++ r) (sym a.is) ∙ e ∙ ap (λ (z : Expr). written_expr marked z ++ s) b.is) in
-    (a.is ∙ both.0 ∙ sym b.is, both.1)
-
+-- no form that goes on with an expression comes next
 record Ends (marked : Bool) (r : List Form) : Type 0 where
   apart : Lacks (bare marked k.Apostrophe) r
-  over : (o : InfixOp) (place : Place) → IsAdding o → Lacks (placed marked (operator_kind o) place) r
+  over : (o : InfixOp) (place : Place) → Lacks (placed marked (operator_kind o) place) r
 
--- an operand is not written as an operation that begins with it
-not_both : (marked : Bool) (x y : Expr) (r s : List Form) → IsOperand x → IsOperation IsAdding y → Ends marked r → written_expr marked x ++ r ≡ written_expr marked y ++ s → ⊥
-not_both marked x y r s fit b ends e =
-    let left = operand_once marked x b.left r (placed marked (operator_kind b.sign) b.place ∷ (written_expr marked b.right ++ s)) fit b.left_fits ends.apart (apart_operator marked b.sign b.place _)
-    (e ∙ ap (λ (z : Expr). written_expr marked z ++ s) b.is ∙ append_assoc (written_expr marked b.left) (placed marked (operator_kind b.sign) b.place ∷ written_expr marked b.right) s) in
-    ends.over b.sign b.place b.by _ left.1
+ends_sum : (marked : Bool) (r : List Form) → Ends marked r → SumEnds marked r
+ends_sum marked r ends = record { apart = ends.apart; over = λ o place by. ends.over o place }
 
-sum_once : (marked : Bool) → Once (written_expr marked) IsSum (Ends marked)
-sum_once marked x y r s fx fy er es e = by_cases (sum_cases x fx) (sum_cases y fy)
+-- a relational operator goes on with no sum
+relational_closes : (marked : Bool) (o : InfixOp) (place : Place) (r : List Form) → layer_of o ≡ layer.Relation → SumEnds marked (placed marked (operator_kind o) place ∷ r)
+relational_closes marked o place r by = record { apart = apart_operator marked o place r; over = λ o' place' by' fs e. apart_layers o o' by by' (operator_is o o' (ap (λ (f : Form). f.kind) (head_is e))) }
   where
-    by_cases : IsOperand x ⊎ IsOperation IsAdding x → IsOperand y ⊎ IsOperation IsAdding y → (x ≡ y) × (r ≡ s)
-    by_cases (inl a) (inl b) = operand_once marked x y r s a b er.apart es.apart e
+    apart_layers : (o o' : InfixOp) → layer_of o ≡ layer.Relation → layer_of o' ≡ layer.Sum → o ≡ o' → ⊥
+    apart_layers o o' a b e = let both : layer.Relation ≡ layer.Sum = sym a ∙ ap layer_of e ∙ b in cc
+
+relation_text : (marked : Bool) (x : Expr) (a : IsRelation x) (r : List Form) → written_expr marked x ++ r ≡ written_expr marked a.left ++ (placed marked (operator_kind a.sign) a.place ∷ (written_expr marked a.right ++ r))
+relation_text marked x a r = ap (λ (z : Expr). written_expr marked z ++ r) a.is ∙ append_assoc (written_expr marked a.left) (placed marked (operator_kind a.sign) a.place ∷ written_expr marked a.right) r
+
+-- a sum is not written as a relation that begins with it
+not_both : (marked : Bool) (x y : Expr) (r s : List Form) → IsSum x → IsRelation y → Ends marked r → written_expr marked x ++ r ≡ written_expr marked y ++ s → ⊥
+not_both marked x y r s fit b ends e =
+    let left = sum_once marked x b.left r (placed marked (operator_kind b.sign) b.place ∷ (written_expr marked b.right ++ s)) fit b.left_sum (ends_sum marked r ends) (relational_closes marked b.sign b.place _ b.by) (e ∙ relation_text marked y b s) in
+    ends.over b.sign b.place _ left.1
+
+relations_once : (marked : Bool) (x y : Expr) (r s : List Form) → IsRelation x → IsRelation y → Ends marked r → Ends marked s → written_expr marked x ++ r ≡ written_expr marked y ++ s → (x ≡ y) × (r ≡ s)
+relations_once marked x y r s a b er es e =
+    let left = sum_once marked a.left b.left (placed marked (operator_kind a.sign) a.place ∷ (written_expr marked a.right ++ r)) (placed marked (operator_kind b.sign) b.place ∷ (written_expr marked b.right ++ s)) a.left_sum b.left_sum
+    (relational_closes marked a.sign a.place _ a.by) (relational_closes marked b.sign b.place _ b.by) (sym (relation_text marked x a r) ∙ e ∙ relation_text marked y b s) in
+    let sign : a.sign ≡ b.sign = operator_is a.sign b.sign (ap (λ (f : Form). f.kind) (head_is left.1)) in
+    let place : a.place ≡ b.place = where_is (kept_is (head_is left.1)) in
+    let right = sum_once marked a.right b.right r s a.right_sum b.right_sum (ends_sum marked r er) (ends_sum marked s es) (tail_is left.1) in
+    (a.is ∙ ap₂ (λ (o : InfixOp) (p : Place). operation o p a.left a.right) sign place ∙ ap₂ (λ (z z' : Expr). operation b.sign b.place z z') left.0 right.0 ∙ sym b.is, right.1)
+
+expr_once : (marked : Bool) (levels : ℕ) → Once (written_expr marked) (IsExpr levels) (Ends marked)
+expr_once marked levels x y r s fx fy er es e = by_cases (relation_cases x fx.layered) (relation_cases y fy.layered)
+  where
+    by_cases : IsSum x ⊎ IsRelation x → IsSum y ⊎ IsRelation y → (x ≡ y) × (r ≡ s)
+    by_cases (inl a) (inl b) = sum_once marked x y r s a b (ends_sum marked r er) (ends_sum marked s es) e
     by_cases (inl a) (inr b) = absurd (not_both marked x y r s a b er e)
     by_cases (inr a) (inl b) = absurd (not_both marked y x s r b a es (sym e))
-    by_cases (inr a) (inr b) = operations_once marked IsAdding x y r s a b er.apart es.apart e
-
-comparison_once : (marked : Bool) → Once (written_expr marked) IsComparison (Lacks (bare marked k.Apostrophe))
-comparison_once marked x y r s fx fy lr ls e = operations_once marked IsRelational x y r s (comparison_case x fx) (comparison_case y fy) lr ls e
+    by_cases (inr a) (inr b) = relations_once marked x y r s a b er es e
 
 -- Statements.
 
@@ -205,15 +343,15 @@ kind_is e = ap (λ (f : Form). f.kind) e
 other_kind : {f g : Form} {fs : List Form} → (f.kind ≡ g.kind → ⊥) → Lacks g (f ∷ fs)
 other_kind differ us e = differ (kind_is (head_is e))
 
-semicolon_ends : (r : List Form) → Ends program (bare program k.Semicolon ∷ r)
-semicolon_ends r = record { apart = other_kind (λ e. cc); over = λ o place by fs e. no_place place (kept_is (head_is e)) }
+semicolon_ends : (marked : Bool) (r : List Form) → Ends marked (bare marked k.Semicolon ∷ r)
+semicolon_ends marked r = record { apart = other_kind (λ e. cc); over = λ o place fs e. no_place place (kept_is (head_is e)) }
   where
     no_place : (place : Place) → Nothing ≡ Where place → ⊥
     no_place place e = cc
 
-stmt_once : Once written_stmt IsStmt (λ r. ⊤)
-stmt_once (Assignment x v) (Assignment y w) r s fx fy u u' e =
-    let value = sum_once program v w (bare program k.Semicolon ∷ r) (bare program k.Semicolon ∷ s) fx fy (semicolon_ends r) (semicolon_ends s) (regroup (written_expr program v) _ r (written_expr program w) _ s (tail_is (tail_is e))) in
+stmt_once : (levels : ℕ) → Once written_stmt (IsStmt levels) (λ r. ⊤)
+stmt_once levels (Assignment x v) (Assignment y w) r s fx fy u u' e =
+    let value = expr_once program levels v w (bare program k.Semicolon ∷ r) (bare program k.Semicolon ∷ s) fx fy (semicolon_ends program r) (semicolon_ends program s) (regroup (written_expr program v) _ r (written_expr program w) _ s (tail_is (tail_is e))) in
     (ap₂ (λ (n : Identifier) (z : Expr). Assignment n z) (spelled_is x y (kept_is (head_is e))) value.0, tail_is value.1)
 
 -- Annotations.
@@ -262,9 +400,9 @@ derives_once x y r s fx fy u u' e =
     let items = separated_once (bare annotation k.Ampersand) written_item IsItem Closes item_once (λ us. closes_by k.Ampersand us (λ d. cc) (λ d. cc) (λ d. cc)) x.items y.items (bare annotation k.Semicolon ∷ r) (bare annotation k.Semicolon ∷ s) fx fy (closes_by k.Semicolon r (λ d. cc) (λ d. cc) (λ d. cc)) (closes_by k.Semicolon s (λ d. cc) (λ d. cc) (λ d. cc)) (other_kind (λ d. cc)) (other_kind (λ d. cc)) (regroup (separated (bare annotation k.Ampersand) written_item x.items) _ r (separated (bare annotation k.Ampersand) written_item y.items) _ s (tail_is e)) in
     (ap₂ (λ (p : Place) (is : List DerivesItem). record { place = p; items = is }) (where_is (kept_is (head_is e))) items.0, tail_is items.1)
 
-pre_once : Once written_pre IsPrecondition (λ r. ⊤)
-pre_once x y r s fx fy u u' e =
-    let condition = comparison_once annotation x.condition y.condition (bare annotation k.Semicolon ∷ r) (bare annotation k.Semicolon ∷ s) fx fy (other_kind (λ d. cc)) (other_kind (λ d. cc)) (regroup (written_expr annotation x.condition) _ r (written_expr annotation y.condition) _ s (tail_is e)) in
+pre_once : (levels : ℕ) → Once written_pre (IsPrecondition levels) (λ r. ⊤)
+pre_once levels x y r s fx fy u u' e =
+    let condition = expr_once annotation levels x.condition y.condition (bare annotation k.Semicolon ∷ r) (bare annotation k.Semicolon ∷ s) fx fy (semicolon_ends annotation r) (semicolon_ends annotation s) (regroup (written_expr annotation x.condition) _ r (written_expr annotation y.condition) _ s (tail_is e)) in
     (ap₂ (λ (p : Place) (c : Expr). record { place = p; condition = c }) (where_is (kept_is (head_is e))) condition.0, tail_is condition.1)
 
 -- Subprograms and units.
@@ -314,23 +452,41 @@ param_once x y r s fx fy u u' e =
       tail_is last,
     )
 
-formals_once : Once written_formals (One IsParam) (λ r. ⊤)
-formals_once [] ys r s fx fy u u' e = absurd fx
-formals_once (x ∷ x' ∷ xs) ys r s fx fy u u' e = absurd fx
-formals_once (x ∷ []) [] r s fx fy u u' e = absurd fy
-formals_once (x ∷ []) (y ∷ y' ∷ ys) r s fx fy u u' e = absurd fy
-formals_once (x ∷ []) (y ∷ []) r s fx fy u u' e =
-    let both = param_once x y r s fx fy tt tt (regroup (written_param x) [] r (written_param y) [] s e) in
-    (ap (λ (z : Param). z ∷ []) both.0, both.1)
+formals_once : (xs ys : List Param) (r s : List Form) → OneOrMore IsParam xs → OneOrMore IsParam ys → Lacks (bare program k.Semicolon) r → Lacks (bare program k.Semicolon) s → written_formals xs ++ r ≡ written_formals ys ++ s → (xs ≡ ys) × (r ≡ s)
+formals_once xs ys r s fx fy lr ls e = separated_once (bare program k.Semicolon) written_param IsParam (λ us. ⊤) param_once (λ us. tt) xs ys r s fx fy tt tt lr ls e
 
-statements_once : Once written_stmts (One IsStmt) (λ r. ⊤)
-statements_once [] ys r s fx fy u u' e = absurd fx
-statements_once (x ∷ x' ∷ xs) ys r s fx fy u u' e = absurd fx
-statements_once (x ∷ []) [] r s fx fy u u' e = absurd fy
-statements_once (x ∷ []) (y ∷ y' ∷ ys) r s fx fy u u' e = absurd fy
-statements_once (x ∷ []) (y ∷ []) r s fx fy u u' e =
-    let both = stmt_once x y r s fx fy tt tt (regroup (written_stmt x) [] r (written_stmt y) [] s e) in
-    (ap (λ (z : Stmt). z ∷ []) both.0, both.1)
+-- items one after another, where what stands behind begins no item
+module _ {A : Type 0} (spell : A → List Form) (fits : A → Type 0) (first : A → Form) (more : A → List Form) (begins : (x : A) → spell x ≡ first x ∷ more x) (once : Once spell fits (λ r. ⊤)) where
+  joined_once : (xs ys : List A) (r s : List Form) → Each fits xs → Each fits ys → ((x : A) → Lacks (first x) r) → ((x : A) → Lacks (first x) s) → joined (map spell xs) ++ r ≡ joined (map spell ys) ++ s → (xs ≡ ys) × (r ≡ s)
+  joined_once [] [] r s fx fy lr ls e = (refl, e)
+  joined_once [] (y ∷ ys) r s fx fy lr ls e = absurd (lr y ((more y ++ joined (map spell ys)) ++ s) (e ∙ ap (λ (us : List Form). (us ++ joined (map spell ys)) ++ s) (begins y)))
+  joined_once (x ∷ xs) [] r s fx fy lr ls e = absurd (ls x ((more x ++ joined (map spell xs)) ++ r) (sym e ∙ ap (λ (us : List Form). (us ++ joined (map spell xs)) ++ r) (begins x)))
+  joined_once (x ∷ xs) (y ∷ ys) r s fx fy lr ls e =
+      let one = once x y (joined (map spell xs) ++ r) (joined (map spell ys) ++ s) fx.0 fy.0 tt tt (regroup (spell x) _ r (spell y) _ s e) in
+      let rest = joined_once xs ys r s fx.1 fy.1 lr ls one.1 in
+      (ap₂ (λ (z : A) (zs : List A). z ∷ zs) one.0 rest.0, rest.1)
+
+stmt_first : Stmt → Form
+stmt_first (Assignment target expr) = named program target
+
+stmt_more : Stmt → List Form
+stmt_more (Assignment target expr) = bare program k.Assignment ∷ (written_expr program expr ++ bare program k.Semicolon ∷ [])
+
+stmt_begins : (x : Stmt) → written_stmt x ≡ stmt_first x ∷ stmt_more x
+unfolding stmt_first stmt_more
+stmt_begins (Assignment target expr) = refl
+
+each_of : {A : Type 0} (P : A → Type 0) (xs : List A) → OneOrMore P xs → Each P xs
+each_of P [] f = absurd f
+each_of P (x ∷ xs) f = f
+
+-- the word "end" begins no statement
+end_closes : (place : Place) (r : List Form) (x : Stmt) → Lacks (stmt_first x) (placed program k.End place ∷ r)
+unfolding stmt_first
+end_closes place r (Assignment target expr) = other_kind (λ d. cc)
+
+statements_once : (levels : ℕ) (xs ys : List Stmt) (r s : List Form) → OneOrMore (IsStmt levels) xs → OneOrMore (IsStmt levels) ys → ((x : Stmt) → Lacks (stmt_first x) r) → ((x : Stmt) → Lacks (stmt_first x) s) → written_stmts xs ++ r ≡ written_stmts ys ++ s → (xs ≡ ys) × (r ≡ s)
+statements_once levels xs ys r s fx fy lr ls e = joined_once written_stmt (IsStmt levels) stmt_first stmt_more stmt_begins (stmt_once levels) xs ys r s (each_of (IsStmt levels) xs fx) (each_of (IsStmt levels) ys fy) lr ls e
 
 -- what stands behind each part of a subprogram
 abbrev from_semicolon : List Form → List Form
@@ -358,15 +514,15 @@ fields_same : (x y : Subprogram) → x.place ≡ y.place → x.name ≡ y.name �
 fields_same x y place name formals derives pre statements end end_name =
     let same : made x.place x.name x.formals x.derives x.pre x.statements x.end x.end_name ≡ made y.place y.name y.formals y.derives y.pre y.statements y.end y.end_name = cc in same
 
-subprogram_once : Once written_subprogram IsSubprogram (λ r. ⊤)
-subprogram_once x y r s fx fy u u' e =
+subprogram_once : (levels : ℕ) → Once written_subprogram (IsSubprogram levels) (λ r. ⊤)
+subprogram_once levels x y r s fx fy u u' e =
     let flat = sym (subprogram_flat x r) ∙ e ∙ subprogram_flat y s in
     let place : x.place ≡ y.place = where_is (kept_is (head_is flat)) in
     let name : x.name ≡ y.name = spelled_is x.name y.name (kept_is (head_is (tail_is flat))) in
-    let formals = formals_once x.formals y.formals _ _ fx.formals fy.formals tt tt (tail_is (tail_is (tail_is flat))) in
+    let formals = formals_once x.formals y.formals _ _ fx.formals fy.formals (other_kind (λ d. cc)) (other_kind (λ d. cc)) (tail_is (tail_is (tail_is flat))) in
     let derives = derives_once x.derives y.derives _ _ fx.derives fy.derives tt tt (tail_is formals.1) in
-    let pre = optional_once written_pre IsPrecondition (λ p. placed annotation k.Pre p.place) (λ p. written_expr annotation p.condition ++ bare annotation k.Semicolon ∷ []) (λ p. refl) pre_once x.pre y.pre (from_is x r) (from_is y s) fx.pre fy.pre (λ p. other_kind (λ d. cc)) (λ p. other_kind (λ d. cc)) derives.1 in
-    let statements = statements_once x.statements y.statements _ _ fx.statements fy.statements tt tt (tail_is (tail_is pre.1)) in
+    let pre = optional_once written_pre (IsPrecondition levels) (λ p. placed annotation k.Pre p.place) (λ p. written_expr annotation p.condition ++ bare annotation k.Semicolon ∷ []) (λ p. refl) (pre_once levels) x.pre y.pre (from_is x r) (from_is y s) fx.pre fy.pre (λ p. other_kind (λ d. cc)) (λ p. other_kind (λ d. cc)) derives.1 in
+    let statements = statements_once levels x.statements y.statements _ _ fx.statements fy.statements (end_closes x.end _) (end_closes y.end _) (tail_is (tail_is pre.1)) in
     let end : x.end ≡ y.end = where_is (kept_is (head_is statements.1)) in
     let end_name = optional_once (written_name program) (λ n. ⊤) (named program) (λ n. []) (λ n. refl) (name_once program) x.end_name y.end_name (from_semicolon r) (from_semicolon s) (any x.end_name) (any y.end_name) (λ n. other_kind (λ d. cc)) (λ n. other_kind (λ d. cc)) (tail_is statements.1) in
     (fields_same x y place name formals.0 derives.0 pre.0 statements.0 end end_name.0, tail_is end_name.1)
@@ -375,10 +531,24 @@ subprogram_once x y r s fx fy u u' e =
     any None = tt
     any (Some n) = tt
 
+unit_first : Unit → Form
+unit_first (unit.Subprogram x) = placed program k.Procedure x.place
+
+unit_rest : Unit → List Form
+unit_rest (unit.Subprogram x) = named program x.name ∷ bare program k.LeftParenthesis ∷ (from_formals x [])
+
+unit_begins : (x : Unit) → written_unit x ≡ unit_first x ∷ unit_rest x
+unfolding unit_first unit_rest
+unit_begins (unit.Subprogram x) = sym (append-nil (written_subprogram x)) ∙ subprogram_flat x []
+
+unit_once : (levels : ℕ) → Once written_unit (IsUnit levels) (λ r. ⊤)
+unit_once levels (unit.Subprogram x) (unit.Subprogram y) r s fx fy u u' e = let both = subprogram_once levels x y r s fx fy tt tt e in (ap (λ (z : Subprogram). unit.Subprogram z) both.0, both.1)
+
+nothing_more : (f : Form) → Lacks f []
+nothing_more f fs e = cc
+
 -- Files that are written with the same forms are the same.
-pub one_tree : (a b : List Unit) → IsFile a → IsFile b → written a ≡ written b → a ≡ b
-one_tree [] b fa fb e = absurd fa
-one_tree (x ∷ x' ∷ xs) b fa fb e = absurd fa
-one_tree (x ∷ []) [] fa fb e = absurd fb
-one_tree (x ∷ []) (y ∷ y' ∷ ys) fa fb e = absurd fb
-one_tree (unit.Subprogram x ∷ []) (unit.Subprogram y ∷ []) fa fb e = ap (λ (z : Subprogram). unit.Subprogram z ∷ []) (subprogram_once x y [] [] fa fb tt tt e).0
+pub one_tree : (m n : ℕ) (a b : List Unit) → IsFile m a → IsFile n b → written a ≡ written b → a ≡ b
+one_tree m n a b fa fb e =
+    (joined_once written_unit (IsUnit (m + n)) unit_first unit_rest unit_begins (unit_once (m + n)) a b [] [] (file_more m (m + n) (omega arith) a fa) (file_more n (m + n) (omega arith) b fb) (λ x. nothing_more (unit_first x)) (λ x. nothing_more (unit_first x))
+    (append-nil (written a) ∙ e ∙ sym (append-nil (written b)))).0

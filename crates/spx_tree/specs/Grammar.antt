@@ -1,8 +1,10 @@
--- Which trees are texts of the grammar.
-use Rattle.std.specs.Prelude.{⊤, List, [], ◌∷◌, Option, Some, None}
+-- Which trees are texts of the grammar, within so many levels.
+use Rattle.std.specs.Prelude.{⊤, ℕ, ◌+◌, ◌≤◌, max, List, [], ◌∷◌, Option, Some, None}
 use Rattle.spx_tree.specs.declared.expression.Identifier.{Identifier}
 use Rattle.spx_tree.specs.declared.expression.InfixOp.{InfixOp}
 use Rattle.spx_tree.specs.declared.expression.InfixOp.TheVariants as op
+use Rattle.spx_tree.specs.declared.expression.Layer.{Layer}
+use Rattle.spx_tree.specs.declared.expression.Layer.TheVariants as layer
 use Rattle.spx_tree.specs.declared.expression.Expr.{Expr}
 use Rattle.spx_tree.specs.declared.expression.Expr.TheVariants.{Number, Name, Attribute}
 use Rattle.spx_tree.specs.declared.statement.Stmt.{Stmt}
@@ -28,11 +30,6 @@ abbrev pub OneOrMore : {A : Type 0} → (A → Type 0) → List A → Type 0
 OneOrMore P [] = ⊥
 OneOrMore P (x ∷ xs) = P x × Each P xs
 
--- exactly one item
-abbrev pub One : {A : Type 0} → (A → Type 0) → List A → Type 0
-One P (x ∷ []) = P x
-One P _ = ⊥
-
 -- the item, if there is one
 abbrev pub IfThere : {A : Type 0} → (A → Type 0) → Option A → Type 0
 IfThere P None = ⊤
@@ -44,48 +41,67 @@ IfThere P (Some x) = P x
 abbrev pub IsNames : List Identifier → Type 0
 IsNames names = OneOrMore (λ name. ⊤) names
 
--- number | identifier | identifier "'" identifier
-abbrev pub IsOperand : Expr → Type 0
-IsOperand (Number value place) = ⊤
-IsOperand (Name name) = ⊤
-IsOperand (Attribute prefix designator) = ⊤
-IsOperand (operation op place left right) = ⊥
+-- how many operators lie on the longest way down
+abbrev pub height : Expr → ℕ
+height (Number value place) = 0
+height (Name name) = 0
+height (Attribute prefix designator) = 0
+height (operation op place left right) = max (height left) (height right) + 1
 
--- "+" | "-"
-abbrev pub IsAdding : InfixOp → Type 0
-IsAdding op.Add = ⊤
-IsAdding op.Subtract = ⊤
-IsAdding _ = ⊥
+-- the layer of an operator: adding operators (Ada 95 RM 4.5.3), relational operators (4.5.2)
+abbrev pub layer_of : InfixOp → Layer
+layer_of op.Add = layer.Sum
+layer_of op.Subtract = layer.Sum
+layer_of _ = layer.Relation
 
--- "=" | "/=" | "<" | "<=" | ">" | ">="
-abbrev pub IsRelational : InfixOp → Type 0
-IsRelational op.Equal = ⊤
-IsRelational op.NotEqual = ⊤
-IsRelational op.Less = ⊤
-IsRelational op.LessOrEqual = ⊤
-IsRelational op.Greater = ⊤
-IsRelational op.GreaterOrEqual = ⊤
-IsRelational _ = ⊥
+-- layers from those that bind most to those that bind least
+abbrev pub rank : Layer → ℕ
+rank layer.Primary = 0
+rank layer.Sum = 1
+rank layer.Relation = 2
 
--- operand [adding operand] (Ada 95 RM 4.4)
-abbrev pub IsSum : Expr → Type 0
-IsSum (Number value place) = ⊤
-IsSum (Name name) = ⊤
-IsSum (Attribute prefix designator) = ⊤
-IsSum (operation op place left right) = IsAdding op × IsOperand left × IsOperand right
+-- the layer of an expression is that of its operator
+abbrev pub layer_in : Expr → Layer
+layer_in (operation op place left right) = layer_of op
+layer_in (Number value place) = layer.Primary
+layer_in (Name name) = layer.Primary
+layer_in (Attribute prefix designator) = layer.Primary
 
--- operand relational operand
-abbrev pub IsComparison : Expr → Type 0
-IsComparison (Number value place) = ⊥
-IsComparison (Name name) = ⊥
-IsComparison (Attribute prefix designator) = ⊥
-IsComparison (operation op place left right) = IsRelational op × IsOperand left × IsOperand right
+-- which layers an operator has on its left: sums nest to the left, relations do not nest
+abbrev pub LeftFits : Layer → Layer → Type 0
+LeftFits layer.Primary operand = ⊥
+LeftFits layer.Sum operand = rank operand ≤ 1
+LeftFits layer.Relation operand = rank operand ≤ 1
+
+-- and on its right
+abbrev pub RightFits : Layer → Layer → Type 0
+RightFits layer.Primary operand = ⊥
+RightFits layer.Sum operand = rank operand ≤ 0
+RightFits layer.Relation operand = rank operand ≤ 1
+
+-- each operand is of a layer that its operator has there
+abbrev pub Layered : Expr → Type 0
+Layered (Number value place) = ⊤
+Layered (Name name) = ⊤
+Layered (Attribute prefix designator) = ⊤
+Layered (operation op place left right) = Layered left × Layered right × LeftFits (layer_of op) (layer_in left) × RightFits (layer_of op) (layer_in right)
+
+-- an expression of this layer, or of one before it, within so many levels
+-- expr = relation;  relation = sum [relational operator sum];  sum = primary {adding operator primary};  primary = number | name
+pub record OfLayer (layer : Layer) (levels : ℕ) (e : Expr) : Type 0 where
+  pub low : height e ≤ levels
+  pub layered : Layered e
+  pub of_layer : rank (layer_in e) ≤ rank layer
+
+-- expression (Ada 95 RM 4.4)
+abbrev pub IsExpr : ℕ → Expr → Type 0
+IsExpr = OfLayer layer.Relation
 
 -- Statements (Ada 95 RM 5).
 
--- identifier ":=" sum ";" (Ada 95 RM 5.2)
-abbrev pub IsStmt : Stmt → Type 0
-IsStmt (Assignment target expr) = IsSum expr
+-- identifier ":=" expression ";" (Ada 95 RM 5.2)
+abbrev pub IsStmt : ℕ → Stmt → Type 0
+IsStmt levels (Assignment target expr) = IsExpr levels expr
 
 -- Annotations (Barnes, High Integrity Software).
 
@@ -97,9 +113,9 @@ IsItem item = IsNames item.exports
 abbrev pub IsDerives : Derives → Type 0
 IsDerives derives = OneOrMore IsItem derives.items
 
--- "pre" comparison ";"
-abbrev pub IsPrecondition : Precondition → Type 0
-IsPrecondition pre = IsComparison pre.condition
+-- "pre" expression ";"
+abbrev pub IsPrecondition : ℕ → Precondition → Type 0
+IsPrecondition levels pre = IsExpr levels pre.condition
 
 -- Subprograms and units (Ada 95 RM 6 and 10).
 
@@ -107,17 +123,17 @@ IsPrecondition pre = IsComparison pre.condition
 abbrev pub IsParam : Param → Type 0
 IsParam param = IsNames param.names
 
--- "procedure" identifier "(" param ")" derives [pre] "is" "begin" statement "end" [identifier] ";" (Ada 95 RM 6.3)
-pub record IsSubprogram (sub : Subprogram) : Type 0 where
-  pub formals : One IsParam sub.formals
+-- "procedure" identifier "(" param {";" param} ")" derives [pre] "is" "begin" statement {statement} "end" [identifier] ";" (Ada 95 RM 6.3)
+pub record IsSubprogram (levels : ℕ) (sub : Subprogram) : Type 0 where
+  pub formals : OneOrMore IsParam sub.formals
   pub derives : IsDerives sub.derives
-  pub pre : IfThere IsPrecondition sub.pre
-  pub statements : One IsStmt sub.statements
+  pub pre : IfThere (IsPrecondition levels) sub.pre
+  pub statements : OneOrMore (IsStmt levels) sub.statements
 
 -- a subprogram (Ada 95 RM 10.1.1)
-abbrev pub IsUnit : Unit → Type 0
-IsUnit (unit.Subprogram sub) = IsSubprogram sub
+abbrev pub IsUnit : ℕ → Unit → Type 0
+IsUnit levels (unit.Subprogram sub) = IsSubprogram levels sub
 
--- exactly one unit
-abbrev pub IsFile : List Unit → Type 0
-IsFile units = One IsUnit units
+-- {unit} (Ada 95 RM 10.1)
+abbrev pub IsFile : ℕ → List Unit → Type 0
+IsFile levels units = Each (IsUnit levels) units

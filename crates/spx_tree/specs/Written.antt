@@ -107,7 +107,7 @@ written_item item = written_names annotation item.exports ++ bare annotation k.F
 abbrev pub written_derives : Derives → List Form
 written_derives derives = placed annotation k.Derives derives.place ∷ (separated (bare annotation k.Ampersand) written_item derives.items ++ bare annotation k.Semicolon ∷ [])
 
--- "pre" comparison ";"
+-- "pre" expression ";"
 abbrev pub written_pre : Precondition → List Form
 written_pre pre = placed annotation k.Pre pre.place ∷ (written_expr annotation pre.condition ++ bare annotation k.Semicolon ∷ [])
 
@@ -138,6 +138,6 @@ written_subprogram sub =
 abbrev pub written_unit : Unit → List Form
 written_unit (unit.Subprogram sub) = written_subprogram sub
 
--- unit {unit}
+-- {unit}
 abbrev pub written : List Unit → List Form
 written units = joined (map written_unit units)

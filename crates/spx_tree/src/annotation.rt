@@ -37,6 +37,7 @@ pub struct Precondition {
 }
 
 impl DerivesItem {
+    /// An equal item.
     pub fn copy(&self, alloc: Global) -> Result<DerivesItem, AllocError>
         ensures { IfOk result (λ item. item ≡ self.now) }
     {
@@ -61,6 +62,7 @@ fn copy_items(alloc: Global, items: &[DerivesItem]) -> Result<Items<DerivesItem>
 }
 
 impl Derives {
+    /// An equal annotation.
     pub fn copy(&self, alloc: Global) -> Result<Derives, AllocError>
         ensures { IfOk result (λ derives. derives ≡ self.now) }
     {
@@ -72,6 +74,7 @@ impl Derives {
 }
 
 impl Precondition {
+    /// An equal precondition.
     pub fn copy(&self, alloc: Global) -> Result<Precondition, AllocError>
         ensures { IfOk result (λ pre. pre ≡ self.now) }
     {

@@ -25,6 +25,14 @@ pub enum InfixOp {
     GreaterOrEqual,
 }
 
+/// The layers of expressions (Ada 95 RM 4.4): an operator of a layer binds less than those of the layers before it.
+#[derive(Clone, Copy, Debug, PartialEq, Eq)]
+pub enum Layer {
+    Primary,
+    Sum,
+    Relation,
+}
+
 /// An expression. An infix operation stands at its operator, every other node at its first token.
 #[derive(Debug, Drop)]
 pub enum Expr {
@@ -36,6 +44,7 @@ pub enum Expr {
 }
 
 impl Identifier {
+    /// An equal identifier.
     pub fn copy(&self, alloc: Global) -> Result<Identifier, AllocError>
         ensures { IfOk result (λ name. name ≡ self.now) }
     {
@@ -58,6 +67,7 @@ pub fn copy_names(alloc: Global, names: &[Identifier]) -> Result<Items<Identifie
 }
 
 impl Expr {
+    /// An equal expression.
     #[cycle(copy)]
     pub fn copy(&self, alloc: Global) -> Result<Expr, AllocError>
         ensures { IfOk result (λ expr. expr ≡ self.now) }

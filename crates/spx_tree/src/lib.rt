@@ -12,8 +12,8 @@ mod subprogram;
 mod token;
 
 pub use annotation::{Derives, DerivesItem, Imports, Precondition};
-pub use expression::{Expr, Identifier, InfixOp, copy_names};
-pub use laws::{one_spelling, one_stop, one_tree};
+pub use expression::{Expr, Identifier, InfixOp, Layer, copy_names};
+pub use laws::{a_line_is_spelled, a_line_is_stopped, one_spelling, one_stop, one_tree};
 pub use statement::Stmt;
 pub use subprogram::{Param, Subprogram, Unit, WrittenMode};
 pub use token::{ANNOTATION_WORDS, Kind, RESERVED_WORDS, Token};

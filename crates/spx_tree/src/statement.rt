@@ -5,6 +5,7 @@ use crate::{Expr, Identifier};
 use sqlite_items::Items;
 use std::alloc::{AllocError, Global};
 
+/// A statement (Ada 95 RM 5).
 #[derive(Debug, Drop)]
 pub enum Stmt {
     /// The target and the right side.
@@ -12,6 +13,7 @@ pub enum Stmt {
 }
 
 impl Stmt {
+    /// An equal statement.
     pub fn copy(&self, alloc: Global) -> Result<Stmt, AllocError>
         ensures { IfOk result (λ stmt. stmt ≡ self.now) }
     {

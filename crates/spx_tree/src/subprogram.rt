@@ -40,12 +40,14 @@ pub struct Subprogram {
     pub end_name: Option<Identifier>,
 }
 
+/// A unit of a file (Ada 95 RM 10.1.1).
 #[derive(Debug, Drop)]
 pub enum Unit {
     Subprogram(Subprogram),
 }
 
 impl Param {
+    /// An equal parameter specification.
     pub fn copy(&self, alloc: Global) -> Result<Param, AllocError>
         ensures { IfOk result (λ param. param ≡ self.now) }
     {
@@ -90,6 +92,7 @@ fn copy_end_name(alloc: Global, name: &Option<Identifier>) -> Result<Option<Iden
 }
 
 impl Subprogram {
+    /// An equal subprogram.
     pub fn copy(&self, alloc: Global) -> Result<Subprogram, AllocError>
         ensures { IfOk result (λ sub. sub ≡ self.now) }
     {
@@ -113,6 +116,7 @@ impl Subprogram {
 }
 
 impl Unit {
+    /// An equal unit.
     pub fn copy(&self, alloc: Global) -> Result<Unit, AllocError>
         ensures { IfOk result (λ unit. unit ≡ self.now) }
     {
