@@ -1,5 +1,5 @@
 -- Laws of flow.
-use Rattle.std.proofs.Common.{◌≡◌, ◌⊎◌, ◌↔◌, Bool, true, false, ◌||◌, List, [], ◌∷◌, ◌++◌, refl, sym, ap, subst, ◌∙◌, inl, inr, ⊎_elim}
+use Rattle.std.proofs.Common.{◌≡◌, ◌↔◌, Bool, true, false, ◌||◌, List, [], ◌∷◌, refl, sym, subst, ◌∙◌, inr, ⊎_elim}
 use Rattle.std.specs.Prelude.{Contains, IsTrue}
 use Rattle.std.specs.List.{list_any}
 use Rattle.std.proofs.lemmas.List.Folds.{Any-from_list_any}
@@ -8,11 +8,10 @@ use Rattle.spx_core.specs.declared.program.VarId.{VarId}
 use Rattle.spx_core.specs.declared.expression.CoreStmt.{CoreStmt}
 use Rattle.spx_core.specs.declared.expression.CoreStmt.TheVariants.{Assignment}
 use Rattle.spx_core.specs.declared.expression.CoreName.{CoreName}
-use Rattle.spx_core.specs.declared.subprogram.Sub.{Sub}
 use Rattle.spx_core.specs.Uses.{denotes}
 use Rattle.spx_core.specs.Reads.{names_read}
-use Rattle.spx_core.specs.Dependency.{imports, exports}
-use Rattle.spx_core.specs.Flow.{assigns, defines, MayFlow, MayFlowAll, FlowsCompose, FlowsKeep, HasNoFinding, MayBeUnset, read, left, ReadsAreSet, ExportsAreSet}
+use Rattle.spx_core.specs.Dependency.{imports}
+use Rattle.spx_core.specs.Flow.{assigns, defines, MayFlow, MayFlowAll, FlowsCompose, FlowsKeep, read, left, ReadsAreSet, ExportsAreSet}
 use Rattle.spx_core.proofs.ReadsLaws.{names_are}
 
 pub composes : FlowsCompose

@@ -1,17 +1,15 @@
 -- The names that an expression reads.
-use Rattle.std.proofs.Common.{◌≡◌, ℤ, Bool, true, false, ◌||◌, List, refl, sym, ap, ap₂, ◌∙◌}
-use Rattle.std.specs.List.{list_any}
+use Rattle.std.proofs.Common.{◌≡◌, ℤ, Bool, true, false, ◌||◌, refl, sym, ap, ap₂, ◌∙◌}
 use Rattle.std.proofs.lemmas.List.Folds.{list_any-append}
 use denote.Hole.Carrier.{hidden}
 use Rattle.spx_text.specs.declared.place.Place.{Place}
 use Rattle.spx_tree.specs.declared.expression.Identifier.{Identifier}
 use Rattle.spx_tree.specs.declared.expression.InfixOp.{InfixOp}
-use Rattle.spx_core.specs.declared.program.VarId.{VarId}
 use Rattle.spx_core.specs.declared.expression.CoreName.{CoreName}
 use Rattle.spx_core.specs.declared.expression.CoreExpr.{CoreExpr, CoreExpr-F, out-CoreExpr, map-CoreExpr, fold-CoreExpr, fold_out-CoreExpr, end_of-CoreExpr, more_of-CoreExpr}
 use Rattle.spx_core.specs.declared.expression.CoreExpr.TheBlock.{hidden-the_row-CoreExpr-0}
 use Rattle.spx_core.specs.declared.expression.CoreExpr.TheVariants.{Number, Name, Attribute, Infix, Infix', outs-Number, outs-Name, outs-Attribute, outs-Infix}
-use Rattle.spx_core.specs.Uses.{denotes, mentions, uses_step, uses}
+use Rattle.spx_core.specs.Uses.{denotes, mentions, uses_step}
 use Rattle.spx_core.specs.Reads.{names_step, names_read, UsesAreNames}
 
 pattern abbrev infix_of : InfixOp → Place → CoreExpr → CoreExpr → CoreExpr

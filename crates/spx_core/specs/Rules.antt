@@ -1,5 +1,5 @@
 -- The static rules on the use of variables (Barnes, High Integrity Software).
-use Rattle.std.specs.Prelude.{◌≡◌, ◌⊎◌, ◌<◌, Bool, false, not, ◌&&◌, IsTrue, is_some, Some, List, ◌++◌, All, Any, count_by}
+use Rattle.std.specs.Prelude.{◌≡◌, ◌⊎◌, ◌<◌, Bool, false, not, ◌&&◌, IsTrue, is_some, Some, ◌++◌, All, Any, count_by}
 use Rattle.std.specs.List.{flat_map}
 use Rattle.spx_core.specs.declared.program.VarId.{VarId}
 use Rattle.spx_core.specs.declared.program.Program.{Program}

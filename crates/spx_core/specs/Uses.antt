@@ -1,5 +1,5 @@
 -- Which variables a name denotes, and an expression reads.
-use Rattle.std.specs.Prelude.{ℕ, Bool, true, false, ◌||◌, ◌==◌, List}
+use Rattle.std.specs.Prelude.{Bool, false, ◌||◌, ◌==◌, List}
 use Rattle.std.specs.List.{list_any}
 use Rattle.spx_core.specs.declared.program.VarId.{VarId}
 use Rattle.spx_core.specs.declared.expression.Entity.{Entity}

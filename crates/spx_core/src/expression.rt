@@ -33,6 +33,7 @@ pub enum CoreExpr {
     Infix(InfixOp, Place, Boxed<CoreExpr>, Boxed<CoreExpr>),
 }
 
+/// A statement whose names stand with what they denote.
 #[derive(Debug, Drop)]
 pub enum CoreStmt {
     /// The target and the right side.

@@ -3,6 +3,8 @@ ghost use Rattle.std.specs.Prelude.{◌≡◌, List, Some};
 ghost use Rattle.spx_tree.specs.declared.subprogram.Unit.{Unit};
 ghost use Rattle.spx_core.specs.declared.program.Program.{Program};
 ghost use Rattle.spx_core.specs.Erase.{erased};
+ghost use Rattle.spx_core.specs.Flow.{ExportsAreSet, FlowsCompose, FlowsKeep, ReadsAreSet};
+ghost use Rattle.spx_core.specs.Reads.{UsesAreNames};
 ghost use Rattle.spx_core.specs.Resolved.{resolved};
 ghost use Rattle.spx_core.specs.Visible.{Visible};
 
@@ -17,4 +19,23 @@ pub fn one_program()
 pub fn resolution()
     ensures sound { (units : List Unit) (p : Program) → resolved units ≡ Some p → (erased p ≡ units) × Visible p }
     ensures complete { (p : Program) → Visible p → resolved (erased p) ≡ Some p }
+{}
+
+/// The flows of a list are those of two parts that it is cut into, one after the other; to a variable that no statement
+/// sets leads the flow from itself, and no other.
+pub fn flows_of_lists()
+    ensures compose { FlowsCompose }
+    ensures keep { FlowsKeep }
+{}
+
+/// Where a subprogram has no flow finding, what a statement reads has been set before it, and so have the exports at the
+/// end.
+pub fn variables_are_set()
+    ensures reads { ReadsAreSet }
+    ensures exports { ExportsAreSet }
+{}
+
+/// An expression reads the variables that its names denote.
+pub fn uses_are_names()
+    ensures { UsesAreNames }
 {}

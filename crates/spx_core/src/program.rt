@@ -32,6 +32,8 @@ pub struct Var {
     pub type_id: TypeId,
 }
 
+/// A resolved program: its variables and its subprograms, each in the order of the text. A `VarId` is a position in
+/// `vars`, a `SubId` one in `subs`.
 #[derive(Debug, Drop)]
 pub struct Program {
     pub vars: Items<Var>,

@@ -5,7 +5,13 @@ use spx_text::Place;
 /// The names under which findings are reported.
 #[derive(Clone, Copy, Debug, PartialEq, Eq)]
 pub enum RuleName {
-    /// The text of a file is none of the grammar.
+    /// The byte at the place begins no lexeme.
+    L1,
+    /// A number is followed at once by what spoils it.
+    L2,
+    /// The value of a number is past `2**127 - 1`.
+    L3,
+    /// No text of the grammar goes on with the token at the place, or ends there.
     P1,
     /// A name is not declared at its place.
     N1,

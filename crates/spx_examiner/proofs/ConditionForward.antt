@@ -1,12 +1,11 @@
 -- The conditions made on the way are those taken back over the steps.
-use Rattle.std.proofs.Common.{◌≡◌, ℕ, ◌+◌, Bool, true, false, cond, List, [], ◌∷◌, ◌++◌, length, map, fold, refl, sym, ap, ◌∙◌, append-nil}
+use Rattle.std.proofs.Common.{◌≡◌, Bool, true, false, cond, List, [], ◌∷◌, ◌++◌, map, fold, refl, sym, ap, ◌∙◌, append-nil}
 use Rattle.spx_core.specs.declared.program.VarId.{VarId}
 use Rattle.spx_core.specs.declared.subprogram.Sub.{Sub}
 use Rattle.spx_core.specs.Dependency.{exports}
-use Rattle.spx_term.specs.declared.condition.Condition.{Condition}
 use Rattle.spx_term.specs.declared.term.Name.{Name}
 use Rattle.spx_term.specs.declared.term.Term.{Term}
-use Rattle.spx_term.specs.declared.term.Term.TheVariants.{Number, Truth, Variable, Infix}
+use Rattle.spx_term.specs.declared.term.Term.TheVariants.{Variable, Infix}
 use Rattle.spx_term.proofs.Terms.{fold-Number, fold-Truth, fold-Variable, fold-Infix, induct}
 use Rattle.spx_term.specs.Steps.{Tree, Cut, Assume, Assign, Prove, assume_all, same_name, substituted_step, substituted, Claim, with_fact, with_value, claims_of, with_new, without_doubles, tidy}
 use Rattle.spx_meaning.specs.Paths.{now, entry, numbered, entering, first_facts, walks, tree_of, conditions_of}

@@ -1,5 +1,5 @@
 -- The states in which conditions are made.
-use Rattle.std.proofs.Common.{◌≡◌, ℕ, ◌+◌, ◌-◌, ◌<◌, ◌≤◌, Bool, true, false, cond, eqb, List, [], ◌∷◌, ◌++◌, length, take, drop, get_or, map, fold, refl, sym, ap, ◌∙◌, Decides, arith}
+use Rattle.std.proofs.Common.{◌≡◌, ℕ, ◌+◌, ◌-◌, ◌<◌, ◌≤◌, Bool, true, false, cond, eqb, List, [], ◌∷◌, ◌++◌, length, take, get_or, fold, refl, sym, ap, ◌∙◌, Decides, arith}
 use Rattle.std.proofs.lemmas.List.Sums.{fold-append, fold_more}
 use Rattle.std.proofs.lemmas.Bool.Decides.{same_from_decides, Decides-eqb}
 use Rattle.spx_core.specs.declared.program.VarId.{VarId}
@@ -7,14 +7,13 @@ use Rattle.spx_term.specs.declared.term.Sort.TheVariants.{Integer}
 use Rattle.spx_term.specs.declared.term.Symbol.{Symbol}
 use Rattle.spx_term.specs.declared.term.Symbol.TheVariants as symbol
 use Rattle.spx_term.specs.declared.term.Name.{Name}
-use Rattle.spx_term.specs.declared.term.Term.{Term}
 use Rattle.spx_term.specs.declared.term.Term.TheVariants.{Variable}
 use Rattle.spx_term.specs.contracts.term.Name as name
 use Rattle.spx_term.proofs.Equality.{same_by-Decides}
 use Rattle.spx_term.specs.Steps.{same_name}
 use Rattle.spx_meaning.specs.Paths.{now, entry}
 use Rattle.spx_examiner.specs.declared.vcg.Given.{Given}
-use Rattle.spx_examiner.specs.ConditionWalk.{State, updated, updated_by, state_of}
+use Rattle.spx_examiner.specs.ConditionWalk.{State, updated_by, state_of}
 
 same_name-Decides : (x y : Name) → Decides (same_name x y) (x ≡ y)
 unfolding same_name

@@ -1,13 +1,12 @@
 -- What each step adds to the conditions.
-use Rattle.std.proofs.Common.{◌≡◌, ℕ, ◌+◌, List, [], ◌∷◌, ◌++◌, length, map, fold, refl, sym, ap, ap₂, ◌∙◌, append_assoc, length-append, arith}
+use Rattle.std.proofs.Common.{◌≡◌, ℕ, ◌+◌, List, [], ◌∷◌, ◌++◌, length, map, fold, refl, sym, ap, ◌∙◌, append_assoc, length-append}
 use Rattle.spx_text.specs.declared.place.Place.{Place}
 use Rattle.spx_core.specs.declared.program.VarId.{VarId}
 use Rattle.spx_term.specs.declared.condition.CondKind.{CondKind}
 use Rattle.spx_term.specs.declared.condition.Condition.{Condition}
 use Rattle.spx_term.specs.declared.term.Term.{Term}
-use Rattle.spx_term.specs.Steps.{Tree, Assume, Assign, Prove, assume_all, check, Claim, with_new}
+use Rattle.spx_term.specs.Steps.{Tree, Assign, assume_all, check, Claim, with_new}
 use Rattle.spx_meaning.specs.Paths.{now, in_integer, condition_name, condition, numbered}
-use Rattle.spx_examiner.specs.declared.vcg.Given.{Given}
 use Rattle.spx_examiner.specs.declared.vcg.Walk.{Walk}
 use Rattle.spx_examiner.specs.ConditionWalk.{State, applied, forward, state_of, conditions_from}
 use Rattle.spx_examiner.proofs.ConditionTerms.{applied-Number, applied-Infix, applied-Variable}

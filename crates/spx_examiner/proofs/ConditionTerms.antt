@@ -1,5 +1,5 @@
 -- Terms in which all names have the terms of a state, at each form.
-use Rattle.std.proofs.Common.{◌≡◌, ℤ, Bool, refl, Option, Some, None, ap, ◌∙◌}
+use Rattle.std.proofs.Common.{◌≡◌, ℤ, Bool}
 use Rattle.std.proofs.lemmas.Int.{to_z-of_z}
 use Rattle.spx_core.specs.Static.{Static, number, truth}
 use Rattle.spx_term.specs.declared.term.Name.{Name}

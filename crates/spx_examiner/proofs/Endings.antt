@@ -1,10 +1,7 @@
--- How judgements end.
-use Rattle.std.proofs.Common.{◌≡◌, ◌≢◌, ℕ, List, [], ◌∷◌, length, Option, Some, Vec, String, ap, sym, ◌∙◌, arith}
+-- How many files there are.
+use Rattle.std.proofs.Common.{◌≡◌, ℕ, List, [], ◌∷◌, length, Option, Some, Vec, String, ap, sym, ◌∙◌, arith}
 use Rattle.std.proofs.lemmas.Grind.{common_steps}
 use Rattle.std.proofs.lemmas.Bool.Decides.{nat_tests}
-use Rattle.spx_examiner.specs.declared.status.Status.TheVariants.{Usage, Limit}
-use Rattle.spx_examiner.specs.declared.judgement.Judgement.{Judgement}
-use Rattle.spx_examiner.specs.declared.judgement.Judgement.TheVariants as judgement
 use Rattle.std.specs.Global.{Global}
 use Rattle.std.proofs.lemmas.List.{length-map}
 use Rattle.spx_text.specs.Loads.{names}
@@ -12,19 +9,6 @@ use Rattle.spx_examiner.specs.Words.{files_of}
 use Rattle.std.specs.Prelude.{map, unwrap_or}
 use Rattle.spx_examiner.specs.Causes.{Tells, contents_of, named}
 use Rattle.spx_examiner.proofs.Loading.{tells_length}
-use Rattle.spx_examiner.specs.Judgement.{status_of, IsReport}
-
-pub report_is_no_usage : (j : Judgement) → IsReport j → status_of j ≢ Usage
-report_is_no_usage judgement.Usage h = absurd h
-report_is_no_usage judgement.FileSize h = absurd h
-report_is_no_usage (judgement.NoProgram finding) h = λ e. cc
-report_is_no_usage (judgement.Examined p found) h = λ e. grind (arith, common_steps, nat_tests, e)
-
-pub report_is_no_limit : (j : Judgement) → IsReport j → status_of j ≢ Limit
-report_is_no_limit judgement.Usage h = absurd h
-report_is_no_limit judgement.FileSize h = absurd h
-report_is_no_limit (judgement.NoProgram finding) h = λ e. cc
-report_is_no_limit (judgement.Examined p found) h = λ e. grind (arith, common_steps, nat_tests, e)
 
 -- a command names one file
 pub one_file : (words files : List (List ℕ)) → files_of words ≡ Some files → length files ≡ 1
@@ -37,7 +21,7 @@ one_loaded told words contents all tells are one =
     let lengths = tells_length told words contents tells in
     omega (arith, same, lengths, ap length are)
 
-pub ruleset endings = (report_is_no_usage, report_is_no_limit, one_loaded)
+pub ruleset endings = (one_loaded)
 
 -- what is told of the files that the words name
 pub tells_named : (told : List ℕ → Option (List ℕ)) (words files contents : List (List ℕ)) → files_of words ≡ Some files → Tells told (named words) contents → Tells told files contents

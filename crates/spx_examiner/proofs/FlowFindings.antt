@@ -1,22 +1,20 @@
 -- The lists of findings have just the findings.
-use Rattle.std.proofs.Common.{◌≡◌, ◌↔◌, ◌⊎◌, ℕ, ◌+◌, ◌<◌, Bool, true, false, cond, not, List, [], ◌∷◌, ◌++◌, Some, None, Option, length, get_or, take, refl, sym, ap, subst, ◌∙◌, inl, inr, ⊎_elim, append_assoc, arith}
-use Rattle.std.specs.Prelude.{filter, IsTrue, All, Any, Contains}
+use Rattle.std.proofs.Common.{◌≡◌, ◌↔◌, ℕ, ◌+◌, ◌<◌, true, false, cond, not, List, [], ◌∷◌, ◌++◌, Some, None, Option, length, get_or, take, refl, sym, ap, subst, ◌∙◌, inl, inr, ⊎_elim, append_assoc, arith}
+use Rattle.std.specs.Prelude.{filter, IsTrue, All, Contains}
 use Rattle.std.proofs.lemmas.List.Elements.{Contains-get_or, Contains-append_left, Contains-append_right, Contains-append_cases, Contains-push, Contains-push_cases}
 use Rattle.std.proofs.lemmas.Grind.{take_at_read}
-use Rattle.std.proofs.lemmas.Bool.{eqb-true, eq-eqb, and_parts, and_from, or_cases, or_left, or_right, cases_Bool, not-true, not_from_false, false_from_ne_true, both_ways}
+use Rattle.std.proofs.lemmas.Bool.{and_parts, and_from, cases_Bool, not-true, not_from_false, false_from_ne_true, both_ways}
 use Rattle.spx_text.specs.declared.place.Place.{Place}
 use Rattle.spx_core.specs.declared.program.VarId.{VarId}
 use Rattle.spx_core.specs.declared.subprogram.Sub.{Sub}
 use Rattle.spx_core.specs.declared.expression.Entity.{Entity}
 use Rattle.spx_core.specs.declared.expression.Entity.TheVariants as entity
-use Rattle.spx_core.specs.declared.expression.CoreName.{CoreName}
 use Rattle.spx_core.specs.declared.expression.CoreStmt.{CoreStmt}
 use Rattle.spx_core.specs.declared.expression.CoreStmt.TheVariants.{Assignment}
-use Rattle.spx_core.specs.declared.dependency.CoreDerivesItem.{CoreDerivesItem}
 use Rattle.spx_core.specs.declared.dependency.CoreDerives.{CoreDerives}
 use Rattle.spx_core.specs.Uses.{is_variable}
 use Rattle.spx_core.specs.Dependency.{exports, derives}
-use Rattle.spx_core.specs.Flow.{assigns, MayFlowAll, Missing, Unused, Ineffective, MayBeUnset, HasNoFinding}
+use Rattle.spx_core.specs.Flow.{assigns, MayFlowAll, Missing, Unused, Ineffective, HasNoFinding}
 use Rattle.spx_examiner.specs.declared.flow.Flow.{Flow}
 use Rattle.spx_examiner.specs.declared.derives.FlowFinding.{FlowFinding}
 use Rattle.spx_examiner.specs.declared.derives.FlowFinding.TheVariants as finding

@@ -1,17 +1,11 @@
 -- Flows, variables and exports as members of lists.
-use Rattle.std.proofs.Common.{◌≡◌, ◌↔◌, ◌⊎◌, Bool, true, false, ◌&&◌, ◌||◌, List, [], ◌∷◌, ◌++◌, is_some, Option, Some, None, refl, sym, ap, ap₂, ◌∙◌, inl, inr, eqb}
+use Rattle.std.proofs.Common.{◌≡◌, ◌↔◌, Bool, true, false, ◌&&◌, ◌||◌, List, [], ◌∷◌, is_some, Option, Some, None, refl, sym, ap, ap₂, ◌∙◌, inl, inr, eqb}
 use Rattle.std.specs.Option.{option_to_list}
 use Rattle.std.specs.List.{list_any, flat_map, cons_option}
 use Rattle.std.proofs.lemmas.List.Folds.{list_any-append}
-use Rattle.std.proofs.lemmas.Bool.{eqb-true, eq-eqb, and_parts, and_from, or_cases, or_left, or_right, cases_Bool, not-true, not_from_false, false_from_ne_true, both_ways}
-use Rattle.spx_text.specs.declared.place.Place.{Place}
+use Rattle.std.proofs.lemmas.Bool.{eqb-true, eq-eqb, and_parts, and_from, or_cases, or_left, or_right}
 use Rattle.spx_core.specs.declared.program.VarId.{VarId}
-use Rattle.spx_core.specs.declared.subprogram.Sub.{Sub}
-use Rattle.spx_core.specs.declared.expression.Entity.{Entity}
-use Rattle.spx_core.specs.declared.expression.Entity.TheVariants as entity
 use Rattle.spx_core.specs.declared.expression.CoreName.{CoreName}
-use Rattle.spx_core.specs.declared.expression.CoreStmt.{CoreStmt}
-use Rattle.spx_core.specs.declared.expression.CoreStmt.TheVariants.{Assignment}
 use Rattle.spx_core.specs.declared.dependency.CoreDerivesItem.{CoreDerivesItem}
 use Rattle.spx_core.specs.declared.dependency.CoreDerives.{CoreDerives}
 use Rattle.spx_core.specs.Uses.{mentions}

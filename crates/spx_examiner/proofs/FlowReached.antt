@@ -1,9 +1,8 @@
 -- The lists of where flows lead have just what flows lead to.
-use Rattle.std.proofs.Common.{◌≡◌, ◌↔◌, ◌⊎◌, Bool, true, false, cond, not, ◌&&◌, ◌||◌, List, [], ◌∷◌, ◌++◌, map, Some, None, Option, refl, sym, ap, ap₂, subst, ◌∙◌, inl, inr, ⊎_elim, eqb}
-use Rattle.std.specs.Prelude.{filter, IsTrue}
+use Rattle.std.proofs.Common.{◌≡◌, ◌↔◌, Bool, true, false, cond, not, ◌&&◌, ◌||◌, List, [], ◌∷◌, map, refl, sym, ap, subst, ◌∙◌, inl, inr, ⊎_elim, eqb}
 use Rattle.std.specs.Option.{option_to_list}
-use Rattle.std.specs.List.{list_any, flat_map}
-use Rattle.std.proofs.lemmas.Bool.{eqb-true, eq-eqb, and_parts, and_from, or_cases, or_left, or_right, or_parts, cases_Bool, not-true, not_from_false, false_from_ne_true, both_ways}
+use Rattle.std.specs.List.{list_any}
+use Rattle.std.proofs.lemmas.Bool.{eqb-true, eq-eqb, and_parts, and_from, or_cases, or_left, or_right, not-true, not_from_false, both_ways}
 use Rattle.std.proofs.lemmas.List.Folds.{list_any-append}
 use Rattle.std.proofs.lemmas.Map.Views.{any-filter_same}
 use Rattle.spx_core.specs.declared.program.VarId.{VarId}
@@ -15,12 +14,11 @@ use Rattle.spx_core.specs.declared.expression.CoreExpr.{CoreExpr}
 use Rattle.spx_core.specs.declared.expression.CoreStmt.{CoreStmt}
 use Rattle.spx_core.specs.declared.expression.CoreStmt.TheVariants.{Assignment}
 use Rattle.spx_core.specs.Uses.{is_variable, denotes, uses}
-use Rattle.spx_core.specs.Formals.{is_formal}
 use Rattle.spx_core.specs.Flow.{MayFlow, MayFlowAll}
 use Rattle.spx_examiner.specs.declared.flow.Flow.{Flow}
 use Rattle.spx_examiner.specs.FlowLists.{variable_of, kept, reads_any, given, passed, reached, flows_from, flows_in, has_flow, AreFlowsOf}
 use Rattle.spx_examiner.proofs.RuleLists.{witness, covers, any_flat_map}
-use Rattle.spx_examiner.proofs.RuleLaws.{same_var, variable_is, variable_itself}
+use Rattle.spx_examiner.proofs.RuleLaws.{same_var}
 
 -- whether a variable is in a list
 abbrev pub has : VarId → List VarId → Bool

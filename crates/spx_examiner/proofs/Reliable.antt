@@ -1,73 +1,309 @@
--- From an accepted judgement to runs that may be relied on.
-use Rattle.std.proofs.Common.{◌≡◌, ℕ, cond, eqb, List, [], ◌∷◌, length, Option, Some, inl, inr, refl, sym, ap, ◌∙◌, arith}
-use Rattle.std.specs.Prelude.{◌⊎◌, map, unwrap_or}
+-- What a judgement tells of words and contents, and from an accepted one to runs that may be relied on.
+use Rattle.std.proofs.Common.{◌≡◌, ◌≢◌, ℕ, false, cond, eqb, List, [], ◌∷◌, length, Option, Some, None, inl, inr, refl, sym, ap, ap₂, subst, ◌∙◌, arith}
+use Rattle.std.specs.Prelude.{◌↔◌, unwrap_or}
 use Rattle.std.proofs.lemmas.Grind.{common_steps}
 use Rattle.std.proofs.lemmas.Bool.Decides.{nat_tests}
 use Rattle.std.proofs.lemmas.List.{length-map}
+use Rattle.spx_tree.specs.declared.subprogram.Unit.{Unit}
+use Rattle.spx_tree.specs.Places.{place_behind}
+use Rattle.spx_tree.specs.Form.{forms_of}
+use Rattle.spx_tree.specs.Goes.{place_with}
 use Rattle.spx_core.specs.declared.program.Program.{Program}
 use Rattle.spx_core.specs.Erase.{erased}
-use Rattle.spx_core.specs.Visible.{Visible}
-use Rattle.spx_meaning.specs.Fit.{Clean}
+use Rattle.spx_meaning.specs.Fit.{Clean, Fit}
+use Rattle.spx_meaning.specs.Laws.{NeverBad, TwoRuns}
 use Rattle.spx_examiner.specs.declared.report.Finding.{Finding}
-use Rattle.spx_examiner.specs.declared.status.Status.{Status}
+use Rattle.spx_examiner.specs.declared.report.Findings.{Findings}
 use Rattle.spx_examiner.specs.declared.status.Status.TheVariants as status
 use Rattle.spx_examiner.specs.declared.judgement.Judgement.{Judgement}
-use Rattle.spx_examiner.specs.declared.judgement.Judgement.TheVariants.{Usage, FileSize, NoProgram, Examined}
-use Rattle.spx_examiner.specs.Words.{files_of}
+use Rattle.spx_examiner.specs.declared.judgement.Judgement.TheVariants.{Usage, Limit, NoProgram, Examined}
+use Rattle.spx_examiner.specs.declared.judgement.LimitName.{LimitName}
+use Rattle.spx_examiner.specs.declared.judgement.LimitName.TheVariants.{Tokens, Nesting}
+use Rattle.spx_examiner.specs.declared.reading.Reading.{Reading}
+use Rattle.spx_examiner.specs.declared.reading.Reading.TheVariants.{Units, Broken, TooManyTokens, TooNested}
+use Rattle.spx_examiner.specs.Words.{files_of, HasForm}
 use Rattle.spx_examiner.specs.Judgement.{status_of}
 use Rattle.spx_examiner.specs.Findings.{findings_of}
-use Rattle.spx_examiner.specs.Causes.{Tells, named}
-use Rattle.spx_examiner.specs.Outcome.{Is, IsReportOn, IsJudgedOn, IsJudgement, no_form, of_files, IsAssured, AreReliable}
-use Rattle.spx_examiner.proofs.Endings.{one_file, tells_named}
+use Rattle.spx_examiner.specs.Causes.{Tells, any_too_long, named}
+use Rattle.spx_examiner.specs.Reading.{IsRead, crowded, stopped, ended, nested, whole, stopped_at, expected_at}
+use Rattle.spx_examiner.specs.Outcome.{Is, IsText, IsSoundFrom, IsReportOn, IsReportOnUnits, IsReportOnReading, IsJudgement, no_form, of_files, IsAssured, AreAcceptable, AreClean, AreFit, AreRefusable, AreReliable, IsReadTooFar, OneOutcome, PassesLimit}
 use Rattle.spx_examiner.proofs.FindingLaws.{lines_of, none_left}
-use Rattle.spx_examiner.proofs.Spelled.{OneSpelling, OneTree, one_text, all_is_one_file}
-
-abbrev pub OneProgram : Type 0
-OneProgram = (p q : Program) → Visible p → Visible q → erased p ≡ erased q → p ≡ q
+use Rattle.spx_examiner.specs.Laws.{Laws}
+use Rattle.spx_examiner.proofs.Spelled.{one_text, text_of_whole, spelled_by, units_spelled, forms_of_text, goes_on, one_reading}
 
 -- the contents of one file spell one program
-pub only_program : OneSpelling → OneTree → OneProgram → (contents : List (List ℕ)) → length contents ≡ 1 → (p q : Program) → Is contents p → Is contents q → q ≡ p
-only_program one tree program [] len p q sp sq = absurd (omega arith)
-only_program one tree program (bytes ∷ []) len p q sp sq =
-    program q p sq.visible sp.visible (one_text one tree bytes (erased q) (erased p) (all_is_one_file bytes (erased q) sq.texts) (all_is_one_file bytes (erased p) sp.texts))
-only_program one tree program (bytes ∷ more ∷ rest) len p q sp sq = absurd (omega arith)
+only_program : Laws → (bytes : List ℕ) (p q : Program) → Is (bytes ∷ []) p → Is (bytes ∷ []) q → q ≡ p
+only_program laws bytes p q sp sq =
+    laws.program q p sq.visible sp.visible (one_text laws.spelling laws.tree bytes (erased q) (erased p) (units_spelled bytes q sq) (units_spelled bytes p sp))
+
+-- ---- reports
 
 no_lines : (lines : List Finding) → cond (eqb (length lines) 0) status.Accepted status.Refused ≡ status.Accepted → lines ≡ []
 no_lines [] e = refl
 no_lines (line ∷ lines) e = grind (arith, common_steps, nat_tests, e)
 
+some_line : (lines : List Finding) → cond (eqb (length lines) 0) status.Accepted status.Refused ≢ status.Accepted → cond (eqb (length lines) 0) status.Accepted status.Refused ≡ status.Refused
+some_line [] ne = absurd (ne refl)
+some_line (line ∷ lines) ne = grind (arith, common_steps, nat_tests)
+
 lines_are : (p : Program) → (findings_of p).lines ≡ lines_of p.subs
 unfolding findings_of
 lines_are p = refl
 
--- a report without a finding is on a reliable program
-reliable_report : OneSpelling → OneTree → OneProgram → (contents : List (List ℕ)) → length contents ≡ 1 → (j : Judgement) → status_of j ≡ status.Accepted → IsReportOn contents j → IsAssured j → AreReliable contents
-reliable_report one tree program contents len Usage e report assured = absurd report
-reliable_report one tree program contents len FileSize e report assured = absurd report
-reliable_report one tree program contents len (NoProgram finding) e report assured = absurd (cc)
-reliable_report one tree program contents len (Examined p found) e report assured =
-    let sound = report.0 in
-    let none : found.lines ≡ [] = no_lines found.lines e in
-    let clean : Clean p = record {
-      visible = sound.spelled.visible;
-      typed = sound.spelled.typed;
-      obeys = sound.obeys;
-      flows = sound.flows;
-      conditions = (none_left p.subs).0 (sym (lines_are p) ∙ ap (λ f. f.lines) (sym report.1) ∙ none);
-    } in
-    let runs = assured clean in
-    (p, record { spelled = sound.spelled; only = λ q spelled. only_program one tree program contents len p q sound.spelled spelled; never_bad = runs.0; two_runs = runs.1 })
+-- a sound program with no finding on its conditions is clean
+clean_program : (units : List Unit) (p : Program) (found : Findings) → IsSoundFrom units p → found ≡ findings_of p → found.lines ≡ [] → Clean p
+clean_program units p found sound are none = record {
+  visible = sound.visible;
+  typed = sound.typed;
+  obeys = sound.obeys;
+  flows = sound.flows;
+  conditions = (none_left p.subs).0 (sym (lines_are p) ∙ ap (λ f. f.lines) (sym are) ∙ none);
+}
+
+-- a clean program that a text spells is a sound one from its units
+sound_of_clean : Laws → (bytes : List ℕ) (units : List Unit) (p : Program) → IsText 0 bytes units → Is (bytes ∷ []) p → Clean p → IsSoundFrom units p
+sound_of_clean laws bytes units p text spelled clean = record {
+  made = one_text laws.spelling laws.tree bytes (erased p) units (units_spelled bytes p spelled) text;
+  visible = clean.visible;
+  typed = clean.typed;
+  obeys = clean.obeys;
+  flows = clean.flows;
+}
+
+-- what an accepted judgement tells of the contents
+record IsOnClean (bytes : List ℕ) (p : Program) : Type 0 where
+  spelled : Is (bytes ∷ []) p
+  clean : Clean p
+  assured : Fit p × NeverBad p × TwoRuns p
+
+clean_units : (bytes : List ℕ) (units : List Unit) (j : Judgement) → IsText 0 bytes units → status_of j ≡ status.Accepted → IsReportOnUnits units j → AreClean (bytes ∷ [])
+clean_units bytes units Usage text e report = absurd report
+clean_units bytes units (Limit name) text e report = absurd report
+clean_units bytes units (NoProgram finding) text e report = absurd (cc)
+clean_units bytes units (Examined p found) text e report =
+    (p, spelled_by bytes units p text report.0, clean_program units p found report.0 report.1 (no_lines found.lines e))
+
+assured_units : (bytes : List ℕ) (units : List Unit) (j : Judgement) → IsText 0 bytes units → status_of j ≡ status.Accepted → IsReportOnUnits units j → IsAssured j → (p : Program) × IsOnClean bytes p
+assured_units bytes units Usage text e report assured = absurd report
+assured_units bytes units (Limit name) text e report assured = absurd report
+assured_units bytes units (NoProgram finding) text e report assured = absurd (cc)
+assured_units bytes units (Examined p found) text e report assured =
+    let clean = clean_program units p found report.0 report.1 (no_lines found.lines e) in
+    (p, record { spelled = spelled_by bytes units p text report.0; clean = clean; assured = assured clean })
+
+accepted_units : Laws → (bytes : List ℕ) (units : List Unit) (j : Judgement) → IsText 0 bytes units → IsReportOnUnits units j → AreClean (bytes ∷ []) → status_of j ≡ status.Accepted
+accepted_units laws bytes units Usage text report clean = absurd report
+accepted_units laws bytes units (Limit name) text report clean = absurd report
+accepted_units laws bytes units (NoProgram finding) text report (p, spelled, clean) = absurd (report.0 p (sound_of_clean laws bytes units p text spelled clean))
+accepted_units laws bytes units (Examined q found) text report (p, spelled, clean) =
+    let same : q ≡ p = only_program laws bytes p q spelled (spelled_by bytes units q text report.0) in
+    let all = subst Clean (sym same) clean in
+    let none : found.lines ≡ [] = ap (λ f. f.lines) report.1 ∙ lines_are q ∙ (none_left q.subs).1 all.conditions in
+    ap (λ (lines : List Finding). cond (eqb (length lines) 0) status.Accepted status.Refused) none
+
+refused_units : (units : List Unit) (j : Judgement) → IsReportOnUnits units j → status_of j ≢ status.Accepted → status_of j ≡ status.Refused
+refused_units units Usage report ne = absurd report
+refused_units units (Limit name) report ne = absurd report
+refused_units units (NoProgram finding) report ne = refl
+refused_units units (Examined p found) report ne = some_line found.lines ne
+
+unlimited_units : (units : List Unit) (j : Judgement) → IsReportOnUnits units j → status_of j ≢ status.Limit
+unlimited_units units Usage report = absurd report
+unlimited_units units (Limit name) report = absurd report
+unlimited_units units (NoProgram finding) report = λ e. cc
+unlimited_units units (Examined p found) report = λ e. grind (arith, common_steps, nat_tests, e)
+
+one_of_units : Laws → (units : List Unit) (j k : Judgement) → IsReportOnUnits units j → IsReportOnUnits units k → j ≡ k
+one_of_units laws units Usage k a b = absurd a
+one_of_units laws units (Limit name) k a b = absurd a
+one_of_units laws units (NoProgram f) Usage a b = absurd b
+one_of_units laws units (NoProgram f) (Limit name) a b = absurd b
+one_of_units laws units (NoProgram f) (NoProgram g) a b = ap NoProgram (a.1 ∙ sym b.1)
+one_of_units laws units (NoProgram f) (Examined q g) a b = absurd (a.0 q b.0)
+one_of_units laws units (Examined p f) Usage a b = absurd b
+one_of_units laws units (Examined p f) (Limit name) a b = absurd b
+one_of_units laws units (Examined p f) (NoProgram g) a b = absurd (b.0 p a.0)
+one_of_units laws units (Examined p f) (Examined q g) a b =
+    let same : p ≡ q = laws.program p q a.0.visible b.0.visible (a.0.made ∙ sym b.0.made) in
+    ap₂ Examined same (a.1 ∙ ap findings_of same ∙ sym b.1)
+
+-- ---- reports by readings
+
+-- what a report on a text comes to: one on its units, a finding where it is no text, or a limit
+data Case (bytes : List ℕ) (j : Judgement) : Type 0 where
+  on_units : (units : List Unit) → IsText 0 bytes units → IsReportOnUnits units j → Case bytes j
+  on_broken : (finding : Finding) → ((units : List Unit) → ¬ IsText 0 bytes units) → j ≡ NoProgram finding → Case bytes j
+  on_limit : (name : LimitName) → IsReadTooFar (bytes ∷ []) → j ≡ Limit name → Case bytes j
+
+case_of : Laws → (bytes : List ℕ) (j : Judgement) (reading : Reading) → IsRead bytes reading → IsReportOnReading reading j → Case bytes j
+case_of laws bytes j reading (crowded many is) report = on_limit Tokens (inl (crowded many refl)) (subst (λ r. IsReportOnReading r j) is report)
+case_of laws bytes j reading (stopped cause place at few is) report =
+    on_broken (stopped_at cause place) (λ units text. laws.stop.unspelled 0 bytes cause place text.tokens at text.spelled) (subst (λ r. IsReportOnReading r j) is report)
+case_of laws bytes j reading (ended tokens left spelled further is) report =
+    on_broken (expected_at (place_with (place_behind 0 bytes) tokens left))
+    (λ units text. goes_on (forms_of bytes tokens) left text.levels units further text.grammatical (sym (forms_of_text laws.spelling bytes tokens units spelled.spelled text)))
+    (subst (λ r. IsReportOnReading r j) is report)
+case_of laws bytes j reading (nested tokens left spelled deep is) report = on_limit Nesting (inr (nested tokens left spelled deep refl)) (subst (λ r. IsReportOnReading r j) is report)
+case_of laws bytes j reading (whole tokens units spelled text is) report =
+    on_units units (text_of_whole bytes tokens units spelled.spelled text) (subst (λ r. IsReportOnReading r j) is report)
+
+clean_case : (bytes : List ℕ) (j : Judgement) → Case bytes j → status_of j ≡ status.Accepted → AreClean (bytes ∷ [])
+clean_case bytes j (on_units units text report) e = clean_units bytes units j text e report
+clean_case bytes j (on_broken finding none is) e = let refused : status_of j ≡ status.Refused = ap status_of is in absurd (cc)
+clean_case bytes j (on_limit name read is) e = let limit : status_of j ≡ status.Limit = ap status_of is in absurd (cc)
+
+assured_case : (bytes : List ℕ) (j : Judgement) → Case bytes j → status_of j ≡ status.Accepted → IsAssured j → (p : Program) × IsOnClean bytes p
+assured_case bytes j (on_units units text report) e assured = assured_units bytes units j text e report assured
+assured_case bytes j (on_broken finding none is) e assured = let refused : status_of j ≡ status.Refused = ap status_of is in absurd (cc)
+assured_case bytes j (on_limit name read is) e assured = let limit : status_of j ≡ status.Limit = ap status_of is in absurd (cc)
+
+accepted_case : Laws → (bytes : List ℕ) (j : Judgement) → Case bytes j → ¬ IsReadTooFar (bytes ∷ []) → AreClean (bytes ∷ []) → status_of j ≡ status.Accepted
+accepted_case laws bytes j (on_units units text report) flat clean = accepted_units laws bytes units j text report clean
+accepted_case laws bytes j (on_broken finding none is) flat clean = absurd (none (erased clean.0) (units_spelled bytes clean.0 clean.1))
+accepted_case laws bytes j (on_limit name read is) flat clean = absurd (flat read)
+
+refused_case : (bytes : List ℕ) (j : Judgement) → Case bytes j → ¬ IsReadTooFar (bytes ∷ []) → status_of j ≢ status.Accepted → status_of j ≡ status.Refused
+refused_case bytes j (on_units units text report) flat ne = refused_units units j report ne
+refused_case bytes j (on_broken finding none is) flat ne = ap status_of is
+refused_case bytes j (on_limit name read is) flat ne = absurd (flat read)
+
+limited_case : (bytes : List ℕ) (j : Judgement) → Case bytes j → status_of j ≡ status.Limit → IsReadTooFar (bytes ∷ [])
+limited_case bytes j (on_units units text report) e = absurd (unlimited_units units j report e)
+limited_case bytes j (on_broken finding none is) e = let refused : status_of j ≡ status.Refused = ap status_of is in absurd (cc)
+limited_case bytes j (on_limit name read is) e = read
+
+one_by_reading : Laws → (reading : Reading) (j k : Judgement) → IsReportOnReading reading j → IsReportOnReading reading k → j ≡ k
+one_by_reading laws (Units units) j k a b = one_of_units laws units j k a b
+one_by_reading laws (Broken finding) j k a b = a ∙ sym b
+one_by_reading laws TooManyTokens j k a b = a ∙ sym b
+one_by_reading laws TooNested j k a b = a ∙ sym b
+
+-- ---- reports on contents
+
+clean_report : Laws → (contents : List (List ℕ)) (j : Judgement) → IsReportOn contents j → status_of j ≡ status.Accepted → AreClean contents
+clean_report laws [] j report e = absurd report
+clean_report laws (bytes ∷ []) j (reading, read, report) e = clean_case bytes j (case_of laws bytes j reading read report) e
+clean_report laws (bytes ∷ more ∷ rest) j report e = absurd report
+
+accepted_report : Laws → (contents : List (List ℕ)) (j : Judgement) → IsReportOn contents j → ¬ IsReadTooFar contents → AreClean contents → status_of j ≡ status.Accepted
+accepted_report laws [] j report flat clean = absurd report
+accepted_report laws (bytes ∷ []) j (reading, read, report) flat clean = accepted_case laws bytes j (case_of laws bytes j reading read report) flat clean
+accepted_report laws (bytes ∷ more ∷ rest) j report flat clean = absurd report
+
+refused_report : Laws → (contents : List (List ℕ)) (j : Judgement) → IsReportOn contents j → ¬ IsReadTooFar contents → status_of j ≢ status.Accepted → status_of j ≡ status.Refused
+refused_report laws [] j report flat ne = absurd report
+refused_report laws (bytes ∷ []) j (reading, read, report) flat ne = refused_case bytes j (case_of laws bytes j reading read report) flat ne
+refused_report laws (bytes ∷ more ∷ rest) j report flat ne = absurd report
+
+limited_report : Laws → (contents : List (List ℕ)) (j : Judgement) → IsReportOn contents j → status_of j ≡ status.Limit → IsReadTooFar contents
+limited_report laws [] j report e = absurd report
+limited_report laws (bytes ∷ []) j (reading, read, report) e = limited_case bytes j (case_of laws bytes j reading read report) e
+limited_report laws (bytes ∷ more ∷ rest) j report e = absurd report
+
+passed_report : Laws → (contents : List (List ℕ)) (j : Judgement) → IsReportOn contents j → IsReadTooFar contents → status_of j ≡ status.Limit
+passed_report laws [] j report deep = absurd report
+passed_report laws (bytes ∷ []) j (reading, read, report) (inl crowd) =
+    let same : reading ≡ TooManyTokens = one_reading laws.spelling laws.stop laws.answer bytes reading TooManyTokens read crowd in
+    ap status_of (subst (λ r. IsReportOnReading r j) same report)
+passed_report laws (bytes ∷ []) j (reading, read, report) (inr deep) =
+    let same : reading ≡ TooNested = one_reading laws.spelling laws.stop laws.answer bytes reading TooNested read deep in
+    ap status_of (subst (λ r. IsReportOnReading r j) same report)
+passed_report laws (bytes ∷ more ∷ rest) j report deep = absurd report
+
+one_report : Laws → (contents : List (List ℕ)) (j k : Judgement) → IsReportOn contents j → IsReportOn contents k → j ≡ k
+one_report laws [] j k a b = absurd a
+one_report laws (bytes ∷ []) j k (r, read, a) (s, read', b) =
+    let same : s ≡ r = one_reading laws.spelling laws.stop laws.answer bytes s r read' read in
+    one_by_reading laws r j k a (subst (λ t. IsReportOnReading t k) same b)
+one_report laws (bytes ∷ more ∷ rest) j k a b = absurd a
+
+reliable_report : Laws → (contents : List (List ℕ)) (j : Judgement) → IsReportOn contents j → status_of j ≡ status.Accepted → IsAssured j → AreFit contents × AreReliable contents
+reliable_report laws [] j report e assured = absurd report
+reliable_report laws (bytes ∷ []) j (reading, read, report) e assured =
+    let a = assured_case bytes j (case_of laws bytes j reading read report) e assured in
+    ((a.0, a.1.spelled, a.1.clean, a.1.assured.0), (a.0, record { spelled = a.1.spelled; only = λ q spelled. only_program laws bytes a.0 q a.1.spelled spelled; never_bad = a.1.assured.1; two_runs = a.1.assured.2 }))
+reliable_report laws (bytes ∷ more ∷ rest) j report e assured = absurd report
+
+-- ---- judgements
 
 tells_len : (told : List ℕ → Option (List ℕ)) (files contents : List (List ℕ)) → Tells told files contents → length contents ≡ length files
 tells_len told files contents tells = omega (arith, ap length tells, length-map files told, length-map contents (λ (c : List ℕ). Some c))
 
-by_files : OneSpelling → OneTree → OneProgram → (contents : List (List ℕ)) → length contents ≡ 1 → (j : Judgement) → status_of j ≡ status.Accepted → IsJudgedOn contents j → IsAssured j → AreReliable contents
-by_files one tree program contents len j e (inl long) assured = let same : status_of j ≡ status.Limit = ap status_of long.1 in absurd (cc)
-by_files one tree program contents len j e (inr report) assured = reliable_report one tree program contents len j e report.1 assured
+-- as many contents as the words name files
+abbrev pub AsMany : List (List ℕ) → List (List ℕ) → Type 0
+AsMany words contents = length contents ≡ length (named words)
 
--- where the judgement is accepted, the contents spell a program that may be relied on
-pub reliable : OneSpelling → OneTree → OneProgram → (told : List ℕ → Option (List ℕ)) (words contents : List (List ℕ)) (j : Judgement) → Tells told (named words) contents → IsJudgement words contents j → status_of j ≡ status.Accepted → IsAssured j → AreReliable contents
-reliable one tree program told words contents j tells (no_form none same) e assured = let usage : status_of j ≡ status.Usage = ap status_of same in absurd (cc)
-reliable one tree program told words contents j tells (of_files files is judged) e assured =
-    let len : length contents ≡ 1 = omega (arith, tells_len told files contents (tells_named told words files contents is tells), one_file words files is) in
-    by_files one tree program contents len j e judged assured
+pub as_many : (told : List ℕ → Option (List ℕ)) (words contents : List (List ℕ)) → Tells told (named words) contents → AsMany words contents
+as_many told words contents tells = tells_len told (named words) contents tells
+
+-- where words have no form there are no contents, which pass no limit
+no_contents : (contents : List (List ℕ)) → length contents ≡ 0 → ¬ PassesLimit contents
+no_contents [] none (inl long) = absurd (cc)
+no_contents [] none (inr deep) = absurd deep
+no_contents (bytes ∷ rest) none passes = absurd (omega arith)
+
+none_named : (words contents : List (List ℕ)) → files_of words ≡ None → AsMany words contents → length contents ≡ 0
+none_named words contents none many = let same : length (named words) ≡ 0 = ap (λ (o : Option (List (List ℕ))). length (unwrap_or o [])) none in omega (arith)
+
+-- an accepted or refused judgement is a report
+concluded_is_report : (words contents : List (List ℕ)) (j : Judgement) → IsJudgement words contents j → status_of j ≢ status.Usage → status_of j ≢ status.Limit → HasForm words × (any_too_long contents ≡ false) × IsReportOn contents j
+concluded_is_report words contents j (no_form none same) u l = absurd (u (ap status_of same))
+concluded_is_report words contents j (of_files files is (inl long)) u l = absurd (l (ap status_of long.1))
+concluded_is_report words contents j (of_files files is (inr report)) u l = ((λ none. absurd (cc)), report.0, report.1)
+
+unlimited : Laws → (contents : List (List ℕ)) (j : Judgement) → any_too_long contents ≡ false → IsReportOn contents j → status_of j ≢ status.Limit → ¬ PassesLimit contents
+unlimited laws contents j short report ne (inl long) = absurd (cc)
+unlimited laws contents j short report ne (inr deep) = ne (passed_report laws contents j report deep)
+
+-- a judgement on a command whose files pass no limit is a report
+is_report : (words contents : List (List ℕ)) (j : Judgement) → IsJudgement words contents j → HasForm words → ¬ PassesLimit contents → IsReportOn contents j
+is_report words contents j (no_form none same) form passes = absurd (form none)
+is_report words contents j (of_files files is (inl long)) form passes = absurd (passes (inl long.0))
+is_report words contents j (of_files files is (inr report)) form passes = report.1
+
+-- a judgement is accepted exactly where words and contents are acceptable
+pub accepted_where : Laws → (words contents : List (List ℕ)) (j : Judgement) → IsJudgement words contents j → (status_of j ≡ status.Accepted) ↔ AreAcceptable words contents
+accepted_where laws words contents j judged = (
+  λ e. let r = concluded_is_report words contents j judged (λ u. cc) (λ l. cc) in (r.0, unlimited laws contents j r.1 r.2 (λ l. cc), clean_report laws contents j r.2 e),
+  λ a. accepted_report laws contents j (is_report words contents j judged a.0 a.1) (λ deep. a.1 (inr deep)) a.2,
+)
+
+-- refused exactly where they are refusable
+pub refused_where : Laws → (words contents : List (List ℕ)) (j : Judgement) → IsJudgement words contents j → (status_of j ≡ status.Refused) ↔ AreRefusable words contents
+refused_where laws words contents j judged = (
+  λ e. let r = concluded_is_report words contents j judged (λ u. cc) (λ l. cc) in
+      let flat = unlimited laws contents j r.1 r.2 (λ l. cc) in
+      (r.0, flat, λ clean. let accepted : status_of j ≡ status.Accepted = accepted_report laws contents j r.2 (λ deep. flat (inr deep)) clean in absurd (cc)),
+  λ a. let r = is_report words contents j judged a.0 a.1 in refused_report laws contents j r (λ deep. a.1 (inr deep)) (λ e. a.2 (clean_report laws contents j r e)),
+)
+
+-- and ended by a limit exactly where one is passed
+limit_judged : Laws → (words contents : List (List ℕ)) (j : Judgement) → IsJudgement words contents j → status_of j ≡ status.Limit → PassesLimit contents
+limit_judged laws words contents j (no_form none same) e = let usage : status_of j ≡ status.Usage = ap status_of same in absurd (cc)
+limit_judged laws words contents j (of_files files is (inl long)) e = inl long.0
+limit_judged laws words contents j (of_files files is (inr report)) e = inr (limited_report laws contents j report.1 e)
+
+judged_limit : Laws → (words contents : List (List ℕ)) (j : Judgement) → AsMany words contents → IsJudgement words contents j → PassesLimit contents → status_of j ≡ status.Limit
+judged_limit laws words contents j many (no_form none same) passes = absurd (no_contents contents (none_named words contents none many) passes)
+judged_limit laws words contents j many (of_files files is (inl long)) passes = ap status_of long.1
+judged_limit laws words contents j many (of_files files is (inr report)) (inl long) = absurd (cc)
+judged_limit laws words contents j many (of_files files is (inr report)) (inr deep) = passed_report laws contents j report.1 deep
+
+pub limited_where : Laws → (words contents : List (List ℕ)) (j : Judgement) → AsMany words contents → IsJudgement words contents j → (status_of j ≡ status.Limit) ↔ PassesLimit contents
+limited_where laws words contents j many judged = (limit_judged laws words contents j judged, judged_limit laws words contents j many judged)
+
+-- where the judgement is accepted, the contents spell a program that is fit, and that may be relied on
+pub reliable : Laws → (words contents : List (List ℕ)) (j : Judgement) → IsJudgement words contents j → status_of j ≡ status.Accepted → IsAssured j → AreFit contents × AreReliable contents
+reliable laws words contents j judged e assured =
+    let r = concluded_is_report words contents j judged (λ u. cc) (λ l. cc) in
+    reliable_report laws contents j r.2 e assured
+
+-- two judgements on words and contents are the same
+pub one_outcome : Laws → OneOutcome
+one_outcome laws words contents j k (no_form none is) (no_form none' is') = is ∙ sym is'
+one_outcome laws words contents j k (no_form none is) (of_files files names judged) = absurd (cc)
+one_outcome laws words contents j k (of_files files names judged) (no_form none is) = absurd (cc)
+one_outcome laws words contents j k (of_files files names (inl long)) (of_files files' names' (inl long')) = long.1 ∙ sym long'.1
+one_outcome laws words contents j k (of_files files names (inl long)) (of_files files' names' (inr report)) = absurd (cc)
+one_outcome laws words contents j k (of_files files names (inr report)) (of_files files' names' (inl long)) = absurd (cc)
+one_outcome laws words contents j k (of_files files names (inr report)) (of_files files' names' (inr report')) = one_report laws contents j k report.1 report'.1

@@ -1,6 +1,6 @@
 -- Where the tests find no broken rule, none is broken.
-use Rattle.std.proofs.Common.{◌≡◌, ◌↔◌, ◌⊎◌, ℕ, zero, suc, ◌+◌, ◌<◌, ◌≤◌, Bool, true, false, cond, not, ◌&&◌, ◌||◌, List, [], ◌∷◌, ◌++◌, Option, Some, None, is_some, refl, sym, ap, ap₂, subst, ◌∙◌, inl, inr, ⊎_elim, arith, eqb}
-use Rattle.std.specs.Prelude.{All, Any, count_by, IsTrue}
+use Rattle.std.proofs.Common.{◌≡◌, ◌↔◌, ◌⊎◌, ℕ, ◌+◌, ◌<◌, Bool, true, false, cond, not, ◌&&◌, ◌||◌, List, [], ◌∷◌, ◌++◌, Option, Some, None, is_some, refl, sym, ap, ap₂, subst, ◌∙◌, inl, inr, ⊎_elim, arith, eqb}
+use Rattle.std.specs.Prelude.{Any, count_by, IsTrue}
 use Rattle.std.specs.List.{list_any, flat_map}
 use Rattle.std.proofs.lemmas.Bool.{cases_lt, eqb-true, eq-eqb, and_parts, and_from, or_cases, or_parts, or_from, or_left, or_right, cases_Bool, not-true, not_from_false, false_from_ne_true, both_ways}
 use Rattle.std.proofs.lemmas.List.Folds.{list_any-append}
@@ -21,8 +21,8 @@ use Rattle.spx_core.specs.declared.dependency.CoreDerives.{CoreDerives}
 use Rattle.spx_core.specs.Uses.{is_variable, denotes, mentions, uses}
 use Rattle.spx_core.specs.Dependency.{has_export, exports, imports}
 use Rattle.spx_core.specs.Reads.{names_read}
-use Rattle.spx_core.specs.Formals.{is_formal, mode_of}
-use Rattle.spx_core.specs.Flow.{assigns, defines}
+use Rattle.spx_core.specs.Formals.{mode_of}
+use Rattle.spx_core.specs.Flow.{assigns}
 use Rattle.spx_core.specs.Rules.{BreaksU2, ExportStandsTwice, PairStandsTwice, FormalIsMissing, NamesNoFormal, BreaksU7, agrees, BreaksU8, BreaksU11, ObeysRules, Obeys}
 use Rattle.spx_examiner.specs.RuleTests.{is_in, is_input, assigns_input, is_one_of, stands_among, has_repeats, is_exported_by, is_exported_again, repeats_an_export, has_repeated_exports, imports_an_export, repeats_a_pair, is_unlisted, denotes_formal, has_other_name, names_another, has_bad_derives, contradicts_mode, contradicts, is_not_imported, names_no_import, has_bad_precondition, breaks_rule}
 use Rattle.spx_core.proofs.ReadsLaws.{names_are}

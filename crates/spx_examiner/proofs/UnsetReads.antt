@@ -1,26 +1,23 @@
 -- The list of unset reads is exact.
-use Rattle.std.proofs.Common.{◌≡◌, ◌↔◌, Bool, true, false, cond, not, List, [], ◌∷◌, ◌++◌, refl, sym, subst, ◌∙◌, inl, inr, ⊎_elim, append_assoc}
-use Rattle.std.specs.Prelude.{filter, IsTrue}
+use Rattle.std.proofs.Common.{◌≡◌, ◌↔◌, true, cond, not, List, [], ◌∷◌, ◌++◌, refl, sym, subst, ◌∙◌, inl, inr, ⊎_elim, append_assoc}
+use Rattle.std.specs.Prelude.{filter}
 use Rattle.std.proofs.lemmas.List.{append-nil}
-use Rattle.std.proofs.lemmas.Bool.{eqb-true, eq-eqb, and_parts, and_from, or_cases, or_left, or_right, cases_Bool, not-true, not_from_false, false_from_ne_true, both_ways}
+use Rattle.std.proofs.lemmas.Bool.{and_parts, and_from, cases_Bool, not-true, not_from_false}
 use Rattle.spx_text.specs.declared.place.Place.{Place}
 use Rattle.spx_core.specs.declared.program.VarId.{VarId}
 use Rattle.spx_core.specs.declared.subprogram.Sub.{Sub}
 use Rattle.spx_core.specs.declared.expression.Entity.{Entity}
 use Rattle.spx_core.specs.declared.expression.Entity.TheVariants as entity
-use Rattle.spx_core.specs.declared.expression.CoreName.{CoreName}
 use Rattle.spx_core.specs.declared.expression.CoreStmt.{CoreStmt}
 use Rattle.spx_core.specs.declared.expression.CoreStmt.TheVariants.{Assignment}
-use Rattle.spx_core.specs.declared.dependency.CoreDerivesItem.{CoreDerivesItem}
-use Rattle.spx_core.specs.declared.dependency.CoreDerives.{CoreDerives}
 use Rattle.spx_core.specs.Uses.{is_variable}
 use Rattle.spx_core.specs.Reads.{names_read}
-use Rattle.spx_core.specs.Dependency.{exports, imports}
+use Rattle.spx_core.specs.Dependency.{imports}
 use Rattle.spx_core.specs.Flow.{defines, IsUnsetBehind, ReadsAt, MayBeUnset, read, left}
 use Rattle.spx_examiner.specs.FlowLists.{exported}
 use Rattle.spx_examiner.specs.UnsetReads.{may_be_unset, unset_at, unset_name, unset_in, unset_behind, left_unset, all_unset, AreUnsetReads}
 use Rattle.spx_examiner.proofs.RuleLaws.{variable_is, variable_itself}
-use Rattle.spx_examiner.proofs.FlowLists.{Among, among_contains, contains_among, among_append, among_left, among_right, none_among, among_filter, filter_among, among_map, map_among, among_flat_map, flat_map_among}
+use Rattle.spx_examiner.proofs.FlowLists.{Among, among_contains, contains_among, among_append, among_left, among_right, among_filter, filter_among, among_map, map_among, among_flat_map, flat_map_among}
 use Rattle.spx_examiner.proofs.FlowMembers.{exported_among, among_exported}
 
 -- ---- F4

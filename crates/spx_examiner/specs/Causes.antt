@@ -1,12 +1,12 @@
 -- What each answer comes from.
-use Rattle.std.specs.Prelude.{◌≡◌, ◌≢◌, ◌⊎◌, ◌↔◌, ◌<◌, true, ℕ, Bool, nat_lt, length, List, [], ◌∷◌, ◌++◌, map, Contains, Option, Some, None, unwrap_or, Vec}
+use Rattle.std.specs.Prelude.{◌≡◌, ◌≢◌, ◌↔◌, true, ℕ, Bool, nat_lt, length, List, [], ◌∷◌, ◌++◌, map, Contains, Option, Some, unwrap_or, Vec}
 use Rattle.std.specs.Global.{Global}
 use Rattle.std.specs.List.{list_any}
 use Rattle.spx_text.specs.Writes.{after, IsPart}
 use Rattle.spx_examiner.specs.declared.status.Status.{Status}
 use Rattle.spx_examiner.specs.declared.status.Status.TheVariants.{ReadFault, WriteFault, NoMemory}
 use Rattle.spx_examiner.specs.declared.judgement.Judgement.{Judgement}
-use Rattle.spx_examiner.specs.Words.{files_of, NamesFiles}
+use Rattle.spx_examiner.specs.Words.{files_of}
 use Rattle.spx_examiner.specs.Judgement.{status_of, text_of}
 
 -- the files tell these contents of these names
@@ -39,8 +39,8 @@ abbrev pub Exactly : Status → Type 0 → Status → Type 0
 Exactly answer cause status = Concludes status → (status ≡ answer) ↔ cause
 
 -- one of the files is too long
-abbrev pub PassesLimit : List (List ℕ) → Type 0
-PassesLimit contents = any_too_long contents ≡ true
+abbrev pub AreTooLong : List (List ℕ) → Type 0
+AreTooLong contents = any_too_long contents ≡ true
 
 -- the load of one of these names failed, and no other
 abbrev pub OneFailed : List (List ℕ) → List (List ℕ) → List (List ℕ) → Type 0

@@ -1,10 +1,10 @@
 -- The conditions made on the way, with the present term of each name and the facts so far.
-use Rattle.std.specs.Prelude.{◌≡◌, ℕ, ◌+◌, Bool, if◌then◌else◌, List, [], ◌∷◌, ◌++◌, map, fold, length}
+use Rattle.std.specs.Prelude.{◌≡◌, ℕ, ◌+◌, if◌then◌else◌, List, [], ◌∷◌, ◌++◌, map, fold, length}
 use Rattle.spx_term.specs.declared.condition.Condition.{Condition}
 use Rattle.spx_term.specs.declared.term.Name.{Name}
 use Rattle.spx_term.specs.declared.term.Term.{Term, Term-F, fold-Term}
 use Rattle.spx_term.specs.declared.term.Term.TheVariants.{Number, Truth, Variable, Infix}
-use Rattle.spx_term.specs.Steps.{Tree, Cut, Assume, Assign, Prove, same_name, Claim, claims_of, with_new}
+use Rattle.spx_term.specs.Steps.{Tree, Cut, Assume, Assign, Prove, same_name, Claim, with_new}
 use Rattle.spx_core.specs.declared.program.VarId.{VarId}
 use Rattle.spx_core.specs.declared.subprogram.Sub.{Sub}
 use Rattle.spx_core.specs.Dependency.{exports}

@@ -1,7 +1,6 @@
 -- What a declared dependency relation and a body disagree on.
-use Rattle.std.specs.Prelude.{◌≡◌, ◌↔◌, ◌⊎◌, Bool, not, ◌&&◌, if◌then◌else◌, IsTrue, Option, Some, None, unwrap_or, option_map, List, [], ◌∷◌, ◌++◌, map, filter, find, Contains, Any}
+use Rattle.std.specs.Prelude.{◌≡◌, ◌↔◌, ◌⊎◌, Bool, not, ◌&&◌, if◌then◌else◌, Option, Some, None, option_map, List, [], ◌∷◌, ◌++◌, map, filter, find, Contains, Any}
 use Rattle.std.specs.List.{list_any, flat_map}
-use Rattle.std.specs.Option.{option_to_list}
 use Rattle.spx_text.specs.declared.place.Place.{Place}
 use Rattle.spx_core.specs.declared.program.VarId.{VarId}
 use Rattle.spx_core.specs.declared.subprogram.Sub.{Sub}
@@ -16,7 +15,7 @@ use Rattle.spx_core.specs.Flow.{Missing, Unused, Ineffective, MayBeUnset}
 use Rattle.spx_examiner.specs.declared.flow.Flow.{Flow}
 use Rattle.spx_examiner.specs.declared.derives.FlowFinding.{FlowFinding}
 use Rattle.spx_examiner.specs.declared.derives.FlowFinding.TheVariants as finding
-use Rattle.spx_examiner.specs.FlowLists.{variable_of, reached, exported, has_flow, flows_in}
+use Rattle.spx_examiner.specs.FlowLists.{variable_of, reached, exported, has_flow}
 use Rattle.spx_examiner.specs.UnsetReads.{all_unset}
 
 -- the first place of an export in the relation

@@ -1,5 +1,5 @@
 -- Where flows lead, as lists of variables.
-use Rattle.std.specs.Prelude.{◌≡◌, ◌↔◌, ◌==◌, Bool, not, ◌&&◌, if◌then◌else◌, IsTrue, Option, Some, None, List, [], ◌∷◌, ◌++◌, map, filter}
+use Rattle.std.specs.Prelude.{◌↔◌, ◌==◌, Bool, not, ◌&&◌, if◌then◌else◌, IsTrue, Option, Some, None, List, [], ◌∷◌, ◌++◌, map, filter}
 use Rattle.std.specs.List.{list_any, flat_map, filter_map}
 use Rattle.std.specs.Option.{option_to_list}
 use Rattle.spx_core.specs.declared.program.VarId.{VarId}

@@ -1,14 +1,9 @@
-pub mod Pieces
-pub mod Positions
-pub mod Faults
-pub mod Reading
-pub mod Reads
 pub mod Codes
 pub mod Report
 pub mod Words
+pub mod Reading
 pub mod Judgement
 pub mod Causes
-pub mod Phases
 pub mod ConditionLiterals
 pub mod Resolving
 pub mod RuleTests
@@ -18,4 +13,5 @@ pub mod UnsetReads
 pub mod FlowFindings
 pub mod ConditionWalk
 pub mod Findings
+pub mod Laws
 pub mod Outcome

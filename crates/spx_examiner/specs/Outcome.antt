@@ -1,6 +1,5 @@
 -- What the program is to answer and to write, by its words and the contents of the files that they name.
-use Rattle.std.specs.Prelude.{◌≡◌, ◌⊎◌, ⊤, ℕ, ◌+◌, false, List, [], ◌∷◌, ◌++◌, Option, codes}
-use Rattle.spx_text.specs.declared.place.Place.{Place}
+use Rattle.std.specs.Prelude.{◌≡◌, ◌⊎◌, ⊤, ℕ, ◌+◌, false, List, [], ◌∷◌, ◌++◌, Option}
 use Rattle.spx_tree.specs.declared.token.Token.{Token}
 use Rattle.spx_tree.specs.declared.subprogram.Unit.{Unit}
 use Rattle.spx_tree.specs.Spells.{Spells}
@@ -8,23 +7,26 @@ use Rattle.spx_tree.specs.Form.{forms_of}
 use Rattle.spx_tree.specs.Written.{written}
 use Rattle.spx_tree.specs.Grammar.{IsFile}
 use Rattle.spx_core.specs.declared.program.Program.{Program}
-use Rattle.spx_core.specs.declared.rule.RuleName.TheVariants as rule
 use Rattle.spx_core.specs.Erase.{erased}
 use Rattle.spx_core.specs.Visible.{Visible}
 use Rattle.spx_core.specs.Typed.{Typed}
 use Rattle.spx_core.specs.Rules.{Obeys}
 use Rattle.spx_core.specs.Flow.{HasNoFlowFinding}
-use Rattle.spx_meaning.specs.Fit.{Clean}
+use Rattle.spx_meaning.specs.Fit.{Clean, Fit}
 use Rattle.spx_meaning.specs.Laws.{NeverBad, TwoRuns}
 use Rattle.spx_examiner.specs.declared.status.Status.{Status}
 use Rattle.spx_examiner.specs.declared.report.Finding.{Finding}
 use Rattle.spx_examiner.specs.declared.judgement.Judgement.{Judgement}
-use Rattle.spx_examiner.specs.declared.judgement.Judgement.TheVariants.{Usage, FileSize, NoProgram, Examined}
-use Rattle.spx_examiner.specs.Words.{HasNoForm, NamesFiles}
+use Rattle.spx_examiner.specs.declared.judgement.Judgement.TheVariants.{Usage, Limit, NoProgram, Examined}
+use Rattle.spx_examiner.specs.declared.judgement.LimitName.TheVariants.{FileSize, Tokens, Nesting}
+use Rattle.spx_examiner.specs.declared.reading.Reading.{Reading}
+use Rattle.spx_examiner.specs.declared.reading.Reading.TheVariants.{Units, Broken, TooManyTokens, TooNested}
+use Rattle.spx_examiner.specs.Reading.{IsRead, expected_at}
+use Rattle.spx_examiner.specs.Words.{HasForm, HasNoForm, NamesFiles}
 use Rattle.spx_examiner.specs.Judgement.{status_of, text_of}
 use Rattle.spx_examiner.specs.Findings.{findings_of}
-use Rattle.spx_text.specs.Writes.{after}
-use Rattle.spx_examiner.specs.Causes.{PassesLimit, any_too_long, named}
+use Rattle.spx_text.specs.Writes.{IsPart, after}
+use Rattle.spx_examiner.specs.Causes.{AreTooLong, any_too_long, named}
 
 -- ---- which program the contents spell
 
@@ -32,7 +34,8 @@ use Rattle.spx_examiner.specs.Causes.{PassesLimit, any_too_long, named}
 pub record IsText (file : ℕ) (bytes : List ℕ) (units : List Unit) : Type 0 where
   pub tokens : List Token
   pub spelled : Spells file bytes tokens
-  pub grammatical : IsFile units
+  pub levels : ℕ
+  pub grammatical : IsFile levels units
   pub as_written : written units ≡ forms_of bytes tokens
 
 -- the units, file by file, from this file on
@@ -54,12 +57,6 @@ pub record IsSoundFrom (units : List Unit) (p : Program) : Type 0 where
   pub obeys : Obeys p
   pub flows : HasNoFlowFinding p
 
--- the contents spell this program, which obeys the rules and has no flow finding
-pub record IsSound (contents : List (List ℕ)) (p : Program) : Type 0 where
-  pub spelled : Is contents p
-  pub obeys : Obeys p
-  pub flows : HasNoFlowFinding p
-
 -- The contents spell exactly this program, and its runs may be relied on: from a store that meets its precondition no run of a
 -- subprogram is bad, at any bound; and two ended runs that agree on the declared imports of an export give it one value.
 pub record IsReliable (contents : List (List ℕ)) (p : Program) : Type 0 where
@@ -70,20 +67,32 @@ pub record IsReliable (contents : List (List ℕ)) (p : Program) : Type 0 where
 
 -- ---- judgements
 
--- the one finding on contents that spell no program
+-- the one finding on a text of the grammar that is no program which keeps the rules and flows as it declares
 abbrev pub no_program : Finding
-no_program = record { place = record { file = 0; line = 1; column = 1 }; rule = rule.P1; text = codes "expected another token" }
+no_program = expected_at (record { file = 0; line = 1; column = 1 })
 
--- what there is to report on contents: that they spell no program, or what the conditions of the one that they spell come to
+-- what there is to report on units: that no sound program is made from them, or what the conditions of the one come to
+abbrev pub IsReportOnUnits : List Unit → Judgement → Type 0
+IsReportOnUnits units Usage = ⊥
+IsReportOnUnits units (Limit name) = ⊥
+IsReportOnUnits units (NoProgram finding) = ((p : Program) → ¬ IsSoundFrom units p) × (finding ≡ no_program)
+IsReportOnUnits units (Examined p found) = IsSoundFrom units p × (found ≡ findings_of p)
+
+-- on a text, by what lexis and syntax say of it
+abbrev pub IsReportOnReading : Reading → Judgement → Type 0
+IsReportOnReading (Units units) j = IsReportOnUnits units j
+IsReportOnReading (Broken finding) j = j ≡ NoProgram finding
+IsReportOnReading TooManyTokens j = j ≡ Limit Tokens
+IsReportOnReading TooNested j = j ≡ Limit Nesting
+
+-- on the contents of one file
 abbrev pub IsReportOn : List (List ℕ) → Judgement → Type 0
-IsReportOn contents Usage = ⊥
-IsReportOn contents FileSize = ⊥
-IsReportOn contents (NoProgram finding) = ((p : Program) → IsSound contents p → ⊥) × (finding ≡ no_program)
-IsReportOn contents (Examined p found) = IsSound contents p × (found ≡ findings_of p)
+IsReportOn (bytes ∷ []) j = (reading : Reading) × IsRead bytes reading × IsReportOnReading reading j
+IsReportOn _ j = ⊥
 
 -- a file is too long, or else there is this to report
 abbrev pub IsJudgedOn : List (List ℕ) → Judgement → Type 0
-IsJudgedOn contents j = (PassesLimit contents × (j ≡ FileSize)) ⊎ ((any_too_long contents ≡ false) × IsReportOn contents j)
+IsJudgedOn contents j = (AreTooLong contents × (j ≡ Limit FileSize)) ⊎ ((any_too_long contents ≡ false) × IsReportOn contents j)
 
 -- The judgement on words and on the contents of the files that they name, in the order of work: words without a form, then a
 -- file that is too long, then the report.
@@ -95,17 +104,47 @@ pub data IsJudgement (words contents : List (List ℕ)) (j : Judgement) : Type 0
 abbrev pub EndsAs : List (List ℕ) → List (List ℕ) → Status → Option (List ℕ) → Option (List ℕ) → Type 0
 EndsAs words contents status before now = (j : Judgement) × IsJudgement words contents j × (status ≡ status_of j) × (now ≡ after before (text_of (named words) j))
 
+-- a part of the text of the judgement was taken, and not all
+abbrev pub IsCutShortAs : List (List ℕ) → List (List ℕ) → Option (List ℕ) → Option (List ℕ) → Type 0
+IsCutShortAs words contents before now = (j : Judgement) × IsJudgement words contents j × IsPart before now (text_of (named words) j)
+
+-- words and contents have at most one judgement
+abbrev pub OneOutcome : Type 0
+OneOutcome = (words contents : List (List ℕ)) (j k : Judgement) → IsJudgement words contents j → IsJudgement words contents k → j ≡ k
+
+-- ---- answers, by the words and the contents alone
+
+-- the text of the one file has too many tokens, or passes 200 levels before anything else breaks it
+abbrev pub IsReadTooFar : List (List ℕ) → Type 0
+IsReadTooFar (bytes ∷ []) = IsRead bytes TooManyTokens ⊎ IsRead bytes TooNested
+IsReadTooFar _ = ⊥
+
+abbrev pub PassesLimit : List (List ℕ) → Type 0
+PassesLimit contents = AreTooLong contents ⊎ IsReadTooFar contents
+
 -- the contents spell a program on which there is nothing to report
 abbrev pub AreClean : List (List ℕ) → Type 0
 AreClean contents = (p : Program) × Is contents p × Clean p
+
+-- the words are a command, no limit is passed, and there is nothing to report
+abbrev pub AreAcceptable : List (List ℕ) → List (List ℕ) → Type 0
+AreAcceptable words contents = HasForm words × (¬ PassesLimit contents) × AreClean contents
+
+-- the words are a command, no limit is passed, and there is something to report
+abbrev pub AreRefusable : List (List ℕ) → List (List ℕ) → Type 0
+AreRefusable words contents = HasForm words × (¬ PassesLimit contents) × (¬ AreClean contents)
+
+-- the contents spell a program on which there is nothing to report, and which is fit to run
+abbrev pub AreFit : List (List ℕ) → Type 0
+AreFit contents = (p : Program) × Is contents p × Clean p × Fit p
 
 -- the contents spell exactly one program, and its runs may be relied on
 abbrev pub AreReliable : List (List ℕ) → Type 0
 AreReliable contents = (p : Program) × IsReliable contents p
 
--- what is known of the program in a judgement: where it is clean, its runs may be relied on
+-- what is known of the program in a judgement: where it is clean, it is fit, and its runs may be relied on
 abbrev pub IsAssured : Judgement → Type 0
 IsAssured Usage = ⊤
-IsAssured FileSize = ⊤
+IsAssured (Limit name) = ⊤
 IsAssured (NoProgram finding) = ⊤
-IsAssured (Examined p found) = Clean p → NeverBad p × TwoRuns p
+IsAssured (Examined p found) = Clean p → Fit p × NeverBad p × TwoRuns p

@@ -1,5 +1,5 @@
 -- The text of a report.
-use Rattle.std.specs.Prelude.{ℕ, List, [], ◌∷◌, ◌++◌, Bool, if◌then◌else◌, ◌==◌, length, map, flat_map, slice_index_or, slice_get, Option, Some, None, codes}
+use Rattle.std.specs.Prelude.{ℕ, List, [], ◌++◌, if◌then◌else◌, ◌==◌, length, flat_map, slice_index_or, slice_get, Option, Some, None, codes}
 use Rattle.spx_text.specs.declared.place.Place.{Place}
 use Rattle.spx_core.specs.declared.subprogram.Sub.{Sub}
 use Rattle.spx_core.specs.declared.program.SubId.{SubId}
@@ -13,6 +13,9 @@ use Rattle.spx_examiner.specs.declared.report.Findings.{Findings}
 
 -- the code of a rule
 abbrev pub code : RuleName → List ℕ
+code rule.L1 = codes "L1"
+code rule.L2 = codes "L2"
+code rule.L3 = codes "L3"
 code rule.P1 = codes "P1"
 code rule.N1 = codes "N1"
 code rule.N2 = codes "N2"

@@ -1,5 +1,5 @@
 -- The tests by which a broken rule on variables is found.
-use Rattle.std.specs.Prelude.{Bool, true, false, not, ◌&&◌, ◌||◌, is_some, Option, Some, None, List, [], ◌∷◌, ◌++◌}
+use Rattle.std.specs.Prelude.{Bool, true, false, not, ◌&&◌, ◌||◌, is_some, Option, Some, None, List, [], ◌∷◌}
 use Rattle.std.specs.List.{list_any}
 use Rattle.spx_core.specs.declared.program.VarId.{VarId}
 use Rattle.spx_core.specs.declared.program.Program.{Program}

@@ -1,5 +1,5 @@
 -- Reads of variables that may be unset, as lists.
-use Rattle.std.specs.Prelude.{Bool, not, ◌&&◌, if◌then◌else◌, ◌≡◌, ◌↔◌, List, [], ◌∷◌, ◌++◌, map, filter, Contains}
+use Rattle.std.specs.Prelude.{Bool, not, ◌&&◌, if◌then◌else◌, ◌↔◌, List, [], ◌∷◌, ◌++◌, map, filter, Contains}
 use Rattle.std.specs.List.{flat_map}
 use Rattle.spx_text.specs.declared.place.Place.{Place}
 use Rattle.spx_core.specs.declared.program.VarId.{VarId}

@@ -1,5 +1,5 @@
 -- The words of a command.
-use Rattle.std.specs.Prelude.{◌≡◌, ℕ, Bool, not, ◌&&◌, ◌==◌, if◌then◌else◌, List, [], ◌∷◌, ◌++◌, length, slice_index, Option, Some, None, codes, bytes_eq}
+use Rattle.std.specs.Prelude.{◌≡◌, ℕ, Bool, not, ◌&&◌, ◌==◌, if◌then◌else◌, List, [], ◌∷◌, length, slice_index, Option, Some, None, codes, bytes_eq}
 use Rattle.std.specs.List.{list_all}
 
 -- what is printed where the words have the form of no command
@@ -18,6 +18,10 @@ files_of (command ∷ files) = if bytes_eq command (codes "check") && (length fi
 -- the words have the form of no command
 abbrev pub HasNoForm : List (List ℕ) → Type 0
 HasNoForm words = files_of words ≡ None
+
+-- the words have the form of a command
+abbrev pub HasForm : List (List ℕ) → Type 0
+HasForm words = ¬ HasNoForm words
 
 -- the words name these files
 abbrev pub NamesFiles : List (List ℕ) → List (List ℕ) → Type 0

@@ -1,7 +1,7 @@
 // What the words and the files come to, before anything is written.
 ghost use Rattle.std.specs.Prelude.{◌≡◌, IfOk};
 ghost use Rattle.spx_text.specs.Loads.{names};
-ghost use Rattle.spx_examiner.specs.Judgement.{status_of, text_of};
+ghost use Rattle.spx_examiner.specs.Judgement.{limit_text, status_of, text_of};
 
 use crate::Status;
 use crate::report::{Finding, Findings, refusal_text, report_text};
@@ -9,13 +9,37 @@ use crate::words::USAGE;
 use spx_core::Program;
 use std::alloc::{AllocError, Global};
 
+/// A counted quantity that has a greatest number.
+#[derive(Clone, Copy, Debug, PartialEq, Eq, Drop)]
+pub enum LimitName {
+    /// The bytes of a file.
+    FileSize,
+    /// The tokens of a file.
+    Tokens,
+    /// The levels of an expression.
+    Nesting,
+}
+
+impl LimitName {
+    /// The line that tells of it.
+    fn text(self) -> &'static [u8]
+        ensures { result.now ≡ limit_text self }
+    {
+        match self {
+            LimitName::FileSize => b"limit: file size, at most 4194304\n",
+            LimitName::Tokens => b"limit: tokens, at most 1000000\n",
+            LimitName::Nesting => b"limit: nesting, at most 200\n",
+        }
+    }
+}
+
 /// What there is to report.
 #[derive(Drop)]
 pub enum Judgement {
     /// The words have the form of no command.
     Usage,
-    /// A file has more bytes than it may have.
-    FileSize,
+    /// A counted quantity passes its greatest number.
+    Limit(LimitName),
     /// The text of a file is no program.
     NoProgram(Finding),
     /// A program, and what its conditions come to.
@@ -23,12 +47,13 @@ pub enum Judgement {
 }
 
 impl Judgement {
+    /// How the program ends where the text was written.
     pub fn status(&self) -> Status
         ensures { result ≡ status_of self.now }
     {
         match self {
             Judgement::Usage => Status::Usage,
-            Judgement::FileSize => Status::Limit,
+            Judgement::Limit(_) => Status::Limit,
             Judgement::NoProgram(_) => Status::Refused,
             Judgement::Examined(_, findings) if findings.lines.is_empty() => Status::Accepted,
             Judgement::Examined(_, _) => Status::Refused,
@@ -41,9 +66,7 @@ impl Judgement {
     {
         match self {
             Judgement::Usage => Vec::from_slice(alloc, USAGE),
-            Judgement::FileSize => {
-                Vec::from_slice(alloc, b"limit: file size, at most 4194304\n".as_slice())
-            }
+            Judgement::Limit(name) => Vec::from_slice(alloc, name.text()),
             Judgement::NoProgram(finding) => refusal_text(alloc, files, finding),
             Judgement::Examined(program, findings) => report_text(alloc, program, files, findings),
         }

@@ -1,17 +1,16 @@
 //! The examiner: from the words of a command and the files that they name to a status and a report.
 #![tactic(auto)]
 
-mod cursor;
 mod define;
 mod derives;
 mod findings;
 mod flow;
 mod judgement;
-mod lexer;
+pub mod laws;
 mod load;
-mod parse_unit;
 mod phases;
 mod program;
+mod reading;
 mod report;
 mod resolution;
 mod rules;
@@ -29,8 +28,6 @@ pub use define::unset_reads;
 pub use derives::{FlowFinding, compare};
 pub use findings::flow_findings;
 pub use flow::{Flow, flow_of};
-pub use lexer::{LexFault, Tokens, lex};
-pub use parse_unit::{ParseFault, parse_units};
 pub use program::examine;
 pub use report::{Finding, Findings, SubRow, report_text};
 pub use resolution::{ResolveFault, resolve};

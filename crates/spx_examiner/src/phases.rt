@@ -1,62 +1,32 @@
-// From the bytes of a file to what there is to report, phase by phase.
-ghost use Rattle.std.specs.Prelude.{◌≡◌, ◌≤◌, ◌↔◌, ℕ, List, [], ◌∷◌, length, IfOk, IfSome, IfNone, IsTrue};
-ghost use Rattle.spx_tree.specs.Spells.{Spells};
-ghost use Rattle.spx_tree.specs.Form.{AreWithin, forms_of};
-ghost use Rattle.spx_tree.specs.Grammar.{IsFile};
-ghost use Rattle.spx_tree.specs.Written.{written};
-ghost use Rattle.spx_tree.specs.declared.token.Token.{Token};
-ghost use Rattle.spx_tree.specs.declared.subprogram.Unit.{Unit};
+// From units to what there is to report, phase by phase.
+ghost use Rattle.std.specs.Prelude.{◌≡◌, ◌≢◌, ◌≤◌, ◌↔◌, [], ◌∷◌, length, IfOk, IfSome, IfNone, IsTrue};
 ghost use Rattle.spx_core.specs.declared.program.Program.{Program};
 ghost use Rattle.spx_core.specs.Erase.{erased};
 ghost use Rattle.spx_core.specs.Visible.{Visible};
 ghost use Rattle.spx_core.specs.Typed.{Typed};
 ghost use Rattle.spx_core.specs.Rules.{Obeys};
 ghost use Rattle.spx_core.specs.Flow.{HasNoFlowFinding};
-ghost use Rattle.spx_examiner.specs.Phases.{AreTokens};
-ghost use Rattle.spx_examiner.specs.Outcome as outcome;
-ghost use Rattle.spx_examiner.specs.Outcome.{IsText, IsSound, IsSoundFrom, IsReportOn};
+ghost use Rattle.spx_examiner.specs.Judgement.{status_of};
+ghost use Rattle.spx_examiner.specs.Outcome.{IsReportOn, IsReportOnUnits, IsSoundFrom};
 
+use crate::Status;
 use crate::findings::{findings, flow_findings};
-use crate::judgement::Judgement;
-use crate::lexer::{LexFault, Tokens, lex};
-use crate::parse_unit::{ParseFault, parse_units};
-use crate::report::Finding;
+use crate::judgement::{Judgement, LimitName};
+use crate::reading::{Reading, expected, read};
 use crate::resolution::{ResolveFault, resolve};
 use crate::rules::obey;
+use spx_core::Program;
 use spx_core::laws::one_program;
-use spx_core::{Program, RuleName};
-use spx_text::{Place, Text};
-use spx_tree::{Unit, one_spelling, one_tree};
-use sqlite_items::Items;
+use spx_text::Place;
+use spx_tree::Unit;
 use std::alloc::{AllocError, Global};
 
-/// The tokens of a text, if it has any.
-fn tokens_of(alloc: Global, source: &[u8]) -> Result<Option<Tokens<'_>>, AllocError>
-    requires { length source.now ≤ 4194304 }
-    ensures found { IfOk result (λ answer. IfSome answer (AreTokens source.now)) }
-    ensures none { IfOk result (λ answer. IfNone answer ((tokens : List Token) → Spells 0 source.now tokens → ⊥)) }
-{
-    match lex(alloc, 0, source) {
-        Ok(tokens) => Ok(Some(tokens)),
-        Err(LexFault::BadByte(_)) => Ok(None),
-        Err(LexFault::BadNumber(_)) => Ok(None),
-        Err(LexFault::TooWide(_)) => Ok(None),
-        Err(LexFault::Memory) => Err(AllocError),
-    }
-}
-
-/// The units that the tokens are written for, if they are a text of the grammar.
-fn units_of(alloc: Global, tokens: &Tokens<'_>) -> Result<Option<Items<Unit>>, AllocError>
-    requires { AreWithin (length tokens.now.source.now) tokens.now.list.items }
-    ensures found { IfOk result (λ answer. IfSome answer (λ units. IsFile units × (written units ≡ forms_of tokens.now.source.now tokens.now.list.items))) }
-    ensures none { IfOk result (λ answer. IfNone answer ((units : List Unit) → IsFile units → written units ≡ forms_of tokens.now.source.now tokens.now.list.items → ⊥)) }
-{
-    match parse_units(alloc, tokens) {
-        Ok(units) => Ok(Some(units)),
-        Err(ParseFault::Memory) => Err(AllocError),
-        Err(ParseFault::Expected(_)) => Ok(None),
-    }
-}
+/// Where a file begins.
+const FIRST: Place = Place {
+    file: 0,
+    line: 1,
+    column: 1,
+};
 
 /// The program that units are, if they break no rule on names.
 fn resolved(alloc: Global, units: &[Unit]) -> Result<Option<Program>, AllocError>
@@ -84,22 +54,6 @@ fn keeps_rules(alloc: Global, program: &Program) -> Result<bool, AllocError>
     }
 }
 
-/// The units that a text is, if it is a text of the grammar.
-fn units_in(alloc: Global, source: &[u8]) -> Result<Option<Items<Unit>>, AllocError>
-    requires { length source.now ≤ 4194304 }
-    ensures found { IfOk result (λ answer. IfSome answer (IsText 0 source.now)) }
-    ensures none { IfOk result (λ answer. IfNone answer ((units : List Unit) → IsText 0 source.now units → ⊥)) }
-{
-    one_spelling();
-    let Some(tokens) = tokens_of(alloc, source)? else {
-        return Ok(None);
-    };
-    let Some(units) = units_of(alloc, &tokens)? else {
-        return Ok(None);
-    };
-    Ok(Some(units))
-}
-
 /// The program that units are, if it obeys the rules and has no flow finding.
 fn sound_program(alloc: Global, units: &[Unit]) -> Result<Option<Program>, AllocError>
     ensures found { IfOk result (λ answer. IfSome answer (IsSoundFrom units.now)) }
@@ -116,48 +70,30 @@ fn sound_program(alloc: Global, units: &[Unit]) -> Result<Option<Program>, Alloc
     }
 }
 
-/// The program that a text is, if it is one that obeys the rules and has no flow finding.
-fn program_of(alloc: Global, source: &[u8]) -> Result<Option<Program>, AllocError>
-    requires { length source.now ≤ 4194304 }
-    ensures found { IfOk result (λ answer. IfSome answer (IsSound (source.now ∷ []))) }
-    ensures none { IfOk result (λ answer. IfNone answer ((program : Program) → IsSound (source.now ∷ []) program → ⊥)) }
+/// What there is to report on the units of a file.
+fn examined(alloc: Global, units: &[Unit]) -> Result<Judgement, AllocError>
+    ensures report { IfOk result (IsReportOnUnits units.now) }
+    ensures named { IfOk result (λ judgement. status_of judgement ≢ Status.Usage) }
 {
-    one_spelling();
-    one_tree();
-    let Some(units) = units_in(alloc, source)? else {
-        return Ok(None);
-    };
-    let Some(program) = sound_program(alloc, units.as_slice())? else {
-        return Ok(None);
-    };
-    Ok(Some(program))
-}
-
-/// The one finding on a text that is no program.
-fn no_program(alloc: Global) -> Result<Finding, AllocError>
-    ensures { IfOk result (λ finding. finding ≡ outcome.no_program) }
-{
-    Ok(Finding {
-        place: Place {
-            file: 0,
-            line: 1,
-            column: 1,
-        },
-        rule: RuleName::P1,
-        text: Text::new(alloc, b"expected another token")?,
-    })
+    match sound_program(alloc, units)? {
+        Some(program) => {
+            let found = findings(alloc, &program)?;
+            Ok(Judgement::Examined(program, found))
+        }
+        None => Ok(Judgement::NoProgram(expected(alloc, FIRST)?)),
+    }
 }
 
 /// What there is to report on the text of a file.
 pub fn judge(alloc: Global, source: &[u8]) -> Result<Judgement, AllocError>
     requires { length source.now ≤ 4194304 }
-    ensures { IfOk result (IsReportOn (source.now ∷ [])) }
+    ensures report { IfOk result (IsReportOn (source.now ∷ [])) }
+    ensures named { IfOk result (λ judgement. status_of judgement ≢ Status.Usage) }
 {
-    match program_of(alloc, source)? {
-        Some(program) => {
-            let found = findings(alloc, &program)?;
-            Ok(Judgement::Examined(program, found))
-        }
-        None => Ok(Judgement::NoProgram(no_program(alloc)?)),
+    match read(alloc, source)? {
+        Reading::Units(units) => examined(alloc, units.as_slice()),
+        Reading::Broken(finding) => Ok(Judgement::NoProgram(finding)),
+        Reading::TooManyTokens => Ok(Judgement::Limit(LimitName::Tokens)),
+        Reading::TooNested => Ok(Judgement::Limit(LimitName::Nesting)),
     }
 }

@@ -4,22 +4,21 @@ ghost use Rattle.spx_text.specs.Loads.{names};
 ghost use Rattle.spx_text.specs.Writes.{Rose};
 ghost use Rattle.spx_examiner.specs.Words.{HasNoForm};
 ghost use Rattle.spx_examiner.specs.Judgement.{status_of, text_of};
-ghost use Rattle.spx_examiner.specs.Causes.{Concludes, Exactly, IsCutShort, IsTaken, OneFailed, PassesLimit, Tells, WhereTold, any_too_long, contents_of, named};
-ghost use Rattle.spx_meaning.specs.Fit.{Clean};
+ghost use Rattle.spx_examiner.specs.Causes.{Concludes, Exactly, IsCutShort, IsTaken, OneFailed, Tells, WhereTold, any_too_long, contents_of, named};
+ghost use Rattle.spx_meaning.specs.Fit.{Clean, Fit};
 ghost use Rattle.spx_meaning.specs.Laws.{NeverBad, TwoRuns};
-ghost use Rattle.spx_examiner.specs.Outcome.{AreClean, AreReliable, EndsAs, IsAssured, IsJudgedOn, IsJudgement, IsReportOn};
+ghost use Rattle.spx_examiner.specs.Outcome.{AreAcceptable, AreFit, AreRefusable, AreReliable, EndsAs, IsAssured, IsCutShortAs, IsJudgedOn, IsJudgement, IsReportOn, PassesLimit};
 
 use crate::Status;
-use crate::judgement::Judgement;
+use crate::judgement::{Judgement, LimitName};
+use crate::laws::laws_below;
 use crate::load::{MOST_BYTES, load_all};
 use crate::phases::judge;
 use crate::soundness::{clean_is_fit, never_bad};
 use crate::twin::two_runs;
 use crate::words::files_of;
 use spx_core::Program;
-use spx_core::laws::one_program;
 use spx_text::{Failed, Files, LoadFault, Sink, write_all_pieces};
-use spx_tree::{one_spelling, one_tree};
 use std::alloc::{AllocError, Global};
 
 /// What ends the work before there is a text.
@@ -53,7 +52,7 @@ fn examined(alloc: Global, loaded: &[Vec<u8>]) -> Result<Judgement, AllocError>
 {
     match loaded {
         [bytes] if bytes.len() <= MOST_BYTES => judge(alloc, bytes.as_slice()),
-        _ => Ok(Judgement::FileSize),
+        _ => Ok(Judgement::Limit(LimitName::FileSize)),
     }
 }
 
@@ -68,7 +67,7 @@ fn judged<F: Files>(alloc: Global, named: &[String], files: &mut F) -> Result<Ju
 {
     match load_all(alloc, named, files) {
         Ok(loaded) => Ok(examined(alloc, loaded.as_slice())?),
-        Err(LoadFault::TooLong) => Ok(Judgement::FileSize),
+        Err(LoadFault::TooLong) => Ok(Judgement::Limit(LimitName::FileSize)),
         Err(LoadFault::Failed) => Err(Stop::ReadFault),
         Err(LoadFault::Memory) => Err(Stop::NoMemory),
     }
@@ -85,7 +84,7 @@ fn reported(alloc: Global, files: &[String], judgement: Judgement) -> Result<Rep
 
 /// What the laws say of a program on which there is nothing to report.
 fn rely_on(program: &Program)
-    ensures { Clean program.now → NeverBad program.now × TwoRuns program.now }
+    ensures { Clean program.now → Fit program.now × NeverBad program.now × TwoRuns program.now }
 {
     clean_is_fit(program);
     never_bad(program);
@@ -98,7 +97,7 @@ fn assure(judgement: &Judgement)
 {
     match judgement {
         Judgement::Usage => {}
-        Judgement::FileSize => {}
+        Judgement::Limit(_) => {}
         Judgement::NoProgram(_) => {}
         Judgement::Examined(program, _) => rely_on(program),
     }
@@ -143,6 +142,18 @@ pub fn examine<F: Files, S: Sink>(
     // The headline: where a program is accepted, the bytes spell exactly one program, and its runs may be relied on.
     ensures headline { WhereTold (F.told files.old) (names words.now) (λ contents. result ≡ Status.Accepted → AreReliable contents) }
 
+    // What is accepted is clean, and so fit to run.
+    ensures clean { WhereTold (F.told files.old) (names words.now) (λ contents. result ≡ Status.Accepted → AreFit contents) }
+
+    // Where no fault is counted, what is acceptable is accepted, unless memory runs out.
+    ensures complete { WhereTold (F.told files.old) (names words.now) (λ contents. AreAcceptable (names words.now) contents
+        → F.failed files.new ≡ F.failed files.old → ¬ Rose (S.faults sink.old) (S.faults sink.new)
+        → (result ≡ Status.Accepted) ⊎ (result ≡ Status.NoMemory)) }
+
+    ensures accepted { WhereTold (F.told files.old) (names words.now) (λ contents.
+        Exactly Status.Accepted (AreAcceptable (names words.now) contents) result) }
+    ensures refused { WhereTold (F.told files.old) (names words.now) (λ contents.
+        Exactly Status.Refused (AreRefusable (names words.now) contents) result) }
     ensures usage { Exactly Status.Usage (HasNoForm (names words.now)) result }
     ensures limit { WhereTold (F.told files.old) (names words.now) (λ contents. Exactly Status.Limit (PassesLimit contents) result) }
 
@@ -153,12 +164,12 @@ pub fn examine<F: Files, S: Sink>(
     // A write fault comes only where the sink counted one, and then a part of a judgement's text was taken.
     ensures write_fault { result ≡ Status.WriteFault → Rose (S.faults sink.old) (S.faults sink.new) }
     ensures part { result ≡ Status.WriteFault → IsCutShort (names words.now) (S.taken sink.old) (S.taken sink.new) }
+    ensures part_told { WhereTold (F.told files.old) (names words.now) (λ contents. result ≡ Status.WriteFault
+        → IsCutShortAs (names words.now) contents (S.taken sink.old) (S.taken sink.new)) }
 
     ensures nothing { (result ≡ Status.ReadFault) ⊎ (result ≡ Status.NoMemory) → S.taken sink.new ≡ S.taken sink.old }
 {
-    one_spelling();
-    one_tree();
-    one_program();
+    laws_below();
     let made = match prepare(alloc, words, files) {
         Ok(made) => made,
         Err(Stop::ReadFault) => return Status::ReadFault,

@@ -53,6 +53,9 @@ fn code(rule: RuleName) -> &'static [u8]
     ensures { result.now ≡ spec.code rule }
 {
     match rule {
+        RuleName::L1 => b"L1",
+        RuleName::L2 => b"L2",
+        RuleName::L3 => b"L3",
         RuleName::P1 => b"P1",
         RuleName::N1 => b"N1",
         RuleName::N2 => b"N2",

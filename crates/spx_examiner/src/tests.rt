@@ -14,6 +14,14 @@ const USAGE: &str =
 
 const NO_PROGRAM: &str = "f.adb:1:1: P1 expected another token\nrefused: 1\n";
 
+const UNDECLARED: &str =
+    "procedure P (X : in out Integer)\n--# derives X from X;\nis\nbegin\n   X := Y;\nend P;\n";
+
+const CUT: &str = "procedure P (X : in out Integer)\n--# derives X from";
+
+const BAD_BYTE: &str =
+    "procedure P (X : in out Integer)\n--# derives X from X;\nis\nbegin\n   X := X__1;\nend P;\n";
+
 // The words of a line.
 fn words(alloc: Global, line: &str) -> Result<Vec<String>, AllocError> {
     let mut made = Vec::new(alloc);
@@ -49,8 +57,21 @@ fn reports(rt: HostRuntime) -> Result<(), Fail> {
             Status::Refused,
             "inc2.adb:5:11: V1 unproved: Inc.1 overflow\nInc: 2 conditions, 1 simplified, 0 scripted, 1 open\nrefused: 1\n",
         ),
-        // An empty file is no procedure.
-        ("f.adb", "", Status::Refused, NO_PROGRAM),
+        // An empty file is the program without subprograms.
+        ("f.adb", "", Status::Accepted, "accepted\n"),
+        ("f.adb", UNDECLARED, Status::Refused, NO_PROGRAM),
+        (
+            "cut.adb",
+            CUT,
+            Status::Refused,
+            "cut.adb:2:19: P1 expected another token\nrefused: 1\n",
+        ),
+        (
+            "f.adb",
+            BAD_BYTE,
+            Status::Refused,
+            "f.adb:5:10: L1 bad byte\nrefused: 1\n",
+        ),
     ];
     for (name, text, status, report) in rows {
         let mut words = words(alloc, "check")?;
@@ -114,7 +135,7 @@ fn nothing_is_read(rt: HostRuntime) -> Result<(), Fail> {
 fn a_file_has_a_greatest_size(rt: HostRuntime) -> Result<(), Fail> {
     let alloc = rt.alloc();
     let rows = [
-        (4_194_304, Status::Refused, NO_PROGRAM),
+        (4_194_304, Status::Accepted, "accepted\n"),
         (
             4_194_305,
             Status::Limit,
@@ -153,5 +174,69 @@ fn loads_that_fail_and_none(rt: HostRuntime) -> Result<(), Fail> {
     };
     let status = examine(alloc, words.as_slice(), &mut never, &mut NoFailSink);
     assert_eq!(rt; status, Status::Accepted);
+    Ok(())
+}
+
+// The most tokens of a file, and one more.
+#[test]
+fn a_file_has_most_tokens(rt: HostRuntime) -> Result<(), Fail> {
+    let alloc = rt.alloc();
+    let rows = [
+        (1_000_000, Status::Refused, NO_PROGRAM),
+        (1_000_001, Status::Limit, "limit: tokens, at most 1000000\n"),
+    ];
+    for (count, status, text) in rows {
+        let words = words(alloc, "check f.adb")?;
+        let semicolons = vec![in alloc; b';'; count]?;
+        let held = held(alloc, "f.adb", semicolons.as_slice())?;
+        let mut files = MemFiles::new(alloc, held, Vec::new(alloc));
+        let mut sink = MemSink::new(alloc, 1000, 1000, Vec::new(alloc))?;
+        assert_eq!(rt;
+            examine(alloc, words.as_slice(), &mut files, &mut sink),
+            status,
+            "{count}"
+        );
+        assert_eq!(rt; sink.taken.as_slice(), text.as_bytes());
+    }
+    Ok(())
+}
+
+// A chain of so many operators, which nest to the left.
+fn chain(alloc: Global, operators: u32) -> Result<String, AllocError> {
+    let mut text = String::from_str(
+        alloc,
+        "procedure P (X : out Integer)\n--# derives X from ;\nis\nbegin\n   X := 1",
+    )?;
+    for _ in 0..operators {
+        text.push_str(" + 1")?;
+    }
+    text.push_str(";\nend P;\n")?;
+    Ok(text)
+}
+
+// The most levels of an expression, and one more.
+#[test]
+fn an_expression_has_greatest_levels(rt: HostRuntime) -> Result<(), Fail> {
+    let alloc = rt.alloc();
+    let rows = [
+        (
+            200,
+            Status::Accepted,
+            "P: 1 conditions, 1 simplified, 0 scripted, 0 open\naccepted\n",
+        ),
+        (201, Status::Limit, "limit: nesting, at most 200\n"),
+    ];
+    for (operators, status, text) in rows {
+        let words = words(alloc, "check f.adb")?;
+        let held = held(alloc, "f.adb", chain(alloc, operators)?.as_bytes())?;
+        let mut files = MemFiles::new(alloc, held, Vec::new(alloc));
+        let mut sink = MemSink::new(alloc, 1000, 1000, Vec::new(alloc))?;
+        assert_eq!(rt;
+            examine(alloc, words.as_slice(), &mut files, &mut sink),
+            status,
+            "{operators}"
+        );
+        assert_eq!(rt; sink.taken.as_slice(), text.as_bytes());
+    }
     Ok(())
 }

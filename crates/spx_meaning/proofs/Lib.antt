@@ -6,3 +6,10 @@ pub mod Flows
 pub mod Entries
 pub mod Scopes
 mod Examples
+mod IncrementRuns
+mod IncrementTerms
+mod IncrementConditions
+mod IncrementRules
+mod IncrementFlows
+mod IncrementPlain
+mod IncrementLaws

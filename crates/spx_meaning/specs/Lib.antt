@@ -5,3 +5,4 @@ pub mod Runs
 pub mod Paths
 pub mod Laws
 pub mod Fit
+pub mod Increment

@@ -1,8 +1,8 @@
-use Rattle.std.proofs.Common.{◌≡◌, ◌+◌, ◌<◌, ◌≤◌, take, List, length, get_or, subst, ap, ◌∙◌, arith}
+use Rattle.std.proofs.Common.{◌≡◌, take, List, length, get_or, subst, ap, ◌∙◌, arith}
 use Rattle.std.proofs.lemmas.List.{take_all}
 use Rattle.spx_core.specs.declared.subprogram.Sub.{Sub}
 use Rattle.spx_examiner.specs.FlowFindings.{AreFindingsIn}
-use Rattle.spx_examiner.proofs.FlowFindings.{are_start, are_more, are_none}
+use Rattle.spx_examiner.proofs.FlowFindings.{are_more, are_none}
 use Rattle.spx_examiner.proofs.findings.flow_findings.Goals as goal
 
 pub loop-sub-preserved : goal.loop-sub-preserved

@@ -1,5 +1,4 @@
 use Rattle.std.proofs.Common.{rules, arith, ◌≡◌, ◌<◌, List, [], ◌∷◌, length, IsNone, refl, sym, ◌∙◌}
-use Rattle.std.proofs.lemmas.Grind.{common_steps}
 use Rattle.spx_examiner.proofs.phases.keeps_rules.Goals as goal
 
 nil_of_short : {A : Type 0} (xs : List A) → length xs < 1 → xs ≡ []

@@ -1,5 +1,4 @@
-use Rattle.std.proofs.Common.{rules, ◌≡◌, IsTrue, true, false, sym, subst, ◌∙◌}
-use Rattle.spx_core.specs.declared.program.Program.{Program}
+use Rattle.std.proofs.Common.{rules, ◌≡◌, IsTrue, sym, subst, ◌∙◌}
 use Rattle.spx_core.specs.Erase.{erased}
 use Rattle.spx_core.specs.Visible.{Visible}
 use Rattle.spx_core.specs.Typed.{Typed}

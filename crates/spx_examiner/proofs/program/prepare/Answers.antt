@@ -1,5 +1,4 @@
-use Rattle.std.proofs.Common.{rules, ◌≡◌, List, ℕ, Some, sym, subst}
-use Rattle.std.proofs.lemmas.Grind.{common_steps}
+use Rattle.std.proofs.Common.{rules, ◌≡◌, Some, sym, subst}
 use Rattle.spx_text.specs.Loads.{names}
 use Rattle.spx_examiner.specs.Words.{files_of}
 use Rattle.spx_examiner.specs.Outcome.{IsJudgedOn, of_files}

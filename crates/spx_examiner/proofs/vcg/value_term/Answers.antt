@@ -1,7 +1,5 @@
-use Rattle.std.proofs.Common.{◌≡◌, ◌-◌, ◌≤◌, length, take, sym, ◌∙◌, subst, IfOk, arith}
+use Rattle.std.proofs.Common.{◌≡◌, sym, ◌∙◌, subst, IfOk, arith}
 use Rattle.spx_term.specs.declared.term.Term.{Term}
-use Rattle.spx_meaning.specs.Paths.{now}
-use Rattle.spx_examiner.specs.ConditionWalk.{state_of}
 use Rattle.spx_examiner.proofs.ConditionStates.{state_of-found, state_of-passed}
 use Rattle.spx_examiner.proofs.vcg.value_term.Goals as goal
 

@@ -1,0 +1,47 @@
+-- The laws of the definitions below on which the answers rest.
+use Rattle.std.specs.Prelude.{◌≡◌, ℕ, List, Result}
+use Rattle.spx_text.specs.declared.place.Place.{Place}
+use Rattle.spx_tree.specs.declared.token.Token.{Token}
+use Rattle.spx_tree.specs.declared.subprogram.Unit.{Unit}
+use Rattle.spx_tree.specs.Spells.{Spells}
+use Rattle.spx_tree.specs.Stops.{Cause, StopsAt}
+use Rattle.spx_tree.specs.Form.{Form, forms_of}
+use Rattle.spx_tree.specs.Written.{written}
+use Rattle.spx_tree.specs.Grammar.{IsFile}
+use Rattle.spx_tree.specs.Goes.{Fault, Answers}
+use Rattle.spx_core.specs.declared.program.Program.{Program}
+use Rattle.spx_core.specs.Erase.{erased}
+use Rattle.spx_core.specs.Visible.{Visible}
+
+-- a text has one list of tokens
+abbrev pub OneSpelling : Type 0
+OneSpelling = (file : ℕ) (bytes : List ℕ) (a b : List Token) → Spells file bytes a → Spells file bytes b → a ≡ b
+
+-- or it is stopped at one place for one cause
+pub record OneStop : Type 0 where
+  pub unspelled : (file : ℕ) (bytes : List ℕ) (cause : Cause) (place : Place) (tokens : List Token) → StopsAt file bytes cause place → ¬ Spells file bytes tokens
+  pub cause : (file : ℕ) (bytes : List ℕ) (c d : Cause) (p q : Place) → StopsAt file bytes c p → StopsAt file bytes d q → c ≡ d
+  pub place : (file : ℕ) (bytes : List ℕ) (c d : Cause) (p q : Place) → StopsAt file bytes c p → StopsAt file bytes d q → p ≡ q
+
+-- what syntax answers on tokens: units and the forms behind them, or a fault
+abbrev pub Parsed : Type 0
+Parsed = Result (List Unit × List Form) Fault
+
+-- tokens have one answer
+abbrev pub OneAnswer : Type 0
+OneAnswer = (source : List ℕ) (tokens : List Token) (a b : Parsed) → Answers written IsFile 200 (forms_of source tokens) a → Answers written IsFile 200 (forms_of source tokens) b → a ≡ b
+
+-- files that are written with the same forms are one
+abbrev pub OneTree : Type 0
+OneTree = (m n : ℕ) (a b : List Unit) → IsFile m a → IsFile n b → written a ≡ written b → a ≡ b
+
+-- units are one program
+abbrev pub OneProgram : Type 0
+OneProgram = (p q : Program) → Visible p → Visible q → erased p ≡ erased q → p ≡ q
+
+pub record Laws : Type 0 where
+  pub spelling : OneSpelling
+  pub stop : OneStop
+  pub answer : OneAnswer
+  pub tree : OneTree
+  pub program : OneProgram

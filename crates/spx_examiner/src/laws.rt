@@ -1,0 +1,25 @@
+//! What holds of the answers to words and contents.
+ghost use Rattle.spx_examiner.specs.Laws.{Laws};
+ghost use Rattle.spx_examiner.specs.Outcome.{OneOutcome};
+
+use spx_core::laws::one_program;
+use spx_parse_unit::one_answer;
+use spx_tree::{one_spelling, one_stop, one_tree};
+
+/// The laws of the crates below.
+pub(crate) fn laws_below()
+    ensures { Laws }
+{
+    one_spelling();
+    one_stop();
+    one_answer();
+    one_tree();
+    one_program();
+}
+
+/// The words and what the files hold decide the status and the text.
+pub fn one_outcome()
+    ensures { OneOutcome }
+{
+    laws_below();
+}

@@ -1,0 +1,12 @@
+mod Digits
+mod Runs
+mod Delimiters
+mod Found
+mod WordLexemes
+mod Numbers
+mod Marks
+mod Gaps
+mod Finds
+mod Reading
+mod TokenCount
+mod Within

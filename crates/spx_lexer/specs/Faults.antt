@@ -1,0 +1,36 @@
+-- What a fault of the lexer says of a text.
+use Rattle.std.specs.Prelude.{◌≡◌, ℕ, ◌<◌, false, List, [], ◌++◌, length}
+use Rattle.spx_text.specs.declared.place.Place.{Place}
+use Rattle.spx_tree.specs.Spells.{Part, bytes_of, AllStand, tokens_of}
+use Rattle.spx_tree.specs.Stops.{Cause as Reason, bad_byte, bad_number, too_wide, StopsAt}
+use Rattle.spx_lexer.specs.declared.lexer.pieces.Cause.{Cause}
+use Rattle.spx_lexer.specs.declared.lexer.pieces.Cause.TheVariants as cause
+use Rattle.spx_lexer.specs.declared.lexer.LexFault.{LexFault}
+use Rattle.spx_lexer.specs.declared.lexer.LexFault.TheVariants as fault
+
+abbrev pub reason_of : Cause → Reason
+reason_of cause.BadByte = bad_byte
+reason_of cause.BadNumber = bad_number
+reason_of cause.TooWide = too_wide
+
+-- the fault of a text that is stopped for this cause at this place
+abbrev pub fault_of : Reason → Place → LexFault
+fault_of bad_byte place = fault.BadByte place
+fault_of bad_number place = fault.BadNumber place
+fault_of too_wide place = fault.TooWide place
+
+-- more than so many tokens stand in front of the place where the text ends or is stopped
+pub record HasMoreTokens (most file : ℕ) (bytes : List ℕ) : Type 0 where
+  pub parts : List Part
+  pub rest : List ℕ
+  pub whole : bytes_of parts ++ rest ≡ bytes
+  pub stand : AllStand false parts rest
+  pub many : most < length (tokens_of file [] false parts)
+
+-- the text of a file is stopped as the fault says and has no token too many, or has one; want of memory says nothing
+abbrev pub IsFaultOf : ℕ → List ℕ → LexFault → Type 0
+IsFaultOf file bytes (fault.BadByte place) = StopsAt file bytes bad_byte place × (¬ HasMoreTokens 1000000 file bytes)
+IsFaultOf file bytes (fault.BadNumber place) = StopsAt file bytes bad_number place × (¬ HasMoreTokens 1000000 file bytes)
+IsFaultOf file bytes (fault.TooWide place) = StopsAt file bytes too_wide place × (¬ HasMoreTokens 1000000 file bytes)
+IsFaultOf file bytes fault.TooMany = HasMoreTokens 1000000 file bytes
+IsFaultOf file bytes fault.Memory = Unit {0}

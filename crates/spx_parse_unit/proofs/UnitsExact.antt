@@ -1,0 +1,24 @@
+-- Reading units answers exactly.
+use Rattle.std.proofs.Common.{◌≡◌, ℕ, List, [], Ok, sym, ◌∙◌}
+use Rattle.std.proofs.lemmas.List.{append-nil}
+use Rattle.spx_tree.specs.declared.subprogram.Unit.{Unit}
+use Rattle.spx_tree.specs.Form.{Form}
+use Rattle.spx_tree.specs.Goes.{Answers}
+use Rattle.spx_tree.specs.Grammar.{IsFile}
+use Rattle.spx_tree.specs.Written.{written}
+use Rattle.spx_tree.proofs.MoreLevels.{file_more}
+use Rattle.spx_parse_unit.specs.Reading.{Outcome}
+use Rattle.spx_parse_unit.specs.Units.{file}
+use Rattle.spx_parse_unit.proofs.Shaped.{AreShaped}
+use Rattle.spx_parse_unit.proofs.Exact as exact
+use Rattle.spx_parse_unit.proofs.UnitsGood.{file_good}
+use Rattle.spx_parse_unit.proofs.UnitsReach.{file_again}
+
+again : (n : ℕ) (xs : List Unit) (fs : List Form) → IsFile n xs → fs ≡ written xs → file n fs ≡ Ok (xs, [])
+again n xs fs f e = (file_again n xs fs [] f (λ e. cc) (e ∙ sym (append-nil (written xs)))).is
+
+pub answers : (n : ℕ) (fs : List Form) → AreShaped fs → Answers written IsFile n fs (file n fs)
+answers = exact.answers written IsFile file (λ n. (file_good n).law tt tt) again (λ n. (file_good n).scans tt) (λ n. (file_good n).grows tt tt) (λ m n xs le f. file_more m n le xs f)
+
+pub only_answer : (n : ℕ) (fs : List Form) (o : Outcome (List Unit)) → AreShaped fs → Answers written IsFile n fs o → file n fs ≡ o
+only_answer = exact.only_answer written IsFile file (λ n. (file_good n).law tt tt) again (λ n. (file_good n).scans tt) (λ n. (file_good n).grows tt tt) (λ m n xs le f. file_more m n le xs f)

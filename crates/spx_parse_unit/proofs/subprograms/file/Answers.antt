@@ -1,0 +1,11 @@
+use Rattle.std.proofs.Common.{sym, ◌∙◌}
+use Rattle.spx_tree.specs.declared.token.Kind.TheVariants as k
+use Rattle.spx_tree.specs.Written.{program}
+use Rattle.spx_parse_unit.specs.Reading.{sees}
+use Rattle.spx_parse_unit.specs.Units.{unit_at}
+use Rattle.spx_parse_unit.proofs.Turns.{item_shorter}
+use Rattle.spx_parse_unit.proofs.UnitsGood.{units_shrinks}
+use Rattle.spx_parse_unit.proofs.subprograms.file.Goals as goal
+
+pub more-smaller : goal.more-smaller
+more-smaller c = item_shorter (sees program k.Procedure) (unit_at c.args.levels) (units_shrinks c.args.levels) _ _ _ (sym c.sees.ensures ∙ c.more-test.true) c.in_ok-unit_at.ensures

@@ -1,0 +1,4 @@
+pub mod Reading
+pub mod Expressions
+pub mod Units
+pub mod Answers

@@ -1,0 +1,143 @@
+// From tokens to the names and annotations of a subprogram (Barnes, High Integrity Software).
+ghost use Rattle.std.specs.Prelude.{◌≡◌};
+ghost use Rattle.spx_parse_unit.specs.Units as read;
+ghost use Rattle.spx_parse_unit.specs.Answers.{Reads};
+
+use crate::cursor::{ANNOTATION, Cursor, Stop};
+use crate::expressions::expression;
+use spx_tree::{Derives, DerivesItem, Identifier, Imports, Kind, Precondition};
+use sqlite_items::Items;
+use std::alloc::Global;
+
+// {"," identifier}
+#[tactic(auto, using(crate::proofs::Turns::more_names_is))]
+fn more_names(
+    alloc: Global,
+    cursor: &mut Cursor<'_>,
+    marked: bool,
+    found: Items<Identifier>,
+) -> Result<Items<Identifier>, Stop>
+    ensures { Reads (read.more_names marked found cursor.old) result cursor.new }
+{
+    let mut names = found;
+    'more: while cursor.sees(marked, Kind::Comma) {
+        cursor.expect(marked, Kind::Comma)?;
+        names.push(cursor.identifier(alloc, marked)?)?;
+    }
+    Ok(names)
+}
+
+/// Reads names, one or more.
+#[tactic(auto, unfolding(crate::specs::Units::names))]
+pub fn names(
+    alloc: Global,
+    cursor: &mut Cursor<'_>,
+    marked: bool,
+) -> Result<Items<Identifier>, Stop>
+    ensures { Reads (read.names marked cursor.old) result cursor.new }
+{
+    let mut names = Items::new(alloc);
+    names.push(cursor.identifier(alloc, marked)?)?;
+    more_names(alloc, cursor, marked, names)
+}
+
+// starred = "*" {"," identifier}
+#[tactic(auto, unfolding(crate::specs::Units::starred))]
+fn starred(alloc: Global, cursor: &mut Cursor<'_>) -> Result<Imports, Stop>
+    ensures { Reads (read.starred cursor.old) result cursor.new }
+{
+    let place = cursor.expect_place(ANNOTATION, Kind::Asterisk)?;
+    let names = more_names(alloc, cursor, ANNOTATION, Items::new(alloc))?;
+    Ok(Imports {
+        itself: Some(place),
+        names,
+    })
+}
+
+#[tactic(auto, unfolding(crate::specs::Units::unstarred))]
+fn unstarred(alloc: Global, cursor: &mut Cursor<'_>) -> Result<Imports, Stop>
+    ensures { Reads (read.unstarred cursor.old) result cursor.new }
+{
+    let names = names(alloc, cursor, ANNOTATION)?;
+    Ok(Imports {
+        itself: None,
+        names,
+    })
+}
+
+// imports = [starred | names]
+#[tactic(auto, unfolding(crate::specs::Units::imports))]
+fn imports(alloc: Global, cursor: &mut Cursor<'_>) -> Result<Imports, Stop>
+    ensures { Reads (read.imports cursor.old) result cursor.new }
+{
+    match cursor.peek(ANNOTATION) {
+        Some(Kind::Asterisk) => starred(alloc, cursor),
+        Some(Kind::Identifier) => unstarred(alloc, cursor),
+        _ => Ok(Imports {
+            itself: None,
+            names: Items::new(alloc),
+        }),
+    }
+}
+
+// item = names "from" imports
+#[tactic(auto, unfolding(crate::specs::Units::item))]
+fn item(alloc: Global, cursor: &mut Cursor<'_>) -> Result<DerivesItem, Stop>
+    ensures { Reads (read.item cursor.old) result cursor.new }
+{
+    let exports = names(alloc, cursor, ANNOTATION)?;
+    cursor.expect(ANNOTATION, Kind::From)?;
+    let imports = imports(alloc, cursor)?;
+    Ok(DerivesItem { exports, imports })
+}
+
+// items = item {"&" item}
+#[tactic(auto, using(crate::proofs::Turns::more_derives_is), unfolding(crate::specs::Units::items))]
+fn items(alloc: Global, cursor: &mut Cursor<'_>) -> Result<Items<DerivesItem>, Stop>
+    ensures { Reads (read.items cursor.old) result cursor.new }
+{
+    let mut items = Items::new(alloc);
+    items.push(item(alloc, cursor)?)?;
+    'more: while cursor.sees(ANNOTATION, Kind::Ampersand) {
+        cursor.expect(ANNOTATION, Kind::Ampersand)?;
+        items.push(item(alloc, cursor)?)?;
+    }
+    Ok(items)
+}
+
+/// Reads a dependency relation: `"derives" items ";"`.
+#[tactic(auto, unfolding(crate::specs::Units::derives))]
+pub fn derives(alloc: Global, cursor: &mut Cursor<'_>) -> Result<Derives, Stop>
+    ensures { Reads (read.derives cursor.old) result cursor.new }
+{
+    let place = cursor.expect_place(ANNOTATION, Kind::Derives)?;
+    let items = items(alloc, cursor)?;
+    cursor.expect(ANNOTATION, Kind::Semicolon)?;
+    Ok(Derives { place, items })
+}
+
+// precondition = "pre" expression ";"
+#[tactic(auto, unfolding(crate::specs::Units::precondition))]
+fn precondition(alloc: Global, cursor: &mut Cursor<'_>, levels: u32) -> Result<Precondition, Stop>
+    ensures { Reads (read.precondition levels cursor.old) result cursor.new }
+{
+    let place = cursor.expect_place(ANNOTATION, Kind::Pre)?;
+    let condition = expression(alloc, cursor, levels, ANNOTATION)?;
+    cursor.expect(ANNOTATION, Kind::Semicolon)?;
+    Ok(Precondition { place, condition })
+}
+
+/// Reads a precondition, if there is one.
+#[tactic(auto, unfolding(crate::specs::Units::pre))]
+pub fn pre(
+    alloc: Global,
+    cursor: &mut Cursor<'_>,
+    levels: u32,
+) -> Result<Option<Precondition>, Stop>
+    ensures { Reads (read.pre levels cursor.old) result cursor.new }
+{
+    match cursor.peek(ANNOTATION) {
+        Some(Kind::Pre) => Ok(Some(precondition(alloc, cursor, levels)?)),
+        _ => Ok(None),
+    }
+}

@@ -1,0 +1,17 @@
+//! The parser: from the tokens of a file to its units (Ada 95 RM 4 to 6 and 10.1; Barnes, High Integrity Software).
+//!
+//! A layer above may rely on this: what is read is the one list of units that is written with the tokens, and a refusal
+//! stands at the token with which no file of the grammar goes on.
+#![tactic(auto)]
+
+mod annotations;
+mod cursor;
+mod expressions;
+mod laws;
+mod parse;
+mod subprograms;
+#[cfg(test)]
+mod tests;
+
+pub use laws::one_answer;
+pub use parse::{MOST_LEVELS, ParseFault, parse_units};

@@ -1,0 +1,84 @@
+// The units of a file.
+ghost use Rattle.std.specs.Prelude.{◌≡◌, ◌≤◌, List, Result, length};
+ghost use Rattle.spx_tree.specs.Form.{AreWithin};
+ghost use Rattle.spx_tree.specs.Goes.{place_with};
+ghost use Rattle.spx_tree.specs.Grammar.{IsFile};
+ghost use Rattle.spx_tree.specs.Written.{written};
+ghost use Rattle.spx_tree.specs.declared.subprogram.Unit.{Unit};
+ghost use Rattle.spx_parse_unit.specs.Answers.{SaysAll, StopsWithin, IsUnlessMemory, fault_at};
+
+use crate::cursor::{Cursor, Stop};
+use crate::subprograms::file;
+use spx_lexer::Tokens;
+use spx_text::Place;
+use spx_tree::{Token, Unit};
+use sqlite_items::Items;
+use std::alloc::Global;
+use thiserror::Error;
+
+/// How many operators may lie one below the other.
+pub const MOST_LEVELS: u32 = 200;
+
+/// Why tokens are no text of the grammar.
+#[derive(Clone, Copy, Debug, PartialEq, Eq, Error)]
+pub enum ParseFault {
+    /// No text of the grammar goes on with the token at this place, or ends there.
+    #[error("expected another token")]
+    Expected(Place),
+    /// No text of so few levels goes on with the token at this place.
+    #[error("nesting too deep")]
+    TooDeep(Place),
+    #[error("out of memory")]
+    Memory,
+}
+
+/// The place of the token with which so many are left.
+fn place_of(tokens: &[Token], left: usize, end: Place) -> Place
+    requires { left ≤ length tokens.now }
+    ensures { result ≡ place_with end tokens.now left }
+{
+    let (_, rest) = tokens.split_at(tokens.len() - left);
+    match rest {
+        [] => end,
+        [token, ..] => token.place,
+    }
+}
+
+/// The fault with its place.
+fn fault_of(tokens: &[Token], stop: Stop, end: Place) -> ParseFault
+    requires { StopsWithin (length tokens.now) stop }
+    ensures { result ≡ fault_at end tokens.now stop }
+{
+    match stop {
+        Stop::Expected(left) => ParseFault::Expected(place_of(tokens, left, end)),
+        Stop::TooDeep(left) => ParseFault::TooDeep(place_of(tokens, left, end)),
+        Stop::Memory => ParseFault::Memory,
+    }
+}
+
+/// Reads the units of a file.
+pub fn parse_units(alloc: Global, tokens: &Tokens<'_>) -> Result<Items<Unit>, ParseFault>
+    requires { AreWithin (length tokens.now.source.now) tokens.now.list.items }
+
+    // What is read is the file that is written with these tokens, within 200 levels;
+    // or no file goes on with the token at the place that is named, or none within so few levels.
+    ensures answers { SaysAll written IsFile 200 tokens.now.end tokens.now.source.now tokens.now.list.items result }
+
+    // Whatever fits that description is the answer, unless memory runs out.
+    ensures only { (r : Result (List Unit) ParseFault)
+        → SaysAll written IsFile 200 tokens.now.end tokens.now.source.now tokens.now.list.items r
+        → IsUnlessMemory r result }
+{
+    let list = tokens.list.as_slice();
+    let mut cursor = Cursor::new(tokens.source, list);
+    match file(alloc, &mut cursor, MOST_LEVELS) {
+        Ok(units) => {
+            let left = cursor.left();
+            if left == 0 {
+                return Ok(units);
+            }
+            Err(ParseFault::Expected(place_of(list, left, tokens.end)))
+        }
+        Err(stop) => Err(fault_of(list, stop, tokens.end)),
+    }
+}

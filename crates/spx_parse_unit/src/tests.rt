@@ -1,0 +1,116 @@
+use crate::{MOST_LEVELS, ParseFault, parse_units};
+use spx_lexer::lex;
+use spx_text::Place;
+use std::alloc::{AllocError, Global};
+use std::test::Fail;
+
+fn at(line: u32, column: u32) -> Place {
+    Place {
+        file: 0,
+        line,
+        column,
+    }
+}
+
+// How many units a text has, or where it is refused.
+fn units_in(alloc: Global, source: &[u8]) -> Result<usize, ParseFault> {
+    if source.len() > 100_000 {
+        return Err(ParseFault::Memory);
+    }
+    match lex(alloc, 0, source) {
+        Ok(tokens) => Ok(parse_units(alloc, &tokens)?.len()),
+        Err(_) => Err(ParseFault::Memory),
+    }
+}
+
+// A procedure with these statements.
+fn procedure(alloc: Global, statements: &[u8]) -> Result<Vec<u8>, AllocError> {
+    let mut text = Vec::new(alloc);
+    text.extend_from_slice(
+        b"procedure P (X : in out Integer; Y, Z : Integer)\n--# derives X from *, Y & Z from ;\n--# pre X < Integer'Last - Y;\nis\nbegin\n",
+    )?;
+    text.extend_from_slice(statements)?;
+    text.extend_from_slice(b"\nend P;\n")?;
+    Ok(text)
+}
+
+#[test]
+fn statements(rt: HostRuntime) -> Result<(), Fail> {
+    let alloc = rt.alloc();
+    let rows = [
+        ("X := 1;", Ok(1)),
+        ("X := 1; Y := X - Z + 1; X := Y = Z;", Ok(1)),
+        ("", Err(ParseFault::Expected(at(7, 1)))),
+        ("X := A = B = C;", Err(ParseFault::Expected(at(6, 12)))),
+        ("X := 1", Err(ParseFault::Expected(at(7, 1)))),
+        ("X = 1;", Err(ParseFault::Expected(at(6, 3)))),
+        ("X := Y'Z'W;", Err(ParseFault::Expected(at(6, 9)))),
+        ("X := 1;\n--# derives", Err(ParseFault::Expected(at(7, 5)))),
+    ];
+    for (statements, answer) in rows {
+        let text = procedure(alloc, statements.as_bytes())?;
+        assert_eq!(rt; units_in(alloc, text.as_slice()), answer, "{statements}");
+    }
+    Ok(())
+}
+
+#[test]
+fn units(rt: HostRuntime) {
+    let alloc = rt.alloc();
+    let rows = [
+        ("", Ok(0)),
+        (
+            "procedure P (X : out T)\n--# derives X from ;\nis begin X := 1; end;\nprocedure Q (X : in T)\n--# derives X from X;\nis begin X := 1; end Q;",
+            Ok(2),
+        ),
+        ("begin", Err(ParseFault::Expected(at(1, 1)))),
+        (
+            "procedure P (X : T)\nderives X from X;",
+            Err(ParseFault::Expected(at(2, 1))),
+        ),
+        (
+            "procedure P (X : out in T)",
+            Err(ParseFault::Expected(at(1, 22))),
+        ),
+        ("procedure P (X : T;)", Err(ParseFault::Expected(at(1, 20)))),
+        (
+            "procedure P (X : T)\n--# derives X from X, *;",
+            Err(ParseFault::Expected(at(2, 23))),
+        ),
+        (
+            "procedure P (X : T)\n--# derives X from X;\nis begin X := 1; end P; X",
+            Err(ParseFault::Expected(at(3, 25))),
+        ),
+        (
+            "procedure P (X : T)\n--# derives X from X;\nis begin X := 1;\n",
+            Err(ParseFault::Expected(at(4, 1))),
+        ),
+    ];
+    for (text, answer) in rows {
+        assert_eq!(rt; units_in(alloc, text.as_bytes()), answer, "{text}");
+    }
+}
+
+// X := X + X + .. + X, with so many operators.
+fn sum_of(alloc: Global, operators: u32) -> Result<Vec<u8>, AllocError> {
+    let mut text = Vec::new(alloc);
+    text.extend_from_slice(b"X := X")?;
+    for _ in 0..operators {
+        text.extend_from_slice(b"+X")?;
+    }
+    text.push(b';')?;
+    procedure(alloc, text.as_slice())
+}
+
+#[test]
+fn levels(rt: HostRuntime) -> Result<(), Fail> {
+    let alloc = rt.alloc();
+    let most = sum_of(alloc, MOST_LEVELS)?;
+    assert_eq!(rt; units_in(alloc, most.as_slice()), Ok(1));
+    let more = sum_of(alloc, MOST_LEVELS + 1)?;
+    assert_eq!(rt;
+        units_in(alloc, more.as_slice()),
+        Err(ParseFault::TooDeep(at(6, 407)))
+    );
+    Ok(())
+}
