@@ -1,5 +1,5 @@
--- The forms of an expression are read as that expression, whatever stands behind them that does not go on with it.
-use Rattle.std.proofs.Common.{◌≡◌, ◌⊎◌, inl, inr, ℕ, zero, suc, ◌+◌, ◌-◌, ◌≤◌, ◌<◌, max, Bool, true, false, List, ◌∷◌, ◌++◌, Option, Some, None, Ok, refl, sym, ap, subst, ◌∙◌, append_assoc, arith}
+-- The forms of a name or an expression are read as that, whatever stands behind them that does not go on with it.
+use Rattle.std.proofs.Common.{◌≡◌, ◌⊎◌, inl, inr, ℕ, zero, suc, ◌+◌, ◌-◌, ◌≤◌, ◌<◌, max, Bool, true, false, List, [], ◌∷◌, ◌++◌, Option, Some, None, Ok, refl, sym, ap, subst, ◌∙◌, append_assoc, arith}
 use denote.Hole.Carrier.{hidden}
 use Rattle.spx_text.specs.declared.place.Place.{Place}
 use Rattle.spx_tree.specs.declared.token.Kind.{Kind}
@@ -7,17 +7,21 @@ use Rattle.spx_tree.specs.declared.token.Kind.TheVariants as k
 use Rattle.spx_tree.specs.declared.expression.Identifier.{Identifier}
 use Rattle.spx_tree.specs.declared.expression.InfixOp.{InfixOp}
 use Rattle.spx_tree.specs.declared.expression.InfixOp.TheVariants as op
+use Rattle.spx_tree.specs.declared.expression.PrefixOp.{PrefixOp}
+use Rattle.spx_tree.specs.declared.expression.PrefixOp.TheVariants as sign
 use Rattle.spx_tree.specs.declared.expression.Layer.{Layer}
 use Rattle.spx_tree.specs.declared.expression.Layer.TheVariants as layer
+use Rattle.spx_tree.specs.declared.expression.Name.{Name}
+use Rattle.spx_tree.specs.declared.expression.Name.TheVariants.{Simple, Attribute}
 use Rattle.spx_tree.specs.declared.expression.Expr.{Expr}
 use Rattle.spx_tree.specs.declared.expression.Expr.TheBlock.{hidden-the_row-Expr-0}
-use Rattle.spx_tree.specs.declared.expression.Expr.TheVariants.{Number, Name, Attribute}
+use Rattle.spx_tree.specs.declared.expression.Expr.TheVariants as expr
 use Rattle.spx_tree.specs.Form.{Form, Kept, Nothing, Where, Spelled, Valued, placed, bare, named}
-use Rattle.spx_tree.specs.Written.{operation, operator_kind, written_expr}
+use Rattle.spx_tree.specs.Written.{parenthesized, signed, operation, sign_kind, operator_kind, written_name, written_expr}
 use Rattle.spx_tree.specs.Grammar.{height, layer_of, layer_in, rank, LeftFits, RightFits, Layered, IsExpr}
 use Rattle.spx_parse_unit.specs.declared.expressions.Tall.{Tall}
 use Rattle.spx_parse_unit.specs.Reading.{Outcome, Reader, and_then, peek}
-use Rattle.spx_parse_unit.specs.Expressions.{adding, relational, name_by, name, literal, primary_by, primary, joined_by, step_by, sum_step, continued, sum, relation_by, relation, read, below, at_layer, expression}
+use Rattle.spx_parse_unit.specs.Expressions.{sign_of, adding, relational, name_by, name, literal, in_parentheses, primary_by, primary, behind_sign, first_by, first, joined_by, step_by, sum_step, continued, sum, relation_by, relation, read, below, at_layer, expression}
 use Rattle.spx_parse_unit.proofs.Loops.{Shrinks}
 use Rattle.spx_parse_unit.proofs.Reaches.{Reaches, reaches_bind, reaches_pure, reaches_choose, reaches_deeper, reaches_expect, reaches_expect_place, reaches_identifier, reaches_number, peek_front, loop_turn, loop_over}
 use Rattle.spx_parse_unit.proofs.ExpressionsGood.{below_good, sum_shrinks}
@@ -82,6 +86,15 @@ not_tick op.LessOrEqual e = cc
 not_tick op.Greater e = cc
 not_tick op.GreaterOrEqual e = cc
 
+sign_self : (o : PrefixOp) → sign_of (Some (sign_kind o)) ≡ Some o
+sign_self sign.Plus = refl
+sign_self sign.Minus = refl
+
+rank_low : (a : Layer) → rank a ≤ 2
+rank_low layer.Primary = omega arith
+rank_low layer.Sum = omega arith
+rank_low layer.Relation = omega arith
+
 no_primary : (o : InfixOp) → rank (layer_of o) ≤ 0 → ⊥
 no_primary op.Add h = omega arith
 no_primary op.Subtract h = omega arith
@@ -92,23 +105,63 @@ sum_layer op.Add h = refl
 sum_layer op.Subtract h = refl
 sum_layer _ h = absurd (omega arith)
 
+-- ---- names
+
+name_plain : (marked : Bool) (prefix : Identifier) (kind : Option Kind) (us zs : List Form) → (kind ≡ Some k.Apostrophe → ⊥) → us ≡ zs → Reaches (name_by marked prefix kind) us (Simple prefix) zs
+name_plain marked prefix (Some k.Apostrophe) us zs free e = absurd (free refl)
+name_plain marked prefix _ us zs free e = reaches_pure e
+
+pub name_again : (marked : Bool) (x : Name) (fs zs : List Form) → (peek marked zs ≡ Some k.Apostrophe → ⊥) → fs ≡ written_name marked x ++ zs → Reaches (name marked) fs x zs
+unfolding name
+name_again marked (Simple prefix) fs zs free e =
+    reaches_bind _ (reaches_identifier marked e) (λ us a. reaches_choose (peek marked) (name_by marked prefix) (peek marked zs) (peek_front marked us a) (name_plain marked prefix (peek marked zs) us zs free a))
+name_again marked (Attribute prefix designator) fs zs free e =
+    reaches_bind _ (reaches_identifier marked e) (λ us a. reaches_choose (peek marked) (name_by marked prefix) (Some k.Apostrophe) (peek_front marked us a ∙ peek_here marked k.Apostrophe Nothing (named marked designator ∷ zs))
+    (reaches_bind _ (reaches_expect marked k.Apostrophe a) (λ vs b. reaches_bind _ (reaches_identifier marked b) (λ ws d. reaches_pure d))))
+
+-- an identifier comes first
+pub name_front : (marked : Bool) (x : Name) (zs : List Form) → peek marked (written_name marked x ++ zs) ≡ Some k.Identifier
+name_front marked (Simple prefix) zs = peek_here marked k.Identifier (Spelled prefix.text prefix.place) zs
+name_front marked (Attribute prefix designator) zs = peek_here marked k.Identifier (Spelled prefix.text prefix.place) (bare marked k.Apostrophe ∷ named marked designator ∷ zs)
+
+-- no primary begins with a sign
+unsigned : (marked : Bool) (x : Expr) (zs : List Form) → rank (layer_in x) ≤ 0 → sign_of (peek marked (written_expr marked x ++ zs)) ≡ None
+unsigned marked (expr.Number value place) zs r = ap sign_of (peek_here marked k.Number (Valued value place) zs)
+unsigned marked (expr.Name name) zs r = ap sign_of (name_front marked name zs)
+unsigned marked (parenthesized place inner) zs r = ap sign_of (peek_here marked k.LeftParenthesis (Where place) ((written_expr marked inner ++ bare marked k.RightParenthesis ∷ []) ++ zs))
+unsigned marked (signed o place operand) zs r = absurd (omega arith)
+unsigned marked (operation o place x y) zs r = absurd (no_primary o r)
+
+-- ---- expressions
+
+parenthesis_free : (marked : Bool) (zs : List Form) → Free layer.Relation (peek marked (bare marked k.RightParenthesis ∷ zs))
+parenthesis_free true zs = (λ e. cc, refl, refl)
+parenthesis_free false zs = (λ e. cc, refl, refl)
+
 module _ (marked : Bool) (below : Layer → Reader Tall) (levels : ℕ) (shrinks : Shrinks (peek marked) (sum_step marked below levels)) (again : 0 < levels → (layer : Layer) → Again marked (below layer) (levels - 1) layer) where
-  name_plain : (prefix : Identifier) (kind : Option Kind) (us zs : List Form) → (kind ≡ Some k.Apostrophe → ⊥) → us ≡ zs → Reaches (name_by marked prefix kind) us (measure (Name prefix)) zs
-  name_plain prefix (Some k.Apostrophe) us zs free e = absurd (free refl)
-  name_plain prefix _ us zs free e = reaches_pure e
+  parentheses_again : (place : Place) (inner : Expr) (fs zs : List Form) → height inner + 1 ≤ levels → Layered inner → fs ≡ placed marked k.LeftParenthesis place ∷ (written_expr marked inner ++ bare marked k.RightParenthesis ∷ zs)
+      → Reaches (in_parentheses marked below levels) fs (measure (parenthesized place inner)) zs
+  unfolding in_parentheses hidden-the_row-Expr-0 hidden
+  parentheses_again place inner fs zs low l e =
+      let some : 0 < levels = omega arith in
+      reaches_deeper some
+      (reaches_bind _ (reaches_expect_place marked k.LeftParenthesis e) (λ us a.
+      reaches_bind _ (again some layer.Relation inner us (bare marked k.RightParenthesis ∷ zs) (omega arith) l (rank_low (layer_in inner)) (parenthesis_free marked zs) a) (λ vs b.
+      reaches_bind _ (reaches_expect marked k.RightParenthesis b) (λ ws d. reaches_pure d))))
 
   primary_again : Again marked (primary marked below levels) levels layer.Primary
-  unfolding primary literal name
-  primary_again (Number value place) fs zs low l r free e =
+  unfolding primary literal
+  primary_again (expr.Number value place) fs zs low l r free e =
       reaches_choose (peek marked) (primary_by marked below levels) (Some k.Number) (peek_front marked fs e ∙ peek_here marked k.Number (Valued value place) zs)
       (reaches_bind _ (reaches_number marked e) (λ us a. reaches_pure a))
-  primary_again (Name prefix) fs zs low l r free e =
-      reaches_choose (peek marked) (primary_by marked below levels) (Some k.Identifier) (peek_front marked fs e ∙ peek_here marked k.Identifier (Spelled prefix.text prefix.place) zs)
-      (reaches_bind _ (reaches_identifier marked e) (λ us a. reaches_choose (peek marked) (name_by marked prefix) (peek marked zs) (peek_front marked us a) (name_plain prefix (peek marked zs) us zs free a)))
-  primary_again (Attribute prefix designator) fs zs low l r free e =
-      reaches_choose (peek marked) (primary_by marked below levels) (Some k.Identifier) (peek_front marked fs e ∙ peek_here marked k.Identifier (Spelled prefix.text prefix.place) (bare marked k.Apostrophe ∷ named marked designator ∷ zs))
-      (reaches_bind _ (reaches_identifier marked e) (λ us a. reaches_choose (peek marked) (name_by marked prefix) (Some k.Apostrophe) (peek_front marked us a ∙ peek_here marked k.Apostrophe Nothing (named marked designator ∷ zs))
-      (reaches_bind _ (reaches_expect marked k.Apostrophe a) (λ vs b. reaches_bind _ (reaches_identifier marked b) (λ ws d. reaches_pure d)))))
+  primary_again (expr.Name x) fs zs low l r free e =
+      reaches_choose (peek marked) (primary_by marked below levels) (Some k.Identifier) (peek_front marked fs e ∙ name_front marked x zs)
+      (reaches_bind _ (name_again marked x fs zs free e) (λ us a. reaches_pure a))
+  primary_again (parenthesized place inner) fs zs low l r free e =
+      let flat = e ∙ ap (λ (us : List Form). placed marked k.LeftParenthesis place ∷ us) (append_assoc (written_expr marked inner) (bare marked k.RightParenthesis ∷ []) zs) in
+      reaches_choose (peek marked) (primary_by marked below levels) (Some k.LeftParenthesis) (peek_front marked fs flat ∙ peek_here marked k.LeftParenthesis (Where place) (written_expr marked inner ++ bare marked k.RightParenthesis ∷ zs))
+      (parentheses_again place inner fs zs low l flat)
+  primary_again (signed o place operand) fs zs low l r free e = absurd (omega arith)
   primary_again (operation o place x y) fs zs low l r free e = absurd (no_primary o r)
 
   -- an operator and its right operand
@@ -123,15 +176,36 @@ module _ (marked : Bool) (below : Layer → Reader Tall) (levels : ℕ) (shrinks
 
   -- ---- sums
 
+  sign_again : (o : PrefixOp) (place : Place) (x : Expr) (fs zs : List Form) → height x + 1 ≤ levels → Layered x → rank (layer_in x) ≤ 0 → Free layer.Primary (peek marked zs) → fs ≡ placed marked (sign_kind o) place ∷ (written_expr marked x ++ zs)
+      → Reaches (behind_sign marked below levels o) fs (measure (signed o place x)) zs
+  unfolding behind_sign hidden-the_row-Expr-0 hidden
+  sign_again o place x fs zs low l r free e =
+      let some : 0 < levels = omega arith in
+      reaches_deeper some
+      (reaches_bind _ (reaches_expect_place marked (sign_kind o) e) (λ us a.
+      reaches_bind _ (again some layer.Primary x us zs (omega arith) l r free a) (λ vs b. reaches_pure b)))
+
+  first_unsigned : (x : Expr) (fs zs : List Form) → height x ≤ levels → Layered x → rank (layer_in x) ≤ 0 → Free layer.Primary (peek marked zs) → fs ≡ written_expr marked x ++ zs → Reaches (first marked below levels) fs (measure x) zs
+  unfolding first
+  first_unsigned x fs zs low l r free e =
+      reaches_choose (λ us. sign_of (peek marked us)) (first_by marked below levels) None (ap sign_of (peek_front marked fs e) ∙ unsigned marked x zs r) (primary_again x fs zs low l r free e)
+
+  first_signed : (o : PrefixOp) (place : Place) (x : Expr) (fs zs : List Form) → height x + 1 ≤ levels → Layered x → rank (layer_in x) ≤ 0 → Free layer.Primary (peek marked zs) → fs ≡ placed marked (sign_kind o) place ∷ (written_expr marked x ++ zs)
+      → Reaches (first marked below levels) fs (measure (signed o place x)) zs
+  unfolding first
+  first_signed o place x fs zs low l r free e =
+      reaches_choose (λ us. sign_of (peek marked us)) (first_by marked below levels) (Some o) (ap sign_of (peek_front marked fs e ∙ peek_here marked (sign_kind o) (Where place) (written_expr marked x ++ zs)) ∙ sign_self o)
+      (sign_again o place x fs zs low l r free e)
+
   -- a sum that was read down to its last operand
   record Spine (fs : List Form) (x : Expr) (zs : List Form) : Type 0 where
-    first : Tall
+    leftmost : Tall
     after : List Form
-    is_first : primary marked below levels fs ≡ Ok (first, after)
-    goes : continued marked below levels first after ≡ continued marked below levels (measure x) zs
+    is_leftmost : first marked below levels fs ≡ Ok (leftmost, after)
+    goes : continued marked below levels leftmost after ≡ continued marked below levels (measure x) zs
 
   lone : (x : Expr) (fs zs : List Form) → height x ≤ levels → Layered x → rank (layer_in x) ≤ 0 → Free layer.Primary (peek marked zs) → fs ≡ written_expr marked x ++ zs → Spine fs x zs
-  lone x fs zs low l r free e = record { first = measure x; after = zs; is_first = (primary_again x fs zs low l r free e).is; goes = refl }
+  lone x fs zs low l r free e = record { leftmost = measure x; after = zs; is_leftmost = (first_unsigned x fs zs low l r free e).is; goes = refl }
 
   spine : (x : Expr) (fs zs : List Form) → height x ≤ levels → Layered x → rank (layer_in x) ≤ 1 → Free layer.Primary (peek marked zs) → fs ≡ written_expr marked x ++ zs → Spine fs x zs
   unfolding continued
@@ -142,20 +216,21 @@ module _ (marked : Bool) (below : Layer → Reader Tall) (levels : ℕ) (shrinks
       let s = spine x fs behind (omega arith) l.0 (subst (λ (a : Layer). LeftFits a (layer_in x)) adds l.2) (λ t. not_tick o (sym seen ∙ t)) (e ∙ append_assoc (written_expr marked x) (placed marked (operator_kind o) place ∷ written_expr marked y) zs) in
       let j = joined_again layer.Primary o place x y behind zs low l.1 (subst (λ (a : Layer). RightFits a (layer_in y)) adds l.3) free refl in
       record {
-        first = s.first;
+        leftmost = s.leftmost;
         after = s.after;
-        is_first = s.is_first;
+        is_leftmost = s.is_leftmost;
         goes = s.goes ∙ loop_turn (peek marked) (sum_step marked below levels) shrinks (measure x) (measure (operation o place x y)) behind zs _ (ap (step_by marked below levels (measure x)) (ap adding seen ∙ adding_self o adds)) j.is;
       }
-  spine (Number value place) fs zs low l r free e = lone (Number value place) fs zs low l (omega arith) free e
-  spine (Name prefix) fs zs low l r free e = lone (Name prefix) fs zs low l (omega arith) free e
-  spine (Attribute prefix designator) fs zs low l r free e = lone (Attribute prefix designator) fs zs low l (omega arith) free e
+  spine (signed o place x) fs zs low l r free e = record { leftmost = measure (signed o place x); after = zs; is_leftmost = (first_signed o place x fs zs low l.0 l.1 free e).is; goes = refl }
+  spine (parenthesized place inner) fs zs low l r free e = lone (parenthesized place inner) fs zs low l (omega arith) free e
+  spine (expr.Number value place) fs zs low l r free e = lone (expr.Number value place) fs zs low l (omega arith) free e
+  spine (expr.Name x) fs zs low l r free e = lone (expr.Name x) fs zs low l (omega arith) free e
 
   sum_again : Again marked (sum marked below levels) levels layer.Sum
   unfolding sum continued
   sum_again x fs zs low l r free e =
       let s = spine x fs zs low l r free.0 e in
-      record { is = ap (λ (out : Outcome Tall). and_then out (continued marked below levels)) s.is_first ∙ s.goes ∙ loop_over (peek marked) (sum_step marked below levels) shrinks (measure x) zs (ap (step_by marked below levels (measure x)) free.1) }
+      record { is = ap (λ (out : Outcome Tall). and_then out (continued marked below levels)) s.is_leftmost ∙ s.goes ∙ loop_over (peek marked) (sum_step marked below levels) shrinks (measure x) zs (ap (step_by marked below levels (measure x)) free.1) }
 
   -- ---- relations
 
@@ -184,9 +259,10 @@ module _ (marked : Bool) (below : Layer → Reader Tall) (levels : ℕ) (shrinks
         | inl adds ↦ relation_plain (operation o place x y) fs zs low l (let h = ap rank adds in omega arith) free e
         | inr relates ↦ relation_joined o place x y fs zs relates low l free e
       ]
-  relation_again (Number value place) fs zs low l r free e = relation_plain (Number value place) fs zs low l (omega arith) free e
-  relation_again (Name prefix) fs zs low l r free e = relation_plain (Name prefix) fs zs low l (omega arith) free e
-  relation_again (Attribute prefix designator) fs zs low l r free e = relation_plain (Attribute prefix designator) fs zs low l (omega arith) free e
+  relation_again (signed o place x) fs zs low l r free e = relation_plain (signed o place x) fs zs low l (omega arith) free e
+  relation_again (parenthesized place inner) fs zs low l r free e = relation_plain (parenthesized place inner) fs zs low l (omega arith) free e
+  relation_again (expr.Number value place) fs zs low l r free e = relation_plain (expr.Number value place) fs zs low l (omega arith) free e
+  relation_again (expr.Name x) fs zs low l r free e = relation_plain (expr.Name x) fs zs low l (omega arith) free e
 
   read_again : (layer : Layer) → Again marked (read marked below levels layer) levels layer
   read_again layer.Primary = primary_again

@@ -206,6 +206,11 @@ module _ {L P K A : Type 0} {spell : A → List Form} {fits : A → Type 0} {bef
     grows = λ l w. grows_choose look f f' (λ kind. (case_good (c kind)).grows l w);
   }
 
+  -- a choice that is made where each way starts with a form
+  pub starts_choose : {fewer : List Form → Type 0} (f f' : K → Reader A) → Good L P spell fits before Any (λ fs. f (look fs) fs) (λ fs. f' (look fs) fs) → ((fs : List Form) → fewer fs → Starts L P spell fits before (Sees look (look fs)) (f (look fs)) (f' (look fs)))
+      → Starts L P spell fits before fewer (λ fs. f (look fs) fs) (λ fs. f' (look fs) fs)
+  starts_choose f f' g s = record { good = good_fewer (λ fs here. tt) g; takes = λ l fs here. (s fs here).takes l fs refl; takes' = λ fs here. (s fs here).takes' fs refl }
+
 -- ---- loops
 
 -- A turn starts with a form, or the loop is over. What was read before is the text of the state.

@@ -2,17 +2,17 @@
 use Rattle.std.specs.Prelude.{⊤}
 use Rattle.std.proofs.Common.{◌≡◌, Bool, true, false, cond, List, [], ◌∷◌, ◌++◌, map, Option, Some, None, refl, sym, ap, ◌∙◌, append_assoc}
 use Rattle.std.proofs.lemmas.List.{append-nil}
-use Rattle.spx_tree.specs.Grammar.{Each, OneOrMore}
+use Rattle.spx_tree.specs.Grammar.{Each, OneOrMore, IfThere}
 use Rattle.spx_tree.specs.declared.token.Kind.{Kind}
 use Rattle.spx_tree.specs.Form.{Form, KindAlone, keeps, bare}
-use Rattle.spx_tree.specs.Written.{joined, behind, separated}
-use Rattle.spx_parse_unit.specs.Reading.{Reader, ◌>>=◌, ◌>>◌, peek, same_mark, is_kind, sees, expect, item_step, more_items, separated_items}
+use Rattle.spx_tree.specs.Written.{joined, behind, separated, optional}
+use Rattle.spx_parse_unit.specs.Reading.{Reader, ◌>>=◌, ◌>>◌, peek, same_mark, is_kind, sees, expect, optional_by, if_seen, item_step, more_items}
 use Rattle.spx_parse_unit.proofs.Shaped.{mark_self, kind_is, kind_self}
 use Rattle.spx_parse_unit.proofs.Loops.{Shrinks}
 use Rattle.spx_parse_unit.proofs.Lawful.{Any, Sees}
 use Rattle.spx_parse_unit.proofs.Scans.{AtFirst}
-use Rattle.spx_parse_unit.proofs.Good.{Good, Starts, Adds, good_more, good_list, good_as, good_given, list_shrinks, starts_bind, starts_expect}
-use Rattle.spx_parse_unit.proofs.Reaches.{Reaches, reaches_bind, reaches_expect, reaches_items, reaches_items_before}
+use Rattle.spx_parse_unit.proofs.Good.{Good, Starts, Case, Adds, absent, present, good_pure, good_option, good_more, good_list, good_as, good_given, list_shrinks, starts_bind, starts_expect}
+use Rattle.spx_parse_unit.proofs.Reaches.{Reaches, reaches_bind, reaches_pure, reaches_choose, reaches_expect, reaches_items, reaches_items_before}
 
 pub all_added : {A : Type 0} (fits : A → Type 0) (xs : List A) (x : A) → Each fits xs → fits x → Each fits (xs ++ x ∷ [])
 all_added fits [] x f g = (g, tt)
@@ -111,17 +111,20 @@ sees_kind marked kind fs e = kind_seen kind (peek marked fs) e
 pub sees_front : (marked : Bool) (f : Form) (fs : List Form) → f.marked ≡ marked → sees marked f.kind (f ∷ fs) ≡ true
 sees_front marked f fs e = ap (λ (b : Bool). is_kind f.kind (cond b (Some f.kind) None)) (ap (λ (m : Bool). same_mark m marked) e ∙ mark_self marked) ∙ kind_self f.kind
 
-module _ {A : Type 0} (spell : A → List Form) (fits : A → Type 0) (marked : Bool) (sep : Kind) (c : keeps sep ≡ KindAlone) {p p' : Reader A} where
-  pub good_separated_items : {L P : Type 0} → Good L ⊤ spell fits [] Any p p' → Good L P (separated (bare marked sep) spell) (OneOrMore fits) [] Any (separated_items marked sep p) (separated_items marked sep p')
-  good_separated_items g = good_separated spell fits marked sep (sees marked sep) (λ t xs ys. refl) refl (sees_kind marked sep) c g
+-- ---- what may be left out
 
-  pub separated_items_shrinks : {L : Type 0} → Good L ⊤ spell fits [] Any p p' → L → Shrinks (sees marked sep) (item_step (expect marked sep >> p))
-  separated_items_shrinks g l = separated_shrinks spell fits marked sep (sees marked sep) (λ t xs ys. refl) refl (sees_kind marked sep) c g l
+module _ {A : Type 0} (spell : A → List Form) (fits : A → Type 0) (marked : Bool) (kind : Kind) {p p' : Reader A} where
+  optional_case : {L P : Type 0} → Starts L P spell fits [] (Sees (sees marked kind) true) p p' → (b : Bool) → Case L P (optional spell) (IfThere fits) [] (Sees (sees marked kind) b) None (optional_by p b) (optional_by p' b)
+  optional_case s true = present (starts_bind s (λ x. good_pure (Some x) (λ l w. refl) (λ l w. w.1)))
+  optional_case s false = absent refl refl (λ l w. refl) (λ l w. tt)
 
-  -- Each item is read in front of what Stops tells of: the form between, and what stands behind all.
-  module _ {L : Type 0} (g : Good L ⊤ spell fits [] Any p p') (l : L) (Stops : List Form → Type 0) (next_stops : (ws : List Form) → Stops (bare marked sep ∷ ws)) (again : (x : A) (fs zs : List Form) → fits x → Stops zs → fs ≡ spell x ++ zs → Reaches p fs x zs) where
-    pub reaches_more : (found xs : List A) (fs zs : List Form) → Each fits xs → sees marked sep zs ≡ false → Stops zs → fs ≡ behind (bare marked sep) spell xs ++ zs → Reaches (more_items (sees marked sep) (expect marked sep >> p) found) fs (found ++ xs) zs
-    reaches_more = reaches_behind spell fits marked sep Stops (sees marked sep) (separated_items_shrinks g l) (λ ws. (sees_front marked (bare marked sep) ws refl, next_stops ws)) again
+  pub good_if_seen : {L P : Type 0} → Starts L P spell fits [] (Sees (sees marked kind) true) p p' → Good L P (optional spell) (IfThere fits) [] Any (if_seen marked kind p) (if_seen marked kind p')
+  unfolding if_seen
+  good_if_seen s = good_option (sees marked kind) (λ t xs ys. refl) None (optional_by p) (optional_by p') refl refl (optional_case s)
 
-    pub reaches_separated_items : (xs : List A) (fs zs : List Form) → OneOrMore fits xs → sees marked sep zs ≡ false → Stops zs → fs ≡ separated (bare marked sep) spell xs ++ zs → Reaches (separated_items marked sep p) fs xs zs
-    reaches_separated_items = reaches_separated spell fits marked sep Stops (sees marked sep) (separated_items_shrinks g l) (λ ws. (sees_front marked (bare marked sep) ws refl, next_stops ws)) again
+module _ {A : Type 0} (spell : A → List Form) (fits : A → Type 0) (marked : Bool) (kind : Kind) {p : Reader A} (begun : (x : A) (ws : List Form) → fits x → sees marked kind (spell x ++ ws) ≡ true)
+    (again : (x : A) (fs zs : List Form) → fits x → fs ≡ spell x ++ zs → Reaches p fs x zs) where
+  pub reaches_if_seen : (x : Option A) (fs zs : List Form) → IfThere fits x → sees marked kind zs ≡ false → fs ≡ optional spell x ++ zs → Reaches (if_seen marked kind p) fs x zs
+  unfolding if_seen
+  reaches_if_seen None fs zs f over h = reaches_choose (sees marked kind) (optional_by p) false (ap (sees marked kind) h ∙ over) (reaches_pure h)
+  reaches_if_seen (Some x) fs zs f over h = reaches_choose (sees marked kind) (optional_by p) true (ap (sees marked kind) h ∙ begun x zs f) (reaches_bind _ (again x fs zs f h) (λ us a. reaches_pure a))

@@ -1,50 +1,74 @@
--- The readers of annotations, subprograms and units keep the laws of readers.
+-- The readers of declarations, statements, annotations, subprograms and units keep the laws of readers.
 use Rattle.std.specs.Prelude.{⊤}
-use Rattle.std.proofs.Common.{◌≡◌, ℕ, suc, Bool, true, List, [], ◌∷◌, ◌++◌, Option, Some, None, refl, sym, append_assoc}
+use Rattle.std.proofs.Common.{◌≡◌, ℕ, suc, Bool, true, List, [], ◌∷◌, ◌++◌, Option, Some, None, refl, append_assoc}
 use Rattle.std.proofs.lemmas.List.{append-nil}
 use Rattle.spx_tree.specs.declared.token.Kind.{Kind}
 use Rattle.spx_tree.specs.declared.token.Kind.TheVariants as k
 use Rattle.spx_tree.specs.declared.expression.Identifier.{Identifier}
-use Rattle.spx_tree.specs.declared.statement.Stmt.TheVariants.{Assignment}
+use Rattle.spx_tree.specs.declared.expression.Name.{Name}
+use Rattle.spx_tree.specs.declared.declaration.Decl.TheVariants.{Variables}
+use Rattle.spx_tree.specs.declared.statement.Stmt.TheVariants.{Null, Assignment}
 use Rattle.spx_tree.specs.declared.annotation.Imports.{Imports}
 use Rattle.spx_tree.specs.declared.subprogram.WrittenMode.TheVariants as modes
 use Rattle.spx_tree.specs.declared.subprogram.Unit.TheVariants as unit
 use Rattle.spx_tree.specs.Form.{Form, bare, placed, named}
-use Rattle.spx_tree.specs.Written.{program, annotation, behind, separated, optional, written_name, written_names, written_stmt, written_stmts, written_imports, written_item, written_derives, written_pre, written_mode, written_param, written_formals, written_subprogram, written_unit, written}
-use Rattle.spx_tree.specs.Grammar.{OneOrMore, IfThere, IsNames, IsStmt, IsItem, IsDerives, IsPrecondition, IsParam, IsSubprogram, IsUnit, IsFile}
+use Rattle.spx_tree.specs.Written.{program, annotation, behind, separated, optional, written_identifier, written_identifiers, written_name, written_names, written_decl, written_decls, written_stmt, written_stmts, written_imports, written_item, written_derives, written_pre, written_mode, written_param, written_params, written_formal_part, written_subprogram, written_unit, written}
+use Rattle.spx_tree.specs.Grammar.{Each, OneOrMore, IsIdentifiers, IsNames, IsDecl, IsStmt, IsItem, IsDerives, IsPrecondition, IsParam, IsFormalPart, IsSubprogram, IsUnit, IsFile}
 use Rattle.spx_parse_unit.specs.Reading.{◌>>◌, peek, sees, expect, identifier, item_step}
-use Rattle.spx_parse_unit.specs.Units.{more_names, names, starred, unstarred, imports_by, imports, item, more_derives, items, derives, precondition, pre_by, pre, in_by, behind_in, mode_by, mode, param, more_params, formals, stmt, more_stmts, stmts, end_name_by, end_name, subprogram, unit_at, more_units, file}
+use Rattle.spx_parse_unit.specs.Expressions.{name}
+use Rattle.spx_parse_unit.specs.Units.{more_identifiers, identifiers, more_names, names, starred, unstarred, imports_by, imports, item, more_derives, items, derives, precondition, in_by, behind_in, mode_by, mode, param, more_params, params, formal_part, declaration, more_declarations, declarations, null_statement, assignment, stmt_by, stmt, starts_stmt, sees_stmt, more_stmts, stmts, subprogram, unit_at, more_units, file}
 use Rattle.spx_parse_unit.proofs.Loops.{Shrinks}
-use Rattle.spx_parse_unit.proofs.Lawful.{Any, Sees, Always}
-use Rattle.spx_parse_unit.proofs.Good.{Good, Starts, Case, Adds, absent, present, good_bind, good_pure, good_given, good_expect, good_expect_place, good_identifier, good_option, good_more, good_list, list_shrinks, starts_bind, starts_expect, starts_place, starts_identifier}
-use Rattle.spx_parse_unit.proofs.Separated.{sees_kind, all_added, joined_added, joined_adds, next, behind_added, separated_adds, next_starts, good_separated, separated_shrinks}
-use Rattle.spx_parse_unit.proofs.ExpressionsGood.{expression_good}
+use Rattle.spx_parse_unit.proofs.Lawful.{Ends, Any, Sees, Always}
+use Rattle.spx_parse_unit.proofs.Good.{Good, Starts, Case, Adds, absent, present, good_bind, good_pure, good_refuse, good_before, good_given, good_expect, good_expect_place, good_identifier, good_choose, good_option, good_more, list_shrinks, starts_bind, starts_choose, starts_expect, starts_place, starts_identifier}
+use Rattle.spx_parse_unit.proofs.Separated.{sees_kind, all_added, joined_added, next, behind_added, separated_adds, next_starts, good_separated, separated_shrinks, good_items, good_some_items, items_shrinks, good_if_seen}
+use Rattle.spx_parse_unit.proofs.ExpressionsGood.{name_starts, name_good, expression_good}
+
+-- ---- identifiers
+
+next_identifier_starts : (marked : Bool) {L P : Type 0} → Starts L P (next (written_identifier marked) Always marked k.Comma) Always [] (Sees (sees marked k.Comma) true) (expect marked k.Comma >> identifier marked) (expect marked k.Comma >> identifier marked)
+next_identifier_starts marked = next_starts (written_identifier marked) Always marked k.Comma (sees marked k.Comma) (λ t xs ys. refl) refl (sees_kind marked k.Comma) refl (good_identifier marked)
+
+-- identifiers behind others
+identifiers_more : (marked : Bool) {L P : Type 0} (found : List Identifier) → Good L (P × IsIdentifiers found) (written_identifiers marked) IsIdentifiers (written_identifiers marked found) Any (more_identifiers marked found) (more_identifiers marked found)
+unfolding more_identifiers
+identifiers_more marked {L} {P} = good_more L P (next (written_identifier marked) Always marked k.Comma) Always (written_identifiers marked) IsIdentifiers (separated_adds (written_identifier marked) Always marked k.Comma) (sees marked k.Comma) (λ t xs ys. refl) refl (next_identifier_starts marked)
+
+pub identifiers_shrinks : (marked : Bool) → Shrinks (sees marked k.Comma) (item_step (expect marked k.Comma >> identifier marked))
+identifiers_shrinks marked = separated_shrinks (written_identifier marked) Always marked k.Comma (sees marked k.Comma) (λ t xs ys. refl) refl (sees_kind marked k.Comma) refl {L = ⊤} (good_identifier marked) tt
+
+identifiers_starts : {L P : Type 0} {on : List Form → Type 0} (marked : Bool) → ((fs : List Form) → on fs → peek marked fs ≡ Some k.Identifier) → Starts L P (written_identifiers marked) IsIdentifiers [] on (identifiers marked) (identifiers marked)
+unfolding identifiers
+identifiers_starts marked here = starts_bind (starts_identifier marked here) (λ x. good_given (λ l. l) (λ l w. (tt, (tt, tt))) (identifiers_more marked {P = ⊤} (x ∷ [])))
+
+identifiers_good : {L P : Type 0} (marked : Bool) → Good L P (written_identifiers marked) IsIdentifiers [] Any (identifiers marked) (identifiers marked)
+unfolding identifiers more_identifiers
+identifiers_good marked = good_separated (written_identifier marked) Always marked k.Comma (sees marked k.Comma) (λ t xs ys. refl) refl (sees_kind marked k.Comma) refl (good_identifier marked)
 
 -- ---- names
 
-comma_starts : (marked : Bool) {L P : Type 0} → Starts L P (next (written_name marked) Always marked k.Comma) Always [] (Sees (sees marked k.Comma) true) (expect marked k.Comma >> identifier marked) (expect marked k.Comma >> identifier marked)
-comma_starts marked = next_starts (written_name marked) Always marked k.Comma (sees marked k.Comma) (λ t xs ys. refl) refl (sees_kind marked k.Comma) refl (good_identifier marked)
+next_name_starts : (marked : Bool) {L P : Type 0} → Starts L P (next (written_name marked) Always marked k.Comma) Always [] (Sees (sees marked k.Comma) true) (expect marked k.Comma >> name marked) (expect marked k.Comma >> name marked)
+next_name_starts marked = next_starts (written_name marked) Always marked k.Comma (sees marked k.Comma) (λ t xs ys. refl) refl (sees_kind marked k.Comma) refl (name_good marked)
 
 -- names behind others
-names_more : (marked : Bool) {L P : Type 0} (found : List Identifier) → Good L (P × IsNames found) (written_names marked) IsNames (written_names marked found) Any (more_names marked found) (more_names marked found)
+names_more : (marked : Bool) {L P : Type 0} (found : List Name) → Good L (P × IsNames found) (written_names marked) IsNames (written_names marked found) Any (more_names marked found) (more_names marked found)
 unfolding more_names
-names_more marked {L} {P} = good_more L P (next (written_name marked) Always marked k.Comma) Always (written_names marked) IsNames (separated_adds (written_name marked) Always marked k.Comma) (sees marked k.Comma) (λ t xs ys. refl) refl (comma_starts marked)
+names_more marked {L} {P} = good_more L P (next (written_name marked) Always marked k.Comma) Always (written_names marked) IsNames (separated_adds (written_name marked) Always marked k.Comma) (sees marked k.Comma) (λ t xs ys. refl) refl (next_name_starts marked)
 
 -- names that stand behind a star
-star_more : {L P : Type 0} (found : List Identifier) → Good L (P × ⊤) (behind (bare annotation k.Comma) (written_name annotation)) (λ xs. ⊤) (behind (bare annotation k.Comma) (written_name annotation) found) Any (more_names annotation found) (more_names annotation found)
+star_more : {L P : Type 0} (found : List Name) → Good L (P × ⊤) (behind (bare annotation k.Comma) (written_name annotation)) (λ xs. ⊤) (behind (bare annotation k.Comma) (written_name annotation) found) Any (more_names annotation found) (more_names annotation found)
 unfolding more_names
-star_more {L} {P} = good_more L P (next (written_name annotation) Always annotation k.Comma) Always (behind (bare annotation k.Comma) (written_name annotation)) (λ xs. ⊤) (λ found x f g. (behind_added (written_name annotation) Always annotation k.Comma found x, tt)) (sees annotation k.Comma) (λ t xs ys. refl) refl (comma_starts annotation)
+star_more {L} {P} = good_more L P (next (written_name annotation) Always annotation k.Comma) Always (behind (bare annotation k.Comma) (written_name annotation)) (λ xs. ⊤) (λ found x f g. (behind_added (written_name annotation) Always annotation k.Comma found x, tt)) (sees annotation k.Comma) (λ t xs ys. refl) refl (next_name_starts annotation)
 
-pub names_shrinks : (marked : Bool) → Shrinks (sees marked k.Comma) (item_step (expect marked k.Comma >> identifier marked))
-names_shrinks marked = separated_shrinks (written_name marked) Always marked k.Comma (sees marked k.Comma) (λ t xs ys. refl) refl (sees_kind marked k.Comma) refl {L = ⊤} (good_identifier marked) tt
+pub names_shrinks : (marked : Bool) → Shrinks (sees marked k.Comma) (item_step (expect marked k.Comma >> name marked))
+names_shrinks marked = separated_shrinks (written_name marked) Always marked k.Comma (sees marked k.Comma) (λ t xs ys. refl) refl (sees_kind marked k.Comma) refl {L = ⊤} (name_good marked) tt
 
 names_starts : {L P : Type 0} {on : List Form → Type 0} (marked : Bool) → ((fs : List Form) → on fs → peek marked fs ≡ Some k.Identifier) → Starts L P (written_names marked) IsNames [] on (names marked) (names marked)
 unfolding names
-names_starts marked here = starts_bind (starts_identifier marked here) (λ name. good_given (λ l. l) (λ l w. (tt, (tt, tt))) (names_more marked {P = ⊤} (name ∷ [])))
+names_starts marked here = starts_bind (name_starts marked here) (λ x. good_before (append-nil (written_name marked x)) (good_given (λ l. l) (λ l w. (tt, (tt, tt))) (names_more marked {P = ⊤} (x ∷ []))))
 
-pub names_good : {L P : Type 0} (marked : Bool) → Good L P (written_names marked) IsNames [] Any (names marked) (names marked)
-unfolding names
-names_good marked = good_bind (good_identifier marked) (λ name. good_given (λ l. l) (λ l w. (tt, (tt, tt))) (names_more marked {P = ⊤} (name ∷ [])))
+names_good : {L P : Type 0} (marked : Bool) → Good L P (written_names marked) IsNames [] Any (names marked) (names marked)
+unfolding names more_names
+names_good marked = good_separated (written_name marked) Always marked k.Comma (sees marked k.Comma) (λ t xs ys. refl) refl (sees_kind marked k.Comma) refl (name_good marked)
 
 -- ---- annotations
 
@@ -58,7 +82,7 @@ starred_starts here =
     good_bind (good_given (λ l. l) (λ l w. (tt, tt)) (star_more {P = ⊤} [])) (λ names.
     good_pure (record { itself = Some place; names = names }) (λ l w. refl) (λ l w. tt)))
 
-unstarred_text : (names : List Identifier) → IsNames names → written_names annotation names ≡ written_imports None names
+unstarred_text : (names : List Name) → IsNames names → written_names annotation names ≡ written_imports None names
 unstarred_text names f = refl
 
 unstarred_starts : {L P : Type 0} {on : List Form → Type 0} → ((fs : List Form) → on fs → peek annotation fs ≡ Some k.Identifier) → Starts L P written_in Always [] on unstarred unstarred
@@ -90,10 +114,10 @@ items_good : {L P : Type 0} → Good L P (separated (bare annotation k.Ampersand
 unfolding items more_derives
 items_good = good_separated written_item IsItem annotation k.Ampersand (sees annotation k.Ampersand) (λ t xs ys. refl) refl (sees_kind annotation k.Ampersand) refl item_good
 
-derives_good : {L P : Type 0} → Good L P written_derives IsDerives [] Any derives derives
+derives_starts : {L P : Type 0} {on : List Form → Type 0} → ((fs : List Form) → on fs → peek annotation fs ≡ Some k.Derives) → Starts L P written_derives IsDerives [] on derives derives
 unfolding derives
-derives_good =
-    good_bind (good_expect_place annotation k.Derives) (λ place.
+derives_starts here =
+    starts_bind (starts_place annotation k.Derives here refl) (λ place.
     good_bind items_good (λ items.
     good_bind (good_expect annotation k.Semicolon) (λ u.
     good_pure (record { place = place; items = items }) (λ l w. refl) (λ l w. w.0.1))))
@@ -105,14 +129,6 @@ precondition_starts levels here =
     good_bind (expression_good annotation levels) (λ condition.
     good_bind (good_expect annotation k.Semicolon) (λ u.
     good_pure (record { place = place; condition = condition }) (λ l w. refl) (λ l w. w.0.1))))
-
-pre_case : {L P : Type 0} (levels : ℕ) (kind : Option Kind) → Case L P (optional written_pre) (IfThere (IsPrecondition levels)) [] (Sees (peek annotation) kind) None (pre_by levels kind) (pre_by (suc levels) kind)
-pre_case levels (Some k.Pre) = present (starts_bind (precondition_starts levels (λ fs here. here)) (λ p. good_pure (Some p) (λ l w. refl) (λ l w. w.1)))
-pre_case levels _ = absent refl refl (λ l w. refl) (λ l w. tt)
-
-pre_good : {L P : Type 0} (levels : ℕ) → Good L P (optional written_pre) (IfThere (IsPrecondition levels)) [] Any (pre levels) (pre (suc levels))
-unfolding pre
-pre_good levels = good_option (peek annotation) (λ t xs ys. refl) None (pre_by levels) (pre_by (suc levels)) refl refl (pre_case levels)
 
 -- ---- formal parameters
 
@@ -136,81 +152,117 @@ mode_good = good_option (peek program) (λ t xs ys. refl) modes.Unwritten mode_b
 pub param_good : {L P : Type 0} → Good L P written_param IsParam [] Any param param
 unfolding param
 param_good =
-    good_bind (names_good program) (λ names.
+    good_bind (identifiers_good program) (λ names.
     good_bind (good_expect program k.Colon) (λ u.
     good_bind mode_good (λ mode.
-    good_bind (good_identifier program) (λ type_name.
+    good_bind (name_good program) (λ type_name.
     good_pure (record { names = names; mode = mode; type_name = type_name }) (λ l w. simp append_assoc) (λ l w. w.0.0.0.1)))))
 
 pub params_shrinks : Shrinks (sees program k.Semicolon) (item_step (expect program k.Semicolon >> param))
 params_shrinks = separated_shrinks written_param IsParam program k.Semicolon (sees program k.Semicolon) (λ t xs ys. refl) refl (sees_kind program k.Semicolon) refl {L = ⊤} param_good tt
 
-formals_good : {L P : Type 0} → Good L P written_formals (OneOrMore IsParam) [] Any formals formals
-unfolding formals more_params
-formals_good = good_separated written_param IsParam program k.Semicolon (sees program k.Semicolon) (λ t xs ys. refl) refl (sees_kind program k.Semicolon) refl param_good
+params_good : {L P : Type 0} → Good L P written_params (OneOrMore IsParam) [] Any params params
+unfolding params more_params
+params_good = good_separated written_param IsParam program k.Semicolon (sees program k.Semicolon) (λ t xs ys. refl) refl (sees_kind program k.Semicolon) refl param_good
+
+formal_part_starts : {L P : Type 0} {on : List Form → Type 0} → ((fs : List Form) → on fs → peek program fs ≡ Some k.LeftParenthesis) → Starts L P written_formal_part IsFormalPart [] on formal_part formal_part
+unfolding formal_part
+formal_part_starts here =
+    starts_bind (starts_place program k.LeftParenthesis here refl) (λ place.
+    good_bind params_good (λ params.
+    good_bind (good_expect program k.RightParenthesis) (λ u.
+    good_pure (record { place = place; params = params }) (λ l w. refl) (λ l w. w.0.1))))
+
+-- ---- declarations
+
+declaration_starts : {L P : Type 0} {on : List Form → Type 0} → ((fs : List Form) → on fs → peek program fs ≡ Some k.Identifier) → Starts L P written_decl IsDecl [] on declaration declaration
+unfolding declaration
+declaration_starts here =
+    starts_bind (identifiers_starts program here) (λ names.
+    good_bind (good_expect program k.Colon) (λ u.
+    good_bind (name_good program) (λ type_name.
+    good_bind (good_expect program k.Semicolon) (λ v.
+    good_pure (Variables names type_name) (λ l w. simp append_assoc) (λ l w. w.0.0.0.1)))))
+
+pub declarations_shrinks : Shrinks (sees program k.Identifier) (item_step declaration)
+declarations_shrinks = items_shrinks written_decl IsDecl (sees program k.Identifier) (λ t xs ys. refl) refl {L = ⊤} (declaration_starts (sees_kind program k.Identifier)) tt
+
+declarations_good : {L P : Type 0} → Good L P written_decls (Each IsDecl) [] Any declarations declarations
+unfolding declarations more_declarations
+declarations_good = good_items written_decl IsDecl (sees program k.Identifier) (λ t xs ys. refl) refl (declaration_starts (sees_kind program k.Identifier))
 
 -- ---- statements
 
-stmt_starts : {L P : Type 0} {on : List Form → Type 0} (levels : ℕ) → ((fs : List Form) → on fs → peek program fs ≡ Some k.Identifier) → Starts L P written_stmt (IsStmt levels) [] on (stmt levels) (stmt (suc levels))
-unfolding stmt
-stmt_starts levels here =
-    starts_bind (starts_identifier program here) (λ target.
+null_starts : {L P : Type 0} {on : List Form → Type 0} (levels : ℕ) → ((fs : List Form) → on fs → peek program fs ≡ Some k.Null) → Starts L P written_stmt (IsStmt levels) [] on null_statement null_statement
+unfolding null_statement
+null_starts levels here =
+    starts_bind (starts_place program k.Null here refl) (λ place.
+    good_bind (good_expect program k.Semicolon) (λ u.
+    good_pure (Null place) (λ l w. refl) (λ l w. tt)))
+
+assignment_starts : {L P : Type 0} {on : List Form → Type 0} (levels : ℕ) → ((fs : List Form) → on fs → peek program fs ≡ Some k.Identifier) → Starts L P written_stmt (IsStmt levels) [] on (assignment levels) (assignment (suc levels))
+unfolding assignment
+assignment_starts levels here =
+    starts_bind (name_starts program here) (λ target.
     good_bind (good_expect program k.Assignment) (λ u.
-    good_bind (expression_good program levels) (λ expr.
+    good_bind (expression_good program levels) (λ value.
     good_bind (good_expect program k.Semicolon) (λ v.
-    good_pure (Assignment target expr) (λ l w. refl) (λ l w. w.0.1)))))
+    good_pure (Assignment target value) (λ l w. simp append_assoc) (λ l w. w.0.1)))))
 
-pub stmt_good : {L P : Type 0} (levels : ℕ) → Good L P written_stmt (IsStmt levels) [] Any (stmt levels) (stmt (suc levels))
+stmt_ends : (levels : ℕ) → Ends written_stmt (IsStmt levels) []
+stmt_ends levels = ((null_starts {L = ⊤} {P = ⊤} {on = λ fs. peek program fs ≡ Some k.Null} levels (λ fs here. here)).good.law tt tt).ends
+
+stmt_case : {L P : Type 0} (levels : ℕ) (kind : Option Kind) → Good L P written_stmt (IsStmt levels) [] (Sees (peek program) kind) (stmt_by levels kind) (stmt_by (suc levels) kind)
+stmt_case levels (Some k.Null) = (null_starts levels (λ fs here. here)).good
+stmt_case levels (Some k.Identifier) = (assignment_starts levels (λ fs here. here)).good
+stmt_case levels _ = good_refuse (λ l w. stmt_ends levels)
+
+stmt_good : {L P : Type 0} (levels : ℕ) → Good L P written_stmt (IsStmt levels) [] Any (stmt levels) (stmt (suc levels))
 unfolding stmt
-stmt_good levels =
-    good_bind (good_identifier program) (λ target.
-    good_bind (good_expect program k.Assignment) (λ u.
-    good_bind (expression_good program levels) (λ expr.
-    good_bind (good_expect program k.Semicolon) (λ v.
-    good_pure (Assignment target expr) (λ l w. refl) (λ l w. w.0.1)))))
+stmt_good levels = good_choose (peek program) (λ t xs ys. refl) (stmt_by levels) (stmt_by (suc levels)) refl refl (stmt_case levels)
 
-stmt_begins : {L P : Type 0} (levels : ℕ) → Starts L P written_stmt (IsStmt levels) [] (Sees (sees program k.Identifier) true) (stmt levels) (stmt (suc levels))
-stmt_begins levels = stmt_starts levels (sees_kind program k.Identifier)
+begun_case : {L P : Type 0} (levels : ℕ) (kind : Option Kind) → starts_stmt kind ≡ true → Starts L P written_stmt (IsStmt levels) [] (Sees (peek program) kind) (stmt_by levels kind) (stmt_by (suc levels) kind)
+begun_case levels (Some k.Null) e = null_starts levels (λ fs here. here)
+begun_case levels (Some k.Identifier) e = assignment_starts levels (λ fs here. here)
+begun_case levels _ e = absurd cc
 
-pub stmts_shrinks : (levels : ℕ) → Shrinks (sees program k.Identifier) (item_step (stmt levels))
-stmts_shrinks levels = list_shrinks ⊤ ⊤ written_stmt (IsStmt levels) written_stmts (OneOrMore (IsStmt levels)) (joined_adds written_stmt (IsStmt levels)) (sees program k.Identifier) (λ t xs ys. refl) refl (stmt_begins levels) tt
+stmt_begins : {L P : Type 0} (levels : ℕ) → Starts L P written_stmt (IsStmt levels) [] (Sees sees_stmt true) (stmt levels) (stmt (suc levels))
+unfolding stmt
+stmt_begins levels = starts_choose (peek program) (λ t xs ys. refl) (stmt_by levels) (stmt_by (suc levels)) (stmt_good levels) (λ fs here. begun_case levels (peek program fs) here)
+
+pub stmts_shrinks : (levels : ℕ) → Shrinks sees_stmt (item_step (stmt levels))
+stmts_shrinks levels = items_shrinks written_stmt (IsStmt levels) sees_stmt (λ t xs ys. refl) refl {L = ⊤} (stmt_begins levels) tt
 
 stmts_good : {L P : Type 0} (levels : ℕ) → Good L P written_stmts (OneOrMore (IsStmt levels)) [] Any (stmts levels) (stmts (suc levels))
 unfolding stmts more_stmts
-stmts_good {L} {P} levels = good_list L P written_stmt (IsStmt levels) written_stmts (OneOrMore (IsStmt levels)) (joined_adds written_stmt (IsStmt levels)) (sees program k.Identifier) (λ t xs ys. refl) refl (stmt_begins levels) (λ x f. (sym (append-nil (written_stmt x)), (f, tt))) (stmt_good levels)
+stmts_good levels = good_some_items written_stmt (IsStmt levels) sees_stmt (λ t xs ys. refl) refl (stmt_begins levels) (stmt_good levels)
 
 -- ---- subprograms and units
 
-end_name_case : {L P : Type 0} (kind : Option Kind) → Case L P (optional (written_name program)) Always [] (Sees (peek program) kind) None (end_name_by kind) (end_name_by kind)
-end_name_case (Some k.Identifier) = present (starts_bind (starts_identifier program (λ fs here. here)) (λ name. good_pure (Some name) (λ l w. refl) (λ l w. tt)))
-end_name_case _ = absent refl refl (λ l w. refl) (λ l w. tt)
+end_name_starts : {L P : Type 0} {on : List Form → Type 0} → ((fs : List Form) → on fs → peek program fs ≡ Some k.Identifier) → Starts L P (written_identifier program) Always [] on (identifier program) (identifier program)
+end_name_starts here = starts_identifier program here
 
-end_name_good : {L P : Type 0} → Good L P (optional (written_name program)) Always [] Any end_name end_name
-unfolding end_name
-end_name_good = good_option (peek program) (λ t xs ys. refl) None end_name_by end_name_by refl refl end_name_case
-
-flat : (p n l f r d q i b s e m z : List Form) → ((((((((((((p ++ n) ++ l) ++ f) ++ r) ++ d) ++ q) ++ i) ++ b) ++ s) ++ e) ++ m) ++ z) ≡ p ++ (n ++ (l ++ (f ++ (r ++ (d ++ (q ++ (i ++ (b ++ (s ++ (e ++ (m ++ z)))))))))))
-flat p n l f r d q i b s e m z = simp append_assoc
+flat : (p n f d q i c b s e m z : List Form) → (((((((((((p ++ n) ++ f) ++ d) ++ q) ++ i) ++ c) ++ b) ++ s) ++ e) ++ m) ++ z) ≡ p ++ (n ++ (f ++ (d ++ (q ++ (i ++ (c ++ (b ++ (s ++ (e ++ (m ++ z))))))))))
+flat p n f d q i c b s e m z = simp append_assoc
 
 subprogram_starts : {L P : Type 0} {on : List Form → Type 0} (levels : ℕ) → ((fs : List Form) → on fs → peek program fs ≡ Some k.Procedure) → Starts L P written_subprogram (IsSubprogram levels) [] on (subprogram levels) (subprogram (suc levels))
 unfolding subprogram
 subprogram_starts levels here =
     starts_bind (starts_place program k.Procedure here refl) (λ place.
     good_bind (good_identifier program) (λ name.
-    good_bind (good_expect program k.LeftParenthesis) (λ u1.
-    good_bind formals_good (λ formals.
-    good_bind (good_expect program k.RightParenthesis) (λ u2.
-    good_bind derives_good (λ derives.
-    good_bind (pre_good levels) (λ pre.
-    good_bind (good_expect program k.Is) (λ u3.
-    good_bind (good_expect program k.Begin) (λ u4.
+    good_bind (good_if_seen written_formal_part IsFormalPart program k.LeftParenthesis (formal_part_starts (sees_kind program k.LeftParenthesis))) (λ formal_part.
+    good_bind (good_if_seen written_derives IsDerives annotation k.Derives (derives_starts (sees_kind annotation k.Derives))) (λ derives.
+    good_bind (good_if_seen written_pre (IsPrecondition levels) annotation k.Pre (precondition_starts levels (sees_kind annotation k.Pre))) (λ pre.
+    good_bind (good_expect program k.Is) (λ u1.
+    good_bind declarations_good (λ declarations.
+    good_bind (good_expect program k.Begin) (λ u2.
     good_bind (stmts_good levels) (λ statements.
     good_bind (good_expect_place program k.End) (λ end.
-    good_bind end_name_good (λ end_name.
-    good_bind (good_expect program k.Semicolon) (λ u5.
-    good_pure (record { place = place; name = name; formals = formals; derives = derives; pre = pre; statements = statements; end = end; end_name = end_name })
-    (λ l w. flat (placed program k.Procedure place ∷ []) (named program name ∷ []) (bare program k.LeftParenthesis ∷ []) (written_formals formals) (bare program k.RightParenthesis ∷ []) (written_derives derives) (optional written_pre pre) (bare program k.Is ∷ []) (bare program k.Begin ∷ []) (written_stmts statements) (placed program k.End end ∷ []) (optional (written_name program) end_name) (bare program k.Semicolon ∷ []))
-    (λ l w. record { formals = w.0.0.0.0.0.0.0.0.0.1; derives = w.0.0.0.0.0.0.0.1; pre = w.0.0.0.0.0.0.1; statements = w.0.0.0.1 }))))))))))))))
+    good_bind (good_if_seen (written_identifier program) Always program k.Identifier (end_name_starts (sees_kind program k.Identifier))) (λ end_name.
+    good_bind (good_expect program k.Semicolon) (λ u3.
+    good_pure (record { place = place; name = name; formal_part = formal_part; derives = derives; pre = pre; declarations = declarations; statements = statements; end = end; end_name = end_name })
+    (λ l w. flat (placed program k.Procedure place ∷ []) (named program name ∷ []) (optional written_formal_part formal_part) (optional written_derives derives) (optional written_pre pre) (bare program k.Is ∷ []) (written_decls declarations) (bare program k.Begin ∷ []) (written_stmts statements) (placed program k.End end ∷ []) (optional (written_identifier program) end_name) (bare program k.Semicolon ∷ []))
+    (λ l w. record { formal_part = w.0.0.0.0.0.0.0.0.0.1; derives = w.0.0.0.0.0.0.0.0.1; pre = w.0.0.0.0.0.0.0.1; declarations = w.0.0.0.0.0.1; statements = w.0.0.0.1 })))))))))))))
 
 pub unit_starts : {L P : Type 0} (levels : ℕ) → Starts L P written_unit (IsUnit levels) [] (Sees (sees program k.Procedure) true) (unit_at levels) (unit_at (suc levels))
 unfolding unit_at

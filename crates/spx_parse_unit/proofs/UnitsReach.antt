@@ -1,4 +1,4 @@
--- The forms of annotations, subprograms and units are read as those.
+-- The forms of declarations, statements, annotations, subprograms and units are read as those.
 use Rattle.std.specs.Prelude.{⊤}
 use Rattle.std.proofs.Common.{◌≡◌, ℕ, Bool, true, false, List, [], ◌∷◌, ◌++◌, Option, Some, None, refl, ap, ◌∙◌, append_assoc}
 use Rattle.spx_text.specs.declared.place.Place.{Place}
@@ -6,27 +6,33 @@ use Rattle.spx_tree.specs.declared.token.Kind.{Kind}
 use Rattle.spx_tree.specs.declared.token.Kind.TheVariants as k
 use Rattle.spx_tree.specs.declared.expression.Identifier.{Identifier}
 use Rattle.spx_tree.specs.declared.expression.Layer.TheVariants as layer
+use Rattle.spx_tree.specs.declared.expression.Name.{Name}
+use Rattle.spx_tree.specs.declared.expression.Name.TheVariants.{Simple, Attribute}
+use Rattle.spx_tree.specs.declared.expression.Expr.{Expr}
+use Rattle.spx_tree.specs.declared.declaration.Decl.{Decl}
+use Rattle.spx_tree.specs.declared.declaration.Decl.TheVariants.{Variables}
 use Rattle.spx_tree.specs.declared.statement.Stmt.{Stmt}
-use Rattle.spx_tree.specs.declared.statement.Stmt.TheVariants.{Assignment}
+use Rattle.spx_tree.specs.declared.statement.Stmt.TheVariants.{Null, Assignment}
 use Rattle.spx_tree.specs.declared.annotation.DerivesItem.{DerivesItem}
 use Rattle.spx_tree.specs.declared.annotation.Derives.{Derives}
 use Rattle.spx_tree.specs.declared.annotation.Precondition.{Precondition}
 use Rattle.spx_tree.specs.declared.subprogram.WrittenMode.{WrittenMode}
 use Rattle.spx_tree.specs.declared.subprogram.WrittenMode.TheVariants as modes
 use Rattle.spx_tree.specs.declared.subprogram.Param.{Param}
+use Rattle.spx_tree.specs.declared.subprogram.FormalPart.{FormalPart}
 use Rattle.spx_tree.specs.declared.subprogram.Subprogram.{Subprogram}
 use Rattle.spx_tree.specs.declared.subprogram.Unit.{Unit}
 use Rattle.spx_tree.specs.declared.subprogram.Unit.TheVariants as unit
 use Rattle.spx_tree.specs.Form.{Form, bare, placed, named}
-use Rattle.spx_tree.specs.Written.{program, annotation, behind, separated, optional, written_name, written_names, written_expr, written_stmt, written_stmts, written_imports, written_item, written_derives, written_pre, written_mode, written_param, written_formals, written_subprogram, written_unit, written}
-use Rattle.spx_tree.specs.Grammar.{Each, OneOrMore, IfThere, IsNames, IsStmt, IsItem, IsDerives, IsPrecondition, IsParam, IsSubprogram, IsUnit, IsFile}
-use Rattle.spx_parse_unit.specs.Reading.{peek, sees}
-use Rattle.spx_parse_unit.specs.Units.{more_names, names, starred, unstarred, imports_by, imports, item, more_derives, items, derives, precondition, pre_by, pre, in_by, behind_in, mode_by, mode, param, more_params, formals, stmt, more_stmts, stmts, end_name_by, end_name, subprogram, unit_at, more_units, file}
+use Rattle.spx_tree.specs.Written.{program, annotation, behind, separated, optional, written_identifier, written_identifiers, written_name, written_names, written_expr, written_decl, written_decls, written_stmt, written_stmts, written_imports, written_item, written_derives, written_pre, written_mode, written_param, written_params, written_formal_part, written_subprogram, written_unit, written}
+use Rattle.spx_tree.specs.Grammar.{Each, OneOrMore, IfThere, IsExpr, IsIdentifiers, IsNames, IsDecl, IsStmt, IsItem, IsDerives, IsPrecondition, IsParam, IsFormalPart, IsSubprogram, IsUnit, IsFile}
+use Rattle.spx_parse_unit.specs.Reading.{peek, sees, identifier, if_seen}
+use Rattle.spx_parse_unit.specs.Units.{more_identifiers, identifiers, more_names, names, starred, unstarred, imports_by, imports, item, more_derives, items, derives, precondition, in_by, behind_in, mode_by, mode, param, more_params, params, formal_part, declaration, more_declarations, declarations, null_statement, assignment, stmt_by, stmt, starts_stmt, sees_stmt, more_stmts, stmts, subprogram, unit_at, more_units, file}
 use Rattle.spx_parse_unit.proofs.Shaped.{kind_self}
-use Rattle.spx_parse_unit.proofs.Separated.{sees_kind, sees_front, reaches_behind, reaches_separated, reaches_some_items}
+use Rattle.spx_parse_unit.proofs.Separated.{sees_kind, sees_front, reaches_behind, reaches_separated, reaches_some_items, reaches_if_seen}
 use Rattle.spx_parse_unit.proofs.Reaches.{Reaches, reaches_bind, reaches_pure, reaches_choose, reaches_expect, reaches_expect_place, reaches_identifier, reaches_items, peek_front}
-use Rattle.spx_parse_unit.proofs.ExpressionsReach.{Free, expression_again}
-use Rattle.spx_parse_unit.proofs.UnitsGood.{names_shrinks, derives_shrinks, params_shrinks, stmts_shrinks, units_shrinks}
+use Rattle.spx_parse_unit.proofs.ExpressionsReach.{Free, name_again, name_front, expression_again}
+use Rattle.spx_parse_unit.proofs.UnitsGood.{identifiers_shrinks, names_shrinks, derives_shrinks, params_shrinks, declarations_shrinks, stmts_shrinks, units_shrinks}
 
 -- the next form has not this mark and kind
 abbrev Lacks : Bool → Kind → List Form → Type 0
@@ -39,21 +45,37 @@ not_seen marked kind zs h = by_value (sees marked kind zs) refl
     by_value false e = refl
     by_value true e = absurd (h (sees_kind marked kind zs e))
 
--- ---- names
+-- ---- identifiers and names
 
-names_again : (marked : Bool) (xs : List Identifier) (fs zs : List Form) → IsNames xs → Lacks marked k.Comma zs → fs ≡ written_names marked xs ++ zs → Reaches (names marked) fs xs zs
+identifiers_again : (marked : Bool) (xs : List Identifier) (fs zs : List Form) → IsIdentifiers xs → Lacks marked k.Comma zs → fs ≡ written_identifiers marked xs ++ zs → Reaches (identifiers marked) fs xs zs
+unfolding identifiers more_identifiers
+identifiers_again marked xs fs zs f over h =
+    reaches_separated (written_identifier marked) (λ x. ⊤) marked k.Comma (λ ws. ⊤) (sees marked k.Comma) (identifiers_shrinks marked) (λ ws. (sees_front marked (bare marked k.Comma) ws refl, tt)) (λ x gs ws g u e. reaches_identifier marked e) xs fs zs f (not_seen marked k.Comma zs over) tt h
+
+-- what does not go on with a name
+abbrev Apart : Bool → List Form → Type 0
+Apart marked zs = Lacks marked k.Apostrophe zs
+
+apart_kind : (marked : Bool) (kind : Kind) (ws : List Form) → (kind ≡ k.Apostrophe → ⊥) → Apart marked (bare marked kind ∷ ws)
+apart_kind true kind ws differs e = differs cc
+apart_kind false kind ws differs e = differs cc
+
+comma_next : (marked : Bool) (ws : List Form) → (sees marked k.Comma (bare marked k.Comma ∷ ws) ≡ true) × Apart marked (bare marked k.Comma ∷ ws)
+comma_next marked ws = (sees_front marked (bare marked k.Comma) ws refl, apart_kind marked k.Comma ws (λ e. cc))
+
+names_again : (marked : Bool) (xs : List Name) (fs zs : List Form) → IsNames xs → Lacks marked k.Comma zs → Apart marked zs → fs ≡ written_names marked xs ++ zs → Reaches (names marked) fs xs zs
 unfolding names more_names
-names_again marked xs fs zs f over h =
-    reaches_separated (written_name marked) (λ name. ⊤) marked k.Comma (λ ws. ⊤) (sees marked k.Comma) (names_shrinks marked) (λ ws. (sees_front marked (bare marked k.Comma) ws refl, tt)) (λ x gs ws g u e. reaches_identifier marked e) xs fs zs f (not_seen marked k.Comma zs over) tt h
+names_again marked xs fs zs f over apart h =
+    reaches_separated (written_name marked) (λ x. ⊤) marked k.Comma (Apart marked) (sees marked k.Comma) (names_shrinks marked) (comma_next marked) (λ x gs ws g a e. name_again marked x gs ws a e) xs fs zs f (not_seen marked k.Comma zs over) apart h
 
-each_name : (xs : List Identifier) → Each (λ name. ⊤) xs
+each_name : (xs : List Name) → Each (λ x. ⊤) xs
 each_name [] = tt
 each_name (x ∷ xs) = (tt, each_name xs)
 
-star_again : (xs : List Identifier) (fs zs : List Form) → Lacks annotation k.Comma zs → fs ≡ behind (bare annotation k.Comma) (written_name annotation) xs ++ zs → Reaches (more_names annotation []) fs xs zs
+star_again : (xs : List Name) (fs zs : List Form) → Lacks annotation k.Comma zs → Apart annotation zs → fs ≡ behind (bare annotation k.Comma) (written_name annotation) xs ++ zs → Reaches (more_names annotation []) fs xs zs
 unfolding more_names
-star_again xs fs zs over h =
-    reaches_behind (written_name annotation) (λ name. ⊤) annotation k.Comma (λ ws. ⊤) (sees annotation k.Comma) (names_shrinks annotation) (λ ws. (sees_front annotation (bare annotation k.Comma) ws refl, tt)) (λ x gs ws g u e. reaches_identifier annotation e) [] xs fs zs (each_name xs) (not_seen annotation k.Comma zs over) tt h
+star_again xs fs zs over apart h =
+    reaches_behind (written_name annotation) (λ x. ⊤) annotation k.Comma (Apart annotation) (sees annotation k.Comma) (names_shrinks annotation) (comma_next annotation) (λ x gs ws g a e. name_again annotation x gs ws a e) [] xs fs zs (each_name xs) (not_seen annotation k.Comma zs over) apart h
 
 -- ---- annotations
 
@@ -62,35 +84,36 @@ record Closes (zs : List Form) : Type 0 where
   no_comma : Lacks annotation k.Comma zs
   no_star : Lacks annotation k.Asterisk zs
   no_name : Lacks annotation k.Identifier zs
+  apart : Apart annotation zs
 
 imports_plain : (kind : Option Kind) (us zs : List Form) → (kind ≡ Some k.Asterisk → ⊥) → (kind ≡ Some k.Identifier → ⊥) → us ≡ zs → Reaches (imports_by kind) us (record { itself = None; names = [] }) zs
 imports_plain (Some k.Asterisk) us zs a b e = absurd (a refl)
 imports_plain (Some k.Identifier) us zs a b e = absurd (b refl)
 imports_plain _ us zs a b e = reaches_pure e
 
-imports_again : (itself : Option Place) (xs : List Identifier) (fs zs : List Form) → Closes zs → fs ≡ written_imports itself xs ++ zs → Reaches imports fs (record { itself = itself; names = xs }) zs
+imports_again : (itself : Option Place) (xs : List Name) (fs zs : List Form) → Closes zs → fs ≡ written_imports itself xs ++ zs → Reaches imports fs (record { itself = itself; names = xs }) zs
 unfolding imports starred unstarred
 imports_again None [] fs zs over h = reaches_choose (peek annotation) imports_by (peek annotation zs) (peek_front annotation fs h) (imports_plain (peek annotation zs) fs zs over.no_star over.no_name h)
 imports_again None (x ∷ xs) fs zs over h =
-    reaches_choose (peek annotation) imports_by (Some k.Identifier) (peek_front annotation fs h)
-    (reaches_bind _ (names_again annotation (x ∷ xs) fs zs (tt, each_name xs) over.no_comma h) (λ us a. reaches_pure a))
+    reaches_choose (peek annotation) imports_by (Some k.Identifier) (peek_front annotation fs (h ∙ append_assoc (written_name annotation x) (behind (bare annotation k.Comma) (written_name annotation) xs) zs) ∙ name_front annotation x _)
+    (reaches_bind _ (names_again annotation (x ∷ xs) fs zs (tt, each_name xs) over.no_comma over.apart h) (λ us a. reaches_pure a))
 imports_again (Some place) xs fs zs over h =
     reaches_choose (peek annotation) imports_by (Some k.Asterisk) (peek_front annotation fs h)
     (reaches_bind _ (reaches_expect_place annotation k.Asterisk h) (λ us a.
-    reaches_bind _ (star_again xs us zs over.no_comma a) (λ vs b. reaches_pure b)))
+    reaches_bind _ (star_again xs us zs over.no_comma over.apart a) (λ vs b. reaches_pure b)))
 
 item_again : (x : DerivesItem) (fs zs : List Form) → IsItem x → Closes zs → fs ≡ written_item x ++ zs → Reaches item fs x zs
 unfolding item
 item_again x fs zs f over h =
-    reaches_bind _ (names_again annotation x.exports fs (bare annotation k.From ∷ (written_imports x.imports.itself x.imports.names ++ zs)) f (λ e. cc) (h ∙ append_assoc (written_names annotation x.exports) _ zs)) (λ us a.
+    reaches_bind _ (names_again annotation x.exports fs (bare annotation k.From ∷ (written_imports x.imports.itself x.imports.names ++ zs)) f (λ e. cc) (λ e. cc) (h ∙ append_assoc (written_names annotation x.exports) _ zs)) (λ us a.
     reaches_bind _ (reaches_expect annotation k.From a) (λ vs b.
     reaches_bind _ (imports_again x.imports.itself x.imports.names vs zs over b) (λ ws d. reaches_pure d)))
 
 amper_closes : (ws : List Form) → Closes (bare annotation k.Ampersand ∷ ws)
-amper_closes ws = record { no_comma = λ e. cc; no_star = λ e. cc; no_name = λ e. cc }
+amper_closes ws = record { no_comma = λ e. cc; no_star = λ e. cc; no_name = λ e. cc; apart = λ e. cc }
 
 semicolon_closes : (ws : List Form) → Closes (bare annotation k.Semicolon ∷ ws)
-semicolon_closes ws = record { no_comma = λ e. cc; no_star = λ e. cc; no_name = λ e. cc }
+semicolon_closes ws = record { no_comma = λ e. cc; no_star = λ e. cc; no_name = λ e. cc; apart = λ e. cc }
 
 items_again : (xs : List DerivesItem) (fs zs : List Form) → OneOrMore IsItem xs → Lacks annotation k.Ampersand zs → Closes zs → fs ≡ separated (bare annotation k.Ampersand) written_item xs ++ zs → Reaches items fs xs zs
 unfolding items more_derives
@@ -117,99 +140,179 @@ precondition_again levels x fs zs f h =
     reaches_bind _ (expression_again annotation levels x.condition us (bare annotation k.Semicolon ∷ zs) f (semicolon_free annotation zs) a) (λ vs b.
     reaches_bind _ (reaches_expect annotation k.Semicolon b) (λ ws d. reaches_pure d)))
 
-no_pre : (levels : ℕ) (kind : Option Kind) (us zs : List Form) → (kind ≡ Some k.Pre → ⊥) → us ≡ zs → Reaches (pre_by levels kind) us None zs
-no_pre levels (Some k.Pre) us zs free e = absurd (free refl)
-no_pre levels _ us zs free e = reaches_pure e
-
-pre_again : (levels : ℕ) (x : Option Precondition) (fs zs : List Form) → IfThere (IsPrecondition levels) x → Lacks annotation k.Pre zs → fs ≡ optional written_pre x ++ zs → Reaches (pre levels) fs x zs
-unfolding pre
-pre_again levels None fs zs f free h = reaches_choose (peek annotation) (pre_by levels) (peek annotation zs) (peek_front annotation fs h) (no_pre levels (peek annotation zs) fs zs free h)
-pre_again levels (Some x) fs zs f free h =
-    reaches_choose (peek annotation) (pre_by levels) (Some k.Pre) (peek_front annotation fs h)
-    (reaches_bind _ (precondition_again levels x fs zs f h) (λ us a. reaches_pure a))
-
 -- ---- formal parameters
 
-mode_again : (x : WrittenMode) (name : Identifier) (fs zs : List Form) → fs ≡ written_mode x ++ named program name ∷ zs → Reaches mode fs x (named program name ∷ zs)
+mode_again : (x : WrittenMode) (fs zs : List Form) → peek program zs ≡ Some k.Identifier → fs ≡ written_mode x ++ zs → Reaches mode fs x zs
 unfolding mode behind_in
-mode_again modes.Unwritten name fs zs h = reaches_choose (peek program) mode_by (Some k.Identifier) (peek_front program fs h) (reaches_pure h)
-mode_again modes.In name fs zs h =
+mode_again modes.Unwritten fs zs next h = reaches_choose (peek program) mode_by (Some k.Identifier) (peek_front program fs h ∙ next) (reaches_pure h)
+mode_again modes.In fs zs next h =
     reaches_choose (peek program) mode_by (Some k.In) (peek_front program fs h)
-    (reaches_bind _ (reaches_expect program k.In h) (λ us a. reaches_choose (peek program) in_by (Some k.Identifier) (peek_front program us a) (reaches_pure a)))
-mode_again modes.Out name fs zs h =
+    (reaches_bind _ (reaches_expect program k.In h) (λ us a. reaches_choose (peek program) in_by (Some k.Identifier) (peek_front program us a ∙ next) (reaches_pure a)))
+mode_again modes.Out fs zs next h =
     reaches_choose (peek program) mode_by (Some k.Out) (peek_front program fs h)
     (reaches_bind _ (reaches_expect program k.Out h) (λ us a. reaches_pure a))
-mode_again modes.InOut name fs zs h =
+mode_again modes.InOut fs zs next h =
     reaches_choose (peek program) mode_by (Some k.In) (peek_front program fs h)
     (reaches_bind _ (reaches_expect program k.In h) (λ us a. reaches_choose (peek program) in_by (Some k.Out) (peek_front program us a)
     (reaches_bind _ (reaches_expect program k.Out a) (λ vs b. reaches_pure b))))
 
-param_again : (x : Param) (fs zs : List Form) → IsParam x → ⊤ → fs ≡ written_param x ++ zs → Reaches param fs x zs
+param_again : (x : Param) (fs zs : List Form) → IsParam x → Apart program zs → fs ≡ written_param x ++ zs → Reaches param fs x zs
 unfolding param
-param_again x fs zs f u h =
-    reaches_bind _ (names_again program x.names fs (bare program k.Colon ∷ ((written_mode x.mode ++ written_name program x.type_name) ++ zs)) f (λ e. cc) (h ∙ append_assoc (written_names program x.names) _ zs)) (λ us a.
+param_again x fs zs f apart h =
+    reaches_bind _ (identifiers_again program x.names fs (bare program k.Colon ∷ ((written_mode x.mode ++ written_name program x.type_name) ++ zs)) f (λ e. cc) (h ∙ append_assoc (written_identifiers program x.names) _ zs)) (λ us a.
     reaches_bind _ (reaches_expect program k.Colon a) (λ vs b.
-    reaches_bind _ (mode_again x.mode x.type_name vs zs (b ∙ append_assoc (written_mode x.mode) (written_name program x.type_name) zs)) (λ ws d.
-    reaches_bind _ (reaches_identifier program d) (λ xs e. reaches_pure e))))
+    reaches_bind _ (mode_again x.mode vs (written_name program x.type_name ++ zs) (name_front program x.type_name zs) (b ∙ append_assoc (written_mode x.mode) (written_name program x.type_name) zs)) (λ ws d.
+    reaches_bind _ (name_again program x.type_name ws zs apart d) (λ xs e. reaches_pure e))))
 
-formals_again : (xs : List Param) (fs zs : List Form) → OneOrMore IsParam xs → Lacks program k.Semicolon zs → fs ≡ written_formals xs ++ zs → Reaches formals fs xs zs
-unfolding formals more_params
-formals_again xs fs zs f over h =
-    reaches_separated written_param IsParam program k.Semicolon (λ ws. ⊤) (sees program k.Semicolon) params_shrinks (λ ws. (sees_front program (bare program k.Semicolon) ws refl, tt)) param_again xs fs zs f (not_seen program k.Semicolon zs over) tt h
+params_again : (xs : List Param) (fs zs : List Form) → OneOrMore IsParam xs → Lacks program k.Semicolon zs → Apart program zs → fs ≡ written_params xs ++ zs → Reaches params fs xs zs
+unfolding params more_params
+params_again xs fs zs f over apart h =
+    reaches_separated written_param IsParam program k.Semicolon (Apart program) (sees program k.Semicolon) params_shrinks (λ ws. (sees_front program (bare program k.Semicolon) ws refl, apart_kind program k.Semicolon ws (λ e. cc))) param_again xs fs zs f (not_seen program k.Semicolon zs over) apart h
+
+formal_part_again : (x : FormalPart) (fs zs : List Form) → IsFormalPart x → fs ≡ written_formal_part x ++ zs → Reaches formal_part fs x zs
+unfolding formal_part
+formal_part_again x fs zs f h =
+    let flat = h ∙ ap (λ (us : List Form). placed program k.LeftParenthesis x.place ∷ us) (append_assoc (written_params x.params) (bare program k.RightParenthesis ∷ []) zs) in
+    reaches_bind _ (reaches_expect_place program k.LeftParenthesis flat) (λ us a.
+    reaches_bind _ (params_again x.params us (bare program k.RightParenthesis ∷ zs) f (λ e. cc) (λ e. cc) a) (λ vs b.
+    reaches_bind _ (reaches_expect program k.RightParenthesis b) (λ ws d. reaches_pure d)))
+
+-- ---- declarations
+
+declaration_again : (x : Decl) (fs zs : List Form) → IsDecl x → fs ≡ written_decl x ++ zs → Reaches declaration fs x zs
+unfolding declaration
+declaration_again (Variables names type_name) fs zs f h =
+    let flat : (written_identifiers program names ++ bare program k.Colon ∷ (written_name program type_name ++ bare program k.Semicolon ∷ [])) ++ zs ≡ written_identifiers program names ++ bare program k.Colon ∷ (written_name program type_name ++ bare program k.Semicolon ∷ zs) = simp append_assoc in
+    reaches_bind _ (identifiers_again program names fs (bare program k.Colon ∷ (written_name program type_name ++ bare program k.Semicolon ∷ zs)) f (λ e. cc) (h ∙ flat)) (λ us a.
+    reaches_bind _ (reaches_expect program k.Colon a) (λ vs b.
+    reaches_bind _ (name_again program type_name vs (bare program k.Semicolon ∷ zs) (λ e. cc) b) (λ ws d.
+    reaches_bind _ (reaches_expect program k.Semicolon d) (λ xs e. reaches_pure e))))
+
+declaration_seen : (x : Decl) (ws : List Form) → IsDecl x → sees program k.Identifier (written_decl x ++ ws) ≡ true
+declaration_seen (Variables [] type_name) ws f = absurd f
+declaration_seen (Variables (name ∷ names) type_name) ws f = kind_self k.Identifier
+
+declarations_again : (xs : List Decl) (fs zs : List Form) → Each IsDecl xs → Lacks program k.Identifier zs → fs ≡ written_decls xs ++ zs → Reaches declarations fs xs zs
+unfolding declarations more_declarations
+declarations_again xs fs zs f over h =
+    reaches_items written_decl IsDecl (sees program k.Identifier) declaration declarations_shrinks declaration_seen declaration_again [] xs fs zs f (not_seen program k.Identifier zs over) h
 
 -- ---- statements
 
-stmt_again : (levels : ℕ) (x : Stmt) (fs zs : List Form) → IsStmt levels x → fs ≡ written_stmt x ++ zs → Reaches (stmt levels) fs x zs
-unfolding stmt
-stmt_again levels (Assignment target expr) fs zs f h =
-    let flat = h ∙ ap (λ (us : List Form). named program target ∷ bare program k.Assignment ∷ us) (append_assoc (written_expr program expr) (bare program k.Semicolon ∷ []) zs) in
-    reaches_bind _ (reaches_identifier program flat) (λ us a.
+assignment_again : (levels : ℕ) (target : Name) (value : Expr) (fs zs : List Form) → IsExpr levels value → fs ≡ written_stmt (Assignment target value) ++ zs → Reaches (assignment levels) fs (Assignment target value) zs
+unfolding assignment
+assignment_again levels target value fs zs f h =
+    let flat : written_stmt (Assignment target value) ++ zs ≡ written_name program target ++ bare program k.Assignment ∷ (written_expr program value ++ bare program k.Semicolon ∷ zs) = simp append_assoc in
+    reaches_bind _ (name_again program target fs (bare program k.Assignment ∷ (written_expr program value ++ bare program k.Semicolon ∷ zs)) (λ e. cc) (h ∙ flat)) (λ us a.
     reaches_bind _ (reaches_expect program k.Assignment a) (λ vs b.
-    reaches_bind _ (expression_again program levels expr vs (bare program k.Semicolon ∷ zs) f (semicolon_free program zs) b) (λ ws d.
+    reaches_bind _ (expression_again program levels value vs (bare program k.Semicolon ∷ zs) f (semicolon_free program zs) b) (λ ws d.
     reaches_bind _ (reaches_expect program k.Semicolon d) (λ xs e. reaches_pure e))))
 
-stmt_seen : (levels : ℕ) (x : Stmt) (ws : List Form) → IsStmt levels x → sees program k.Identifier (written_stmt x ++ ws) ≡ true
-stmt_seen levels (Assignment target expr) ws f = kind_self k.Identifier
+target_first : (target : Name) (value : Expr) (ws : List Form) → peek program (written_stmt (Assignment target value) ++ ws) ≡ Some k.Identifier
+target_first (Simple prefix) value ws = refl
+target_first (Attribute prefix designator) value ws = refl
 
-stmts_again : (levels : ℕ) (xs : List Stmt) (fs zs : List Form) → OneOrMore (IsStmt levels) xs → Lacks program k.Identifier zs → fs ≡ written_stmts xs ++ zs → Reaches (stmts levels) fs xs zs
+stmt_again : (levels : ℕ) (x : Stmt) (fs zs : List Form) → IsStmt levels x → fs ≡ written_stmt x ++ zs → Reaches (stmt levels) fs x zs
+unfolding stmt null_statement
+stmt_again levels (Null place) fs zs f h =
+    reaches_choose (peek program) (stmt_by levels) (Some k.Null) (peek_front program fs h)
+    (reaches_bind _ (reaches_expect_place program k.Null h) (λ us a.
+    reaches_bind _ (reaches_expect program k.Semicolon a) (λ vs b. reaches_pure b)))
+stmt_again levels (Assignment target value) fs zs f h =
+    reaches_choose (peek program) (stmt_by levels) (Some k.Identifier) (peek_front program fs h ∙ target_first target value zs) (assignment_again levels target value fs zs f h)
+
+stmt_seen : (levels : ℕ) (x : Stmt) (ws : List Form) → IsStmt levels x → sees_stmt (written_stmt x ++ ws) ≡ true
+stmt_seen levels (Null place) ws f = refl
+stmt_seen levels (Assignment target value) ws f = ap starts_stmt (target_first target value ws)
+
+-- no statement comes next
+record NoStmt (zs : List Form) : Type 0 where
+  no_null : Lacks program k.Null zs
+  no_name : Lacks program k.Identifier zs
+
+not_begun : (kind : Option Kind) → (kind ≡ Some k.Null → ⊥) → (kind ≡ Some k.Identifier → ⊥) → starts_stmt kind ≡ false
+not_begun (Some k.Null) a b = absurd (a refl)
+not_begun (Some k.Identifier) a b = absurd (b refl)
+not_begun _ a b = refl
+
+stmts_again : (levels : ℕ) (xs : List Stmt) (fs zs : List Form) → OneOrMore (IsStmt levels) xs → NoStmt zs → fs ≡ written_stmts xs ++ zs → Reaches (stmts levels) fs xs zs
 unfolding stmts more_stmts
 stmts_again levels xs fs zs f over h =
-    reaches_some_items written_stmt (IsStmt levels) (sees program k.Identifier) (stmts_shrinks levels) (stmt_seen levels) (stmt_again levels) xs fs zs f (not_seen program k.Identifier zs over) h
+    reaches_some_items written_stmt (IsStmt levels) sees_stmt (stmts_shrinks levels) (stmt_seen levels) (stmt_again levels) xs fs zs f (not_begun (peek program zs) over.no_null over.no_name) h
 
 -- ---- subprograms and units
 
-end_name_again : (x : Option Identifier) (fs zs : List Form) → fs ≡ optional (written_name program) x ++ bare program k.Semicolon ∷ zs → Reaches end_name fs x (bare program k.Semicolon ∷ zs)
-unfolding end_name
-end_name_again None fs zs h = reaches_choose (peek program) end_name_by (Some k.Semicolon) (peek_front program fs h) (reaches_pure h)
-end_name_again (Some name) fs zs h =
-    reaches_choose (peek program) end_name_by (Some k.Identifier) (peek_front program fs h)
-    (reaches_bind _ (reaches_identifier program h) (λ us a. reaches_pure a))
+-- what may be left out: it comes next, or what stands behind it does
 
-flat : (f r d q i s e m z zs : List Form) → (f ++ (r ++ (d ++ (q ++ (i ++ (s ++ (e ++ (m ++ z)))))))) ++ zs ≡ f ++ (r ++ (d ++ (q ++ (i ++ (s ++ (e ++ (m ++ (z ++ zs))))))))
-flat f r d q i s e m z zs = simp append_assoc
+formal_part_option : (x : Option FormalPart) (fs zs : List Form) → IfThere IsFormalPart x → Lacks program k.LeftParenthesis zs → fs ≡ optional written_formal_part x ++ zs → Reaches (if_seen program k.LeftParenthesis formal_part) fs x zs
+formal_part_option x fs zs f over h = reaches_if_seen written_formal_part IsFormalPart program k.LeftParenthesis (λ y ws g. kind_self k.LeftParenthesis) formal_part_again x fs zs f (not_seen program k.LeftParenthesis zs over) h
 
-subprogram_again : (levels : ℕ) (x : Subprogram) (fs zs : List Form) → IsSubprogram levels x → fs ≡ written_subprogram x ++ zs → Reaches (subprogram levels) fs x zs
-unfolding subprogram
-subprogram_again levels x fs zs f h =
-    let whole = h ∙ ap (λ (us : List Form). placed program k.Procedure x.place ∷ named program x.name ∷ bare program k.LeftParenthesis ∷ us)
-    (flat (written_formals x.formals) (bare program k.RightParenthesis ∷ []) (written_derives x.derives) (optional written_pre x.pre) (bare program k.Is ∷ bare program k.Begin ∷ []) (written_stmts x.statements) (placed program k.End x.end ∷ []) (optional (written_name program) x.end_name) (bare program k.Semicolon ∷ []) zs) in
-    reaches_bind _ (reaches_expect_place program k.Procedure whole) (λ t1 a1.
-    reaches_bind _ (reaches_identifier program a1) (λ t2 a2.
-    reaches_bind _ (reaches_expect program k.LeftParenthesis a2) (λ t3 a3.
-    reaches_bind _ (formals_again x.formals t3 _ f.formals (λ e. cc) a3) (λ t4 a4.
-    reaches_bind _ (reaches_expect program k.RightParenthesis a4) (λ t5 a5.
-    reaches_bind _ (derives_again x.derives t5 _ f.derives a5) (λ t6 a6.
-    reaches_bind _ (pre_again levels x.pre t6 _ f.pre (λ e. cc) a6) (λ t7 a7.
-    reaches_bind _ (reaches_expect program k.Is a7) (λ t8 a8.
-    reaches_bind _ (reaches_expect program k.Begin a8) (λ t9 a9.
-    reaches_bind _ (stmts_again levels x.statements t9 _ f.statements (λ e. cc) a9) (λ t10 a10.
-    reaches_bind _ (reaches_expect_place program k.End a10) (λ t11 a11.
-    reaches_bind _ (end_name_again x.end_name t11 zs a11) (λ t12 a12.
-    reaches_bind _ (reaches_expect program k.Semicolon a12) (λ t13 a13. reaches_pure a13)))))))))))))
+derives_option : (x : Option Derives) (fs zs : List Form) → IfThere IsDerives x → Lacks annotation k.Derives zs → fs ≡ optional written_derives x ++ zs → Reaches (if_seen annotation k.Derives derives) fs x zs
+derives_option x fs zs f over h = reaches_if_seen written_derives IsDerives annotation k.Derives (λ y ws g. kind_self k.Derives) derives_again x fs zs f (not_seen annotation k.Derives zs over) h
+
+pre_option : (levels : ℕ) (x : Option Precondition) (fs zs : List Form) → IfThere (IsPrecondition levels) x → Lacks annotation k.Pre zs → fs ≡ optional written_pre x ++ zs → Reaches (if_seen annotation k.Pre (precondition levels)) fs x zs
+pre_option levels x fs zs f over h = reaches_if_seen written_pre (IsPrecondition levels) annotation k.Pre (λ y ws g. kind_self k.Pre) (precondition_again levels) x fs zs f (not_seen annotation k.Pre zs over) h
+
+each_there : (x : Option Identifier) → IfThere (λ name. ⊤) x
+each_there None = tt
+each_there (Some name) = tt
+
+end_name_option : (x : Option Identifier) (fs zs : List Form) → Lacks program k.Identifier zs → fs ≡ optional (written_identifier program) x ++ zs → Reaches (if_seen program k.Identifier (identifier program)) fs x zs
+end_name_option x fs zs over h =
+    reaches_if_seen (written_identifier program) (λ name. ⊤) program k.Identifier (λ y ws g. kind_self k.Identifier) (λ y gs ws g e. reaches_identifier program e) x fs zs (each_there x) (not_seen program k.Identifier zs over) h
+
+flat : (f d q i c b s e m z zs : List Form) → (f ++ (d ++ (q ++ (i ++ (c ++ (b ++ (s ++ (e ++ (m ++ z))))))))) ++ zs ≡ f ++ (d ++ (q ++ (i ++ (c ++ (b ++ (s ++ (e ++ (m ++ (z ++ zs)))))))))
+flat f d q i c b s e m z zs = simp append_assoc
+
+-- What stands behind a part that may be left out is not taken for it.
+module _ (levels : ℕ) (x : Subprogram) (zs : List Form) where
+  from_end : List Form
+  from_end = placed program k.End x.end ∷ (optional (written_identifier program) x.end_name ++ bare program k.Semicolon ∷ zs)
+
+  from_is : List Form
+  from_is = bare program k.Is ∷ (written_decls x.declarations ++ bare program k.Begin ∷ (written_stmts x.statements ++ from_end))
+
+  from_pre : List Form
+  from_pre = optional written_pre x.pre ++ from_is
+
+  from_derives : List Form
+  from_derives = optional written_derives x.derives ++ from_pre
+
+  pre_kind : (p : Option Precondition) (kind : Kind) → (kind ≡ k.Pre → ⊥) → Lacks annotation kind (optional written_pre p ++ from_is)
+  unfolding from_is
+  pre_kind None kind differs e = cc
+  pre_kind (Some p) kind differs e = differs cc
+
+  pre_unmarked : (p : Option Precondition) → Lacks program k.LeftParenthesis (optional written_pre p ++ from_is)
+  unfolding from_is
+  pre_unmarked None e = cc
+  pre_unmarked (Some p) e = cc
+
+  derives_unmarked : (d : Option Derives) (p : Option Precondition) → Lacks program k.LeftParenthesis (optional written_derives d ++ (optional written_pre p ++ from_is))
+  derives_unmarked None p e = pre_unmarked p e
+  derives_unmarked (Some d) p e = cc
+
+  subprogram_again : (fs : List Form) → IsSubprogram levels x → fs ≡ written_subprogram x ++ zs → Reaches (subprogram levels) fs x zs
+  unfolding subprogram from_end from_is from_pre from_derives
+  subprogram_again fs f h =
+      let whole = h ∙ ap (λ (us : List Form). placed program k.Procedure x.place ∷ named program x.name ∷ us)
+      (flat (optional written_formal_part x.formal_part) (optional written_derives x.derives) (optional written_pre x.pre) (bare program k.Is ∷ []) (written_decls x.declarations) (bare program k.Begin ∷ []) (written_stmts x.statements) (placed program k.End x.end ∷ []) (optional (written_identifier program) x.end_name) (bare program k.Semicolon ∷ []) zs) in
+      reaches_bind _ (reaches_expect_place program k.Procedure whole) (λ t1 a1.
+      reaches_bind _ (reaches_identifier program a1) (λ t2 a2.
+      reaches_bind _ (formal_part_option x.formal_part t2 from_derives f.formal_part (derives_unmarked x.derives x.pre) a2) (λ t3 a3.
+      reaches_bind _ (derives_option x.derives t3 from_pre f.derives (pre_kind x.pre k.Derives (λ e. cc)) a3) (λ t4 a4.
+      reaches_bind _ (pre_option levels x.pre t4 from_is f.pre (λ e. cc) a4) (λ t5 a5.
+      reaches_bind _ (reaches_expect program k.Is a5) (λ t6 a6.
+      reaches_bind _ (declarations_again x.declarations t6 _ f.declarations (λ e. cc) a6) (λ t7 a7.
+      reaches_bind _ (reaches_expect program k.Begin a7) (λ t8 a8.
+      reaches_bind _ (stmts_again levels x.statements t8 from_end f.statements (record { no_null = λ e. cc; no_name = λ e. cc }) a8) (λ t9 a9.
+      reaches_bind _ (reaches_expect_place program k.End a9) (λ t10 a10.
+      reaches_bind _ (end_name_option x.end_name t10 _ (λ e. cc) a10) (λ t11 a11.
+      reaches_bind _ (reaches_expect program k.Semicolon a11) (λ t12 a12. reaches_pure a12))))))))))))
 
 unit_again : (levels : ℕ) (x : Unit) (fs zs : List Form) → IsUnit levels x → fs ≡ written_unit x ++ zs → Reaches (unit_at levels) fs x zs
 unfolding unit_at
-unit_again levels (unit.Subprogram x) fs zs f h = reaches_bind _ (subprogram_again levels x fs zs f h) (λ us a. reaches_pure a)
+unit_again levels (unit.Subprogram x) fs zs f h = reaches_bind _ (subprogram_again levels x zs fs f h) (λ us a. reaches_pure a)
 
 unit_seen : (levels : ℕ) (x : Unit) (ws : List Form) → IsUnit levels x → sees program k.Procedure (written_unit x ++ ws) ≡ true
 unit_seen levels (unit.Subprogram x) ws f = kind_self k.Procedure

@@ -97,6 +97,16 @@ identifier marked = taking name_in marked k.Identifier
 abbrev pub number : Bool → Reader (ℤ × Place)
 number marked = taking value_in marked k.Number
 
+-- ---- what may be left out
+
+abbrev pub optional_by : {A : Type 0} → Reader A → Bool → Reader (Option A)
+optional_by p true = p >>= λ x. pure (Some x)
+optional_by p false = pure None
+
+-- what starts with a form of this mark and kind, if one comes next
+unfoldable pub if_seen : {A : Type 0} → Bool → Kind → Reader A → Reader (Option A)
+if_seen marked kind p = λ fs. optional_by p (sees marked kind fs) fs
+
 -- ---- levels
 
 -- what stands one level down, unless no level is left
@@ -128,7 +138,3 @@ item_step item found false = None
 -- items behind others, as long as what is seen of the next form tells of one
 abbrev pub more_items : {A : Type 0} → (List Form → Bool) → Reader A → List A → Reader (List A)
 more_items look item found = loop look (item_step item) found
-
--- items with a form of this mark and kind between each and the next
-abbrev pub separated_items : {A : Type 0} → Bool → Kind → Reader A → Reader (List A)
-separated_items marked separator item = item >>= λ x. more_items (sees marked separator) (expect marked separator >> item) (x ∷ [])

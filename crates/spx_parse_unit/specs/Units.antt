@@ -1,10 +1,13 @@
--- Reading annotations, subprograms and units (Barnes, High Integrity Software; Ada 95 RM 5, 6 and 10.1).
-use Rattle.std.specs.Prelude.{ℕ, Bool, List, [], ◌∷◌, Option, Some, None}
+-- Reading declarations, statements, annotations, subprograms and units (Ada 95 RM 3, 5, 6 and 10.1; Barnes, High Integrity Software).
+use Rattle.std.specs.Prelude.{ℕ, Bool, true, false, List, [], ◌∷◌, Option, Some, None}
 use Rattle.spx_tree.specs.declared.token.Kind.{Kind}
 use Rattle.spx_tree.specs.declared.token.Kind.TheVariants as k
 use Rattle.spx_tree.specs.declared.expression.Identifier.{Identifier}
+use Rattle.spx_tree.specs.declared.expression.Name.{Name}
+use Rattle.spx_tree.specs.declared.declaration.Decl.{Decl}
+use Rattle.spx_tree.specs.declared.declaration.Decl.TheVariants.{Variables}
 use Rattle.spx_tree.specs.declared.statement.Stmt.{Stmt}
-use Rattle.spx_tree.specs.declared.statement.Stmt.TheVariants.{Assignment}
+use Rattle.spx_tree.specs.declared.statement.Stmt.TheVariants.{Null, Assignment}
 use Rattle.spx_tree.specs.declared.annotation.Imports.{Imports}
 use Rattle.spx_tree.specs.declared.annotation.DerivesItem.{DerivesItem}
 use Rattle.spx_tree.specs.declared.annotation.Derives.{Derives}
@@ -12,26 +15,36 @@ use Rattle.spx_tree.specs.declared.annotation.Precondition.{Precondition}
 use Rattle.spx_tree.specs.declared.subprogram.WrittenMode.{WrittenMode}
 use Rattle.spx_tree.specs.declared.subprogram.WrittenMode.TheVariants as modes
 use Rattle.spx_tree.specs.declared.subprogram.Param.{Param}
+use Rattle.spx_tree.specs.declared.subprogram.FormalPart.{FormalPart}
 use Rattle.spx_tree.specs.declared.subprogram.Subprogram.{Subprogram}
 use Rattle.spx_tree.specs.declared.subprogram.Unit.{Unit}
 use Rattle.spx_tree.specs.declared.subprogram.Unit.TheVariants as unit
+use Rattle.spx_tree.specs.Form.{Form}
 use Rattle.spx_tree.specs.Written.{program, annotation}
-use Rattle.spx_parse_unit.specs.Reading.{Reader, ◌>>=◌, ◌>>◌, pure, peek, sees, expect, expect_place, identifier, more_items}
-use Rattle.spx_parse_unit.specs.Expressions.{expression}
+use Rattle.spx_parse_unit.specs.Reading.{Reader, ◌>>=◌, ◌>>◌, pure, refuse, peek, sees, expect, expect_place, identifier, if_seen, more_items}
+use Rattle.spx_parse_unit.specs.Expressions.{name, expression}
 
 -- ---- names
 
 -- {"," identifier}
-unfoldable pub more_names : Bool → List Identifier → Reader (List Identifier)
-more_names marked found = more_items (sees marked k.Comma) (expect marked k.Comma >> identifier marked) found
+unfoldable pub more_identifiers : Bool → List Identifier → Reader (List Identifier)
+more_identifiers marked found = more_items (sees marked k.Comma) (expect marked k.Comma >> identifier marked) found
 
 -- identifier {"," identifier}
-unfoldable pub names : Bool → Reader (List Identifier)
-names marked = identifier marked >>= λ name. more_names marked (name ∷ [])
+unfoldable pub identifiers : Bool → Reader (List Identifier)
+identifiers marked = identifier marked >>= λ x. more_identifiers marked (x ∷ [])
+
+-- {"," name}
+unfoldable pub more_names : Bool → List Name → Reader (List Name)
+more_names marked found = more_items (sees marked k.Comma) (expect marked k.Comma >> name marked) found
+
+-- name {"," name}
+unfoldable pub names : Bool → Reader (List Name)
+names marked = name marked >>= λ x. more_names marked (x ∷ [])
 
 -- ---- annotations
 
--- "*" {"," identifier}
+-- "*" {"," name}
 unfoldable pub starred : Reader Imports
 starred = do
   place ← expect_place annotation k.Asterisk
@@ -48,7 +61,7 @@ imports_by (Some k.Asterisk) = starred
 imports_by (Some k.Identifier) = unstarred
 imports_by _ = pure (record { itself = None; names = [] })
 
--- ["*" {"," identifier} | names]
+-- ["*" {"," name} | names]
 unfoldable pub imports : Reader Imports
 imports = λ fs. imports_by (peek annotation fs) fs
 
@@ -83,14 +96,6 @@ precondition levels = do
   expect annotation k.Semicolon
   pure (record { place = place; condition = condition })
 
-abbrev pub pre_by : ℕ → Option Kind → Reader (Option Precondition)
-pre_by levels (Some k.Pre) = precondition levels >>= λ p. pure (Some p)
-pre_by levels _ = pure None
-
--- [pre]
-unfoldable pub pre : ℕ → Reader (Option Precondition)
-pre levels = λ fs. pre_by levels (peek annotation fs) fs
-
 -- ---- formal parameters
 
 abbrev pub in_by : Option Kind → Reader WrittenMode
@@ -110,35 +115,87 @@ mode_by _ = pure modes.Unwritten
 unfoldable pub mode : Reader WrittenMode
 mode = λ fs. mode_by (peek program fs) fs
 
--- names ":" mode identifier
+-- identifiers ":" mode name
 unfoldable pub param : Reader Param
 param = do
-  names ← names program
+  names ← identifiers program
   expect program k.Colon
   mode ← mode
-  type_name ← identifier program
+  type_name ← name program
   pure (record { names = names; mode = mode; type_name = type_name })
 
 unfoldable pub more_params : List Param → Reader (List Param)
 more_params found = more_items (sees program k.Semicolon) (expect program k.Semicolon >> param) found
 
 -- param {";" param}
-unfoldable pub formals : Reader (List Param)
-formals = param >>= λ x. more_params (x ∷ [])
+unfoldable pub params : Reader (List Param)
+params = param >>= λ x. more_params (x ∷ [])
+
+-- "(" params ")"
+unfoldable pub formal_part : Reader FormalPart
+formal_part = do
+  place ← expect_place program k.LeftParenthesis
+  params ← params
+  expect program k.RightParenthesis
+  pure (record { place = place; params = params })
+
+-- ---- declarations
+
+-- identifiers ":" name ";"
+unfoldable pub declaration : Reader Decl
+declaration = do
+  names ← identifiers program
+  expect program k.Colon
+  type_name ← name program
+  expect program k.Semicolon
+  pure (Variables names type_name)
+
+unfoldable pub more_declarations : List Decl → Reader (List Decl)
+more_declarations found = more_items (sees program k.Identifier) declaration found
+
+-- {declaration}
+unfoldable pub declarations : Reader (List Decl)
+declarations = more_declarations []
 
 -- ---- statements
 
--- identifier ":=" expression ";"
-unfoldable pub stmt : ℕ → Reader Stmt
-stmt levels = do
-  target ← identifier program
-  expect program k.Assignment
-  expr ← expression program levels
+-- "null" ";"
+unfoldable pub null_statement : Reader Stmt
+null_statement = do
+  place ← expect_place program k.Null
   expect program k.Semicolon
-  pure (Assignment target expr)
+  pure (Null place)
+
+-- name ":=" expression ";"
+unfoldable pub assignment : ℕ → Reader Stmt
+assignment levels = do
+  target ← name program
+  expect program k.Assignment
+  value ← expression program levels
+  expect program k.Semicolon
+  pure (Assignment target value)
+
+abbrev pub stmt_by : ℕ → Option Kind → Reader Stmt
+stmt_by levels (Some k.Null) = null_statement
+stmt_by levels (Some k.Identifier) = assignment levels
+stmt_by levels _ = refuse
+
+-- "null" ";" | name ":=" expression ";"
+unfoldable pub stmt : ℕ → Reader Stmt
+stmt levels = λ fs. stmt_by levels (peek program fs) fs
+
+-- a statement starts with a form of this kind
+abbrev pub starts_stmt : Option Kind → Bool
+starts_stmt (Some k.Null) = true
+starts_stmt (Some k.Identifier) = true
+starts_stmt _ = false
+
+-- a statement comes next
+abbrev pub sees_stmt : List Form → Bool
+sees_stmt fs = starts_stmt (peek program fs)
 
 unfoldable pub more_stmts : ℕ → List Stmt → Reader (List Stmt)
-more_stmts levels found = more_items (sees program k.Identifier) (stmt levels) found
+more_stmts levels found = more_items sees_stmt (stmt levels) found
 
 -- statement {statement}
 unfoldable pub stmts : ℕ → Reader (List Stmt)
@@ -146,31 +203,22 @@ stmts levels = stmt levels >>= λ x. more_stmts levels (x ∷ [])
 
 -- ---- subprograms and units
 
-abbrev pub end_name_by : Option Kind → Reader (Option Identifier)
-end_name_by (Some k.Identifier) = identifier program >>= λ name. pure (Some name)
-end_name_by _ = pure None
-
--- [identifier]
-unfoldable pub end_name : Reader (Option Identifier)
-end_name = λ fs. end_name_by (peek program fs) fs
-
--- "procedure" identifier "(" formals ")" derives [pre] "is" "begin" statements "end" [identifier] ";"
+-- "procedure" identifier [formal part] [derives] [pre] "is" declarations "begin" statements "end" [identifier] ";"
 unfoldable pub subprogram : ℕ → Reader Subprogram
 subprogram levels = do
   place ← expect_place program k.Procedure
   name ← identifier program
-  expect program k.LeftParenthesis
-  formals ← formals
-  expect program k.RightParenthesis
-  derives ← derives
-  pre ← pre levels
+  formal_part ← if_seen program k.LeftParenthesis formal_part
+  derives ← if_seen annotation k.Derives derives
+  pre ← if_seen annotation k.Pre (precondition levels)
   expect program k.Is
+  declarations ← declarations
   expect program k.Begin
   statements ← stmts levels
   end ← expect_place program k.End
-  end_name ← end_name
+  end_name ← if_seen program k.Identifier (identifier program)
   expect program k.Semicolon
-  pure (record { place = place; name = name; formals = formals; derives = derives; pre = pre; statements = statements; end = end; end_name = end_name })
+  pure (record { place = place; name = name; formal_part = formal_part; derives = derives; pre = pre; declarations = declarations; statements = statements; end = end; end_name = end_name })
 
 -- subprogram
 unfoldable pub unit_at : ℕ → Reader Unit

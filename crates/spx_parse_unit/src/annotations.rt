@@ -1,47 +1,78 @@
-// From tokens to the names and annotations of a subprogram (Barnes, High Integrity Software).
+// From tokens to lists of names and the annotations of a subprogram (Barnes, High Integrity Software).
 ghost use Rattle.std.specs.Prelude.{◌≡◌};
+ghost use Rattle.spx_tree.specs.Written.{annotation};
+ghost use Rattle.spx_tree.specs.declared.token.Kind.TheVariants as k;
+ghost use Rattle.spx_parse_unit.specs.Reading as reading;
 ghost use Rattle.spx_parse_unit.specs.Units as read;
 ghost use Rattle.spx_parse_unit.specs.Answers.{Reads};
 
 use crate::cursor::{ANNOTATION, Cursor, Stop};
-use crate::expressions::expression;
-use spx_tree::{Derives, DerivesItem, Identifier, Imports, Kind, Precondition};
+use crate::expressions::{expression, name};
+use spx_tree::{Derives, DerivesItem, Identifier, Imports, Kind, Name, Precondition};
 use sqlite_items::Items;
 use std::alloc::Global;
 
 // {"," identifier}
-#[tactic(auto, using(crate::proofs::Turns::more_names_is))]
-fn more_names(
+#[tactic(auto, using(crate::proofs::Turns::more_identifiers_is))]
+fn more_identifiers(
     alloc: Global,
     cursor: &mut Cursor<'_>,
     marked: bool,
     found: Items<Identifier>,
 ) -> Result<Items<Identifier>, Stop>
+    ensures { Reads (read.more_identifiers marked found cursor.old) result cursor.new }
+{
+    let mut identifiers = found;
+    'more: while cursor.sees(marked, Kind::Comma) {
+        cursor.expect(marked, Kind::Comma)?;
+        identifiers.push(cursor.identifier(alloc, marked)?)?;
+    }
+    Ok(identifiers)
+}
+
+/// Reads identifiers, one or more.
+#[tactic(auto, unfolding(crate::specs::Units::identifiers))]
+pub fn identifiers(
+    alloc: Global,
+    cursor: &mut Cursor<'_>,
+    marked: bool,
+) -> Result<Items<Identifier>, Stop>
+    ensures { Reads (read.identifiers marked cursor.old) result cursor.new }
+{
+    let mut identifiers = Items::new(alloc);
+    identifiers.push(cursor.identifier(alloc, marked)?)?;
+    more_identifiers(alloc, cursor, marked, identifiers)
+}
+
+// {"," name}
+#[tactic(auto, using(crate::proofs::Turns::more_names_is))]
+fn more_names(
+    alloc: Global,
+    cursor: &mut Cursor<'_>,
+    marked: bool,
+    found: Items<Name>,
+) -> Result<Items<Name>, Stop>
     ensures { Reads (read.more_names marked found cursor.old) result cursor.new }
 {
     let mut names = found;
     'more: while cursor.sees(marked, Kind::Comma) {
         cursor.expect(marked, Kind::Comma)?;
-        names.push(cursor.identifier(alloc, marked)?)?;
+        names.push(name(alloc, cursor, marked)?)?;
     }
     Ok(names)
 }
 
-/// Reads names, one or more.
+// names = name {"," name}
 #[tactic(auto, unfolding(crate::specs::Units::names))]
-pub fn names(
-    alloc: Global,
-    cursor: &mut Cursor<'_>,
-    marked: bool,
-) -> Result<Items<Identifier>, Stop>
+fn names(alloc: Global, cursor: &mut Cursor<'_>, marked: bool) -> Result<Items<Name>, Stop>
     ensures { Reads (read.names marked cursor.old) result cursor.new }
 {
     let mut names = Items::new(alloc);
-    names.push(cursor.identifier(alloc, marked)?)?;
+    names.push(name(alloc, cursor, marked)?)?;
     more_names(alloc, cursor, marked, names)
 }
 
-// starred = "*" {"," identifier}
+// starred = "*" {"," name}
 #[tactic(auto, unfolding(crate::specs::Units::starred))]
 fn starred(alloc: Global, cursor: &mut Cursor<'_>) -> Result<Imports, Stop>
     ensures { Reads (read.starred cursor.old) result cursor.new }
@@ -105,15 +136,26 @@ fn items(alloc: Global, cursor: &mut Cursor<'_>) -> Result<Items<DerivesItem>, S
     Ok(items)
 }
 
-/// Reads a dependency relation: `"derives" items ";"`.
+// derives = "derives" items ";"
 #[tactic(auto, unfolding(crate::specs::Units::derives))]
-pub fn derives(alloc: Global, cursor: &mut Cursor<'_>) -> Result<Derives, Stop>
+fn derives(alloc: Global, cursor: &mut Cursor<'_>) -> Result<Derives, Stop>
     ensures { Reads (read.derives cursor.old) result cursor.new }
 {
     let place = cursor.expect_place(ANNOTATION, Kind::Derives)?;
     let items = items(alloc, cursor)?;
     cursor.expect(ANNOTATION, Kind::Semicolon)?;
     Ok(Derives { place, items })
+}
+
+/// Reads a dependency relation, if there is one.
+#[tactic(auto, unfolding(crate::specs::Reading::if_seen))]
+pub fn optional_derives(alloc: Global, cursor: &mut Cursor<'_>) -> Result<Option<Derives>, Stop>
+    ensures { Reads (reading.if_seen annotation k.Derives read.derives cursor.old) result cursor.new }
+{
+    if cursor.sees(ANNOTATION, Kind::Derives) {
+        return Ok(Some(derives(alloc, cursor)?));
+    }
+    Ok(None)
 }
 
 // precondition = "pre" expression ";"
@@ -128,16 +170,16 @@ fn precondition(alloc: Global, cursor: &mut Cursor<'_>, levels: u32) -> Result<P
 }
 
 /// Reads a precondition, if there is one.
-#[tactic(auto, unfolding(crate::specs::Units::pre))]
-pub fn pre(
+#[tactic(auto, unfolding(crate::specs::Reading::if_seen))]
+pub fn optional_pre(
     alloc: Global,
     cursor: &mut Cursor<'_>,
     levels: u32,
 ) -> Result<Option<Precondition>, Stop>
-    ensures { Reads (read.pre levels cursor.old) result cursor.new }
+    ensures { Reads (reading.if_seen annotation k.Pre (read.precondition levels) cursor.old) result cursor.new }
 {
-    match cursor.peek(ANNOTATION) {
-        Some(Kind::Pre) => Ok(Some(precondition(alloc, cursor, levels)?)),
-        _ => Ok(None),
+    if cursor.sees(ANNOTATION, Kind::Pre) {
+        return Ok(Some(precondition(alloc, cursor, levels)?));
     }
+    Ok(None)
 }

@@ -1,18 +1,18 @@
-// From tokens to expressions (Ada 95 RM 4.4).
+// From tokens to names and expressions (Ada 95 RM 4.1 and 4.4).
 ghost use Rattle.std.specs.Prelude.{◌≡◌, ◌<◌, ◌≤◌, ◌-◌, ◌^◌, IfOk};
 ghost use Rattle.spx_tree.specs.Form.{keeps, ItsPlace};
-ghost use Rattle.spx_tree.specs.Written.{operator_kind};
+ghost use Rattle.spx_tree.specs.Written.{sign_kind, operator_kind};
 ghost use Rattle.spx_parse_unit.specs.Reading as reading;
 ghost use Rattle.spx_parse_unit.specs.Expressions as read;
 ghost use Rattle.spx_parse_unit.specs.Answers.{Reads};
 
 use crate::cursor::{Cursor, Stop};
 use spx_text::Place;
-use spx_tree::{Expr, InfixOp, Kind, Layer};
+use spx_tree::{Expr, InfixOp, Kind, Layer, Name, PrefixOp};
 use sqlite_items::Boxed;
 use std::alloc::{AllocError, Global};
 
-/// An expression, and how many operators lie on the longest way down.
+/// An expression, and how many parentheses, signs and operators lie on the longest way down.
 #[derive(Debug, Drop)]
 pub struct Tall {
     pub expr: Expr,
@@ -52,30 +52,58 @@ fn literal(cursor: &mut Cursor<'_>, marked: bool) -> Result<Tall, Stop>
     })
 }
 
-// name = identifier | identifier "'" identifier
+/// Reads a name: an identifier, or an attribute.
 #[tactic(auto, unfolding(crate::specs::Expressions::name))]
-fn name(alloc: Global, cursor: &mut Cursor<'_>, marked: bool) -> Result<Tall, Stop>
-    ensures gives { Reads (read.name marked cursor.old) result cursor.new }
-    ensures low { IfOk result (λ t. t.height ≡ 0) }
+pub fn name(alloc: Global, cursor: &mut Cursor<'_>, marked: bool) -> Result<Name, Stop>
+    ensures { Reads (read.name marked cursor.old) result cursor.new }
 {
     let prefix = cursor.identifier(alloc, marked)?;
     match cursor.peek(marked) {
         Some(Kind::Apostrophe) => {
             cursor.expect(marked, Kind::Apostrophe)?;
             let designator = cursor.identifier(alloc, marked)?;
-            Ok(Tall {
-                expr: Expr::Attribute(prefix, designator),
-                height: 0,
-            })
+            Ok(Name::Attribute(prefix, designator))
         }
-        _ => Ok(Tall {
-            expr: Expr::Name(prefix),
-            height: 0,
-        }),
+        _ => Ok(Name::Simple(prefix)),
     }
 }
 
-// primary = number | name
+/// An expression in parentheses.
+fn enclose(alloc: Global, place: Place, inner: Tall) -> Result<Tall, AllocError>
+    requires { inner.height < 2 ^ 32 - 1 }
+    ensures { IfOk result (λ t. t ≡ read.enclosed place inner) }
+{
+    let height = inner.height + 1;
+    let inner = Boxed::new(alloc, inner.expr)?;
+    Ok(Tall {
+        expr: Expr::Parenthesized(place, inner),
+        height,
+    })
+}
+
+// in_parentheses = "(" expression ")"
+#[cycle(layers)]
+#[tactic(auto, using(crate::proofs::Levels::below_is), unfolding(crate::specs::Expressions::in_parentheses))]
+fn in_parentheses(
+    alloc: Global,
+    cursor: &mut Cursor<'_>,
+    levels: u32,
+    marked: bool,
+) -> Result<Tall, Stop>
+    ensures gives { Reads (read.in_parentheses marked (read.below marked levels) levels cursor.old) result cursor.new }
+    ensures low { IfOk result (λ t. t.height ≤ levels) }
+{
+    if levels == 0 {
+        return Err(cursor.too_deep());
+    }
+    let place = cursor.expect_place(marked, Kind::LeftParenthesis)?;
+    let inner = at_layer(alloc, cursor, levels - 1, marked, Layer::Relation)?;
+    cursor.expect(marked, Kind::RightParenthesis)?;
+    Ok(enclose(alloc, place, inner)?)
+}
+
+// primary = number | name | in_parentheses
+#[cycle(layers)]
 #[tactic(auto, unfolding(crate::specs::Expressions::primary))]
 fn primary(alloc: Global, cursor: &mut Cursor<'_>, levels: u32, marked: bool) -> Result<Tall, Stop>
     ensures gives { Reads (read.primary marked (read.below marked levels) levels cursor.old) result cursor.new }
@@ -83,8 +111,83 @@ fn primary(alloc: Global, cursor: &mut Cursor<'_>, levels: u32, marked: bool) ->
 {
     match cursor.peek(marked) {
         Some(Kind::Number) => literal(cursor, marked),
-        Some(Kind::Identifier) => name(alloc, cursor, marked),
+        Some(Kind::Identifier) => {
+            let name = name(alloc, cursor, marked)?;
+            Ok(Tall {
+                expr: Expr::Name(name),
+                height: 0,
+            })
+        }
+        Some(Kind::LeftParenthesis) => in_parentheses(alloc, cursor, levels, marked),
         _ => Err(cursor.expected()),
+    }
+}
+
+/// The sign that a token is.
+fn sign_of(kind: Option<Kind>) -> Option<PrefixOp>
+    ensures { result ≡ read.sign_of kind }
+{
+    match kind {
+        Some(Kind::Plus) => Some(PrefixOp::Plus),
+        Some(Kind::Minus) => Some(PrefixOp::Minus),
+        _ => None,
+    }
+}
+
+/// Takes a sign, and answers its place.
+fn sign_place(cursor: &mut Cursor<'_>, marked: bool, op: PrefixOp) -> Result<Place, Stop>
+    ensures { Reads (reading.expect_place marked (sign_kind op) cursor.old) result cursor.new }
+{
+    match op {
+        PrefixOp::Plus => cursor.expect_place(marked, Kind::Plus),
+        PrefixOp::Minus => cursor.expect_place(marked, Kind::Minus),
+    }
+}
+
+/// An operand behind a sign.
+fn prefix(alloc: Global, op: PrefixOp, place: Place, operand: Tall) -> Result<Tall, AllocError>
+    requires { operand.height < 2 ^ 32 - 1 }
+    ensures { IfOk result (λ t. t ≡ read.prefixed op place operand) }
+{
+    let height = operand.height + 1;
+    let operand = Boxed::new(alloc, operand.expr)?;
+    Ok(Tall {
+        expr: Expr::Prefix(op, place, operand),
+        height,
+    })
+}
+
+// a sign and its operand
+#[cycle(layers)]
+#[tactic(auto, using(crate::proofs::Levels::below_is), unfolding(crate::specs::Expressions::behind_sign))]
+fn behind_sign(
+    alloc: Global,
+    cursor: &mut Cursor<'_>,
+    levels: u32,
+    marked: bool,
+    op: PrefixOp,
+) -> Result<Tall, Stop>
+    ensures gives { Reads (read.behind_sign marked (read.below marked levels) levels op cursor.old) result cursor.new }
+    ensures low { IfOk result (λ t. t.height ≤ levels) }
+{
+    if levels == 0 {
+        return Err(cursor.too_deep());
+    }
+    let place = sign_place(cursor, marked, op)?;
+    let operand = at_layer(alloc, cursor, levels - 1, marked, Layer::Primary)?;
+    Ok(prefix(alloc, op, place, operand)?)
+}
+
+// first = [sign] primary
+#[cycle(layers)]
+#[tactic(auto, unfolding(crate::specs::Expressions::first))]
+fn first(alloc: Global, cursor: &mut Cursor<'_>, levels: u32, marked: bool) -> Result<Tall, Stop>
+    ensures gives { Reads (read.first marked (read.below marked levels) levels cursor.old) result cursor.new }
+    ensures low { IfOk result (λ t. t.height ≤ levels) }
+{
+    match sign_of(cursor.peek(marked)) {
+        Some(op) => behind_sign(alloc, cursor, levels, marked, op),
+        None => primary(alloc, cursor, levels, marked),
     }
 }
 
@@ -185,14 +288,14 @@ fn continued(
     Ok(left)
 }
 
-// sum = primary {adding operator primary}
+// sum = first {adding operator primary}
 #[cycle(layers)]
 #[tactic(auto, unfolding(crate::specs::Expressions::sum))]
 fn sum(alloc: Global, cursor: &mut Cursor<'_>, levels: u32, marked: bool) -> Result<Tall, Stop>
     ensures gives { Reads (read.sum marked (read.below marked levels) levels cursor.old) result cursor.new }
     ensures low { IfOk result (λ t. t.height ≤ levels) }
 {
-    let first = primary(alloc, cursor, levels, marked)?;
+    let first = first(alloc, cursor, levels, marked)?;
     continued(alloc, cursor, levels, marked, first)
 }
 

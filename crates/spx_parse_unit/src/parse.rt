@@ -16,7 +16,7 @@ use sqlite_items::Items;
 use std::alloc::Global;
 use thiserror::Error;
 
-/// How many operators may lie one below the other.
+/// How many parentheses, signs and operators may lie one below the other.
 pub const MOST_LEVELS: u32 = 200;
 
 /// Why tokens are no text of the grammar.

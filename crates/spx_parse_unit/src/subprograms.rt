@@ -1,12 +1,15 @@
-// From tokens to subprograms and units (Ada 95 RM 5, 6 and 10.1).
+// From tokens to subprograms and units (Ada 95 RM 3, 5, 6 and 10.1).
 ghost use Rattle.std.specs.Prelude.{◌≡◌};
+ghost use Rattle.spx_tree.specs.Written.{program};
+ghost use Rattle.spx_tree.specs.declared.token.Kind.TheVariants as k;
+ghost use Rattle.spx_parse_unit.specs.Reading as reading;
 ghost use Rattle.spx_parse_unit.specs.Units as read;
 ghost use Rattle.spx_parse_unit.specs.Answers.{Reads};
 
-use crate::annotations::{derives, names, pre};
+use crate::annotations::{identifiers, optional_derives, optional_pre};
 use crate::cursor::{Cursor, PROGRAM, Stop};
-use crate::expressions::expression;
-use spx_tree::{Identifier, Kind, Param, Stmt, Subprogram, Unit, WrittenMode};
+use crate::expressions::{expression, name};
+use spx_tree::{Decl, FormalPart, Identifier, Kind, Param, Stmt, Subprogram, Unit, WrittenMode};
 use sqlite_items::Items;
 use std::alloc::Global;
 
@@ -41,15 +44,15 @@ fn mode(cursor: &mut Cursor<'_>) -> Result<WrittenMode, Stop>
     }
 }
 
-// param = names ":" mode identifier
+// param = identifiers ":" mode name
 #[tactic(auto, unfolding(crate::specs::Units::param))]
 fn param(alloc: Global, cursor: &mut Cursor<'_>) -> Result<Param, Stop>
     ensures { Reads (read.param cursor.old) result cursor.new }
 {
-    let names = names(alloc, cursor, PROGRAM)?;
+    let names = identifiers(alloc, cursor, PROGRAM)?;
     cursor.expect(PROGRAM, Kind::Colon)?;
     let mode = mode(cursor)?;
-    let type_name = cursor.identifier(alloc, PROGRAM)?;
+    let type_name = name(alloc, cursor, PROGRAM)?;
     Ok(Param {
         names,
         mode,
@@ -57,30 +60,108 @@ fn param(alloc: Global, cursor: &mut Cursor<'_>) -> Result<Param, Stop>
     })
 }
 
-// formals = param {";" param}
-#[tactic(auto, using(crate::proofs::Turns::more_params_is), unfolding(crate::specs::Units::formals))]
-fn formals(alloc: Global, cursor: &mut Cursor<'_>) -> Result<Items<Param>, Stop>
-    ensures { Reads (read.formals cursor.old) result cursor.new }
+// params = param {";" param}
+#[tactic(auto, using(crate::proofs::Turns::more_params_is), unfolding(crate::specs::Units::params))]
+fn params(alloc: Global, cursor: &mut Cursor<'_>) -> Result<Items<Param>, Stop>
+    ensures { Reads (read.params cursor.old) result cursor.new }
 {
-    let mut formals = Items::new(alloc);
-    formals.push(param(alloc, cursor)?)?;
+    let mut params = Items::new(alloc);
+    params.push(param(alloc, cursor)?)?;
     'more: while cursor.sees(PROGRAM, Kind::Semicolon) {
         cursor.expect(PROGRAM, Kind::Semicolon)?;
-        formals.push(param(alloc, cursor)?)?;
+        params.push(param(alloc, cursor)?)?;
     }
-    Ok(formals)
+    Ok(params)
 }
 
-// stmt = identifier ":=" expression ";"
+// formal_part = "(" params ")"
+#[tactic(auto, unfolding(crate::specs::Units::formal_part))]
+fn formal_part(alloc: Global, cursor: &mut Cursor<'_>) -> Result<FormalPart, Stop>
+    ensures { Reads (read.formal_part cursor.old) result cursor.new }
+{
+    let place = cursor.expect_place(PROGRAM, Kind::LeftParenthesis)?;
+    let params = params(alloc, cursor)?;
+    cursor.expect(PROGRAM, Kind::RightParenthesis)?;
+    Ok(FormalPart { place, params })
+}
+
+// [formal_part]
+#[tactic(auto, unfolding(crate::specs::Reading::if_seen))]
+fn optional_formal_part(alloc: Global, cursor: &mut Cursor<'_>) -> Result<Option<FormalPart>, Stop>
+    ensures { Reads (reading.if_seen program k.LeftParenthesis read.formal_part cursor.old) result cursor.new }
+{
+    if cursor.sees(PROGRAM, Kind::LeftParenthesis) {
+        return Ok(Some(formal_part(alloc, cursor)?));
+    }
+    Ok(None)
+}
+
+// declaration = identifiers ":" name ";"
+#[tactic(auto, unfolding(crate::specs::Units::declaration))]
+fn declaration(alloc: Global, cursor: &mut Cursor<'_>) -> Result<Decl, Stop>
+    ensures { Reads (read.declaration cursor.old) result cursor.new }
+{
+    let names = identifiers(alloc, cursor, PROGRAM)?;
+    cursor.expect(PROGRAM, Kind::Colon)?;
+    let type_name = name(alloc, cursor, PROGRAM)?;
+    cursor.expect(PROGRAM, Kind::Semicolon)?;
+    Ok(Decl::Variables(names, type_name))
+}
+
+// declarations = {declaration}
+#[tactic(auto, using(crate::proofs::Turns::more_declarations_is), unfolding(crate::specs::Units::declarations))]
+fn declarations(alloc: Global, cursor: &mut Cursor<'_>) -> Result<Items<Decl>, Stop>
+    ensures { Reads (read.declarations cursor.old) result cursor.new }
+{
+    let mut declarations = Items::new(alloc);
+    'more: while cursor.sees(PROGRAM, Kind::Identifier) {
+        declarations.push(declaration(alloc, cursor)?)?;
+    }
+    Ok(declarations)
+}
+
+// null_statement = "null" ";"
+#[tactic(auto, unfolding(crate::specs::Units::null_statement))]
+fn null_statement(cursor: &mut Cursor<'_>) -> Result<Stmt, Stop>
+    ensures { Reads (read.null_statement cursor.old) result cursor.new }
+{
+    let place = cursor.expect_place(PROGRAM, Kind::Null)?;
+    cursor.expect(PROGRAM, Kind::Semicolon)?;
+    Ok(Stmt::Null(place))
+}
+
+// assignment = name ":=" expression ";"
+#[tactic(auto, unfolding(crate::specs::Units::assignment))]
+fn assignment(alloc: Global, cursor: &mut Cursor<'_>, levels: u32) -> Result<Stmt, Stop>
+    ensures { Reads (read.assignment levels cursor.old) result cursor.new }
+{
+    let target = name(alloc, cursor, PROGRAM)?;
+    cursor.expect(PROGRAM, Kind::Assignment)?;
+    let value = expression(alloc, cursor, levels, PROGRAM)?;
+    cursor.expect(PROGRAM, Kind::Semicolon)?;
+    Ok(Stmt::Assignment(target, value))
+}
+
+// stmt = null_statement | assignment
 #[tactic(auto, unfolding(crate::specs::Units::stmt))]
 fn stmt(alloc: Global, cursor: &mut Cursor<'_>, levels: u32) -> Result<Stmt, Stop>
     ensures { Reads (read.stmt levels cursor.old) result cursor.new }
 {
-    let target = cursor.identifier(alloc, PROGRAM)?;
-    cursor.expect(PROGRAM, Kind::Assignment)?;
-    let expr = expression(alloc, cursor, levels, PROGRAM)?;
-    cursor.expect(PROGRAM, Kind::Semicolon)?;
-    Ok(Stmt::Assignment(target, expr))
+    match cursor.peek(PROGRAM) {
+        Some(Kind::Null) => null_statement(cursor),
+        Some(Kind::Identifier) => assignment(alloc, cursor, levels),
+        _ => Err(cursor.expected()),
+    }
+}
+
+/// Whether a statement comes next.
+fn sees_stmt(cursor: &Cursor<'_>) -> bool
+    ensures { result ≡ read.sees_stmt cursor.now }
+{
+    match cursor.peek(PROGRAM) {
+        Some(Kind::Null | Kind::Identifier) => true,
+        _ => false,
+    }
 }
 
 // stmts = stmt {stmt}
@@ -90,36 +171,35 @@ fn stmts(alloc: Global, cursor: &mut Cursor<'_>, levels: u32) -> Result<Items<St
 {
     let mut stmts = Items::new(alloc);
     stmts.push(stmt(alloc, cursor, levels)?)?;
-    'more: while cursor.sees(PROGRAM, Kind::Identifier) {
+    'more: while sees_stmt(cursor) {
         stmts.push(stmt(alloc, cursor, levels)?)?;
     }
     Ok(stmts)
 }
 
 // [identifier]
-#[tactic(auto, unfolding(crate::specs::Units::end_name))]
+#[tactic(auto, unfolding(crate::specs::Reading::if_seen))]
 fn end_name(alloc: Global, cursor: &mut Cursor<'_>) -> Result<Option<Identifier>, Stop>
-    ensures { Reads (read.end_name cursor.old) result cursor.new }
+    ensures { Reads (reading.if_seen program k.Identifier (reading.identifier program) cursor.old) result cursor.new }
 {
-    match cursor.peek(PROGRAM) {
-        Some(Kind::Identifier) => Ok(Some(cursor.identifier(alloc, PROGRAM)?)),
-        _ => Ok(None),
+    if cursor.sees(PROGRAM, Kind::Identifier) {
+        return Ok(Some(cursor.identifier(alloc, PROGRAM)?));
     }
+    Ok(None)
 }
 
-// subprogram = "procedure" identifier "(" formals ")" derives [pre] "is" "begin" stmts "end" [identifier] ";"
+// subprogram = "procedure" identifier [formal_part] [derives] [pre] "is" declarations "begin" stmts "end" [identifier] ";"
 #[tactic(auto, unfolding(crate::specs::Units::subprogram))]
 fn subprogram(alloc: Global, cursor: &mut Cursor<'_>, levels: u32) -> Result<Subprogram, Stop>
     ensures { Reads (read.subprogram levels cursor.old) result cursor.new }
 {
     let place = cursor.expect_place(PROGRAM, Kind::Procedure)?;
     let name = cursor.identifier(alloc, PROGRAM)?;
-    cursor.expect(PROGRAM, Kind::LeftParenthesis)?;
-    let formals = formals(alloc, cursor)?;
-    cursor.expect(PROGRAM, Kind::RightParenthesis)?;
-    let derives = derives(alloc, cursor)?;
-    let pre = pre(alloc, cursor, levels)?;
+    let formal_part = optional_formal_part(alloc, cursor)?;
+    let derives = optional_derives(alloc, cursor)?;
+    let pre = optional_pre(alloc, cursor, levels)?;
     cursor.expect(PROGRAM, Kind::Is)?;
+    let declarations = declarations(alloc, cursor)?;
     cursor.expect(PROGRAM, Kind::Begin)?;
     let statements = stmts(alloc, cursor, levels)?;
     let end = cursor.expect_place(PROGRAM, Kind::End)?;
@@ -128,9 +208,10 @@ fn subprogram(alloc: Global, cursor: &mut Cursor<'_>, levels: u32) -> Result<Sub
     Ok(Subprogram {
         place,
         name,
-        formals,
+        formal_part,
         derives,
         pre,
+        declarations,
         statements,
         end,
         end_name,

@@ -1,6 +1,7 @@
 use crate::{MOST_LEVELS, ParseFault, parse_units};
 use spx_lexer::lex;
 use spx_text::Place;
+use spx_tree::{Subprogram, Unit};
 use std::alloc::{AllocError, Global};
 use std::test::Fail;
 
@@ -40,10 +41,17 @@ fn statements(rt: HostRuntime) -> Result<(), Fail> {
     let rows = [
         ("X := 1;", Ok(1)),
         ("X := 1; Y := X - Z + 1; X := Y = Z;", Ok(1)),
+        ("null; X'First := -(X + (Y = -1)) - Z; null;", Ok(1)),
         ("", Err(ParseFault::Expected(at(7, 1)))),
         ("X := A = B = C;", Err(ParseFault::Expected(at(6, 12)))),
         ("X := 1", Err(ParseFault::Expected(at(7, 1)))),
         ("X = 1;", Err(ParseFault::Expected(at(6, 3)))),
+        ("X := --1;", Err(ParseFault::Expected(at(7, 1)))),
+        ("X := - -1;", Err(ParseFault::Expected(at(6, 8)))),
+        ("X := Y + -1;", Err(ParseFault::Expected(at(6, 10)))),
+        ("X := (Y;", Err(ParseFault::Expected(at(6, 8)))),
+        ("X := ();", Err(ParseFault::Expected(at(6, 7)))),
+        ("null X;", Err(ParseFault::Expected(at(6, 6)))),
         ("X := Y'Z'W;", Err(ParseFault::Expected(at(6, 9)))),
         ("X := 1;\n--# derives", Err(ParseFault::Expected(at(7, 5)))),
     ];
@@ -63,6 +71,16 @@ fn units(rt: HostRuntime) {
             "procedure P (X : out T)\n--# derives X from ;\nis begin X := 1; end;\nprocedure Q (X : in T)\n--# derives X from X;\nis begin X := 1; end Q;",
             Ok(2),
         ),
+        ("procedure P is begin null; end P;", Ok(1)),
+        (
+            "procedure P is X, Y : T; Z : T'Base; begin null; end P;",
+            Ok(1),
+        ),
+        (
+            "procedure P is X : in T; begin null; end P;",
+            Err(ParseFault::Expected(at(1, 20))),
+        ),
+        ("procedure P () is", Err(ParseFault::Expected(at(1, 14)))),
         ("begin", Err(ParseFault::Expected(at(1, 1)))),
         (
             "procedure P (X : T)\nderives X from X;",
@@ -91,12 +109,55 @@ fn units(rt: HostRuntime) {
     }
 }
 
+// A procedure with a part of each kind.
+const WHOLE: &[u8] =
+    b"procedure P (X : in out Integer; Y, Z : Integer'Base)\n--# derives X, X'First from *, Y'Last & Z from ;\n--# pre -(X + 1) < Integer'Last;\nis\nT : Integer;\nU, V : Boolean;\nbegin\nT := +X - (Y - 1);\nnull;\nX := (T);\nend P;\n";
+
+fn whole(alloc: Global) -> Result<Subprogram, ParseFault> {
+    let Ok(tokens) = lex(alloc, 0, WHOLE) else {
+        return Err(ParseFault::Memory);
+    };
+    let mut units = parse_units(alloc, &tokens)?;
+    let Some(Unit::Subprogram(sub)) = units.pop() else {
+        return Err(ParseFault::Memory);
+    };
+    Ok(sub)
+}
+
+#[test]
+fn each_part(rt: HostRuntime) -> Result<(), Fail> {
+    let alloc = rt.alloc();
+    let sub = whole(alloc)?;
+    assert!(rt; sub.formal_part.is_some());
+    assert!(rt; sub.derives.is_some());
+    assert!(rt; sub.pre.is_some());
+    assert_eq!(rt; sub.declarations.len(), 2);
+    assert_eq!(rt; sub.statements.len(), 3);
+    assert!(rt; sub.end_name.is_some());
+    Ok(())
+}
+
 // X := X + X + .. + X, with so many operators.
 fn sum_of(alloc: Global, operators: u32) -> Result<Vec<u8>, AllocError> {
     let mut text = Vec::new(alloc);
     text.extend_from_slice(b"X := X")?;
     for _ in 0..operators {
         text.extend_from_slice(b"+X")?;
+    }
+    text.push(b';')?;
+    procedure(alloc, text.as_slice())
+}
+
+// X := ((..(-1)..)), with so many parentheses.
+fn nested_in(alloc: Global, parentheses: u32) -> Result<Vec<u8>, AllocError> {
+    let mut text = Vec::new(alloc);
+    text.extend_from_slice(b"X := ")?;
+    for _ in 0..parentheses {
+        text.push(b'(')?;
+    }
+    text.extend_from_slice(b"-1")?;
+    for _ in 0..parentheses {
+        text.push(b')')?;
     }
     text.push(b';')?;
     procedure(alloc, text.as_slice())
@@ -111,6 +172,13 @@ fn levels(rt: HostRuntime) -> Result<(), Fail> {
     assert_eq!(rt;
         units_in(alloc, more.as_slice()),
         Err(ParseFault::TooDeep(at(6, 407)))
+    );
+    let nested = nested_in(alloc, MOST_LEVELS - 1)?;
+    assert_eq!(rt; units_in(alloc, nested.as_slice()), Ok(1));
+    let deeper = nested_in(alloc, MOST_LEVELS)?;
+    assert_eq!(rt;
+        units_in(alloc, deeper.as_slice()),
+        Err(ParseFault::TooDeep(at(6, 206)))
     );
     Ok(())
 }

@@ -1,5 +1,5 @@
 -- Trees that are written with the same forms are the same: a law for each production, whatever stands behind that does not go on with it.
-use Rattle.std.proofs.Common.{◌≡◌, ◌⊎◌, inl, inr, ℕ, ◌+◌, ◌≤◌, ℤ, Bool, List, [], ◌∷◌, ◌++◌, Option, Some, None, refl, sym, ap, ap₂, subst, ◌∙◌, append_assoc, map, arith}
+use Rattle.std.proofs.Common.{◌≡◌, ◌⊎◌, inl, inr, ℕ, ◌+◌, ◌≤◌, ℤ, Bool, List, [], ◌∷◌, ◌++◌, Option, Some, None, refl, sym, ap, ap₂, subst, ◌∙◌, append_assoc, map, zero, suc, arith}
 use Rattle.std.specs.Prelude.{⊤}
 use Rattle.std.proofs.lemmas.List.{append-nil}
 use Rattle.spx_text.specs.declared.place.Place.{Place}
@@ -8,12 +8,18 @@ use Rattle.spx_tree.specs.declared.token.Kind.TheVariants as k
 use Rattle.spx_tree.specs.declared.expression.Identifier.{Identifier}
 use Rattle.spx_tree.specs.declared.expression.InfixOp.{InfixOp}
 use Rattle.spx_tree.specs.declared.expression.InfixOp.TheVariants as op
+use Rattle.spx_tree.specs.declared.expression.PrefixOp.{PrefixOp}
+use Rattle.spx_tree.specs.declared.expression.PrefixOp.TheVariants as signs
 use Rattle.spx_tree.specs.declared.expression.Layer.{Layer}
 use Rattle.spx_tree.specs.declared.expression.Layer.TheVariants as layer
+use Rattle.spx_tree.specs.declared.expression.Name.{Name}
+use Rattle.spx_tree.specs.declared.expression.Name.TheVariants.{Simple, Attribute}
 use Rattle.spx_tree.specs.declared.expression.Expr.{Expr}
-use Rattle.spx_tree.specs.declared.expression.Expr.TheVariants.{Number, Name, Attribute}
+use Rattle.spx_tree.specs.declared.expression.Expr.TheVariants as expr
+use Rattle.spx_tree.specs.declared.declaration.Decl.{Decl}
+use Rattle.spx_tree.specs.declared.declaration.Decl.TheVariants.{Variables}
 use Rattle.spx_tree.specs.declared.statement.Stmt.{Stmt}
-use Rattle.spx_tree.specs.declared.statement.Stmt.TheVariants.{Assignment}
+use Rattle.spx_tree.specs.declared.statement.Stmt.TheVariants.{Null, Assignment}
 use Rattle.spx_tree.specs.declared.annotation.Imports.{Imports}
 use Rattle.spx_tree.specs.declared.annotation.DerivesItem.{DerivesItem}
 use Rattle.spx_tree.specs.declared.annotation.Derives.{Derives}
@@ -21,12 +27,13 @@ use Rattle.spx_tree.specs.declared.annotation.Precondition.{Precondition}
 use Rattle.spx_tree.specs.declared.subprogram.WrittenMode.{WrittenMode}
 use Rattle.spx_tree.specs.declared.subprogram.WrittenMode.TheVariants as modes
 use Rattle.spx_tree.specs.declared.subprogram.Param.{Param}
+use Rattle.spx_tree.specs.declared.subprogram.FormalPart.{FormalPart}
 use Rattle.spx_tree.specs.declared.subprogram.Subprogram.{Subprogram}
 use Rattle.spx_tree.specs.declared.subprogram.Unit.{Unit}
 use Rattle.spx_tree.specs.declared.subprogram.Unit.TheVariants as unit
 use Rattle.spx_tree.specs.Form.{Nothing, Where, Spelled, Valued, Form, bare, placed, named}
-use Rattle.spx_tree.specs.Written.{joined, behind, separated, written_name, written_names, written_expr, operator_kind, operation, written_stmt, written_stmts, written_imports, written_item, written_derives, written_pre, optional, written_mode, written_param, written_formals, written_subprogram, written_unit, written, program, annotation}
-use Rattle.spx_tree.specs.Grammar.{Each, OneOrMore, IfThere, IsNames, rank, layer_of, layer_in, LeftFits, RightFits, Layered, IsExpr, IsStmt, IsItem, IsDerives, IsPrecondition, IsParam, IsSubprogram, IsUnit, IsFile}
+use Rattle.spx_tree.specs.Written.{joined, behind, separated, optional, written_identifier, written_identifiers, written_name, written_names, written_expr, operator_kind, sign_kind, parenthesized, signed, operation, written_decl, written_decls, written_stmt, written_stmts, written_imports, written_item, written_derives, written_pre, written_mode, written_param, written_params, written_formal_part, written_subprogram, written_unit, written, program, annotation}
+use Rattle.spx_tree.specs.Grammar.{Each, OneOrMore, IfThere, IsIdentifiers, IsNames, height, rank, layer_of, layer_in, LeftFits, RightFits, Layered, OfLayer, IsExpr, IsDecl, IsStmt, IsItem, IsDerives, IsPrecondition, IsParam, IsFormalPart, IsSubprogram, IsUnit, IsFile}
 use Rattle.spx_tree.proofs.MoreLevels.{file_more}
 
 -- Lists of forms.
@@ -43,6 +50,9 @@ kept_is e = ap (λ (f : Form). f.kept) e
 where_is : {p q : Place} → Where p ≡ Where q → p ≡ q
 where_is e = cc
 
+kind_is : {f g : Form} → f ≡ g → f.kind ≡ g.kind
+kind_is e = ap (λ (f : Form). f.kind) e
+
 spelled_is : (x y : Identifier) → Spelled x.text x.place ≡ Spelled y.text y.place → x ≡ y
 spelled_is x y e =
     let text : x.text ≡ y.text = cc in
@@ -56,6 +66,9 @@ Lacks f r = (fs : List Form) → r ≡ f ∷ fs → ⊥
 -- what is written once is one value and one rest
 abbrev Once : {A : Type 0} → (A → List Form) → (A → Type 0) → (List Form → Type 0) → Type 0
 Once {A} spell fits Free = (x y : A) (r s : List Form) → fits x → fits y → Free r → Free s → spell x ++ r ≡ spell y ++ s → (x ≡ y) × (r ≡ s)
+
+other_kind : {f g : Form} {fs : List Form} → (f.kind ≡ g.kind → ⊥) → Lacks g (f ∷ fs)
+other_kind differ us e = differ (kind_is (head_is e))
 
 -- with the rest brought to the right
 regroup : (a b r c d s : List Form) → (a ++ b) ++ r ≡ (c ++ d) ++ s → a ++ (b ++ r) ≡ c ++ (d ++ s)
@@ -83,40 +96,60 @@ module _ {A : Type 0} (separator : Form) (spell : A → List Form) (fits : A →
       let more = behind_once xs ys r s fx.1 fy.1 fr fs lr ls one.1 in
       (ap₂ (λ (z : A) (zs : List A). z ∷ zs) one.0 more.0, more.1)
 
--- Names and expressions.
+-- Names.
 
-name_once : (marked : Bool) → Once (written_name marked) (λ name. ⊤) (λ r. ⊤)
-name_once marked x y r s w w' v v' e = (spelled_is x y (kept_is (head_is e)), tail_is e)
+identifier_once : (marked : Bool) → Once (written_identifier marked) (λ identifier. ⊤) (λ r. ⊤)
+identifier_once marked x y r s w w' v v' e = (spelled_is x y (kept_is (head_is e)), tail_is e)
 
-names_once : (marked : Bool) → Once (written_names marked) IsNames (Lacks (bare marked k.Comma))
-names_once marked x y r s fx fy lr ls e = separated_once (bare marked k.Comma) (written_name marked) (λ name. ⊤) (λ us. ⊤) (name_once marked) (λ us. tt) x y r s fx fy tt tt lr ls e
+identifiers_once : (marked : Bool) → Once (written_identifiers marked) IsIdentifiers (Lacks (bare marked k.Comma))
+identifiers_once marked x y r s fx fy lr ls e = separated_once (bare marked k.Comma) (written_identifier marked) (λ identifier. ⊤) (λ us. ⊤) (identifier_once marked) (λ us. tt) x y r s fx fy tt tt lr ls e
 
--- an expression with no operator
-abbrev IsPrimary : Expr → Type 0
-IsPrimary (Number value place) = ⊤
-IsPrimary (Name name) = ⊤
-IsPrimary (Attribute prefix designator) = ⊤
-IsPrimary (operation op place left right) = ⊥
+-- the identifier that a name begins with, and the forms behind it
+name_first : Name → Identifier
+name_first (Simple x) = x
+name_first (Attribute x x') = x
 
-primary_once : (marked : Bool) → Once (written_expr marked) IsPrimary (Lacks (bare marked k.Apostrophe))
-primary_once marked (Number v p) (Number w q) r s fx fy lr ls e =
-    let same : Valued v p ≡ Valued w q = kept_is (head_is e) in
-    let value : v ≡ w = cc in
-    let place : p ≡ q = cc in
-    (ap₂ (λ (z : ℤ) (a : Place). Number z a) value place, tail_is e)
-primary_once marked (Number v p) (Name y) r s fx fy lr ls e = let same : Valued v p ≡ Spelled y.text y.place = kept_is (head_is e) in absurd cc
-primary_once marked (Number v p) (Attribute y y') r s fx fy lr ls e = let same : Valued v p ≡ Spelled y.text y.place = kept_is (head_is e) in absurd cc
-primary_once marked (Number v p) (operation o q y z) r s fx fy lr ls e = absurd fy
-primary_once marked (Name x) (Number w q) r s fx fy lr ls e = let same : Spelled x.text x.place ≡ Valued w q = kept_is (head_is e) in absurd cc
-primary_once marked (Name x) (Name y) r s fx fy lr ls e = (ap (λ (n : Identifier). Name n) (spelled_is x y (kept_is (head_is e))), tail_is e)
-primary_once marked (Name x) (Attribute y y') r s fx fy lr ls e = absurd (lr _ (tail_is e))
-primary_once marked (Name x) (operation o q y z) r s fx fy lr ls e = absurd fy
-primary_once marked (Attribute x x') (Number w q) r s fx fy lr ls e = let same : Spelled x.text x.place ≡ Valued w q = kept_is (head_is e) in absurd cc
-primary_once marked (Attribute x x') (Name y) r s fx fy lr ls e = absurd (ls _ (sym (tail_is e)))
-primary_once marked (Attribute x x') (Attribute y y') r s fx fy lr ls e =
+name_more : Bool → Name → List Form
+name_more marked (Simple x) = []
+name_more marked (Attribute x x') = bare marked k.Apostrophe ∷ named marked x' ∷ []
+
+name_begins : (marked : Bool) (x : Name) (r : List Form) → written_name marked x ++ r ≡ named marked (name_first x) ∷ (name_more marked x ++ r)
+unfolding name_first name_more
+name_begins marked (Simple x) r = refl
+name_begins marked (Attribute x x') r = refl
+
+name_begins_more : (marked : Bool) (x : Name) (b r : List Form) → (written_name marked x ++ b) ++ r ≡ named marked (name_first x) ∷ (name_more marked x ++ (b ++ r))
+name_begins_more marked x b r = append_assoc (written_name marked x) b r ∙ name_begins marked x (b ++ r)
+
+name_kept : (marked : Bool) (x : Name) (r : List Form) {f : Form} {fs : List Form} → written_name marked x ++ r ≡ f ∷ fs → Spelled (name_first x).text (name_first x).place ≡ f.kept
+name_kept marked x r e = kept_is (head_is (sym (name_begins marked x r) ∙ e))
+
+name_kept_more : (marked : Bool) (x : Name) (b r : List Form) {f : Form} {fs : List Form} → (written_name marked x ++ b) ++ r ≡ f ∷ fs → Spelled (name_first x).text (name_first x).place ≡ f.kept
+name_kept_more marked x b r e = kept_is (head_is (sym (name_begins_more marked x b r) ∙ e))
+
+not_placed : (x : Identifier) (place : Place) → Spelled x.text x.place ≡ Where place → ⊥
+not_placed x place e = cc
+
+not_valued : (x : Identifier) (v : ℤ) (place : Place) → Spelled x.text x.place ≡ Valued v place → ⊥
+not_valued x v place e = cc
+
+name_once : (marked : Bool) → Once (written_name marked) (λ name. ⊤) (Lacks (bare marked k.Apostrophe))
+name_once marked (Simple x) (Simple y) r s w w' lr ls e = (ap (λ (n : Identifier). Simple n) (spelled_is x y (kept_is (head_is e))), tail_is e)
+name_once marked (Simple x) (Attribute y y') r s w w' lr ls e = absurd (lr _ (tail_is e))
+name_once marked (Attribute x x') (Simple y) r s w w' lr ls e = absurd (ls _ (sym (tail_is e)))
+name_once marked (Attribute x x') (Attribute y y') r s w w' lr ls e =
     (ap₂ (λ (m n : Identifier). Attribute m n) (spelled_is x y (kept_is (head_is e))) (spelled_is x' y' (kept_is (head_is (tail_is (tail_is e))))), tail_is (tail_is (tail_is e)))
-primary_once marked (Attribute x x') (operation o q y z) r s fx fy lr ls e = absurd fy
-primary_once marked (operation o p x x') y r s fx fy lr ls e = absurd fx
+
+-- no form that goes on with names comes next
+record NamesEnd (marked : Bool) (r : List Form) : Type 0 where
+  apart : Lacks (bare marked k.Apostrophe) r
+  no_comma : Lacks (bare marked k.Comma) r
+
+names_once : (marked : Bool) → Once (written_names marked) IsNames (NamesEnd marked)
+names_once marked x y r s fx fy er es e =
+    separated_once (bare marked k.Comma) (written_name marked) (λ name. ⊤) (Lacks (bare marked k.Apostrophe)) (name_once marked) (λ us. other_kind (λ d. cc)) x y r s fx fy er.apart es.apart er.no_comma es.no_comma e
+
+-- Expressions.
 
 operator_of : Kind → Option InfixOp
 operator_of k.Plus = Some op.Add
@@ -146,14 +179,55 @@ operator_is o o' e = let both : Some o ≡ Some o' = sym (operator_back o) ∙ a
 apart_operator : (marked : Bool) (o : InfixOp) (place : Place) (r : List Form) → Lacks (bare marked k.Apostrophe) (placed marked (operator_kind o) place ∷ r)
 apart_operator marked o place r fs e = let same : Where place ≡ Nothing = kept_is (head_is e) in cc
 
+sign_is : (o o' : PrefixOp) → sign_kind o ≡ sign_kind o' → o ≡ o'
+sign_is signs.Plus signs.Plus e = refl
+sign_is signs.Plus signs.Minus e = absurd cc
+sign_is signs.Minus signs.Plus e = absurd cc
+sign_is signs.Minus signs.Minus e = refl
+
+-- no form that goes on with an expression comes next
+record Ends (marked : Bool) (r : List Form) : Type 0 where
+  apart : Lacks (bare marked k.Apostrophe) r
+  over : (o : InfixOp) (place : Place) → Lacks (placed marked (operator_kind o) place) r
+
+bare_ends : (marked : Bool) (kind : Kind) (r : List Form) → (kind ≡ k.Apostrophe → ⊥) → Ends marked (bare marked kind ∷ r)
+bare_ends marked kind r differs = record { apart = other_kind differs; over = λ o place fs e. no_place place (kept_is (head_is e)) }
+  where
+    no_place : (place : Place) → Nothing ≡ Where place → ⊥
+    no_place place e = cc
+
+-- an expression that stands in parentheses, within so many levels with them
+abbrev IsInner : ℕ → Expr → Type 0
+IsInner levels x = Layered x × (height x + 1 ≤ levels)
+
+-- an expression with no operator and no sign
+abbrev IsPrimary : ℕ → Expr → Type 0
+IsPrimary levels (expr.Number value place) = ⊤
+IsPrimary levels (expr.Name name) = ⊤
+IsPrimary levels (parenthesized place inner) = IsInner levels inner
+IsPrimary levels (signed o place operand) = ⊥
+IsPrimary levels (operation o place left right) = ⊥
+
+-- a sign before a primary
+record IsSigned (levels : ℕ) (x : Expr) : Type 0 where
+  sign : PrefixOp
+  place : Place
+  operand : Expr
+  is : x ≡ signed sign place operand
+  primary : IsPrimary levels operand
+
+-- what a sum begins with
+abbrev IsLead : ℕ → Expr → Type 0
+IsLead levels x = IsPrimary levels x ⊎ IsSigned levels x
+
 -- an adding operator, and the primary behind it
 record Link : Type 0 where
   sign : InfixOp
   place : Place
   right : Expr
 
-abbrev IsLink : Link → Type 0
-IsLink link = (layer_of link.sign ≡ layer.Sum) × IsPrimary link.right
+abbrev IsLink : ℕ → Link → Type 0
+IsLink levels link = (layer_of link.sign ≡ layer.Sum) × IsPrimary levels link.right
 
 written_link : Bool → Link → List Form
 written_link marked link = placed marked (operator_kind link.sign) link.place ∷ written_expr marked link.right
@@ -172,19 +246,6 @@ unfolding written_links
 apart_links marked [] r lr = lr
 apart_links marked (link ∷ links) r lr = apart_operator marked link.sign link.place ((written_expr marked link.right ++ written_links marked links) ++ r)
 
-links_once : (marked : Bool) → Once (written_links marked) (Each IsLink) (SumEnds marked)
-unfolding written_links
-links_once marked [] [] r s fx fy er es e = (refl, e)
-links_once marked [] (y ∷ ys) r s fx fy er es e = absurd (er.over y.sign y.place fy.0.0 _ e)
-links_once marked (x ∷ xs) [] r s fx fy er es e = absurd (es.over x.sign x.place fx.0.0 _ (sym e))
-links_once marked (x ∷ xs) (y ∷ ys) r s fx fy er es e =
-    let sign : x.sign ≡ y.sign = operator_is x.sign y.sign (ap (λ (f : Form). f.kind) (head_is e)) in
-    let place : x.place ≡ y.place = where_is (kept_is (head_is e)) in
-    let right = primary_once marked x.right y.right (written_links marked xs ++ r) (written_links marked ys ++ s) fx.0.1 fy.0.1 (apart_links marked xs r er.apart) (apart_links marked ys s es.apart) (regroup (written_expr marked x.right) _ r (written_expr marked y.right) _ s (tail_is e)) in
-    let more = links_once marked xs ys r s fx.1 fy.1 er es right.1 in
-    let link : x ≡ y = ap₂ (λ (o : InfixOp) (p : Place). record { sign = o; place = p; right = x.right }) sign place ∙ ap (λ (z : Expr). record { sign = y.sign; place = y.place; right = z }) right.0 in
-    (ap₂ (λ (z : Link) (zs : List Link). z ∷ zs) link more.0, more.1)
-
 -- operators group to the left
 grouped : Expr → List Link → Expr
 grouped left [] = left
@@ -202,16 +263,16 @@ links_last marked (other ∷ links) link =
     ap (λ (fs : List Form). placed marked (operator_kind other.sign) other.place ∷ (written_expr marked other.right ++ fs)) (links_last marked links link)
     ∙ ap (λ (fs : List Form). placed marked (operator_kind other.sign) other.place ∷ fs) (sym (append_assoc (written_expr marked other.right) (written_links marked links) (written_link marked link)))
 
-each_last : (links : List Link) (link : Link) → Each IsLink links → IsLink link → Each IsLink (links ++ link ∷ [])
-each_last [] link f g = (g, tt)
-each_last (other ∷ links) link f g = (f.0, each_last links link f.1 g)
+each_last : (levels : ℕ) (links : List Link) (link : Link) → Each (IsLink levels) links → IsLink levels link → Each (IsLink levels) (links ++ link ∷ [])
+each_last levels [] link f g = (g, tt)
+each_last levels (other ∷ links) link f g = (f.0, each_last levels links link f.1 g)
 
 -- a sum, from left to right
-record IsChain (marked : Bool) (x : Expr) : Type 0 where
+record IsChain (marked : Bool) (levels : ℕ) (x : Expr) : Type 0 where
   first : Expr
   links : List Link
-  primary : IsPrimary first
-  each : Each IsLink links
+  lead : IsLead levels first
+  each : Each (IsLink levels) links
   is : x ≡ grouped first links
   text : written_expr marked x ≡ written_expr marked first ++ written_links marked links
 
@@ -220,83 +281,80 @@ adding_is op.Add h = refl
 adding_is op.Subtract h = refl
 adding_is _ h = absurd (omega arith)
 
-primary_is : (x : Expr) → rank (layer_in x) ≤ 0 → IsPrimary x
-primary_is (Number v p) h = tt
-primary_is (Name n) h = tt
-primary_is (Attribute n m) h = tt
-primary_is (operation o p x y) h = absurd (no_primary o h)
+primary_is : (levels : ℕ) (x : Expr) → Layered x → height x ≤ levels → rank (layer_in x) ≤ 0 → IsPrimary levels x
+primary_is levels (expr.Number v p) l low h = tt
+primary_is levels (expr.Name n) l low h = tt
+primary_is levels (parenthesized p x) l low h = (l, low)
+primary_is levels (signed o p x) l low h = absurd (omega arith)
+primary_is levels (operation o p x y) l low h = absurd (no_primary o h)
   where
     no_primary : (o : InfixOp) → rank (layer_of o) ≤ 0 → ⊥
     no_primary op.Add h = omega arith
     no_primary op.Subtract h = omega arith
     no_primary _ h = omega arith
 
-alone : (marked : Bool) (x : Expr) → IsPrimary x → IsChain marked x
+alone : (marked : Bool) (levels : ℕ) (x : Expr) → IsLead levels x → IsChain marked levels x
 unfolding grouped written_links
-alone marked x p = record { first = x; links = []; primary = p; each = tt; is = refl; text = sym (append-nil (written_expr marked x)) }
+alone marked levels x p = record { first = x; links = []; lead = p; each = tt; is = refl; text = sym (append-nil (written_expr marked x)) }
 
-chain_of : (marked : Bool) (x : Expr) → Layered x → rank (layer_in x) ≤ 1 → IsChain marked x
+chain_of : (marked : Bool) (levels : ℕ) (x : Expr) → Layered x → height x ≤ levels → rank (layer_in x) ≤ 1 → IsChain marked levels x
 unfolding written_link
-chain_of marked (Number v p) l h = alone marked (Number v p) tt
-chain_of marked (Name n) l h = alone marked (Name n) tt
-chain_of marked (Attribute n m) l h = alone marked (Attribute n m) tt
-chain_of marked (operation o p x y) l h =
+chain_of marked levels (expr.Number v p) l low h = alone marked levels (expr.Number v p) (inl tt)
+chain_of marked levels (expr.Name n) l low h = alone marked levels (expr.Name n) (inl tt)
+chain_of marked levels (parenthesized p x) l low h = alone marked levels (parenthesized p x) (inl (l, low))
+chain_of marked levels (signed o p x) l low h =
+    alone marked levels (signed o p x) (inr (record { sign = o; place = p; operand = x; is = refl; primary = primary_is levels x l.0 (omega arith) l.1 }))
+chain_of marked levels (operation o p x y) l low h =
     let sum = adding_is o h in
-    let c = chain_of marked x l.0 (subst (λ (a : Layer). LeftFits a (layer_in x)) sum l.2) in
+    let c = chain_of marked levels x l.0 (omega arith) (subst (λ (a : Layer). LeftFits a (layer_in x)) sum l.2) in
     let link : Link = record { sign = o; place = p; right = y } in
     record {
       first = c.first;
       links = c.links ++ link ∷ [];
-      primary = c.primary;
-      each = each_last c.links link c.each (sum, primary_is y (subst (λ (a : Layer). RightFits a (layer_in y)) sum l.3));
+      lead = c.lead;
+      each = each_last levels c.links link c.each (sum, primary_is levels y l.1 (omega arith) (subst (λ (a : Layer). RightFits a (layer_in y)) sum l.3));
       is = ap (λ (z : Expr). operation o p z y) c.is ∙ sym (grouped_last c.first c.links link);
       text = ap (λ (fs : List Form). fs ++ written_link marked link) c.text ∙ append_assoc (written_expr marked c.first) (written_links marked c.links) (written_link marked link) ∙ ap (λ (fs : List Form). written_expr marked c.first ++ fs) (sym (links_last marked c.links link));
     }
 
--- a sum
-abbrev IsSum : Expr → Type 0
-IsSum x = Layered x × (rank (layer_in x) ≤ 1)
-
-sum_once : (marked : Bool) → Once (written_expr marked) IsSum (SumEnds marked)
-sum_once marked x y r s fx fy er es e =
-    let a = chain_of marked x fx.0 fx.1 in
-    let b = chain_of marked y fy.0 fy.1 in
-    let first = primary_once marked a.first b.first (written_links marked a.links ++ r) (written_links marked b.links ++ s) a.primary b.primary (apart_links marked a.links r er.apart) (apart_links marked b.links s es.apart)
-    (regroup (written_expr marked a.first) _ r (written_expr marked b.first) _ s (ap (λ (fs : List Form). fs ++ r) (sym a.text) ∙ e ∙ ap (λ (fs : List Form). fs ++ s) b.text)) in
-    let links = links_once marked a.links b.links r s a.each b.each er es first.1 in
-    (a.is ∙ ap₂ grouped first.0 links.0 ∙ sym b.is, links.1)
-
 -- a relational operator between sums
-record IsRelation (x : Expr) : Type 0 where
+record IsRelation (levels : ℕ) (x : Expr) : Type 0 where
   sign : InfixOp
   place : Place
   left : Expr
   right : Expr
   is : x ≡ operation sign place left right
   by : layer_of sign ≡ layer.Relation
-  left_sum : IsSum left
-  right_sum : IsSum right
+  left_sum : OfLayer layer.Sum levels left
+  right_sum : OfLayer layer.Sum levels right
 
-relation_case : (o : InfixOp) (p : Place) (x y : Expr) → Layered (operation o p x y) → IsSum (operation o p x y) ⊎ IsRelation (operation o p x y)
-relation_case op.Add p x y l = inl (l, omega arith)
-relation_case op.Subtract p x y l = inl (l, omega arith)
-relation_case op.Equal p x y l = inr (record { sign = op.Equal; place = p; left = x; right = y; is = refl; by = refl; left_sum = (l.0, l.2); right_sum = (l.1, l.3) })
-relation_case op.NotEqual p x y l = inr (record { sign = op.NotEqual; place = p; left = x; right = y; is = refl; by = refl; left_sum = (l.0, l.2); right_sum = (l.1, l.3) })
-relation_case op.Less p x y l = inr (record { sign = op.Less; place = p; left = x; right = y; is = refl; by = refl; left_sum = (l.0, l.2); right_sum = (l.1, l.3) })
-relation_case op.LessOrEqual p x y l = inr (record { sign = op.LessOrEqual; place = p; left = x; right = y; is = refl; by = refl; left_sum = (l.0, l.2); right_sum = (l.1, l.3) })
-relation_case op.Greater p x y l = inr (record { sign = op.Greater; place = p; left = x; right = y; is = refl; by = refl; left_sum = (l.0, l.2); right_sum = (l.1, l.3) })
-relation_case op.GreaterOrEqual p x y l = inr (record { sign = op.GreaterOrEqual; place = p; left = x; right = y; is = refl; by = refl; left_sum = (l.0, l.2); right_sum = (l.1, l.3) })
+layer_cases : (o : InfixOp) → (layer_of o ≡ layer.Sum) ⊎ (layer_of o ≡ layer.Relation)
+layer_cases op.Add = inl refl
+layer_cases op.Subtract = inl refl
+layer_cases _ = inr refl
 
-relation_cases : (x : Expr) → Layered x → IsSum x ⊎ IsRelation x
-relation_cases (Number v p) l = inl (l, omega arith)
-relation_cases (Name n) l = inl (l, omega arith)
-relation_cases (Attribute n m) l = inl (l, omega arith)
-relation_cases (operation o p x y) l = relation_case o p x y l
+relation_case : (levels : ℕ) (o : InfixOp) (p : Place) (x y : Expr) → Layered (operation o p x y) → height (operation o p x y) ≤ levels → OfLayer layer.Sum levels (operation o p x y) ⊎ IsRelation levels (operation o p x y)
+relation_case levels o p x y l low =
+    elim (layer_cases o) [
+      | inl by ↦ inl (record { low = low; layered = l; of_layer = subst (λ (a : Layer). rank a ≤ 1) (sym by) (omega arith) })
+      | inr by ↦ inr (record {
+        sign = o;
+        place = p;
+        left = x;
+        right = y;
+        is = refl;
+        by = by;
+        left_sum = record { low = omega arith; layered = l.0; of_layer = subst (λ (a : Layer). LeftFits a (layer_in x)) by l.2 };
+        right_sum = record { low = omega arith; layered = l.1; of_layer = subst (λ (a : Layer). RightFits a (layer_in y)) by l.3 };
+      })
+    ]
 
--- no form that goes on with an expression comes next
-record Ends (marked : Bool) (r : List Form) : Type 0 where
-  apart : Lacks (bare marked k.Apostrophe) r
-  over : (o : InfixOp) (place : Place) → Lacks (placed marked (operator_kind o) place) r
+relation_cases : (levels : ℕ) (x : Expr) → Layered x → height x ≤ levels → OfLayer layer.Sum levels x ⊎ IsRelation levels x
+relation_cases levels (expr.Number v p) l low = inl (record { low = low; layered = l; of_layer = omega arith })
+relation_cases levels (expr.Name n) l low = inl (record { low = low; layered = l; of_layer = omega arith })
+relation_cases levels (parenthesized p x) l low = inl (record { low = low; layered = l; of_layer = omega arith })
+relation_cases levels (signed o p x) l low = inl (record { low = low; layered = l; of_layer = omega arith })
+relation_cases levels (operation o p x y) l low = relation_case levels o p x y l low
 
 ends_sum : (marked : Bool) (r : List Form) → Ends marked r → SumEnds marked r
 ends_sum marked r ends = record { apart = ends.apart; over = λ o place by. ends.over o place }
@@ -308,55 +366,138 @@ relational_closes marked o place r by = record { apart = apart_operator marked o
     apart_layers : (o o' : InfixOp) → layer_of o ≡ layer.Relation → layer_of o' ≡ layer.Sum → o ≡ o' → ⊥
     apart_layers o o' a b e = let both : layer.Relation ≡ layer.Sum = sym a ∙ ap layer_of e ∙ b in cc
 
-relation_text : (marked : Bool) (x : Expr) (a : IsRelation x) (r : List Form) → written_expr marked x ++ r ≡ written_expr marked a.left ++ (placed marked (operator_kind a.sign) a.place ∷ (written_expr marked a.right ++ r))
-relation_text marked x a r = ap (λ (z : Expr). written_expr marked z ++ r) a.is ∙ append_assoc (written_expr marked a.left) (placed marked (operator_kind a.sign) a.place ∷ written_expr marked a.right) r
+-- Where what stands in parentheses is written once, so is an expression.
+module _ (marked : Bool) (levels : ℕ) (inner_once : Once (written_expr marked) (IsInner levels) (Ends marked)) where
+  primary_once : Once (written_expr marked) (IsPrimary levels) (Lacks (bare marked k.Apostrophe))
+  primary_once (expr.Number v p) (expr.Number w q) r s fx fy lr ls e =
+      let same : Valued v p ≡ Valued w q = kept_is (head_is e) in
+      let value : v ≡ w = cc in
+      let place : p ≡ q = cc in
+      (ap₂ (λ (z : ℤ) (a : Place). expr.Number z a) value place, tail_is e)
+  primary_once (expr.Number v p) (expr.Name y) r s fx fy lr ls e = absurd (not_valued (name_first y) v p (name_kept marked y s (sym e)))
+  primary_once (expr.Number v p) (parenthesized q y) r s fx fy lr ls e = let same : Valued v p ≡ Where q = kept_is (head_is e) in absurd cc
+  primary_once (expr.Number v p) (signed o q y) r s fx fy lr ls e = absurd fy
+  primary_once (expr.Number v p) (operation o q y z) r s fx fy lr ls e = absurd fy
+  primary_once (expr.Name x) (expr.Number w q) r s fx fy lr ls e = absurd (not_valued (name_first x) w q (name_kept marked x r e))
+  primary_once (expr.Name x) (expr.Name y) r s fx fy lr ls e = let name = name_once marked x y r s tt tt lr ls e in (ap (λ (n : Name). expr.Name n) name.0, name.1)
+  primary_once (expr.Name x) (parenthesized q y) r s fx fy lr ls e = absurd (not_placed (name_first x) q (name_kept marked x r e))
+  primary_once (expr.Name x) (signed o q y) r s fx fy lr ls e = absurd fy
+  primary_once (expr.Name x) (operation o q y z) r s fx fy lr ls e = absurd fy
+  primary_once (parenthesized p x) (expr.Number w q) r s fx fy lr ls e = let same : Where p ≡ Valued w q = kept_is (head_is e) in absurd cc
+  primary_once (parenthesized p x) (expr.Name y) r s fx fy lr ls e = absurd (not_placed (name_first y) p (name_kept marked y s (sym e)))
+  primary_once (parenthesized p x) (parenthesized q y) r s fx fy lr ls e =
+      let inner = inner_once x y (bare marked k.RightParenthesis ∷ r) (bare marked k.RightParenthesis ∷ s) fx fy (bare_ends marked k.RightParenthesis r (λ d. cc)) (bare_ends marked k.RightParenthesis s (λ d. cc)) (regroup (written_expr marked x) _ r (written_expr marked y) _ s (tail_is e)) in
+      (ap₂ (λ (a : Place) (z : Expr). parenthesized a z) (where_is (kept_is (head_is e))) inner.0, tail_is inner.1)
+  primary_once (parenthesized p x) (signed o q y) r s fx fy lr ls e = absurd fy
+  primary_once (parenthesized p x) (operation o q y z) r s fx fy lr ls e = absurd fy
+  primary_once (signed o p x) y r s fx fy lr ls e = absurd fx
+  primary_once (operation o p x x') y r s fx fy lr ls e = absurd fx
 
--- a sum is not written as a relation that begins with it
-not_both : (marked : Bool) (x y : Expr) (r s : List Form) → IsSum x → IsRelation y → Ends marked r → written_expr marked x ++ r ≡ written_expr marked y ++ s → ⊥
-not_both marked x y r s fit b ends e =
-    let left = sum_once marked x b.left r (placed marked (operator_kind b.sign) b.place ∷ (written_expr marked b.right ++ s)) fit b.left_sum (ends_sum marked r ends) (relational_closes marked b.sign b.place _ b.by) (e ∙ relation_text marked y b s) in
-    ends.over b.sign b.place _ left.1
+  signed_text : (x : Expr) (a : IsSigned levels x) (r : List Form) → written_expr marked x ++ r ≡ placed marked (sign_kind a.sign) a.place ∷ (written_expr marked a.operand ++ r)
+  signed_text x a r = ap (λ (z : Expr). written_expr marked z ++ r) a.is
 
-relations_once : (marked : Bool) (x y : Expr) (r s : List Form) → IsRelation x → IsRelation y → Ends marked r → Ends marked s → written_expr marked x ++ r ≡ written_expr marked y ++ s → (x ≡ y) × (r ≡ s)
-relations_once marked x y r s a b er es e =
-    let left = sum_once marked a.left b.left (placed marked (operator_kind a.sign) a.place ∷ (written_expr marked a.right ++ r)) (placed marked (operator_kind b.sign) b.place ∷ (written_expr marked b.right ++ s)) a.left_sum b.left_sum
-    (relational_closes marked a.sign a.place _ a.by) (relational_closes marked b.sign b.place _ b.by) (sym (relation_text marked x a r) ∙ e ∙ relation_text marked y b s) in
-    let sign : a.sign ≡ b.sign = operator_is a.sign b.sign (ap (λ (f : Form). f.kind) (head_is left.1)) in
-    let place : a.place ≡ b.place = where_is (kept_is (head_is left.1)) in
-    let right = sum_once marked a.right b.right r s a.right_sum b.right_sum (ends_sum marked r er) (ends_sum marked s es) (tail_is left.1) in
-    (a.is ∙ ap₂ (λ (o : InfixOp) (p : Place). operation o p a.left a.right) sign place ∙ ap₂ (λ (z z' : Expr). operation b.sign b.place z z') left.0 right.0 ∙ sym b.is, right.1)
+  -- a sign begins no primary
+  no_sign : (x : Expr) (o : PrefixOp) (place : Place) (r s : List Form) → IsPrimary levels x → written_expr marked x ++ r ≡ placed marked (sign_kind o) place ∷ s → ⊥
+  no_sign (expr.Number v p) o place r s fit e = let same : Valued v p ≡ Where place = kept_is (head_is e) in cc
+  no_sign (expr.Name n) o place r s fit e = not_placed (name_first n) place (name_kept marked n r e)
+  no_sign (parenthesized p x) o place r s fit e = no_parenthesis o (kind_is (head_is e))
+    where
+      no_parenthesis : (o : PrefixOp) → k.LeftParenthesis ≡ sign_kind o → ⊥
+      no_parenthesis signs.Plus d = cc
+      no_parenthesis signs.Minus d = cc
+  no_sign (signed o' p x) o place r s fit e = fit
+  no_sign (operation o' p x y) o place r s fit e = fit
+
+  lead_once : Once (written_expr marked) (IsLead levels) (Lacks (bare marked k.Apostrophe))
+  lead_once x y r s (inl a) (inl b) lr ls e = primary_once x y r s a b lr ls e
+  lead_once x y r s (inl a) (inr b) lr ls e = absurd (no_sign x b.sign b.place r _ a (e ∙ signed_text y b s))
+  lead_once x y r s (inr a) (inl b) lr ls e = absurd (no_sign y a.sign a.place s _ b (sym e ∙ signed_text x a r))
+  lead_once x y r s (inr a) (inr b) lr ls e =
+      let flat = sym (signed_text x a r) ∙ e ∙ signed_text y b s in
+      let sign : a.sign ≡ b.sign = sign_is a.sign b.sign (kind_is (head_is flat)) in
+      let place : a.place ≡ b.place = where_is (kept_is (head_is flat)) in
+      let operand = primary_once a.operand b.operand r s a.primary b.primary lr ls (tail_is flat) in
+      (a.is ∙ ap₂ (λ (o : PrefixOp) (p : Place). signed o p a.operand) sign place ∙ ap (λ (z : Expr). signed b.sign b.place z) operand.0 ∙ sym b.is, operand.1)
+
+  links_once : Once (written_links marked) (Each (IsLink levels)) (SumEnds marked)
+  unfolding written_links
+  links_once [] [] r s fx fy er es e = (refl, e)
+  links_once [] (y ∷ ys) r s fx fy er es e = absurd (er.over y.sign y.place fy.0.0 _ e)
+  links_once (x ∷ xs) [] r s fx fy er es e = absurd (es.over x.sign x.place fx.0.0 _ (sym e))
+  links_once (x ∷ xs) (y ∷ ys) r s fx fy er es e =
+      let sign : x.sign ≡ y.sign = operator_is x.sign y.sign (kind_is (head_is e)) in
+      let place : x.place ≡ y.place = where_is (kept_is (head_is e)) in
+      let right = primary_once x.right y.right (written_links marked xs ++ r) (written_links marked ys ++ s) fx.0.1 fy.0.1 (apart_links marked xs r er.apart) (apart_links marked ys s es.apart) (regroup (written_expr marked x.right) _ r (written_expr marked y.right) _ s (tail_is e)) in
+      let more = links_once xs ys r s fx.1 fy.1 er es right.1 in
+      let link : x ≡ y = ap₂ (λ (o : InfixOp) (p : Place). record { sign = o; place = p; right = x.right }) sign place ∙ ap (λ (z : Expr). record { sign = y.sign; place = y.place; right = z }) right.0 in
+      (ap₂ (λ (z : Link) (zs : List Link). z ∷ zs) link more.0, more.1)
+
+  sum_once : Once (written_expr marked) (OfLayer layer.Sum levels) (SumEnds marked)
+  sum_once x y r s fx fy er es e =
+      let a = chain_of marked levels x fx.layered fx.low fx.of_layer in
+      let b = chain_of marked levels y fy.layered fy.low fy.of_layer in
+      let first = lead_once a.first b.first (written_links marked a.links ++ r) (written_links marked b.links ++ s) a.lead b.lead (apart_links marked a.links r er.apart) (apart_links marked b.links s es.apart)
+      (regroup (written_expr marked a.first) _ r (written_expr marked b.first) _ s (ap (λ (fs : List Form). fs ++ r) (sym a.text) ∙ e ∙ ap (λ (fs : List Form). fs ++ s) b.text)) in
+      let links = links_once a.links b.links r s a.each b.each er es first.1 in
+      (a.is ∙ ap₂ grouped first.0 links.0 ∙ sym b.is, links.1)
+
+  relation_text : (x : Expr) (a : IsRelation levels x) (r : List Form) → written_expr marked x ++ r ≡ written_expr marked a.left ++ (placed marked (operator_kind a.sign) a.place ∷ (written_expr marked a.right ++ r))
+  relation_text x a r = ap (λ (z : Expr). written_expr marked z ++ r) a.is ∙ append_assoc (written_expr marked a.left) (placed marked (operator_kind a.sign) a.place ∷ written_expr marked a.right) r
+
+  -- a sum is not written as a relation that begins with it
+  not_both : (x y : Expr) (r s : List Form) → OfLayer layer.Sum levels x → IsRelation levels y → Ends marked r → written_expr marked x ++ r ≡ written_expr marked y ++ s → ⊥
+  not_both x y r s fit b ends e =
+      let left = sum_once x b.left r (placed marked (operator_kind b.sign) b.place ∷ (written_expr marked b.right ++ s)) fit b.left_sum (ends_sum marked r ends) (relational_closes marked b.sign b.place _ b.by) (e ∙ relation_text y b s) in
+      ends.over b.sign b.place _ left.1
+
+  relations_once : (x y : Expr) (r s : List Form) → IsRelation levels x → IsRelation levels y → Ends marked r → Ends marked s → written_expr marked x ++ r ≡ written_expr marked y ++ s → (x ≡ y) × (r ≡ s)
+  relations_once x y r s a b er es e =
+      let left = sum_once a.left b.left (placed marked (operator_kind a.sign) a.place ∷ (written_expr marked a.right ++ r)) (placed marked (operator_kind b.sign) b.place ∷ (written_expr marked b.right ++ s)) a.left_sum b.left_sum
+      (relational_closes marked a.sign a.place _ a.by) (relational_closes marked b.sign b.place _ b.by) (sym (relation_text x a r) ∙ e ∙ relation_text y b s) in
+      let sign : a.sign ≡ b.sign = operator_is a.sign b.sign (kind_is (head_is left.1)) in
+      let place : a.place ≡ b.place = where_is (kept_is (head_is left.1)) in
+      let right = sum_once a.right b.right r s a.right_sum b.right_sum (ends_sum marked r er) (ends_sum marked s es) (tail_is left.1) in
+      (a.is ∙ ap₂ (λ (o : InfixOp) (p : Place). operation o p a.left a.right) sign place ∙ ap₂ (λ (z z' : Expr). operation b.sign b.place z z') left.0 right.0 ∙ sym b.is, right.1)
+
+  cases_once : (x y : Expr) (r s : List Form) → OfLayer layer.Sum levels x ⊎ IsRelation levels x → OfLayer layer.Sum levels y ⊎ IsRelation levels y → Ends marked r → Ends marked s → written_expr marked x ++ r ≡ written_expr marked y ++ s → (x ≡ y) × (r ≡ s)
+  cases_once x y r s (inl a) (inl b) er es e = sum_once x y r s a b (ends_sum marked r er) (ends_sum marked s es) e
+  cases_once x y r s (inl a) (inr b) er es e = absurd (not_both x y r s a b er e)
+  cases_once x y r s (inr a) (inl b) er es e = absurd (not_both y x s r b a es (sym e))
+  cases_once x y r s (inr a) (inr b) er es e = relations_once x y r s a b er es e
+
+  layered_once : (x y : Expr) (r s : List Form) → Layered x → Layered y → height x ≤ levels → height y ≤ levels → Ends marked r → Ends marked s → written_expr marked x ++ r ≡ written_expr marked y ++ s → (x ≡ y) × (r ≡ s)
+  layered_once x y r s lx ly hx hy er es e = cases_once x y r s (relation_cases levels x lx hx) (relation_cases levels y ly hy) er es e
+
+nested_once : (marked : Bool) (levels : ℕ) → Once (written_expr marked) (IsInner levels) (Ends marked)
+nested_once marked zero x y r s fx fy er es e = let low = fx.1 in absurd (omega arith)
+nested_once marked (suc levels) x y r s fx fy er es e =
+    let low = fx.1 in
+    let low' = fy.1 in
+    layered_once marked levels (nested_once marked levels) x y r s fx.0 fy.0 (omega arith) (omega arith) er es e
 
 expr_once : (marked : Bool) (levels : ℕ) → Once (written_expr marked) (IsExpr levels) (Ends marked)
-expr_once marked levels x y r s fx fy er es e = by_cases (relation_cases x fx.layered) (relation_cases y fy.layered)
-  where
-    by_cases : IsSum x ⊎ IsRelation x → IsSum y ⊎ IsRelation y → (x ≡ y) × (r ≡ s)
-    by_cases (inl a) (inl b) = sum_once marked x y r s a b (ends_sum marked r er) (ends_sum marked s es) e
-    by_cases (inl a) (inr b) = absurd (not_both marked x y r s a b er e)
-    by_cases (inr a) (inl b) = absurd (not_both marked y x s r b a es (sym e))
-    by_cases (inr a) (inr b) = relations_once marked x y r s a b er es e
+expr_once marked levels x y r s fx fy er es e = layered_once marked levels (nested_once marked levels) x y r s fx.layered fy.layered fx.low fy.low er es e
 
--- Statements.
+-- Declarations and statements.
 
-kind_is : {f g : Form} → f ≡ g → f.kind ≡ g.kind
-kind_is e = ap (λ (f : Form). f.kind) e
-
-other_kind : {f g : Form} {fs : List Form} → (f.kind ≡ g.kind → ⊥) → Lacks g (f ∷ fs)
-other_kind differ us e = differ (kind_is (head_is e))
-
-semicolon_ends : (marked : Bool) (r : List Form) → Ends marked (bare marked k.Semicolon ∷ r)
-semicolon_ends marked r = record { apart = other_kind (λ e. cc); over = λ o place fs e. no_place place (kept_is (head_is e)) }
-  where
-    no_place : (place : Place) → Nothing ≡ Where place → ⊥
-    no_place place e = cc
+decl_once : Once written_decl IsDecl (λ r. ⊤)
+decl_once (Variables xs t) (Variables ys t') r s fx fy u u' e =
+    let names = identifiers_once program xs ys (bare program k.Colon ∷ ((written_name program t ++ bare program k.Semicolon ∷ []) ++ r)) (bare program k.Colon ∷ ((written_name program t' ++ bare program k.Semicolon ∷ []) ++ s)) fx fy (other_kind (λ d. cc)) (other_kind (λ d. cc)) (regroup (written_identifiers program xs) _ r (written_identifiers program ys) _ s e) in
+    let type_name = name_once program t t' (bare program k.Semicolon ∷ r) (bare program k.Semicolon ∷ s) tt tt (other_kind (λ d. cc)) (other_kind (λ d. cc)) (regroup (written_name program t) _ r (written_name program t') _ s (tail_is names.1)) in
+    (ap₂ (λ (ns : List Identifier) (n : Name). Variables ns n) names.0 type_name.0, tail_is type_name.1)
 
 stmt_once : (levels : ℕ) → Once written_stmt (IsStmt levels) (λ r. ⊤)
+stmt_once levels (Null p) (Null q) r s fx fy u u' e = (ap (λ (a : Place). Null a) (where_is (kept_is (head_is e))), tail_is (tail_is e))
+stmt_once levels (Null p) (Assignment y w) r s fx fy u u' e = absurd (not_placed (name_first y) p (name_kept_more program y _ s (sym e)))
+stmt_once levels (Assignment x v) (Null q) r s fx fy u u' e = absurd (not_placed (name_first x) q (name_kept_more program x _ r e))
 stmt_once levels (Assignment x v) (Assignment y w) r s fx fy u u' e =
-    let value = expr_once program levels v w (bare program k.Semicolon ∷ r) (bare program k.Semicolon ∷ s) fx fy (semicolon_ends program r) (semicolon_ends program s) (regroup (written_expr program v) _ r (written_expr program w) _ s (tail_is (tail_is e))) in
-    (ap₂ (λ (n : Identifier) (z : Expr). Assignment n z) (spelled_is x y (kept_is (head_is e))) value.0, tail_is value.1)
+    let target = name_once program x y (bare program k.Assignment ∷ ((written_expr program v ++ bare program k.Semicolon ∷ []) ++ r)) (bare program k.Assignment ∷ ((written_expr program w ++ bare program k.Semicolon ∷ []) ++ s)) tt tt (other_kind (λ d. cc)) (other_kind (λ d. cc)) (regroup (written_name program x) _ r (written_name program y) _ s e) in
+    let value = expr_once program levels v w (bare program k.Semicolon ∷ r) (bare program k.Semicolon ∷ s) fx fy (bare_ends program k.Semicolon r (λ d. cc)) (bare_ends program k.Semicolon s (λ d. cc)) (regroup (written_expr program v) _ r (written_expr program w) _ s (tail_is target.1)) in
+    (ap₂ (λ (n : Name) (z : Expr). Assignment n z) target.0 value.0, tail_is value.1)
 
 -- Annotations.
 
-each_name : (names : List Identifier) → Each (λ name. ⊤) names
+each_name : (names : List Name) → Each (λ name. ⊤) names
 each_name [] = tt
 each_name (name ∷ names) = (tt, each_name names)
 
@@ -365,44 +506,51 @@ comma = bare annotation k.Comma
 
 -- no form that goes on with imports comes next
 record Closes (r : List Form) : Type 0 where
-  no_comma : Lacks comma r
+  names : NamesEnd annotation r
   no_star : (place : Place) → Lacks (placed annotation k.Asterisk place) r
   no_name : (name : Identifier) → Lacks (named annotation name) r
 
-closes_by : (kind : Kind) (r : List Form) → (kind ≡ k.Comma → ⊥) → (kind ≡ k.Asterisk → ⊥) → (kind ≡ k.Identifier → ⊥) → Closes (bare annotation kind ∷ r)
-closes_by kind r comma star name = record { no_comma = other_kind comma; no_star = λ place. other_kind star; no_name = λ n. other_kind name }
+closes_by : (kind : Kind) (r : List Form) → (kind ≡ k.Apostrophe → ⊥) → (kind ≡ k.Comma → ⊥) → (kind ≡ k.Asterisk → ⊥) → (kind ≡ k.Identifier → ⊥) → Closes (bare annotation kind ∷ r)
+closes_by kind r apart comma star name = record { names = record { apart = other_kind apart; no_comma = other_kind comma }; no_star = λ place. other_kind star; no_name = λ n. other_kind name }
 
-not_placed : (x : Identifier) (place : Place) → Spelled x.text x.place ≡ Where place → ⊥
-not_placed x place e = cc
-
-imports_once : (a b : Option Place) (xs ys : List Identifier) (r s : List Form) → Closes r → Closes s → written_imports a xs ++ r ≡ written_imports b ys ++ s → (a ≡ b) × (xs ≡ ys) × (r ≡ s)
+imports_once : (a b : Option Place) (xs ys : List Name) (r s : List Form) → Closes r → Closes s → written_imports a xs ++ r ≡ written_imports b ys ++ s → (a ≡ b) × (xs ≡ ys) × (r ≡ s)
 imports_once None None [] [] r s cr cs e = (refl, refl, e)
-imports_once None None [] (y ∷ ys) r s cr cs e = absurd (cr.no_name y _ e)
-imports_once None None (x ∷ xs) [] r s cr cs e = absurd (cs.no_name x _ (sym e))
-imports_once None None (x ∷ xs) (y ∷ ys) r s cr cs e =
-    let names = names_once annotation (x ∷ xs) (y ∷ ys) r s (tt, each_name xs) (tt, each_name ys) cr.no_comma cs.no_comma e in (refl, names.0, names.1)
+imports_once None None [] (y ∷ ys) r s cr cs e = absurd (cr.no_name (name_first y) _ (e ∙ name_begins_more annotation y _ s))
+imports_once None None (x ∷ xs) [] r s cr cs e = absurd (cs.no_name (name_first x) _ (sym e ∙ name_begins_more annotation x _ r))
+imports_once None None (x ∷ xs) (y ∷ ys) r s cr cs e = let names = names_once annotation (x ∷ xs) (y ∷ ys) r s (tt, each_name xs) (tt, each_name ys) cr.names cs.names e in (refl, names.0, names.1)
 imports_once None (Some q) [] ys r s cr cs e = absurd (cr.no_star q _ e)
-imports_once None (Some q) (x ∷ xs) ys r s cr cs e = absurd (not_placed x q (kept_is (head_is e)))
+imports_once None (Some q) (x ∷ xs) ys r s cr cs e = absurd (not_placed (name_first x) q (name_kept_more annotation x _ r e))
 imports_once (Some p) None xs [] r s cr cs e = absurd (cs.no_star p _ (sym e))
-imports_once (Some p) None xs (y ∷ ys) r s cr cs e = absurd (not_placed y p (sym (kept_is (head_is e))))
+imports_once (Some p) None xs (y ∷ ys) r s cr cs e = absurd (not_placed (name_first y) p (name_kept_more annotation y _ s (sym e)))
 imports_once (Some p) (Some q) xs ys r s cr cs e =
-    let names = behind_once comma (written_name annotation) (λ name. ⊤) (λ us. ⊤) (name_once annotation) (λ us. tt) xs ys r s (each_name xs) (each_name ys) tt tt cr.no_comma cs.no_comma (tail_is e) in
+    let names = behind_once comma (written_name annotation) (λ name. ⊤) (Lacks (bare annotation k.Apostrophe)) (name_once annotation) (λ us. other_kind (λ d. cc)) xs ys r s (each_name xs) (each_name ys) cr.names.apart cs.names.apart cr.names.no_comma cs.names.no_comma (tail_is e) in
     (ap (λ (place : Place). Some place) (where_is (kept_is (head_is e))), names.0, names.1)
+
+-- no name goes on with the word "from"
+from_ends : (r : List Form) → NamesEnd annotation (bare annotation k.From ∷ r)
+from_ends r = record { apart = other_kind (λ d. cc); no_comma = other_kind (λ d. cc) }
 
 item_once : Once written_item IsItem Closes
 item_once x y r s fx fy cr cs e =
-    let exports = names_once annotation x.exports y.exports (bare annotation k.From ∷ (written_imports x.imports.itself x.imports.names ++ r)) (bare annotation k.From ∷ (written_imports y.imports.itself y.imports.names ++ s)) fx fy (other_kind (λ d. cc)) (other_kind (λ d. cc)) (regroup (written_names annotation x.exports) _ r (written_names annotation y.exports) _ s e) in
+    let exports = names_once annotation x.exports y.exports (bare annotation k.From ∷ (written_imports x.imports.itself x.imports.names ++ r)) (bare annotation k.From ∷ (written_imports y.imports.itself y.imports.names ++ s)) fx fy (from_ends _) (from_ends _) (regroup (written_names annotation x.exports) _ r (written_names annotation y.exports) _ s e) in
     let imports = imports_once x.imports.itself y.imports.itself x.imports.names y.imports.names r s cr cs (tail_is exports.1) in
-    (ap₂ (λ (names : List Identifier) (i : Imports). record { exports = names; imports = i }) exports.0 (ap₂ (λ (place : Option Place) (names : List Identifier). record { itself = place; names = names }) imports.0 imports.1), imports.2)
+    (ap₂ (λ (names : List Name) (i : Imports). record { exports = names; imports = i }) exports.0 (ap₂ (λ (place : Option Place) (names : List Name). record { itself = place; names = names }) imports.0 imports.1), imports.2)
+
+-- no form that goes on with imports is a semicolon or an ampersand
+semicolon_closes : (r : List Form) → Closes (bare annotation k.Semicolon ∷ r)
+semicolon_closes r = closes_by k.Semicolon r (λ d. cc) (λ d. cc) (λ d. cc) (λ d. cc)
+
+ampersand_closes : (r : List Form) → Closes (bare annotation k.Ampersand ∷ r)
+ampersand_closes r = closes_by k.Ampersand r (λ d. cc) (λ d. cc) (λ d. cc) (λ d. cc)
 
 derives_once : Once written_derives IsDerives (λ r. ⊤)
 derives_once x y r s fx fy u u' e =
-    let items = separated_once (bare annotation k.Ampersand) written_item IsItem Closes item_once (λ us. closes_by k.Ampersand us (λ d. cc) (λ d. cc) (λ d. cc)) x.items y.items (bare annotation k.Semicolon ∷ r) (bare annotation k.Semicolon ∷ s) fx fy (closes_by k.Semicolon r (λ d. cc) (λ d. cc) (λ d. cc)) (closes_by k.Semicolon s (λ d. cc) (λ d. cc) (λ d. cc)) (other_kind (λ d. cc)) (other_kind (λ d. cc)) (regroup (separated (bare annotation k.Ampersand) written_item x.items) _ r (separated (bare annotation k.Ampersand) written_item y.items) _ s (tail_is e)) in
+    let items = separated_once (bare annotation k.Ampersand) written_item IsItem Closes item_once ampersand_closes x.items y.items (bare annotation k.Semicolon ∷ r) (bare annotation k.Semicolon ∷ s) fx fy (semicolon_closes r) (semicolon_closes s) (other_kind (λ d. cc)) (other_kind (λ d. cc)) (regroup (separated (bare annotation k.Ampersand) written_item x.items) _ r (separated (bare annotation k.Ampersand) written_item y.items) _ s (tail_is e)) in
     (ap₂ (λ (p : Place) (is : List DerivesItem). record { place = p; items = is }) (where_is (kept_is (head_is e))) items.0, tail_is items.1)
 
 pre_once : (levels : ℕ) → Once written_pre (IsPrecondition levels) (λ r. ⊤)
 pre_once levels x y r s fx fy u u' e =
-    let condition = expr_once annotation levels x.condition y.condition (bare annotation k.Semicolon ∷ r) (bare annotation k.Semicolon ∷ s) fx fy (semicolon_ends annotation r) (semicolon_ends annotation s) (regroup (written_expr annotation x.condition) _ r (written_expr annotation y.condition) _ s (tail_is e)) in
+    let condition = expr_once annotation levels x.condition y.condition (bare annotation k.Semicolon ∷ r) (bare annotation k.Semicolon ∷ s) fx fy (bare_ends annotation k.Semicolon r (λ d. cc)) (bare_ends annotation k.Semicolon s (λ d. cc)) (regroup (written_expr annotation x.condition) _ r (written_expr annotation y.condition) _ s (tail_is e)) in
     (ap₂ (λ (p : Place) (c : Expr). record { place = p; condition = c }) (where_is (kept_is (head_is e))) condition.0, tail_is condition.1)
 
 -- Subprograms and units.
@@ -435,25 +583,37 @@ mode_back modes.In x r = refl
 mode_back modes.Out x r = refl
 mode_back modes.InOut x r = refl
 
+mode_before : (m : WrittenMode) (x : Name) (r : List Form) → mode_of (written_mode m ++ (written_name program x ++ r)) ≡ m
+mode_before m x r = ap (λ (fs : List Form). mode_of (written_mode m ++ fs)) (name_begins program x r) ∙ mode_back m (name_first x) (name_more program x ++ r)
+
+mode_once : (m n : WrittenMode) (x y : Name) (r s : List Form) → written_mode m ++ (written_name program x ++ r) ≡ written_mode n ++ (written_name program y ++ s) → m ≡ n
+mode_once m n x y r s e = sym (mode_before m x r) ∙ ap mode_of e ∙ mode_before n y s
+
 mode_rest : (m : WrittenMode) (r s : List Form) → written_mode m ++ r ≡ written_mode m ++ s → r ≡ s
 mode_rest modes.Unwritten r s e = e
 mode_rest modes.In r s e = tail_is e
 mode_rest modes.Out r s e = tail_is e
 mode_rest modes.InOut r s e = tail_is (tail_is e)
 
-param_once : Once written_param IsParam (λ r. ⊤)
-param_once x y r s fx fy u u' e =
-    let names = names_once program x.names y.names (bare program k.Colon ∷ ((written_mode x.mode ++ written_name program x.type_name) ++ r)) (bare program k.Colon ∷ ((written_mode y.mode ++ written_name program y.type_name) ++ s)) fx fy (other_kind (λ d. cc)) (other_kind (λ d. cc)) (regroup (written_names program x.names) _ r (written_names program y.names) _ s e) in
-    let behind_colon = regroup (written_mode x.mode) (written_name program x.type_name) r (written_mode y.mode) (written_name program y.type_name) s (tail_is names.1) in
-    let mode : x.mode ≡ y.mode = sym (mode_back x.mode x.type_name r) ∙ ap mode_of behind_colon ∙ mode_back y.mode y.type_name s in
-    let last = mode_rest y.mode (named program x.type_name ∷ r) (named program y.type_name ∷ s) (ap (λ (m : WrittenMode). written_mode m ++ named program x.type_name ∷ r) (sym mode) ∙ behind_colon) in (
-      ap₂ (λ (ns : List Identifier) (t : Identifier). record { names = ns; mode = x.mode; type_name = t }) names.0 (spelled_is x.type_name y.type_name (kept_is (head_is last)))
-          ∙ ap (λ (m : WrittenMode). record { names = y.names; mode = m; type_name = y.type_name }) mode,
-      tail_is last,
-    )
+abbrev made_param : List Identifier → WrittenMode → Name → Param
+made_param names mode type_name = record { names = names; mode = mode; type_name = type_name }
 
-formals_once : (xs ys : List Param) (r s : List Form) → OneOrMore IsParam xs → OneOrMore IsParam ys → Lacks (bare program k.Semicolon) r → Lacks (bare program k.Semicolon) s → written_formals xs ++ r ≡ written_formals ys ++ s → (xs ≡ ys) × (r ≡ s)
-formals_once xs ys r s fx fy lr ls e = separated_once (bare program k.Semicolon) written_param IsParam (λ us. ⊤) param_once (λ us. tt) xs ys r s fx fy tt tt lr ls e
+param_same : (x y : Param) → x.names ≡ y.names → x.mode ≡ y.mode → x.type_name ≡ y.type_name → x ≡ y
+param_same x y names mode type_name = let same : made_param x.names x.mode x.type_name ≡ made_param y.names y.mode y.type_name = cc in same
+
+param_once : Once written_param IsParam (Lacks (bare program k.Apostrophe))
+param_once x y r s fx fy lr ls e =
+    let names = identifiers_once program x.names y.names (bare program k.Colon ∷ ((written_mode x.mode ++ written_name program x.type_name) ++ r)) (bare program k.Colon ∷ ((written_mode y.mode ++ written_name program y.type_name) ++ s)) fx fy (other_kind (λ d. cc)) (other_kind (λ d. cc)) (regroup (written_identifiers program x.names) _ r (written_identifiers program y.names) _ s e) in
+    let behind_colon = regroup (written_mode x.mode) (written_name program x.type_name) r (written_mode y.mode) (written_name program y.type_name) s (tail_is names.1) in
+    let mode : x.mode ≡ y.mode = mode_once x.mode y.mode x.type_name y.type_name r s behind_colon in
+    let last = mode_rest y.mode (written_name program x.type_name ++ r) (written_name program y.type_name ++ s) (ap (λ (m : WrittenMode). written_mode m ++ (written_name program x.type_name ++ r)) (sym mode) ∙ behind_colon) in
+    let type_name = name_once program x.type_name y.type_name r s tt tt lr ls last in
+    (param_same x y names.0 mode type_name.0, type_name.1)
+
+formal_part_once : Once written_formal_part IsFormalPart (λ r. ⊤)
+formal_part_once x y r s fx fy u u' e =
+    let params = separated_once (bare program k.Semicolon) written_param IsParam (Lacks (bare program k.Apostrophe)) param_once (λ us. other_kind (λ d. cc)) x.params y.params (bare program k.RightParenthesis ∷ r) (bare program k.RightParenthesis ∷ s) fx fy (other_kind (λ d. cc)) (other_kind (λ d. cc)) (other_kind (λ d. cc)) (other_kind (λ d. cc)) (regroup (written_params x.params) _ r (written_params y.params) _ s (tail_is e)) in
+    (ap₂ (λ (p : Place) (ps : List Param). record { place = p; params = ps }) (where_is (kept_is (head_is e))) params.0, tail_is params.1)
 
 -- items one after another, where what stands behind begins no item
 module _ {A : Type 0} (spell : A → List Form) (fits : A → Type 0) (first : A → Form) (more : A → List Form) (begins : (x : A) → spell x ≡ first x ∷ more x) (once : Once spell fits (λ r. ⊤)) where
@@ -466,15 +626,42 @@ module _ {A : Type 0} (spell : A → List Form) (fits : A → Type 0) (first : A
       let rest = joined_once xs ys r s fx.1 fy.1 lr ls one.1 in
       (ap₂ (λ (z : A) (zs : List A). z ∷ zs) one.0 rest.0, rest.1)
 
+-- what a declaration begins with, and the forms behind it
+decl_first : Decl → Form
+decl_first (Variables [] t) = bare program k.Colon
+decl_first (Variables (x ∷ xs) t) = named program x
+
+decl_more : Decl → List Form
+decl_more (Variables [] t) = written_name program t ++ bare program k.Semicolon ∷ []
+decl_more (Variables (x ∷ xs) t) = behind (bare program k.Comma) (written_identifier program) xs ++ bare program k.Colon ∷ (written_name program t ++ bare program k.Semicolon ∷ [])
+
+decl_begins : (x : Decl) → written_decl x ≡ decl_first x ∷ decl_more x
+unfolding decl_first decl_more
+decl_begins (Variables [] t) = refl
+decl_begins (Variables (x ∷ xs) t) = refl
+
+-- the word "begin" begins no declaration
+begin_closes : (r : List Form) (x : Decl) → Lacks (decl_first x) (bare program k.Begin ∷ r)
+unfolding decl_first
+begin_closes r (Variables [] t) = other_kind (λ d. cc)
+begin_closes r (Variables (x ∷ xs) t) = other_kind (λ d. cc)
+
+declarations_once : (xs ys : List Decl) (r s : List Form) → Each IsDecl xs → Each IsDecl ys → ((x : Decl) → Lacks (decl_first x) r) → ((x : Decl) → Lacks (decl_first x) s) → written_decls xs ++ r ≡ written_decls ys ++ s → (xs ≡ ys) × (r ≡ s)
+declarations_once xs ys r s fx fy lr ls e = joined_once written_decl IsDecl decl_first decl_more decl_begins decl_once xs ys r s fx fy lr ls e
+
+-- what a statement begins with, and the forms behind it
 stmt_first : Stmt → Form
-stmt_first (Assignment target expr) = named program target
+stmt_first (Null place) = placed program k.Null place
+stmt_first (Assignment target value) = named program (name_first target)
 
 stmt_more : Stmt → List Form
-stmt_more (Assignment target expr) = bare program k.Assignment ∷ (written_expr program expr ++ bare program k.Semicolon ∷ [])
+stmt_more (Null place) = bare program k.Semicolon ∷ []
+stmt_more (Assignment target value) = name_more program target ++ bare program k.Assignment ∷ (written_expr program value ++ bare program k.Semicolon ∷ [])
 
 stmt_begins : (x : Stmt) → written_stmt x ≡ stmt_first x ∷ stmt_more x
 unfolding stmt_first stmt_more
-stmt_begins (Assignment target expr) = refl
+stmt_begins (Null place) = refl
+stmt_begins (Assignment target value) = name_begins program target _
 
 each_of : {A : Type 0} (P : A → Type 0) (xs : List A) → OneOrMore P xs → Each P xs
 each_of P [] f = absurd f
@@ -483,7 +670,8 @@ each_of P (x ∷ xs) f = f
 -- the word "end" begins no statement
 end_closes : (place : Place) (r : List Form) (x : Stmt) → Lacks (stmt_first x) (placed program k.End place ∷ r)
 unfolding stmt_first
-end_closes place r (Assignment target expr) = other_kind (λ d. cc)
+end_closes place r (Null at) = other_kind (λ d. cc)
+end_closes place r (Assignment target value) = other_kind (λ d. cc)
 
 statements_once : (levels : ℕ) (xs ys : List Stmt) (r s : List Form) → OneOrMore (IsStmt levels) xs → OneOrMore (IsStmt levels) ys → ((x : Stmt) → Lacks (stmt_first x) r) → ((x : Stmt) → Lacks (stmt_first x) s) → written_stmts xs ++ r ≡ written_stmts ys ++ s → (xs ≡ ys) × (r ≡ s)
 statements_once levels xs ys r s fx fy lr ls e = joined_once written_stmt (IsStmt levels) stmt_first stmt_more stmt_begins (stmt_once levels) xs ys r s (each_of (IsStmt levels) xs fx) (each_of (IsStmt levels) ys fy) lr ls e
@@ -493,39 +681,66 @@ abbrev from_semicolon : List Form → List Form
 from_semicolon r = bare program k.Semicolon ∷ r
 
 abbrev from_end : Subprogram → List Form → List Form
-from_end x r = placed program k.End x.end ∷ (optional (written_name program) x.end_name ++ from_semicolon r)
+from_end x r = placed program k.End x.end ∷ (optional (written_identifier program) x.end_name ++ from_semicolon r)
+
+abbrev from_begin : Subprogram → List Form → List Form
+from_begin x r = bare program k.Begin ∷ (written_stmts x.statements ++ from_end x r)
 
 abbrev from_is : Subprogram → List Form → List Form
-from_is x r = bare program k.Is ∷ bare program k.Begin ∷ (written_stmts x.statements ++ from_end x r)
+from_is x r = bare program k.Is ∷ (written_decls x.declarations ++ from_begin x r)
+
+abbrev from_pre : Subprogram → List Form → List Form
+from_pre x r = optional written_pre x.pre ++ from_is x r
 
 abbrev from_derives : Subprogram → List Form → List Form
-from_derives x r = written_derives x.derives ++ (optional written_pre x.pre ++ from_is x r)
+from_derives x r = optional written_derives x.derives ++ from_pre x r
 
-abbrev from_formals : Subprogram → List Form → List Form
-from_formals x r = written_formals x.formals ++ bare program k.RightParenthesis ∷ from_derives x r
+abbrev from_formal_part : Subprogram → List Form → List Form
+from_formal_part x r = optional written_formal_part x.formal_part ++ from_derives x r
 
-subprogram_flat : (x : Subprogram) (r : List Form) → written_subprogram x ++ r ≡ placed program k.Procedure x.place ∷ named program x.name ∷ bare program k.LeftParenthesis ∷ from_formals x r
+subprogram_flat : (x : Subprogram) (r : List Form) → written_subprogram x ++ r ≡ placed program k.Procedure x.place ∷ named program x.name ∷ from_formal_part x r
 subprogram_flat x r = simp append_assoc
 
-abbrev made : Place → Identifier → List Param → Derives → Option Precondition → List Stmt → Place → Option Identifier → Subprogram
-made place name formals derives pre statements end end_name = record { place = place; name = name; formals = formals; derives = derives; pre = pre; statements = statements; end = end; end_name = end_name }
+-- where no "(" follows the name, none comes next
+no_formal_part : (place : Place) (d : Option Derives) (p : Option Precondition) (r : List Form) → Lacks (placed program k.LeftParenthesis place) (optional written_derives d ++ (optional written_pre p ++ bare program k.Is ∷ r))
+no_formal_part place None None r = other_kind (λ d. cc)
+no_formal_part place None (Some p) r = other_kind (λ d. cc)
+no_formal_part place (Some d) p r = other_kind (λ d. cc)
 
-fields_same : (x y : Subprogram) → x.place ≡ y.place → x.name ≡ y.name → x.formals ≡ y.formals → x.derives ≡ y.derives → x.pre ≡ y.pre → x.statements ≡ y.statements → x.end ≡ y.end → x.end_name ≡ y.end_name → x ≡ y
-fields_same x y place name formals derives pre statements end end_name =
-    let same : made x.place x.name x.formals x.derives x.pre x.statements x.end x.end_name ≡ made y.place y.name y.formals y.derives y.pre y.statements y.end y.end_name = cc in same
+no_derives : (place : Place) (p : Option Precondition) (r : List Form) → Lacks (placed annotation k.Derives place) (optional written_pre p ++ bare program k.Is ∷ r)
+no_derives place None r = other_kind (λ d. cc)
+no_derives place (Some p) r = other_kind (λ d. cc)
+
+abbrev made : Place → Identifier → Option FormalPart → Option Derives → Option Precondition → List Decl → List Stmt → Place → Option Identifier → Subprogram
+made place name formal_part derives pre declarations statements end end_name =
+    record { place = place; name = name; formal_part = formal_part; derives = derives; pre = pre; declarations = declarations; statements = statements; end = end; end_name = end_name }
+
+fields_same : (x y : Subprogram) → x.place ≡ y.place → x.name ≡ y.name → x.formal_part ≡ y.formal_part → x.derives ≡ y.derives → x.pre ≡ y.pre → x.declarations ≡ y.declarations → x.statements ≡ y.statements → x.end ≡ y.end → x.end_name ≡ y.end_name → x ≡ y
+fields_same x y place name formal_part derives pre declarations statements end end_name =
+    let same : made x.place x.name x.formal_part x.derives x.pre x.declarations x.statements x.end x.end_name ≡ made y.place y.name y.formal_part y.derives y.pre y.declarations y.statements y.end y.end_name = cc in same
+
+formal_parts_once : Once (optional written_formal_part) (IfThere IsFormalPart) (λ r. (x : FormalPart) → Lacks (placed program k.LeftParenthesis x.place) r)
+formal_parts_once = optional_once written_formal_part IsFormalPart (λ x. placed program k.LeftParenthesis x.place) (λ x. written_params x.params ++ bare program k.RightParenthesis ∷ []) (λ x. refl) formal_part_once
+
+all_derives_once : Once (optional written_derives) (IfThere IsDerives) (λ r. (x : Derives) → Lacks (placed annotation k.Derives x.place) r)
+all_derives_once = optional_once written_derives IsDerives (λ x. placed annotation k.Derives x.place) (λ x. separated (bare annotation k.Ampersand) written_item x.items ++ bare annotation k.Semicolon ∷ []) (λ x. refl) derives_once
+
+pres_once : (levels : ℕ) → Once (optional written_pre) (IfThere (IsPrecondition levels)) (λ r. (x : Precondition) → Lacks (placed annotation k.Pre x.place) r)
+pres_once levels = optional_once written_pre (IsPrecondition levels) (λ p. placed annotation k.Pre p.place) (λ p. written_expr annotation p.condition ++ bare annotation k.Semicolon ∷ []) (λ p. refl) (pre_once levels)
 
 subprogram_once : (levels : ℕ) → Once written_subprogram (IsSubprogram levels) (λ r. ⊤)
 subprogram_once levels x y r s fx fy u u' e =
     let flat = sym (subprogram_flat x r) ∙ e ∙ subprogram_flat y s in
     let place : x.place ≡ y.place = where_is (kept_is (head_is flat)) in
     let name : x.name ≡ y.name = spelled_is x.name y.name (kept_is (head_is (tail_is flat))) in
-    let formals = formals_once x.formals y.formals _ _ fx.formals fy.formals (other_kind (λ d. cc)) (other_kind (λ d. cc)) (tail_is (tail_is (tail_is flat))) in
-    let derives = derives_once x.derives y.derives _ _ fx.derives fy.derives tt tt (tail_is formals.1) in
-    let pre = optional_once written_pre (IsPrecondition levels) (λ p. placed annotation k.Pre p.place) (λ p. written_expr annotation p.condition ++ bare annotation k.Semicolon ∷ []) (λ p. refl) (pre_once levels) x.pre y.pre (from_is x r) (from_is y s) fx.pre fy.pre (λ p. other_kind (λ d. cc)) (λ p. other_kind (λ d. cc)) derives.1 in
-    let statements = statements_once levels x.statements y.statements _ _ fx.statements fy.statements (end_closes x.end _) (end_closes y.end _) (tail_is (tail_is pre.1)) in
+    let formal_part = formal_parts_once x.formal_part y.formal_part (from_derives x r) (from_derives y s) fx.formal_part fy.formal_part (λ f. no_formal_part f.place x.derives x.pre _) (λ f. no_formal_part f.place y.derives y.pre _) (tail_is (tail_is flat)) in
+    let derives = all_derives_once x.derives y.derives (from_pre x r) (from_pre y s) fx.derives fy.derives (λ d. no_derives d.place x.pre _) (λ d. no_derives d.place y.pre _) formal_part.1 in
+    let pre = pres_once levels x.pre y.pre (from_is x r) (from_is y s) fx.pre fy.pre (λ p. other_kind (λ d. cc)) (λ p. other_kind (λ d. cc)) derives.1 in
+    let declarations = declarations_once x.declarations y.declarations (from_begin x r) (from_begin y s) fx.declarations fy.declarations (begin_closes _) (begin_closes _) (tail_is pre.1) in
+    let statements = statements_once levels x.statements y.statements _ _ fx.statements fy.statements (end_closes x.end _) (end_closes y.end _) (tail_is declarations.1) in
     let end : x.end ≡ y.end = where_is (kept_is (head_is statements.1)) in
-    let end_name = optional_once (written_name program) (λ n. ⊤) (named program) (λ n. []) (λ n. refl) (name_once program) x.end_name y.end_name (from_semicolon r) (from_semicolon s) (any x.end_name) (any y.end_name) (λ n. other_kind (λ d. cc)) (λ n. other_kind (λ d. cc)) (tail_is statements.1) in
-    (fields_same x y place name formals.0 derives.0 pre.0 statements.0 end end_name.0, tail_is end_name.1)
+    let end_name = optional_once (written_identifier program) (λ n. ⊤) (named program) (λ n. []) (λ n. refl) (identifier_once program) x.end_name y.end_name (from_semicolon r) (from_semicolon s) (any x.end_name) (any y.end_name) (λ n. other_kind (λ d. cc)) (λ n. other_kind (λ d. cc)) (tail_is statements.1) in
+    (fields_same x y place name formal_part.0 derives.0 pre.0 declarations.0 statements.0 end end_name.0, tail_is end_name.1)
   where
     any : (o : Option Identifier) → IfThere (λ n. ⊤) o
     any None = tt
@@ -535,7 +750,7 @@ unit_first : Unit → Form
 unit_first (unit.Subprogram x) = placed program k.Procedure x.place
 
 unit_rest : Unit → List Form
-unit_rest (unit.Subprogram x) = named program x.name ∷ bare program k.LeftParenthesis ∷ (from_formals x [])
+unit_rest (unit.Subprogram x) = named program x.name ∷ from_formal_part x []
 
 unit_begins : (x : Unit) → written_unit x ≡ unit_first x ∷ unit_rest x
 unfolding unit_first unit_rest

@@ -27,10 +27,11 @@ pub data Keeps : Type 0 where
   ItsSpelling : Keeps
   ItsValue : Keeps
 
--- what a tree keeps of a token of this kind: the place of an operator, and of each word that a node stands at
+-- what a tree keeps of a token of this kind: the place of an operator, and of each word or parenthesis that a node stands at
 abbrev pub keeps : Kind → Keeps
 keeps k.Identifier = ItsSpelling
 keeps k.Number = ItsValue
+keeps k.LeftParenthesis = ItsPlace
 keeps k.Plus = ItsPlace
 keeps k.Minus = ItsPlace
 keeps k.Asterisk = ItsPlace
@@ -43,6 +44,7 @@ keeps k.GreaterOrEqual = ItsPlace
 keeps k.Procedure = ItsPlace
 keeps k.Derives = ItsPlace
 keeps k.Pre = ItsPlace
+keeps k.Null = ItsPlace
 keeps k.End = ItsPlace
 keeps _ = KindAlone
 

@@ -1,8 +1,8 @@
 -- Texts of a production, forms that begin one, and what a reader of it answers.
-use Rattle.std.specs.Prelude.{◌≡◌, ◌⊎◌, ⊤, ℕ, ◌-◌, ◌≤◌, List, [], ◌∷◌, ◌++◌, length, drop, Result, Ok, Err}
+use Rattle.std.specs.Prelude.{◌≡◌, ⊤, ℕ, ◌-◌, List, [], ◌∷◌, ◌++◌, length, drop, Result, Ok, Err}
 use Rattle.spx_text.specs.declared.place.Place.{Place}
 use Rattle.spx_tree.specs.declared.token.Token.{Token}
-use Rattle.spx_tree.specs.Form.{Form, forms_of}
+use Rattle.spx_tree.specs.Form.{Form}
 
 -- why no text goes on, and how many forms are left there
 pub data Fault : Type 0 where

@@ -5,18 +5,22 @@ use Rattle.spx_tree.specs.declared.expression.InfixOp.{InfixOp}
 use Rattle.spx_tree.specs.declared.expression.InfixOp.TheVariants as op
 use Rattle.spx_tree.specs.declared.expression.Layer.{Layer}
 use Rattle.spx_tree.specs.declared.expression.Layer.TheVariants as layer
+use Rattle.spx_tree.specs.declared.expression.Name.{Name}
 use Rattle.spx_tree.specs.declared.expression.Expr.{Expr}
-use Rattle.spx_tree.specs.declared.expression.Expr.TheVariants.{Number, Name, Attribute}
+use Rattle.spx_tree.specs.declared.expression.Expr.TheVariants as expr
+use Rattle.spx_tree.specs.declared.declaration.Decl.{Decl}
+use Rattle.spx_tree.specs.declared.declaration.Decl.TheVariants.{Variables}
 use Rattle.spx_tree.specs.declared.statement.Stmt.{Stmt}
-use Rattle.spx_tree.specs.declared.statement.Stmt.TheVariants.{Assignment}
+use Rattle.spx_tree.specs.declared.statement.Stmt.TheVariants.{Null, Assignment}
 use Rattle.spx_tree.specs.declared.annotation.DerivesItem.{DerivesItem}
 use Rattle.spx_tree.specs.declared.annotation.Derives.{Derives}
 use Rattle.spx_tree.specs.declared.annotation.Precondition.{Precondition}
 use Rattle.spx_tree.specs.declared.subprogram.Param.{Param}
+use Rattle.spx_tree.specs.declared.subprogram.FormalPart.{FormalPart}
 use Rattle.spx_tree.specs.declared.subprogram.Subprogram.{Subprogram}
 use Rattle.spx_tree.specs.declared.subprogram.Unit.{Unit}
 use Rattle.spx_tree.specs.declared.subprogram.Unit.TheVariants as unit
-use Rattle.spx_tree.specs.Written.{operation}
+use Rattle.spx_tree.specs.Written.{parenthesized, signed, operation}
 
 -- Lists.
 
@@ -38,14 +42,19 @@ IfThere P (Some x) = P x
 -- Names and expressions (Ada 95 RM 4).
 
 -- identifier {"," identifier}
-abbrev pub IsNames : List Identifier → Type 0
+abbrev pub IsIdentifiers : List Identifier → Type 0
+IsIdentifiers identifiers = OneOrMore (λ identifier. ⊤) identifiers
+
+-- name {"," name}
+abbrev pub IsNames : List Name → Type 0
 IsNames names = OneOrMore (λ name. ⊤) names
 
--- how many operators lie on the longest way down
+-- how many parentheses, signs and operators lie on the longest way down
 abbrev pub height : Expr → ℕ
-height (Number value place) = 0
-height (Name name) = 0
-height (Attribute prefix designator) = 0
+height (expr.Number value place) = 0
+height (expr.Name name) = 0
+height (parenthesized place inner) = height inner + 1
+height (signed op place operand) = height operand + 1
 height (operation op place left right) = max (height left) (height right) + 1
 
 -- the layer of an operator: adding operators (Ada 95 RM 4.5.3), relational operators (4.5.2)
@@ -60,12 +69,13 @@ rank layer.Primary = 0
 rank layer.Sum = 1
 rank layer.Relation = 2
 
--- the layer of an expression is that of its operator
+-- the layer of an expression is that of its operator; a sign is one of a sum
 abbrev pub layer_in : Expr → Layer
 layer_in (operation op place left right) = layer_of op
-layer_in (Number value place) = layer.Primary
-layer_in (Name name) = layer.Primary
-layer_in (Attribute prefix designator) = layer.Primary
+layer_in (signed op place operand) = layer.Sum
+layer_in (parenthesized place inner) = layer.Primary
+layer_in (expr.Number value place) = layer.Primary
+layer_in (expr.Name name) = layer.Primary
 
 -- which layers an operator has on its left: sums nest to the left, relations do not nest
 abbrev pub LeftFits : Layer → Layer → Type 0
@@ -79,15 +89,16 @@ RightFits layer.Primary operand = ⊥
 RightFits layer.Sum operand = rank operand ≤ 0
 RightFits layer.Relation operand = rank operand ≤ 1
 
--- each operand is of a layer that its operator has there
+-- each operand is of a layer that its operator has there; a sign stands before a primary
 abbrev pub Layered : Expr → Type 0
-Layered (Number value place) = ⊤
-Layered (Name name) = ⊤
-Layered (Attribute prefix designator) = ⊤
+Layered (expr.Number value place) = ⊤
+Layered (expr.Name name) = ⊤
+Layered (parenthesized place inner) = Layered inner
+Layered (signed op place operand) = Layered operand × (rank (layer_in operand) ≤ 0)
 Layered (operation op place left right) = Layered left × Layered right × LeftFits (layer_of op) (layer_in left) × RightFits (layer_of op) (layer_in right)
 
 -- an expression of this layer, or of one before it, within so many levels
--- expr = relation;  relation = sum [relational operator sum];  sum = primary {adding operator primary};  primary = number | name
+-- expr = relation;  relation = sum [relational operator sum];  sum = [sign] primary {adding operator primary};  primary = number | name | "(" expr ")"
 pub record OfLayer (layer : Layer) (levels : ℕ) (e : Expr) : Type 0 where
   pub low : height e ≤ levels
   pub layered : Layered e
@@ -97,11 +108,18 @@ pub record OfLayer (layer : Layer) (levels : ℕ) (e : Expr) : Type 0 where
 abbrev pub IsExpr : ℕ → Expr → Type 0
 IsExpr = OfLayer layer.Relation
 
+-- Declarations (Ada 95 RM 3).
+
+-- identifiers ":" name ";" (Ada 95 RM 3.3.1)
+abbrev pub IsDecl : Decl → Type 0
+IsDecl (Variables names type_name) = IsIdentifiers names
+
 -- Statements (Ada 95 RM 5).
 
--- identifier ":=" expression ";" (Ada 95 RM 5.2)
+-- "null" ";" (Ada 95 RM 5.1) | name ":=" expression ";" (5.2)
 abbrev pub IsStmt : ℕ → Stmt → Type 0
-IsStmt levels (Assignment target expr) = IsExpr levels expr
+IsStmt levels (Null place) = ⊤
+IsStmt levels (Assignment target value) = IsExpr levels value
 
 -- Annotations (Barnes, High Integrity Software).
 
@@ -119,15 +137,20 @@ IsPrecondition levels pre = IsExpr levels pre.condition
 
 -- Subprograms and units (Ada 95 RM 6 and 10).
 
--- names ":" mode identifier (Ada 95 RM 6.1)
+-- identifiers ":" mode name (Ada 95 RM 6.1)
 abbrev pub IsParam : Param → Type 0
-IsParam param = IsNames param.names
+IsParam param = IsIdentifiers param.names
 
--- "procedure" identifier "(" param {";" param} ")" derives [pre] "is" "begin" statement {statement} "end" [identifier] ";" (Ada 95 RM 6.3)
+-- "(" param {";" param} ")" (Ada 95 RM 6.1)
+abbrev pub IsFormalPart : FormalPart → Type 0
+IsFormalPart part = OneOrMore IsParam part.params
+
+-- "procedure" identifier [formal part] [derives] [pre] "is" {declaration} "begin" statement {statement} "end" [identifier] ";" (Ada 95 RM 6.3)
 pub record IsSubprogram (levels : ℕ) (sub : Subprogram) : Type 0 where
-  pub formals : OneOrMore IsParam sub.formals
-  pub derives : IsDerives sub.derives
+  pub formal_part : IfThere IsFormalPart sub.formal_part
+  pub derives : IfThere IsDerives sub.derives
   pub pre : IfThere (IsPrecondition levels) sub.pre
+  pub declarations : Each IsDecl sub.declarations
   pub statements : OneOrMore (IsStmt levels) sub.statements
 
 -- a subprogram (Ada 95 RM 10.1.1)

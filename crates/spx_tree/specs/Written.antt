@@ -6,16 +6,24 @@ use Rattle.spx_tree.specs.declared.token.Kind.TheVariants as k
 use Rattle.spx_tree.specs.declared.expression.Identifier.{Identifier}
 use Rattle.spx_tree.specs.declared.expression.InfixOp.{InfixOp}
 use Rattle.spx_tree.specs.declared.expression.InfixOp.TheVariants as op
+use Rattle.spx_tree.specs.declared.expression.PrefixOp.{PrefixOp}
+use Rattle.spx_tree.specs.declared.expression.PrefixOp.TheVariants as sign
+use Rattle.spx_tree.specs.declared.expression.Name.{Name}
+use Rattle.spx_tree.specs.declared.expression.Name.TheVariants.{Simple, Attribute}
 use Rattle.spx_tree.specs.declared.expression.Expr.{Expr, end_of-Expr, more_of-Expr}
-use Rattle.spx_tree.specs.declared.expression.Expr.TheVariants.{Number, Name, Attribute, Infix'}
+use Rattle.spx_tree.specs.declared.expression.Expr.TheVariants as expr
+use Rattle.spx_tree.specs.declared.expression.Expr.TheVariants.{Parenthesized', Prefix', Infix'}
+use Rattle.spx_tree.specs.declared.declaration.Decl.{Decl}
+use Rattle.spx_tree.specs.declared.declaration.Decl.TheVariants.{Variables}
 use Rattle.spx_tree.specs.declared.statement.Stmt.{Stmt}
-use Rattle.spx_tree.specs.declared.statement.Stmt.TheVariants.{Assignment}
+use Rattle.spx_tree.specs.declared.statement.Stmt.TheVariants.{Null, Assignment}
 use Rattle.spx_tree.specs.declared.annotation.DerivesItem.{DerivesItem}
 use Rattle.spx_tree.specs.declared.annotation.Derives.{Derives}
 use Rattle.spx_tree.specs.declared.annotation.Precondition.{Precondition}
 use Rattle.spx_tree.specs.declared.subprogram.WrittenMode.{WrittenMode}
 use Rattle.spx_tree.specs.declared.subprogram.WrittenMode.TheVariants as modes
 use Rattle.spx_tree.specs.declared.subprogram.Param.{Param}
+use Rattle.spx_tree.specs.declared.subprogram.FormalPart.{FormalPart}
 use Rattle.spx_tree.specs.declared.subprogram.Subprogram.{Subprogram}
 use Rattle.spx_tree.specs.declared.subprogram.Unit.{Unit}
 use Rattle.spx_tree.specs.declared.subprogram.Unit.TheVariants as unit
@@ -53,11 +61,20 @@ optional spell (Some x) = spell x
 -- Names and expressions (Ada 95 RM 4).
 
 -- identifier
-abbrev pub written_name : Bool → Identifier → List Form
-written_name marked name = named marked name ∷ []
+abbrev pub written_identifier : Bool → Identifier → List Form
+written_identifier marked identifier = named marked identifier ∷ []
 
 -- identifier {"," identifier}
-abbrev pub written_names : Bool → List Identifier → List Form
+abbrev pub written_identifiers : Bool → List Identifier → List Form
+written_identifiers marked identifiers = separated (bare marked k.Comma) (written_identifier marked) identifiers
+
+-- identifier | identifier "'" identifier
+abbrev pub written_name : Bool → Name → List Form
+written_name marked (Simple identifier) = named marked identifier ∷ []
+written_name marked (Attribute prefix designator) = named marked prefix ∷ bare marked k.Apostrophe ∷ named marked designator ∷ []
+
+-- name {"," name}
+abbrev pub written_names : Bool → List Name → List Form
 written_names marked names = separated (bare marked k.Comma) (written_name marked) names
 
 -- the token that an operator is
@@ -71,22 +88,47 @@ operator_kind op.LessOrEqual = k.LessOrEqual
 operator_kind op.Greater = k.Greater
 operator_kind op.GreaterOrEqual = k.GreaterOrEqual
 
+-- the token that a sign is
+abbrev pub sign_kind : PrefixOp → Kind
+sign_kind sign.Plus = k.Plus
+sign_kind sign.Minus = k.Minus
+
+-- an expression in parentheses
+pattern abbrev pub parenthesized : Place → Expr → Expr
+parenthesized place inner = Parenthesized' place tt (more_of-Expr inner end_of-Expr)
+
+-- an operand behind a sign
+pattern abbrev pub signed : PrefixOp → Place → Expr → Expr
+signed op place operand = Prefix' op place tt (more_of-Expr operand end_of-Expr)
+
 -- two operands under an operator
 pattern abbrev pub operation : InfixOp → Place → Expr → Expr → Expr
 operation op place left right = Infix' op place tt (more_of-Expr left end_of-Expr) tt (more_of-Expr right end_of-Expr)
 
--- number | identifier | identifier "'" identifier | operand operator operand
+-- number | name | "(" expression ")" | sign operand | operand operator operand
 abbrev pub written_expr : Bool → Expr → List Form
-written_expr marked (Number value place) = literal marked value place ∷ []
-written_expr marked (Name name) = named marked name ∷ []
-written_expr marked (Attribute prefix designator) = named marked prefix ∷ bare marked k.Apostrophe ∷ named marked designator ∷ []
+written_expr marked (expr.Number value place) = literal marked value place ∷ []
+written_expr marked (expr.Name name) = written_name marked name
+written_expr marked (parenthesized place inner) = placed marked k.LeftParenthesis place ∷ (written_expr marked inner ++ bare marked k.RightParenthesis ∷ [])
+written_expr marked (signed op place operand) = placed marked (sign_kind op) place ∷ written_expr marked operand
 written_expr marked (operation op place left right) = written_expr marked left ++ placed marked (operator_kind op) place ∷ written_expr marked right
+
+-- Declarations (Ada 95 RM 3).
+
+-- identifiers ":" name ";"
+abbrev pub written_decl : Decl → List Form
+written_decl (Variables names type_name) = written_identifiers program names ++ bare program k.Colon ∷ (written_name program type_name ++ bare program k.Semicolon ∷ [])
+
+-- {declaration}
+abbrev pub written_decls : List Decl → List Form
+written_decls decls = joined (map written_decl decls)
 
 -- Statements (Ada 95 RM 5).
 
--- identifier ":=" expression ";"
+-- "null" ";" | name ":=" expression ";"
 abbrev pub written_stmt : Stmt → List Form
-written_stmt (Assignment target expr) = named program target ∷ bare program k.Assignment ∷ (written_expr program expr ++ bare program k.Semicolon ∷ [])
+written_stmt (Null place) = placed program k.Null place ∷ bare program k.Semicolon ∷ []
+written_stmt (Assignment target value) = written_name program target ++ bare program k.Assignment ∷ (written_expr program value ++ bare program k.Semicolon ∷ [])
 
 -- statement {statement}
 abbrev pub written_stmts : List Stmt → List Form
@@ -94,8 +136,8 @@ written_stmts stmts = joined (map written_stmt stmts)
 
 -- Annotations (Barnes, High Integrity Software).
 
--- ["*" {"," identifier} | names]
-abbrev pub written_imports : Option Place → List Identifier → List Form
+-- ["*" {"," name} | names]
+abbrev pub written_imports : Option Place → List Name → List Form
 written_imports None names = written_names annotation names
 written_imports (Some place) names = placed annotation k.Asterisk place ∷ behind (bare annotation k.Comma) (written_name annotation) names
 
@@ -120,19 +162,24 @@ written_mode modes.In = bare program k.In ∷ []
 written_mode modes.Out = bare program k.Out ∷ []
 written_mode modes.InOut = bare program k.In ∷ bare program k.Out ∷ []
 
--- names ":" mode identifier
+-- identifiers ":" mode name
 abbrev pub written_param : Param → List Form
-written_param param = written_names program param.names ++ bare program k.Colon ∷ (written_mode param.mode ++ written_name program param.type_name)
+written_param param = written_identifiers program param.names ++ bare program k.Colon ∷ (written_mode param.mode ++ written_name program param.type_name)
 
 -- param {";" param}
-abbrev pub written_formals : List Param → List Form
-written_formals formals = separated (bare program k.Semicolon) written_param formals
+abbrev pub written_params : List Param → List Form
+written_params params = separated (bare program k.Semicolon) written_param params
 
--- "procedure" identifier "(" formals ")"  derives [pre]  "is" "begin" statements "end" [identifier] ";"
+-- "(" params ")"
+abbrev pub written_formal_part : FormalPart → List Form
+written_formal_part part = placed program k.LeftParenthesis part.place ∷ (written_params part.params ++ bare program k.RightParenthesis ∷ [])
+
+-- "procedure" identifier [formal part]  [derives] [pre]  "is" declarations "begin" statements "end" [identifier] ";"
 abbrev pub written_subprogram : Subprogram → List Form
 written_subprogram sub =
-    placed program k.Procedure sub.place ∷ named program sub.name ∷ bare program k.LeftParenthesis ∷ (written_formals sub.formals ++ bare program k.RightParenthesis ∷ (written_derives sub.derives ++ (optional written_pre sub.pre
-    ++ (bare program k.Is ∷ bare program k.Begin ∷ (written_stmts sub.statements ++ (placed program k.End sub.end ∷ (optional (written_name program) sub.end_name ++ bare program k.Semicolon ∷ [])))))))
+    placed program k.Procedure sub.place ∷ named program sub.name ∷ (optional written_formal_part sub.formal_part ++ (optional written_derives sub.derives ++ (optional written_pre sub.pre
+    ++ (bare program k.Is ∷ (written_decls sub.declarations ++ (bare program k.Begin ∷ (written_stmts sub.statements
+    ++ (placed program k.End sub.end ∷ (optional (written_identifier program) sub.end_name ++ bare program k.Semicolon ∷ [])))))))))
 
 -- subprogram
 abbrev pub written_unit : Unit → List Form

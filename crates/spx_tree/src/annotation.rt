@@ -2,7 +2,7 @@
 ghost use Rattle.std.specs.Prelude.{◌≡◌, IfOk};
 
 use crate::expression::copy_names;
-use crate::{Expr, Identifier};
+use crate::{Expr, Name};
 use spx_text::Place;
 use sqlite_items::Items;
 use std::alloc::{AllocError, Global};
@@ -12,13 +12,13 @@ use std::alloc::{AllocError, Global};
 pub struct Imports {
     /// The place of `*`, where it comes first. It stands for the export itself.
     pub itself: Option<Place>,
-    pub names: Items<Identifier>,
+    pub names: Items<Name>,
 }
 
 /// `exports from imports`
 #[derive(Debug, Drop)]
 pub struct DerivesItem {
-    pub exports: Items<Identifier>,
+    pub exports: Items<Name>,
     pub imports: Imports,
 }
 

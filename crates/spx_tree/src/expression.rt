@@ -25,6 +25,13 @@ pub enum InfixOp {
     GreaterOrEqual,
 }
 
+/// An operator before its operand (Ada 95 RM 4.5.4).
+#[derive(Clone, Copy, Debug, PartialEq, Eq)]
+pub enum PrefixOp {
+    Plus,
+    Minus,
+}
+
 /// The layers of expressions (Ada 95 RM 4.4): an operator of a layer binds less than those of the layers before it.
 #[derive(Clone, Copy, Debug, PartialEq, Eq)]
 pub enum Layer {
@@ -33,13 +40,22 @@ pub enum Layer {
     Relation,
 }
 
+/// A name (Ada 95 RM 4.1).
+#[derive(Debug, Drop)]
+pub enum Name {
+    Simple(Identifier),
+    /// `prefix'designator`
+    Attribute(Identifier, Identifier),
+}
+
 /// An expression. An infix operation stands at its operator, every other node at its first token.
 #[derive(Debug, Drop)]
 pub enum Expr {
     Number(i128, Place),
-    Name(Identifier),
-    /// `prefix'designator`
-    Attribute(Identifier, Identifier),
+    Name(Name),
+    /// At `(`.
+    Parenthesized(Place, Boxed<Expr>),
+    Prefix(PrefixOp, Place, Boxed<Expr>),
     Infix(InfixOp, Place, Boxed<Expr>, Boxed<Expr>),
 }
 
@@ -55,8 +71,36 @@ impl Identifier {
     }
 }
 
-/// Copies of names.
-pub fn copy_names(alloc: Global, names: &[Identifier]) -> Result<Items<Identifier>, AllocError>
+/// Copies of identifiers.
+pub fn copy_identifiers(
+    alloc: Global,
+    identifiers: &[Identifier],
+) -> Result<Items<Identifier>, AllocError>
+    ensures { IfOk result (λ copies. copies ≡ identifiers.now) }
+{
+    let mut copies = Items::new(alloc);
+    for identifier in identifiers {
+        copies.push(identifier.copy(alloc)?)?;
+    }
+    Ok(copies)
+}
+
+impl Name {
+    /// An equal name.
+    pub fn copy(&self, alloc: Global) -> Result<Name, AllocError>
+        ensures { IfOk result (λ name. name ≡ self.now) }
+    {
+        match self {
+            Name::Simple(identifier) => Ok(Name::Simple(identifier.copy(alloc)?)),
+            Name::Attribute(prefix, designator) => {
+                let prefix = prefix.copy(alloc)?;
+                Ok(Name::Attribute(prefix, designator.copy(alloc)?))
+            }
+        }
+    }
+}
+
+pub(crate) fn copy_names(alloc: Global, names: &[Name]) -> Result<Items<Name>, AllocError>
     ensures { IfOk result (λ copies. copies ≡ names.now) }
 {
     let mut copies = Items::new(alloc);
@@ -75,9 +119,13 @@ impl Expr {
         match self {
             Expr::Number(value, place) => Ok(Expr::Number(*value, *place)),
             Expr::Name(name) => Ok(Expr::Name(name.copy(alloc)?)),
-            Expr::Attribute(prefix, designator) => {
-                let prefix = prefix.copy(alloc)?;
-                Ok(Expr::Attribute(prefix, designator.copy(alloc)?))
+            Expr::Parenthesized(place, inner) => {
+                let inner = Boxed::new(alloc, inner.get().copy(alloc)?)?;
+                Ok(Expr::Parenthesized(*place, inner))
+            }
+            Expr::Prefix(op, place, operand) => {
+                let operand = Boxed::new(alloc, operand.get().copy(alloc)?)?;
+                Ok(Expr::Prefix(*op, *place, operand))
             }
             Expr::Infix(op, place, left, right) => {
                 let left = Boxed::new(alloc, left.get().copy(alloc)?)?;

@@ -5,6 +5,7 @@
 #![tactic(auto)]
 
 mod annotation;
+mod declaration;
 mod expression;
 mod laws;
 mod statement;
@@ -12,10 +13,11 @@ mod subprogram;
 mod token;
 
 pub use annotation::{Derives, DerivesItem, Imports, Precondition};
-pub use expression::{Expr, Identifier, InfixOp, Layer, copy_names};
+pub use declaration::Decl;
+pub use expression::{Expr, Identifier, InfixOp, Layer, Name, PrefixOp, copy_identifiers};
 pub use laws::{a_line_is_spelled, a_line_is_stopped, one_spelling, one_stop, one_tree};
 pub use statement::Stmt;
-pub use subprogram::{Param, Subprogram, Unit, WrittenMode};
+pub use subprogram::{FormalPart, Param, Subprogram, Unit, WrittenMode};
 pub use token::{ANNOTATION_WORDS, Kind, RESERVED_WORDS, Token};
 
 #[cfg(test)]
@@ -34,24 +36,42 @@ mod tests {
         }
     }
 
-    fn name(alloc: Global, text: &str) -> Result<Identifier, AllocError> {
+    fn identifier(alloc: Global, text: &str) -> Result<Identifier, AllocError> {
         Ok(Identifier {
             text: Text::new(alloc, text.as_bytes())?,
             place: at(1),
         })
     }
 
-    fn names(alloc: Global, text: &str) -> Result<Items<Identifier>, AllocError> {
+    fn identifiers(alloc: Global, text: &str) -> Result<Items<Identifier>, AllocError> {
+        let mut one = Items::new(alloc);
+        one.push(identifier(alloc, text)?)?;
+        Ok(one)
+    }
+
+    fn name(alloc: Global, text: &str) -> Result<Name, AllocError> {
+        Ok(Name::Simple(identifier(alloc, text)?))
+    }
+
+    fn names(alloc: Global, text: &str) -> Result<Items<Name>, AllocError> {
         let mut one = Items::new(alloc);
         one.push(name(alloc, text)?)?;
         Ok(one)
     }
 
-    // X < Integer'Last
+    // -(X)
+    fn negative(alloc: Global) -> Result<Expr, AllocError> {
+        let inner = Boxed::new(alloc, Expr::Name(name(alloc, "X")?))?;
+        let operand = Boxed::new(alloc, Expr::Parenthesized(at(2), inner))?;
+        Ok(Expr::Prefix(PrefixOp::Minus, at(1), operand))
+    }
+
+    // -(X) < Integer'Last
     fn condition(alloc: Global) -> Result<Expr, AllocError> {
-        let left = Boxed::new(alloc, Expr::Name(name(alloc, "X")?))?;
-        let prefix = name(alloc, "Integer")?;
-        let right = Boxed::new(alloc, Expr::Attribute(prefix, name(alloc, "Last")?))?;
+        let left = Boxed::new(alloc, negative(alloc)?)?;
+        let prefix = identifier(alloc, "Integer")?;
+        let last = Name::Attribute(prefix, identifier(alloc, "Last")?);
+        let right = Boxed::new(alloc, Expr::Name(last))?;
         Ok(Expr::Infix(InfixOp::Less, at(9), left, right))
     }
 
@@ -70,31 +90,47 @@ mod tests {
         })
     }
 
-    fn formals(alloc: Global) -> Result<Items<Param>, AllocError> {
-        let mut formals = Items::new(alloc);
-        formals.push(Param {
-            names: names(alloc, "X")?,
+    fn formal_part(alloc: Global) -> Result<FormalPart, AllocError> {
+        let mut params = Items::new(alloc);
+        params.push(Param {
+            names: identifiers(alloc, "X")?,
             mode: WrittenMode::InOut,
             type_name: name(alloc, "Integer")?,
         })?;
-        Ok(formals)
+        Ok(FormalPart {
+            place: at(14),
+            params,
+        })
+    }
+
+    fn declarations(alloc: Global) -> Result<Items<Decl>, AllocError> {
+        let mut decls = Items::new(alloc);
+        let names = identifiers(alloc, "T")?;
+        decls.push(Decl::Variables(names, name(alloc, "Integer")?))?;
+        Ok(decls)
+    }
+
+    fn statements(alloc: Global) -> Result<Items<Stmt>, AllocError> {
+        let mut statements = Items::new(alloc);
+        statements.push(Stmt::Assignment(name(alloc, "X")?, Expr::Number(7, at(9))))?;
+        statements.push(Stmt::Null(at(12)))?;
+        Ok(statements)
     }
 
     fn unit(alloc: Global) -> Result<Unit, AllocError> {
-        let mut statements = Items::new(alloc);
-        statements.push(Stmt::Assignment(name(alloc, "X")?, Expr::Number(7, at(9))))?;
         Ok(Unit::Subprogram(Subprogram {
             place: at(2),
-            name: name(alloc, "Set")?,
-            formals: formals(alloc)?,
-            derives: derives(alloc)?,
+            name: identifier(alloc, "Set")?,
+            formal_part: Some(formal_part(alloc)?),
+            derives: Some(derives(alloc)?),
             pre: Some(Precondition {
                 place: at(6),
                 condition: condition(alloc)?,
             }),
-            statements,
+            declarations: declarations(alloc)?,
+            statements: statements(alloc)?,
             end: at(3),
-            end_name: Some(name(alloc, "Set")?),
+            end_name: Some(identifier(alloc, "Set")?),
         }))
     }
 
@@ -103,9 +139,11 @@ mod tests {
         let alloc = rt.alloc();
         let Unit::Subprogram(copied) = unit(alloc)?.copy(alloc)?;
         assert_eq!(rt; copied.name.text.as_bytes(), b"Set".as_slice());
-        assert_eq!(rt; copied.formals.len(), 1);
-        assert_eq!(rt; copied.derives.items.len(), 1);
+        assert!(rt; copied.formal_part.is_some());
+        assert!(rt; copied.derives.is_some());
         assert!(rt; copied.pre.is_some());
+        assert_eq!(rt; copied.declarations.len(), 1);
+        assert_eq!(rt; copied.statements.len(), 2);
         assert!(rt; copied.end_name.is_some());
         assert_eq!(rt; copied.end, at(3));
         Ok(())

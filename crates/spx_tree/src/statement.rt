@@ -1,15 +1,18 @@
 // Statements (Ada 95 RM 5).
 ghost use Rattle.std.specs.Prelude.{◌≡◌, IfOk};
 
-use crate::{Expr, Identifier};
+use crate::{Expr, Name};
+use spx_text::Place;
 use sqlite_items::Items;
 use std::alloc::{AllocError, Global};
 
 /// A statement (Ada 95 RM 5).
 #[derive(Debug, Drop)]
 pub enum Stmt {
+    /// At the word `null`.
+    Null(Place),
     /// The target and the right side.
-    Assignment(Identifier, Expr),
+    Assignment(Name, Expr),
 }
 
 impl Stmt {
@@ -18,6 +21,7 @@ impl Stmt {
         ensures { IfOk result (λ stmt. stmt ≡ self.now) }
     {
         match self {
+            Stmt::Null(place) => Ok(Stmt::Null(*place)),
             Stmt::Assignment(target, expr) => {
                 let target = target.copy(alloc)?;
                 Ok(Stmt::Assignment(target, expr.copy(alloc)?))

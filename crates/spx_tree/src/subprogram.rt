@@ -1,9 +1,10 @@
 // Subprograms (Ada 95 RM 6) and the units of a file (RM 10.1).
 ghost use Rattle.std.specs.Prelude.{◌≡◌, IfOk};
 
-use crate::expression::copy_names;
+use crate::declaration::copy_declarations;
+use crate::expression::copy_identifiers;
 use crate::statement::copy_statements;
-use crate::{Derives, Identifier, Precondition, Stmt};
+use crate::{Decl, Derives, Identifier, Name, Precondition, Stmt};
 use spx_text::Place;
 use sqlite_items::Items;
 use std::alloc::{AllocError, Global};
@@ -23,7 +24,14 @@ pub enum WrittenMode {
 pub struct Param {
     pub names: Items<Identifier>,
     pub mode: WrittenMode,
-    pub type_name: Identifier,
+    pub type_name: Name,
+}
+
+/// `( params )`, at the parenthesis (Ada 95 RM 6.1).
+#[derive(Debug, Drop)]
+pub struct FormalPart {
+    pub place: Place,
+    pub params: Items<Param>,
 }
 
 /// A procedure, at the word `procedure`.
@@ -31,9 +39,10 @@ pub struct Param {
 pub struct Subprogram {
     pub place: Place,
     pub name: Identifier,
-    pub formals: Items<Param>,
-    pub derives: Derives,
+    pub formal_part: Option<FormalPart>,
+    pub derives: Option<Derives>,
     pub pre: Option<Precondition>,
+    pub declarations: Items<Decl>,
     pub statements: Items<Stmt>,
     /// The place of the word `end`.
     pub end: Place,
@@ -51,7 +60,7 @@ impl Param {
     pub fn copy(&self, alloc: Global) -> Result<Param, AllocError>
         ensures { IfOk result (λ param. param ≡ self.now) }
     {
-        let names = copy_names(alloc, self.names.as_slice())?;
+        let names = copy_identifiers(alloc, self.names.as_slice())?;
         Ok(Param {
             names,
             mode: self.mode,
@@ -68,6 +77,39 @@ fn copy_params(alloc: Global, params: &[Param]) -> Result<Items<Param>, AllocErr
         copies.push(param.copy(alloc)?)?;
     }
     Ok(copies)
+}
+
+impl FormalPart {
+    /// An equal formal part.
+    pub fn copy(&self, alloc: Global) -> Result<FormalPart, AllocError>
+        ensures { IfOk result (λ part. part ≡ self.now) }
+    {
+        Ok(FormalPart {
+            place: self.place,
+            params: copy_params(alloc, self.params.as_slice())?,
+        })
+    }
+}
+
+fn copy_formal_part(
+    alloc: Global,
+    part: &Option<FormalPart>,
+) -> Result<Option<FormalPart>, AllocError>
+    ensures { IfOk result (λ copied. copied ≡ part.now) }
+{
+    match part {
+        Some(part) => Ok(Some(part.copy(alloc)?)),
+        None => Ok(None),
+    }
+}
+
+fn copy_derives(alloc: Global, derives: &Option<Derives>) -> Result<Option<Derives>, AllocError>
+    ensures { IfOk result (λ copied. copied ≡ derives.now) }
+{
+    match derives {
+        Some(derives) => Ok(Some(derives.copy(alloc)?)),
+        None => Ok(None),
+    }
 }
 
 fn copy_precondition(
@@ -97,17 +139,19 @@ impl Subprogram {
         ensures { IfOk result (λ sub. sub ≡ self.now) }
     {
         let name = self.name.copy(alloc)?;
-        let formals = copy_params(alloc, self.formals.as_slice())?;
-        let derives = self.derives.copy(alloc)?;
+        let formal_part = copy_formal_part(alloc, &self.formal_part)?;
+        let derives = copy_derives(alloc, &self.derives)?;
         let pre = copy_precondition(alloc, &self.pre)?;
+        let declarations = copy_declarations(alloc, self.declarations.as_slice())?;
         let statements = copy_statements(alloc, self.statements.as_slice())?;
         let end_name = copy_end_name(alloc, &self.end_name)?;
         Ok(Subprogram {
             place: self.place,
             name,
-            formals,
+            formal_part,
             derives,
             pre,
+            declarations,
             statements,
             end: self.end,
             end_name,
