@@ -9,19 +9,30 @@ use Rattle.spx_term.specs.declared.term.Sort.{Sort}
 use Rattle.spx_term.specs.declared.term.Sort.TheVariants.{Integer, Boolean}
 use Rattle.spx_term.specs.declared.term.TermOp.{TermOp}
 use Rattle.spx_term.specs.declared.term.TermOp.TheVariants as op
+use Rattle.spx_term.specs.declared.term.TermPrefix.{TermPrefix}
+use Rattle.spx_term.specs.declared.term.TermPrefix.TheVariants as sign
 use Rattle.spx_term.specs.declared.term.Term.{Term}
-use Rattle.spx_term.specs.declared.term.Term.TheVariants.{Number, Truth, Variable, Infix}
+use Rattle.spx_term.specs.declared.term.Term.TheVariants.{Number, Truth, Variable, Prefix, Infix}
 use Rattle.spx_term.specs.declared.value.Value.{Value}
 use Rattle.spx_term.specs.declared.value.Value.TheVariants as value
 use Rattle.spx_term.specs.Equality.{same_term}
-use Rattle.spx_term.specs.Sorts.{integers, booleans, alike, both, sort_of_op, sort_step, sort_of}
-use Rattle.spx_term.specs.Meaning.{as_number, same_value, value_of_op, Valuation, value_step, value_of, HasSort, Respects}
-use Rattle.spx_term.specs.Widths.{fits}
-use Rattle.spx_term.specs.Folding.{literal_of, term_of, fitting_value, literal_or, after_literal, before_literal, of_itself, truth_or, simplified_by, simplified, folded_step, folded, FoldKeepsSorts, FoldKeepsValues}
+use Rattle.spx_term.specs.Sorts.{integers, booleans, alike, sort_of_op, sort_of_prefix, one, both, sort_step, sort_of}
+use Rattle.spx_term.specs.Meaning.{as_number, same_value, value_of_op, value_of_prefix, Valuation, value_step, value_of, HasSort, Respects}
+use Rattle.spx_num.specs.Widths.{fits}
+use Rattle.spx_term.specs.Folding.{literal_of, term_of, fitting_value, literal_or, after_literal, before_literal, of_itself, truth_or, simplified_by, simplified, prefixed_by, prefixed, folded_step, folded, FoldKeepsSorts, FoldKeepsValues}
 use Rattle.spx_term.proofs.Equality.{same_term-Decides}
-use Rattle.spx_term.proofs.Terms.{Cases, induct, fold-Number, fold-Truth, fold-Variable, fold-Infix}
+use Rattle.spx_term.proofs.Terms.{Cases, induct, fold-Number, fold-Truth, fold-Variable, fold-Prefix, fold-Infix}
 
 -- ---- what the sort of the whole says of the parts
+
+pub record OneSort (f : Sort → Option Sort) (m : Option Sort) (s : Sort) : Type 0 where
+  pub only : Sort
+  pub only_is : m ≡ Some only
+  pub gives : f only ≡ Some s
+
+pub one_sort : (f : Sort → Option Sort) (m : Option Sort) (s : Sort) → one f m ≡ Some s → OneSort f m s
+one_sort f (Some a) s h = record { only = a; only_is = refl; gives = h }
+one_sort f None s h = absurd (cc)
 
 pub record TwoSorts (f : Sort → Sort → Option Sort) (m n : Option Sort) (s : Sort) : Type 0 where
   pub first : Sort
@@ -71,6 +82,11 @@ op_has op.Greater x y m n s h = boolean_has _ s (from_integers Boolean m n s h).
 op_has op.GreaterOrEqual x y m n s h = boolean_has _ s (from_integers Boolean m n s h).2
 op_has op.And x y m n s h = boolean_has _ s (from_booleans Boolean m n s h).2
 
+prefix_has : (o : TermPrefix) (x : Value) (m s : Sort) → sort_of_prefix o m ≡ Some s → HasSort s (value_of_prefix o x)
+unfolding sort_of_prefix value_of_prefix
+prefix_has sign.Minus x Integer s h = integer_has _ s (sym (some_is Integer s h))
+prefix_has sign.Minus x Boolean s h = absurd (cc)
+
 abbrev Sorted : Valuation → Term → Type 0
 Sorted v t = (s : Sort) → sort_of t ≡ Some s → HasSort s (value_of v t)
 
@@ -82,6 +98,8 @@ sorted_cases v respects = record {
   number = λ n. by_form v (Number n) _ _ (fold-Number sort_step n) (fold-Number (value_step v) n) (λ s h. integer_has n s (sym (some_is Integer s h)));
   truth = λ b. by_form v (Truth b) _ _ (fold-Truth sort_step b) (fold-Truth (value_step v) b) (λ s h. boolean_has b s (sym (some_is Boolean s h)));
   variable = λ name. by_form v (Variable name) _ _ (fold-Variable sort_step name) (fold-Variable (value_step v) name) (λ s h. subst (λ q. HasSort q (v name)) (some_is name.sort s h) (respects name));
+  prefix = λ o a p. by_form v (Prefix o a) _ _ (fold-Prefix sort_step o a) (fold-Prefix (value_step v) o a)
+      (λ s h. let part = one_sort (sort_of_prefix o) (sort_of a) s h in prefix_has o (value_of v a) part.only s part.gives);
   «infix» = λ o a b p q. by_form v (Infix o a b) _ _ (fold-Infix sort_step o a b) (fold-Infix (value_step v) o a b)
       (λ s h. let parts = two_sorts (sort_of_op o) (sort_of a) (sort_of b) s h in op_has o (value_of v a) (value_of v b) parts.first parts.second s parts.gives);
 }
@@ -183,16 +201,20 @@ module _ (v : Valuation) (respects : Respects v) where
     valued = fold-Infix (value_step v) o a b;
   }
 
+  prefix_alone : (o : TermPrefix) (a : Term) (m s : Sort) → sort_of a ≡ Some m → sort_of_prefix o m ≡ Some s → Good v (Prefix o a) s (value_of_prefix o (value_of v a))
+  prefix_alone o a m s a_is gives = record {
+    sorted = fold-Prefix sort_step o a ∙ ap (one (sort_of_prefix o)) a_is ∙ gives;
+    valued = fold-Prefix (value_step v) o a;
+  }
+
   -- a term in the place of another of its sort and value
   good_as : (t : Term) (s m : Sort) (x : Value) → sort_of t ≡ Some m → m ≡ s → value_of v t ≡ x → Good v t s x
   good_as t s m x sort is value = record { sorted = sort ∙ ap Some is; valued = value }
 
-  literals_keep : (o : TermOp) (a b : Term) (m n s : Sort) (r : Option Value) → sort_of a ≡ Some m → sort_of b ≡ Some n → sort_of_op o m n ≡ Some s → fitting_value (value_of_op o (value_of v a) (value_of v b)) ≡ r → Good v (literal_or (Infix o a b) r) s (value_of_op o (value_of v a) (value_of v b))
-  literals_keep o a b m n s (Some z) a_is b_is gives is =
-      let same = fitting_is (value_of_op o (value_of v a) (value_of v b)) z is in
-      subst (λ z. Good v (term_of z) s (value_of_op o (value_of v a) (value_of v b))) same
-      (good_literal (value_of_op o (value_of v a) (value_of v b)) s (op_has o (value_of v a) (value_of v b) m n s gives))
-  literals_keep o a b m n s None a_is b_is gives is = left_alone o a b m n s a_is b_is gives
+  -- the literal of a term's value in the place of the term, where the value fits
+  literal_keeps : (t : Term) (s : Sort) (x : Value) (r : Option Value) → HasSort s x → Good v t s x → fitting_value x ≡ r → Good v (literal_or t r) s x
+  literal_keeps t s x (Some y) has good is = subst (λ y. Good v (term_of y) s x) (fitting_is x y is) (good_literal x s has)
+  literal_keeps t s x None has good is = good
 
   after_keeps : (o : TermOp) (x : Value) (a b : Term) (m n s : Sort) → x ≡ value_of v a → sort_of a ≡ Some m → sort_of b ≡ Some n → sort_of_op o m n ≡ Some s → Good v (after_literal o x a b) s (value_of_op o (value_of v a) (value_of v b))
   unfolding after_literal sort_of_op
@@ -250,7 +272,8 @@ module _ (v : Valuation) (respects : Respects v) where
 
   by_literals : (o : TermOp) (a b : Term) (m n s : Sort) (x y : Option Value) → literal_of a ≡ x → literal_of b ≡ y → sort_of a ≡ Some m → sort_of b ≡ Some n → sort_of_op o m n ≡ Some s → Good v (simplified_by x y o a b) s (value_of_op o (value_of v a) (value_of v b))
   by_literals o a b m n s (Some x) (Some y) e f a_is b_is gives =
-      literals_keep o a b m n s (fitting_value (value_of_op o x y)) a_is b_is gives
+      literal_keeps (Infix o a b) s (value_of_op o (value_of v a) (value_of v b)) (fitting_value (value_of_op o x y))
+      (op_has o (value_of v a) (value_of v b) m n s gives) (left_alone o a b m n s a_is b_is gives)
       (ap fitting_value (ap₂ (value_of_op o) (sym (literal_value a x e)) (sym (literal_value b y f))))
   by_literals o a b m n s (Some x) None e f a_is b_is gives = after_keeps o x a b m n s (literal_value a x e) a_is b_is gives
   by_literals o a b m n s None (Some y) e f a_is b_is gives = before_keeps o y a b m n s (literal_value b y f) a_is b_is gives
@@ -259,6 +282,17 @@ module _ (v : Valuation) (respects : Respects v) where
   simplified_keeps : (o : TermOp) (a b : Term) (m n s : Sort) → sort_of a ≡ Some m → sort_of b ≡ Some n → sort_of_op o m n ≡ Some s → Good v (simplified o a b) s (value_of_op o (value_of v a) (value_of v b))
   unfolding simplified
   simplified_keeps o a b m n s a_is b_is gives = by_literals o a b m n s (literal_of a) (literal_of b) refl refl a_is b_is gives
+
+  by_literal : (o : TermPrefix) (a : Term) (m s : Sort) (x : Option Value) → literal_of a ≡ x → sort_of a ≡ Some m → sort_of_prefix o m ≡ Some s → Good v (prefixed_by x o a) s (value_of_prefix o (value_of v a))
+  by_literal o a m s (Some x) e a_is gives =
+      literal_keeps (Prefix o a) s (value_of_prefix o (value_of v a)) (fitting_value (value_of_prefix o x))
+      (prefix_has o (value_of v a) m s gives) (prefix_alone o a m s a_is gives)
+      (ap fitting_value (ap (value_of_prefix o) (sym (literal_value a x e))))
+  by_literal o a m s None e a_is gives = prefix_alone o a m s a_is gives
+
+  prefixed_keeps : (o : TermPrefix) (a : Term) (m s : Sort) → sort_of a ≡ Some m → sort_of_prefix o m ≡ Some s → Good v (prefixed o a) s (value_of_prefix o (value_of v a))
+  unfolding prefixed
+  prefixed_keeps o a m s a_is gives = by_literal o a m s (literal_of a) refl a_is gives
 
   -- ---- every term
 
@@ -274,6 +308,14 @@ module _ (v : Valuation) (respects : Respects v) where
     number = λ n. leaf (Number n) (fold-Number folded_step n);
     truth = λ b. leaf (Truth b) (fold-Truth folded_step b);
     variable = λ name. leaf (Variable name) (fold-Variable folded_step name);
+    prefix = λ o a p s h.
+        let part = one_sort (sort_of_prefix o) (sort_of a) s (sym (fold-Prefix sort_step o a) ∙ h) in
+        let operand = p part.only part.only_is in
+        let made = prefixed_keeps o (folded a) part.only s operand.sorted part.gives in
+        record {
+          sorted = ap sort_of (fold-Prefix folded_step o a) ∙ made.sorted;
+          valued = ap (value_of v) (fold-Prefix folded_step o a) ∙ made.valued ∙ ap (value_of_prefix o) operand.valued ∙ sym (fold-Prefix (value_step v) o a);
+        };
     «infix» = λ o a b p q s h.
         let parts = two_sorts (sort_of_op o) (sort_of a) (sort_of b) s (sym (fold-Infix sort_step o a b) ∙ h) in
         let left = p parts.first parts.first_is in

@@ -9,18 +9,20 @@ use Rattle.spx_term.specs.declared.term.Sort.{Sort}
 use Rattle.spx_term.specs.declared.term.Sort.TheVariants.{Integer, Boolean}
 use Rattle.spx_term.specs.declared.term.TermOp.{TermOp}
 use Rattle.spx_term.specs.declared.term.TermOp.TheVariants as op
+use Rattle.spx_term.specs.declared.term.TermPrefix.{TermPrefix}
+use Rattle.spx_term.specs.declared.term.TermPrefix.TheVariants as sign
 use Rattle.spx_term.specs.declared.term.Term.{Term, Term-F, out-Term, roll-Term, roll-out-Term}
-use Rattle.spx_term.specs.declared.term.Term.TheVariants.{Number, Truth, Variable, Infix, rolls-Infix}
+use Rattle.spx_term.specs.declared.term.Term.TheVariants.{Number, Truth, Variable, Prefix, Infix, rolls-Infix}
 use Rattle.spx_term.specs.declared.value.Value.{Value}
 use Rattle.spx_term.specs.declared.value.Value.TheVariants as value
 use Rattle.spx_term.specs.declared.interval.Interval.{Interval}
 use Rattle.spx_term.specs.Equality.{same_term}
 use Rattle.spx_term.specs.Sorts.{sort_of_op, sort_step, sort_of}
-use Rattle.spx_term.specs.Meaning.{as_number, value_of_op, Valuation, value_step, value_of, Holds, HasSort, Respects}
-use Rattle.spx_term.specs.Widths.{fits, fitting}
-use Rattle.spx_term.specs.Intervals.{unbounded, point, end_of, higher, lower, meet, allowed, mirrored, bounds_before, bounds_in, bounds, bounded, structural, interval, interval-Number, interval-Truth, interval-Variable, interval-Infix}
+use Rattle.spx_term.specs.Meaning.{as_number, value_of_op, value_of_prefix, Valuation, value_step, value_of, Holds, HasSort, Respects}
+use Rattle.spx_num.specs.Widths.{fits, fitting}
+use Rattle.spx_term.specs.Intervals.{unbounded, point, end_of, higher, lower, meet, allowed, mirrored, bounds_before, bounds_in, bounds, bounded, structural, structural_prefix, interval, interval-Number, interval-Truth, interval-Variable, interval-Prefix, interval-Infix}
 use Rattle.spx_term.proofs.Equality.{same_term-Decides}
-use Rattle.spx_term.proofs.Terms.{Cases, induct, fold-Number, fold-Infix}
+use Rattle.spx_term.proofs.Terms.{Cases, induct, fold-Number, fold-Prefix, fold-Infix}
 use Rattle.spx_term.proofs.FoldingLaws.{two_sorts, sorted_value}
 
 -- ---- values within ends
@@ -108,6 +110,15 @@ within_structural op.Subtract i j x y p q = record {
   high = high_of_difference i.high j.low x y p.high q.low;
 }
 within_structural o i j x y p q = within_unbounded (value_of_op o x y)
+
+within_structural_prefix : (o : TermPrefix) (i : Interval) (x : Value) → IsWithin i x → IsWithin (structural_prefix o i) (value_of_prefix o x)
+unfolding structural_prefix value_of_prefix
+within_structural_prefix sign.Minus i x p =
+    let zero = within_point (pos 0) in
+    record {
+      low = low_of_difference (Some (pos 0)) i.high (value.Number (pos 0)) x zero.low p.high;
+      high = high_of_difference (Some (pos 0)) i.low (value.Number (pos 0)) x zero.high p.low;
+    }
 
 -- ---- what a comparison with a literal says
 
@@ -252,6 +263,9 @@ module _ (v : Valuation) (respects : Respects v) where
     number = λ n. by_interval hyps (Number n) (point n) facts (interval-Number hyps n) (subst (IsWithin (point n)) (sym (fold-Number (value_step v) n)) (within_point n));
     truth = λ b. by_interval hyps (Truth b) unbounded facts (interval-Truth hyps b) (within_unbounded (value_of v (Truth b)));
     variable = λ name. by_interval hyps (Variable name) unbounded facts (interval-Variable hyps name) (within_unbounded (value_of v (Variable name)));
+    prefix = λ o a p. by_interval hyps (Prefix o a) (structural_prefix o (interval hyps a)) facts (interval-Prefix hyps o a)
+        (subst (IsWithin (structural_prefix o (interval hyps a))) (sym (fold-Prefix (value_step v) o a))
+        (within_structural_prefix o (interval hyps a) (value_of v a) p));
     «infix» = λ o a b p q. by_interval hyps (Infix o a b) (structural o (interval hyps a) (interval hyps b)) facts (interval-Infix hyps o a b)
         (subst (IsWithin (structural o (interval hyps a) (interval hyps b))) (sym (fold-Infix (value_step v) o a b))
         (within_structural o (interval hyps a) (interval hyps b) (value_of v a) (value_of v b) p q));

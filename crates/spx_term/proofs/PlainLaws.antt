@@ -10,7 +10,7 @@ use Rattle.spx_term.specs.declared.term.Sort.TheVariants.{Boolean}
 use Rattle.spx_term.specs.declared.term.TermOp.{TermOp}
 use Rattle.spx_term.specs.declared.term.TermOp.TheVariants as op
 use Rattle.spx_term.specs.declared.term.Term.{Term}
-use Rattle.spx_term.specs.declared.term.Term.TheVariants.{Number, Truth, Variable, Infix}
+use Rattle.spx_term.specs.declared.term.Term.TheVariants.{Number, Truth, Variable, Prefix, Infix}
 use Rattle.spx_term.specs.declared.value.Value.{Value}
 use Rattle.spx_term.specs.declared.value.Value.TheVariants as value
 use Rattle.spx_term.specs.declared.interval.Interval.{Interval}
@@ -19,7 +19,7 @@ use Rattle.spx_term.specs.Sorts.{sort_of}
 use Rattle.spx_term.specs.Meaning.{same_value, value_of_op, Valuation, value_step, value_of, Holds, Respects}
 use Rattle.spx_term.specs.Folding.{folded}
 use Rattle.spx_term.specs.Intervals.{interval}
-use Rattle.spx_term.specs.Plain.{ends_meet, settled, is_among, joined, is_plain, is_plain-Number, is_plain-Truth, is_plain-Variable, is_plain-Infix, Plain, PlainIsValid}
+use Rattle.spx_term.specs.Plain.{ends_meet, settled, is_among, joined, is_plain, is_plain-Number, is_plain-Truth, is_plain-Variable, is_plain-Prefix, is_plain-Infix, Plain, PlainIsValid}
 use Rattle.spx_term.proofs.Equality.{same_term-Decides}
 use Rattle.spx_term.proofs.Terms.{Cases, induct, fold-Truth, fold-Infix}
 use Rattle.spx_term.proofs.FoldingLaws.{keeps_sort, keeps_value, same_value-refl}
@@ -165,6 +165,7 @@ module _ (v : Valuation) (respects : Respects v) (hyps : List Term) (facts : All
           | inr among ↦ among_holds (Truth b) hyps facts among
         ];
     variable = λ name h. among_holds (Variable name) hyps facts (sym (is_plain-Variable hyps name) ∙ h);
+    prefix = λ o a p h. among_holds (Prefix o a) hyps facts (sym (is_plain-Prefix hyps o a) ∙ h);
     «infix» = λ o a b p q h.
         elim (or_cases (is_among hyps (Infix o a b)) (joined o (is_plain hyps a) (is_plain hyps b) (interval hyps a) (interval hyps b)) (sym (is_plain-Infix hyps o a b) ∙ h)) [
           | inl among ↦ among_holds (Infix o a b) hyps facts among

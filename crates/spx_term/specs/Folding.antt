@@ -4,14 +4,15 @@ use Rattle.std.specs.Ordering.{int_eq}
 use Rattle.spx_term.specs.declared.term.Sort.{Sort}
 use Rattle.spx_term.specs.declared.term.TermOp.{TermOp}
 use Rattle.spx_term.specs.declared.term.TermOp.TheVariants as op
+use Rattle.spx_term.specs.declared.term.TermPrefix.{TermPrefix}
 use Rattle.spx_term.specs.declared.term.Term.{Term, Term-F, fold-Term}
-use Rattle.spx_term.specs.declared.term.Term.TheVariants.{Number, Truth, Variable, Infix}
+use Rattle.spx_term.specs.declared.term.Term.TheVariants.{Number, Truth, Variable, Prefix, Infix}
 use Rattle.spx_term.specs.declared.value.Value.{Value}
 use Rattle.spx_term.specs.declared.value.Value.TheVariants as value
 use Rattle.spx_term.specs.Equality.{same_term}
 use Rattle.spx_term.specs.Sorts.{sort_of}
-use Rattle.spx_term.specs.Meaning.{value_of_op, Valuation, Respects, value_of}
-use Rattle.spx_term.specs.Widths.{fits}
+use Rattle.spx_term.specs.Meaning.{value_of_prefix, value_of_op, Valuation, Respects, value_of}
+use Rattle.spx_num.specs.Widths.{fits}
 
 -- the value of a literal
 abbrev pub literal_of : Term → Option Value
@@ -75,11 +76,21 @@ simplified_by None None op a b = truth_or (Infix op a b) (same_term a b) (of_its
 unfoldable pub simplified : TermOp → Term → Term → Term
 simplified op a b = simplified_by (literal_of a) (literal_of b) op a b
 
+-- `op a`, where the operand is a literal of this value, or none
+abbrev pub prefixed_by : Option Value → TermPrefix → Term → Term
+prefixed_by (Some x) op a = literal_or (Prefix op a) (fitting_value (value_of_prefix op x))
+prefixed_by None op a = Prefix op a
+
+-- `op a`, where a is folded
+unfoldable pub prefixed : TermPrefix → Term → Term
+prefixed op a = prefixed_by (literal_of a) op a
+
 -- one level, whose parts are folded
 abbrev pub folded_step : Term-F Term → Term
 folded_step (Term-F.Number n) = Number n
 folded_step (Term-F.Truth b) = Truth b
 folded_step (Term-F.Variable name) = Variable name
+folded_step (Term-F.Prefix op a) = prefixed op a
 folded_step (Term-F.Infix op a b) = simplified op a b
 
 -- the term, folded from its parts up

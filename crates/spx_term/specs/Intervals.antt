@@ -3,14 +3,16 @@ use Rattle.std.specs.Prelude.{◌≡◌, refl, Bool, ℤ, pos, ◌+ℤ◌, ◌-�
 use denote.Hole.Carrier.{hidden}
 use Rattle.spx_term.specs.declared.term.TermOp.{TermOp}
 use Rattle.spx_term.specs.declared.term.TermOp.TheVariants as op
+use Rattle.spx_term.specs.declared.term.TermPrefix.{TermPrefix}
+use Rattle.spx_term.specs.declared.term.TermPrefix.TheVariants as sign
 use Rattle.spx_term.specs.declared.term.Term.{Term, Term-F, out-Term}
 use Rattle.spx_term.specs.declared.term.Term.TheBlock.{hidden-the_row-Term-0}
-use Rattle.spx_term.specs.declared.term.Term.TheVariants.{Number, Truth, Variable, Infix}
+use Rattle.spx_term.specs.declared.term.Term.TheVariants.{Number, Truth, Variable, Prefix, Infix}
 use Rattle.spx_term.specs.declared.term.Name.{Name}
 use Rattle.spx_term.specs.declared.interval.Interval.{Interval}
 use Rattle.spx_term.specs.Equality.{same_term}
-use Rattle.spx_term.specs.Shapes.{infix_of}
-use Rattle.spx_term.specs.Widths.{fitting}
+use Rattle.spx_term.specs.Shapes.{prefix_of, infix_of}
+use Rattle.spx_num.specs.Widths.{fitting}
 
 -- all numbers
 abbrev pub unbounded : Interval
@@ -95,9 +97,14 @@ structural op.Add i j = sum_of i j
 structural op.Subtract i j = difference_of i j
 structural _ i j = unbounded
 
+-- the interval of an operation on a term of this interval; `-a` is as `0 - a`
+unfoldable pub structural_prefix : TermPrefix → Interval → Interval
+structural_prefix sign.Minus i = difference_of (point (pos 0)) i
+
 -- the interval of a term
 unfoldable pub interval : List Term → Term → Interval
 interval hyps (Number n) = bounded (point n) hyps (Number n)
+interval hyps (prefix_of op a) = bounded (structural_prefix op (interval hyps a)) hyps (prefix_of op a)
 interval hyps (infix_of op a b) = bounded (structural op (interval hyps a) (interval hyps b)) hyps (infix_of op a b)
 interval hyps t = bounded unbounded hyps t
 
@@ -113,9 +120,13 @@ pub interval-Variable : (hyps : List Term) (name : Name) → interval hyps (Vari
 unfolding interval
 interval-Variable hyps name = refl
 
+pub interval-Prefix : (hyps : List Term) (op : TermPrefix) (a : Term) → interval hyps (Prefix op a) ≡ bounded (structural_prefix op (interval hyps a)) hyps (Prefix op a)
+unfolding interval hidden-the_row-Term-0 hidden
+interval-Prefix hyps op a = refl
+
 pub interval-Infix : (hyps : List Term) (op : TermOp) (a b : Term) → interval hyps (Infix op a b) ≡ bounded (structural op (interval hyps a) (interval hyps b)) hyps (Infix op a b)
 unfolding interval hidden-the_row-Term-0 hidden
 interval-Infix hyps op a b = refl
 
 -- an interval at each form of a term
-pub ruleset interval_forms = (interval-Number, interval-Truth, interval-Variable, interval-Infix)
+pub ruleset interval_forms = (interval-Number, interval-Truth, interval-Variable, interval-Prefix, interval-Infix)

@@ -1,7 +1,6 @@
 pub mod Equality
 pub mod Sorts
 pub mod Meaning
-pub mod Widths
 pub mod Folding
 pub mod Goals
 pub mod Shapes

@@ -6,6 +6,8 @@ use Rattle.spx_term.specs.declared.term.Sort.TheVariants.{Integer, Boolean}
 use Rattle.spx_term.specs.declared.term.Name.{Name}
 use Rattle.spx_term.specs.declared.term.TermOp.{TermOp}
 use Rattle.spx_term.specs.declared.term.TermOp.TheVariants as op
+use Rattle.spx_term.specs.declared.term.TermPrefix.{TermPrefix}
+use Rattle.spx_term.specs.declared.term.TermPrefix.TheVariants as sign
 use Rattle.spx_term.specs.declared.term.Term.{Term, Term-F, fold-Term}
 use Rattle.spx_term.specs.declared.value.Value.{Value}
 use Rattle.spx_term.specs.declared.value.Value.TheVariants.{Number, Truth}
@@ -39,6 +41,10 @@ value_of_op op.Greater a b = Truth (int_lt (as_number b) (as_number a))
 value_of_op op.GreaterOrEqual a b = Truth (int_le (as_number b) (as_number a))
 value_of_op op.And a b = Truth (as_truth a && as_truth b)
 
+-- the value of an operation on one value
+unfoldable pub value_of_prefix : TermPrefix → Value → Value
+value_of_prefix sign.Minus a = Number (pos 0 -ℤ as_number a)
+
 -- a value for each name
 abbrev pub Valuation : Type 0
 Valuation = Name → Value
@@ -48,6 +54,7 @@ abbrev pub value_step : Valuation → Term-F Value → Value
 value_step v (Term-F.Number n) = Number n
 value_step v (Term-F.Truth b) = Truth b
 value_step v (Term-F.Variable name) = v name
+value_step v (Term-F.Prefix op a) = value_of_prefix op a
 value_step v (Term-F.Infix op a b) = value_of_op op a b
 
 -- the value of a term

@@ -6,9 +6,10 @@ use Rattle.std.specs.Ordering.{int_eq}
 use Rattle.spx_term.specs.declared.term.Sort.TheVariants.{Boolean}
 use Rattle.spx_term.specs.declared.term.TermOp.{TermOp}
 use Rattle.spx_term.specs.declared.term.TermOp.TheVariants as op
+use Rattle.spx_term.specs.declared.term.TermPrefix.{TermPrefix}
 use Rattle.spx_term.specs.declared.term.Term.{Term}
 use Rattle.spx_term.specs.declared.term.Term.TheBlock.{hidden-the_row-Term-0}
-use Rattle.spx_term.specs.declared.term.Term.TheVariants.{Number, Truth, Variable, Infix}
+use Rattle.spx_term.specs.declared.term.Term.TheVariants.{Number, Truth, Variable, Prefix, Infix}
 use Rattle.spx_term.specs.declared.term.Name.{Name}
 use Rattle.spx_term.specs.declared.interval.Interval.{Interval}
 use Rattle.spx_term.specs.Equality.{same_term}
@@ -62,12 +63,16 @@ pub is_plain-Variable : (hyps : List Term) (name : Name) → is_plain hyps (Vari
 unfolding is_plain
 is_plain-Variable hyps name = refl
 
+pub is_plain-Prefix : (hyps : List Term) (op : TermPrefix) (a : Term) → is_plain hyps (Prefix op a) ≡ is_among hyps (Prefix op a)
+unfolding is_plain
+is_plain-Prefix hyps op a = refl
+
 pub is_plain-Infix : (hyps : List Term) (op : TermOp) (a b : Term) → is_plain hyps (Infix op a b) ≡ (is_among hyps (Infix op a b) || joined op (is_plain hyps a) (is_plain hyps b) (interval hyps a) (interval hyps b))
 unfolding is_plain hidden-the_row-Term-0 hidden
 is_plain-Infix hyps op a b = refl
 
 -- whether a goal is plain, at each form of a term
-pub ruleset plain_forms = (is_plain-Number, is_plain-Truth, is_plain-Variable, is_plain-Infix)
+pub ruleset plain_forms = (is_plain-Number, is_plain-Truth, is_plain-Variable, is_plain-Prefix, is_plain-Infix)
 
 -- after folding all, a hypothesis is false or the goal is plain
 unfoldable pub Plain : List Term → Term → Type 0

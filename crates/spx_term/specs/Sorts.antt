@@ -4,6 +4,8 @@ use Rattle.spx_term.specs.declared.term.Sort.{Sort}
 use Rattle.spx_term.specs.declared.term.Sort.TheVariants.{Integer, Boolean}
 use Rattle.spx_term.specs.declared.term.TermOp.{TermOp}
 use Rattle.spx_term.specs.declared.term.TermOp.TheVariants as op
+use Rattle.spx_term.specs.declared.term.TermPrefix.{TermPrefix}
+use Rattle.spx_term.specs.declared.term.TermPrefix.TheVariants as sign
 use Rattle.spx_term.specs.declared.term.Term.{Term, Term-F, fold-Term}
 
 -- of two numbers
@@ -34,7 +36,16 @@ sort_of_op op.Greater = integers Boolean
 sort_of_op op.GreaterOrEqual = integers Boolean
 sort_of_op op.And = booleans Boolean
 
+-- the sort of an operation on one operand of this sort
+unfoldable pub sort_of_prefix : TermPrefix → Sort → Option Sort
+sort_of_prefix sign.Minus Integer = Some Integer
+sort_of_prefix sign.Minus Boolean = None
+
 -- a part that is not well sorted leaves the whole so
+abbrev pub one : (Sort → Option Sort) → Option Sort → Option Sort
+one f (Some a) = f a
+one f None = None
+
 abbrev pub both : (Sort → Sort → Option Sort) → Option Sort → Option Sort → Option Sort
 both f (Some a) (Some b) = f a b
 both f (Some a) None = None
@@ -45,6 +56,7 @@ abbrev pub sort_step : Term-F (Option Sort) → Option Sort
 sort_step (Term-F.Number n) = Some Integer
 sort_step (Term-F.Truth b) = Some Boolean
 sort_step (Term-F.Variable name) = Some name.sort
+sort_step (Term-F.Prefix op a) = one (sort_of_prefix op) a
 sort_step (Term-F.Infix op a b) = both (sort_of_op op) a b
 
 -- the sort of a term, if it is well sorted

@@ -4,7 +4,7 @@ use Rattle.spx_text.specs.declared.place.Place.{Place}
 use Rattle.spx_term.specs.declared.condition.CondKind.{CondKind}
 use Rattle.spx_term.specs.declared.term.Name.{Name}
 use Rattle.spx_term.specs.declared.term.Term.{Term, Term-F, fold-Term}
-use Rattle.spx_term.specs.declared.term.Term.TheVariants.{Number, Truth, Variable, Infix}
+use Rattle.spx_term.specs.declared.term.Term.TheVariants.{Number, Truth, Variable, Prefix, Infix}
 use Rattle.spx_term.specs.contracts.term.Name as name
 use Rattle.spx_term.specs.Equality.{same_by}
 use Rattle.spx_term.specs.Plain.{is_among}
@@ -37,6 +37,7 @@ abbrev pub substituted_step : Name → Term → Term-F Term → Term
 substituted_step x t (Term-F.Number n) = Number n
 substituted_step x t (Term-F.Truth b) = Truth b
 substituted_step x t (Term-F.Variable y) = if same_name x y then t else Variable y
+substituted_step x t (Term-F.Prefix op a) = Prefix op a
 substituted_step x t (Term-F.Infix op a b) = Infix op a b
 
 -- the term with t in the place of x

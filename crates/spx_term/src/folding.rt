@@ -3,10 +3,10 @@ ghost use Rattle.std.specs.Prelude.{◌≡◌, Some, IfOk};
 ghost use Rattle.spx_num.specs.Exact.{exact as exact_value};
 ghost use Rattle.spx_term.specs.declared.value.Value.TheVariants as value;
 ghost use Rattle.spx_term.specs.Equality.{same_term};
-ghost use Rattle.spx_term.specs.Meaning.{as_number, as_truth, value_of_op};
-ghost use Rattle.spx_term.specs.Folding.{literal_of, term_of, fitting_value, after_literal, before_literal, of_itself, truth_or, simplified, folded};
+ghost use Rattle.spx_term.specs.Meaning.{as_number, as_truth, value_of_prefix, value_of_op};
+ghost use Rattle.spx_term.specs.Folding.{literal_of, term_of, fitting_value, after_literal, before_literal, of_itself, truth_or, prefixed, simplified, folded};
 
-use crate::{Term, TermOp, Value, same};
+use crate::{Term, TermOp, TermPrefix, Value, same};
 use spx_num::{Op, checked};
 use std::alloc::{AllocError, Global};
 
@@ -19,11 +19,29 @@ pub fn fold(alloc: Global, term: &Term) -> Result<Term, AllocError>
         Term::Number(value) => Ok(Term::Number(*value)),
         Term::Truth(value) => Ok(Term::Truth(*value)),
         Term::Variable(name) => Ok(Term::Variable(*name)),
+        Term::Prefix(op, operand) => {
+            let operand = fold(alloc, operand.get())?;
+            simplify_prefix(alloc, *op, operand)
+        }
         Term::Infix(op, left, right) => {
             let left = fold(alloc, left.get())?;
             let right = fold(alloc, right.get())?;
             simplify(alloc, *op, left, right)
         }
+    }
+}
+
+/// An operation on one operand, which is folded.
+#[tactic(auto, unfolding(crate::specs::Folding::prefixed))]
+fn simplify_prefix(alloc: Global, op: TermPrefix, operand: Term) -> Result<Term, AllocError>
+    ensures { IfOk result (λ r. r ≡ prefixed op operand) }
+{
+    let Some(value) = literal_of(&operand) else {
+        return Term::prefix(alloc, op, operand);
+    };
+    match compute_prefix(op, value) {
+        Some(value) => Ok(term_of(value)),
+        None => Term::prefix(alloc, op, operand),
     }
 }
 
@@ -98,7 +116,17 @@ fn compute(op: TermOp, a: Value, b: Value) -> Option<Value>
     }
 }
 
-#[tactic(auto, using(crate::specs::Widths::fits_laws))]
+/// The value of an operation on one operand, where it fits in 128 bits.
+#[tactic(auto, unfolding(crate::specs::Meaning::value_of_prefix))]
+fn compute_prefix(op: TermPrefix, a: Value) -> Option<Value>
+    ensures { result ≡ fitting_value (value_of_prefix op a) }
+{
+    match op {
+        TermPrefix::Minus => exact(Op::Sub, 0, as_number(a)),
+    }
+}
+
+#[tactic(auto, using(spx_num::specs::Widths::fits_laws))]
 fn exact(op: Op, a: i128, b: i128) -> Option<Value>
     ensures { result ≡ fitting_value (value.Number (exact_value op a b)) }
 {
@@ -209,6 +237,22 @@ mod tests {
             Wanted::Truth(value) => same(folded, &Term::Truth(value)),
             Wanted::Itself => same(folded, operation),
         }
+    }
+
+    #[test]
+    fn folds_a_minus(rt: HostRuntime) -> Result<(), Fail> {
+        let alloc = rt.alloc();
+        for (literal, wanted) in [
+            (Some(7), Wanted::Number(-7)),
+            (Some(-GREATEST), Wanted::Number(GREATEST)),
+            (Some(-GREATEST - 1), Wanted::Itself),
+            (None, Wanted::Itself),
+        ] {
+            let operation = Term::prefix(alloc, TermPrefix::Minus, operand(literal))?;
+            let folded = fold(alloc, &operation)?;
+            assert!(rt; is_wanted(&folded, &operation, wanted), "{operation:?}");
+        }
+        Ok(())
     }
 
     #[test]

@@ -14,5 +14,5 @@ mod value;
 pub use condition::{CondKind, Condition, Sequent};
 pub use folding::fold;
 pub use interval::Interval;
-pub use term::{Name, Sort, Symbol, Term, TermOp, copy_all, same};
+pub use term::{Name, Sort, Symbol, Term, TermOp, TermPrefix, copy_all, same};
 pub use value::Value;

@@ -42,16 +42,30 @@ pub enum TermOp {
     And,
 }
 
+/// An operator before its operand.
+#[derive(Clone, Copy, Debug, PartialEq, Eq)]
+pub enum TermPrefix {
+    Minus,
+}
+
 /// A term over names and literals; a literal has at most 128 bits.
 #[derive(Debug, Drop)]
 pub enum Term {
     Number(i128),
     Truth(bool),
     Variable(Name),
+    Prefix(TermPrefix, Boxed<Term>),
     Infix(TermOp, Boxed<Term>, Boxed<Term>),
 }
 
 impl Term {
+    /// The term of one operand.
+    pub fn prefix(alloc: Global, op: TermPrefix, operand: Term) -> Result<Term, AllocError>
+        ensures { IfOk result (λ term. term ≡ Term.Prefix op operand) }
+    {
+        Ok(Term::Prefix(op, Boxed::new(alloc, operand)?))
+    }
+
     /// The term of two operands.
     pub fn infix(alloc: Global, op: TermOp, left: Term, right: Term) -> Result<Term, AllocError>
         ensures { IfOk result (λ term. term ≡ Term.Infix op left right) }
@@ -70,6 +84,10 @@ impl Term {
             Term::Number(value) => Ok(Term::Number(*value)),
             Term::Truth(value) => Ok(Term::Truth(*value)),
             Term::Variable(name) => Ok(Term::Variable(*name)),
+            Term::Prefix(op, operand) => {
+                let operand = operand.get().copy(alloc)?;
+                Term::prefix(alloc, *op, operand)
+            }
             Term::Infix(op, left, right) => {
                 let left = left.get().copy(alloc)?;
                 let right = right.get().copy(alloc)?;
@@ -96,6 +114,7 @@ fn equals(a: &Term, b: &Term) -> bool
         (Term::Number(x), Term::Number(y)) => x == y,
         (Term::Truth(x), Term::Truth(y)) => x == y,
         (Term::Variable(x), Term::Variable(y)) => x == y,
+        (Term::Prefix(o, x), Term::Prefix(p, z)) => o == p && equals(x.get(), z.get()),
         (Term::Infix(o, x, y), Term::Infix(p, z, w)) => {
             o == p && equals(x.get(), z.get()) && equals(y.get(), w.get())
         }
