@@ -6,7 +6,7 @@ use Rattle.std.proofs.lemmas.List.Folds.{Any-from_list_any}
 use Rattle.std.proofs.lemmas.Bool.{or_parts, both_ways}
 use Rattle.spx_core.specs.declared.program.VarId.{VarId}
 use Rattle.spx_core.specs.declared.expression.CoreStmt.{CoreStmt}
-use Rattle.spx_core.specs.declared.expression.CoreStmt.TheVariants.{Assignment}
+use Rattle.spx_core.specs.declared.expression.CoreStmt.TheVariants.{Null, Assignment}
 use Rattle.spx_core.specs.declared.expression.CoreName.{CoreName}
 use Rattle.spx_core.specs.Uses.{denotes}
 use Rattle.spx_core.specs.Reads.{names_read}
@@ -23,6 +23,7 @@ composes (s ∷ front) back u w = (
 
 -- a statement that does not set the variable keeps it
 pub keeps_one : (s : CoreStmt) (u w : VarId) → assigns w s ≡ false → MayFlow s u w ↔ (u ≡ w)
+keeps_one (Null place) u w none = (λ h. h, λ h. h)
 keeps_one (Assignment target value) u w none = (
   λ h. ⊎_elim (λ p. absurd (both_ways (denotes w target) none p.0)) (λ p. p.1) h,
   λ e. inr (none, e),
@@ -47,11 +48,12 @@ found_name : (p : CoreName → Bool) (names : List CoreName) → list_any p name
 found_name p names h = let a = Any-from_list_any p names h in (a.1, (a.0, a.2, a.3), a.4)
 
 pub reads_are_set : ReadsAreSet
+reads_are_set sub none before (Null place) behind v parts is = absurd cc
 reads_are_set sub none before (Assignment target value) behind v parts is =
     let name = found_name (denotes v) (names_read value) (sym (names_are v value) ∙ is) in
-    set_where (imports v sub.derives) (defines v before)
+    set_where (imports v sub) (defines v before)
     (λ unset. none.none_unset name.0.name.place v (read before (Assignment target value) behind parts (name.0, name.1, name.2, refl) unset))
 
 pub exports_are_set : ExportsAreSet
 exports_are_set sub none v exported =
-    set_where (imports v sub.derives) (defines v sub.statements) (λ unset. none.none_unset sub.end v (left exported unset))
+    set_where (imports v sub) (defines v sub.statements) (λ unset. none.none_unset sub.end v (left exported unset))

@@ -1,3 +1,5 @@
+pub mod ListTests
+pub mod Variables
 pub mod ReadsLaws
 pub mod FlowLaws
 pub mod Expressions
@@ -7,3 +9,8 @@ pub mod Words
 pub mod Names
 pub mod Formals
 pub mod Programs
+pub mod WalkPoints
+pub mod WalkExpressions
+pub mod WalkStatements
+pub mod WalkDeclarations
+pub mod WalkLaws

@@ -6,7 +6,7 @@ use Rattle.std.specs.Prelude.{⊤}
 use Rattle.std.specs.List.{list_any, AllByRecursion, IsDistinct}
 use Rattle.spx_tree.specs.Grammar.{Each}
 use Rattle.spx_core.specs.declared.program.Var.{Var}
-use Rattle.spx_core.specs.Visible.{same_word, declared_in, formals_at, var_names}
+use Rattle.spx_core.specs.Visible.{same_word, declared_in, variables_at, var_names}
 
 pub each_append : {A : Type 0} (P : A → Type 0) (xs ys : List A) → Each P xs → Each P ys → Each P (xs ++ ys)
 each_append P [] ys p q = q
@@ -78,13 +78,13 @@ is_distinct words b = distinct_behind [] words tt b
 pub is_behind : (words : List (List ℕ)) → IsDistinct same_word words → Behind [] words
 is_behind words d = behind_distinct [] words d
 
--- ---- formals
+-- ---- variables
 
 some_of_two : {A : Type 0} (b : Bool) (x : A) (o : Option A) (c : Bool) → is_some o ≡ c → is_some (cond b (Some x) o) ≡ b || c
 some_of_two true x o c e = refl
 some_of_two false x o c e = e
 
 -- a word is declared where it is among the names
-pub declared_among : (n : ℕ) (vars : List Var) (word : List ℕ) → is_some (declared_in (formals_at n vars) word) ≡ is_among (var_names vars) word
+pub declared_among : (n : ℕ) (vars : List Var) (word : List ℕ) → is_some (declared_in (variables_at n vars) word) ≡ is_among (var_names vars) word
 declared_among n [] word = refl
 declared_among n (v ∷ vars) word = some_of_two (same_word v.name word) _ _ _ (declared_among (n + 1) vars word)

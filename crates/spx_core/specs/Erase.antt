@@ -1,46 +1,59 @@
 -- The units that a program is made from: its names without what they denote.
 use Rattle.std.specs.Prelude.{List, map, option_map}
-use Rattle.spx_tree.specs.declared.expression.Identifier.{Identifier}
+use Rattle.spx_tree.specs.declared.expression.Name.{Name}
+use Rattle.spx_tree.specs.declared.expression.Name.TheVariants.{Simple, Attribute}
 use Rattle.spx_tree.specs.declared.expression.Expr.{Expr}
-use Rattle.spx_tree.specs.declared.expression.Expr.TheVariants.{Number, Name, Attribute, Infix}
+use Rattle.spx_tree.specs.declared.expression.Expr.TheVariants as expr
+use Rattle.spx_tree.specs.declared.declaration.Decl.{Decl}
+use Rattle.spx_tree.specs.declared.declaration.Decl.TheVariants as decl
 use Rattle.spx_tree.specs.declared.statement.Stmt.{Stmt}
 use Rattle.spx_tree.specs.declared.statement.Stmt.TheVariants as stmt
 use Rattle.spx_tree.specs.declared.annotation.DerivesItem.{DerivesItem}
 use Rattle.spx_tree.specs.declared.annotation.Derives.{Derives}
 use Rattle.spx_tree.specs.declared.annotation.Precondition.{Precondition}
 use Rattle.spx_tree.specs.declared.subprogram.Param.{Param}
+use Rattle.spx_tree.specs.declared.subprogram.FormalPart.{FormalPart}
 use Rattle.spx_tree.specs.declared.subprogram.Subprogram.{Subprogram}
 use Rattle.spx_tree.specs.declared.subprogram.Unit.{Unit}
 use Rattle.spx_tree.specs.declared.subprogram.Unit.TheVariants as unit
 use Rattle.spx_core.specs.declared.expression.CoreName.{CoreName}
 use Rattle.spx_core.specs.declared.expression.CoreExpr.{CoreExpr, CoreExpr-F, fold-CoreExpr}
 use Rattle.spx_core.specs.declared.expression.CoreStmt.{CoreStmt}
-use Rattle.spx_core.specs.declared.expression.CoreStmt.TheVariants.{Assignment}
+use Rattle.spx_core.specs.declared.expression.CoreStmt.TheVariants.{Null, Assignment}
+use Rattle.spx_core.specs.declared.declaration.CoreDecl.{CoreDecl}
+use Rattle.spx_core.specs.declared.declaration.CoreDecl.TheVariants.{Variables}
 use Rattle.spx_core.specs.declared.dependency.CoreDerivesItem.{CoreDerivesItem}
 use Rattle.spx_core.specs.declared.dependency.CoreDerives.{CoreDerives}
 use Rattle.spx_core.specs.declared.subprogram.CoreParam.{CoreParam}
+use Rattle.spx_core.specs.declared.subprogram.CoreFormalPart.{CoreFormalPart}
 use Rattle.spx_core.specs.declared.subprogram.CorePrecondition.{CorePrecondition}
 use Rattle.spx_core.specs.declared.subprogram.Sub.{Sub}
 use Rattle.spx_core.specs.declared.program.Program.{Program}
 
-abbrev pub erased_name : CoreName → Identifier
-erased_name name = name.name
+abbrev pub erased_name : CoreName → Name
+erased_name name = Simple name.name
 
-abbrev pub erased_names : List CoreName → List Identifier
+abbrev pub erased_names : List CoreName → List Name
 erased_names names = map erased_name names
 
 -- one level, whose parts are erased
 abbrev pub erased_step : CoreExpr-F Expr → Expr
-erased_step (CoreExpr-F.Number value place) = Number value place
-erased_step (CoreExpr-F.Name name) = Name (erased_name name)
-erased_step (CoreExpr-F.Attribute prefix designator) = Attribute (erased_name prefix) designator
-erased_step (CoreExpr-F.Infix op place left right) = Infix op place left right
+erased_step (CoreExpr-F.Number value place) = expr.Number value place
+erased_step (CoreExpr-F.Name name) = expr.Name (erased_name name)
+erased_step (CoreExpr-F.Attribute prefix designator) = expr.Name (Attribute prefix.name designator)
+erased_step (CoreExpr-F.Parenthesized place inner) = expr.Parenthesized place inner
+erased_step (CoreExpr-F.Prefix op place operand) = expr.Prefix op place operand
+erased_step (CoreExpr-F.Infix op place left right) = expr.Infix op place left right
 
 abbrev pub erased_expr : CoreExpr → Expr
 erased_expr = fold-CoreExpr Expr erased_step
 
 abbrev pub erased_stmt : CoreStmt → Stmt
+erased_stmt (Null place) = stmt.Null place
 erased_stmt (Assignment target expr) = stmt.Assignment (erased_name target) (erased_expr expr)
+
+abbrev pub erased_decl : CoreDecl → Decl
+erased_decl (Variables names type_name) = decl.Variables names (erased_name type_name)
 
 abbrev pub erased_item : CoreDerivesItem → DerivesItem
 erased_item item = record { exports = erased_names item.exports; imports = record { itself = item.itself; names = erased_names item.imports } }
@@ -54,13 +67,17 @@ erased_pre pre = record { place = pre.place; condition = erased_expr pre.conditi
 abbrev pub erased_param : CoreParam → Param
 erased_param param = record { names = param.names; mode = param.mode; type_name = erased_name param.type_name }
 
+abbrev pub erased_formal_part : CoreFormalPart → FormalPart
+erased_formal_part part = record { place = part.place; params = map erased_param part.params }
+
 abbrev pub erased_sub : Sub → Subprogram
 erased_sub sub = record {
   place = sub.place;
   name = sub.name;
-  formals = map erased_param sub.formals;
-  derives = erased_derives sub.derives;
+  formal_part = option_map erased_formal_part sub.formal_part;
+  derives = option_map erased_derives sub.derives;
   pre = option_map erased_pre sub.pre;
+  declarations = map erased_decl sub.declarations;
   statements = map erased_stmt sub.statements;
   end = sub.end;
   end_name = sub.end_name;

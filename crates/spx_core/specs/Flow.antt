@@ -7,7 +7,7 @@ use Rattle.spx_core.specs.declared.program.Program.{Program}
 use Rattle.spx_core.specs.declared.subprogram.Sub.{Sub}
 use Rattle.spx_core.specs.declared.expression.CoreName.{CoreName}
 use Rattle.spx_core.specs.declared.expression.CoreStmt.{CoreStmt}
-use Rattle.spx_core.specs.declared.expression.CoreStmt.TheVariants.{Assignment}
+use Rattle.spx_core.specs.declared.expression.CoreStmt.TheVariants.{Null, Assignment}
 use Rattle.spx_core.specs.Uses.{denotes, uses}
 use Rattle.spx_core.specs.Dependency.{exports, imports, derives}
 use Rattle.spx_core.specs.Reads.{names_read}
@@ -15,10 +15,12 @@ use Rattle.spx_core.specs.Formals.{is_formal}
 
 -- the statement sets the variable
 abbrev pub assigns : VarId → CoreStmt → Bool
+assigns v (Null place) = false
 assigns v (Assignment target value) = denotes v target
 
 -- the statement reads the variable
 abbrev pub reads : VarId → CoreStmt → Bool
+reads v (Null place) = false
 reads v (Assignment target value) = uses v value
 
 -- one of the statements sets the variable
@@ -27,6 +29,7 @@ defines v stmts = list_any (assigns v) stmts
 
 -- a flow of one statement: the target comes from what the right side reads, each other variable from itself
 abbrev pub MayFlow : CoreStmt → VarId → VarId → Type 0
+MayFlow (Null place) u w = u ≡ w
 MayFlow (Assignment target value) u w = (IsTrue (denotes w target) × IsTrue (uses u value)) ⊎ ((denotes w target ≡ false) × (u ≡ w))
 
 -- a list of single flows, one of each statement, leads from u to w
@@ -44,28 +47,29 @@ FlowsKeep = (stmts : List CoreStmt) (u w : VarId) → defines w stmts ≡ false 
 
 -- F1: a flow from a formal to an export is not declared
 abbrev pub Missing : Sub → VarId → VarId → Type 0
-Missing sub x y = IsTrue (is_formal x sub) × IsTrue (exports y sub.derives) × MayFlowAll sub.statements x y × (derives x y sub.derives ≡ false)
+Missing sub x y = IsTrue (is_formal x sub) × IsTrue (exports y sub) × MayFlowAll sub.statements x y × (derives x y sub ≡ false)
 
 -- F2: an export is declared to be derived from a formal from which nothing flows to it
 abbrev pub Unused : Sub → VarId → VarId → Type 0
-Unused sub x y = IsTrue (is_formal x sub) × IsTrue (derives x y sub.derives) × ¬ MayFlowAll sub.statements x y
+Unused sub x y = IsTrue (is_formal x sub) × IsTrue (derives x y sub) × ¬ MayFlowAll sub.statements x y
 
 -- F3: the statement sets a variable, from which nothing flows to an export through the statements behind it
 abbrev pub Ineffective : Sub → CoreStmt → List CoreStmt → Type 0
-Ineffective sub stmt behind = (v : VarId) × IsTrue (assigns v stmt) × ((y : VarId) → IsTrue (exports y sub.derives) → ¬ MayFlowAll behind v y)
+Ineffective sub stmt behind = (v : VarId) × IsTrue (assigns v stmt) × ((y : VarId) → IsTrue (exports y sub) → ¬ MayFlowAll behind v y)
 
 -- Behind these statements the variable is not set. Imports are set from the start.
 abbrev pub IsUnsetBehind : Sub → List CoreStmt → VarId → Type 0
-IsUnsetBehind sub before v = (imports v sub.derives ≡ false) × (defines v before ≡ false)
+IsUnsetBehind sub before v = (imports v sub ≡ false) × (defines v before ≡ false)
 
 -- a name of the variable stands at this place, to be read by the statement
 abbrev pub ReadsAt : CoreStmt → Place → VarId → Type 0
+ReadsAt (Null word) place v = ⊥
 ReadsAt (Assignment target value) place v = (name : CoreName) × Contains (names_read value) name × IsTrue (denotes v name) × (name.name.place ≡ place)
 
 -- F4: the place is reached without having set the variable, at a read or with an export at the end
 pub data MayBeUnset (sub : Sub) : Place → VarId → Type 0 where
   read : (before : List CoreStmt) (stmt : CoreStmt) (behind : List CoreStmt) {place : Place} {v : VarId} → sub.statements ≡ before ++ stmt ∷ behind → ReadsAt stmt place v → IsUnsetBehind sub before v → MayBeUnset sub place v
-  left : {v : VarId} → IsTrue (exports v sub.derives) → IsUnsetBehind sub sub.statements v → MayBeUnset sub sub.end v
+  left : {v : VarId} → IsTrue (exports v sub) → IsUnsetBehind sub sub.statements v → MayBeUnset sub sub.end v
 
 -- The body of a subprogram flows as its dependency relation declares, and no variable is read or left before it is set.
 pub record HasNoFinding (sub : Sub) : Type 0 where
@@ -80,7 +84,7 @@ HasNoFlowFinding p = All HasNoFinding p.subs
 
 -- where there is no finding, what a statement reads has been set before it, and so have the exports at the end
 abbrev pub ReadsAreSet : Type 0
-ReadsAreSet = (sub : Sub) → HasNoFinding sub → (before : List CoreStmt) (stmt : CoreStmt) (behind : List CoreStmt) (v : VarId) → sub.statements ≡ before ++ stmt ∷ behind → IsTrue (reads v stmt) → IsTrue (imports v sub.derives || defines v before)
+ReadsAreSet = (sub : Sub) → HasNoFinding sub → (before : List CoreStmt) (stmt : CoreStmt) (behind : List CoreStmt) (v : VarId) → sub.statements ≡ before ++ stmt ∷ behind → IsTrue (reads v stmt) → IsTrue (imports v sub || defines v before)
 
 abbrev pub ExportsAreSet : Type 0
-ExportsAreSet = (sub : Sub) → HasNoFinding sub → (v : VarId) → IsTrue (exports v sub.derives) → IsTrue (imports v sub.derives || defines v sub.statements)
+ExportsAreSet = (sub : Sub) → HasNoFinding sub → (v : VarId) → IsTrue (exports v sub) → IsTrue (imports v sub || defines v sub.statements)

@@ -1,16 +1,29 @@
--- The formal parameters of a subprogram.
-use Rattle.std.specs.Prelude.{Bool, ◌==◌, Option, option_map, slice_get}
+-- The variables of a subprogram: its formal parameters and its locals.
+use Rattle.std.specs.Prelude.{Bool, ◌==◌, List, Option, Some, None, option_and_then, slice_get}
 use Rattle.std.specs.List.{list_any}
 use Rattle.spx_core.specs.declared.program.VarId.{VarId}
+use Rattle.spx_core.specs.declared.program.VarKind.{VarKind}
+use Rattle.spx_core.specs.declared.program.VarKind.TheVariants.{Formal, Local}
 use Rattle.spx_core.specs.declared.program.Var.{Var}
 use Rattle.spx_core.specs.declared.program.Program.{Program}
 use Rattle.spx_core.specs.declared.subprogram.Mode.{Mode}
 use Rattle.spx_core.specs.declared.subprogram.Sub.{Sub}
 
+abbrev pub stands_in : VarId → List VarId → Bool
+stands_in v vars = list_any (λ (w : VarId). w.0 == v.0) vars
+
 -- the variable is a formal of the subprogram
 abbrev pub is_formal : VarId → Sub → Bool
-is_formal v sub = list_any (λ (w : VarId). w.0 == v.0) sub.vars
+is_formal v sub = stands_in v sub.formals
 
--- the mode with which a formal is declared (Ada 95 RM 6.1)
+-- the variable is a local of the subprogram
+abbrev pub is_local : VarId → Sub → Bool
+is_local v sub = stands_in v sub.locals
+
+abbrev pub mode_in : VarKind → Option Mode
+mode_in (Formal mode) = Some mode
+mode_in Local = None
+
+-- the mode with which a formal is declared (Ada 95 RM 6.1); a local has none
 abbrev pub mode_of : VarId → Program → Option Mode
-mode_of v p = option_map (λ (var : Var). var.mode) (slice_get p.vars v.0)
+mode_of v p = option_and_then (λ (var : Var). mode_in var.kind) (slice_get p.vars v.0)

@@ -10,3 +10,6 @@ pub mod Erase
 pub mod Visible
 pub mod Typed
 pub mod Resolved
+pub mod Walk
+pub mod RuleTests
+pub mod RuleWalk

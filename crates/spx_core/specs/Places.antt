@@ -7,6 +7,8 @@ abbrev pub place_in : CoreExpr-F CoreExpr → Place
 place_in (CoreExpr-F.Number n place) = place
 place_in (CoreExpr-F.Name name) = name.name.place
 place_in (CoreExpr-F.Attribute prefix designator) = prefix.name.place
+place_in (CoreExpr-F.Parenthesized place inner) = place
+place_in (CoreExpr-F.Prefix op place operand) = place
 place_in (CoreExpr-F.Infix op place left right) = place
 
 abbrev pub place_of : CoreExpr → Place

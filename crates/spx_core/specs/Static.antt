@@ -1,9 +1,11 @@
 -- Static expressions and their values (Ada 95 RM 4.9).
-use Rattle.std.specs.Prelude.{ℕ, ℤ, ◌+ℤ◌, ◌-ℤ◌, Bool, not, int_lt, int_le, if◌then◌else◌, List, Option, Some, None, codes}
+use Rattle.std.specs.Prelude.{ℕ, ℤ, pos, ◌+ℤ◌, ◌-ℤ◌, Bool, not, int_lt, int_le, if◌then◌else◌, List, Option, Some, None, codes}
 use Rattle.std.specs.Ordering.{int_eq}
 use Rattle.std.specs.Str.{str_eq_ignore_ascii_case}
 use Rattle.spx_tree.specs.declared.expression.InfixOp.{InfixOp}
 use Rattle.spx_tree.specs.declared.expression.InfixOp.TheVariants as op
+use Rattle.spx_tree.specs.declared.expression.PrefixOp.{PrefixOp}
+use Rattle.spx_tree.specs.declared.expression.PrefixOp.TheVariants as sign
 use Rattle.spx_core.specs.declared.program.TheConstants.{INTEGER_FIRST, INTEGER_LAST}
 use Rattle.spx_core.specs.declared.expression.CoreExpr.{CoreExpr, CoreExpr-F, fold-CoreExpr}
 
@@ -26,6 +28,16 @@ operated op.LessOrEqual m n = truth (int_le m n)
 operated op.Greater m n = truth (int_lt n m)
 operated op.GreaterOrEqual m n = truth (int_le n m)
 
+-- the value of a number behind a sign
+unfoldable pub signed : PrefixOp → ℤ → Static
+signed sign.Plus n = number n
+signed sign.Minus n = number (pos 0 -ℤ n)
+
+-- a sign stands before what is static, and the whole is so
+abbrev pub signed_or : PrefixOp → Option Static → Option Static
+signed_or op (Some (number n)) = Some (signed op n)
+signed_or op _ = None
+
 -- an operation is static where both of its operands are
 abbrev pub operated_or : InfixOp → Option Static → Option Static → Option Static
 operated_or op (Some (number m)) (Some (number n)) = Some (operated op m n)
@@ -36,6 +48,8 @@ abbrev pub static_step : CoreExpr-F (Option Static) → Option Static
 static_step (CoreExpr-F.Number n place) = Some (number n)
 static_step (CoreExpr-F.Name name) = None
 static_step (CoreExpr-F.Attribute prefix designator) = Some (number (attribute_value designator.text))
+static_step (CoreExpr-F.Parenthesized place inner) = inner
+static_step (CoreExpr-F.Prefix op place operand) = signed_or op operand
 static_step (CoreExpr-F.Infix op place a b) = operated_or op a b
 
 -- the value of a static expression

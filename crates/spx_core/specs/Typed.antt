@@ -9,11 +9,11 @@ use Rattle.spx_core.specs.declared.program.Program.{Program}
 use Rattle.spx_core.specs.declared.expression.CoreExpr.{CoreExpr, CoreExpr-F, fold-CoreExpr}
 use Rattle.spx_core.specs.declared.expression.CoreExpr.TheVariants.{Number, Name, Attribute}
 use Rattle.spx_core.specs.declared.expression.CoreStmt.{CoreStmt}
-use Rattle.spx_core.specs.declared.expression.CoreStmt.TheVariants.{Assignment}
+use Rattle.spx_core.specs.declared.expression.CoreStmt.TheVariants.{Null, Assignment}
 use Rattle.spx_core.specs.declared.subprogram.CorePrecondition.{CorePrecondition}
 use Rattle.spx_core.specs.declared.subprogram.Sub.{Sub}
 use Rattle.spx_core.specs.Static.{Static, number, static_value}
-use Rattle.spx_core.specs.Visible.{operation}
+use Rattle.spx_core.specs.Visible.{parenthesized, signed, operation}
 
 -- literals, and operations over them, are of a universal type
 pub data ExprType : Type 0 where
@@ -31,11 +31,18 @@ operation_type op.Add left right = met_type left right
 operation_type op.Subtract left right = met_type left right
 operation_type _ left right = boolean
 
+-- the type of a number behind a sign
+abbrev pub signed_type : ExprType → ExprType
+signed_type universal = universal
+signed_type _ = integer
+
 -- one level, of whose parts it is known
 abbrev pub type_step : CoreExpr-F ExprType → ExprType
 type_step (CoreExpr-F.Number value place) = universal
 type_step (CoreExpr-F.Name name) = integer
 type_step (CoreExpr-F.Attribute prefix designator) = integer
+type_step (CoreExpr-F.Parenthesized place inner) = inner
+type_step (CoreExpr-F.Prefix op place operand) = signed_type operand
 type_step (CoreExpr-F.Infix op place left right) = operation_type op left right
 
 abbrev pub type_of : CoreExpr → ExprType
@@ -69,13 +76,21 @@ Fit _ _ meet = meet
 abbrev pub OperandsFit : CoreExpr → CoreExpr → Type 0
 OperandsFit left right = Fit (type_of left) (type_of right) (MeetsInteger left × MeetsInteger right)
 
+-- rule N10: a sign stands before a number
+abbrev pub IsNumeric : ExprType → Type 0
+IsNumeric boolean = ⊥
+IsNumeric _ = ⊤
+
 abbrev pub TypedExpr : CoreExpr → Type 0
 TypedExpr (Number value place) = LiesIn universal value
 TypedExpr (Name name) = ⊤
 TypedExpr (Attribute prefix designator) = ⊤
+TypedExpr (parenthesized place inner) = TypedExpr inner
+TypedExpr (signed op place operand) = TypedExpr operand × IsNumeric (type_of operand) × ValueIn (type_of (signed op place operand)) (static_value (signed op place operand))
 TypedExpr (operation op place left right) = TypedExpr left × TypedExpr right × OperandsFit left right × ValueIn (type_of (operation op place left right)) (static_value (operation op place left right))
 
 abbrev pub TypedStmt : CoreStmt → Type 0
+TypedStmt (Null place) = ⊤
 TypedStmt (Assignment target expr) = TypedExpr expr × MeetsInteger expr
 
 abbrev pub TypedPre : CorePrecondition → Type 0

@@ -23,6 +23,8 @@ abbrev pub uses_step : VarId → CoreExpr-F Bool → Bool
 uses_step v (CoreExpr-F.Number n place) = false
 uses_step v (CoreExpr-F.Name name) = denotes v name
 uses_step v (CoreExpr-F.Attribute prefix designator) = false
+uses_step v (CoreExpr-F.Parenthesized place inner) = inner
+uses_step v (CoreExpr-F.Prefix op place operand) = operand
 uses_step v (CoreExpr-F.Infix op place left right) = left || right
 
 -- whether the variable is among those that the expression reads

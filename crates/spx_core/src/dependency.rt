@@ -1,9 +1,9 @@
 // The dependency relation of a subprogram.
 ghost use Rattle.std.specs.Prelude.{◌≡◌};
-ghost use Rattle.spx_core.specs.Dependency.{has_export, has_import, has_pair, exports, imports, derives};
+ghost use Rattle.spx_core.specs.Dependency.{has_export, has_import, has_pair, relation, exports, imports, derives};
 
 use crate::expression::mentions;
-use crate::{CoreName, VarId};
+use crate::{CoreName, Sub, VarId};
 use spx_text::Place;
 use sqlite_items::Items;
 
@@ -44,33 +44,36 @@ impl CoreDerivesItem {
     }
 }
 
-impl CoreDerives {
+impl Sub {
+    /// The items of the dependency relation. A subprogram without one derives nothing.
+    pub fn relation(&self) -> &[CoreDerivesItem]
+        ensures { result.now ≡ relation self.now }
+    {
+        match &self.derives {
+            Some(derives) => derives.items.as_slice(),
+            None => &[],
+        }
+    }
+
     /// Whether the variable is exported.
     pub fn exports(&self, var: VarId) -> bool
         ensures { result ≡ exports var self.now }
     {
-        self.items
-            .as_slice()
-            .iter()
-            .any(|item| item.has_export(var))
+        self.relation().iter().any(|item| item.has_export(var))
     }
 
     /// Whether the variable is imported.
     pub fn imports(&self, var: VarId) -> bool
         ensures { result ≡ imports var self.now }
     {
-        self.items
-            .as_slice()
-            .iter()
-            .any(|item| item.has_import(var))
+        self.relation().iter().any(|item| item.has_import(var))
     }
 
     /// Whether the export is declared to be derived from the import.
     pub fn derives(&self, import: VarId, export: VarId) -> bool
         ensures { result ≡ derives import export self.now }
     {
-        self.items
-            .as_slice()
+        self.relation()
             .iter()
             .any(|item| item.has_pair(import, export))
     }

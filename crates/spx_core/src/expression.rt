@@ -5,7 +5,7 @@ ghost use Rattle.spx_core.specs.Uses.{denotes, mentions, uses};
 
 use crate::{SubId, TypeId, VarId};
 use spx_text::Place;
-use spx_tree::{Identifier, InfixOp};
+use spx_tree::{Identifier, InfixOp, PrefixOp};
 use sqlite_items::Boxed;
 
 /// What a name denotes.
@@ -30,12 +30,17 @@ pub enum CoreExpr {
     Name(CoreName),
     /// `prefix'designator`
     Attribute(CoreName, Identifier),
+    /// At `(`.
+    Parenthesized(Place, Boxed<CoreExpr>),
+    Prefix(PrefixOp, Place, Boxed<CoreExpr>),
     Infix(InfixOp, Place, Boxed<CoreExpr>, Boxed<CoreExpr>),
 }
 
 /// A statement whose names stand with what they denote.
 #[derive(Debug, Drop)]
 pub enum CoreStmt {
+    /// At the word `null`.
+    Null(Place),
     /// The target and the right side.
     Assignment(CoreName, CoreExpr),
 }
@@ -68,6 +73,8 @@ impl CoreExpr {
             CoreExpr::Number(_, place) => *place,
             CoreExpr::Name(name) => name.name.place,
             CoreExpr::Attribute(prefix, _) => prefix.name.place,
+            CoreExpr::Parenthesized(place, _) => *place,
+            CoreExpr::Prefix(_, place, _) => *place,
             CoreExpr::Infix(_, place, _, _) => *place,
         }
     }
@@ -81,6 +88,8 @@ impl CoreExpr {
             CoreExpr::Number(_, _) => false,
             CoreExpr::Name(name) => name.denotes(var),
             CoreExpr::Attribute(_, _) => false,
+            CoreExpr::Parenthesized(_, inner) => inner.get().uses(var),
+            CoreExpr::Prefix(_, _, operand) => operand.get().uses(var),
             CoreExpr::Infix(_, _, left, right) => left.get().uses(var) || right.get().uses(var),
         }
     }

@@ -1,12 +1,14 @@
 // Laws of the definitions, each as the contract of a function that does nothing.
-ghost use Rattle.std.specs.Prelude.{◌≡◌, List, Some};
+ghost use Rattle.std.specs.Prelude.{◌≡◌, List, Some, None};
 ghost use Rattle.spx_tree.specs.declared.subprogram.Unit.{Unit};
 ghost use Rattle.spx_core.specs.declared.program.Program.{Program};
 ghost use Rattle.spx_core.specs.Erase.{erased};
 ghost use Rattle.spx_core.specs.Flow.{ExportsAreSet, FlowsCompose, FlowsKeep, ReadsAreSet};
 ghost use Rattle.spx_core.specs.Reads.{UsesAreNames};
 ghost use Rattle.spx_core.specs.Resolved.{resolved};
+ghost use Rattle.spx_core.specs.Typed.{Typed};
 ghost use Rattle.spx_core.specs.Visible.{Visible};
+ghost use Rattle.spx_core.specs.Walk.{first_name_breach};
 
 /// At most one program is made from units.
 #[tactic(auto, using(crate::proofs::Programs::one_program_lem))]
@@ -19,6 +21,12 @@ pub fn one_program()
 pub fn resolution()
     ensures sound { (units : List Unit) (p : Program) → resolved units ≡ Some p → (erased p ≡ units) × Visible p }
     ensures complete { (p : Program) → Visible p → resolved (erased p) ≡ Some p }
+{}
+
+/// The walk finds no broken rule exactly where the units are a program whose types fit.
+pub fn name_breaches()
+    ensures none { (units : List Unit) → first_name_breach units ≡ None → (p : Program) × (erased p ≡ units) × Visible p × Typed p }
+    ensures kept { (p : Program) → Visible p → Typed p → first_name_breach (erased p) ≡ None }
 {}
 
 /// The flows of a list are those of two parts that it is cut into, one after the other; to a variable that no statement

@@ -23,17 +23,26 @@ pub const INTEGER_FIRST: i128 = -2147483648;
 /// `Integer'Last`
 pub const INTEGER_LAST: i128 = 2147483647;
 
-/// A formal parameter.
+/// What a variable is declared as.
+#[derive(Clone, Copy, Debug, PartialEq, Eq)]
+pub enum VarKind {
+    /// A formal parameter of this mode.
+    Formal(Mode),
+    /// A local variable of a subprogram.
+    Local,
+}
+
+/// A variable.
 #[derive(Debug, Drop)]
 pub struct Var {
     /// The name as it is declared.
     pub name: Text,
-    pub mode: Mode,
+    pub kind: VarKind,
     pub type_id: TypeId,
 }
 
-/// A resolved program: its variables and its subprograms, each in the order of the text. A `VarId` is a position in
-/// `vars`, a `SubId` one in `subs`.
+/// A resolved program: its variables, of each subprogram the formals and then the locals, and its subprograms, each in
+/// the order of the text. A `VarId` is a position in `vars`, a `SubId` one in `subs`.
 #[derive(Debug, Drop)]
 pub struct Program {
     pub vars: Items<Var>,

@@ -33,6 +33,14 @@ pub enum RuleName {
     U8,
     /// A variable that this annotation must not name.
     U11,
+    /// A flow to an export that is not declared.
+    F1,
+    /// A declared flow that is none.
+    F2,
+    /// A statement from which nothing flows to an export.
+    F3,
+    /// A variable that may be unset where it is read, or an export where it is left.
+    F4,
     /// A verification condition without an accepted proof.
     V1,
 }

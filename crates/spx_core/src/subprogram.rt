@@ -1,6 +1,6 @@
 // Resolved subprograms.
 
-use crate::{CoreDerives, CoreExpr, CoreName, CoreStmt, VarId};
+use crate::{CoreDecl, CoreDerives, CoreExpr, CoreName, CoreStmt, VarId};
 use spx_text::Place;
 use spx_tree::{Identifier, WrittenMode};
 use sqlite_items::Items;
@@ -21,6 +21,13 @@ pub struct CoreParam {
     pub type_name: CoreName,
 }
 
+/// `( params )`, at the parenthesis.
+#[derive(Debug, Drop)]
+pub struct CoreFormalPart {
+    pub place: Place,
+    pub params: Items<CoreParam>,
+}
+
 /// A precondition, at the word `pre`.
 #[derive(Debug, Drop)]
 pub struct CorePrecondition {
@@ -33,11 +40,14 @@ pub struct CorePrecondition {
 pub struct Sub {
     pub place: Place,
     pub name: Identifier,
-    pub formals: Items<CoreParam>,
+    pub formal_part: Option<CoreFormalPart>,
     /// The formals, one by one.
-    pub vars: Items<VarId>,
-    pub derives: CoreDerives,
+    pub formals: Items<VarId>,
+    pub derives: Option<CoreDerives>,
     pub pre: Option<CorePrecondition>,
+    pub declarations: Items<CoreDecl>,
+    /// The local variables, one by one.
+    pub locals: Items<VarId>,
     pub statements: Items<CoreStmt>,
     /// The place of the word `end`.
     pub end: Place,
