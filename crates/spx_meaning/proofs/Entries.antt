@@ -1,11 +1,13 @@
 -- The store with which a body begins.
-use Rattle.std.proofs.Common.{◌≡◌, Bool, true, false, if◌then◌else◌, List, [], ◌∷◌, Option, Some, None, refl, sym, ap, ◌∙◌, inl, inr}
+use Rattle.std.proofs.Common.{◌≡◌, Bool, true, false, ◌==◌, if◌then◌else◌, List, [], ◌∷◌, Option, Some, None, refl, sym, ap, ◌∙◌, inl, inr}
+use Rattle.std.proofs.lemmas.Bool.{eqb-true, or_cases}
 use Rattle.std.proofs.lemmas.Bool.Decides.{eqb_tells}
 use Rattle.spx_core.specs.declared.program.VarId.{VarId}
 use Rattle.spx_core.specs.declared.program.Program.{Program}
+use Rattle.spx_core.specs.Formals.{stands_in}
 use Rattle.spx_term.specs.declared.value.Value.{Value}
 use Rattle.spx_meaning.specs.Stores.{Store, look, put}
-use Rattle.spx_meaning.specs.Runs.{is_out, cleared}
+use Rattle.spx_meaning.specs.Runs.{starts_unset, cleared}
 use Rattle.spx_meaning.proofs.Stores.{look-put_same, look-put_other}
 
 -- a variable that is put into two stores, or that they agree on, has one value in both
@@ -21,28 +23,28 @@ put_agree s t v w x same =
         let place : (u : Store) → look (put u v x) w ≡ x = λ u. ap (λ k. look (put u v x) (record { 0 = k })) (sym e) ∙ look-put_same u v x in
         place s ∙ sym (place t)
 
--- stores that agree on a variable do so without the values of `out` formals
+-- stores that agree on a variable do so without the values that are unset on entry
 pub cleared_agree : (p : Program) (s t : Store) (vars : List VarId) (w : VarId) → look s w ≡ look t w → look (cleared p s vars) w ≡ look (cleared p t vars) w
 cleared_agree p s t [] w same = same
-cleared_agree p s t (v ∷ vars) w same = by_mode (cleared_agree p s t vars w same) (is_out p v)
+cleared_agree p s t (v ∷ vars) w same = by_start (cleared_agree p s t vars w same) (starts_unset p v)
   where
-    by_mode : look (cleared p s vars) w ≡ look (cleared p t vars) w → (b : Bool) → look (if b then put (cleared p s vars) v None else cleared p s vars) w ≡ look (if b then put (cleared p t vars) v None else cleared p t vars) w
-    by_mode more true = put_agree (cleared p s vars) (cleared p t vars) v w None more
-    by_mode more false = more
+    by_start : look (cleared p s vars) w ≡ look (cleared p t vars) w → (b : Bool) → look (if b then put (cleared p s vars) v None else cleared p s vars) w ≡ look (if b then put (cleared p t vars) v None else cleared p t vars) w
+    by_start more true = put_agree (cleared p s vars) (cleared p t vars) v w None more
+    by_start more false = more
 
--- a variable that is no `out` formal keeps its value
-pub cleared_keeps : (p : Program) (s : Store) (vars : List VarId) (w : VarId) → is_out p w ≡ false → look (cleared p s vars) w ≡ look s w
-cleared_keeps p s [] w not_out = refl
-cleared_keeps p s (v ∷ vars) w not_out = by_mode (is_out p v) refl ∙ cleared_keeps p s vars w not_out
+-- a variable that is not unset on entry keeps its value
+pub cleared_keeps : (p : Program) (s : Store) (vars : List VarId) (w : VarId) → starts_unset p w ≡ false → look (cleared p s vars) w ≡ look s w
+cleared_keeps p s [] w stays_set = refl
+cleared_keeps p s (v ∷ vars) w stays_set = by_start (starts_unset p v) refl ∙ cleared_keeps p s vars w stays_set
   where
-    by_mode : (b : Bool) → is_out p v ≡ b → look (if b then put (cleared p s vars) v None else cleared p s vars) w ≡ look (cleared p s vars) w
-    by_mode true is = look-put_other (cleared p s vars) v w None (λ e. let one : is_out p w ≡ true = ap (λ k. is_out p (record { 0 = k })) (sym e) ∙ is in absurd (cc))
-    by_mode false is = refl
+    by_start : (b : Bool) → starts_unset p v ≡ b → look (if b then put (cleared p s vars) v None else cleared p s vars) w ≡ look (cleared p s vars) w
+    by_start true is = look-put_other (cleared p s vars) v w None (λ e. let one : starts_unset p w ≡ true = ap (λ k. starts_unset p (record { 0 = k })) (sym e) ∙ is in absurd (cc))
+    by_start false is = refl
 
 -- what is set there was set before
 pub cleared_part : (p : Program) (s : Store) (vars : List VarId) (w : VarId) (x : Value) → look (cleared p s vars) w ≡ Some x → look s w ≡ Some x
 cleared_part p s [] w x is = is
-cleared_part p s (v ∷ vars) w x is = cleared_part p s vars w x (by_mode (is_out p v) is)
+cleared_part p s (v ∷ vars) w x is = cleared_part p s vars w x (by_start (starts_unset p v) is)
   where
     by_place : look (put (cleared p s vars) v None) w ≡ Some x → look (cleared p s vars) w ≡ Some x
     by_place is =
@@ -51,6 +53,33 @@ cleared_part p s (v ∷ vars) w x is = cleared_part p s vars w x (by_mode (is_ou
           | inr h ↦ sym (look-put_other (cleared p s vars) v w None h.1) ∙ is
         ]
 
-    by_mode : (b : Bool) → look (if b then put (cleared p s vars) v None else cleared p s vars) w ≡ Some x → look (cleared p s vars) w ≡ Some x
-    by_mode true is = by_place is
-    by_mode false is = is
+    by_start : (b : Bool) → look (if b then put (cleared p s vars) v None else cleared p s vars) w ≡ Some x → look (cleared p s vars) w ≡ Some x
+    by_start true is = by_place is
+    by_start false is = is
+
+-- a variable of these that is unset on entry has no value there
+pub cleared_unset : (p : Program) (s : Store) (vars : List VarId) (w : VarId) → stands_in w vars ≡ true → starts_unset p w ≡ true → look (cleared p s vars) w ≡ None
+cleared_unset p s [] w among is = absurd (cc)
+cleared_unset p s (v ∷ vars) w among is =
+    elim (or_cases (v.0 == w.0) (stands_in w vars) among) [
+      | inl here ↦ at_w (eqb-true v.0 w.0 here)
+      | inr later ↦ by_start (cleared_unset p s vars w later is) (starts_unset p v)
+    ]
+  where
+    at_w : v.0 ≡ w.0 → look (cleared p s (v ∷ vars)) w ≡ None
+    at_w e =
+        let unset : starts_unset p v ≡ true = ap (λ k. starts_unset p (record { 0 = k })) e ∙ is in
+        ap (λ b. look (if b then put (cleared p s vars) v None else cleared p s vars) w) unset
+        ∙ ap (λ k. look (put (cleared p s vars) v None) (record { 0 = k })) (sym e)
+        ∙ look-put_same (cleared p s vars) v None
+
+    by_place : look (cleared p s vars) w ≡ None → look (put (cleared p s vars) v None) w ≡ None
+    by_place more =
+        elim (eqb_tells v.0 w.0) [
+          | inl h ↦ ap (λ k. look (put (cleared p s vars) v None) (record { 0 = k })) (sym h.1) ∙ look-put_same (cleared p s vars) v None
+          | inr h ↦ look-put_other (cleared p s vars) v w None h.1 ∙ more
+        ]
+
+    by_start : look (cleared p s vars) w ≡ None → (b : Bool) → look (if b then put (cleared p s vars) v None else cleared p s vars) w ≡ None
+    by_start more true = by_place more
+    by_start more false = more

@@ -3,19 +3,20 @@ use Rattle.std.proofs.Common.{◌≡◌, true, ◌||◌, refl, sym, ap, ap₂, �
 use Rattle.std.proofs.lemmas.Bool.{eq-eqb, or_right}
 use Rattle.spx_text.specs.declared.place.Place.{Place}
 use Rattle.spx_tree.specs.declared.expression.InfixOp.{InfixOp}
+use Rattle.spx_tree.specs.declared.expression.PrefixOp.{PrefixOp}
 use Rattle.spx_core.specs.declared.program.VarId.{VarId}
 use Rattle.spx_core.specs.declared.program.Program.{Program}
 use Rattle.spx_core.specs.declared.expression.Entity.{Entity}
 use Rattle.spx_core.specs.declared.expression.Entity.TheVariants.{TypeName, Variable, Subprogram}
 use Rattle.spx_core.specs.declared.expression.CoreName.{CoreName}
 use Rattle.spx_core.specs.declared.expression.CoreExpr.{CoreExpr}
-use Rattle.spx_core.specs.declared.expression.CoreExpr.TheVariants.{Name, Infix}
+use Rattle.spx_core.specs.declared.expression.CoreExpr.TheVariants.{Name, Parenthesized, Prefix, Infix}
 use Rattle.spx_core.specs.Uses.{is_variable, denotes, uses, uses_step}
 use Rattle.spx_core.specs.Static.{static_value}
 use Rattle.spx_meaning.specs.Stores.{Store, look, type_of}
-use Rattle.spx_meaning.specs.Evaluation.{with_value, applied, checked, read, read_at, static_or, eval, eval-Number, eval-Name, eval-Attribute, eval-Infix}
+use Rattle.spx_meaning.specs.Evaluation.{with_value, applied, applied_sign, checked, signed, read, read_at, static_or, eval, eval-Number, eval-Name, eval-Attribute, eval-Parenthesized, eval-Prefix, eval-Infix}
 use Rattle.spx_meaning.specs.Annotations.{reading_of, seen, meant, meant_step}
-use Rattle.spx_core.proofs.Expressions.{fold-Number, fold-Name, fold-Attribute, fold-Infix}
+use Rattle.spx_core.proofs.Expressions.{fold-Number, fold-Name, fold-Attribute, fold-Parenthesized, fold-Prefix, fold-Infix}
 use Rattle.spx_meaning.proofs.Expressions.{Cases, induct}
 
 -- the stores agree on the variables that the expression uses
@@ -24,6 +25,12 @@ AgreeOnUses e s t = (v : VarId) → uses v e ≡ true → look s v ≡ look t v
 
 pub uses-Name : (v : VarId) (name : CoreName) → uses v (Name name) ≡ denotes v name
 uses-Name v name = fold-Name (uses_step v) name
+
+pub uses-Parenthesized : (v : VarId) (place : Place) (a : CoreExpr) → uses v (Parenthesized place a) ≡ uses v a
+uses-Parenthesized v place a = fold-Parenthesized (uses_step v) place a
+
+pub uses-Prefix : (v : VarId) (op : PrefixOp) (place : Place) (a : CoreExpr) → uses v (Prefix op place a) ≡ uses v a
+uses-Prefix v op place a = fold-Prefix (uses_step v) op place a
 
 pub uses-Infix : (v : VarId) (op : InfixOp) (place : Place) (a b : CoreExpr) → uses v (Infix op place a b) ≡ (uses v a || uses v b)
 uses-Infix v op place a b = fold-Infix (uses_step v) op place a b
@@ -49,6 +56,12 @@ module _ (s t : Store) where
     number = λ n place agree. eval-Number s n place ∙ sym (eval-Number t n place);
     name = λ name agree. eval-Name s name ∙ read_same name.name.place name.entity (λ v h. agree v (uses-Name v name ∙ h)) ∙ sym (eval-Name t name);
     attribute = λ prefix designator agree. eval-Attribute s prefix designator ∙ sym (eval-Attribute t prefix designator);
+    parenthesized = λ place a p agree.
+        eval-Parenthesized s place a ∙ p (λ v h. agree v (uses-Parenthesized v place a ∙ h)) ∙ sym (eval-Parenthesized t place a);
+    prefix = λ op place a p agree.
+        eval-Prefix s op place a
+        ∙ ap (λ x. static_or (static_value (Prefix op place a)) (with_value x (λ u. signed op place u))) (p (λ v h. agree v (uses-Prefix v op place a ∙ h)))
+        ∙ sym (eval-Prefix t op place a);
     «infix» = λ op place a b p q agree.
         eval-Infix s op place a b
         ∙ ap₂ (λ x y. static_or (static_value (Infix op place a b)) (with_value x (λ u. with_value y (λ w. checked op place (applied op u w)))))
@@ -75,6 +88,14 @@ module _ (p : Program) (s t : Store) where
     name = λ name agree.
         fold-Name (meant_step p s s) name ∙ reading_same name.entity (λ v h. agree v (uses-Name v name ∙ h)) ∙ sym (fold-Name (meant_step p t t) name);
     attribute = λ prefix designator agree. fold-Attribute (meant_step p s s) prefix designator ∙ sym (fold-Attribute (meant_step p t t) prefix designator);
+    parenthesized = λ place a f agree.
+        fold-Parenthesized (meant_step p s s) place a
+        ∙ f (λ v h. agree v (uses-Parenthesized v place a ∙ h))
+        ∙ sym (fold-Parenthesized (meant_step p t t) place a);
+    prefix = λ op place a f agree.
+        fold-Prefix (meant_step p s s) op place a
+        ∙ ap (applied_sign op) (f (λ v h. agree v (uses-Prefix v op place a ∙ h)))
+        ∙ sym (fold-Prefix (meant_step p t t) op place a);
     «infix» = λ op place a b f g agree.
         fold-Infix (meant_step p s s) op place a b
         ∙ ap₂ (applied op) (f (λ v h. agree v (uses_left v op place a b h))) (g (λ v h. agree v (uses_right v op place a b h)))

@@ -1,10 +1,13 @@
 -- The definitions on small programs.
 use Rattle.std.proofs.Common.{◌≡◌, ℕ, ℤ, pos, int_lt, List, [], ◌∷◌, Option, Some, None, refl, ap, ap₂, ◌∙◌}
-use Rattle.std.specs.Prelude.{codes}
+use Rattle.std.specs.Prelude.{codes, ◌-ℤ◌}
 use Rattle.spx_text.specs.declared.place.Place.{Place}
 use Rattle.spx_tree.specs.declared.expression.Identifier.{Identifier}
 use Rattle.spx_tree.specs.declared.expression.InfixOp.TheVariants as op
+use Rattle.spx_tree.specs.declared.expression.PrefixOp.TheVariants as sign
+use Rattle.spx_core.specs.declared.program.TheConstants.{INTEGER_FIRST}
 use Rattle.spx_core.specs.declared.program.TypeId.TheVariants.{Integer}
+use Rattle.spx_core.specs.declared.program.VarKind.TheVariants.{Formal, Local}
 use Rattle.spx_core.specs.declared.program.VarId.{VarId}
 use Rattle.spx_core.specs.declared.program.Program.{Program}
 use Rattle.spx_core.specs.declared.subprogram.Mode.{Mode}
@@ -14,18 +17,19 @@ use Rattle.spx_core.specs.declared.subprogram.Sub.{Sub}
 use Rattle.spx_core.specs.declared.expression.Entity.TheVariants.{TypeName, Variable}
 use Rattle.spx_core.specs.declared.expression.CoreName.{CoreName}
 use Rattle.spx_core.specs.declared.expression.CoreExpr.{CoreExpr}
-use Rattle.spx_core.specs.declared.expression.CoreExpr.TheVariants.{Number, Name, Attribute, Infix}
+use Rattle.spx_core.specs.declared.expression.CoreExpr.TheVariants.{Number, Name, Attribute, Prefix, Infix}
 use Rattle.spx_core.specs.declared.expression.CoreStmt.{CoreStmt}
-use Rattle.spx_core.specs.declared.expression.CoreStmt.TheVariants.{Assignment}
+use Rattle.spx_core.specs.declared.expression.CoreStmt.TheVariants.{Null, Assignment}
 use Rattle.spx_core.specs.declared.expression.CoreExpr.TheVariants.{outs-Infix}
-use Rattle.spx_core.specs.Places.{place_in}
-use Rattle.spx_core.specs.Static.{attribute_value, operated_or, static_step, static_value}
-use Rattle.spx_core.proofs.Expressions.{fold-Name, fold-Attribute, fold-Infix}
+use Rattle.spx_core.specs.Places.{place_in, place_of}
+use Rattle.spx_core.specs.Static.{attribute_value, signed_or, operated_or, static_step, static_value}
+use Rattle.spx_core.proofs.Expressions.{fold-Name, fold-Attribute, fold-Prefix, fold-Infix}
+use Rattle.spx_term.specs.declared.value.Value.{Value}
 use Rattle.spx_term.specs.declared.value.Value.TheVariants as value
-use Rattle.spx_term.specs.Meaning.{as_truth, value_of_op}
+use Rattle.spx_term.specs.Meaning.{as_truth, value_of_prefix, value_of_op}
 use Rattle.spx_meaning.specs.declared.bad.BadKind.TheVariants.{Overflow, Unset, Pre}
 use Rattle.spx_meaning.specs.Stores.{Store}
-use Rattle.spx_meaning.specs.Evaluation.{Answer, Gives, Fails, with_value, applied, checked, static_or, read, eval, eval-Number, eval-Name, eval-Infix}
+use Rattle.spx_meaning.specs.Evaluation.{Answer, Gives, Fails, with_value, applied, checked, signed, static_or, read, eval, eval-Number, eval-Name, eval-Prefix, eval-Infix}
 use Rattle.spx_meaning.specs.Annotations.{meant, meant_step}
 use Rattle.spx_meaning.specs.Runs.{Outcome, Ended, Bad, then_do, use_value, demand, assign, run, exports_set, entry_of, call}
 
@@ -58,17 +62,19 @@ module _ (mode : Mode) (pre : Option CorePrecondition) (imports : List CoreName)
   sub = record {
     place = here 1;
     name = word 2 (codes "P");
-    formals = [];
-    vars = x ∷ [];
-    derives = record { place = here 3; items = record { exports = name_x 4 ∷ []; itself = None; imports = imports } ∷ [] };
+    formal_part = None;
+    formals = x ∷ [];
+    derives = Some (record { place = here 3; items = record { exports = name_x 4 ∷ []; itself = None; imports = imports } ∷ [] });
     pre = pre;
+    declarations = [];
+    locals = [];
     statements = stmts;
     end = here 30;
     end_name = None;
   }
 
   abbrev program : Program
-  program = record { vars = record { name = codes "X"; mode = mode; type_id = Integer } ∷ []; subs = sub ∷ [] }
+  program = record { vars = record { name = codes "X"; kind = Formal mode; type_id = Integer } ∷ []; subs = sub ∷ [] }
 
 abbrev step : List CoreStmt
 step = Assignment (name_x 19) next ∷ []
@@ -135,3 +141,57 @@ refused n stmts =
     let p = program InOut guard (name_x 5 ∷ []) stmts in
     let s : Store = Some (value.Number (pos 2147483647)) ∷ [] in
     ap (λ w. then_do (demand (as_truth w) Pre (here 10) s) (λ entry. then_do (run p n entry stmts) (λ t. demand (exports_set (sub InOut guard (name_x 5 ∷ []) stmts) t) Unset (here 30) t))) (means p (pos 2147483647))
+
+-- ---- signs
+
+-- `- X`
+abbrev negated : CoreExpr
+negated = Prefix sign.Minus (here 20) (Name (name_x 21))
+
+eval_negated : (s : Store) → eval s negated ≡ with_value (eval s (Name (name_x 21))) (λ a. signed sign.Minus (here 20) a)
+eval_negated s =
+    eval-Prefix s sign.Minus (here 20) (Name (name_x 21))
+    ∙ ap (λ l. static_or l (with_value (eval s (Name (name_x 21))) (λ a. signed sign.Minus (here 20) a))) (fold-Prefix static_step sign.Minus (here 20) (Name (name_x 21)) ∙ ap (signed_or sign.Minus) (fold-Name static_step (name_x 21)))
+
+negates : eval (Some (value.Number (pos 41)) ∷ []) negated ≡ Gives (value.Number (pos 0 -ℤ pos 41))
+unfolding value_of_prefix
+negates =
+    let s : Store = Some (value.Number (pos 41)) ∷ [] in
+    eval_negated s ∙ ap (λ l. with_value l (λ a. signed sign.Minus (here 20) a)) (eval-Name s (name_x 21))
+
+-- minus the first number lies past the last, which is told at the sign
+negation_overflows : eval (Some (value.Number INTEGER_FIRST) ∷ []) negated ≡ Fails Overflow (here 20)
+unfolding value_of_prefix
+negation_overflows =
+    let s : Store = Some (value.Number INTEGER_FIRST) ∷ [] in
+    eval_negated s ∙ ap (λ l. with_value l (λ a. signed sign.Minus (here 20) a)) (eval-Name s (name_x 21))
+
+-- ---- `null`, and locals
+
+null_keeps : (n : ℕ) (v : Value) → call (program InOut None (name_x 5 ∷ []) (Null (here 18) ∷ [])) n (sub InOut None (name_x 5 ∷ []) (Null (here 18) ∷ [])) (Some v ∷ []) ≡ Ended (Some v ∷ [])
+null_keeps n v = refl
+
+abbrev y : VarId
+y = record { 0 = 1 }
+
+abbrev name_y : CoreName
+name_y = record { name = word 22 (codes "Y"); entity = Variable y }
+
+-- the same procedure with a local Y, and `X := Y`
+abbrev from_local : List CoreStmt
+from_local = Assignment (name_x 19) (Name name_y) ∷ []
+
+abbrev sub_with_local : Sub
+sub_with_local = record (sub InOut None (name_x 5 ∷ []) from_local) { locals = y ∷ [] }
+
+abbrev program_with_local : Program
+program_with_local = record {
+  vars = record { name = codes "X"; kind = Formal InOut; type_id = Integer } ∷ record { name = codes "Y"; kind = Local; type_id = Integer } ∷ [];
+  subs = sub_with_local ∷ [];
+}
+
+-- a local has no value on entry, whatever it had before
+local_is_unset : (n : ℕ) (v w : Value) → call program_with_local n sub_with_local (Some v ∷ Some w ∷ []) ≡ Bad Unset (here 22)
+local_is_unset n v w =
+    let entry = entry_of program_with_local sub_with_local (Some v ∷ Some w ∷ []) in
+    ap (λ a. then_do (then_do (use_value a (assign program_with_local (place_of (Name name_y)) (Variable x) entry)) Ended) (λ t. demand (exports_set sub_with_local t) Unset (here 30) t)) (eval-Name entry name_y)

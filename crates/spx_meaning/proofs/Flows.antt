@@ -3,7 +3,7 @@ use Rattle.std.proofs.Common.{◌≡◌, ℕ, Bool, true, false, ◌||◌, List,
 use Rattle.spx_core.specs.declared.program.VarId.{VarId}
 use Rattle.spx_core.specs.declared.program.Program.{Program}
 use Rattle.spx_core.specs.declared.expression.CoreStmt.{CoreStmt}
-use Rattle.spx_core.specs.declared.expression.CoreStmt.TheVariants.{Assignment}
+use Rattle.spx_core.specs.declared.expression.CoreStmt.TheVariants.{Null, Assignment}
 use Rattle.spx_core.specs.Uses.{denotes}
 use Rattle.spx_core.specs.Flow.{assigns, defines, MayFlow, MayFlowAll}
 use Rattle.spx_meaning.specs.Stores.{Store, look}
@@ -19,6 +19,7 @@ or_false false y h = (refl, h)
 -- ---- a variable that no statement sets keeps its value
 
 pub kept_one : (p : Program) (n : ℕ) (s s' : Store) (stmt : CoreStmt) (v : VarId) → run_one p n s stmt ≡ Ended s' → assigns v stmt ≡ false → look s' v ≡ look s v
+kept_one p n s s' (Null place) v ended h = ap (λ x. look x v) (sym (same_store s s' ended))
 kept_one p n s s' (Assignment target e) v ended h = let a : Assigns target e s s' = assignment p n s s' target e ended in a.kept v h
 
 pub kept : (p : Program) (n : ℕ) (s s' : Store) (stmts : List CoreStmt) (v : VarId) → run p n s stmts ≡ Ended s' → defines v stmts ≡ false → look s' v ≡ look s v
@@ -35,6 +36,8 @@ abbrev pub Determined : (VarId → VarId → Type 0) → (s t s' t' : Store) →
 Determined R s t s' t' = (w : VarId) → Agree (λ u. R u w) s t → look s' w ≡ look t' w
 
 determined_one : (p : Program) (n m : ℕ) (s t s' t' : Store) (stmt : CoreStmt) → run_one p n s stmt ≡ Ended s' → run_one p m t stmt ≡ Ended t' → Determined (MayFlow stmt) s t s' t'
+determined_one p n m s t s' t' (Null place) ended ended' w agree =
+    ap (λ x. look x w) (sym (same_store s s' ended)) ∙ agree w refl ∙ ap (λ x. look x w) (same_store t t' ended')
 determined_one p n m s t s' t' (Assignment target e) ended ended' w agree = by_target (denotes w target) refl
   where
     a : Assigns target e s s'

@@ -19,21 +19,21 @@ use Rattle.spx_meaning.specs.Increment.{place, x, x_at, relation, successor, ste
 use Rattle.spx_meaning.proofs.IncrementRules.{only_x, if_x}
 
 -- the only export is X
-only_export : (v : VarId) → IsTrue (exports v inc.derives) → x ≡ v
+only_export : (v : VarId) → IsTrue (exports v inc) → x ≡ v
 only_export v exported =
     elim (eqb_tells 0 v.0) [
       | inl h ↦ ap (λ k. record { 0 = k }) h.1
-      | inr h ↦ absurd (let none : exports v inc.derives ≡ false = ap (λ b. (b || false) || false) h.0 in cc)
+      | inr h ↦ absurd (let none : exports v inc ≡ false = ap (λ b. (b || false) || false) h.0 in cc)
     ]
 
 -- it is imported
-not_imported : (v : VarId) → x ≡ v → imports v inc.derives ≡ false → ⊥
-not_imported v is none = absurd (let e : imports x inc.derives ≡ false = subst (λ w. imports w inc.derives ≡ false) (sym is) none in cc)
+not_imported : (v : VarId) → x ≡ v → imports v inc ≡ false → ⊥
+not_imported v is none = absurd (let e : imports x inc ≡ false = subst (λ w. imports w inc ≡ false) (sym is) none in cc)
 
 none_missing : (u w : VarId) → ¬ Missing inc u w
 none_missing u w h =
-    let from_x = subst (λ v. derives v w inc.derives ≡ false) (sym (only_x u h.0)) h.3 in
-    absurd (let e : derives x x inc.derives ≡ false = subst (λ v. derives x v inc.derives ≡ false) (sym (only_export w h.1)) from_x in cc)
+    let from_x = subst (λ v. derives v w inc ≡ false) (sym (only_x u h.0)) h.3 in
+    absurd (let e : derives x x inc ≡ false = subst (λ v. derives x v inc ≡ false) (sym (only_export w h.1)) from_x in cc)
 
 reads_x : IsTrue (uses x successor)
 reads_x =
@@ -44,11 +44,11 @@ x_flows : MayFlowAll (step ∷ []) x x
 x_flows = (x, inl (refl, reads_x), refl)
 
 -- what is derived is derived from X
-derived_export : (u w : VarId) → IsTrue (derives u w inc.derives) → x ≡ w
+derived_export : (u w : VarId) → IsTrue (derives u w inc) → x ≡ w
 derived_export u w h =
     elim (eqb_tells 0 w.0) [
       | inl e ↦ ap (λ k. record { 0 = k }) e.1
-      | inr e ↦ absurd (let none : derives u w inc.derives ≡ false = ap (λ b. ((b || false) && (mentions u relation.imports || (is_some relation.itself && (u.0 == w.0)))) || false) e.0 in cc)
+      | inr e ↦ absurd (let none : derives u w inc ≡ false = ap (λ b. ((b || false) && (mentions u relation.imports || (is_some relation.itself && (u.0 == w.0)))) || false) e.0 in cc)
     ]
 
 none_unused : (u w : VarId) → ¬ Unused inc u w

@@ -19,7 +19,7 @@ use Rattle.spx_term.specs.Folding.{before_literal, of_itself, simplified, folded
 use Rattle.spx_term.specs.Goals.{goal_of}
 use Rattle.spx_term.specs.Intervals.{unbounded, point, meet, allowed, bounds_in, bounds, bounded, structural, interval, interval-Number, interval-Variable, interval-Infix}
 use Rattle.spx_term.specs.Plain.{settled, is_among, joined, is_plain, is_plain-Infix, Plain}
-use Rattle.spx_term.specs.Widths.{fits}
+use Rattle.spx_num.specs.Widths.{fits}
 use Rattle.spx_term.proofs.Terms.{fold-Number, fold-Variable, fold-Infix}
 use Rattle.spx_meaning.specs.Paths.{conditions_of, ArePlain}
 use Rattle.spx_meaning.specs.Increment.{inc, entry_x, next_x, at_least_first, at_most_last, entry_below_last, overflow_condition, range_condition}

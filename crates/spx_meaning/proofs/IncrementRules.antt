@@ -22,7 +22,7 @@ use Rattle.spx_core.specs.Formals.{is_formal, mode_of}
 use Rattle.spx_core.specs.Typed.{ExprType, universal, integer, boolean, operation_type, type_step, type_of, LiesIn, ValueIn, Meets, Fit, TypedExpr, Typed}
 use Rattle.spx_core.specs.Visible.{VisibleSub, Visible}
 use Rattle.spx_core.specs.Rules.{BreaksU2, PairStandsTwice, FormalIsMissing, NamesNoFormal, BreaksU7, agrees, BreaksU8, BreaksU11, ObeysRules, Obeys}
-use Rattle.spx_term.specs.Widths.{fits, fits-Decides}
+use Rattle.spx_num.specs.Widths.{fits, fits-Decides}
 use Rattle.spx_core.proofs.Expressions.{fold-Name, fold-Number, fold-Attribute, fold-Infix}
 use Rattle.spx_meaning.specs.Increment.{place, word, x, x_at, integer_at, relation, integer_last, below_last, successor, inc, increment}
 use Rattle.spx_meaning.proofs.IncrementRuns.{successor_not_static}
@@ -86,12 +86,14 @@ visible_inc : VisibleSub 0 0 inc
 unfolding IsDistinct hidden-the_row-CoreExpr-0 hidden
 visible_inc = record {
   free = refl;
-  free_formals = (refl, tt);
+  free_vars = (refl, tt);
   distinct = (tt, tt);
-  vars = refl;
-  formals = ((refl, tt), tt);
+  formals = refl;
+  locals = refl;
+  params = ((refl, tt), tt);
   derives = ((((refl, tt), tt), ((refl, tt), tt)), tt);
   pre = ((refl, tt), ((refl, tt), refl));
+  declarations = tt;
   statements = (((refl, tt), ((refl, tt), tt)), tt);
   end_name = refl;
 }
@@ -139,7 +141,7 @@ item_is zero item h is twice = no_pair_twice (subst PairStandsTwice (sym is) twi
 item_is (suc k) item h is twice = absurd (let e : ⊥ = omega arith in e)
 
 missing : ¬ FormalIsMissing inc
-missing h = absurd (let e : imports x inc.derives ≡ false = subst (λ v. imports v inc.derives ≡ false) (sym (only_x h.0 h.1)) h.2 in cc)
+missing h = absurd (let e : imports x inc ≡ false = subst (λ v. imports v inc ≡ false) (sym (only_x h.0 h.1)) h.2 in cc)
 
 related : ¬ BreaksU7 inc
 related h =
@@ -162,7 +164,7 @@ agrees_with_both mode.InOut is other = cc
 modes : ¬ BreaksU8 increment inc
 modes h =
     let at_x = sym (only_x h.0 h.2) in
-    agrees_with_both h.1 (subst (λ v. mode_of v increment ≡ Some h.1) at_x h.3) (subst (λ v. agrees h.1 (imports v inc.derives) (exports v inc.derives) ≡ false) at_x h.4)
+    agrees_with_both h.1 (subst (λ v. mode_of v increment ≡ Some h.1) at_x h.3) (subst (λ v. agrees h.1 (imports v inc) (exports v inc) ≡ false) at_x h.4)
 
 read_by_pre : (v : VarId) → IsTrue (uses v below_last) → x ≡ v
 read_by_pre v h =
@@ -175,7 +177,7 @@ same_pre p q h = cc
 precondition : ¬ BreaksU11 inc
 precondition h =
     let of_pre = subst (λ (p : CorePrecondition). IsTrue (uses h.1 p.condition)) (sym (same_pre (record { place = place 3 5; condition = below_last }) h.0 h.2)) h.3 in
-    absurd (let e : imports x inc.derives ≡ false = subst (λ v. imports v inc.derives ≡ false) (sym (read_by_pre h.1 of_pre)) h.4 in cc)
+    absurd (let e : imports x inc ≡ false = subst (λ v. imports v inc ≡ false) (sym (read_by_pre h.1 of_pre)) h.4 in cc)
 
 pub obeys : Obeys increment
 obeys = All-cons (ObeysRules increment) inc [] (record { targets = targets; relation = related; modes = modes; precondition = precondition }) (All-nil (ObeysRules increment))

@@ -1,5 +1,6 @@
 pub mod Expressions
 pub mod Stores
+pub mod StoreValues
 pub mod Evaluation
 pub mod Runs
 pub mod Flows

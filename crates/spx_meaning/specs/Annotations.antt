@@ -11,7 +11,7 @@ use Rattle.spx_term.specs.declared.value.Value.{Value}
 use Rattle.spx_term.specs.declared.value.Value.TheVariants as value
 use Rattle.spx_term.specs.Meaning.{as_truth}
 use Rattle.spx_meaning.specs.Stores.{Store, look, type_of, first_value}
-use Rattle.spx_meaning.specs.Evaluation.{applied}
+use Rattle.spx_meaning.specs.Evaluation.{applied_sign, applied}
 
 -- an unset variable counts as the first value of its type
 abbrev pub seen : TypeId → Option Value → Value
@@ -32,6 +32,8 @@ abbrev pub meant_step : Program → Store → Store → CoreExpr-F Value → Val
 meant_step p entry s (CoreExpr-F.Number n place) = value.Number n
 meant_step p entry s (CoreExpr-F.Name name) = reading_of p s name.entity
 meant_step p entry s (CoreExpr-F.Attribute prefix designator) = value.Number (attribute_value designator.text)
+meant_step p entry s (CoreExpr-F.Parenthesized place a) = a
+meant_step p entry s (CoreExpr-F.Prefix op place a) = applied_sign op a
 meant_step p entry s (CoreExpr-F.Infix op place a b) = applied op a b
 
 -- the value of an expression in an annotation

@@ -5,19 +5,22 @@ use Rattle.spx_text.specs.declared.place.Place.{Place}
 use Rattle.spx_tree.specs.declared.expression.Identifier.{Identifier}
 use Rattle.spx_tree.specs.declared.expression.InfixOp.{InfixOp}
 use Rattle.spx_tree.specs.declared.expression.InfixOp.TheVariants as op
+use Rattle.spx_tree.specs.declared.expression.PrefixOp.{PrefixOp}
+use Rattle.spx_tree.specs.declared.expression.PrefixOp.TheVariants as sign
 use Rattle.spx_core.specs.declared.program.TypeId.TheVariants.{Integer}
 use Rattle.spx_core.specs.declared.expression.Entity.{Entity}
 use Rattle.spx_core.specs.declared.expression.Entity.TheVariants.{Variable}
 use Rattle.spx_core.specs.declared.expression.CoreName.{CoreName}
 use Rattle.spx_core.specs.declared.expression.CoreExpr.{CoreExpr, end_of-CoreExpr, more_of-CoreExpr}
 use Rattle.spx_core.specs.declared.expression.CoreExpr.TheBlock.{hidden-the_row-CoreExpr-0}
-use Rattle.spx_core.specs.declared.expression.CoreExpr.TheVariants.{Number, Name, Attribute, Infix, Infix'}
+use Rattle.spx_core.specs.declared.expression.CoreExpr.TheVariants.{Number, Name, Attribute, Parenthesized, Parenthesized', Prefix, Prefix', Infix, Infix'}
 use Rattle.spx_core.specs.Static.{Static, number, truth, attribute_value, static_value}
 use Rattle.spx_term.specs.declared.term.TermOp.{TermOp}
 use Rattle.spx_term.specs.declared.term.TermOp.TheVariants as term
+use Rattle.spx_term.specs.declared.term.TermPrefix.TheVariants.{Minus}
 use Rattle.spx_term.specs.declared.value.Value.{Value}
 use Rattle.spx_term.specs.declared.value.Value.TheVariants as value
-use Rattle.spx_term.specs.Meaning.{value_of_op}
+use Rattle.spx_term.specs.Meaning.{value_of_prefix, value_of_op}
 use Rattle.spx_meaning.specs.declared.bad.BadKind.{BadKind}
 use Rattle.spx_meaning.specs.declared.bad.BadKind.TheVariants.{Overflow, Unset}
 use Rattle.spx_meaning.specs.Stores.{Store, look, is_in}
@@ -47,6 +50,11 @@ term_op op.GreaterOrEqual = term.GreaterOrEqual
 abbrev pub applied : InfixOp → Value → Value → Value
 applied op x y = value_of_op (term_op op) x y
 
+-- the value behind a sign
+abbrev pub applied_sign : PrefixOp → Value → Value
+applied_sign sign.Plus x = x
+applied_sign sign.Minus x = value_of_prefix Minus x
+
 -- the value, if it lies in the base range
 abbrev pub in_base : Place → Value → Answer
 in_base place x = if is_in Integer x then Gives x else Fails Overflow place
@@ -56,6 +64,11 @@ abbrev pub checked : InfixOp → Place → Value → Answer
 checked op.Add place x = in_base place x
 checked op.Subtract place x = in_base place x
 checked _ place x = Gives x
+
+-- the result of a sign: that of unary - must lie in the base range
+abbrev pub signed : PrefixOp → Place → Value → Answer
+signed sign.Plus place x = Gives (applied_sign sign.Plus x)
+signed sign.Minus place x = in_base place (applied_sign sign.Minus x)
 
 -- a read of a variable
 abbrev pub read_at : Place → Option Value → Answer
@@ -76,6 +89,12 @@ abbrev pub static_or : Option Static → Answer → Answer
 static_or (Some x) answer = Gives (value_of_static x)
 static_or None answer = answer
 
+pattern abbrev pub parenthesized_of : Place → CoreExpr → CoreExpr
+parenthesized_of place a = Parenthesized' place tt (more_of-CoreExpr a end_of-CoreExpr)
+
+pattern abbrev pub prefix_of : PrefixOp → Place → CoreExpr → CoreExpr
+prefix_of op place a = Prefix' op place tt (more_of-CoreExpr a end_of-CoreExpr)
+
 pattern abbrev pub infix_of : InfixOp → Place → CoreExpr → CoreExpr → CoreExpr
 infix_of op place a b = Infix' op place tt (more_of-CoreExpr a end_of-CoreExpr) tt (more_of-CoreExpr b end_of-CoreExpr)
 
@@ -86,6 +105,8 @@ unfoldable pub eval : Store → CoreExpr → Answer
 eval s (Number n place) = Gives (value.Number n)
 eval s (Name name) = read s name.name.place name.entity
 eval s (Attribute prefix designator) = Gives (value.Number (attribute_value designator.text))
+eval s (parenthesized_of place a) = eval s a
+eval s (prefix_of op place a) = static_or (static_value (Prefix op place a)) (with_value (eval s a) (λ x. signed op place x))
 eval s (infix_of op place a b) =
     static_or (static_value (Infix op place a b)) (with_value (eval s a) (λ x. with_value (eval s b) (λ y. checked op place (applied op x y))))
 
@@ -101,9 +122,17 @@ pub eval-Attribute : (s : Store) (prefix : CoreName) (designator : Identifier) �
 unfolding eval
 eval-Attribute s prefix designator = refl
 
+pub eval-Parenthesized : (s : Store) (place : Place) (a : CoreExpr) → eval s (Parenthesized place a) ≡ eval s a
+unfolding eval hidden-the_row-CoreExpr-0 hidden
+eval-Parenthesized s place a = refl
+
+pub eval-Prefix : (s : Store) (op : PrefixOp) (place : Place) (a : CoreExpr) → eval s (Prefix op place a) ≡ static_or (static_value (Prefix op place a)) (with_value (eval s a) (λ x. signed op place x))
+unfolding eval hidden-the_row-CoreExpr-0 hidden
+eval-Prefix s op place a = refl
+
 pub eval-Infix : (s : Store) (op : InfixOp) (place : Place) (a b : CoreExpr) → eval s (Infix op place a b) ≡ static_or (static_value (Infix op place a b)) (with_value (eval s a) (λ x. with_value (eval s b) (λ y. checked op place (applied op x y))))
 unfolding eval hidden-the_row-CoreExpr-0 hidden
 eval-Infix s op place a b = refl
 
 -- evaluation at each form of an expression
-pub ruleset eval_forms = (eval-Number, eval-Name, eval-Attribute, eval-Infix)
+pub ruleset eval_forms = (eval-Number, eval-Name, eval-Attribute, eval-Parenthesized, eval-Prefix, eval-Infix)

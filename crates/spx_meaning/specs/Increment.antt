@@ -6,6 +6,7 @@ use Rattle.spx_tree.specs.declared.expression.InfixOp.TheVariants as op
 use Rattle.spx_tree.specs.declared.subprogram.WrittenMode.TheVariants as written
 use Rattle.spx_core.specs.declared.program.TheConstants.{INTEGER_FIRST, INTEGER_LAST}
 use Rattle.spx_core.specs.declared.program.TypeId.TheVariants as type
+use Rattle.spx_core.specs.declared.program.VarKind.TheVariants.{Formal}
 use Rattle.spx_core.specs.declared.program.VarId.{VarId}
 use Rattle.spx_core.specs.declared.program.Program.{Program}
 use Rattle.spx_core.specs.declared.subprogram.Mode.TheVariants as mode
@@ -77,10 +78,12 @@ abbrev pub inc : Sub
 inc = record {
   place = place 1 1;
   name = word (codes "Inc") 1 11;
-  formals = formal ∷ [];
-  vars = x ∷ [];
-  derives = record { place = place 2 5; items = relation ∷ [] };
+  formal_part = Some (record { place = place 1 15; params = formal ∷ [] });
+  formals = x ∷ [];
+  derives = Some (record { place = place 2 5; items = relation ∷ [] });
   pre = Some (record { place = place 3 5; condition = below_last });
+  declarations = [];
+  locals = [];
   statements = step ∷ [];
   end = place 7 1;
   end_name = Some (word (codes "Inc") 7 5);
@@ -88,7 +91,7 @@ inc = record {
 
 -- the program of the one procedure
 abbrev pub increment : Program
-increment = record { vars = record { name = codes "X"; mode = mode.InOut; type_id = type.Integer } ∷ []; subs = inc ∷ [] }
+increment = record { vars = record { name = codes "X"; kind = Formal mode.InOut; type_id = type.Integer } ∷ []; subs = inc ∷ [] }
 
 -- ---- the conditions
 

@@ -5,6 +5,7 @@ use Rattle.spx_core.specs.declared.program.VarId.{VarId}
 use Rattle.spx_core.specs.declared.program.Program.{Program}
 use Rattle.spx_core.specs.declared.subprogram.Sub.{Sub}
 use Rattle.spx_core.specs.declared.expression.CoreStmt.{CoreStmt}
+use Rattle.spx_core.specs.Formals.{is_local}
 use Rattle.spx_core.specs.Dependency.{derives, exports, imports}
 use Rattle.spx_meaning.specs.declared.bad.BadKind.{BadKind}
 use Rattle.spx_meaning.specs.Stores.{Store, look, type_of, is_in}
@@ -23,7 +24,7 @@ CallsAreSettled = (p : Program) (sub : Sub) (s : Store) → IsSettled (λ n. cal
 -- a store from which a subprogram may be called
 pub record Start (p : Program) (sub : Sub) (s : Store) : Type 0 where
   pub precondition : IsTrue (pre_holds p sub.pre s)
-  pub imports_set : (v : VarId) → IsTrue (imports v sub.derives) → IsSome (look s v)
+  pub imports_set : (v : VarId) → IsTrue (imports v sub) → IsSome (look s v)
   pub in_types : (v : VarId) → IfSome (look s v) (λ x. IsTrue (is_in (type_of p v) x))
 
 -- no call from such a store is bad, at any bound
@@ -42,12 +43,12 @@ Agree P s t = (v : VarId) → P v → look s v ≡ look t v
 abbrev pub AreDerived : Program → Sub → Type 0
 AreDerived p sub =
     (n m : ℕ) (s t s' t' : Store) → Start p sub s → Start p sub t → call p n sub s ≡ Ended s' → call p m sub t ≡ Ended t' →
-    (y : VarId) → IsTrue (exports y sub.derives) → Agree (λ x. IsTrue (derives x y sub.derives)) s t → look s' y ≡ look t' y
+    (y : VarId) → IsTrue (exports y sub) → Agree (λ x. IsTrue (derives x y sub)) s t → look s' y ≡ look t' y
 
--- a variable that is no export has the value with which the body began, behind a call that has ended
+-- a variable that is neither an export nor a local has the value with which the body began, behind a call that has ended
 abbrev pub OthersAreKept : Program → Sub → Type 0
 OthersAreKept p sub =
-    (n : ℕ) (s s' : Store) → Start p sub s → call p n sub s ≡ Ended s' → (v : VarId) → exports v sub.derives ≡ false → look s' v ≡ look (entry_of p sub s) v
+    (n : ℕ) (s s' : Store) → Start p sub s → call p n sub s ≡ Ended s' → (v : VarId) → exports v sub ≡ false → is_local v sub ≡ false → look s' v ≡ look (entry_of p sub s) v
 
 pub record TwoRuns (p : Program) : Type 0 where
   pub derived : All (AreDerived p) p.subs

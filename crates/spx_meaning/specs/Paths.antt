@@ -7,6 +7,8 @@ use Rattle.spx_text.specs.declared.place.Place.{Place}
 use Rattle.spx_tree.specs.declared.expression.InfixOp.{InfixOp}
 use Rattle.spx_tree.specs.declared.expression.InfixOp.TheVariants as op
 use Rattle.spx_tree.specs.declared.expression.Identifier.{Identifier}
+use Rattle.spx_tree.specs.declared.expression.PrefixOp.{PrefixOp}
+use Rattle.spx_tree.specs.declared.expression.PrefixOp.TheVariants as prefix
 use Rattle.spx_core.specs.declared.program.TheConstants.{INTEGER_FIRST, INTEGER_LAST}
 use Rattle.spx_core.specs.declared.program.VarId.{VarId}
 use Rattle.spx_core.specs.declared.expression.Entity.{Entity}
@@ -15,14 +17,14 @@ use Rattle.spx_core.specs.declared.expression.CoreName.{CoreName}
 use Rattle.spx_core.specs.declared.expression.CoreExpr.{CoreExpr, CoreExpr-F, fold-CoreExpr, end_of-CoreExpr, more_of-CoreExpr}
 use Rattle.spx_core.specs.declared.expression.CoreExpr.TheBlock.{hidden-the_row-CoreExpr-0}
 use Rattle.spx_core.specs.declared.expression.CoreExpr.TheVariants as expr
-use Rattle.spx_core.specs.declared.expression.CoreExpr.TheVariants.{Infix'}
+use Rattle.spx_core.specs.declared.expression.CoreExpr.TheVariants.{Parenthesized', Prefix', Infix'}
 use Rattle.spx_core.specs.declared.expression.CoreStmt.{CoreStmt}
-use Rattle.spx_core.specs.declared.expression.CoreStmt.TheVariants.{Assignment}
+use Rattle.spx_core.specs.declared.expression.CoreStmt.TheVariants.{Null, Assignment}
 use Rattle.spx_core.specs.declared.subprogram.CorePrecondition.{CorePrecondition}
 use Rattle.spx_core.specs.declared.subprogram.Sub.{Sub}
 use Rattle.spx_core.specs.Places.{place_of}
 use Rattle.spx_core.specs.Dependency.{exports, imports}
-use Rattle.spx_core.specs.Static.{Static, number, truth, attribute_value, operated_or, static_step}
+use Rattle.spx_core.specs.Static.{Static, number, truth, attribute_value, signed_or, operated_or, static_step}
 use Rattle.spx_term.specs.declared.condition.CondKind.TheVariants.{Overflow, Range}
 use Rattle.spx_term.specs.declared.condition.Condition.{Condition}
 use Rattle.spx_term.specs.declared.term.Sort.TheVariants.{Integer}
@@ -30,12 +32,13 @@ use Rattle.spx_term.specs.declared.term.Symbol.TheVariants as symbol
 use Rattle.spx_term.specs.declared.term.Name.{Name}
 use Rattle.spx_term.specs.declared.term.TermOp.{TermOp}
 use Rattle.spx_term.specs.declared.term.TermOp.TheVariants as sign
+use Rattle.spx_term.specs.declared.term.TermPrefix.TheVariants.{Minus}
 use Rattle.spx_term.specs.declared.term.Term.{Term}
 use Rattle.spx_term.specs.declared.term.Term.TheVariants as term
 use Rattle.spx_term.specs.Goals.{goal_of}
 use Rattle.spx_term.specs.Plain.{Plain}
 use Rattle.spx_term.specs.Steps.{Tree, Cut, Assign, assume_all, check, Claim, claims_of, tidy}
-use Rattle.spx_term.specs.Widths.{fits}
+use Rattle.spx_num.specs.Widths.{fits}
 
 -- ---- static expressions
 
@@ -48,6 +51,8 @@ kept None = None
 -- one level, of whose parts it is known
 abbrev pub literal_step : CoreExpr-F (Option Static) → Option Static
 literal_step (CoreExpr-F.Infix op place a b) = kept (operated_or op a b)
+literal_step (CoreExpr-F.Prefix op place a) = kept (signed_or op a)
+literal_step (CoreExpr-F.Parenthesized place a) = static_step (CoreExpr-F.Parenthesized place a)
 literal_step (CoreExpr-F.Number n place) = static_step (CoreExpr-F.Number n place)
 literal_step (CoreExpr-F.Name name) = static_step (CoreExpr-F.Name name)
 literal_step (CoreExpr-F.Attribute prefix designator) = static_step (CoreExpr-F.Attribute prefix designator)
@@ -75,6 +80,11 @@ term_op op.LessOrEqual = sign.LessOrEqual
 term_op op.Greater = sign.Greater
 term_op op.GreaterOrEqual = sign.GreaterOrEqual
 
+-- the term behind a sign
+abbrev pub signed_term : PrefixOp → Term → Term
+signed_term prefix.Plus t = t
+signed_term prefix.Minus t = term.Prefix Minus t
+
 -- only variables have a value
 abbrev pub named : Entity → Term
 named (entity.Variable v) = term.Variable (now v)
@@ -90,15 +100,31 @@ abbrev pub literal_or : Option Static → Term → Term
 literal_or (Some x) t = static_term x
 literal_or None t = t
 
+pattern abbrev pub parenthesized_of : Place → CoreExpr → CoreExpr
+parenthesized_of place a = Parenthesized' place tt (more_of-CoreExpr a end_of-CoreExpr)
+
+pattern abbrev pub prefix_of : PrefixOp → Place → CoreExpr → CoreExpr
+prefix_of op place a = Prefix' op place tt (more_of-CoreExpr a end_of-CoreExpr)
+
 pattern abbrev pub infix_of : InfixOp → Place → CoreExpr → CoreExpr → CoreExpr
 infix_of op place a b = Infix' op place tt (more_of-CoreExpr a end_of-CoreExpr) tt (more_of-CoreExpr b end_of-CoreExpr)
 
 -- the term of an expression over the values now
 unfoldable pub term_of : CoreExpr → Term
+term_of (parenthesized_of place a) = term_of a
+term_of (prefix_of op place a) = literal_or (literal (prefix_of op place a)) (signed_term op (term_of a))
 term_of (infix_of op place a b) = literal_or (literal (infix_of op place a b)) (term.Infix (term_op op) (term_of a) (term_of b))
 term_of (expr.Number n place) = term.Number n
 term_of (expr.Name name) = named name.entity
 term_of (expr.Attribute prefix designator) = term.Number (attribute_value designator.text)
+
+pub term_of-Parenthesized : (place : Place) (a : CoreExpr) → term_of (expr.Parenthesized place a) ≡ term_of a
+unfolding term_of hidden-the_row-CoreExpr-0 hidden
+term_of-Parenthesized place a = refl
+
+pub term_of-Prefix : (op : PrefixOp) (place : Place) (a : CoreExpr) → term_of (expr.Prefix op place a) ≡ literal_or (literal (expr.Prefix op place a)) (signed_term op (term_of a))
+unfolding term_of hidden-the_row-CoreExpr-0 hidden
+term_of-Prefix op place a = refl
 
 pub term_of-Infix : (op : InfixOp) (place : Place) (a b : CoreExpr) → term_of (expr.Infix op place a b) ≡ literal_or (literal (expr.Infix op place a b)) (term.Infix (term_op op) (term_of a) (term_of b))
 unfolding term_of hidden-the_row-CoreExpr-0 hidden
@@ -116,7 +142,7 @@ pub term_of-Attribute : (prefix : CoreName) (designator : Identifier) → term_o
 unfolding term_of
 term_of-Attribute prefix designator = refl
 
-pub ruleset term_forms = (term_of-Infix, term_of-Number, term_of-Name, term_of-Attribute)
+pub ruleset term_forms = (term_of-Parenthesized, term_of-Prefix, term_of-Infix, term_of-Number, term_of-Name, term_of-Attribute)
 
 -- ---- checks
 
@@ -130,6 +156,11 @@ operation_check op.Add place t rest = check Overflow place (in_integer t) rest
 operation_check op.Subtract place t rest = check Overflow place (in_integer t) rest
 operation_check _ place t rest = rest
 
+-- the result of unary - lies in the base range
+abbrev pub sign_check : PrefixOp → Place → Term → Tree → Tree
+sign_check prefix.Plus place t rest = rest
+sign_check prefix.Minus place t rest = check Overflow place (in_integer t) rest
+
 -- a static expression is not evaluated
 abbrev pub unless_static : Option Static → Tree → Tree → Tree
 unless_static (Some x) rest checks = rest
@@ -137,9 +168,20 @@ unless_static None rest checks = checks
 
 -- the checks of an expression, from left to right
 unfoldable pub checks : CoreExpr → Tree → Tree
+checks (parenthesized_of place a) rest = checks a rest
+checks (prefix_of op place a) rest =
+    unless_static (literal (prefix_of op place a)) rest (checks a (sign_check op place (term_of (prefix_of op place a)) rest))
 checks (infix_of op place a b) rest =
     unless_static (literal (infix_of op place a b)) rest (checks a (checks b (operation_check op place (term_of (infix_of op place a b)) rest)))
 checks _ rest = rest
+
+pub checks-Parenthesized : (place : Place) (a : CoreExpr) (rest : Tree) → checks (expr.Parenthesized place a) rest ≡ checks a rest
+unfolding checks hidden-the_row-CoreExpr-0 hidden
+checks-Parenthesized place a rest = refl
+
+pub checks-Prefix : (op : PrefixOp) (place : Place) (a : CoreExpr) (rest : Tree) → checks (expr.Prefix op place a) rest ≡ unless_static (literal (expr.Prefix op place a)) rest (checks a (sign_check op place (term_of (expr.Prefix op place a)) rest))
+unfolding checks hidden-the_row-CoreExpr-0 hidden
+checks-Prefix op place a rest = refl
 
 pub checks-Infix : (op : InfixOp) (place : Place) (a b : CoreExpr) (rest : Tree) → checks (expr.Infix op place a b) rest ≡ unless_static (literal (expr.Infix op place a b)) rest (checks a (checks b (operation_check op place (term_of (expr.Infix op place a b)) rest)))
 unfolding checks hidden-the_row-CoreExpr-0 hidden
@@ -157,7 +199,7 @@ pub checks-Attribute : (prefix : CoreName) (designator : Identifier) (rest : Tre
 unfolding checks
 checks-Attribute prefix designator rest = refl
 
-pub ruleset check_forms = (checks-Infix, checks-Number, checks-Name, checks-Attribute)
+pub ruleset check_forms = (checks-Parenthesized, checks-Prefix, checks-Infix, checks-Number, checks-Name, checks-Attribute)
 
 -- ---- statements
 
@@ -169,6 +211,7 @@ assigned (entity.Subprogram s) t rest = rest
 
 -- the paths through a statement and then along the rest
 abbrev pub walk : CoreStmt → Tree → Tree
+walk (Null place) rest = rest
 walk (Assignment target e) rest =
     checks e (check Range (place_of e) (in_integer (term_of e)) (assigned target.entity (term_of e) rest))
 
@@ -182,11 +225,11 @@ walks (s ∷ ss) rest = walk s (walks ss rest)
 abbrev pub entering : Sub → List VarId → Tree → Tree
 entering sub [] rest = rest
 entering sub (v ∷ vs) rest =
-    if exports v sub.derives then Assign (now v) (term.Variable (entry v)) (entering sub vs rest) else entering sub vs rest
+    if exports v sub then Assign (now v) (term.Variable (entry v)) (entering sub vs rest) else entering sub vs rest
 
 -- an import lies in its type
 abbrev pub import_facts : Sub → VarId → List Term
-import_facts sub v = if imports v sub.derives then in_integer (term.Variable (now v)) else []
+import_facts sub v = if imports v sub then in_integer (term.Variable (now v)) else []
 
 abbrev pub pre_facts : Option CorePrecondition → List Term
 pre_facts None = []
@@ -194,11 +237,11 @@ pre_facts (Some pre) = term_of pre.condition ∷ []
 
 -- what is known at the start
 abbrev pub first_facts : Sub → List Term
-first_facts sub = flat_map (import_facts sub) sub.vars ++ pre_facts sub.pre
+first_facts sub = flat_map (import_facts sub) sub.formals ++ pre_facts sub.pre
 
 -- the paths of the body
 abbrev pub tree_of : Sub → Tree
-tree_of sub = entering sub sub.vars (assume_all (first_facts sub) (walks sub.statements Cut))
+tree_of sub = entering sub sub.formals (assume_all (first_facts sub) (walks sub.statements Cut))
 
 -- ---- conditions
 

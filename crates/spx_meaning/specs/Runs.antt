@@ -1,18 +1,19 @@
 -- What statements and calls do to a store, within a bound.
-use Rattle.std.specs.Prelude.{ℕ, Bool, true, false, not, ◌||◌, if◌then◌else◌, List, [], ◌∷◌, is_some, Option, Some, None}
+use Rattle.std.specs.Prelude.{ℕ, Bool, true, false, not, ◌||◌, if◌then◌else◌, List, [], ◌∷◌, ◌++◌, is_some, Option, Some, None}
 use Rattle.std.specs.List.{list_all}
 use Rattle.spx_text.specs.declared.place.Place.{Place}
 use Rattle.spx_core.specs.declared.program.VarId.{VarId}
+use Rattle.spx_core.specs.declared.program.VarKind.{VarKind}
+use Rattle.spx_core.specs.declared.program.VarKind.TheVariants.{Formal, Local}
 use Rattle.spx_core.specs.declared.program.Var.{Var}
 use Rattle.spx_core.specs.declared.program.Program.{Program}
-use Rattle.spx_core.specs.declared.subprogram.Mode.{Mode}
 use Rattle.spx_core.specs.declared.subprogram.Mode.TheVariants as mode
 use Rattle.spx_core.specs.declared.subprogram.CorePrecondition.{CorePrecondition}
 use Rattle.spx_core.specs.declared.subprogram.Sub.{Sub}
 use Rattle.spx_core.specs.declared.expression.Entity.{Entity}
 use Rattle.spx_core.specs.declared.expression.Entity.TheVariants.{Variable}
 use Rattle.spx_core.specs.declared.expression.CoreStmt.{CoreStmt}
-use Rattle.spx_core.specs.declared.expression.CoreStmt.TheVariants.{Assignment}
+use Rattle.spx_core.specs.declared.expression.CoreStmt.TheVariants.{Null, Assignment}
 use Rattle.spx_core.specs.Places.{place_of}
 use Rattle.spx_core.specs.Dependency.{exports}
 use Rattle.spx_term.specs.declared.value.Value.{Value}
@@ -51,6 +52,7 @@ assign p place _ s x = Ended s
 
 -- a statement
 abbrev pub run_one : Program → ℕ → Store → CoreStmt → Outcome
+run_one p n s (Null place) = Ended s
 run_one p n s (Assignment target e) = use_value (eval s e) (assign p (place_of e) target.entity s)
 
 -- statements, one after another; the bound is handed down to each
@@ -58,27 +60,29 @@ abbrev pub run : Program → ℕ → Store → List CoreStmt → Outcome
 run p n s [] = Ended s
 run p n s (stmt ∷ rest) = then_do (run_one p n s stmt) (λ t. run p n t rest)
 
-abbrev pub is_out_mode : Mode → Bool
-is_out_mode mode.In = false
-is_out_mode mode.Out = true
-is_out_mode mode.InOut = false
+-- `out` formals and locals
+abbrev pub is_unset_kind : VarKind → Bool
+is_unset_kind (Formal mode.In) = false
+is_unset_kind (Formal mode.Out) = true
+is_unset_kind (Formal mode.InOut) = false
+is_unset_kind Local = true
 
-abbrev pub is_out_var : Option Var → Bool
-is_out_var (Some var) = is_out_mode var.mode
-is_out_var None = false
+abbrev pub is_unset_var : Option Var → Bool
+is_unset_var (Some var) = is_unset_kind var.kind
+is_unset_var None = false
 
--- whether a formal has the mode `out`
-abbrev pub is_out : Program → VarId → Bool
-is_out p v = is_out_var (declared p v)
+-- whether a variable of a subprogram is unset on entry to its body
+abbrev pub starts_unset : Program → VarId → Bool
+starts_unset p v = is_unset_var (declared p v)
 
--- the store without the values of `out` formals, which are unset on entry
+-- the store without the values of those of the variables that are unset on entry
 abbrev pub cleared : Program → Store → List VarId → Store
 cleared p s [] = s
-cleared p s (v ∷ rest) = if is_out p v then put (cleared p s rest) v None else cleared p s rest
+cleared p s (v ∷ rest) = if starts_unset p v then put (cleared p s rest) v None else cleared p s rest
 
 -- the store that the body of a subprogram begins with
 abbrev pub entry_of : Program → Sub → Store → Store
-entry_of p sub s = cleared p s sub.vars
+entry_of p sub s = cleared p s (sub.formals ++ sub.locals)
 
 -- whether a precondition is true; none is true
 abbrev pub pre_holds : Program → Option CorePrecondition → Store → Bool
@@ -92,9 +96,9 @@ demand_pre p None s = Ended s
 
 -- whether each export is set
 abbrev pub exports_set : Sub → Store → Bool
-exports_set sub s = list_all (λ v. not (exports v sub.derives) || is_some (look s v)) sub.vars
+exports_set sub s = list_all (λ v. not (exports v sub) || is_some (look s v)) sub.formals
 
--- a call: `out` formals start unset, the precondition is looked at, the body is run, each export must be set at its end
+-- a call: `out` formals and locals start unset, the precondition is looked at, the body is run, each export must be set at its end
 abbrev pub call : Program → ℕ → Sub → Store → Outcome
 call p n sub s =
     then_do (demand_pre p sub.pre (entry_of p sub s)) (λ entry.

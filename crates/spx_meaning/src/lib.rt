@@ -1,8 +1,10 @@
-//! What a program does when it runs: values, and the ways in which a run goes wrong.
+//! What a program does when it runs: values, the stores that hold them, and the ways in which a run goes wrong.
 #![tactic(auto)]
 
 mod bad;
 pub mod laws;
+mod store;
 
 pub use bad::{Bad, BadKind};
 pub use spx_term::Value;
+pub use store::Store;
