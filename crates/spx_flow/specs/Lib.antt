@@ -1,0 +1,3 @@
+pub mod FlowLists
+pub mod UnsetReads
+pub mod FlowFindings

@@ -1,0 +1,126 @@
+-- Conditions that are closed, and those that are left.
+use Rattle.std.proofs.Common.{◌≡◌, ℕ, ◌+◌, Bool, true, false, ◌||◌, not, cond, List, [], ◌∷◌, ◌++◌, ◌-◌, ◌<◌, ◌≤◌, length, map, filter, count_by, flat_map, take, get_or, add-zero, add-one, refl, sym, ap, ◌∙◌, arith}
+use Rattle.std.specs.Prelude.{◌↔◌}
+use Rattle.std.specs.List.{All, AllByRecursion, enumerate_from}
+use Rattle.std.proofs.lemmas.List.Elements.{All-from_recursion, recursion_from_All}
+use Rattle.std.proofs.Math.Seq.{take-suc}
+use Rattle.std.proofs.lemmas.List.{length-map, length-take, map-append, append-nil}
+use Rattle.std.proofs.lemmas.Grind.{flat_map-append}
+use Rattle.std.proofs.lemmas.List.Sums.{length-filter}
+use Rattle.std.proofs.lemmas.List.Filters.{length-filter_both}
+use Rattle.spx_term.specs.declared.term.Term.{Term}
+use Rattle.spx_term.specs.declared.term.Term.TheVariants.{Truth}
+use Rattle.spx_term.specs.declared.condition.Condition.{Condition}
+use Rattle.spx_term.specs.Folding.{folded, folded_step}
+use Rattle.spx_term.specs.Plain.{is_among, is_plain, is_plain-Truth, Plain}
+use Rattle.spx_term.proofs.Terms.{fold-Truth}
+use Rattle.spx_meaning.specs.Paths.{conditions_of, ArePlain}
+use Rattle.spx_term.specs.Goals.{goal_of}
+use Rattle.spx_core.specs.declared.program.SubId.{SubId}
+use Rattle.spx_core.specs.declared.subprogram.Sub.{Sub}
+use Rattle.spx_report.specs.declared.report.Finding.{Finding}
+use Rattle.spx_report.specs.declared.report.SubRow.{SubRow}
+use Rattle.spx_report.specs.Findings.{closes, closes-Decides, is_closed, is_left, unproved, unproved_of, row_of}
+
+or_true : (b : Bool) → (b || true) ≡ true
+or_true true = refl
+or_true false = refl
+
+closes-Truth : (hyps : List Term) → closes hyps (Truth true) ≡ true
+unfolding closes
+closes-Truth hyps =
+    ap (λ t. is_among (map folded hyps) (Truth false) || is_plain (map folded hyps) t) (fold-Truth folded_step true)
+    ∙ ap (λ b. is_among (map folded hyps) (Truth false) || b) (is_plain-Truth (map folded hyps) true)
+    ∙ or_true (is_among (map folded hyps) (Truth false))
+
+pub no_goals : (c : Condition) → c.goals ≡ [] → is_closed c ≡ true
+no_goals c e = ap (λ (goals : List Term). closes c.hyps (goal_of goals)) e ∙ closes-Truth c.hyps
+
+pub ruleset closed_laws = (no_goals, closes-Decides)
+
+-- ---- counts
+left_length : (cs : List Condition) → length (unproved_of cs) ≡ count_by is_left cs
+left_length cs = length-map (filter is_left cs) unproved ∙ length-filter is_left cs
+
+closed_and_left : (cs : List Condition) → count_by is_closed cs + count_by is_left cs ≡ length cs
+closed_and_left cs =
+    (λ i. sym (length-filter is_closed cs) i + sym (length-filter is_left cs) i) ∙ length-filter_both is_closed is_left (λ c. refl) cs
+
+pub left_within : (cs : List Condition) → length (unproved_of cs) ≤ length cs
+left_within cs = omega (arith, left_length cs, closed_and_left cs)
+
+pub row_of_counts : (id : SubId) (cs : List Condition) → row_of id.0 cs ≡ record { sub = id; total = length cs; simplified = length cs - length (unproved_of cs); scripted = 0; left = length (unproved_of cs) }
+unfolding row_of
+row_of_counts id cs =
+    let left = left_length cs in
+    let closed : count_by is_closed cs ≡ length cs - length (unproved_of cs) = omega (arith, left, closed_and_left cs) in
+    λ i. record { sub = id; total = length cs; simplified = closed i; scripted = 0; left = sym left i }
+
+-- ---- lines and rows
+abbrev pub lines_of : List Sub → List Finding
+lines_of subs = flat_map (λ sub. unproved_of (conditions_of sub)) subs
+
+pub lines_more : (subs : List Sub) (i : ℕ) (d : Sub) → i < length subs → lines_of (take (i + 1) subs) ≡ lines_of (take i subs) ++ unproved_of (conditions_of (get_or subs i d))
+lines_more subs i d within =
+    ap lines_of (ap (λ k. take k subs) (add-one i) ∙ take-suc subs i d within)
+    ∙ flat_map-append (λ (sub : Sub). unproved_of (conditions_of sub)) (take i subs) (get_or subs i d ∷ [])
+    ∙ ap (λ found. lines_of (take i subs) ++ found) (append-nil (unproved_of (conditions_of (get_or subs i d))))
+
+enumerate_from-push : {A : Type 0} (n : ℕ) (xs : List A) (x : A) → enumerate_from n (xs ++ x ∷ []) ≡ enumerate_from n xs ++ (n + length xs, x) ∷ []
+enumerate_from-push n [] x = ap (λ k. (k, x) ∷ []) (sym (add-zero n))
+enumerate_from-push n (y ∷ xs) x =
+    ap (λ es. (n, y) ∷ es) (enumerate_from-push (n + 1) xs x ∙ ap (λ k. enumerate_from (n + 1) xs ++ (k, x) ∷ []) (let e : n + 1 + length xs ≡ n + length (y ∷ xs) = omega arith in e))
+
+abbrev pub rows_of : List Sub → List SubRow
+rows_of subs = map (λ e. row_of e.0 (conditions_of e.1)) (enumerate_from 0 subs)
+
+pub rows_more : (subs : List Sub) (i : ℕ) (d : Sub) → i < length subs → rows_of (take (i + 1) subs) ≡ rows_of (take i subs) ++ row_of i (conditions_of (get_or subs i d)) ∷ []
+rows_more subs i d within =
+    ap rows_of (ap (λ k. take k subs) (add-one i) ∙ take-suc subs i d within)
+    ∙ ap (map row) (enumerate_from-push 0 (take i subs) (get_or subs i d))
+    ∙ map-append row (enumerate_from 0 (take i subs)) ((0 + length (take i subs), get_or subs i d) ∷ [])
+    ∙ ap (λ k. rows_of (take i subs) ++ row_of k (conditions_of (get_or subs i d)) ∷ []) (let e : 0 + length (take i subs) ≡ i = omega (arith, length-take i subs) in e)
+  where
+    row : ℕ × Sub → SubRow
+    row e = row_of e.0 (conditions_of e.1)
+
+-- ---- no line
+abbrev IsPlain : Condition → Type 0
+IsPlain c = Plain c.hyps (goal_of c.goals)
+
+none_or : (c : Condition) (cs : List Condition) (b : Bool) → is_closed c ≡ b → map unproved (cond (not b) (c ∷ filter is_left cs) (filter is_left cs)) ≡ [] → (unproved_of cs ≡ [] → AllByRecursion IsPlain cs) → AllByRecursion IsPlain (c ∷ cs)
+none_or c cs true closed none more = ((closes-Decides c.hyps (goal_of c.goals)).0 closed, more none)
+none_or c cs false closed none more = absurd (cc)
+
+plain_from_none : (cs : List Condition) → unproved_of cs ≡ [] → AllByRecursion IsPlain cs
+plain_from_none [] none = tt
+plain_from_none (c ∷ cs) none = none_or c cs (is_closed c) refl none (plain_from_none cs)
+
+none_from_plain : (cs : List Condition) → AllByRecursion IsPlain cs → unproved_of cs ≡ []
+none_from_plain [] plain = refl
+none_from_plain (c ∷ cs) plain =
+    ap (λ b. map unproved (cond (not b) (c ∷ filter is_left cs) (filter is_left cs))) ((closes-Decides c.hyps (goal_of c.goals)).1 plain.0)
+    ∙ none_from_plain cs plain.1
+
+first_none : {A : Type 0} (xs ys : List A) → xs ++ ys ≡ [] → (xs ≡ []) × (ys ≡ [])
+first_none [] ys none = (refl, none)
+first_none (x ∷ xs) ys none = absurd (cc)
+
+abbrev pub IsPlainSub : Sub → Type 0
+IsPlainSub sub = ArePlain (conditions_of sub)
+
+all_plain_from_none : (subs : List Sub) → lines_of subs ≡ [] → AllByRecursion IsPlainSub subs
+all_plain_from_none [] none = tt
+all_plain_from_none (sub ∷ subs) none =
+    let parts = first_none (unproved_of (conditions_of sub)) (lines_of subs) none in
+    (All-from_recursion IsPlain (conditions_of sub) (plain_from_none (conditions_of sub) parts.0), all_plain_from_none subs parts.1)
+
+none_from_all_plain : (subs : List Sub) → AllByRecursion IsPlainSub subs → lines_of subs ≡ []
+none_from_all_plain [] plain = refl
+none_from_all_plain (sub ∷ subs) plain =
+    ap (λ found. found ++ lines_of subs) (none_from_plain (conditions_of sub) (recursion_from_All IsPlain (conditions_of sub) plain.0))
+    ∙ none_from_all_plain subs plain.1
+
+pub none_left : (subs : List Sub) → (lines_of subs ≡ []) ↔ All IsPlainSub subs
+none_left subs =
+    (λ none. All-from_recursion IsPlainSub subs (all_plain_from_none subs none), λ plain. none_from_all_plain subs (recursion_from_All IsPlainSub subs plain))

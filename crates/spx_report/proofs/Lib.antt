@@ -1,0 +1,4 @@
+pub mod Texts
+pub mod FindingLaws
+pub mod LineOrder
+pub mod LinesInOrder

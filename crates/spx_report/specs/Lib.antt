@@ -1,0 +1,5 @@
+pub mod Report
+pub mod Findings
+pub mod FlowLines
+pub mod RuleTexts
+pub mod LineLists

@@ -1,0 +1,23 @@
+-- What is printed of a broken rule.
+use Rattle.std.specs.Prelude.{ℕ, List, [], codes}
+use Rattle.spx_core.specs.declared.rule.RuleName.{RuleName}
+use Rattle.spx_core.specs.declared.rule.RuleName.TheVariants as rule
+use Rattle.spx_core.specs.declared.rule.Breach.{Breach}
+use Rattle.spx_report.specs.declared.report.Finding.{Finding}
+
+-- the text of a rule on names, types and variables
+abbrev pub breach_text : RuleName → List ℕ
+breach_text rule.N1 = codes "name is not declared here"
+breach_text rule.N2 = codes "declared twice"
+breach_text rule.N3 = codes "name of another kind"
+breach_text rule.N5 = codes "end name differs"
+breach_text rule.N10 = codes "types do not match"
+breach_text rule.N12 = codes "static value out of range"
+breach_text rule.U2 = codes "target cannot be assigned"
+breach_text rule.U7 = codes "bad derives annotation"
+breach_text rule.U8 = codes "mode disagrees with derives"
+breach_text rule.U11 = codes "name not allowed in this annotation"
+breach_text _ = []
+
+abbrev pub breach_finding : Breach → Finding
+breach_finding breach = record { place = breach.place; rule = breach.rule; text = breach_text breach.rule }

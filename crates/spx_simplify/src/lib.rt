@@ -1,0 +1,6 @@
+//! Sequents that need no proof.
+#![tactic(auto)]
+
+mod simplify;
+
+pub use simplify::closes;

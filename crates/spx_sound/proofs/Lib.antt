@@ -1,0 +1,5 @@
+pub mod NeverBadTrees
+pub mod NeverBadExpressions
+pub mod NeverBadBodies
+pub mod NeverBad
+pub mod CleanConditions

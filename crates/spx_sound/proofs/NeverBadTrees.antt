@@ -1,0 +1,139 @@
+-- Trees whose conditions are valid are safe.
+use Rattle.std.proofs.Common.{◌≡◌, ℕ, ◌+◌, Bool, true, false, if◌then◌else◌, List, [], ◌∷◌, ◌++◌, map, fold, refl, sym, ap, ap₂, ◌∙◌}
+use Rattle.std.specs.Prelude.{⊤}
+use Rattle.std.specs.List.{AllByRecursion}
+use Rattle.std.proofs.lemmas.List.Elements.{All-from_recursion, recursion_from_All}
+use Rattle.spx_term.specs.declared.term.Name.{Name}
+use Rattle.spx_term.specs.declared.term.Term.{Term}
+use Rattle.spx_term.specs.declared.term.Term.TheVariants.{Variable}
+use Rattle.spx_term.specs.declared.value.Value.{Value}
+use Rattle.spx_term.specs.Goals.{goal_of}
+use Rattle.spx_term.specs.Meaning.{value_of_prefix, value_of_op, Valuation, value_step, value_of, Holds, Respects, Valid}
+use Rattle.spx_term.specs.Plain.{is_among}
+use Rattle.spx_term.specs.Steps.{Tree, Cut, Assume, Assign, Prove, assume_all, same_name, substituted_step, substituted, Claim, with_fact, with_value, claims_of, with_new, without_doubles, tidy}
+use Rattle.spx_term.proofs.GoalLaws.{goal_holds}
+use Rattle.spx_term.proofs.Terms.{Cases, induct, fold-Number, fold-Truth, fold-Variable, fold-Prefix, fold-Infix}
+use Rattle.spx_core.specs.declared.subprogram.Sub.{Sub}
+use Rattle.spx_meaning.specs.Paths.{tree_of, numbered, conditions_of}
+use Rattle.spx_meaning.specs.Fit.{IsValid, HasValidConditions}
+
+abbrev pub AllHold : Valuation → List Term → Type 0
+AllHold v ts = AllByRecursion (λ t. Holds t v) ts
+
+-- the valuation with another value for a name
+abbrev pub changed : Valuation → Name → Value → Valuation
+changed v x w y = if same_name x y then w else v y
+
+-- along every path each goal holds, under the facts before it
+abbrev pub Safe : Tree → Valuation → Type 0
+Safe Cut v = ⊤
+Safe (Assume t rest) v = Holds t v → Safe rest v
+Safe (Assign x t rest) v = Safe rest (changed v x (value_of v t))
+Safe (Prove kind place goals rest) v = AllHold v goals × Safe rest v
+
+-- ---- substitution
+
+module _ (x : Name) (t : Term) (v : Valuation) where
+  abbrev after : Valuation
+  after = changed v x (value_of v t)
+
+  abbrev Substitutes : Term → Type 0
+  Substitutes u = value_of v (substituted x t u) ≡ value_of after u
+
+  of_variable : (y : Name) (b : Bool) → value_of v (if b then t else Variable y) ≡ (if b then value_of v t else v y)
+  of_variable y true = refl
+  of_variable y false = fold-Variable (value_step v) y
+
+  substitutes_cases : Cases Substitutes
+  substitutes_cases = record {
+    number = λ n. ap (value_of v) (fold-Number (substituted_step x t) n) ∙ fold-Number (value_step v) n ∙ sym (fold-Number (value_step after) n);
+    truth = λ b. ap (value_of v) (fold-Truth (substituted_step x t) b) ∙ fold-Truth (value_step v) b ∙ sym (fold-Truth (value_step after) b);
+    variable = λ y. ap (value_of v) (fold-Variable (substituted_step x t) y) ∙ of_variable y (same_name x y) ∙ sym (fold-Variable (value_step after) y);
+    prefix = λ op a p.
+        ap (value_of v) (fold-Prefix (substituted_step x t) op a)
+        ∙ fold-Prefix (value_step v) op (substituted x t a)
+        ∙ ap (value_of_prefix op) p
+        ∙ sym (fold-Prefix (value_step after) op a);
+    «infix» = λ op a b p q.
+        ap (value_of v) (fold-Infix (substituted_step x t) op a b)
+        ∙ fold-Infix (value_step v) op (substituted x t a) (substituted x t b)
+        ∙ ap₂ (value_of_op op) p q
+        ∙ sym (fold-Infix (value_step after) op a b);
+  }
+
+  -- a term with t in the place of x has the value that it has where x has the value of t
+  pub value-substituted : (u : Term) → Substitutes u
+  value-substituted = induct Substitutes substitutes_cases
+
+  hold_after : (us : List Term) → AllHold v (map (substituted x t) us) → AllHold after us
+  hold_after [] h = tt
+  hold_after (u ∷ us) h = (sym (value-substituted u) ∙ h.0, hold_after us h.1)
+
+  hold_before : (us : List Term) → AllHold after us → AllHold v (map (substituted x t) us)
+  hold_before [] h = tt
+  hold_before (u ∷ us) h = (value-substituted u ∙ h.0, hold_before us h.1)
+
+-- ---- claims
+
+-- the goals hold under the facts
+abbrev pub IsMet : Valuation → Claim → Type 0
+IsMet v c = AllHold v c.hyps → AllHold v c.goals
+
+abbrev AreMet : Valuation → List Claim → Type 0
+AreMet v cs = AllByRecursion (IsMet v) cs
+
+met_under : (v : Valuation) (t : Term) (cs : List Claim) → Holds t v → AreMet v (map (with_fact t) cs) → AreMet v cs
+met_under v t [] h met = tt
+met_under v t (c ∷ cs) h met = (λ hyps. met.0 (h, hyps), met_under v t cs h met.1)
+
+met_after : (v : Valuation) (x : Name) (t : Term) (cs : List Claim) → AreMet v (map (with_value x t) cs) → AreMet (changed v x (value_of v t)) cs
+met_after v x t [] met = tt
+met_after v x t (c ∷ cs) met = (λ hyps. hold_after x t v c.goals (met.0 (hold_before x t v c.hyps hyps)), met_after v x t cs met.1)
+
+-- a tree whose claims are met is safe
+safe : (tree : Tree) (v : Valuation) → AreMet v (claims_of tree) → Safe tree v
+safe Cut v met = tt
+safe (Assume t rest) v met = λ h. safe rest v (met_under v t (claims_of rest) h met)
+safe (Assign x t rest) v met = safe rest (changed v x (value_of v t)) (met_after v x t (claims_of rest) met)
+safe (Prove kind place goals rest) v met = (met.0 tt, safe rest v met.1)
+
+-- ---- conditions
+
+-- what holds of each term holds of those without doubles
+module _ (P : Term → Type 0) where
+  pub each_append : (ts us : List Term) → AllByRecursion P ts → AllByRecursion P us → AllByRecursion P (ts ++ us)
+  each_append [] us h k = k
+  each_append (t ∷ ts) us h k = (h.0, each_append ts us h.1 k)
+
+  each_with_new : (facts : List Term) (t : Term) → AllByRecursion P facts → P t → AllByRecursion P (with_new facts t)
+  each_with_new facts t each h = by_test (is_among facts t)
+    where
+      by_test : (b : Bool) → AllByRecursion P (if b then facts else facts ++ t ∷ [])
+      by_test true = each
+      by_test false = each_append facts (t ∷ []) each (h, tt)
+
+  pub each_without_doubles : (facts ts : List Term) → AllByRecursion P facts → AllByRecursion P ts → AllByRecursion P (fold with_new facts ts)
+  each_without_doubles facts [] each h = each
+  each_without_doubles facts (t ∷ ts) each h = each_without_doubles (with_new facts t) ts (each_with_new facts t each h.0) h.1
+
+met_where_valid : (v : Valuation) → Respects v → (hyps goals : List Term) → Valid (without_doubles hyps) (goal_of goals) → AllHold v hyps → AllHold v goals
+met_where_valid v respects hyps goals valid hold =
+    let facts = All-from_recursion (λ t. Holds t v) (without_doubles hyps) (each_without_doubles (λ t. Holds t v) [] hyps tt hold) in
+    recursion_from_All (λ t. Holds t v) goals ((goal_holds v goals).0 (valid v respects facts))
+
+met_by : (v : Valuation) → Respects v → (name : List ℕ) (n : ℕ) (cs : List Claim) → AllByRecursion IsValid (numbered name n (map tidy cs)) → AreMet v cs
+met_by v respects name n [] valid = tt
+met_by v respects name n (c ∷ cs) valid = (met_where_valid v respects c.hyps c.goals valid.0, met_by v respects name (n + 1) cs valid.1)
+
+-- where its conditions are valid, the tree of a subprogram is safe at every valuation
+pub safe_sub : (sub : Sub) → HasValidConditions sub → (v : Valuation) → Respects v → Safe (tree_of sub) v
+unfolding conditions_of
+safe_sub sub valid v respects =
+    safe (tree_of sub) v (met_by v respects sub.name.text 1 (claims_of (tree_of sub)) (recursion_from_All IsValid (conditions_of sub) valid))
+
+-- ---- what a safe tree says
+
+-- facts that hold may be left out
+pub assumed : (ts : List Term) (rest : Tree) (v : Valuation) → AllHold v ts → Safe (assume_all ts rest) v → Safe rest v
+assumed [] rest v hold h = h
+assumed (t ∷ ts) rest v hold h = assumed ts rest v hold.1 (h hold.0)

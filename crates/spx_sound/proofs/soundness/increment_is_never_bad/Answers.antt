@@ -1,0 +1,10 @@
+use Rattle.spx_meaning.specs.Increment.{increment}
+use Rattle.spx_sound.proofs.CleanConditions.{clean_is_fit}
+use Rattle.spx_sound.proofs.NeverBad.{never_bad}
+use Rattle.spx_sound.proofs.soundness.increment_is_never_bad.Goals as goal
+
+pub returns-clause-fit : goal.returns-clause-fit
+returns-clause-fit c = clean_is_fit increment c.increment_is_clean.ensures.clean
+
+pub returns-clause-never_bad : goal.returns-clause-never_bad
+returns-clause-never_bad c = never_bad increment (clean_is_fit increment c.increment_is_clean.ensures.clean)

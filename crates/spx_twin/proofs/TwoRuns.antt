@@ -1,0 +1,120 @@
+-- What the dependency relation of a subprogram tells of two of its runs.
+use Rattle.std.proofs.Common.{◌≡◌, Bool, true, false, not, ◌==◌, ◌||◌, List, [], ◌∷◌, ◌++◌, Option, Some, None, refl, sym, ap, ◌∙◌, subst, inl, inr}
+use Rattle.std.specs.Prelude.{All}
+use Rattle.std.specs.List.{AllByRecursion, list_any}
+use Rattle.std.proofs.lemmas.List.Elements.{All-from_recursion, recursion_from_All}
+use Rattle.std.proofs.lemmas.List.Folds.{list_any-append}
+use Rattle.std.proofs.lemmas.Bool.{and_parts, or_right}
+use Rattle.spx_core.specs.declared.program.VarId.{VarId}
+use Rattle.spx_core.specs.declared.program.Program.{Program}
+use Rattle.spx_core.specs.declared.program.VarKind.TheVariants.{Local}
+use Rattle.spx_core.specs.declared.subprogram.Mode.{Mode}
+use Rattle.spx_core.specs.declared.subprogram.Mode.TheVariants as mode
+use Rattle.spx_core.specs.declared.subprogram.Sub.{Sub}
+use Rattle.spx_core.specs.declared.expression.CoreStmt.{CoreStmt}
+use Rattle.spx_core.specs.declared.expression.CoreStmt.TheVariants.{Null, Assignment}
+use Rattle.spx_core.specs.Uses.{uses}
+use Rattle.spx_core.specs.Dependency.{derives, exports, imports}
+use Rattle.spx_core.specs.Formals.{is_formal, is_local, mode_of}
+use Rattle.spx_core.specs.Flow.{reads, defines, MayFlow, MayFlowAll, HasNoFinding}
+use Rattle.spx_core.specs.Rules.{agrees, ObeysRules}
+use Rattle.spx_meaning.specs.Stores.{Store, look}
+use Rattle.spx_meaning.specs.Runs.{entry_of}
+use Rattle.spx_meaning.specs.Laws.{AreDerived, OthersAreKept, TwoRuns}
+use Rattle.spx_meaning.specs.Fit.{Fit}
+use Rattle.spx_meaning.proofs.Scopes.{Scoped, unset_is, all_scoped}
+use Rattle.spx_meaning.proofs.Entries.{cleared_agree, cleared_unset}
+use Rattle.spx_meaning.proofs.Runs.{call_ended}
+use Rattle.spx_meaning.proofs.Flows.{or_false, kept, determined}
+
+-- ---- what flows from a variable that is not read
+
+unread_one : (stmt : CoreStmt) (u w : VarId) → reads u stmt ≡ false → MayFlow stmt u w → u ≡ w
+unread_one (Null place) u w unread flow = flow
+unread_one (Assignment target e) u w unread (inl flow) = absurd (let h : uses u e ≡ true = flow.1 in cc)
+unread_one (Assignment target e) u w unread (inr flow) = flow.1
+
+unread : (stmts : List CoreStmt) (u w : VarId) → list_any (reads u) stmts ≡ false → MayFlowAll stmts u w → u ≡ w
+unread [] u w h flow = flow
+unread (stmt ∷ rest) u w h flow =
+    let parts = or_false (reads u stmt) (list_any (reads u) rest) h in
+    let here : u ≡ flow.0 = unread_one stmt u flow.0 parts.0 flow.1 in
+    unread rest u w parts.1 (subst (λ v. MayFlowAll rest v w) (sym here) flow.2)
+
+-- a formal or a local that is no local is a formal
+the_formal : (formal local : Bool) → (formal || local) ≡ true → local ≡ false → formal ≡ true
+the_formal true local own no_local = refl
+the_formal false local own no_local = absurd (cc)
+
+module _ (p : Program) (sub : Sub) (scoped : Scoped p sub) where
+  -- every flow to an export that does not come from a local is declared
+  declared_flow : HasNoFinding sub → (u y : VarId) → exports y sub ≡ true → MayFlowAll sub.statements u y → is_local u sub ≡ false → derives u y sub ≡ true
+  declared_flow fits u y export flow no_local = by_derives (derives u y sub) refl
+    where
+      by_read : (r : Bool) → list_any (reads u) sub.statements ≡ r → is_formal u sub ≡ true
+      by_read true is = the_formal (is_formal u sub) (is_local u sub) (scoped.read u is) no_local
+      by_read false is = ap (λ v. is_formal v sub) (unread sub.statements u y is flow) ∙ scoped.exported y export
+
+      by_derives : (d : Bool) → derives u y sub ≡ d → derives u y sub ≡ true
+      by_derives true is = is
+      by_derives false is = absurd (fits.none_missing u y (by_read (list_any (reads u) sub.statements) refl, export, flow, is))
+
+  -- two bodies begin with one value of a variable where the calls do; a local has none
+  begin_alike : (s t : Store) (u : VarId) → (is_local u sub ≡ false → look s u ≡ look t u) → look (entry_of p sub s) u ≡ look (entry_of p sub t) u
+  begin_alike s t u agree = by_local (is_local u sub) refl
+    where
+      unset : is_local u sub ≡ true → (r : Store) → look (entry_of p sub r) u ≡ None
+      unset is r =
+          cleared_unset p r (sub.formals ++ sub.locals) u
+          (list_any-append (λ (w : VarId). w.0 == u.0) sub.formals sub.locals ∙ or_right (is_formal u sub) (is_local u sub) is)
+          (unset_is p u Local (scoped.local_kinds u is))
+
+      by_local : (b : Bool) → is_local u sub ≡ b → look (entry_of p sub s) u ≡ look (entry_of p sub t) u
+      by_local true is = unset is s ∙ sym (unset is t)
+      by_local false is = cleared_agree p s t (sub.formals ++ sub.locals) u (agree is)
+
+  pub are_derived : HasNoFinding sub → AreDerived p sub
+  are_derived fits n m s t s' t' start start' ended ended' y export agree =
+      determined p n m (entry_of p sub s) (entry_of p sub t) s' t' sub.statements (call_ended p n sub s s' ended) (call_ended p m sub t t' ended') y
+      (λ u flow. begin_alike s t u (λ no_local. agree u (declared_flow fits u y export flow no_local)))
+
+  -- what is neither an export nor a local is not set
+  unset_others : ObeysRules p sub → (v : VarId) → exports v sub ≡ false → is_local v sub ≡ false → defines v sub.statements ≡ false
+  unset_others obeys v other no_local = by_defined (defines v sub.statements) refl
+    where
+      allowed : (mode : Mode) → mode_of v p ≡ Some mode → is_formal v sub ≡ true → defines v sub.statements ≡ true → (a : Bool) → agrees mode (imports v sub) (exports v sub) ≡ a → ⊥
+      allowed mode.In is formal defined a agreed = obeys.targets (v, defined, is)
+      allowed mode is formal defined false agreed = obeys.modes (v, mode, formal, is, agreed)
+      allowed mode.Out is formal defined true agreed = absurd (let h = and_parts (exports v sub) (not (imports v sub)) agreed in cc)
+      allowed mode.InOut is formal defined true agreed = absurd (let h = and_parts (imports v sub) (exports v sub) agreed in cc)
+
+      by_mode : (o : Option Mode) → mode_of v p ≡ o → is_formal v sub ≡ true → defines v sub.statements ≡ true → ⊥
+      by_mode (Some mode) is formal defined = allowed mode is formal defined _ refl
+      by_mode None is formal defined = scoped.modes v formal is
+
+      by_defined : (d : Bool) → defines v sub.statements ≡ d → defines v sub.statements ≡ false
+      by_defined true is = absurd (by_mode (mode_of v p) refl (the_formal (is_formal v sub) (is_local v sub) (scoped.targets v is) no_local) is)
+      by_defined false is = is
+
+  pub others_are_kept : ObeysRules p sub → OthersAreKept p sub
+  others_are_kept obeys n s s' start ended v other no_local =
+      kept p n (entry_of p sub s) s' sub.statements v (call_ended p n sub s s' ended) (unset_others obeys v other no_local)
+
+-- ---- programs
+
+-- what holds of each of a list by three facts that hold of each
+pub all_by : {A : Type 0} (P Q R S : A → Type 0) → ((x : A) → P x → Q x → R x → S x) → (xs : List A) → All P xs → All Q xs → All R xs → All S xs
+all_by {A} P Q R S each xs p q r =
+    All-from_recursion S xs (by_recursion xs (recursion_from_All P xs p) (recursion_from_All Q xs q) (recursion_from_All R xs r))
+  where
+    by_recursion : (xs : List A) → AllByRecursion P xs → AllByRecursion Q xs → AllByRecursion R xs → AllByRecursion S xs
+    by_recursion [] p q r = tt
+    by_recursion (x ∷ xs) p q r = (each x p.0 q.0 r.0, by_recursion xs p.1 q.1 r.1)
+
+pub two_runs : (p : Program) → Fit p → TwoRuns p
+two_runs p fit =
+    let scoped = all_scoped p fit.visible in
+    record {
+      derived = all_by (Scoped p) HasNoFinding (ObeysRules p) (AreDerived p) (λ sub scoped fits obeys. are_derived p sub scoped fits) p.subs scoped fit.flows fit.obeys;
+      kept = all_by (Scoped p) HasNoFinding (ObeysRules p) (OthersAreKept p) (λ sub scoped fits obeys. others_are_kept p sub scoped obeys) p.subs scoped fit.flows fit.obeys;
+    }

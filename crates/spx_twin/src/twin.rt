@@ -1,0 +1,11 @@
+// What the dependency relations of a program tell of two of its runs.
+ghost use Rattle.spx_meaning.specs.Fit.{Fit};
+ghost use Rattle.spx_meaning.specs.Laws.{TwoRuns};
+
+use spx_core::Program;
+
+/// Two calls of a subprogram that have ended, from stores that agree on the declared imports of an export, give it one
+/// value; and a variable that is no export is kept.
+pub fn two_runs(program: &Program)
+    ensures { Fit program.now → TwoRuns program.now }
+{}

@@ -1,0 +1,4 @@
+pub mod ConditionTerms
+pub mod ConditionStates
+pub mod ConditionSteps
+pub mod ConditionForward

@@ -1,0 +1,2 @@
+pub mod ConditionLiterals
+pub mod ConditionWalk

@@ -1,0 +1,7 @@
+//! Verification conditions of subprograms.
+#![tactic(auto)]
+
+mod static_terms;
+mod vcg;
+
+pub use vcg::conditions;
