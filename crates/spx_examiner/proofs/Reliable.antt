@@ -12,23 +12,24 @@ use Rattle.spx_core.specs.declared.program.Program.{Program}
 use Rattle.spx_core.specs.Erase.{erased}
 use Rattle.spx_meaning.specs.Fit.{Clean, Fit}
 use Rattle.spx_meaning.specs.Laws.{NeverBad, TwoRuns}
-use Rattle.spx_examiner.specs.declared.report.Finding.{Finding}
-use Rattle.spx_examiner.specs.declared.report.Findings.{Findings}
+use Rattle.spx_report.specs.declared.report.Finding.{Finding}
+use Rattle.spx_report.specs.declared.report.Findings.{Findings}
 use Rattle.spx_examiner.specs.declared.status.Status.TheVariants as status
 use Rattle.spx_examiner.specs.declared.judgement.Judgement.{Judgement}
-use Rattle.spx_examiner.specs.declared.judgement.Judgement.TheVariants.{Usage, Limit, NoProgram, Examined}
+use Rattle.spx_examiner.specs.declared.judgement.Judgement.TheVariants.{Usage, Limit, Refused, Examined}
 use Rattle.spx_examiner.specs.declared.judgement.LimitName.{LimitName}
 use Rattle.spx_examiner.specs.declared.judgement.LimitName.TheVariants.{Tokens, Nesting}
 use Rattle.spx_examiner.specs.declared.reading.Reading.{Reading}
 use Rattle.spx_examiner.specs.declared.reading.Reading.TheVariants.{Units, Broken, TooManyTokens, TooNested}
 use Rattle.spx_examiner.specs.Words.{files_of, HasForm}
 use Rattle.spx_examiner.specs.Judgement.{status_of}
-use Rattle.spx_examiner.specs.Findings.{findings_of}
+use Rattle.spx_report.specs.Findings.{findings_of}
 use Rattle.spx_examiner.specs.Causes.{Tells, any_too_long, named}
 use Rattle.spx_examiner.specs.Reading.{IsRead, crowded, stopped, ended, nested, whole, stopped_at, expected_at}
 use Rattle.spx_examiner.specs.Outcome.{Is, IsText, IsSoundFrom, IsReportOn, IsReportOnUnits, IsReportOnReading, IsJudgement, no_form, of_files, IsAssured, AreAcceptable, AreClean, AreFit, AreRefusable, AreReliable, IsReadTooFar, OneOutcome, PassesLimit}
-use Rattle.spx_examiner.proofs.FindingLaws.{lines_of, none_left}
+use Rattle.spx_report.proofs.FindingLaws.{lines_of, none_left}
 use Rattle.spx_examiner.specs.Laws.{Laws}
+use Rattle.spx_examiner.proofs.Refusals.{no_sound, one_refusal}
 use Rattle.spx_examiner.proofs.Spelled.{one_text, text_of_whole, spelled_by, units_spelled, forms_of_text, goes_on, one_reading}
 
 -- the contents of one file spell one program
@@ -79,14 +80,14 @@ record IsOnClean (bytes : List ℕ) (p : Program) : Type 0 where
 clean_units : (bytes : List ℕ) (units : List Unit) (j : Judgement) → IsText 0 bytes units → status_of j ≡ status.Accepted → IsReportOnUnits units j → AreClean (bytes ∷ [])
 clean_units bytes units Usage text e report = absurd report
 clean_units bytes units (Limit name) text e report = absurd report
-clean_units bytes units (NoProgram finding) text e report = absurd (cc)
+clean_units bytes units (Refused lines) text e report = absurd (cc)
 clean_units bytes units (Examined p found) text e report =
     (p, spelled_by bytes units p text report.0, clean_program units p found report.0 report.1 (no_lines found.lines e))
 
 assured_units : (bytes : List ℕ) (units : List Unit) (j : Judgement) → IsText 0 bytes units → status_of j ≡ status.Accepted → IsReportOnUnits units j → IsAssured j → (p : Program) × IsOnClean bytes p
 assured_units bytes units Usage text e report assured = absurd report
 assured_units bytes units (Limit name) text e report assured = absurd report
-assured_units bytes units (NoProgram finding) text e report assured = absurd (cc)
+assured_units bytes units (Refused lines) text e report assured = absurd (cc)
 assured_units bytes units (Examined p found) text e report assured =
     let clean = clean_program units p found report.0 report.1 (no_lines found.lines e) in
     (p, record { spelled = spelled_by bytes units p text report.0; clean = clean; assured = assured clean })
@@ -94,7 +95,7 @@ assured_units bytes units (Examined p found) text e report assured =
 accepted_units : Laws → (bytes : List ℕ) (units : List Unit) (j : Judgement) → IsText 0 bytes units → IsReportOnUnits units j → AreClean (bytes ∷ []) → status_of j ≡ status.Accepted
 accepted_units laws bytes units Usage text report clean = absurd report
 accepted_units laws bytes units (Limit name) text report clean = absurd report
-accepted_units laws bytes units (NoProgram finding) text report (p, spelled, clean) = absurd (report.0 p (sound_of_clean laws bytes units p text spelled clean))
+accepted_units laws bytes units (Refused lines) text report (p, spelled, clean) = absurd (no_sound laws units lines p report (sound_of_clean laws bytes units p text spelled clean))
 accepted_units laws bytes units (Examined q found) text report (p, spelled, clean) =
     let same : q ≡ p = only_program laws bytes p q spelled (spelled_by bytes units q text report.0) in
     let all = subst Clean (sym same) clean in
@@ -104,25 +105,25 @@ accepted_units laws bytes units (Examined q found) text report (p, spelled, clea
 refused_units : (units : List Unit) (j : Judgement) → IsReportOnUnits units j → status_of j ≢ status.Accepted → status_of j ≡ status.Refused
 refused_units units Usage report ne = absurd report
 refused_units units (Limit name) report ne = absurd report
-refused_units units (NoProgram finding) report ne = refl
+refused_units units (Refused lines) report ne = refl
 refused_units units (Examined p found) report ne = some_line found.lines ne
 
 unlimited_units : (units : List Unit) (j : Judgement) → IsReportOnUnits units j → status_of j ≢ status.Limit
 unlimited_units units Usage report = absurd report
 unlimited_units units (Limit name) report = absurd report
-unlimited_units units (NoProgram finding) report = λ e. cc
+unlimited_units units (Refused lines) report = λ e. cc
 unlimited_units units (Examined p found) report = λ e. grind (arith, common_steps, nat_tests, e)
 
 one_of_units : Laws → (units : List Unit) (j k : Judgement) → IsReportOnUnits units j → IsReportOnUnits units k → j ≡ k
 one_of_units laws units Usage k a b = absurd a
 one_of_units laws units (Limit name) k a b = absurd a
-one_of_units laws units (NoProgram f) Usage a b = absurd b
-one_of_units laws units (NoProgram f) (Limit name) a b = absurd b
-one_of_units laws units (NoProgram f) (NoProgram g) a b = ap NoProgram (a.1 ∙ sym b.1)
-one_of_units laws units (NoProgram f) (Examined q g) a b = absurd (a.0 q b.0)
+one_of_units laws units (Refused lines) Usage a b = absurd b
+one_of_units laws units (Refused lines) (Limit name) a b = absurd b
+one_of_units laws units (Refused lines) (Refused others) a b = ap (λ ls. Refused ls) (one_refusal laws units lines others a b)
+one_of_units laws units (Refused lines) (Examined q g) a b = absurd (no_sound laws units lines q a b.0)
 one_of_units laws units (Examined p f) Usage a b = absurd b
 one_of_units laws units (Examined p f) (Limit name) a b = absurd b
-one_of_units laws units (Examined p f) (NoProgram g) a b = absurd (b.0 p a.0)
+one_of_units laws units (Examined p f) (Refused lines) a b = absurd (no_sound laws units lines p b a.0)
 one_of_units laws units (Examined p f) (Examined q g) a b =
     let same : p ≡ q = laws.program p q a.0.visible b.0.visible (a.0.made ∙ sym b.0.made) in
     ap₂ Examined same (a.1 ∙ ap findings_of same ∙ sym b.1)
@@ -132,7 +133,7 @@ one_of_units laws units (Examined p f) (Examined q g) a b =
 -- what a report on a text comes to: one on its units, a finding where it is no text, or a limit
 data Case (bytes : List ℕ) (j : Judgement) : Type 0 where
   on_units : (units : List Unit) → IsText 0 bytes units → IsReportOnUnits units j → Case bytes j
-  on_broken : (finding : Finding) → ((units : List Unit) → ¬ IsText 0 bytes units) → j ≡ NoProgram finding → Case bytes j
+  on_broken : (finding : Finding) → ((units : List Unit) → ¬ IsText 0 bytes units) → j ≡ Refused (finding ∷ []) → Case bytes j
   on_limit : (name : LimitName) → IsReadTooFar (bytes ∷ []) → j ≡ Limit name → Case bytes j
 
 case_of : Laws → (bytes : List ℕ) (j : Judgement) (reading : Reading) → IsRead bytes reading → IsReportOnReading reading j → Case bytes j

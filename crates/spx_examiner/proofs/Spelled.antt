@@ -1,5 +1,5 @@
 -- The one program that a file spells, and the one reading of its text.
-use Rattle.std.proofs.Common.{◌≡◌, ℕ, List, [], ◌∷◌, ◌++◌, Option, Some, IfSome, Ok, Err, inl, inr, length, refl, sym, ap, ap₂, subst, ◌∙◌}
+use Rattle.std.proofs.Common.{◌≡◌, ℕ, List, [], ◌∷◌, ◌++◌, Ok, Err, inl, inr, length, refl, sym, ap, ap₂, subst, ◌∙◌}
 use Rattle.std.specs.Prelude.{◌⊎◌, Result, IfOk}
 use Rattle.std.proofs.lemmas.List.{append-nil, append_assoc}
 use Rattle.spx_text.specs.declared.place.Place.{Place}
@@ -16,7 +16,7 @@ use Rattle.spx_tree.specs.Goes.{Fault, Expected, TooDeep, Begins, Ends, Answers,
 use Rattle.spx_lexer.specs.Faults.{HasMoreTokens}
 use Rattle.spx_core.specs.declared.program.Program.{Program}
 use Rattle.spx_core.specs.Erase.{erased}
-use Rattle.spx_examiner.specs.declared.report.Finding.{Finding}
+use Rattle.spx_report.specs.declared.report.Finding.{Finding}
 use Rattle.spx_examiner.specs.declared.reading.Reading.{Reading}
 use Rattle.spx_examiner.specs.declared.reading.Reading.TheVariants.{Units, Broken, TooManyTokens, TooNested}
 use Rattle.spx_examiner.specs.Reading.{stopped_at, expected_at, GoesNoFurther, AreTokens, IsRead, crowded, stopped, ended, nested, whole}
@@ -31,9 +31,6 @@ one_file_is_all bytes units text = (units, [], sym (append-nil units), text, ref
 
 pub all_is_one_file : (bytes : List ℕ) (units : List Unit) → AreTexts 0 (bytes ∷ []) units → IsText 0 bytes units
 all_is_one_file bytes units (front, behind, parts, text, none) = subst (IsText 0 bytes) (sym (parts ∙ ap (λ (us : List Unit). front ++ us) none ∙ append-nil front)) text
-
-pub some_holds : {A : Type 0} (o : Option A) (x : A) (P : A → Type 0) → o ≡ Some x → IfSome o P → P x
-some_holds o x P is h = subst (λ v. IfSome v P) is h
 
 -- the units of a text are written with the tokens that spell it
 pub forms_of_text : OneSpelling → (bytes : List ℕ) (tokens : List Token) (units : List Unit) → Spells 0 bytes tokens → IsText 0 bytes units → written units ≡ forms_of bytes tokens

@@ -3,17 +3,17 @@ use Rattle.std.specs.Prelude.{ℕ, ◌==◌, if◌then◌else◌, List, length, 
 use Rattle.spx_examiner.specs.declared.status.Status.{Status}
 use Rattle.spx_examiner.specs.declared.status.Status.TheVariants as status
 use Rattle.spx_examiner.specs.declared.judgement.Judgement.{Judgement}
-use Rattle.spx_examiner.specs.declared.judgement.Judgement.TheVariants.{Usage, Limit, NoProgram, Examined}
+use Rattle.spx_examiner.specs.declared.judgement.Judgement.TheVariants.{Usage, Limit, Refused, Examined}
 use Rattle.spx_examiner.specs.declared.judgement.LimitName.{LimitName}
 use Rattle.spx_examiner.specs.declared.judgement.LimitName.TheVariants.{FileSize, Tokens, Nesting}
 use Rattle.spx_examiner.specs.Words.{usage_line}
-use Rattle.spx_examiner.specs.Report.{refusal_text, report_text}
+use Rattle.spx_report.specs.Report.{refusal_text, report_text}
 
 -- how the program ends; it is refused exactly where there are findings
 abbrev pub status_of : Judgement → Status
 status_of Usage = status.Usage
 status_of (Limit name) = status.Limit
-status_of (NoProgram finding) = status.Refused
+status_of (Refused lines) = status.Refused
 status_of (Examined p found) = if length found.lines == 0 then status.Accepted else status.Refused
 
 -- `limit: NAME, at most NUMBER`
@@ -26,5 +26,5 @@ limit_text Nesting = codes "limit: nesting, at most 200\n"
 abbrev pub text_of : List (List ℕ) → Judgement → List ℕ
 text_of names Usage = usage_line
 text_of names (Limit name) = limit_text name
-text_of names (NoProgram finding) = refusal_text names finding
+text_of names (Refused lines) = refusal_text names lines
 text_of names (Examined p found) = report_text p names found

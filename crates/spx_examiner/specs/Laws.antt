@@ -1,5 +1,5 @@
 -- The laws of the definitions below on which the answers rest.
-use Rattle.std.specs.Prelude.{◌≡◌, ℕ, List, Result}
+use Rattle.std.specs.Prelude.{◌≡◌, ℕ, List, Result, None}
 use Rattle.spx_text.specs.declared.place.Place.{Place}
 use Rattle.spx_tree.specs.declared.token.Token.{Token}
 use Rattle.spx_tree.specs.declared.subprogram.Unit.{Unit}
@@ -12,6 +12,12 @@ use Rattle.spx_tree.specs.Goes.{Fault, Answers}
 use Rattle.spx_core.specs.declared.program.Program.{Program}
 use Rattle.spx_core.specs.Erase.{erased}
 use Rattle.spx_core.specs.Visible.{Visible}
+use Rattle.spx_core.specs.Typed.{Typed}
+use Rattle.spx_core.specs.Rules.{Obeys}
+use Rattle.spx_core.specs.Walk.{first_name_breach}
+use Rattle.spx_core.specs.RuleWalk.{first_rule_breach}
+use Rattle.spx_report.specs.declared.report.Finding.{Finding}
+use Rattle.spx_report.specs.FlowLines.{AreFlowLines}
 
 -- a text has one list of tokens
 abbrev pub OneSpelling : Type 0
@@ -35,6 +41,18 @@ OneAnswer = (source : List ℕ) (tokens : List Token) (a b : Parsed) → Answers
 abbrev pub OneTree : Type 0
 OneTree = (m n : ℕ) (a b : List Unit) → IsFile m a → IsFile n b → written a ≡ written b → a ≡ b
 
+-- units that are a program whose types fit break no rule on names or types
+abbrev pub NoBreach : Type 0
+NoBreach = (p : Program) → Visible p → Typed p → first_name_breach (erased p) ≡ None
+
+-- a program that obeys the rules on variables breaks none of them
+abbrev pub NoRuleBreach : Type 0
+NoRuleBreach = (p : Program) → Obeys p → first_rule_breach p ≡ None
+
+-- the flow of a program has one list of lines
+abbrev pub OneListOfLines : Type 0
+OneListOfLines = (p : Program) (a b : List Finding) → AreFlowLines p a → AreFlowLines p b → a ≡ b
+
 -- units are one program
 abbrev pub OneProgram : Type 0
 OneProgram = (p q : Program) → Visible p → Visible q → erased p ≡ erased q → p ≡ q
@@ -45,3 +63,6 @@ pub record Laws : Type 0 where
   pub answer : OneAnswer
   pub tree : OneTree
   pub program : OneProgram
+  pub breach : NoBreach
+  pub obeyed : NoRuleBreach
+  pub lines : OneListOfLines

@@ -1,17 +1,7 @@
 pub mod Codes
-pub mod Report
 pub mod Words
 pub mod Reading
 pub mod Judgement
 pub mod Causes
-pub mod ConditionLiterals
-pub mod Resolving
-pub mod RuleTests
-pub mod Typing
-pub mod FlowLists
-pub mod UnsetReads
-pub mod FlowFindings
-pub mod ConditionWalk
-pub mod Findings
 pub mod Laws
 pub mod Outcome

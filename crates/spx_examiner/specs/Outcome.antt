@@ -1,5 +1,5 @@
 -- What the program is to answer and to write, by its words and the contents of the files that they name.
-use Rattle.std.specs.Prelude.{◌≡◌, ◌⊎◌, ⊤, ℕ, ◌+◌, false, List, [], ◌∷◌, ◌++◌, Option}
+use Rattle.std.specs.Prelude.{◌≡◌, ◌≢◌, ◌⊎◌, ⊤, ℕ, ◌+◌, false, List, [], ◌∷◌, ◌++◌, Option, Some}
 use Rattle.spx_tree.specs.declared.token.Token.{Token}
 use Rattle.spx_tree.specs.declared.subprogram.Unit.{Unit}
 use Rattle.spx_tree.specs.Spells.{Spells}
@@ -11,20 +11,25 @@ use Rattle.spx_core.specs.Erase.{erased}
 use Rattle.spx_core.specs.Visible.{Visible}
 use Rattle.spx_core.specs.Typed.{Typed}
 use Rattle.spx_core.specs.Rules.{Obeys}
+use Rattle.spx_core.specs.declared.rule.Breach.{Breach}
+use Rattle.spx_core.specs.Walk.{first_name_breach}
+use Rattle.spx_core.specs.RuleWalk.{first_rule_breach}
 use Rattle.spx_core.specs.Flow.{HasNoFlowFinding}
 use Rattle.spx_meaning.specs.Fit.{Clean, Fit}
 use Rattle.spx_meaning.specs.Laws.{NeverBad, TwoRuns}
 use Rattle.spx_examiner.specs.declared.status.Status.{Status}
-use Rattle.spx_examiner.specs.declared.report.Finding.{Finding}
+use Rattle.spx_report.specs.declared.report.Finding.{Finding}
 use Rattle.spx_examiner.specs.declared.judgement.Judgement.{Judgement}
-use Rattle.spx_examiner.specs.declared.judgement.Judgement.TheVariants.{Usage, Limit, NoProgram, Examined}
+use Rattle.spx_examiner.specs.declared.judgement.Judgement.TheVariants.{Usage, Limit, Refused, Examined}
 use Rattle.spx_examiner.specs.declared.judgement.LimitName.TheVariants.{FileSize, Tokens, Nesting}
 use Rattle.spx_examiner.specs.declared.reading.Reading.{Reading}
 use Rattle.spx_examiner.specs.declared.reading.Reading.TheVariants.{Units, Broken, TooManyTokens, TooNested}
-use Rattle.spx_examiner.specs.Reading.{IsRead, expected_at}
+use Rattle.spx_examiner.specs.Reading.{IsRead}
 use Rattle.spx_examiner.specs.Words.{HasForm, HasNoForm, NamesFiles}
 use Rattle.spx_examiner.specs.Judgement.{status_of, text_of}
-use Rattle.spx_examiner.specs.Findings.{findings_of}
+use Rattle.spx_report.specs.Findings.{findings_of}
+use Rattle.spx_report.specs.RuleTexts.{breach_finding}
+use Rattle.spx_report.specs.FlowLines.{AreFlowLines}
 use Rattle.spx_text.specs.Writes.{IsPart, after}
 use Rattle.spx_examiner.specs.Causes.{AreTooLong, any_too_long, named}
 
@@ -67,21 +72,30 @@ pub record IsReliable (contents : List (List ℕ)) (p : Program) : Type 0 where
 
 -- ---- judgements
 
--- the one finding on a text of the grammar that is no program which keeps the rules and flows as it declares
-abbrev pub no_program : Finding
-no_program = expected_at (record { file = 0; line = 1; column = 1 })
+-- this program is made from the units
+pub record IsMadeFrom (units : List Unit) (p : Program) : Type 0 where
+  pub made : erased p ≡ units
+  pub visible : Visible p
+  pub typed : Typed p
 
--- what there is to report on units: that no sound program is made from them, or what the conditions of the one come to
+-- The findings on units that make no sound program, in the order of work: the first breach of a rule on names or types; else the
+-- first one of a rule on variables; else all that the bodies and their declared relations disagree on.
+pub data AreRefusals (units : List Unit) (lines : List Finding) : Type 0 where
+  of_names : (breach : Breach) → first_name_breach units ≡ Some breach → lines ≡ breach_finding breach ∷ [] → AreRefusals units lines
+  of_rules : (p : Program) (breach : Breach) → IsMadeFrom units p → first_rule_breach p ≡ Some breach → lines ≡ breach_finding breach ∷ [] → AreRefusals units lines
+  of_flow : (p : Program) → IsMadeFrom units p → Obeys p → AreFlowLines p lines → lines ≢ [] → AreRefusals units lines
+
+-- what there is to report on units: findings in place of conditions, or what the conditions of the sound program come to
 abbrev pub IsReportOnUnits : List Unit → Judgement → Type 0
 IsReportOnUnits units Usage = ⊥
 IsReportOnUnits units (Limit name) = ⊥
-IsReportOnUnits units (NoProgram finding) = ((p : Program) → ¬ IsSoundFrom units p) × (finding ≡ no_program)
+IsReportOnUnits units (Refused lines) = AreRefusals units lines
 IsReportOnUnits units (Examined p found) = IsSoundFrom units p × (found ≡ findings_of p)
 
 -- on a text, by what lexis and syntax say of it
 abbrev pub IsReportOnReading : Reading → Judgement → Type 0
 IsReportOnReading (Units units) j = IsReportOnUnits units j
-IsReportOnReading (Broken finding) j = j ≡ NoProgram finding
+IsReportOnReading (Broken finding) j = j ≡ Refused (finding ∷ [])
 IsReportOnReading TooManyTokens j = j ≡ Limit Tokens
 IsReportOnReading TooNested j = j ≡ Limit Nesting
 
@@ -146,5 +160,5 @@ AreReliable contents = (p : Program) × IsReliable contents p
 abbrev pub IsAssured : Judgement → Type 0
 IsAssured Usage = ⊤
 IsAssured (Limit name) = ⊤
-IsAssured (NoProgram finding) = ⊤
+IsAssured (Refused lines) = ⊤
 IsAssured (Examined p found) = Clean p → Fit p × NeverBad p × TwoRuns p

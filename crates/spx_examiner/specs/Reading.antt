@@ -14,7 +14,7 @@ use Rattle.spx_tree.specs.Goes.{place_with}
 use Rattle.spx_lexer.specs.Faults.{HasMoreTokens}
 use Rattle.spx_core.specs.declared.rule.RuleName.{RuleName}
 use Rattle.spx_core.specs.declared.rule.RuleName.TheVariants as rule
-use Rattle.spx_examiner.specs.declared.report.Finding.{Finding}
+use Rattle.spx_report.specs.declared.report.Finding.{Finding}
 use Rattle.spx_examiner.specs.declared.reading.Reading.{Reading}
 use Rattle.spx_examiner.specs.declared.reading.Reading.TheVariants.{Units, Broken, TooManyTokens, TooNested}
 

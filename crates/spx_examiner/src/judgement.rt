@@ -4,9 +4,10 @@ ghost use Rattle.spx_text.specs.Loads.{names};
 ghost use Rattle.spx_examiner.specs.Judgement.{limit_text, status_of, text_of};
 
 use crate::Status;
-use crate::report::{Finding, Findings, refusal_text, report_text};
 use crate::words::USAGE;
 use spx_core::Program;
+use spx_report::{Finding, Findings, refusal_text, report_text};
+use sqlite_items::Items;
 use std::alloc::{AllocError, Global};
 
 /// A counted quantity that has a greatest number.
@@ -40,8 +41,8 @@ pub enum Judgement {
     Usage,
     /// A counted quantity passes its greatest number.
     Limit(LimitName),
-    /// The text of a file is no program.
-    NoProgram(Finding),
+    /// These findings come before any conditions.
+    Refused(Items<Finding>),
     /// A program, and what its conditions come to.
     Examined(Program, Findings),
 }
@@ -54,7 +55,7 @@ impl Judgement {
         match self {
             Judgement::Usage => Status::Usage,
             Judgement::Limit(_) => Status::Limit,
-            Judgement::NoProgram(_) => Status::Refused,
+            Judgement::Refused(_) => Status::Refused,
             Judgement::Examined(_, findings) if findings.lines.is_empty() => Status::Accepted,
             Judgement::Examined(_, _) => Status::Refused,
         }
@@ -67,7 +68,7 @@ impl Judgement {
         match self {
             Judgement::Usage => Vec::from_slice(alloc, USAGE),
             Judgement::Limit(name) => Vec::from_slice(alloc, name.text()),
-            Judgement::NoProgram(finding) => refusal_text(alloc, files, finding),
+            Judgement::Refused(lines) => refusal_text(alloc, files, lines.as_slice()),
             Judgement::Examined(program, findings) => report_text(alloc, program, files, findings),
         }
     }

@@ -2,8 +2,10 @@
 ghost use Rattle.spx_examiner.specs.Laws.{Laws};
 ghost use Rattle.spx_examiner.specs.Outcome.{OneOutcome};
 
-use spx_core::laws::one_program;
+use spx_core::laws::{name_breaches, one_program};
 use spx_parse_unit::one_answer;
+use spx_report::laws::one_list_of_flow_lines;
+use spx_rules::laws::rule_breaches;
 use spx_tree::{one_spelling, one_stop, one_tree};
 
 /// The laws of the crates below.
@@ -15,6 +17,9 @@ pub(crate) fn laws_below()
     one_answer();
     one_tree();
     one_program();
+    name_breaches();
+    rule_breaches();
+    one_list_of_flow_lines();
 }
 
 /// The words and what the files hold decide the status and the text.

@@ -14,11 +14,11 @@ use crate::judgement::{Judgement, LimitName};
 use crate::laws::laws_below;
 use crate::load::{MOST_BYTES, load_all};
 use crate::phases::judge;
-use crate::soundness::{clean_is_fit, never_bad};
-use crate::twin::two_runs;
 use crate::words::files_of;
 use spx_core::Program;
+use spx_sound::{clean_is_fit, never_bad};
 use spx_text::{Failed, Files, LoadFault, Sink, write_all_pieces};
+use spx_twin::two_runs;
 use std::alloc::{AllocError, Global};
 
 /// What ends the work before there is a text.
@@ -98,7 +98,7 @@ fn assure(judgement: &Judgement)
     match judgement {
         Judgement::Usage => {}
         Judgement::Limit(_) => {}
-        Judgement::NoProgram(_) => {}
+        Judgement::Refused(_) => {}
         Judgement::Examined(program, _) => rely_on(program),
     }
 }

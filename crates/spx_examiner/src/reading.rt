@@ -5,10 +5,10 @@ ghost use Rattle.spx_tree.specs.Places.{place_behind};
 ghost use Rattle.spx_examiner.specs.Reading.{AreTokens, IsRead, expected_at};
 ghost use Rattle.spx_examiner.specs.declared.reading.Reading.TheVariants.{Broken};
 
-use crate::report::Finding;
 use spx_core::RuleName;
 use spx_lexer::{LexFault, Tokens, lex};
 use spx_parse_unit::{ParseFault, parse_units};
+use spx_report::Finding;
 use spx_text::{Place, Text};
 use spx_tree::Unit;
 use sqlite_items::Items;
@@ -28,7 +28,7 @@ pub enum Reading {
 }
 
 /// The finding on a text that does not go on at this place.
-pub fn expected(alloc: Global, place: Place) -> Result<Finding, AllocError>
+fn expected(alloc: Global, place: Place) -> Result<Finding, AllocError>
     ensures { IfOk result (λ found. found ≡ expected_at place) }
 {
     Ok(Finding {

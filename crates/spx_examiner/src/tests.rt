@@ -1,6 +1,10 @@
+ghost use Rattle.std.specs.Prelude.{◌≤◌, length};
+
 use crate::{Status, examine};
+use spx_lexer::lex;
 use spx_text::{HeldFile, MemFiles, MemSink, NoFailFiles, NoFailSink};
 use std::alloc::{AllocError, Global};
+use std::fmt::Write;
 use std::test::Fail;
 
 const INC: &str =
@@ -12,10 +16,22 @@ const WITHOUT_PRE: &str =
 const USAGE: &str =
     "usage: check [--proofs FILE] FILE... | conditions FILE... | run --entry NAME [--turns N] [--inputs FILE] FILE... | workload N\n";
 
-const NO_PROGRAM: &str = "f.adb:1:1: P1 expected another token\nrefused: 1\n";
-
 const UNDECLARED: &str =
     "procedure P (X : in out Integer)\n--# derives X from X;\nis\nbegin\n   X := Y;\nend P;\n";
+
+// A mode that disagrees, and a comparison where an `Integer` must come.
+const NO_TYPE: &str =
+    "procedure P (X : in Integer)\n--# derives X from X;\nis\nbegin\n   X := (X < 1);\nend P;\n";
+
+// A target that cannot be assigned, and an export that is left unset.
+const INPUT_TARGET: &str =
+    "procedure P (X : in Integer; Y : out Integer)\n--# derives Y from X;\nis\nbegin\n   X := 1;\nend P;\n";
+
+const LOST: &str =
+    "procedure P (X : in Integer; Y : out Integer)\n--# derives Y from X;\nis\n   T : Integer;\nbegin\n   Y := T;\n   T := X;\nend P;\n";
+
+const OTHER_FLOW: &str =
+    "procedure P (X, Y : in out Integer)\n--# derives X from X & Y from Y;\nis\nbegin\n   X := Y;\nend P;\n";
 
 const CUT: &str = "procedure P (X : in out Integer)\n--# derives X from";
 
@@ -59,7 +75,12 @@ fn reports(rt: HostRuntime) -> Result<(), Fail> {
         ),
         // An empty file is the program without subprograms.
         ("f.adb", "", Status::Accepted, "accepted\n"),
-        ("f.adb", UNDECLARED, Status::Refused, NO_PROGRAM),
+        (
+            "f.adb",
+            UNDECLARED,
+            Status::Refused,
+            "f.adb:5:9: N1 name is not declared here\nrefused: 1\n",
+        ),
         (
             "cut.adb",
             CUT,
@@ -82,6 +103,43 @@ fn reports(rt: HostRuntime) -> Result<(), Fail> {
             examine(alloc, words.as_slice(), &mut files, &mut sink),
             status,
             "{name}"
+        );
+        assert_eq!(rt; sink.taken.as_slice(), report.as_bytes());
+    }
+    Ok(())
+}
+
+// Names and types come before rules on variables, and those before flow, of which all is reported.
+#[test]
+fn rules_come_in_order(rt: HostRuntime) -> Result<(), Fail> {
+    let alloc = rt.alloc();
+    let rows = [
+        (NO_TYPE, "f.adb:5:9: N10 types do not match\nrefused: 1\n"),
+        (
+            INPUT_TARGET,
+            "f.adb:5:4: U2 target cannot be assigned\nrefused: 1\n",
+        ),
+        (
+            LOST,
+            "f.adb:2:13: F2 unused: Y from X\nf.adb:6:9: F4 unset: T\nf.adb:7:4: F3 ineffective\nrefused: 3\n",
+        ),
+        (
+            OTHER_FLOW,
+            "f.adb:2:13: F1 missing: X from Y\nf.adb:2:13: F2 unused: X from X\nrefused: 2\n",
+        ),
+    ];
+    for (text, report) in rows {
+        let words = words(alloc, "check f.adb")?;
+        let mut files = MemFiles::new(
+            alloc,
+            held(alloc, "f.adb", text.as_bytes())?,
+            Vec::new(alloc),
+        );
+        let mut sink = MemSink::new(alloc, 1000, 1000, Vec::new(alloc))?;
+        assert_eq!(rt;
+            examine(alloc, words.as_slice(), &mut files, &mut sink),
+            Status::Refused,
+            "{report}"
         );
         assert_eq!(rt; sink.taken.as_slice(), report.as_bytes());
     }
@@ -182,7 +240,11 @@ fn loads_that_fail_and_none(rt: HostRuntime) -> Result<(), Fail> {
 fn a_file_has_most_tokens(rt: HostRuntime) -> Result<(), Fail> {
     let alloc = rt.alloc();
     let rows = [
-        (1_000_000, Status::Refused, NO_PROGRAM),
+        (
+            1_000_000,
+            Status::Refused,
+            "f.adb:1:1: P1 expected another token\nrefused: 1\n",
+        ),
         (1_000_001, Status::Limit, "limit: tokens, at most 1000000\n"),
     ];
     for (count, status, text) in rows {
@@ -238,5 +300,33 @@ fn an_expression_has_greatest_levels(rt: HostRuntime) -> Result<(), Fail> {
         );
         assert_eq!(rt; sink.taken.as_slice(), text.as_bytes());
     }
+    Ok(())
+}
+
+// The kind and the mark of each token of a text, or nothing where it has none.
+fn kinds(alloc: Global, text: &str) -> Result<String, Fail>
+    requires { length text.now ≤ 4194304 }
+{
+    let mut shown = String::new(alloc);
+    let Ok(tokens) = lex(alloc, 0, text.as_bytes()) else {
+        return Ok(shown);
+    };
+    for token in &tokens.list {
+        write!(shown, "{:?} {}, ", token.kind, token.marked)?;
+    }
+    Ok(shown)
+}
+
+// A relation that goes over three lines has the tokens of the one on one line, places aside.
+#[test]
+fn a_relation_over_three_lines_has_the_same_tokens(rt: HostRuntime) -> Result<(), Fail> {
+    let alloc = rt.alloc();
+    let one = kinds(alloc, "--# derives X from Y & Y from X;")?;
+    let three = kinds(
+        alloc,
+        "--# DERIVES x\n--#   from y -- first\n--#   & Y From X;",
+    )?;
+    assert!(rt; !one.is_empty());
+    assert_eq!(rt; three.as_str(), one.as_str());
     Ok(())
 }

@@ -7,4 +7,7 @@ returns c = record {
   answer = c.one_answer.ensures;
   tree = c.one_tree.ensures;
   program = c.one_program.ensures;
+  breach = c.name_breaches.ensures.kept;
+  obeyed = λ p obeys. (c.rule_breaches.ensures p).1 obeys;
+  lines = c.one_list_of_flow_lines.ensures;
 }

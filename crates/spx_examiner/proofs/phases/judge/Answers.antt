@@ -12,7 +12,8 @@ returns-in-Units-clause-report c =
     c.examined.ensures.report
 
 pub returns-in-Broken-clause-report : goal.returns-in-Broken-clause-report
-returns-in-Broken-clause-report c = (Broken c.in-Broken.finding, subst (IsRead c.args.source.now) c.in-Broken.is c.in_ok-units.ensures, refl)
+returns-in-Broken-clause-report c =
+    if_ok c.refused.result _ _ (λ j is. (Broken c.in-Broken.finding, subst (IsRead c.args.source.now) c.in-Broken.is c.in_ok-units.ensures, is)) c.refused.ensures
 
 pub returns-in-TooNested-clause-report : goal.returns-in-TooNested-clause-report
 returns-in-TooNested-clause-report c = (TooNested, subst (IsRead c.args.source.now) c.in-TooNested.is c.in_ok-units.ensures, refl)

@@ -1,6 +1,0 @@
-use Rattle.std.proofs.Common.{◌≡◌, take}
-use Rattle.spx_examiner.specs.Findings.{unproved_of}
-use Rattle.spx_examiner.proofs.findings.unproved_of.Given as goal
-
-abbrev pub invariant-loop-condition : goal.invariant-loop-condition
-invariant-loop-condition l = l.found ≡ unproved_of (take l.condition-index l.conditions)

@@ -1,0 +1,33 @@
+use Rattle.std.proofs.Common.{rules, arith, ◌≡◌, ◌≢◌, [], IsNone, refl, sym, subst, ◌∙◌}
+use Rattle.std.proofs.lemmas.Grind.{common_steps}
+use Rattle.std.proofs.lemmas.Bool.Decides.{nat_tests}
+use Rattle.spx_core.specs.declared.program.Program.{Program}
+use Rattle.spx_core.specs.Erase.{erased}
+use Rattle.spx_core.specs.Typed.{Typed}
+use Rattle.spx_core.specs.Visible.{Visible}
+use Rattle.spx_examiner.specs.Outcome.{IsMadeFrom, IsReportOnUnits, of_rules, of_flow}
+use Rattle.spx_examiner.proofs.Spelled.{if_ok}
+use Rattle.spx_examiner.proofs.phases.examined_program.Goals as goal
+
+-- a program is made from its units
+made_from : (p : Program) → Visible p → Typed p → IsMadeFrom (erased p) p
+made_from p visible typed = record { made = refl; visible = visible; typed = typed }
+
+pub returns-in-Some-clause-report : goal.returns-in-Some-clause-report
+returns-in-Some-clause-report c =
+    let p = c.args.program in
+    let report = of_rules p c.in-Some.breach (made_from p c.requires.visible c.requires.typed) (sym c.obey.ensures.first ∙ c.in-Some.is) refl in
+    if_ok c.refused_by.result _ _ (λ j is. subst (IsReportOnUnits (erased p)) (sym is) report) c.refused_by.ensures
+
+pub returns-then-not-is_empty-clause-report : goal.returns-then-not-is_empty-clause-report
+returns-then-not-is_empty-clause-report c =
+    let p = c.args.program in
+    let none : IsNone c.obey.result = search rules in
+    let some : c.in_ok-lines.lines ≢ [] = λ e. grind (arith, common_steps, nat_tests, e) in
+    of_flow p (made_from p c.requires.visible c.requires.typed) (c.obey.ensures.none.0 none) c.in_ok-lines.ensures.exact some
+
+pub returns-clause-report : goal.returns-clause-report
+returns-clause-report c =
+    let none : IsNone c.obey.result = search rules in
+    let empty : c.in_ok-lines.lines ≡ [] = grind (arith, common_steps, nat_tests) in
+    (record { made = refl; visible = c.requires.visible; typed = c.requires.typed; obeys = c.obey.ensures.none.0 none; flows = c.in_ok-lines.ensures.none.0 empty }, c.in_ok-found.ensures.exact)

@@ -1,5 +1,0 @@
-use Rattle.spx_examiner.proofs.CleanConditions.{clean_is_fit}
-use Rattle.spx_examiner.proofs.soundness.clean_is_fit.Goals as goal
-
-pub returns : goal.returns
-returns c = clean_is_fit c.args.program.now
