@@ -10,13 +10,15 @@ import random
 import re
 import sys
 
-from reading import examine
+from reading import ANNOTATION, RESERVED, examine
 from table import CASES, answer, can_stand, entry, longer
 
 VALUES = ("Integer'First", "Integer'Last", '0', '0', '1', '1', '2', '5', '1073741823', '2147483646', '2147483647')
 ODD_VALUES = ('X', 'A', 'Inc', 'Integer', '2147483648', '4294967296', '170141183460469231731687303715884105727')
 RELATIONS = ('=', '/=', '<', '<=', '>', '>=')
 FORMALS = (('X',), ('X',), ('A', 'B'), ('X', 'A'), ('A', 'B', 'X'), ('A', 'B', 'X', 'Y'))
+LOCALS = ((), (), ('T',), ('T',), ('T', 'U'), ('Last',))
+ODD_LOCALS = (('X',), ('Y', 'T'), ('T', 't'), ('Integer',), ('Dec', 'Inc'))
 MODES = ('in out ', 'out ', 'in ', '')
 NAMES = ('Inc', 'Dec', 'X', 'Y', 'Last')
 
@@ -26,17 +28,30 @@ PIECES = tuple(piece.encode('ascii') for piece in (
     'X', 'A', 'B', 'Inc', 'Integer', "Integer'First", "Integer'Last", '0', '1', '2147483647', '2147483648', '+', '-',
     '*', '&', ',', ';', ':', ':=', 'in', 'out', 'from', 'derives', 'pre', '--#', '--', '\n', ' ', '\t', '\r', '=', '/=',
     '<', '<=', '>', '>=', 'end', 'is', 'begin', 'procedure', '(', ')', "'", '.', '..', '->', '~', '\n--# ', '_', '#',
-    '; B : in Integer', '   X := X + 1;\n', ' + 1 - 1'))
+    '; B : in Integer', '   X := X + 1;\n', ' + 1 - 1', 'null', '   null;\n', '   T : Integer;\n', 'T', '(X)', '-(',
+    '+(', "'First", '(X = X)'))
 # Bytes that are apt to end a lexeme, a line or a text.
 EDGES = b'\0\t\n\v\f\r -#0A_\x80\xa0\xff'
 
-# The texts of the table whose conditions are made.
-EXAMINED = tuple(case.text for case in CASES if case.status < 2 and not examine(case.name, case.text).breaches)
+# A word that is a name wherever it stands, and the names that one is exchanged for.
+NAME = re.compile(rb'[A-Za-z](?:_?[A-Za-z0-9])*')
+OTHER_NAMES = tuple(name.encode('ascii') for name in ('X', 'x', 'A', 'B', 'Y', 'T', 'U', 'Inc', 'Dec', 'Integer'))
+
+# The texts of the table of the grammar: those whose conditions are made, and those with other findings.
+STOPPED = re.compile(r':\d+: (?:L\d|P1) ')
+OF_THE_GRAMMAR = tuple(case for case in CASES if case.status < 2 and not STOPPED.search(case.report))
+EXAMINED = tuple(case.text for case in OF_THE_GRAMMAR if ' conditions, ' in case.report)
+BROKEN = tuple(case.text for case in OF_THE_GRAMMAR if ' conditions, ' not in case.report)
 
 
 def is_import(formal, sources):
     """Whether an export comes from the formal."""
     return any(formal in found for found in sources.values())
+
+
+def is_name(piece):
+    """Whether a piece is a word that is reserved nowhere."""
+    return bool(NAME.fullmatch(piece)) and piece.decode('ascii').lower() not in RESERVED + ANNOTATION
 
 
 class Writer:
@@ -46,11 +61,13 @@ class Writer:
         self.random = random.Random(seed)
 
     def text(self):
-        """A procedure of random parts, or such a one or an examined case of the table with changes."""
+        """A procedure of random parts, such a one or a case of the table with other names, or one with changes."""
         kind = self.random.random()
-        if kind < 0.5:
+        if kind < 0.35:
             return self.made()
-        return self.changed(self.made() if kind < 0.7 else self.random.choice(EXAMINED))
+        if kind < 0.7:
+            return self.renamed(self.made() if kind < 0.6 else self.random.choice(EXAMINED + BROKEN))
+        return self.changed(self.made() if kind < 0.8 else self.random.choice(EXAMINED + BROKEN))
 
     def made(self):
         """A file of mostly one procedure."""
@@ -61,27 +78,73 @@ class Writer:
         return ''.join(self.procedure(name) for name in names).encode('ascii')
 
     def procedure(self, name):
-        """A procedure of random parts that mostly fit together."""
-        formals = self.random.choice(FORMALS)
-        statements = [self.statement(formals) for _ in range(self.random.choice((1, 1, 2, 2, 3, 4)))]
-        sources = self.sources(formals, statements)
-        pre = self.precondition(formals, sources, statements[0][1]) if self.random.random() < 0.75 else None
-        return longer(self.params(formals, sources), self.items(formals, sources),
-                      *(f'{target} := {value}' for target, value in statements), pre=pre, name=name)
+        """A procedure of random parts that mostly fit together, and at times one without formals."""
+        formals = self.random.choice(FORMALS) if self.random.random() < 0.96 else ()
+        locals_ = self.random.choice(LOCALS if self.random.random() < 0.98 else ODD_LOCALS)
+        statements = self.statements(formals, locals_)
+        sources = self.sources(formals, locals_, statements)
+        inputs = [formal for formal in formals if formal not in sources]
+        if inputs and self.random.random() < 0.12:
+            statements.append((self.random.choice(inputs), self.right_side(formals, inputs[0])))
+        first = statements[0][1] if statements else self.value()
+        pre = self.precondition(formals, sources, first) if self.random.random() < 0.75 else None
+        return longer(self.params(formals, sources), self.items(formals, sources), *self.with_nulls(statements),
+                      pre=pre, declared=self.declarations(locals_), name=name)
 
-    def statement(self, formals):
-        """A target and a right side, which often begins with the target, and rarely is a comparison."""
-        target = self.random.choice(formals)
-        value = self.sum(formals, self.random.choice(formals + (target, target, self.value())))
-        return target, value + ' = 0' if self.random.random() < 0.01 else value
+    def declarations(self, locals_):
+        """A declaration for each local, or one for all."""
+        if self.random.random() < 0.5:
+            locals_ = (', '.join(locals_),) if locals_ else ()
+        return [f'{names} : Integer' for names in locals_]
 
-    def sum(self, formals, first):
-        """A sum of mostly few operands, and of some two hundred zeros at times."""
-        if self.random.random() < 0.003:
-            return '1' + ' + 0' * self.random.randrange(198, 203)
+    def statements(self, formals, locals_):
+        """Targets and right sides. Each local mostly comes from what stands before it, and goes to the next target."""
+        readable, found = formals, []
+        if not formals:
+            return found
+        for local in locals_:
+            if self.random.random() < 0.93:
+                found.append((local, self.right_side(readable, found[-1][0] if found else local)))
+            readable += (local,)
+        for _ in range(self.random.choice((1, 1, 2, 2, 3, 4))):
+            target = self.random.choice(formals + locals_ if self.random.random() < 0.1 else formals)
+            is_behind_local = found and found[-1][0] in locals_
+            found.append((target, self.right_side(readable, found[-1][0] if is_behind_local else target)))
+        return found
+
+    def with_nulls(self, statements):
+        """The statements, with `null` between them at times, and where there are none."""
+        spelled = [f'{target} := {value}' for target, value in statements] or ['null']
+        while self.random.random() < 0.1:
+            spelled.insert(self.random.randrange(len(spelled) + 1), 'null')
+        return spelled
+
+    def right_side(self, variables, usual):
+        """A sum that mostly begins with the usual variable, where it may be read; and rarely a comparison."""
+        is_usual = usual in variables and self.random.random() < 0.7
+        value = self.sum(variables, usual if is_usual else self.random.choice(variables + (self.value(),)))
+        return value + ' = 0' if self.random.random() < 0.01 else value
+
+    def sum(self, variables, first):
+        """A sum of mostly few operands, with a sign at times, and of some two hundred levels at times."""
+        if self.random.random() < 0.005:
+            return self.deep(first)
         count = self.random.choices((1, 2, 3, 4, 6), (25, 45, 20, 7, 3))[0]
-        operands = [self.random.choice(formals + (self.value(),) * 3) for _ in range(count - 1)]
-        return first + ''.join(f' {self.random.choice("+-")} {operand}' for operand in operands)
+        operands = [self.operand(variables, self.random.choice(variables + (self.value(),) * 3))
+                    for _ in range(count - 1)]
+        sign = self.random.choice('-+') if self.random.random() < 0.15 else ''
+        return (sign + self.operand(variables, first)
+                + ''.join(f' {self.random.choice("+-")} {operand}' for operand in operands))
+
+    def operand(self, variables, operand):
+        """The operand, or a sum in parentheses that begins with it."""
+        return f'({self.sum(variables, operand)})' if self.random.random() < 0.12 else operand
+
+    def deep(self, operand):
+        """Some two hundred zeros, parentheses, or signs with parentheses."""
+        levels = self.random.randrange(198, 203)
+        return self.random.choice((operand + ' + 0' * levels, '(' * levels + operand + ')' * levels,
+                                   '-(' * (levels // 2) + operand + ')' * (levels // 2)))
 
     def value(self):
         """An attribute or a number that lies in Integer, or something else at times."""
@@ -92,7 +155,7 @@ class Writer:
 
     def precondition(self, formals, sources, value):
         """A relation between an import, the first right side or a sum, and an operand, in either order."""
-        names = tuple(formal for formal in formals if is_import(formal, sources) or self.random.random() < 0.05)
+        names = tuple(formal for formal in formals if is_import(formal, sources) or self.random.random() < 0.15)
         left = self.random.choice(names + (value, self.sum(names, self.value())))
         right = self.random.choice(names + (self.value(),) * 4)
         if self.random.random() < 0.02:
@@ -100,21 +163,22 @@ class Writer:
         sides = [left, right]
         if self.random.random() < 0.2:
             sides.reverse()
-        return f' {self.random.choice(RELATIONS)} '.join(sides)
+        relation = f' {self.random.choice(RELATIONS)} '.join(sides)
+        return f'({relation})' if self.random.random() < 0.1 else relation
 
-    def sources(self, formals, statements):
+    def sources(self, formals, locals_, statements):
         """The exports, which are the targets and some others, each with the formals that its last value comes from."""
-        found = {formal: {formal} for formal in formals}
+        found = {formal: {formal} for formal in formals} | {local: set() for local in locals_ if local not in formals}
         for target, value in statements:
-            read = [formal for formal in formals if re.search(rf'\b{formal}\b', value)]
-            found[target] = {source for formal in read for source in found[formal]}
-        targets = {target for target, _ in statements}
+            read = [name for name in found if re.search(rf"(?<!')\b{name}\b", value)]
+            found[target] = {source for name in read for source in found[name]}
+        targets = {target for target, _ in statements if target in formals}
         used = {source for target in targets for source in found[target]}
         return {formal: found[formal] for formal in formals
                 if formal in targets or formal not in used or self.random.random() < 0.3}
 
     def params(self, formals, sources):
-        """A parameter for each formal, or one for two that have the same mode."""
+        """A parameter for each formal, or one for two that have the same mode; none where there are no formals."""
         params = []
         for formal in formals:
             mode = self.mode(formal, sources)
@@ -122,7 +186,7 @@ class Writer:
                 params[-1][0].append(formal)
             else:
                 params.append(([formal], mode))
-        return '; '.join(f'{", ".join(names)} : {mode}Integer' for names, mode in params)
+        return '; '.join(f'{", ".join(names)} : {mode}Integer' for names, mode in params) or None
 
     def mode(self, formal, sources):
         """Mostly the mode that the exports and imports ask for."""
@@ -133,7 +197,9 @@ class Writer:
         return self.random.choice(('in ', ''))
 
     def items(self, formals, sources):
-        """An item for each export, in some order."""
+        """An item for each export, in some order; none where there are no formals, and rarely where there are some."""
+        if not formals or self.random.random() < 0.02:
+            return None
         items = [f'{export} from {self.imports(export, formals, found)}' for export, found in sources.items()]
         self.random.shuffle(items)
         return ' & '.join(items)
@@ -141,13 +207,25 @@ class Writer:
     def imports(self, export, formals, right_ones):
         """Mostly the right ones, in some order, and `*` at times for the export itself."""
         chosen = sorted(right_ones)
-        if self.random.random() < 0.05:
+        if self.random.random() < 0.12:
             chosen = [formal for formal in formals if self.random.random() < 0.5]
         self.random.shuffle(chosen)
         if export in chosen and self.random.random() < 0.4:
             chosen.remove(export)
             chosen.insert(0, '*')
         return ', '.join(chosen)
+
+    def renamed(self, text):
+        """The text with other names in some places, mostly such as are there already, and with a mode less at times."""
+        pieces = PIECE.findall(text)
+        places = [at for at, piece in enumerate(pieces) if is_name(piece)]
+        own = [pieces[at] for at in places if pieces[at].lower() != b'integer']
+        for _ in range(self.random.choice((1, 1, 2, 3)) if own else 0):
+            pieces[self.random.choice(places)] = self.random.choice(self.random.choice((own, own, own, OTHER_NAMES)))
+        changed = b''.join(pieces)
+        if self.random.random() < 0.15:
+            changed = changed.replace(self.random.choice((b'in ', b'out ')), b'', 1)
+        return changed
 
     def changed(self, text):
         """The text with up to three changes of its pieces, and at times cut off behind one of them."""

@@ -1,8 +1,7 @@
 """The rules of docs/language.md, read a second time: what `check NAME` must answer on a text.
 
-`examine` gives the report, the status, and the breaches, most of which the report does not name yet. The layers stand
-in the order of that page, and each is asked only where the ones before it found no breach. Nothing here looks at the
-program.
+`examine` gives the report and the status. The layers stand in the order of that page, and each is asked only where the
+ones before it had nothing to tell. Nothing here looks at the program.
 """
 
 import re
@@ -17,7 +16,6 @@ WIDE = 2**127
 MOST_BYTES = 4194304
 MOST_TOKENS = 1000000
 MOST_LEVELS = 200
-EXPECTED = 'expected another token'
 USAGE = ('usage: check [--proofs FILE] FILE... | conditions FILE... | '
          'run --entry NAME [--turns N] [--inputs FILE] FILE... | workload N\n')
 
@@ -43,19 +41,19 @@ class Place:
 
 
 @dataclass(frozen=True)
-class Breach:
-    """A rule by its name in docs/language.md, or the section that it stands in; and the place, where it is known."""
+class Finding:
+    """A rule by its name in docs/language.md, the place, and what is told there."""
     rule: str
-    place: Optional[Place]
+    place: Place
     text: str
 
 
-class Stopped(Exception):
-    """The text is stopped in lexis or syntax: its one finding."""
+class Refused(Exception):
+    """The text has these findings, and its conditions are not made."""
 
-    def __init__(self, breach):
-        super().__init__(breach)
-        self.breach = breach
+    def __init__(self, *findings):
+        super().__init__(findings)
+        self.findings = findings
 
 
 class TooManyTokens(Exception):
@@ -66,12 +64,35 @@ class TooNested(Exception):
     """The text goes on with more levels alone."""
 
 
-class Broken(Exception):
-    """A text of the grammar breaks rules of one layer."""
+# What is told of a breach of each rule that has one text.
+TEXTS = {
+    'L1': 'bad byte',
+    'L2': 'bad number',
+    'L3': 'number too wide',
+    'P1': 'expected another token',
+    'N1': 'name is not declared here',
+    'N2': 'declared twice',
+    'N3': 'name of another kind',
+    'N5': 'end name differs',
+    'N10': 'types do not match',
+    'N12': 'static value out of range',
+    'U2': 'target cannot be assigned',
+    'U7': 'bad derives annotation',
+    'U8': 'mode disagrees with derives',
+    'U11': 'name not allowed in this annotation',
+    'F3': 'ineffective',
+}
 
-    def __init__(self, breaches):
-        super().__init__(breaches)
-        self.breaches = tuple(breaches)
+
+def finding(rule, place):
+    """The finding of a rule that has one text."""
+    return Finding(rule, place, TEXTS[rule])
+
+
+def require(rule, place, is_kept):
+    """Where the rule is not kept at this place, that is the one finding."""
+    if not is_kept:
+        raise Refused(finding(rule, place))
 
 
 # ---------------------------------------------------------------- lexis
@@ -116,16 +137,16 @@ class Scanner:
         while self.at < len(self.text):
             if not (self.line_end() or self.separators() or self.head() or self.comment()
                     or self.word() or self.number() or self.delimiter()):
-                self.stop('L1', 'bad byte')
+                self.stop('L1')
         return self.tokens
 
     def place(self):
         """Where the next byte stands."""
         return Place(self.line, self.at - self.line_start + 1)
 
-    def stop(self, rule, cause):
-        """The text has no tokens, for this cause at this place."""
-        raise Stopped(Breach(rule, self.place(), cause))
+    def stop(self, rule):
+        """The text has no tokens, by this rule at this place."""
+        raise Refused(finding(rule, self.place()))
 
     def next_is(self, piece):
         """Whether these bytes come next."""
@@ -189,10 +210,10 @@ class Scanner:
         if not found:
             return False
         if SPOILING.match(self.text, found.end()):
-            self.stop('L2', 'bad number')
+            self.stop('L2')
         digits = found.group().lstrip(b'0') or b'0'
         if len(digits) > len(str(WIDE)) or int(digits) >= WIDE:
-            self.stop('L3', 'number too wide')
+            self.stop('L3')
         return self.keep('number', len(found.group()))
 
     def delimiter(self):
@@ -219,7 +240,7 @@ class Name:
 
 @dataclass(frozen=True)
 class Attribute:
-    """`prefix'designator`"""
+    """`prefix'designator`, which stands where its prefix does."""
     prefix: Name
     designator: Name
 
@@ -249,13 +270,35 @@ class Operation:
     levels: int
 
 
-Expression = Union[Name, Attribute, Variable, Static, Operation]
+@dataclass(frozen=True)
+class Signed:
+    """`sign operand`, with a level more than its operand."""
+    sign: str
+    place: Place
+    operand: 'Expression'
+    levels: int
+
+
+@dataclass(frozen=True)
+class Parenthesized:
+    """`(inner)`, with a level more than what it holds."""
+    place: Place
+    inner: 'Expression'
+    levels: int
+
+
+Expression = Union[Name, Attribute, Variable, Static, Operation, Signed, Parenthesized]
+
+
+@dataclass(frozen=True)
+class Null:
+    """`null;`"""
 
 
 @dataclass(frozen=True)
 class Assignment:
     """`target := value;`"""
-    target: Union[Name, Variable]
+    target: Union[Name, Attribute, Variable]
     value: Expression
 
 
@@ -264,14 +307,20 @@ class Param:
     """`names : mode type_mark`"""
     names: list
     mode: str
-    type_mark: Name
+    type_mark: Union[Name, Attribute]
+
+
+@dataclass(frozen=True)
+class Declaration:
+    """`names : type_mark;`"""
+    names: list
+    type_mark: Union[Name, Attribute]
 
 
 @dataclass(frozen=True)
 class Formal:
     """A formal, by its word in small letters, with the mode of its parameter."""
     word: str
-    place: Place
     mode: str
 
 
@@ -284,18 +333,41 @@ class Item:
 
 
 @dataclass(frozen=True)
+class Derives:
+    """`derives items;`, which stands at its word."""
+    place: Place
+    items: list
+
+
+@dataclass(frozen=True)
 class Procedure:
-    """A procedure: as it is read with names and parameters, and then with what they denote and formals."""
+    """A procedure, which stands at its word.
+
+    As it is read, it has names, parameters and declarations; then what the names denote, formals, the words of locals,
+    and how each variable is spelled where it is declared.
+    """
+    place: Place
     name: Name
     formals: list
-    items: list
+    derives: Optional[Derives]
     pre: Optional[Expression]
+    locals: list
     statements: list
     end: Place
     end_name: Optional[Name]
+    spelled: Optional[dict] = None
+
+    def items(self):
+        """The items of `derives`, if it is there."""
+        return self.derives.items if self.derives else []
+
+    def words(self):
+        """The words of the formals, and then of the locals."""
+        return [formal.word for formal in self.formals] + self.locals
 
 
 RELATIONS = ('=', '/=', '<', '<=', '>', '>=')
+SIGNS = ('+', '-')
 
 
 class Parser:
@@ -316,15 +388,19 @@ class Parser:
     def fail(self):
         """No file goes on with the next token, or ends at the end of the text."""
         token = self.next()
-        raise Stopped(Breach('P1', token.place if token else self.end, EXPECTED))
+        raise Refused(finding('P1', token.place if token else self.end))
+
+    def next_is(self, kind, marked=False):
+        """Whether the next token is of this kind and this marking."""
+        token = self.next()
+        return token is not None and token.kind == kind and token.marked == marked
 
     def take_if(self, kind, marked=False):
         """The next token where it is of this kind and this marking."""
-        token = self.next()
-        if token is None or token.kind != kind or token.marked != marked:
+        if not self.next_is(kind, marked):
             return None
         self.at += 1
-        return token
+        return self.tokens[self.at - 1]
 
     def take(self, kind, marked=False):
         """The next token, which must be of this kind and this marking."""
@@ -338,8 +414,8 @@ class Parser:
                 return token
         return None
 
-    def operator(self, kinds, marked, levels):
-        """The next token where it is one of these operators, with so many levels from its own to the outermost."""
+    def opening(self, kinds, marked, levels):
+        """The next token where it is of one of these kinds, with so many levels from its own to the outermost."""
         token = self.take_one(kinds, marked)
         if token and levels > MOST_LEVELS:
             raise TooNested
@@ -353,23 +429,25 @@ class Parser:
         return procedures
 
     def procedure(self):
-        """"procedure" id "(" param {";" param} ")" derives [pre] "is" "begin" statement {statement} "end" [id] ";" """
-        self.take('procedure')
-        name = self.name()
+        """"procedure" id [formals] [derives] [pre] "is" {declaration} "begin" statement {statement} "end" [id] ";" """
+        place = self.take('procedure').place
+        name = self.identifier()
         formals = self.formals()
-        items = self.derives()
+        derives = self.derives()
         pre = self.precondition()
         self.take('is')
+        declarations = self.declarations()
         self.take('begin')
         statements = self.statements()
         end = self.take('end').place
-        end_name = self.name_if()
+        end_name = self.identifier_if()
         self.take(';')
-        return Procedure(name, formals, items, pre, statements, end, end_name)
+        return Procedure(place, name, formals, derives, pre, declarations, statements, end, end_name)
 
     def formals(self):
-        """"(" param {";" param} ")" """
-        self.take('(')
+        """["(" param {";" param} ")"]"""
+        if not self.take_if('('):
+            return []
         params = [self.param()]
         while self.take_if(';'):
             params.append(self.param())
@@ -377,214 +455,151 @@ class Parser:
         return params
 
     def param(self):
-        """names ":" ["in"] ["out"] id; no mode means `in`"""
-        names = self.names()
+        """ids ":" ["in"] ["out"] name; no mode means `in`"""
+        names = self.identifiers()
         self.take(':')
         words = [token.text.lower() for token in (self.take_if('in'), self.take_if('out')) if token]
         return Param(names, ' '.join(words) or 'in', self.name())
 
     def derives(self):
-        """"derives" item {"&" item} ";" """
-        self.take('derives', marked=True)
+        """["derives" item {"&" item} ";"]"""
+        word = self.take_if('derives', marked=True)
+        if not word:
+            return None
         items = [self.item()]
         while self.take_if('&', marked=True):
             items.append(self.item())
         self.take(';', marked=True)
-        return items
+        return Derives(word.place, items)
 
     def item(self):
-        """names "from" ["*" {"," id} | names]"""
-        exports = self.names(marked=True)
+        """names "from" ["*" {"," name} | names]"""
+        exports = [self.name(marked=True)] + self.more_names()
         self.take('from', marked=True)
         if self.take_if('*', marked=True):
-            return Item(exports, True, self.more_names(marked=True))
+            return Item(exports, True, self.more_names())
         first = self.name_if(marked=True)
-        return Item(exports, False, [first] + self.more_names(marked=True) if first else [])
+        return Item(exports, False, [first] + self.more_names() if first else [])
+
+    def more_names(self):
+        """{"," name} in annotation text"""
+        names = []
+        while self.take_if(',', marked=True):
+            names.append(self.name(marked=True))
+        return names
 
     def precondition(self):
         """["pre" expression ";"]"""
         if not self.take_if('pre', marked=True):
             return None
-        condition = self.expression(marked=True)
+        condition = self.expression(True, 0)
         self.take(';', marked=True)
         return condition
 
+    def declarations(self):
+        """{ids ":" name ";"}"""
+        declarations = []
+        while self.next_is('identifier'):
+            names = self.identifiers()
+            self.take(':')
+            declarations.append(Declaration(names, self.name()))
+            self.take(';')
+        return declarations
+
     def statements(self):
-        """id ":=" expression ";" {id ":=" expression ";"}"""
-        statements = [self.statement(self.name())]
-        target = self.name_if()
-        while target:
-            statements.append(self.statement(target))
-            target = self.name_if()
+        """statement {statement}"""
+        statements = [self.statement()]
+        while self.next_is('null') or self.next_is('identifier'):
+            statements.append(self.statement())
         return statements
 
-    def statement(self, target):
-        """":=" expression ";" behind the target"""
+    def statement(self):
+        """"null" ";" | name ":=" expression ";" """
+        if self.take_if('null'):
+            self.take(';')
+            return Null()
+        target = self.name()
         self.take(':=')
-        value = self.expression()
+        value = self.expression(False, 0)
         self.take(';')
         return Assignment(target, value)
 
-    def expression(self, marked=False):
-        """sum [("=" | "/=" | "<" | "<=" | ">" | ">=") sum]"""
-        left = self.sum(marked, 0)
-        relation = self.operator(RELATIONS, marked, levels_of(left) + 1)
-        return operation(relation, left, self.sum(marked, 1)) if relation else left
+    def expression(self, marked, above):
+        """sum [("=" | "/=" | "<" | "<=" | ">" | ">=") sum], under so many levels"""
+        left = self.sum(marked, above)
+        relation = self.opening(RELATIONS, marked, above + levels_of(left) + 1)
+        return operation(relation, left, self.sum(marked, above + 1)) if relation else left
 
     def sum(self, marked, above):
-        """operand {("+" | "-") operand}, which nests to the left, under so many levels"""
-        left = self.operand(marked)
-        operator = self.operator(('+', '-'), marked, above + levels_of(left) + 1)
+        """["+" | "-"] primary {("+" | "-") primary}, which nests to the left"""
+        left = self.signed(marked, above)
+        operator = self.opening(SIGNS, marked, above + levels_of(left) + 1)
         while operator:
-            left = operation(operator, left, self.operand(marked))
-            operator = self.operator(('+', '-'), marked, above + levels_of(left) + 1)
+            left = operation(operator, left, self.primary(marked, above + 1))
+            operator = self.opening(SIGNS, marked, above + levels_of(left) + 1)
         return left
 
-    def operand(self, marked=False):
-        """number | id | id "'" id"""
+    def signed(self, marked, above):
+        """["+" | "-"] primary"""
+        sign = self.opening(SIGNS, marked, above + 1)
+        if not sign:
+            return self.primary(marked, above)
+        operand = self.primary(marked, above + 1)
+        return Signed(sign.kind, sign.place, operand, levels_of(operand) + 1)
+
+    def primary(self, marked, above):
+        """number | name | "(" expression ")" """
+        parenthesis = self.opening(('(',), marked, above + 1)
+        if parenthesis:
+            inner = self.expression(marked, above + 1)
+            self.take(')', marked)
+            return Parenthesized(parenthesis.place, inner, levels_of(inner) + 1)
         number = self.take_if('number', marked)
-        if number:
-            return Static(int(number.text.lstrip('0') or '0'), True, number.place)
-        name = self.name(marked)
-        return Attribute(name, self.name(marked)) if self.take_if("'", marked) else name
+        return Static(int(number.text.lstrip('0') or '0'), True, number.place) if number else self.name(marked)
 
-    def names(self, marked=False):
-        """id {"," id}"""
-        return [self.name(marked)] + self.more_names(marked)
-
-    def more_names(self, marked):
-        """{"," id}"""
-        names = []
-        while self.take_if(',', marked):
-            names.append(self.name(marked))
-        return names
+    def name_if(self, marked=False):
+        """A name, if one comes next."""
+        return self.name(marked) if self.next_is('identifier', marked) else None
 
     def name(self, marked=False):
+        """id | id "'" id"""
+        name = self.identifier(marked)
+        return Attribute(name, self.identifier(marked)) if self.take_if("'", marked) else name
+
+    def identifiers(self):
+        """id {"," id}"""
+        names = [self.identifier()]
+        while self.take_if(','):
+            names.append(self.identifier())
+        return names
+
+    def identifier_if(self):
+        """An identifier, if one comes next."""
+        return self.identifier() if self.next_is('identifier') else None
+
+    def identifier(self, marked=False):
         """An identifier."""
         token = self.take('identifier', marked)
         return Name(token.text, token.place)
 
-    def name_if(self, marked=False):
-        """An identifier, if one comes next."""
-        token = self.take_if('identifier', marked)
-        return token and Name(token.text, token.place)
-
 
 def levels_of(expression):
-    """How many operators lie on the longest way down."""
-    return expression.levels if isinstance(expression, Operation) else 0
+    """How many parentheses, signs and operators lie on the longest way down."""
+    return expression.levels if parts_of(expression) else 0
+
+
+def parts_of(expression):
+    """What an operator, a sign or parentheses hold, from left to right; else nothing."""
+    if isinstance(expression, Operation):
+        return (expression.left, expression.right)
+    if isinstance(expression, Signed):
+        return (expression.operand,)
+    return (expression.inner,) if isinstance(expression, Parenthesized) else ()
 
 
 def operation(operator, left, right):
     """An operation, which has a level more than its operands."""
     return Operation(operator.kind, operator.place, left, right, max(levels_of(left), levels_of(right)) + 1)
-
-
-# ---------------------------------------------------------------- names
-
-class Resolver:
-    """Puts in the place of each name what it denotes, and collects the breaches."""
-
-    def __init__(self, tree):
-        self.tree = tree
-        self.formals = []
-        self.breaches = []
-
-    def break_rule(self, rule, name, text):
-        """The name breaks this rule."""
-        self.breaches.append(Breach(rule, name.place, f'`{name.text}` {text}'))
-
-    def run(self):
-        """The procedure with what its names denote."""
-        self.must_be_free(self.tree.name)
-        for param in self.tree.formals:
-            self.param(param)
-        items = [self.item(item) for item in self.tree.items]
-        pre = self.tree.pre and self.expression(self.tree.pre)
-        statements = [Assignment(self.variable(statement.target), self.expression(statement.value))
-                      for statement in self.tree.statements]
-        self.end_name()
-        return replace(self.tree, formals=self.formals, items=items, pre=pre, statements=statements)
-
-    def param(self, param):
-        """N2: no two formals are the same word. A type mark sees the formals before it, and its own ones."""
-        for name in param.names:
-            self.must_be_free(name)
-            if self.is_formal(name):
-                self.break_rule('N2', name, 'is declared twice')
-            self.formals.append(Formal(name.word(), name.place, param.mode))
-        self.need(param.type_mark, 'type')
-
-    def must_be_free(self, name):
-        """N2: no formal and no procedure is named Integer."""
-        if name.word() == 'integer':
-            self.break_rule('N2', name, 'is declared everywhere')
-
-    def is_formal(self, name):
-        """Whether a formal of this name is declared."""
-        return any(formal.word == name.word() for formal in self.formals)
-
-    def denoted(self, name):
-        """The innermost region that declares a word has it: the formals, the procedure, what is declared everywhere."""
-        if self.is_formal(name):
-            return 'variable'
-        if name.word() == self.tree.name.word():
-            return 'subprogram'
-        return 'type' if name.word() == 'integer' else None
-
-    def need(self, name, entity):
-        """N1: each name denotes something. N3: it is what its place asks for."""
-        denoted = self.denoted(name)
-        if denoted is None:
-            self.break_rule('N1', name, 'denotes nothing')
-        elif denoted != entity:
-            self.break_rule('N3', name, f'is a {denoted}, where a {entity} is needed')
-
-    def variable(self, name):
-        """N3: operands, targets and `derives` name variables."""
-        self.need(name, 'variable')
-        return Variable(name.word(), name.place)
-
-    def item(self, item):
-        """An item over what its names denote."""
-        exports = [self.variable(name) for name in item.exports]
-        imports = [self.variable(name) for name in item.imports]
-        return Item(exports, item.star, imports)
-
-    def expression(self, tree):
-        """An expression over what its names denote."""
-        if isinstance(tree, Operation):
-            return replace(tree, left=self.expression(tree.left), right=self.expression(tree.right))
-        if isinstance(tree, Attribute):
-            return self.attribute(tree)
-        return self.variable(tree) if isinstance(tree, Name) else tree
-
-    def attribute(self, tree):
-        """N3: a type is named before `'`, and `First` or `Last` stands behind it."""
-        self.need(tree.prefix, 'type')
-        values = {'first': INTEGER_FIRST, 'last': INTEGER_LAST}
-        if tree.designator.word() not in values:
-            self.break_rule('N3', tree.designator, 'is no attribute')
-        return Static(values.get(tree.designator.word(), 0), False, tree.prefix.place)
-
-    def end_name(self):
-        """N5: the name behind `end`, if there is one, is the procedure's."""
-        name = self.tree.end_name
-        if name and name.word() != self.tree.name.word():
-            self.break_rule('N5', name, f'ends `{self.tree.name.text}`')
-
-
-def resolved(trees):
-    """The procedures with what their names denote. N2: no two of them have the same name; else none sees another."""
-    resolvers = [Resolver(tree) for tree in trees]
-    procedures = [resolver.run() for resolver in resolvers]
-    words = [tree.name.word() for tree in trees]
-    breaches = [breach for resolver in resolvers for breach in resolver.breaches]
-    breaches += [Breach('N2', tree.name.place, f'`{tree.name.text}` is declared twice')
-                 for at, tree in enumerate(trees) if tree.name.word() in words[:at]]
-    if breaches:
-        raise Broken(breaches)
-    return procedures
 
 
 # ---------------------------------------------------------------- types and static values
@@ -599,23 +614,33 @@ COMPUTED = {
 
 
 def type_of(expression):
-    """A comparison is Boolean; a number is universal, and a sum where both operands are; all else is Integer."""
-    if isinstance(expression, Operation):
-        if expression.operator in RELATIONS:
+    """A comparison is Boolean; a number is universal, and a sum of such alone; all else is Integer."""
+    if isinstance(expression, Parenthesized):
+        return type_of(expression.inner)
+    if isinstance(expression, (Operation, Signed)):
+        if is_comparison(expression):
             return 'Boolean'
-        return 'universal' if {type_of(expression.left), type_of(expression.right)} == {'universal'} else 'Integer'
+        return 'universal' if {type_of(part) for part in parts_of(expression)} == {'universal'} else 'Integer'
     return 'universal' if isinstance(expression, Static) and expression.universal else 'Integer'
 
 
+def is_comparison(expression):
+    """Whether the expression is a relation, which stands in no parentheses."""
+    return isinstance(expression, Operation) and expression.operator in RELATIONS
+
+
 def static_value(expression):
-    """The exact value of a number, of an attribute, or of an operation over two numbers; else none."""
+    """The exact value of a number, of an attribute, or of what is static in parentheses and operations; else none."""
     if isinstance(expression, Static):
         return expression.value
-    if isinstance(expression, Operation):
-        left, right = static_value(expression.left), static_value(expression.right)
-        if is_number(left) and is_number(right):
-            return COMPUTED[expression.operator](left, right)
-    return None
+    if isinstance(expression, Parenthesized):
+        return static_value(expression.inner)
+    values = [static_value(part) for part in parts_of(expression)]
+    if not values or not all(is_number(value) for value in values):
+        return None
+    if isinstance(expression, Signed):
+        return -values[0] if expression.sign == '-' else values[0]
+    return COMPUTED[expression.operator](*values)
 
 
 def is_number(value):
@@ -623,50 +648,164 @@ def is_number(value):
     return value is not None and not isinstance(value, bool)
 
 
-def integer_breaches(expression):
-    """N10: where an Integer is needed, no Boolean stands. N12: a universal value lies in Integer there."""
-    kind, value = type_of(expression), static_value(expression)
-    if kind == 'Boolean':
-        return [Breach('N10', expression.place, 'a comparison is no Integer')]
-    if kind == 'universal' and not in_integer(value):
-        return [Breach('N12', expression.place, f'{value} is no Integer')]
-    return []
+def meets_integer(expression):
+    """N12: a universal value lies in Integer where it meets it."""
+    return type_of(expression) != 'universal' or in_integer(static_value(expression))
 
 
-def expression_breaches(expression):
-    """What breaks N10 and N12 inside of an expression. Two universal operands meet no type."""
-    if not isinstance(expression, Operation):
-        return []
-    found = expression_breaches(expression.left) + expression_breaches(expression.right)
-    if {type_of(expression.left), type_of(expression.right)} != {'universal'}:
-        found += integer_breaches(expression.left) + integer_breaches(expression.right)
-    return found + sum_breaches(expression)
+def operands_fit(expression):
+    """N10: no operand is Boolean. N12: a universal one beside an Integer, and then the value, lies in its type."""
+    operands = parts_of(expression)
+    kinds = {type_of(operand) for operand in operands}
+    require('N10', expression.place, 'Boolean' not in kinds)
+    for operand in operands:
+        require('N12', operand.place, kinds == {'universal'} or meets_integer(operand))
+    require('N12', expression.place, value_lies(expression))
+    return expression
 
 
-def sum_breaches(expression):
-    """N12: the value of a static sum has at most 128 bits where it is universal, and else lies in Integer."""
+def value_lies(expression):
+    """Whether the value of a static sum has at most 128 bits where it is universal, and else lies in Integer."""
     value = static_value(expression)
     lies = fits if type_of(expression) == 'universal' else in_integer
-    if not is_number(value) or lies(value):
-        return []
-    return [Breach('N12', expression.place, f'{value} lies outside its type')]
+    return not is_number(value) or lies(value)
 
 
-def pre_breaches(pre):
-    """N10: a precondition is Boolean."""
-    found = expression_breaches(pre)
-    return found if type_of(pre) == 'Boolean' else found + [Breach('N10', pre.place, 'no Boolean')]
+# ---------------------------------------------------------------- the walk of names and types
+
+class Resolver:
+    """Puts in the place of each name of a procedure what it denotes, in the order of the walk, up to a first breach."""
+
+    def __init__(self, tree):
+        self.tree = tree
+        self.formals = []
+        self.locals = []
+        self.spelled = {}
+
+    def run(self):
+        """The procedure with what its names denote. Annotations see the formals and not the locals."""
+        for param in self.tree.formals:
+            self.param(param)
+        derives = self.tree.derives and self.derives(self.tree.derives)
+        pre = self.tree.pre and self.condition(self.tree.pre)
+        for declaration in self.tree.locals:
+            self.declaration(declaration)
+        statements = [self.statement(statement) for statement in self.tree.statements]
+        self.end_name()
+        return replace(self.tree, formals=self.formals, derives=derives, pre=pre, locals=self.locals,
+                       statements=statements, spelled=self.spelled)
+
+    def param(self, param):
+        """A type mark sees the formals before it, and its own ones."""
+        for name in param.names:
+            self.declare(name)
+            self.formals.append(Formal(name.word(), param.mode))
+        self.need(param.type_mark, 'type')
+
+    def declaration(self, declaration):
+        """A type mark sees the formals, the locals before it, and its own ones."""
+        for name in declaration.names:
+            self.declare(name)
+            self.locals.append(name.word())
+        self.need(declaration.type_mark, 'type')
+
+    def declare(self, name):
+        """N2: no two formals and locals are the same word, and none is named Integer."""
+        require('N2', name.place, not is_everywhere(name) and name.word() not in self.spelled)
+        self.spelled[name.word()] = name.text
+
+    def denoted(self, name):
+        """The innermost region that declares a word has it: variables, the procedure, what is declared everywhere."""
+        if name.word() in self.spelled:
+            return 'variable'
+        if name.word() == self.tree.name.word():
+            return 'subprogram'
+        return 'type' if is_everywhere(name) else None
+
+    def must_denote(self, name, entity, is_fit=True):
+        """N1: the name denotes something. N3: it is what its place asks for."""
+        require('N1', name.place, self.denoted(name) is not None)
+        require('N3', name.place, self.denoted(name) == entity and is_fit)
+
+    def need(self, name, entity):
+        """A name that stands for a variable or a type, which no attribute is."""
+        is_attribute = isinstance(name, Attribute)
+        self.must_denote(name.prefix if is_attribute else name, entity, not is_attribute)
+
+    def variable(self, name):
+        """N3: operands, targets and `derives` name variables."""
+        self.need(name, 'variable')
+        return Variable(name.word(), name.place)
+
+    def derives(self, tree):
+        """The annotation over what its names denote."""
+        return replace(tree, items=[self.item(item) for item in tree.items])
+
+    def item(self, item):
+        """An item over what its names denote."""
+        exports = [self.variable(name) for name in item.exports]
+        imports = [self.variable(name) for name in item.imports]
+        return Item(exports, item.star, imports)
+
+    def condition(self, tree):
+        """N10: a precondition is Boolean."""
+        found = self.expression(tree)
+        require('N10', found.place, type_of(found) == 'Boolean')
+        return found
+
+    def statement(self, tree):
+        """N10: a right side is no Boolean. N12: it lies in Integer where it is universal."""
+        if isinstance(tree, Null):
+            return tree
+        target, value = self.variable(tree.target), self.expression(tree.value)
+        require('N10', value.place, type_of(value) != 'Boolean')
+        require('N12', value.place, meets_integer(value))
+        return Assignment(target, value)
+
+    def expression(self, tree):
+        """An expression over what its names denote. What an operator or a sign holds comes before it."""
+        if isinstance(tree, Operation):
+            return operands_fit(replace(tree, left=self.expression(tree.left), right=self.expression(tree.right)))
+        if isinstance(tree, Signed):
+            return operands_fit(replace(tree, operand=self.expression(tree.operand)))
+        if isinstance(tree, Parenthesized):
+            return replace(tree, inner=self.expression(tree.inner))
+        if isinstance(tree, Attribute):
+            return self.attribute(tree)
+        return self.variable(tree) if isinstance(tree, Name) else tree
+
+    def attribute(self, tree):
+        """N3: a type is named before `'`, and `First` or `Last` stands behind it."""
+        values = {'first': INTEGER_FIRST, 'last': INTEGER_LAST}
+        self.must_denote(tree.prefix, 'type', tree.designator.word() in values)
+        return Static(values[tree.designator.word()], False, tree.prefix.place)
+
+    def end_name(self):
+        """N5: the name behind `end`, if there is one, is the procedure's."""
+        name = self.tree.end_name
+        if name:
+            require('N5', name.place, name.word() == self.tree.name.word())
 
 
-def type_breaches(procedure):
-    """What breaks N10 and N12."""
-    found = pre_breaches(procedure.pre) if procedure.pre else []
-    for statement in procedure.statements:
-        found += expression_breaches(statement.value) + integer_breaches(statement.value)
-    return found
+def is_everywhere(name):
+    """Whether a name is declared everywhere."""
+    return name.word() == 'integer'
 
 
-# ---------------------------------------------------------------- rules
+def resolved(trees):
+    """The procedures with what their names denote. N2: no two have the same name, and none is named Integer."""
+    words = [tree.name.word() for tree in trees]
+    for at, tree in enumerate(trees):
+        require('N2', tree.name.place, not is_everywhere(tree.name) and words[at] not in words[:at])
+    return [Resolver(tree).run() for tree in trees]
+
+
+# ---------------------------------------------------------------- the walk of rules on variables
+
+def assignments(statements):
+    """The statements that are no `null`, which has no part in what is behind names."""
+    return [statement for statement in statements if isinstance(statement, Assignment)]
+
 
 class Relation:
     """What `derives` declares: the exports as they stand, which export is derived from which import, the imports.
@@ -691,106 +830,132 @@ def pairs_of(item):
     return named | ({(export.word, export.word) for export in item.exports} if item.star else set())
 
 
-def later_doubles(names):
-    """The names that name what one before them does."""
-    return [name for at, name in enumerate(names) if name.word in {earlier.word for earlier in names[:at]}]
+def stand_twice(names):
+    """Whether two names name one variable."""
+    return len({name.word for name in names}) < len(names)
+
+
+def u7(procedure, relation):
+    """U7: no variable is an export twice, no pair stands twice, and each formal is in the relation.
+
+    It stands at the word `derives`, or at the word `procedure` where there is none.
+    """
+    place = procedure.derives.place if procedure.derives else procedure.place
+    require('U7', place, not stand_twice(relation.exports))
+    for item in procedure.items():
+        require('U7', place, not stand_twice(item.imports))
+        require('U7', place, not item.star or not words_of(item.exports) & words_of(item.imports))
+    require('U7', place, {formal.word for formal in procedure.formals} == relation.imported | relation.exported)
+
+
+def words_of(names):
+    """The words of names."""
+    return {name.word for name in names}
+
+
+def u8(procedure, relation):
+    """U8: a formal `in` is an import alone, one `out` an export alone, and one `in out` is both.
+
+    It stands at the first name in the relation that its mode does not allow there: at an export `in`, at one `out` that
+    has `*`, and at one `in out` that is no import; at an import `out`, and at one `in out` that is no export.
+    """
+    modes = {formal.word: formal.mode for formal in procedure.formals}
+    for item in procedure.items():
+        for name in item.exports:
+            fitting = {'in': False, 'out': not item.star, 'in out': name.word in relation.imported}
+            require('U8', name.place, fitting[modes[name.word]])
+        for name in item.imports:
+            fitting = {'in': True, 'out': False, 'in out': name.word in relation.exported}
+            require('U8', name.place, fitting[modes[name.word]])
+
+
+def u11(procedure, relation):
+    """U11: the precondition names imports alone."""
+    for name in reads(procedure.pre):
+        require('U11', name.place, name.word in relation.imported)
 
 
 def u2(procedure):
     """U2: no target is a formal of mode `in`."""
     read_only = {formal.word for formal in procedure.formals if formal.mode == 'in'}
-    return [Breach('U2', statement.target.place, f'`{statement.target.word}` has the mode `in`')
-            for statement in procedure.statements if statement.target.word in read_only]
+    for statement in assignments(procedure.statements):
+        require('U2', statement.target.place, statement.target.word not in read_only)
 
 
-def u7(procedure, relation):
-    """U7: no variable is an export twice, no pair stands twice, and each formal is in the relation."""
-    found = [Breach('U7', name.place, f'`{name.word}` is an export twice') for name in later_doubles(relation.exports)]
-    for item in procedure.items:
-        starred = item.exports if item.star else []
-        found += [Breach('U7', name.place, f'`{name.word}` is an import twice')
-                  for name in later_doubles(starred + item.imports) if name in item.imports]
-    return found + [Breach('U7', formal.place, f'`{formal.word}` is not in the relation')
-                    for formal in procedure.formals if formal.word not in relation.imported | relation.exported]
-
-
-WANTED = {'in': (True, False), 'out': (False, True), 'in out': (True, True)}
-
-
-def u8(procedure, relation):
-    """U8: a formal `in` is an import alone, one `out` an export alone, and one `in out` is both."""
-    return [Breach('U8', formal.place, f'`{formal.word}` is not used as its mode says')
-            for formal in procedure.formals
-            if (formal.word in relation.imported, formal.word in relation.exported) != WANTED[formal.mode]]
-
-
-def u11(procedure, relation):
-    """U11: the precondition names imports alone."""
-    return [Breach('U11', name.place, f'`{name.word}` is no import')
-            for name in reads(procedure.pre) if name.word not in relation.imported]
-
-
-def rule_breaches(procedure):
-    """What breaks the static rules."""
-    relation = Relation(procedure.items)
-    return u2(procedure) + u7(procedure, relation) + u8(procedure, relation) + u11(procedure, relation)
+def require_rules(procedure):
+    """The static rules on variables, in the order of the walk."""
+    relation = Relation(procedure.items())
+    u7(procedure, relation)
+    u8(procedure, relation)
+    u11(procedure, relation)
+    u2(procedure)
 
 
 # ---------------------------------------------------------------- flow
 
 def reads(expression):
     """The variables that an expression names, from left to right."""
-    if isinstance(expression, Operation):
-        return reads(expression.left) + reads(expression.right)
-    return [expression] if isinstance(expression, Variable) else []
+    if isinstance(expression, Variable):
+        return [expression]
+    return [name for part in parts_of(expression) for name in reads(part)]
 
 
 def flows_of(procedure, statements):
     """The flows that lead through statements: to a target from what the right side reads, else from itself."""
-    flows = {(formal.word, formal.word) for formal in procedure.formals}
-    for statement in statements:
+    flows = {(word, word) for word in procedure.words()}
+    for statement in assignments(statements):
         target, read = statement.target.word, {name.word for name in reads(statement.value)}
         kept = {(source, to) for source, to in flows if to != target}
         flows = kept | {(source, target) for source, to in flows if to in read}
     return flows
 
 
-def relation_breaches(flows, relation):
-    """F1: each flow to an export is declared. F2: each declared flow is there."""
-    missing = [Breach('F1', relation.place(export), f'`{export}` depends on `{source}` too')
-               for source, export in sorted(flows - relation.pairs) if export in relation.exported]
-    unused = [Breach('F2', relation.place(export), f'`{export}` does not depend on `{source}`')
-              for source, export in sorted(relation.pairs - flows)]
-    return missing + unused
+def f1_f2(procedure, relation):
+    """F1: each flow from a formal to an export is declared. F2: each declared flow is there."""
+    flows = flows_of(procedure, procedure.statements)
+    to_exports = {(source, to) for source, to in flows if source not in procedure.locals and to in relation.exported}
+    for rule, word, pairs in (('F1', 'missing', to_exports - relation.pairs), ('F2', 'unused', relation.pairs - flows)):
+        for source, to in pairs:
+            text = f'{word}: {procedure.spelled[to]} from {procedure.spelled[source]}'
+            yield Finding(rule, relation.place(to), text)
 
 
 def f3(procedure, relation):
     """F3: from each target there is a flow to an export through the statements behind it."""
-    found = []
-    for at, statement in enumerate(procedure.statements):
+    statements = assignments(procedure.statements)
+    for at, statement in enumerate(statements):
         target = statement.target
-        reached = {to for source, to in flows_of(procedure, procedure.statements[at + 1:]) if source == target.word}
+        reached = {to for source, to in flows_of(procedure, statements[at + 1:]) if source == target.word}
         if not reached & relation.exported:
-            found.append(Breach('F3', target.place, f'`{target.word}` is not used behind this'))
-    return found
+            yield finding('F3', target.place)
 
 
 def f4(procedure, relation):
     """F4: what is read is an import or assigned before it, and so is each export at the end."""
-    found, is_set = [], set(relation.imported)
-    for statement in procedure.statements:
-        found += [Breach('F4', name.place, f'`{name.word}` is unset')
-                  for name in reads(statement.value) if name.word not in is_set]
+    is_set = set(relation.imported)
+    for statement in assignments(procedure.statements):
+        for name in reads(statement.value):
+            if name.word not in is_set:
+                yield unset(procedure, name.word, name.place)
         is_set.add(statement.target.word)
-    left_unset = sorted(relation.exported - is_set)
-    return found + [Breach('F4', procedure.end, f'`{export}` is unset') for export in left_unset]
+    for export in relation.exported - is_set:
+        yield unset(procedure, export, procedure.end)
 
 
-def flow_breaches(procedure):
+def unset(procedure, word, place):
+    """The finding that a variable is unset."""
+    return Finding('F4', place, f'unset: {procedure.spelled[word]}')
+
+
+def flow_findings(procedure):
     """What the declared relation and the body disagree on, what is not used, and what is unset."""
-    relation = Relation(procedure.items)
-    flows = flows_of(procedure, procedure.statements)
-    return relation_breaches(flows, relation) + f3(procedure, relation) + f4(procedure, relation)
+    relation = Relation(procedure.items())
+    return [*f1_f2(procedure, relation), *f3(procedure, relation), *f4(procedure, relation)]
+
+
+def in_order(findings):
+    """Each finding once, by place, rule and text."""
+    return sorted(set(findings), key=lambda told: (told.place.line, told.place.column, told.rule, told.text))
 
 
 # ---------------------------------------------------------------- conditions
@@ -811,8 +976,14 @@ class TruthTerm:
 
 @dataclass(frozen=True, eq=False)
 class EntryTerm:
-    """The value of a variable on entry."""
+    """The value of a variable on entry, also of one that has none."""
     word: str
+
+
+@dataclass(frozen=True, eq=False)
+class MinusTerm:
+    """`- operand`, over a term."""
+    operand: object
 
 
 @dataclass(frozen=True, eq=False)
@@ -823,7 +994,8 @@ class InfixTerm:
     right: object
 
 
-number, truth, entry, infix = cache(NumberTerm), cache(TruthTerm), cache(EntryTerm), cache(InfixTerm)
+number, truth, entry = cache(NumberTerm), cache(TruthTerm), cache(EntryTerm)
+minus, infix = cache(MinusTerm), cache(InfixTerm)
 
 
 @dataclass(frozen=True)
@@ -842,13 +1014,24 @@ def literal(value):
 
 
 def term_of(expression, values):
-    """A static expression stands as its value, and a variable as the term that it was given."""
+    """A static expression stands as its value, and a variable as the term that it was given.
+
+    There are no parentheses and no sign `+` in terms.
+    """
     value = static_value(expression)
     if value is not None:
         return literal(value)
+    if isinstance(expression, Variable):
+        return values[expression.word]
+    parts = [term_of(part, values) for part in parts_of(expression)]
     if isinstance(expression, Operation):
-        return infix(expression.operator, term_of(expression.left, values), term_of(expression.right, values))
-    return values[expression.word]
+        return infix(expression.operator, *parts)
+    return minus(*parts) if is_minus(expression) else parts[0]
+
+
+def is_minus(expression):
+    """Whether the expression is an operand behind a minus."""
+    return isinstance(expression, Signed) and expression.sign == '-'
 
 
 def integer_facts(term):
@@ -863,12 +1046,12 @@ def with_facts(facts, more):
 
 def entry_values(procedure):
     """At the start each variable stands for its value on entry."""
-    return {formal.word: entry(formal.word) for formal in procedure.formals}
+    return {word: entry(word) for word in procedure.words()}
 
 
 def first_facts(procedure):
     """Each import lies in Integer, in the order of the formals; then the precondition holds."""
-    imported, values = Relation(procedure.items).imported, entry_values(procedure)
+    imported, values = Relation(procedure.items()).imported, entry_values(procedure)
     facts = ()
     for formal in procedure.formals:
         if formal.word in imported:
@@ -877,22 +1060,23 @@ def first_facts(procedure):
 
 
 def overflow_checks(expression):
-    """The sums in an expression that are not static, in the order in which they are evaluated."""
-    if not isinstance(expression, Operation) or static_value(expression) is not None:
+    """The sums and minuses in an expression that are not static, in the order in which they are evaluated."""
+    if static_value(expression) is not None:
         return []
-    own = [expression] if expression.operator in ('+', '-') else []
-    return overflow_checks(expression.left) + overflow_checks(expression.right) + own
+    found = [checked for part in parts_of(expression) for checked in overflow_checks(part)]
+    is_sum = isinstance(expression, Operation) and not is_comparison(expression)
+    return found + [expression] if is_sum or is_minus(expression) else found
 
 
 def checks_of(statement):
-    """The checks of a statement, each with the expression that it is on: `overflow` of sums, and then `range`."""
+    """The checks of an assignment, each with the expression that it is on: `overflow`, and then `range`."""
     return [('overflow', part) for part in overflow_checks(statement.value)] + [('range', statement.value)]
 
 
 def conditions_of(procedure):
     """What was shown is a fact from there on, and a target stands for its term behind its assignment."""
     facts, values, found = first_facts(procedure), entry_values(procedure), []
-    for statement in procedure.statements:
+    for statement in assignments(procedure.statements):
         for kind, checked in checks_of(statement):
             goals = integer_facts(term_of(checked, values))
             found.append(Condition(len(found) + 1, kind, checked.place, facts, goals))
@@ -909,6 +1093,8 @@ MIRRORED = {'<': '>', '<=': '>=', '>': '<', '>=': '<='}
 @cache
 def folded(term):
     """Operations on literals are computed, neutral ones dropped, comparisons of a term with itself decided."""
+    if isinstance(term, MinusTerm):
+        return folded_minus(folded(term.operand))
     if not isinstance(term, InfixTerm):
         return term
     left, right = folded(term.left), folded(term.right)
@@ -934,6 +1120,12 @@ def computed(operator, left, right):
     """The literal of an operation on literals, where it has at most 128 bits."""
     value = COMPUTED[operator](left.value, right.value)
     return literal(value) if isinstance(value, bool) or fits(value) else infix(operator, left, right)
+
+
+def folded_minus(operand):
+    """The literal of a minus before a literal, where it has at most 128 bits."""
+    fitting = isinstance(operand, NumberTerm) and fits(-operand.value)
+    return number(-operand.value) if fitting else minus(operand)
 
 
 def folded_and(left, right):
@@ -967,6 +1159,16 @@ def meet(first, second):
     return Interval(max(lows, default=None), min(highs, default=None))
 
 
+def sum_of(left, right):
+    """The sums of two numbers, one of each interval."""
+    return Interval(end_of('+', left.low, right.low), end_of('+', left.high, right.high))
+
+
+def difference(left, right):
+    """The differences of two numbers, one of each interval."""
+    return Interval(end_of('-', left.low, right.high), end_of('-', left.high, right.low))
+
+
 def allowed(operator, number):
     """The numbers x with `x operator number`; `/=` sets no bound."""
     if operator == '=':
@@ -998,14 +1200,14 @@ def all_bounds(hypotheses):
 
 
 def structural(term, known):
-    """A number is itself, a sum or a difference has that of its operands, any other term is unbounded."""
+    """A number is itself, a sum or a difference has that of its operands, `-X` that of `0 - X`; else unbounded."""
     if isinstance(term, NumberTerm):
         return Interval(term.value, term.value)
+    if isinstance(term, MinusTerm):
+        return difference(Interval(0, 0), interval_of(term.operand, known))
     if isinstance(term, InfixTerm) and term.operator in ('+', '-'):
         left, right = interval_of(term.left, known), interval_of(term.right, known)
-        if term.operator == '+':
-            return Interval(end_of('+', left.low, right.low), end_of('+', left.high, right.high))
-        return Interval(end_of('-', left.low, right.high), end_of('-', left.high, right.low))
+        return sum_of(left, right) if term.operator == '+' else difference(left, right)
     return Interval()
 
 
@@ -1058,42 +1260,42 @@ def closes(condition):
 
 @dataclass(frozen=True)
 class Answer:
-    """The report, the status, and the breaches where the report has L1, L2, L3 or P1."""
+    """The report and the status."""
     report: str
     status: int
-    breaches: tuple = ()
 
 
 def program_of(text):
-    """The procedures that a text spells, where they keep every rule; else what keeps it from that is raised."""
+    """The procedures that a text spells, where there is nothing to tell of them; else what there is is raised."""
     scanner = Scanner(text)
     tokens = scanner.run()
     procedures = resolved(Parser(tokens, scanner.place()).file())
-    for layer in (type_breaches, rule_breaches, flow_breaches):
-        breaches = [breach for procedure in procedures for breach in layer(procedure)]
-        if breaches:
-            raise Broken(breaches)
+    for procedure in procedures:
+        require_rules(procedure)
+    findings = in_order(told for procedure in procedures for told in flow_findings(procedure))
+    if findings:
+        raise Refused(*findings)
     return procedures
 
 
-def report_of(name, procedures):
-    """The findings on the conditions, in their order, a line for each procedure, and the last line."""
-    findings, lines = [], []
+def examined(name, procedures):
+    """The findings on the conditions, in their order, and a line for each procedure."""
+    findings, rows = [], []
     for procedure in procedures:
         title, conditions = procedure.name.text, conditions_of(procedure)
         left = [condition for condition in conditions if not closes(condition)]
-        findings += [f'{name}:{condition.place.line}:{condition.place.column}: V1 unproved: {title}.{condition.number} '
-                     f'{condition.kind}' for condition in left]
-        lines.append(f'{title}: {len(conditions)} conditions, {len(conditions) - len(left)} simplified, 0 scripted, '
-                     f'{len(left)} open')
+        findings += [Finding('V1', condition.place, f'unproved: {title}.{condition.number} {condition.kind}')
+                     for condition in left]
+        rows.append(f'{title}: {len(conditions)} conditions, {len(conditions) - len(left)} simplified, 0 scripted, '
+                    f'{len(left)} open')
+    return report_of(name, findings, rows)
+
+
+def report_of(name, findings, rows=()):
+    """The findings, the rows and the last line."""
+    lines = [f'{name}:{told.place.line}:{told.place.column}: {told.rule} {told.text}' for told in findings]
     verdict = f'refused: {len(findings)}' if findings else 'accepted'
-    return Answer('\n'.join(findings + lines + [verdict]) + '\n', 1 if findings else 0)
-
-
-def refusal(name, breach, breaches):
-    """One finding, at the place of this breach."""
-    finding = f'{name}:{breach.place.line}:{breach.place.column}: {breach.rule} {breach.text}'
-    return Answer(f'{finding}\nrefused: 1\n', 1, breaches)
+    return Answer('\n'.join([*lines, *rows, verdict]) + '\n', 1 if findings else 0)
 
 
 def examine(name, text):
@@ -1103,13 +1305,10 @@ def examine(name, text):
     if len(text) > MOST_BYTES:
         return Answer(f'limit: file size, at most {MOST_BYTES}\n', 6)
     try:
-        procedures = program_of(text)
-    except Stopped as stopped:
-        return refusal(name, stopped.breach, (stopped.breach,))
+        return examined(name, program_of(text))
+    except Refused as refused:
+        return report_of(name, refused.findings)
     except TooManyTokens:
         return Answer(f'limit: tokens, at most {MOST_TOKENS}\n', 6)
     except TooNested:
         return Answer(f'limit: nesting, at most {MOST_LEVELS}\n', 6)
-    except Broken as broken:
-        return refusal(name, Breach('P1', Place(1, 1), EXPECTED), broken.breaches)
-    return report_of(name, procedures)

@@ -1,21 +1,27 @@
 #!/usr/bin/env python3
 """The table of texts that the program of crates/spx_table examines, with what is expected of each.
 
-The expectations are decided by the rules of docs/language.md, case by case, and reading.py must agree with each.
+The expectations are decided by the rules of docs/language.md, case by case, and reading.py must agree with each. The
+examples of docs/report.md and docs/guide.md are cases too, each a file of examples/ beside what is printed on it.
 
-    tests/table.py              writes the table and the expected answers: stdin and stdout of crates/spx_table
-    tests/table.py --check      compares them with what is there, and ends with 1 where they differ
-    tests/table.py --breaches   prints which rules the refused texts break
+    tests/table.py           writes the table and the expected answers: stdin and stdout of crates/spx_table
+    tests/table.py --check   compares them with what is there, and the two documents with the examples, and ends with 1
+                             where one differs
 """
 
 import argparse
 import sys
 from dataclasses import dataclass
+from itertools import combinations, product, takewhile
 from pathlib import Path
 
 from reading import ANNOTATION, RESERVED, USAGE, examine
 
-FOLDER = Path(__file__).resolve().parent.parent / 'crates' / 'spx_table'
+TOP = Path(__file__).resolve().parent.parent
+FOLDER = TOP / 'crates' / 'spx_table'
+# The documents with the folders of their examples.
+DOCUMENTS = {TOP / 'docs' / 'report.md': TOP / 'examples' / 'findings',
+             TOP / 'docs' / 'guide.md': TOP / 'examples' / 'guide'}
 
 
 # ---------------------------------------------------------------- cases
@@ -60,41 +66,77 @@ def accepted(name, text, total=2, named='Inc'):
     return examined(name, text, (named, total))
 
 
-def refused(name, text):
-    """A text of the grammar that breaks a rule behind it, which is P1 at 1:1."""
-    return stopped(name, text, 'P1 expected another token', (1, 1))
+# What is told of a breach of each rule that has one text.
+TEXTS = {
+    'L1': 'bad byte',
+    'L2': 'bad number',
+    'L3': 'number too wide',
+    'P1': 'expected another token',
+    'N1': 'name is not declared here',
+    'N2': 'declared twice',
+    'N3': 'name of another kind',
+    'N5': 'end name differs',
+    'N10': 'types do not match',
+    'N12': 'static value out of range',
+    'U2': 'target cannot be assigned',
+    'U7': 'bad derives annotation',
+    'U8': 'mode disagrees with derives',
+    'U11': 'name not allowed in this annotation',
+    'F3': 'ineffective',
+}
+
+
+def refused(name, text, *findings):
+    """The findings stand in order at the `@`s, which are taken out: at two in a row, two at one place.
+
+    Each is a rule that has one text, or a rule and its text.
+    """
+    marks, spelled_out = marked_places(encoded(text))
+    return told(name, spelled_out, marks, findings)
+
+
+def told(name, text, places, findings):
+    """These findings at these places, and nothing else."""
+    assert findings and len(places) == len(findings), name
+    spelled_out = [f'{finding} {TEXTS[finding]}' if finding in TEXTS else finding for finding in findings]
+    lines = [f'{name}:{line}:{column}: {finding}\n' for (line, column), finding in zip(places, spelled_out)]
+    return Case(name, text, ''.join(lines) + f'refused: {len(lines)}\n', 1)
 
 
 def unexpected(name, text, at=None):
     """The token at this place cannot stand there, or the text ends there too early."""
-    return stopped(name, text, 'P1 expected another token', at)
+    return stopped(name, text, 'P1', at)
 
 
 def bad_byte(name, text, at=None):
     """No lexeme and no gap stands at this place."""
-    return stopped(name, text, 'L1 bad byte', at)
+    return stopped(name, text, 'L1', at)
 
 
 def bad_number(name, text, at=None):
     """The number at this place is spoiled by what stands behind it."""
-    return stopped(name, text, 'L2 bad number', at)
+    return stopped(name, text, 'L2', at)
 
 
 def too_wide(name, text, at=None):
     """The number at this place is 2**127 or more."""
-    return stopped(name, text, 'L3 number too wide', at)
+    return stopped(name, text, 'L3', at)
 
 
-def stopped(name, text, finding, at):
+def stopped(name, text, rule, at):
     """The one finding, at this line and column, or at the one `@`, which is taken out."""
     marks, spelled_out = marked_places(encoded(text))
-    [(line, column)] = marks if at is None else marks + [at]
-    return Case(name, spelled_out, f'{name}:{line}:{column}: {finding}\nrefused: 1\n', 1)
+    return told(name, spelled_out, marks if at is None else marks + [at], (rule,))
 
 
 def too_nested(name, text):
     """More than 200 levels come before anything else that is wrong."""
     return Case(name, encoded(text), 'limit: nesting, at most 200\n', 6)
+
+
+def reported(name, text, *lines):
+    """The whole report, line by line."""
+    return Case(name, encoded(text), ''.join(line + '\n' for line in lines), 0 if lines[-1] == 'accepted' else 1)
 
 
 def unproved(name, text, named='Inc', at=None):
@@ -158,18 +200,33 @@ def procedure(value='X + 1', pre=None, formals='X', mode='in out', derives='X fr
     return '\n'.join(lines) + '\n'
 
 
-def longer(params, derives, *statements, pre=None, name='Inc'):
-    """The text of a procedure with these parameters and statements, each without its semicolon."""
-    lines = [f'procedure {name} ({params})', f'--# derives {derives};']
-    if pre is not None:
-        lines.append(f'--# pre {pre};')
-    lines += ['is', 'begin'] + [f'   {statement};' for statement in statements] + [f'end {name};']
+def longer(params, derives, *statements, pre=None, declared=(), name='Inc'):
+    """The text of a procedure with these statements and declarations, each without its semicolon.
+
+    There are no formals, no `derives` and no precondition where they are none.
+    """
+    lines = [f'procedure {name}' if params is None else f'procedure {name} ({params})']
+    lines += [f'--# {word} {text};' for word, text in (('derives', derives), ('pre', pre)) if text is not None]
+    lines += ['is'] + [f'   {declaration};' for declaration in declared]
+    lines += ['begin'] + [f'   {statement};' for statement in statements] + [f'end {name};']
     return '\n'.join(lines) + '\n'
 
 
 def cut(value):
     """The text of a procedure up to the end of the value that it assigns."""
     return procedure(value, **OUT).split(';\nend')[0]
+
+
+def at_derives(text):
+    """The text with an `@` at its one word `derives`."""
+    before, behind = text.split('--# derives')
+    return f'{before}--# @derives{behind}'
+
+
+def at_end(text, marks='@'):
+    """The text of a procedure with an `@` at its word `end`, or with several of them."""
+    before, behind = text.rsplit('\nend', 1)
+    return f'{before}\n{marks}end{behind}'
 
 
 def short(name, formal='X'):
@@ -194,6 +251,11 @@ IN_OUT_AB = 'A, B : in out Integer'
 BOTH = 'A, B from A, B'
 SWAP = 'A, B : in out Integer; T : out Integer'
 SWAPPED = 'A from B & B, T from A'
+X_TO_XY = 'X : in out Integer; Y : out Integer'
+
+# Declarations of locals.
+T = ('T : Integer',)
+T_AND_U = ('T, U : Integer',)
 
 OTHER_BYTES = {
     'nul': b'\0',
@@ -209,7 +271,7 @@ OTHER_BYTES = {
     'byte_255': b'\xff',
 }
 
-# The tokens of a text, each with its label and one that cannot stand in its place; what has no label stays.
+# The tokens of a text, each with its label and one that cannot stand in its place. A token without a label stays.
 TOKENS = (
     ('procedure', 'procedure', 'function'),
     ('name', 'Inc', '1'),
@@ -252,22 +314,121 @@ TOKENS = (
 )
 
 
+
+def plain(text):
+    """The tokens of a text, which have no label."""
+    return tuple((None, token, None) for token in text.split(' '))
+
+
+# A text with locals, `null`, signs and parentheses.
+LOCAL_TOKENS = (
+    *plain('procedure Neg ( A : Integer ; X : out Integer ) \n--# derives X from A ; \n--# pre'),
+    ('parenthesis_in_pre', '(', '['),
+    ('sign_in_pre', '-', '*'),
+    ('operand_in_pre', 'A', 'null'),
+    ('closing_parenthesis_in_pre', ')', ']'),
+    *plain('< 5 ; \n is \n'),
+    ('local', 'T', '1'),
+    ('comma_of_locals', ',', ';'),
+    ('second_local', 'U', 'null'),
+    ('colon_of_locals', ':', ':='),
+    ('type_of_locals', 'Integer', 'in'),
+    ('semicolon_of_locals', ';', ','),
+    *plain('\n begin \n'),
+    ('null', 'null', 'return'),
+    ('semicolon_of_null', ';', ':'),
+    *plain('\n T :='),
+    ('sign', '-', '*'),
+    ('parenthesis', '(', '['),
+    ('held_operand', 'A', 'null'),
+    ('parenthesis_that_closes', ')', ']'),
+    *plain('; \n X :='),
+    ('parenthesis_of_a_sum', '(', '<'),
+    ('first_held_operand', 'T', '='),
+    ('held_operator', '+', '/'),
+    ('last_held_operand', '1', 'not'),
+    ('parenthesis_that_closes_a_sum', ')', '..'),
+    ('operator_behind_parentheses', '-', '&'),
+    *plain('1 ; \n end Neg ;'),
+)
+
+# A text of the grammar with an attribute in each place of a name, which breaks the rules on names.
+ATTRIBUTE_TOKENS = (
+    *plain('procedure Att ( A : in Integer'),
+    ('apostrophe_of_a_type', "'", '.'),
+    ('designator_of_a_type', 'Base', 'range'),
+    *plain('; X : out Integer ) \n--# derives X'),
+    ('apostrophe_of_an_export', "'", '~'),
+    ('designator_of_an_export', 'First', 'own'),
+    *plain('from A'),
+    ('apostrophe_of_an_import', "'", '->'),
+    ('designator_of_an_import', 'Last', 'all'),
+    *plain(', X'),
+    ('apostrophe_of_a_second_import', "'", ':'),
+    ('designator_of_a_second_import', 'First', 'some'),
+    *plain('; \n is \n T : Integer'),
+    ('apostrophe_of_a_type_of_locals', "'", ':='),
+    ('designator_of_a_type_of_locals', 'Base', '1'),
+    *plain('; \n begin \n X'),
+    ('apostrophe_of_a_target', "'", '('),
+    ('designator_of_a_target', 'First', 'access'),
+    *plain(':= A ; \n end ;'),
+)
+
+# A text without formals.
+SKIP_TOKENS = (
+    ('procedure_without_formals', 'procedure', 'package'),
+    ('name_without_formals', 'Skip', '1'),
+    ('is_without_formals', 'is', 'return'),
+    ('begin_without_formals', 'begin', 'do'),
+    ('null_without_formals', 'null', 'exit'),
+    ('semicolon_of_null_without_formals', ';', ','),
+    ('end_without_formals', 'end', 'begin'),
+    ('last_semicolon_without_formals', ';', '.'),
+)
+
+TOKEN_LISTS = (TOKENS, LOCAL_TOKENS, ATTRIBUTE_TOKENS, SKIP_TOKENS)
+
+# What a text is without a token: which token behind it is unexpected, if not the next one; or a finding, and the token
+# at which it stands; or that it is accepted.
+# The name behind `end`, and the one behind `begin`, are a target and a local where the word is missing.
+MISSING = {'in': ('U8', 'import'), 'out': ('U8', 'export'), 'import': ('U8', 'export'),
+           'left_operand': ('F2 unused: X from X', 'export'), 'end_name': accepted,
+           'begin': 2, 'end': 2, 'parenthesis_in_pre': 3, 'closing_parenthesis_in_pre': 3, 'parenthesis': 2,
+           'parenthesis_of_a_sum': 4, 'parenthesis_that_closes_a_sum': 3,
+           # see `missing_signs`
+           'sign': None, 'sign_in_pre': None, 'first_held_operand': None}
+# What a text is with a token doubled: which token behind the second one is unexpected, if not that one.
+DOUBLED = {'parenthesis_in_pre': 6, 'parenthesis': 3, 'parenthesis_of_a_sum': 7}
+# What a text is with another token instead: which token behind it is unexpected, if not itself; or a finding, and the
+# token at which it stands. `on` is the type where `in` was, and another parameter may come behind `;`.
+EXCHANGED = {'type': ('N1', 'type'), 'left_of_the_relation': ('N1', 'left_of_the_relation'), 'prefix': ('N3', 'prefix'),
+             'designator': ('N3', 'prefix'), 'end_name': ('N5', 'end_name'), 'in': 1, 'closing_parenthesis': 1}
+SPOILED = {'opening_parenthesis': bad_byte, 'parenthesis': bad_byte, 'parenthesis_that_closes': bad_byte,
+           'right_operand': bad_number}
+
+
 def spelled(tokens):
     """The text of tokens, with a space between two of a line, and no empty line."""
     lines = ' '.join(token for _, token, _ in tokens).split('\n')
     return ''.join(line.strip(' ') + '\n' for line in lines if line.strip(' '))
 
 
-def with_tokens(at, *instead, shown=0):
+def with_tokens(tokens, at, *instead, shown=0):
     """The text with these tokens in the place of one; an `@` shows the token that stands so many behind them."""
-    behind = list(TOKENS[at + 1:])
+    behind = list(tokens[at + 1:])
     if shown:
-        places = [place for place, (label, _, _) in enumerate(behind) if label]
+        places = [place for place, (_, token, _) in enumerate(behind) if not token.startswith('\n')]
         if shown > len(places):
-            return with_tokens(at, *instead) + '@'
+            return with_tokens(tokens, at, *instead) + '@'
         label, token, other = behind[places[shown - 1]]
         behind[places[shown - 1]] = (label, '@' + token, other)
-    return spelled(TOKENS[:at] + tuple((None, token, None) for token in instead) + tuple(behind))
+    return spelled(tokens[:at] + tuple((None, token, None) for token in instead) + tuple(behind))
+
+
+def at_token(tokens, label):
+    """The tokens with an `@` at the one of this label."""
+    return tuple((name, '@' + token if name == label else token, other) for name, token, other in tokens)
 
 
 def form():
@@ -284,8 +445,8 @@ def form():
     yield accepted('mode_out_static_sum.adb', procedure('1 + 2', **OUT), 1)
     yield accepted('mode_out_static_difference.adb', procedure(LAST + ' - 1', **OUT), 1)
     yield accepted('mode_out_precondition_without_variables.adb', procedure('5', pre='0 < 1', **OUT), 1)
-    yield refused('mode_in.adb', procedure(mode='in', pre=BELOW))
-    yield refused('mode_unwritten.adb', procedure(mode='', pre=BELOW))
+    yield refused('mode_in.adb', procedure(mode='in', derives='@X from X', pre=BELOW), 'U8')
+    yield refused('mode_unwritten.adb', procedure(mode='', derives='@X from X', pre=BELOW), 'U8')
     yield unexpected('mode_out_in.adb', procedure(mode='out in', pre=BELOW), at=(1, 24))
     yield unexpected('mode_access.adb', procedure(mode='access', pre=BELOW), at=(1, 20))
     yield accepted('copy_of_itself.adb', COPY, 1)
@@ -423,22 +584,22 @@ def numbers():
     yield accepted('leading_zeros.adb', procedure('X + 0001', pre='X < 0002147483647'))
     yield accepted('sixty_zeros.adb', procedure('X + ' + '0' * 60 + '1', pre=BELOW))
     yield accepted('largest_integer.adb', procedure('2147483647', **OUT), 1)
-    yield refused('past_the_largest_integer.adb', procedure('2147483648', **OUT))
+    yield refused('past_the_largest_integer.adb', procedure('@2147483648', **OUT), 'N12')
     yield accepted('smallest_integer_as_a_difference.adb', procedure('0 - 2147483648', **OUT), 1)
-    yield refused('past_the_smallest_integer.adb', procedure('0 - 2147483649', **OUT))
+    yield refused('past_the_smallest_integer.adb', procedure('0 @- 2147483649', **OUT), 'N12')
     yield accepted('difference_of_wide_literals.adb', procedure('2147483648 - 1', **OUT), 1)
-    yield refused('sum_past_the_largest_integer.adb', procedure('2147483647 + 1', **OUT))
-    yield refused('sum_of_last_and_one.adb', procedure(LAST + ' + 1', **OUT))
-    yield refused('difference_of_first_and_one.adb', procedure(FIRST + ' - 1', **OUT))
+    yield refused('sum_past_the_largest_integer.adb', procedure('2147483647 @+ 1', **OUT), 'N12')
+    yield refused('sum_of_last_and_one.adb', procedure(LAST + ' @+ 1', **OUT), 'N12')
+    yield refused('difference_of_first_and_one.adb', procedure(FIRST + ' @- 1', **OUT), 'N12')
     yield accepted('last_and_zero.adb', procedure(LAST + ' + 0', **OUT), 1)
     yield accepted('first_and_last.adb', procedure(FIRST + ' + ' + LAST, **OUT), 1)
-    yield refused('last_minus_first.adb', procedure(LAST + ' - ' + FIRST, **OUT))
-    yield refused('wide_literal_beside_first.adb', procedure(FIRST + ' + 2147483648', **OUT))
-    yield refused('wide_literal_before_first.adb', procedure('2147483648 + ' + FIRST, **OUT))
-    yield refused('wide_literal_beside_a_variable.adb', procedure('X + 2147483648', pre='X < 0'))
-    yield refused('wide_literal_before_a_variable.adb', procedure('2147483648 - X', pre='X > 0'))
-    yield refused('wide_literal_in_a_comparison_with_a_variable.adb', procedure(pre='X < 2147483648'))
-    yield refused('wide_literal_in_a_comparison_with_last.adb', procedure(pre=LAST + ' < 2147483648'))
+    yield refused('last_minus_first.adb', procedure(LAST + ' @- ' + FIRST, **OUT), 'N12')
+    yield refused('wide_literal_beside_first.adb', procedure(FIRST + ' + @2147483648', **OUT), 'N12')
+    yield refused('wide_literal_before_first.adb', procedure('@2147483648 + ' + FIRST, **OUT), 'N12')
+    yield refused('wide_literal_beside_a_variable.adb', procedure('X + @2147483648', pre='X < 0'), 'N12')
+    yield refused('wide_literal_before_a_variable.adb', procedure('@2147483648 - X', pre='X > 0'), 'N12')
+    yield refused('wide_literal_in_a_comparison_with_a_variable.adb', procedure(pre='X < @2147483648'), 'N12')
+    yield refused('wide_literal_in_a_comparison_with_last.adb', procedure(pre=LAST + ' < @2147483648'), 'N12')
     yield accepted('wide_literals_compared.adb', procedure('1', pre='2147483648 > 2147483647', **OUT), 1)
     yield accepted('wide_literals_compared_falsely.adb', procedure(pre='4294967296 < 1'))
     yield accepted('widest_literal.adb', procedure('1', pre=WIDEST + ' > 0', **OUT), 1)
@@ -448,9 +609,9 @@ def numbers():
     yield accepted('difference_of_equal_widest_literals.adb', procedure(WIDEST + ' - ' + WIDEST, **OUT), 1)
     yield too_wide('past_the_widest_literal_in_a_difference.adb',
                    procedure(TOO_WIDE + ' - ' + TOO_WIDE, **OUT), at=(5, 9))
-    yield refused('sum_past_the_widest_literal.adb', procedure(WIDEST + ' + 1', **OUT))
-    yield refused('widest_literal_assigned.adb', procedure(WIDEST, **OUT))
-    yield refused('widest_literal_in_a_comparison_with_a_variable.adb', procedure(pre='X < ' + WIDEST))
+    yield refused('sum_past_the_widest_literal.adb', procedure(WIDEST + ' @+ 1', **OUT), 'N12')
+    yield refused('widest_literal_assigned.adb', procedure('@' + WIDEST, **OUT), 'N12')
+    yield refused('widest_literal_in_a_comparison_with_a_variable.adb', procedure(pre='X < @' + WIDEST), 'N12')
     yield accepted('widest_literal_behind_zeros.adb', procedure('1', pre='000' + WIDEST + ' = ' + WIDEST, **OUT), 1)
     yield bad_number('number_with_underscore.adb', procedure('X + 1_000', pre='X < 0'), at=(6, 13))
     yield bad_number('number_with_trailing_underscore.adb', procedure('X + 1_', pre='X < 0'), at=(6, 13))
@@ -470,8 +631,8 @@ def numbers():
     yield accepted('number_before_a_delimiter.adb', procedure('X+1', pre='0>X'))
     yield accepted('number_before_a_line_end.adb', procedure('X + 1\n', pre='X < 0\n--#'))
     yield unexpected('two_numbers.adb', procedure('1 2', **OUT), at=(5, 11))
-    yield unexpected('minus_sign.adb', procedure('-1', **OUT), at=(5, 9))
-    yield unexpected('plus_sign.adb', procedure('+1', **OUT), at=(5, 9))
+    yield accepted('minus_sign.adb', procedure('-1', **OUT), 1)
+    yield accepted('plus_sign.adb', procedure('+1', **OUT), 1)
     yield unexpected('minus_sign_behind_an_operator.adb', procedure('X + -1', pre=ABOVE), at=(6, 13))
 
 
@@ -487,9 +648,10 @@ def places():
     yield unexpected('end_behind_procedure_and_an_empty_mark.adb', 'procedure\n--#@')
     yield unexpected('end_behind_a_carriage_return.adb', 'procedure\r@')
     yield unexpected('end_behind_a_comment_of_two_bytes_a_letter.adb', 'procedure -- é@')
-    for place, (label, _, _) in enumerate(TOKENS):
-        if label and label != 'last_semicolon':
-            yield unexpected(f'cut_behind_{label}.adb', ' '.join(token for _, token, _ in TOKENS[:place + 1]) + '@')
+    for listed in TOKEN_LISTS:
+        for place, (label, _, _) in enumerate(listed[:-1]):
+            if label:
+                yield unexpected(f'cut_behind_{label}.adb', ' '.join(token for _, token, _ in listed[:place + 1]) + '@')
     # what stands in front
     yield unexpected('tabs_in_front.adb', INC.replace('   X :=', '\t\tX\t@='))
     yield unexpected('carriage_returns_in_front.adb', INC.replace('\n', '\r\n').replace('X +', 'X\r@*'))
@@ -695,17 +857,17 @@ def marks():
     yield unexpected('unmarked_derives.adb', INC.replace('--# derives', 'derives'), at=(2, 1))
     yield unexpected('unmarked_pre.adb', INC.replace('--# pre', 'pre'), at=(3, 1))
     yield unexpected('unmarked_semicolon.adb', INC.replace('from X;', 'from X\n;'), at=(3, 1))
-    yield unexpected('commented_derives.adb', INC.replace('--# derives', '-- derives'), at=(3, 5))
+    yield refused('commented_derives.adb', '@' + INC.replace('--# derives', '-- derives'), 'U7')
     yield accepted('commented_pre.adb', procedure('X', pre='Y < 0').replace('--# pre', '-- pre'), 1)
     yield unproved('commented_pre_does_not_help.adb', procedure('X @+ 1', pre=BELOW).replace('--# pre', '-- pre'))
-    yield unexpected('mark_with_a_space.adb', INC.replace('--# derives', '-- # derives'), at=(3, 5))
+    yield refused('mark_with_a_space.adb', '@' + INC.replace('--# derives', '-- # derives'), 'U7')
     yield unproved('mark_with_a_space_before_pre.adb', procedure('X @+ 1', pre=BELOW).replace('--# pre', '-- # pre'))
-    yield unexpected('mark_with_a_tab.adb', INC.replace('--# derives', '--\t# derives'), at=(3, 5))
+    yield refused('mark_with_a_tab.adb', '@' + INC.replace('--# derives', '--\t# derives'), 'U7')
     yield bad_byte('mark_with_a_space_between_its_hyphens.adb', INC.replace('--# derives', '- -# derives'), at=(2, 4))
     yield bad_byte('mark_with_one_hyphen.adb', INC.replace('--# derives', '-# derives'), at=(2, 2))
-    yield unexpected('mark_with_three_hyphens.adb', INC.replace('--# derives', '---# derives'), at=(3, 5))
+    yield refused('mark_with_three_hyphens.adb', '@' + INC.replace('--# derives', '---# derives'), 'U7')
     yield bad_byte('mark_with_two_hashes.adb', INC.replace('--# derives', '--## derives'), at=(2, 4))
-    yield unexpected('mark_twice.adb', INC.replace('--# derives', '--# --# derives'), at=(3, 5))
+    yield refused('mark_twice.adb', '@' + INC.replace('--# derives', '--# --# derives'), 'U7')
     yield bad_byte('hash_alone.adb', INC.replace('--# derives', '# derives'), at=(2, 1))
     yield bad_byte('hash_behind_a_mark.adb', INC + '--# #\n', at=(8, 5))
     yield unexpected('is_in_the_line_of_an_annotation.adb', INC.replace(';\nis', '; is'), at=(3, 27))
@@ -721,24 +883,23 @@ def marks():
     yield unexpected('mark_in_the_middle_of_code.adb', procedure('X --# + 1;\n', pre=BELOW), at=(6, 15))
     yield unexpected('derives_behind_is.adb',
                      'procedure Inc (X : in out Integer)\nis\n--# derives X from X;\nbegin\n   X := X;\nend Inc;\n',
-                     at=(2, 1))
+                     at=(3, 5))
     yield unexpected('derives_behind_begin.adb',
                      'procedure Inc (X : in out Integer)\nis\nbegin\n--# derives X from X;\n   X := X;\nend Inc;\n',
-                     at=(2, 1))
+                     at=(4, 5))
     yield unexpected('derives_behind_the_end.adb',
                      'procedure Inc (X : in out Integer)\nis\nbegin\n   X := X;\nend Inc;\n--# derives X from X;\n',
-                     at=(2, 1))
+                     at=(6, 5))
     yield unexpected('derives_before_the_heading.adb',
                      '--# derives X from X;\nprocedure Inc (X : in out Integer)\nis\nbegin\n   X := X;\nend Inc;\n',
                      at=(1, 5))
-    yield unexpected('no_derives.adb',
-                     'procedure Inc (X : in out Integer)\nis\nbegin\n   X := X;\nend Inc;\n', at=(2, 1))
+    yield refused('no_derives.adb', '@procedure Inc (X : in out Integer)\nis\nbegin\n   X := X;\nend Inc;\n', 'U7')
     yield unexpected('derives_twice.adb', COPY.replace('is\n', '--# derives X from X;\nis\n'), at=(3, 5))
     yield unexpected('pre_before_derives.adb',
                      'procedure Inc (X : in out Integer)\n--# pre X < 0;\n--# derives X from X;\nis\nbegin\n'
-                     '   X := X;\nend Inc;\n', at=(2, 5))
-    yield unexpected('pre_without_derives.adb',
-                     'procedure Inc (X : in out Integer)\n--# pre X < 0;\nis\nbegin\n   X := X;\nend Inc;\n', at=(2, 5))
+                     '   X := X;\nend Inc;\n', at=(3, 5))
+    yield refused('pre_without_derives.adb',
+                  '@procedure Inc (X : in out Integer)\n--# pre X < 0;\nis\nbegin\n   X := X;\nend Inc;\n', 'U7')
     yield unexpected('pre_twice.adb', procedure('X', pre='X < 0').replace('is\n', '--# pre X < 0;\nis\n'), at=(4, 5))
     yield unexpected('pre_behind_is.adb', COPY.replace('is\n', 'is\n--# pre X < 0;\n'), at=(4, 5))
     yield unexpected('annotation_behind_the_end.adb', INC + '--# pre X < 0;\n', at=(8, 5))
@@ -767,38 +928,51 @@ def other_bytes():
 def tokens():
     """Each token of a text missing, doubled, and exchanged for another."""
     yield accepted('form.adb', spelled(TOKENS))
-    for at, (label, token, other) in enumerate(TOKENS):
-        if label:
-            yield missing(at, label)
-            yield unexpected(f'doubled_{label}.adb', with_tokens(at, token, '@' + token))
-            yield exchanged(at, label, other)
+    yield accepted('form_with_locals.adb', spelled(LOCAL_TOKENS), 5, named='Neg')
+    yield refused('form_with_attributes.adb', spelled(ATTRIBUTE_TOKENS).replace('in Integer', 'in @Integer'), 'N3')
+    yield accepted('form_without_formals.adb', spelled(SKIP_TOKENS), 0, named='Skip')
+    for listed in TOKEN_LISTS:
+        for at, (label, token, other) in enumerate(listed):
+            if label:
+                yield from missing(listed, at, label)
+                yield doubled(listed, at, label, token)
+                yield exchanged(listed, at, label, other)
 
 
-def missing(at, label):
-    """Without the token the next one is unexpected, if the text is not of the grammar still."""
-    name = f'missing_{label}.adb'
-    if label == 'end_name':
-        return accepted(name, with_tokens(at))
-    if label in ('in', 'out', 'import'):
-        return refused(name, with_tokens(at))
-    # The name behind `end` is a target where `end` is missing, and the end of the text is behind the last token.
-    return unexpected(name, with_tokens(at, shown=2 if label == 'end' else 1))
+def missing(listed, at, label):
+    """Without the token one behind it is unexpected, if the text is not of the grammar still."""
+    name, decided = f'missing_{label}.adb', MISSING.get(label, 1)
+    if isinstance(decided, int):
+        yield unexpected(name, with_tokens(listed, at, shown=decided))
+    elif isinstance(decided, tuple):
+        finding, shown = decided
+        yield refused(name, with_tokens(at_token(listed, shown), at), finding)
+    elif decided:
+        yield decided(name, with_tokens(listed, at))
 
 
-def exchanged(at, label, other):
+def doubled(listed, at, label, token):
+    """The second token is unexpected, or one behind it."""
+    name = f'doubled_{label}.adb'
+    if label in DOUBLED:
+        return unexpected(name, with_tokens(listed, at, token, token, shown=DOUBLED[label]))
+    return unexpected(name, with_tokens(listed, at, token, '@' + token))
+
+
+def exchanged(listed, at, label, other):
     """Another token is unexpected where it stands, if it is one and the text is not of the grammar still."""
-    name = f'exchanged_{label}.adb'
-    if label in ('type', 'left_of_the_relation', 'prefix', 'designator', 'end_name'):
-        return refused(name, with_tokens(at, other))
-    # `on` is the type where `in` was, and another parameter may come behind `;`.
-    if label in ('in', 'closing_parenthesis'):
-        return unexpected(name, with_tokens(at, other, shown=1))
-    answer_of = {'opening_parenthesis': bad_byte, 'right_operand': bad_number}.get(label, unexpected)
-    return answer_of(name, with_tokens(at, '@' + other))
+    name, decided = f'exchanged_{label}.adb', EXCHANGED.get(label)
+    if isinstance(decided, int):
+        return unexpected(name, with_tokens(listed, at, other, shown=decided))
+    if decided:
+        finding, shown = decided
+        instead = '@' + other if shown == label else other
+        return refused(name, with_tokens(at_token(listed, shown), at, instead), finding)
+    return SPOILED.get(label, unexpected)(name, with_tokens(listed, at, '@' + other))
 
 
 def grammar():
-    """Other breaches of the grammar."""
+    """Other breaches of the grammar, and texts near to them."""
     yield unexpected('text_behind_the_procedure.adb', INC + 'end\n', at=(8, 1))
     yield unexpected('semicolon_behind_the_procedure.adb', INC + ';\n', at=(8, 1))
     yield unexpected('context_clause.adb', 'with Ada.Text_IO;\n' + INC, at=(1, 1))
@@ -808,7 +982,8 @@ def grammar():
                      'procedure Inc (X : in out Integer);\n--# derives X from X;\n', at=(1, 35))
     yield unexpected('function.adb',
                      'function Inc (X : Integer) return Integer\nis\nbegin\n   return X;\nend Inc;\n', at=(1, 1))
-    yield unexpected('no_parameters.adb', COPY.replace(' (X : in out Integer)', ''), at=(2, 5))
+    yield refused('no_parameters.adb',
+                  COPY.replace(' (X : in out Integer)', '').replace('derives X', 'derives @X'), 'N1')
     yield unexpected('empty_parentheses.adb', COPY.replace('(X : in out Integer)', '()'), at=(1, 16))
     yield unexpected('semicolon_behind_the_parameters.adb', procedure('X', type_mark='Integer;'), at=(1, 35))
     yield unexpected('comma_behind_the_formals.adb', procedure('X', formals='X,'), at=(1, 19))
@@ -816,19 +991,19 @@ def grammar():
                      procedure('A', formals='A B', target='A', derives='A, B from *'), at=(1, 18))
     yield unexpected('no_formals.adb', procedure('X', formals=''), at=(1, 17))
     yield unexpected('default_value.adb', procedure('X', type_mark='Integer := 0'), at=(1, 35))
-    yield unexpected('type_with_attribute.adb', procedure('X', type_mark="Integer'Base"), at=(1, 34))
+    yield refused('type_with_attribute.adb', procedure('X', type_mark="@Integer'Base"), 'N3')
     yield unexpected('no_statement.adb', COPY.replace('   X := X;\n', ''), at=(5, 1))
-    yield unexpected('null_statement.adb', COPY.replace('X := X', 'null'), at=(5, 4))
+    yield accepted('null_statement.adb', COPY.replace('X := X', 'null'), 0)
     yield unexpected('empty_statement.adb', COPY.replace('X := X;', ';'), at=(5, 4))
     yield unexpected('call.adb', COPY.replace('X := X', 'Inc (X)'), at=(5, 8))
     yield unexpected('if_statement.adb', COPY.replace('X := X;', 'if X > 0 then X := X; end if;'), at=(5, 4))
-    yield unexpected('local_variable.adb', COPY.replace('is\n', 'is\n   Y : Integer;\n'), at=(4, 4))
-    yield unexpected('attribute_for_a_target.adb', procedure('X', target="Integer'Last"), at=(5, 11))
+    yield accepted('local_variable.adb', COPY.replace('is\n', 'is\n   Y : Integer;\n'), 1)
+    yield refused('attribute_for_a_target.adb', procedure('X', target="@Integer'Last"), 'N3')
     yield unexpected('two_targets.adb', procedure('A', formals='A, B', target='A, B', derives='A, B from *'), at=(5, 5))
     yield unexpected('product.adb', procedure('X * 2', pre='X = 0'), at=(6, 11))
     yield unexpected('power.adb', procedure('X ** 2', pre='X = 0'), at=(6, 11))
-    yield unexpected('parentheses.adb', procedure('(X)'), at=(5, 9))
-    yield unexpected('parentheses_around_a_number.adb', procedure('X + (1)', pre=BELOW), at=(6, 13))
+    yield accepted('parentheses.adb', procedure('(X)'), 1)
+    yield accepted('parentheses_around_a_number.adb', procedure('X + (1)', pre=BELOW))
     yield unexpected('no_expression.adb', procedure('', **OUT), at=(5, 9))
     yield unexpected('attribute_of_an_attribute.adb', procedure("Integer'First'Last", **OUT), at=(5, 22))
     yield unexpected('attribute_of_a_number.adb', procedure("1'First", **OUT), at=(5, 10))
@@ -837,11 +1012,11 @@ def grammar():
     yield unexpected('pre_with_and.adb', procedure('X', pre='X < 5 and X > 0'), at=(3, 15))
     yield unexpected('pre_with_not.adb', procedure('X', pre='not X = 0'), at=(3, 9))
     yield unexpected('pre_with_implication.adb', procedure('X', pre='X = 0 -> X = 0'), at=(3, 15))
-    yield unexpected('pre_in_parentheses.adb', procedure('X', pre='(X < 5)'), at=(3, 9))
-    yield refused('pre_with_true.adb', procedure('X', pre='True'))
+    yield accepted('pre_in_parentheses.adb', procedure('X', pre='(X < 5)'), 1)
+    yield refused('pre_with_true.adb', procedure('X', pre='@True'), 'N1')
     yield unexpected('pre_with_entry_value.adb', procedure('X', pre='X~ = 0'), at=(3, 10))
     yield unexpected('empty_pre.adb', procedure('X', pre=''), at=(3, 9))
-    yield unexpected('pre_with_minus_sign.adb', procedure('X - 1', pre='X > -5'), at=(3, 13))
+    yield accepted('pre_with_minus_sign.adb', procedure('X - 1', pre='X > -5'))
     yield unexpected('derives_without_from.adb', procedure('X', derives='X'), at=(2, 14))
     yield unexpected('derives_without_export.adb', procedure('X', derives='from X'), at=(2, 13))
     yield unexpected('ampersand_at_the_end.adb', procedure('X', derives='X from X &'), at=(2, 23))
@@ -858,109 +1033,125 @@ def grammar():
     yield unexpected('star_without_comma.adb',
                      procedure('A + B', derives='A from * B & B from *', pre='B = 0', **AB), at=(2, 22))
     yield unexpected('number_for_an_import.adb', procedure('X', derives='X from 1'), at=(2, 20))
-    yield unexpected('attribute_for_an_import.adb', procedure('X', derives="X from Integer'First"), at=(2, 27))
+    yield refused('attribute_for_an_import.adb', procedure('X', derives="X from @Integer'First"), 'N3')
     yield unexpected('reserved_word_for_an_end_name.adb', procedure('X', end='procedure'), at=(6, 5))
     yield unexpected('two_end_names.adb', procedure('X', end='Inc Inc'), at=(6, 9))
 
 
 def names():
     """What names denote."""
-    yield refused('undeclared_target.adb', procedure('X', target='Y'))
-    yield refused('undeclared_left_operand.adb', procedure('Y + X', pre='X = 0'))
-    yield refused('undeclared_right_operand.adb', procedure('X + Y', pre='X = 0'))
-    yield refused('undeclared_export.adb', procedure('X', derives='X, Y from X'))
-    yield refused('undeclared_import.adb', procedure('X', derives='X from X, Y'))
-    yield refused('undeclared_in_pre_left.adb', procedure('X', pre='Y < 0'))
-    yield refused('undeclared_in_pre_right.adb', procedure('X', pre='0 < Y'))
-    yield refused('undeclared_type.adb', procedure('X', type_mark='Count'))
-    yield refused('undeclared_natural.adb', procedure('X', type_mark='Natural'))
-    yield refused('undeclared_prefix.adb', procedure('X', pre="X < Count'Last"))
-    yield refused('undeclared_true.adb', procedure('True', **OUT))
-    yield refused('formal_twice.adb', procedure('X', formals='X, X'))
-    yield refused('formal_twice_in_two_cases.adb', procedure('X', formals='X, x'))
-    yield refused('formal_twice_apart.adb', procedure('A', formals='A, B, a', target='A', derives='A, B from *'))
+    yield refused('undeclared_target.adb', procedure('X', target='@Y'), 'N1')
+    yield refused('undeclared_left_operand.adb', procedure('@Y + X', pre='X = 0'), 'N1')
+    yield refused('undeclared_right_operand.adb', procedure('X + @Y', pre='X = 0'), 'N1')
+    yield refused('undeclared_export.adb', procedure('X', derives='X, @Y from X'), 'N1')
+    yield refused('undeclared_import.adb', procedure('X', derives='X from X, @Y'), 'N1')
+    yield refused('undeclared_in_pre_left.adb', procedure('X', pre='@Y < 0'), 'N1')
+    yield refused('undeclared_in_pre_right.adb', procedure('X', pre='0 < @Y'), 'N1')
+    yield refused('undeclared_type.adb', procedure('X', type_mark='@Count'), 'N1')
+    yield refused('undeclared_natural.adb', procedure('X', type_mark='@Natural'), 'N1')
+    yield refused('undeclared_prefix.adb', procedure('X', pre="X < @Count'Last"), 'N1')
+    yield refused('undeclared_true.adb', procedure('@True', **OUT), 'N1')
+    yield refused('formal_twice.adb', procedure('X', formals='X, @X'), 'N2')
+    yield refused('formal_twice_in_two_cases.adb', procedure('X', formals='X, @x'), 'N2')
+    yield refused('formal_twice_apart.adb',
+                  procedure('A', formals='A, B, @a', target='A', derives='A, B from *'), 'N2')
     yield refused('integer_for_a_formal.adb',
-                  procedure('Integer', formals='Integer', target='Integer', derives='Integer from Integer'))
+                  procedure('Integer', formals='@Integer', target='Integer', derives='Integer from Integer'), 'N2')
     yield refused('integer_among_the_formals.adb',
-                  procedure('A', formals='A, INTEGER', target='A', derives='A, INTEGER from *'))
-    yield refused('integer_for_the_procedure.adb', procedure('X', name='Integer', end='Integer'))
-    yield refused('integer_for_the_procedure_in_upper_case.adb', procedure('X', name='INTEGER', end=None))
+                  procedure('A', formals='A, @INTEGER', target='A', derives='A, INTEGER from *'), 'N2')
+    yield refused('integer_for_the_procedure.adb', procedure('X', name='@Integer', end='Integer'), 'N2')
+    yield refused('integer_for_the_procedure_in_upper_case.adb', procedure('X', name='@INTEGER', end=None), 'N2')
     yield accepted('name_that_begins_like_integer.adb',
                    procedure('Integers', formals='Integers', target='Integers', derives='Integers from *',
                              name='Integer_2', end='Integer_2'), 1, named='Integer_2')
-    yield refused('procedure_for_an_operand.adb', procedure('X + Inc', pre='X = 0'))
-    yield refused('procedure_for_a_target.adb', procedure('X', target='Inc'))
-    yield refused('procedure_for_an_import.adb', procedure('X', derives='X from X, Inc'))
-    yield refused('procedure_for_an_export.adb', procedure('X', derives='X, Inc from X'))
-    yield refused('procedure_in_pre.adb', procedure('X', pre='Inc < 0'))
-    yield refused('procedure_for_a_type.adb', procedure('X', type_mark='Inc'))
-    yield refused('type_for_an_operand.adb', procedure('X + Integer', pre='X = 0'))
-    yield refused('type_for_the_value.adb', procedure('Integer', **OUT))
-    yield refused('type_for_a_target.adb', procedure('X', target='Integer'))
-    yield refused('type_for_an_import.adb', procedure('X', derives='X from X, Integer'))
-    yield refused('type_for_an_export.adb', procedure('X', derives='X, Integer from X'))
-    yield refused('type_in_pre.adb', procedure('X', pre='X < Integer'))
-    yield refused('variable_for_a_type.adb', procedure('X', type_mark='X'))
-    yield refused('variable_for_a_type_in_another_case.adb', procedure('X', type_mark='x'))
-    yield refused('attribute_of_a_variable.adb', procedure("X'First", **OUT))
-    yield refused('attribute_of_a_variable_in_pre.adb', procedure('X', pre="X < X'Last"))
-    yield refused('formal_named_as_the_procedure_for_a_type.adb', procedure('X', name='X', type_mark='X', end='X'))
-    yield refused('attribute_of_a_procedure.adb', procedure("Inc'First", **OUT))
-    yield refused('attribute_size.adb', procedure("Integer'Size", **OUT))
-    yield refused('attribute_firsts.adb', procedure("Integer'Firsts", **OUT))
-    yield refused('attribute_las.adb', procedure("Integer'Las", **OUT))
-    yield refused('attribute_named_as_a_formal.adb', procedure("Integer'X", **OUT))
-    yield refused('wrong_end_name.adb', procedure(pre=BELOW, end='Dec'))
-    yield refused('formal_for_an_end_name.adb', procedure(pre=BELOW, end='X'))
-    yield refused('longer_end_name.adb', procedure(pre=BELOW, end='Inc_1'))
+    yield refused('procedure_for_an_operand.adb', procedure('X + @Inc', pre='X = 0'), 'N3')
+    yield refused('procedure_for_a_target.adb', procedure('X', target='@Inc'), 'N3')
+    yield refused('procedure_for_an_import.adb', procedure('X', derives='X from X, @Inc'), 'N3')
+    yield refused('procedure_for_an_export.adb', procedure('X', derives='X, @Inc from X'), 'N3')
+    yield refused('procedure_in_pre.adb', procedure('X', pre='@Inc < 0'), 'N3')
+    yield refused('procedure_for_a_type.adb', procedure('X', type_mark='@Inc'), 'N3')
+    yield refused('type_for_an_operand.adb', procedure('X + @Integer', pre='X = 0'), 'N3')
+    yield refused('type_for_the_value.adb', procedure('@Integer', **OUT), 'N3')
+    yield refused('type_for_a_target.adb', procedure('X', target='@Integer'), 'N3')
+    yield refused('type_for_an_import.adb', procedure('X', derives='X from X, @Integer'), 'N3')
+    yield refused('type_for_an_export.adb', procedure('X', derives='X, @Integer from X'), 'N3')
+    yield refused('type_in_pre.adb', procedure('X', pre='X < @Integer'), 'N3')
+    yield refused('variable_for_a_type.adb', procedure('X', type_mark='@X'), 'N3')
+    yield refused('variable_for_a_type_in_another_case.adb', procedure('X', type_mark='@x'), 'N3')
+    yield refused('attribute_of_a_variable.adb', procedure("@X'First", **OUT), 'N3')
+    yield refused('attribute_of_a_variable_in_pre.adb', procedure('X', pre="X < @X'Last"), 'N3')
+    yield refused('formal_named_as_the_procedure_for_a_type.adb',
+                  procedure('X', name='X', type_mark='@X', end='X'), 'N3')
+    yield refused('attribute_of_a_procedure.adb', procedure("@Inc'First", **OUT), 'N3')
+    yield refused('attribute_size.adb', procedure("@Integer'Size", **OUT), 'N3')
+    yield refused('attribute_firsts.adb', procedure("@Integer'Firsts", **OUT), 'N3')
+    yield refused('attribute_las.adb', procedure("@Integer'Las", **OUT), 'N3')
+    yield refused('attribute_named_as_a_formal.adb', procedure("@Integer'X", **OUT), 'N3')
+    yield refused('wrong_end_name.adb', procedure(pre=BELOW, end='@Dec'), 'N5')
+    yield refused('formal_for_an_end_name.adb', procedure(pre=BELOW, end='@X'), 'N5')
+    yield refused('longer_end_name.adb', procedure(pre=BELOW, end='@Inc_1'), 'N5')
 
 
 def rules():
     """Rules on modes, relations and preconditions."""
-    yield refused('mode_in_exported.adb', procedure('5', mode='in', derives='X from '))
-    yield refused('mode_out_imported.adb', procedure('X', mode='out', derives='X from X'))
-    yield refused('mode_out_imported_by_star.adb', procedure('X', mode='out', derives='X from *'))
-    yield refused('mode_in_out_not_imported.adb', procedure('5', derives='X from '))
-    yield refused('mode_in_out_not_exported.adb', procedure('A + B', derives='A from A, B', pre='B = 0', **AB))
-    yield refused('export_twice_in_one_item.adb', procedure('X', derives='X, X from X'))
-    yield refused('export_twice_in_two_items.adb', procedure('X', derives='X from X & X from X'))
-    yield refused('export_twice_in_two_cases.adb', procedure('X', derives='X from X & x from x'))
-    yield refused('export_twice_of_mode_out.adb', procedure('5', mode='out', derives='X from & X from '))
-    yield refused('pair_twice.adb', procedure('X', derives='X from X, X'))
-    yield refused('pair_twice_in_two_cases.adb', procedure('X', derives='X from X, x'))
-    yield refused('pair_twice_by_star.adb', procedure('X', derives='X from *, X'))
-    yield refused('pair_twice_by_star_of_two_exports.adb', procedure('A', derives='A, B from *, B', **AB))
-    yield refused('pair_twice_apart.adb', procedure('A + B', derives='A from A, B, A & B from *', pre='B = 0', **AB))
-    yield refused('formal_not_in_the_relation.adb', procedure('A', derives='A from A', **AB))
-    yield refused('formal_of_mode_out_not_in_the_relation.adb', procedure('1', mode='out', derives='A from ', **AB))
-    yield refused('pre_over_a_formal_of_mode_out.adb', procedure('5', pre='X > 0', **OUT))
-    yield refused('pre_over_a_formal_of_mode_out_on_the_right.adb', procedure('5', pre='0 > X', **OUT))
+    yield refused('mode_in_exported.adb', procedure('5', mode='in', derives='@X from '), 'U8')
+    yield refused('mode_out_imported.adb', procedure('X', mode='out', derives='X from @X'), 'U8')
+    yield refused('mode_out_imported_by_star.adb', procedure('X', mode='out', derives='@X from *'), 'U8')
+    yield refused('mode_in_out_not_imported.adb', procedure('5', derives='@X from '), 'U8')
+    yield refused('mode_in_out_not_exported.adb', procedure('A + B', derives='A from A, @B', pre='B = 0', **AB), 'U8')
+    yield refused('export_twice_in_one_item.adb', at_derives(procedure('X', derives='X, X from X')), 'U7')
+    yield refused('export_twice_in_two_items.adb', at_derives(procedure('X', derives='X from X & X from X')), 'U7')
+    yield refused('export_twice_in_two_cases.adb', at_derives(procedure('X', derives='X from X & x from x')), 'U7')
+    yield refused('export_twice_of_mode_out.adb',
+                  at_derives(procedure('5', mode='out', derives='X from & X from ')), 'U7')
+    yield refused('pair_twice.adb', at_derives(procedure('X', derives='X from X, X')), 'U7')
+    yield refused('pair_twice_in_two_cases.adb', at_derives(procedure('X', derives='X from X, x')), 'U7')
+    yield refused('pair_twice_by_star.adb', at_derives(procedure('X', derives='X from *, X')), 'U7')
+    yield refused('pair_twice_by_star_of_two_exports.adb',
+                  at_derives(procedure('A', derives='A, B from *, B', **AB)), 'U7')
+    yield refused('pair_twice_apart.adb',
+                  at_derives(procedure('A + B', derives='A from A, B, A & B from *', pre='B = 0', **AB)), 'U7')
+    yield refused('formal_not_in_the_relation.adb', at_derives(procedure('A', derives='A from A', **AB)), 'U7')
+    yield refused('formal_of_mode_out_not_in_the_relation.adb',
+                  at_derives(procedure('1', mode='out', derives='A from ', **AB)), 'U7')
+    yield refused('pre_over_a_formal_of_mode_out.adb', procedure('5', pre='@X > 0', **OUT), 'U11')
+    yield refused('pre_over_a_formal_of_mode_out_on_the_right.adb', procedure('5', pre='0 > @X', **OUT), 'U11')
+    # one `in out` must be an import, which is told first
     yield refused('pre_over_a_formal_that_is_not_imported.adb',
-                  procedure('B', formals='A, B', target='B', derives='A, B from B', pre='A > 0'))
+                  procedure('B', formals='A, B', target='B', derives='@A, B from B', pre='A > 0'), 'U8')
 
 
 def flow():
     """Flow."""
-    yield refused('flow_missing.adb', procedure('A + B', derives='A from A & B from B', pre='B = 0', **AB))
+    yield refused('flow_missing.adb',
+                  procedure('A + B', derives='@A from A & B from B', pre='B = 0', **AB), 'F1 missing: A from B')
     yield refused('flow_missing_from_itself.adb',
-                  procedure('A + B', derives='A from B & B from A, B', pre='B = 0', **AB))
+                  procedure('A + B', derives='@A from B & @B from A, B', pre='B = 0', **AB),
+                  'F1 missing: A from A', 'F2 unused: B from A')
     yield refused('flow_missing_to_a_kept_variable.adb',
-                  procedure('A + B', derives='A from A, B & B from', pre='B = 0', **AB))
-    yield refused('flow_unused.adb', procedure('A', derives='A from A, B & B from B', **AB))
+                  procedure('A + B', derives='A from A, B & @B from', pre='B = 0', **AB), 'F1 missing: B from B')
+    yield refused('flow_unused.adb', procedure('A', derives='@A from A, B & B from B', **AB), 'F2 unused: A from B')
     yield refused('flow_unused_of_an_overwritten_variable.adb',
-                  procedure('B', derives='A from A, B & B from B', **AB))
-    yield refused('flow_unused_by_a_literal.adb', procedure('5'))
-    yield refused('flow_unused_to_a_kept_variable.adb', procedure('A', derives='A from A & B from A, B', **AB))
-    yield refused('flow_crossed.adb', procedure('A', derives='A from B & B from A', **AB))
-    yield refused('target_not_exported.adb', procedure('A', derives='B from A, B', **AB))
-    yield refused('unset_read.adb', procedure('X + 1', **OUT))
-    yield refused('unset_read_of_another.adb', procedure('B', mode='out', derives='A, B from ', **AB))
-    yield refused('unset_export.adb', procedure('1', mode='out', derives='A from & B from ', **AB))
+                  procedure('B', derives='@A from A, B & B from B', **AB), 'F2 unused: A from A')
+    yield refused('flow_unused_by_a_literal.adb', procedure('5', derives='@X from X'), 'F2 unused: X from X')
+    yield refused('flow_unused_to_a_kept_variable.adb',
+                  procedure('A', derives='A from A & @B from A, B', **AB), 'F2 unused: B from A')
+    yield refused('flow_crossed.adb', procedure('A', derives='@@A from B & @@B from A', **AB),
+                  'F1 missing: A from A', 'F2 unused: A from B', 'F1 missing: B from B', 'F2 unused: B from A')
+    yield refused('target_not_exported.adb', procedure('A', derives='B from @A, B', **AB), 'U8')
+    yield refused('unset_read.adb', procedure('@X + 1', mode='out', derives='@X from '),
+                  'F1 missing: X from X', 'F4 unset: X')
+    yield refused('unset_read_of_another.adb',
+                  at_end(procedure('@B', mode='out', derives='@A, @B from ', **AB)),
+                  'F1 missing: A from B', 'F1 missing: B from B', 'F4 unset: B', 'F4 unset: B')
+    yield refused('unset_export.adb', at_end(procedure('1', mode='out', derives='A from & @B from ', **AB)),
+                  'F1 missing: B from B', 'F4 unset: B')
     yield accepted('flow_through_a_difference_of_one_variable.adb', procedure('X - X', pre='X = 0'))
     yield accepted('flow_through_plus_zero_of_another.adb',
                    procedure('A + B', derives='A from A, B & B from *', pre='A = 0', **AB))
     yield refused('flow_of_a_formal_that_hides_the_procedure.adb',
-                  procedure('Inc', formals='X, Inc', target='X', derives='X, Inc from *'))
+                  procedure('Inc', formals='X, Inc', target='X', derives='@@X, Inc from *'),
+                  'F1 missing: X from Inc', 'F2 unused: X from X')
     yield accepted('formal_that_hides_the_procedure_among_two.adb',
                    procedure('X + Inc', formals='X, Inc', target='X', derives='X from *, inc & INC from *',
                              pre='INC = 0'))
@@ -1002,26 +1193,27 @@ def chains():
     yield accepted('chain_with_last_in_the_middle.adb', procedure('X + 2147483647 + 1', pre='X < 0'), 3)
     yield accepted('chain_of_literals.adb', procedure('1 + 2 + 3', **OUT), 1)
     yield accepted('chain_of_attributes.adb', procedure(f'{LAST} + {FIRST} - {FIRST}', **OUT), 1)
-    yield refused('chain_of_literals_past_the_type.adb', procedure('2147483647 - 1 + 2', **OUT))
+    yield refused('chain_of_literals_past_the_type.adb', procedure('2147483647 - 1 @+ 2', **OUT), 'N12')
     yield accepted('chain_of_literals_past_the_type_and_back.adb', procedure('2147483647 + 1 - 1', **OUT), 1)
     yield accepted('chain_of_literals_past_the_type_and_back_before_a_variable.adb',
                    procedure('2147483647 + 1 - 1 + X', pre='X <= 0'))
-    yield refused('chain_of_literals_past_the_type_before_a_variable.adb', procedure('2147483647 + 1 + X', pre='X < 0'))
-    yield refused('chain_past_last_and_back.adb', procedure(LAST + ' + 1 - 1', **OUT))
-    yield refused('chain_past_last_and_back_from_a_literal.adb', procedure(f'1 + {LAST} - 1', **OUT))
+    yield refused('chain_of_literals_past_the_type_before_a_variable.adb',
+                  procedure('2147483647 @+ 1 + X', pre='X < 0'), 'N12')
+    yield refused('chain_past_last_and_back.adb', procedure(LAST + ' @+ 1 - 1', **OUT), 'N12')
+    yield refused('chain_past_last_and_back_from_a_literal.adb', procedure(f'1 @+ {LAST} - 1', **OUT), 'N12')
     yield accepted('chain_before_last_and_on.adb', procedure(LAST + ' - 1 + 1', **OUT), 1)
     yield accepted('chain_of_wide_literals_before_first.adb', procedure('2147483648 - 1 + ' + FIRST, **OUT), 1)
-    yield refused('chain_of_wide_literals_minus_first.adb', procedure('2147483648 - 1 - ' + FIRST, **OUT))
-    yield refused('wide_literal_at_the_end_of_a_chain.adb', procedure('X + 1 + 2147483648', pre='X < 0'))
-    yield refused('wide_literal_behind_a_difference.adb', procedure('X - X + 2147483648', pre='X = 0'))
-    yield refused('wide_literal_in_the_middle_of_a_chain.adb', procedure('X + 2147483648 - 1', pre='X < 0'))
-    yield refused('chain_past_the_widest_literal_and_back.adb', procedure(f'{WIDEST} + 1 - {WIDEST}', **OUT))
+    yield refused('chain_of_wide_literals_minus_first.adb', procedure('2147483648 - 1 @- ' + FIRST, **OUT), 'N12')
+    yield refused('wide_literal_at_the_end_of_a_chain.adb', procedure('X + 1 + @2147483648', pre='X < 0'), 'N12')
+    yield refused('wide_literal_behind_a_difference.adb', procedure('X - X + @2147483648', pre='X = 0'), 'N12')
+    yield refused('wide_literal_in_the_middle_of_a_chain.adb', procedure('X + @2147483648 - 1', pre='X < 0'), 'N12')
+    yield refused('chain_past_the_widest_literal_and_back.adb', procedure(f'{WIDEST} @+ 1 - {WIDEST}', **OUT), 'N12')
     yield accepted('chain_of_widest_literals.adb', procedure(f'{WIDEST} - {WIDEST} + 5', **OUT), 1)
     yield accepted('chain_down_to_the_lowest_value.adb', procedure(f'0 - {WIDEST} - 1 + {WIDEST}', **OUT), 1)
-    yield refused('chain_below_the_lowest_value.adb', procedure(f'0 - {WIDEST} - 2 + {WIDEST}', **OUT))
+    yield refused('chain_below_the_lowest_value.adb', procedure(f'0 - {WIDEST} @- 2 + {WIDEST}', **OUT), 'N12')
     yield unexpected('chain_with_an_operator_at_its_end.adb', procedure('X + 1 +', pre='X < 0'), at=(6, 16))
     yield unexpected('chain_with_two_operators.adb', procedure('X + 1 + - 1', pre='X < 0'), at=(6, 17))
-    yield unexpected('chain_with_parentheses.adb', procedure('X + (1 + 1)', pre='X < 0'), at=(6, 13))
+    yield accepted('chain_with_parentheses.adb', procedure('X + (1 + 1)', pre='X < 0'))
     yield unexpected('chain_with_a_product.adb', procedure('X + 1 * 2', pre='X < 0'), at=(6, 15))
     yield unexpected('chain_with_a_marked_operand.adb', procedure('X + 1 --# + 1\n', pre='X < 0'), at=(6, 19))
 
@@ -1064,17 +1256,17 @@ def levels():
 
 def comparisons():
     """Comparisons as right sides, preconditions that are none, and sums in preconditions."""
-    for name, value in {'of_a_variable': 'X = 1', 'of_literals': '1 < 2', 'of_sums': 'X + 1 > X - 1',
-                        'of_attributes': f'{FIRST} /= {LAST}'}.items():
-        yield refused(f'comparison_{name}_assigned.adb', procedure(value))
+    for name, value in {'of_a_variable': 'X @= 1', 'of_literals': '1 @< 2', 'of_sums': 'X + 1 @> X - 1',
+                        'of_attributes': f'{FIRST} @/= {LAST}'}.items():
+        yield refused(f'comparison_{name}_assigned.adb', procedure(value), 'N10')
         yield refused(f'comparison_{name}_assigned_behind_another_statement.adb',
-                      longer(X, 'X from X', 'X := X', 'X := ' + value))
+                      longer(X, 'X from X', 'X := X', 'X := ' + value), 'N10')
     yield unexpected('comparison_of_comparisons_assigned.adb', procedure('X = X @= X'))
     yield unexpected('comparison_of_comparisons_assigned_behind_another_statement.adb',
                      longer(X, 'X from X', 'X := X', 'X := X = X @= X'))
-    for name, pre in {'a_name': 'X', 'a_sum': 'X + 1', 'a_number': '1', 'an_attribute': LAST,
-                      'a_static_sum': '1 + 2 - 3'}.items():
-        yield refused(f'pre_of_{name}.adb', procedure('X', pre=pre))
+    for name, pre in {'a_name': '@X', 'a_sum': 'X @+ 1', 'a_number': '@1', 'an_attribute': '@' + LAST,
+                      'a_static_sum': '1 + 2 @- 3'}.items():
+        yield refused(f'pre_of_{name}.adb', procedure('X', pre=pre), 'N10')
     for name, pre in {'two': '0 < X @< 5', 'equal': 'X = X @= X', 'static': '1 < 2 @< 3', 'sums': 'X + 1 < X @< 5 - 1',
                       'three': 'X = X @/= X = X'}.items():
         yield unexpected(f'pre_with_{name}_relations.adb', procedure('X', pre=pre))
@@ -1097,13 +1289,13 @@ def comparisons():
     yield accepted('pre_with_a_static_sum_of_zeros.adb', procedure(pre='X + 0 - 0 < 5'))
     yield accepted('pre_equal_to_a_static_sum.adb', procedure(pre='1 + 1 = X'))
     yield accepted('pre_with_a_universal_difference.adb', procedure(pre='X < 2147483648 - 1'))
-    yield refused('pre_with_a_universal_sum.adb', procedure(pre='X < 2147483647 + 1'))
-    yield refused('pre_with_a_sum_past_last.adb', procedure(pre=f'X < {LAST} + 1'))
-    yield refused('pre_with_a_sum_past_last_and_back.adb', procedure(pre=f'X < {LAST} + 1 - 1'))
-    yield refused('pre_with_a_wide_literal_in_a_sum.adb', procedure('X', pre='X + 2147483648 > 0'))
+    yield refused('pre_with_a_universal_sum.adb', procedure(pre='X < 2147483647 @+ 1'), 'N12')
+    yield refused('pre_with_a_sum_past_last.adb', procedure(pre=f'X < {LAST} @+ 1'), 'N12')
+    yield refused('pre_with_a_sum_past_last_and_back.adb', procedure(pre=f'X < {LAST} @+ 1 - 1'), 'N12')
+    yield refused('pre_with_a_wide_literal_in_a_sum.adb', procedure('X', pre='X + @2147483648 > 0'), 'N12')
     yield accepted('pre_with_universal_sums.adb', procedure('1', pre='2147483647 + 1 > 2147483648 - 1', **OUT), 1)
     yield accepted('pre_with_widest_literals.adb', procedure('1', pre=f'{WIDEST} - 1 < {WIDEST}', **OUT), 1)
-    yield refused('pre_past_the_widest_literal.adb', procedure('1', pre=WIDEST + ' + 1 > 0', **OUT))
+    yield refused('pre_past_the_widest_literal.adb', procedure('1', pre=WIDEST + ' @+ 1 > 0', **OUT), 'N12')
     yield accepted('pre_of_static_sums_that_is_false.adb', procedure(pre='1 + 1 > 2'))
     yield unproved('pre_of_static_sums_that_is_true.adb', procedure('X @+ 1', pre='1 + 1 >= 2'))
     yield accepted('pre_of_a_sum_less_than_itself.adb', procedure(pre='X + 1 < X + 1'))
@@ -1111,8 +1303,8 @@ def comparisons():
     yield unproved('pre_of_a_sum_equal_to_itself.adb', procedure('X @+ 1', pre='X + 1 = X + 1'))
     yield accepted('pre_of_a_sum_that_folds_to_itself.adb', procedure(pre='X + 0 < X'))
     yield unproved('pre_that_is_false_for_no_reason_seen.adb', procedure('X @+ 1', pre='X + 1 < X'))
-    yield refused('pre_with_a_sum_over_a_formal_of_mode_out.adb', procedure('5', pre='0 < 1 + X', **OUT))
-    yield refused('pre_with_an_undeclared_name_in_a_sum.adb', procedure('X', pre='X + 1 + Y < 0'))
+    yield refused('pre_with_a_sum_over_a_formal_of_mode_out.adb', procedure('5', pre='0 < 1 + @X', **OUT), 'U11')
+    yield refused('pre_with_an_undeclared_name_in_a_sum.adb', procedure('X', pre='X + 1 + @Y < 0'), 'N1')
     yield accepted('pre_with_sums_on_several_lines.adb', procedure(pre='X\n--# + 1\n--# <\n--# 5 - 1'))
     yield unexpected('pre_with_an_unmarked_operand.adb', procedure(pre='X\n + 1\n--# < 5'), at=(4, 2))
 
@@ -1145,25 +1337,27 @@ def parameters():
                    longer('A -- first\n   : in Integer; -- second\n   X\n   : out Integer', 'X from A', 'X := A'), 1)
     yield accepted('second_parameter_named_as_the_procedure.adb',
                    longer('A : in Integer; Inc : out Integer', 'Inc from A', 'Inc := A'), 1)
-    yield refused('target_of_mode_in_among_two.adb', longer(A_AND_X, 'A from X', 'A := X'))
-    yield refused('in_exported_among_two.adb', longer(A_AND_X, 'A, X from *', 'X := X'))
-    yield refused('in_not_imported_among_two.adb', longer(A_TO_X, 'X from', 'X := 1'))
-    yield refused('out_imported_among_two.adb', longer(A_TO_X, 'X from A, X', 'X := A'))
-    yield refused('out_not_exported_among_two.adb', longer(A_TO_X + '; Y : out Integer', 'X from A, Y', 'X := A'))
-    yield refused('in_out_not_imported_among_two.adb', longer(A_AND_X, 'X from A', 'X := A'))
+    yield refused('target_of_mode_in_among_two.adb', longer(A_AND_X, '@A from X', 'A := X'), 'U8')
+    yield refused('in_exported_among_two.adb', longer(A_AND_X, '@A, X from *', 'X := X'), 'U8')
+    yield refused('in_not_imported_among_two.adb', at_derives(longer(A_TO_X, 'X from', 'X := 1')), 'U7')
+    yield refused('out_imported_among_two.adb', longer(A_TO_X, 'X from A, @X', 'X := A'), 'U8')
+    yield refused('out_not_exported_among_two.adb',
+                  longer(A_TO_X + '; Y : out Integer', 'X from A, @Y', 'X := A'), 'U8')
+    yield refused('in_out_not_imported_among_two.adb', longer(A_AND_X, '@X from A', 'X := A'), 'U8')
     yield refused('in_out_not_exported_among_two.adb',
-                  longer('A : in out Integer; X : out Integer', 'X from A', 'X := A'))
-    yield refused('modes_exchanged.adb', longer('A : out Integer; X : in Integer', 'X from A', 'X := A'))
-    yield refused('second_type_undeclared.adb', longer('A : in Integer; X : out Natural', 'X from A', 'X := A'))
-    yield refused('first_type_undeclared.adb', longer('A : in Natural; X : out Integer', 'X from A', 'X := A'))
-    yield refused('formal_before_for_a_type.adb', longer('A : in Integer; X : out A', 'X from A', 'X := A'))
-    yield refused('formal_behind_for_a_type.adb', longer('A : in X; X : out Integer', 'X from A', 'X := A'))
-    yield refused('formal_in_two_parameters.adb', longer('X : in Integer; X : out Integer', 'X from X', 'X := X'))
+                  longer('A : in out Integer; X : out Integer', 'X from @A', 'X := A'), 'U8')
+    yield refused('modes_exchanged.adb', longer('A : out Integer; X : in Integer', '@X from A', 'X := A'), 'U8')
+    yield refused('second_type_undeclared.adb', longer('A : in Integer; X : out @Natural', 'X from A', 'X := A'), 'N1')
+    yield refused('first_type_undeclared.adb', longer('A : in @Natural; X : out Integer', 'X from A', 'X := A'), 'N1')
+    yield refused('formal_before_for_a_type.adb', longer('A : in Integer; X : out @A', 'X from A', 'X := A'), 'N3')
+    yield refused('formal_behind_for_a_type.adb', longer('A : in @X; X : out Integer', 'X from A', 'X := A'), 'N1')
+    yield refused('formal_in_two_parameters.adb',
+                  longer('X : in Integer; @X : out Integer', 'X from X', 'X := X'), 'N2')
     yield refused('formal_in_two_parameters_in_two_cases.adb',
-                  longer('A, b : in out Integer; B : in out Integer', 'A, B from *', 'A := A'))
+                  longer('A, b : in out Integer; @B : in out Integer', 'A, B from *', 'A := A'), 'N2')
     yield refused('integer_in_the_second_parameter.adb',
-                  longer('A : in Integer; Integer : out Integer', 'Integer from A', 'Integer := A'))
-    yield refused('pre_over_one_of_mode_out.adb', longer(A_TO_X, 'X from A', 'X := A', pre='A < X'))
+                  longer('A : in Integer; @Integer : out Integer', 'Integer from A', 'Integer := A'), 'N2')
+    yield refused('pre_over_one_of_mode_out.adb', longer(A_TO_X, 'X from A', 'X := A', pre='A < @X'), 'U11')
     yield unexpected('semicolon_before_the_parameters.adb', longer('; ' + A_TO_X, 'X from A', 'X := A'), at=(1, 16))
     yield unexpected('semicolon_at_the_end_of_the_parameters.adb',
                      longer(A_TO_X + ';', 'X from A', 'X := A'), at=(1, 48))
@@ -1231,7 +1425,8 @@ def statements():
     yield accepted('exchange_by_sums_under_a_false_precondition.adb',
                    longer(IN_OUT_AB, BOTH, 'A := A + B', 'B := A - B', 'A := A - B', pre='A < A'), 6)
     yield refused('exchange_by_sums_has_more_flows.adb',
-                  longer(IN_OUT_AB, 'A from B & B from A', 'A := A + B', 'B := A - B', 'A := A - B'))
+                  longer(IN_OUT_AB, '@A from B & @B from A', 'A := A + B', 'B := A - B', 'A := A - B'),
+                  'F1 missing: A from A', 'F1 missing: B from B')
     yield accepted('comment_between_statements.adb', longer(X, 'X from X', 'X := X; -- once\n   X := X'))
     yield accepted('empty_mark_between_statements.adb', longer(X, 'X from X', 'X := X; --#\n   X := X'))
     yield unexpected('annotation_between_statements.adb',
@@ -1239,63 +1434,75 @@ def statements():
     yield unexpected('no_semicolon_between_statements.adb', COPY.replace('X := X;', 'X := X X := X;'), at=(5, 11))
     yield unexpected('comma_between_statements.adb', COPY.replace('X := X;', 'X := X, X := X;'), at=(5, 10))
     yield unexpected('empty_statement_between.adb', COPY.replace('X := X;', 'X := X;; X := X;'), at=(5, 11))
-    yield unexpected('null_statement_behind.adb', longer(X, 'X from X', 'X := X', 'null'), at=(6, 4))
+    yield accepted('null_statement_behind.adb', longer(X, 'X from X', 'X := X', 'null'), 1)
     yield unexpected('assignment_twice_in_one_statement.adb', procedure('X := X'), at=(5, 11))
-    yield unexpected('statement_before_begin.adb', COPY.replace('begin', 'X := X;\nbegin'), at=(4, 1))
+    yield unexpected('statement_before_begin.adb', COPY.replace('begin', 'X := X;\nbegin'), at=(4, 3))
     yield unexpected('statement_behind_the_end.adb', COPY.replace('end Inc;', 'end Inc;\nX := X;'), at=(7, 1))
     yield unexpected('second_statement_marked.adb', COPY.replace('X := X;', 'X := X;\n--# X := X;\n'), at=(6, 5))
-    yield refused('undeclared_name_in_the_second_statement.adb', longer(X, 'X from X', 'X := X', 'X := X + Y'))
-    yield refused('type_in_the_second_statement.adb', longer(X, 'X from X', 'X := X', 'X := Integer'))
-    yield refused('wide_literal_in_the_second_statement.adb', longer(X, 'X from X', 'X := X', 'X := X - 2147483648'))
+    yield refused('undeclared_name_in_the_second_statement.adb', longer(X, 'X from X', 'X := X', 'X := X + @Y'), 'N1')
+    yield refused('type_in_the_second_statement.adb', longer(X, 'X from X', 'X := X', 'X := @Integer'), 'N3')
+    yield refused('wide_literal_in_the_second_statement.adb',
+                  longer(X, 'X from X', 'X := X', 'X := X - @2147483648'), 'N12')
     yield refused('static_sum_past_the_type_in_the_third_statement.adb',
-                  longer(X, 'X from X', 'X := X', 'X := X', f'X := X - {LAST} + {LAST} + 2147483648'))
-    yield refused('target_of_mode_in_in_the_second_statement.adb', longer(A_TO_X, 'X from A', 'X := A', 'A := X'))
+                  longer(X, 'X from X', 'X := X', 'X := X', f'X := X - {LAST} + {LAST} + @2147483648'), 'N12')
+    yield refused('target_of_mode_in_in_the_second_statement.adb',
+                  longer(A_TO_X, 'X from A', 'X := A', '@A := X'), 'U2')
 
 
 def flow_of_statements():
     """Flow through several statements."""
-    yield refused('overwritten.adb', longer(OUT_X, 'X from', 'X := 1', 'X := 2'))
-    yield refused('overwritten_by_an_import.adb', longer(A_TO_X, 'X from A', 'X := 1', 'X := A'))
-    yield refused('import_overwritten.adb', longer(X, 'X from X', 'X := X', 'X := 1'))
+    yield refused('overwritten.adb', longer(OUT_X, 'X from', '@X := 1', 'X := 2'), 'F3')
+    yield refused('overwritten_by_an_import.adb', longer(A_TO_X, 'X from A', '@X := 1', 'X := A'), 'F3')
+    yield refused('import_overwritten.adb', longer(X, '@X from X', '@X := X', 'X := 1'), 'F2 unused: X from X', 'F3')
     yield accepted('read_and_then_overwritten.adb', longer(OUT_XY, 'X, Y from', 'X := 1', 'Y := X', 'X := 2'), 3)
     yield refused('read_by_what_is_overwritten.adb',
-                  longer(A_TO_XY, 'X from & Y from A', 'X := A', 'Y := X', 'Y := A', 'X := 2'))
+                  longer(A_TO_XY, 'X from & Y from A', '@X := A', '@Y := X', 'Y := A', 'X := 2'), 'F3', 'F3')
     yield refused('overwritten_in_the_middle.adb',
-                  longer(A_TO_X, 'X from A', 'X := A', 'X := 1', 'X := A'))
+                  longer(A_TO_X, 'X from A', '@X := A', '@X := 1', 'X := A'), 'F3', 'F3')
     yield accepted('back_and_forth.adb',
                    longer(A_TO_XY, 'X, Y from A', 'X := A', 'Y := X', 'X := Y'), 3)
     yield accepted('flow_of_a_difference_through_a_copy.adb',
                    longer(IN_OUT_AB, BOTH, 'B := B - A', 'A := B', pre='A = 0'), 3)
     yield refused('flow_of_a_difference_through_a_copy_missing.adb',
-                  longer(IN_OUT_AB, 'A from B & B from A', 'B := B - A', 'A := B', pre='A = 0'))
+                  longer(IN_OUT_AB, '@A from B & @B from A', 'B := B - A', 'A := B', pre='A = 0'),
+                  'F1 missing: A from A', 'F1 missing: B from B')
     yield accepted('out_read_behind_its_assignment.adb',
                    longer(OUT_X, 'X from', 'X := 1', 'X := X + 1', 'X := X - 1'), 5)
-    yield refused('out_read_before_its_assignment.adb', longer(OUT_XY, 'X, Y from', 'Y := X', 'X := 1'))
-    yield refused('out_read_in_its_first_assignment.adb', longer(OUT_X, 'X from', 'X := X', 'X := 1'))
+    yield refused('out_read_before_its_assignment.adb', longer(OUT_XY, 'X, @Y from', 'Y := @X', 'X := 1'),
+                  'F1 missing: Y from X', 'F4 unset: X')
+    yield refused('out_read_in_its_first_assignment.adb', longer(OUT_X, 'X from', '@X := @X', 'X := 1'),
+                  'F3', 'F4 unset: X')
     yield refused('out_read_in_a_sum_before_its_assignment.adb',
-                  longer(A_TO_XY, 'X, Y from A', 'X := A', 'X := X - Y', 'Y := X'))
-    yield refused('export_left_unset_behind_two_statements.adb', longer(OUT_XY, 'X, Y from', 'X := 1', 'X := X'))
+                  longer(A_TO_XY, '@X, @Y from A', 'X := A', 'X := X - @Y', 'Y := X'),
+                  'F1 missing: X from Y', 'F1 missing: Y from Y', 'F4 unset: Y')
+    yield refused('export_left_unset_behind_two_statements.adb',
+                  at_end(longer(OUT_XY, 'X, @Y from', 'X := 1', 'X := X')), 'F1 missing: Y from Y', 'F4 unset: Y')
     yield accepted('exports_set_in_turn.adb', longer(OUT_XY, 'X, Y from', 'X := 1', 'Y := 2'), 2)
     yield accepted('flow_through_another_export.adb',
                    longer(A_TO_XY, 'X, Y from A', 'X := A', 'Y := X'), 2)
     yield refused('flow_through_another_export_missing.adb',
-                  longer(A_TO_XY, 'X from A & Y from', 'X := A', 'Y := X'))
+                  longer(A_TO_XY, 'X from A & @Y from', 'X := A', 'Y := X'), 'F1 missing: Y from A')
     yield refused('flow_declared_from_what_it_leads_through.adb',
-                  longer(A_X_TO_Y, 'X from A & Y from X', 'X := A', 'Y := X'))
+                  longer(A_X_TO_Y, 'X from A & @@Y from X', 'X := A', 'Y := X'),
+                  'F1 missing: Y from A', 'F2 unused: Y from X')
     yield refused('flow_from_an_overwritten_variable.adb',
-                  longer(A_X_TO_Y, 'X from A, X & Y from A', 'X := A',
-                         'Y := X'))
+                  longer(A_X_TO_Y, '@X from A, X & Y from A', 'X := A', 'Y := X'), 'F2 unused: X from X')
     yield accepted('flow_from_before_it_is_overwritten.adb',
                    longer(A_X_TO_Y, 'X from A & Y from X', 'Y := X',
                           'X := A'), 2)
     yield refused('flow_from_before_it_is_overwritten_exchanged.adb',
-                  longer(A_X_TO_Y, 'X from X & Y from A', 'Y := X', 'X := A'))
+                  longer(A_X_TO_Y, '@@X from X & @@Y from A', 'Y := X', 'X := A'),
+                  'F1 missing: X from A', 'F2 unused: X from X', 'F1 missing: Y from X', 'F2 unused: Y from A')
     yield refused('exchange_declared_the_other_way.adb',
-                  longer(SWAP, 'A from B & B from A & T from B', 'T := A', 'A := B', 'B := T'))
-    yield refused('exchange_without_a_third_variable.adb', longer(IN_OUT_AB, 'A from B & B from A', 'A := B', 'B := A'))
+                  longer(SWAP, 'A from B & B from A & @@T from B', 'T := A', 'A := B', 'B := T'),
+                  'F1 missing: T from A', 'F2 unused: T from B')
+    yield refused('exchange_without_a_third_variable.adb',
+                  longer(IN_OUT_AB, 'A from B & @@B from A', 'A := B', 'B := A'),
+                  'F1 missing: B from B', 'F2 unused: B from A')
     yield accepted('copy_in_turn.adb',
                    longer('A : out Integer; B : in out Integer', 'A, B from B', 'A := B', 'B := A'), 2)
-    yield refused('unused_flow_of_the_second_statement.adb', longer(A_AND_X, 'X from X, A', 'X := X', 'X := X - 0'))
+    yield refused('unused_flow_of_the_second_statement.adb',
+                  longer(A_AND_X, '@X from X, A', 'X := X', 'X := X - 0'), 'F2 unused: X from A')
     yield accepted('flow_of_the_second_statement.adb',
                    longer(A_AND_X, 'X from X, A', 'X := X', 'X := X - A', pre='A = 0'), 3)
     yield accepted('flow_of_a_difference_with_itself.adb',
@@ -1303,7 +1510,8 @@ def flow_of_statements():
     yield accepted('three_in_a_row.adb',
                    longer('A : in Integer; X, Y, Z : out Integer', 'X, Y, Z from A', 'X := A', 'Y := X', 'Z := Y'), 3)
     yield refused('three_in_a_row_too_early.adb',
-                  longer('A : in Integer; X, Y, Z : out Integer', 'X, Y, Z from A', 'X := A', 'Z := Y', 'Y := X'))
+                  longer('A : in Integer; X, Y, Z : out Integer', 'X, Y, @@Z from A', 'X := A', 'Z := @Y', 'Y := X'),
+                  'F1 missing: Z from Y', 'F2 unused: Z from A', 'F4 unset: Y')
     yield accepted('statements_over_words_in_another_case.adb', longer(A_TO_X, 'x from a', 'x := a', 'X := x'), 2)
 
 
@@ -1336,11 +1544,6 @@ def several():
                    longer(X, 'X from X', 'X := X @+ 1', 'X := X @+ 1') + same
                    + longer(A_TO_X, 'X from A', 'X := A @- 1 @- 1', name='Less'),
                    ('Inc', 4, 1, 3), ('Same', 1), ('Less', 3, 1, 2))
-    yield examined('two.adb',
-                   longer('X : in out Integer; A : in Integer', 'X from X, A', 'X := X + A + 1', 'X := X @+ A',
-                          pre='X + A = 0', name='Add')
-                   + longer(SWAP, SWAPPED, 'T := A', 'A := B', 'B := T', name='Exchange'),
-                   ('Add', 5, 4), ('Exchange', 3))
     yield examined('facts_of_one_procedure_are_not_those_of_another.adb',
                    INC + procedure('X @+ 1', name='Next', end='Next'), ('Inc', 2), ('Next', 2, 1))
     yield examined('procedures_with_other_formals.adb', INC + longer(A_TO_X, 'X from A', 'X := A', name='Copy'),
@@ -1350,26 +1553,31 @@ def several():
     yield examined('procedure_named_as_the_formal_of_another.adb', INC + short('X', 'Y'), ('Inc', 2), ('X', 1))
     yield examined('comments_and_marks_between_procedures.adb', INC + '--#\n-- next\n--# -- then\n' + same,
                    ('Inc', 2), ('Same', 1))
-    yield refused('two_procedures_of_one_name.adb', INC + INC)
-    yield refused('two_procedures_of_one_name_in_two_cases.adb', short('Same') + short('SAME'))
-    yield refused('two_procedures_of_one_name_apart.adb', short('A') + short('B') + short('a'))
-    yield refused('second_procedure_named_integer.adb', INC + short('Integer'))
+    yield refused('two_procedures_of_one_name.adb', INC + INC.replace('Inc', '@Inc', 1), 'N2')
+    yield refused('two_procedures_of_one_name_in_two_cases.adb', short('Same') + short('@SAME'), 'N2')
+    yield refused('two_procedures_of_one_name_apart.adb', short('A') + short('B') + short('@a'), 'N2')
+    yield refused('second_procedure_named_integer.adb', INC + short('@Integer'), 'N2')
     yield bad_byte('second_procedure_breaks_the_lexis.adb', INC + same.replace('X;', 'X_;'), at=(9, 21))
-    yield unexpected('second_procedure_breaks_the_grammar.adb', INC + same.replace('begin', ''), at=(12, 4))
-    yield refused('second_procedure_breaks_a_rule_on_names.adb', INC + procedure('Y', name='Same', end='Same'))
-    yield refused('second_procedure_breaks_a_rule_on_types.adb', INC + procedure('X = 1', name='Same', end='Same'))
-    yield refused('second_procedure_breaks_a_static_rule.adb', INC + same.replace('in out', 'in'))
-    yield refused('second_procedure_breaks_its_flow.adb', INC + procedure('1', name='Same', end='Same'))
-    yield refused('first_procedure_breaks_its_flow.adb', procedure('1') + same)
-    yield refused('broken_and_unproved.adb', procedure('X + 1') + procedure('Y', name='Same', end='Same'))
-    yield refused('later_procedure_for_an_operand.adb', procedure('X + Same', pre='X = 0') + same)
-    yield refused('earlier_procedure_for_an_operand.adb', same + procedure('Same'))
-    yield refused('later_procedure_for_a_type.adb', procedure('X', type_mark='Same') + same)
-    yield refused('earlier_procedure_in_a_precondition.adb', same + procedure('X', pre='Same < 0'))
-    yield refused('formal_of_an_earlier_procedure.adb', short('Same', 'Y') + procedure('X - Y'))
-    yield refused('formal_of_a_later_procedure.adb', procedure('X - Y') + short('Same', 'Y'))
-    yield refused('end_names_exchanged.adb', procedure('X', end='Same') + procedure('X', name='Same', end='Inc'))
-    yield refused('end_name_of_the_procedure_before.adb', INC + procedure('X', name='Same', end='Inc'))
+    yield unexpected('second_procedure_breaks_the_grammar.adb', INC + same.replace('begin', ''), at=(12, 6))
+    yield refused('second_procedure_breaks_a_rule_on_names.adb', INC + procedure('@Y', name='Same', end='Same'), 'N1')
+    yield refused('second_procedure_breaks_a_rule_on_types.adb',
+                  INC + procedure('X @= 1', name='Same', end='Same'), 'N10')
+    yield refused('second_procedure_breaks_a_static_rule.adb',
+                  INC + same.replace('in out', 'in').replace('derives X', 'derives @X'), 'U8')
+    yield refused('second_procedure_breaks_its_flow.adb',
+                  INC + procedure('1', derives='@X from X', name='Same', end='Same'), 'F2 unused: X from X')
+    yield refused('first_procedure_breaks_its_flow.adb', procedure('1', derives='@X from X') + same,
+                  'F2 unused: X from X')
+    yield refused('broken_and_unproved.adb', procedure('X + 1') + procedure('@Y', name='Same', end='Same'), 'N1')
+    yield refused('later_procedure_for_an_operand.adb', procedure('X + @Same', pre='X = 0') + same, 'N1')
+    yield refused('earlier_procedure_for_an_operand.adb', same + procedure('@Same'), 'N1')
+    yield refused('later_procedure_for_a_type.adb', procedure('X', type_mark='@Same') + same, 'N1')
+    yield refused('earlier_procedure_in_a_precondition.adb', same + procedure('X', pre='@Same < 0'), 'N1')
+    yield refused('formal_of_an_earlier_procedure.adb', short('Same', 'Y') + procedure('X - @Y'), 'N1')
+    yield refused('formal_of_a_later_procedure.adb', procedure('X - @Y') + short('Same', 'Y'), 'N1')
+    yield refused('end_names_exchanged.adb',
+                  procedure('X', end='@Same') + procedure('X', name='Same', end='Inc'), 'N5')
+    yield refused('end_name_of_the_procedure_before.adb', INC + procedure('X', name='Same', end='@Inc'), 'N5')
     yield unexpected('semicolon_between_procedures.adb', INC + ';\n' + same, at=(8, 1))
     yield unexpected('annotation_between_procedures.adb', INC + '--# pre X < 0;\n' + same, at=(8, 5))
     yield unexpected('name_between_procedures.adb', INC + 'Inc\n' + same, at=(8, 1))
@@ -1378,10 +1586,1011 @@ def several():
     yield unexpected('second_procedure_marked.adb', INC + '--# ' + same, at=(8, 5))
 
 
+def optional_parts():
+    """Each combination of formals, `derives`, a precondition, locals and a name behind `end`."""
+    for formals, derives, pre, local, end_name in product((True, False), repeat=5):
+        parts = {'formals': formals, 'derives': derives, 'pre': pre, 'local': local, 'end_name': end_name}
+        name = f'with_{"_".join(part for part, is_there in parts.items() if is_there) or "no_part"}.adb'
+        text = longer(X if formals else None, 'X from X' if derives else None, 'null', pre='1 < 2' if pre else None,
+                      declared=T if local else ())
+        text = text if end_name else text.replace('end Inc', 'end')
+        # formals must be in a relation, and what is not declared cannot be in one
+        if formals == derives:
+            yield accepted(name, text, 0)
+        elif formals:
+            yield refused(name, '@' + text, 'U7')
+        else:
+            yield refused(name, text.replace('derives X', 'derives @X'), 'N1')
+    yield refused('no_formals_and_pre_over_a_name.adb', longer(None, None, 'null', pre='@X < 1'), 'N1')
+    yield refused('no_formals_and_pre_over_a_local.adb', longer(None, None, 'null', pre='@T < 1', declared=T), 'N1')
+    yield refused('no_formals_and_pre_that_is_none.adb', longer(None, None, 'null', pre='@1'), 'N10')
+    yield refused('no_formals_and_derives_over_a_type.adb', longer(None, '@Integer from', 'null'), 'N3')
+    yield refused('no_formals_and_derives_over_the_procedure.adb', longer(None, '@Inc from Inc', 'null'), 'N3')
+    yield refused('no_formals_and_derives_over_an_attribute.adb', longer(None, "@Integer'First from", 'null'), 'N3')
+    yield refused('no_formals_and_derives_over_a_local.adb', longer(None, '@T from', 'T := 1', declared=T), 'N1')
+    yield refused('no_formals_and_a_target.adb', longer(None, None, '@X := 1'), 'N1')
+    yield refused('no_formals_and_a_local_that_is_assigned.adb', longer(None, None, '@T := 1', declared=T), 'F3')
+    yield refused('formals_of_mode_in_alone.adb', '@' + longer('A : in Integer', None, 'null'), 'U7')
+    yield refused('formals_of_mode_out_and_no_derives.adb', '@' + longer(OUT_X, None, 'X := 1'), 'U7')
+    yield refused('no_derives_in_the_second_procedure.adb', INC + '@' + longer(X, None, 'X := X', name='Same'), 'U7')
+    yield unexpected('no_formals_and_an_opening_parenthesis.adb', 'procedure Inc (@is begin null; end;\n')
+    yield unexpected('no_formals_and_a_closing_parenthesis.adb', 'procedure Inc @) is begin null; end;\n')
+    yield unexpected('no_formals_and_a_semicolon.adb', 'procedure Inc@; is begin null; end;\n')
+    yield unexpected('no_formals_and_empty_parentheses.adb', 'procedure Inc (@) is begin null; end;\n')
+    yield unexpected('marked_is_without_formals.adb', 'procedure Inc --# @is\nbegin null; end;\n')
+    yield unexpected('derives_behind_pre_without_formals.adb',
+                     'procedure Inc\n--# pre 1 < 2;\n--# @derives X from X;\nis begin null; end;\n')
+
+
+def attributes():
+    """An attribute in each place of a name, and where no name of this form may stand."""
+    for label, (rule, attribute) in {'of_a_type': ('N3', "@Integer'Last"), 'of_a_variable': ('N3', "@X'First"),
+                                     'of_the_procedure': ('N3', "@Inc'Last"), 'of_nothing': ('N1', "@Y'First"),
+                                     'of_no_name': ('N3', "@Integer'Size")}.items():
+        yield refused(f'attribute_{label}_for_a_target.adb', procedure('X', target=attribute), rule)
+        yield refused(f'attribute_{label}_for_a_type.adb', procedure('X', type_mark=attribute), rule)
+        yield refused(f'attribute_{label}_for_a_type_of_locals.adb',
+                      longer(X, 'X from X', 'X := X', declared=['T : ' + attribute]), rule)
+        yield refused(f'attribute_{label}_for_an_export.adb', procedure('X', derives=f'X, {attribute} from X'), rule)
+        yield refused(f'attribute_{label}_for_an_import.adb', procedure('X', derives=f'X from {attribute}, X'), rule)
+        yield refused(f'attribute_{label}_behind_the_star.adb', procedure('X', derives=f'X from *, {attribute}'), rule)
+    yield unexpected('attribute_for_the_procedure.adb', procedure('X', name="Inc@'First"))
+    yield unexpected('attribute_for_a_formal.adb', procedure('X', formals="X@'First"))
+    yield unexpected('attribute_for_a_second_formal.adb', procedure('X', formals="X, Y@'First"))
+    yield unexpected('attribute_for_a_local.adb', longer(X, 'X from X', 'X := X', declared=["T@'First : Integer"]))
+    yield unexpected('attribute_for_a_second_local.adb',
+                     longer(X, 'X from X', 'X := X', declared=["T, U@'First : Integer"]))
+    yield unexpected('attribute_for_an_end_name.adb', procedure('X', end="Inc@'First"))
+    yield unexpected('attribute_of_an_attribute_for_a_target.adb', procedure('X', target="Integer'First@'Last"))
+    yield unexpected('attribute_of_an_attribute_for_a_type.adb', procedure('X', type_mark="Integer'Base@'Base"))
+    yield unexpected('attribute_of_an_attribute_for_an_import.adb', procedure('X', derives="X from X'First@'Last"))
+    yield unexpected('attribute_of_parentheses.adb', procedure("(Integer)@'First", **OUT))
+    yield unexpected('parentheses_behind_an_apostrophe.adb', procedure("Integer'@(First)", **OUT))
+    yield unexpected('parentheses_for_a_target.adb', COPY.replace('   X', '   @(X)'))
+    yield unexpected('parentheses_behind_a_target.adb', COPY.replace('   X', '   X @(1)'))
+    yield unexpected('sign_for_a_target.adb', COPY.replace('   X', '   @-X'))
+    yield unexpected('marked_apostrophe_in_a_target.adb', procedure('X', target="Integer --# @'\nFirst"))
+    yield unexpected('unmarked_apostrophe_in_an_import.adb', procedure('X', derives="X from X\n@'\n--# First"))
+
+
+def with_local(*declared, first='T := X', last='X := T', pre=None):
+    """The text of a procedure with these declarations, through which `X` goes to itself."""
+    return longer(X, 'X from X', first, last, pre=pre, declared=declared)
+
+
+def declared_locals():
+    """Declarations of locals, and what names denote with them."""
+    yield accepted('local.adb', with_local(*T))
+    yield accepted('two_locals.adb', longer(X, 'X from X', 'T := X', 'U := T', 'X := U', declared=T_AND_U), 3)
+    yield accepted('two_declarations.adb',
+                   longer(X, 'X from X', 'T := X', 'U := T', 'X := U', declared=[*T, 'U : Integer']), 3)
+    yield accepted('fifty_locals.adb',
+                   longer(X, 'X from X', 'T_0 := X', *(f'T_{n + 1} := T_{n}' for n in range(49)), 'X := T_49',
+                          declared=[f'T_{n} : Integer' for n in range(50)]), 51)
+    yield accepted('local_in_other_cases.adb', with_local('t : INTEGER'))
+    yield accepted('local_on_several_lines.adb', with_local('T -- a local\n :\nInteger\n'))
+    yield accepted('empty_mark_between_declarations.adb', with_local('T : Integer', 'U --#\n : Integer'))
+    yield accepted('local_that_is_not_used.adb', longer(X, 'X from X', 'X := X', declared=T), 1)
+    yield accepted('local_named_as_the_procedure.adb', with_local('Inc : Integer', first='INC := X', last='X := inc'))
+    yield accepted('local_named_as_an_attribute.adb', with_local('Last : Integer', first='Last := X', last='X := Last'))
+    for word in ANNOTATION:
+        yield accepted(f'local_named_{word}.adb', with_local(f'{word} : Integer', first=f'{word} := X',
+                                                             last=f'X := {word}'))
+    yield examined('local_named_as_another_procedure.adb', with_local(*T) + longer(None, None, 'null', name='T'),
+                   ('Inc', 2), ('T', 0))
+    yield examined('locals_of_two_procedures.adb',
+                   with_local(*T) + longer(X, 'X from X', 'T := X', 'X := T', declared=T, name='Same'),
+                   ('Inc', 2), ('Same', 2))
+    for name, (rule, *declared) in {'named_as_a_formal': ('N2', 'T, @X : Integer'),
+                                    'named_as_a_formal_in_another_case': ('N2', 'T : Integer', '@x : Integer'),
+                                    'twice': ('N2', 'T, @T : Integer'),
+                                    'twice_in_two_cases': ('N2', 'T, U, @t : Integer'),
+                                    'in_two_declarations': ('N2', 'T : Integer', 'U : Integer', '@T : Integer'),
+                                    'named_integer': ('N2', 'T : Integer', '@Integer : Integer'),
+                                    'named_integer_in_upper_case': ('N2', 'T, @INTEGER : Integer'),
+                                    'of_no_type': ('N1', 'T : @Natural'), 'of_a_formal': ('N3', 'T : @X'),
+                                    'of_the_procedure': ('N3', 'T : @Inc'), 'of_itself': ('N3', 'T : @T'),
+                                    'of_the_next_one': ('N3', 'T, U : @U'),
+                                    'of_a_local_before': ('N3', 'U : Integer', 'T : @U'),
+                                    'of_a_local_behind': ('N1', 'T : @U', 'U : Integer')}.items():
+        yield refused(f'local_{name}.adb', with_local(*declared), rule)
+    yield refused('local_named_as_the_procedure_for_a_type.adb', with_local('T : Integer', 'Inc : @Inc'), 'N3')
+    yield refused('local_for_a_type_of_a_formal.adb',
+                  longer('X : in out @T', 'X from X', 'T := X', 'X := T', declared=T), 'N1')
+    yield refused('local_for_an_export.adb', longer(X, 'X, @T from X', 'T := X', 'X := T', declared=T), 'N1')
+    yield refused('local_for_an_import.adb', longer(X, 'X from X, @T', 'T := X', 'X := T', declared=T), 'N1')
+    yield refused('local_in_pre.adb', with_local(*T, pre='@T < 1'), 'N1')
+    yield refused('local_that_hides_the_procedure_in_pre.adb',
+                  with_local('Inc : Integer', first='Inc := X', last='X := Inc', pre='@Inc < 1'), 'N3')
+    yield refused('attribute_of_a_local.adb', longer(OUT_X, 'X from', "X := @T'First", declared=T), 'N3')
+    yield refused('local_for_an_end_name.adb', with_local(*T).replace('end Inc', 'end @T'), 'N5')
+    yield refused('local_of_an_earlier_procedure.adb',
+                  with_local(*T) + longer(X, 'X from X', '@T := X', 'X := T', name='Same'), 'N1')
+    yield refused('local_of_a_later_procedure.adb',
+                  with_local(first='@T := X') + longer(X, 'X from X', 'T := X', 'X := T', declared=T, name='Same'),
+                  'N1')
+    for name, declared in {'of_mode_in': 'T : @in Integer', 'of_mode_out': 'T : @out Integer',
+                           'with_a_value': 'T : Integer @:= 0', 'that_is_constant': 'T : @constant Integer',
+                           'without_type': 'T@', 'with_two_types': 'T : Integer @Integer',
+                           'and_a_comma': 'T : Integer@, U : Integer', 'behind_a_comma': '@, T : Integer',
+                           'before_a_comma': 'T, @: Integer', 'of_no_name': '@: Integer', 'that_is_missing': '@',
+                           'of_a_number': 'T : @1', 'in_parentheses': '@(T : Integer)',
+                           'that_is_a_type': '@type T is new Integer', 'that_is_null': '@null',
+                           'that_is_marked': '--# @T : Integer', 'with_a_marked_colon': 'T --# @:\nInteger',
+                           'that_begins_marked_text': 'T : Integer --# @'}.items():
+        yield unexpected(f'local_{name}.adb', with_local(declared))
+    yield unexpected('local_behind_begin.adb', COPY.replace('begin\n', 'begin\n   T @: Integer;\n'))
+    yield unexpected('local_behind_a_statement.adb', COPY.replace('end', '   T @: Integer;\nend'))
+    yield unexpected('local_before_is.adb', COPY.replace('is\n', '@T : Integer;\nis\n'))
+    yield unexpected('procedure_among_the_locals.adb', with_local('T : Integer;\n@procedure Same'))
+
+
+def flow_of_locals():
+    """Flow through locals, which are unset at the start."""
+    def body(*statements, params=X, derives='X from X', pre=None):
+        return longer(params, derives, *statements, pre=pre, declared=T_AND_U)
+
+    yield accepted('exchange_through_a_local.adb',
+                   body('T := A', 'A := B', 'B := T', params=IN_OUT_AB, derives='A from B & B from A'), 3)
+    yield accepted('out_through_a_local.adb', body('T := A', 'X := T', params=A_TO_X, derives='X from A'))
+    yield accepted('literal_through_a_local.adb', body('T := 5', 'X := T + 1', params=OUT_X, derives='X from'), 3)
+    yield accepted('local_that_is_assigned_twice.adb', body('T := X', 'T := T', 'X := T'), 3)
+    yield accepted('local_that_is_read_and_then_overwritten.adb', body('T := X', 'X := T', 'T := X', 'X := T'), 4)
+    yield accepted('two_exports_from_one_local.adb',
+                   body('T := A', 'X := T', 'Y := T', params=A_TO_XY, derives='X, Y from A'), 3)
+    yield refused('local_read_unset.adb', body('X := @T + X'), 'F4 unset: T')
+    yield refused('local_read_unset_behind_another.adb', body('T := X', 'X := T - @U'), 'F4 unset: U')
+    yield refused('local_read_before_its_assignment.adb', body('U := @T', 'T := X', 'X := T - U'), 'F4 unset: T')
+    yield refused('local_read_in_its_first_assignment.adb', body('T := @T + X', 'X := T'), 'F4 unset: T')
+    yield refused('local_read_unset_behind_a_sign.adb', body('X := -@T + X'), 'F4 unset: T')
+    yield refused('local_read_unset_in_parentheses.adb', body('X := X - (@T)'), 'F4 unset: T')
+    yield refused('local_that_is_lost.adb', body('@T := X', 'X := X'), 'F3')
+    yield refused('local_that_is_overwritten.adb', body('@T := 1', 'T := X', 'X := T'), 'F3')
+    yield refused('local_that_is_lost_at_the_end.adb', body('T := X', 'X := T', '@T := X'), 'F3')
+    yield refused('local_that_is_read_by_a_lost_one.adb', body('@T := X', '@U := T', 'X := X'), 'F3', 'F3')
+    yield refused('locals_that_are_lost_in_turn.adb', body('@T := 1', '@U := T', '@T := U', 'X := X'),
+                  'F3', 'F3', 'F3')
+    yield refused('import_that_is_kept_in_a_lost_local.adb', body('@T := X', 'X := 1', derives='@X from X'),
+                  'F2 unused: X from X', 'F3')
+    yield refused('flow_through_a_local_missing.adb',
+                  body('T := A', 'B := B + T', params=IN_OUT_AB, derives='A from A & @B from B', pre='A = 0'),
+                  'F1 missing: B from A')
+    yield refused('flow_through_two_locals_missing.adb',
+                  body('T := A', 'U := T', 'B := B - U', params=IN_OUT_AB, derives='A, @B from *', pre='A = 0'),
+                  'F1 missing: B from A')
+    yield refused('flow_through_a_local_unused.adb',
+                  body('T := B', 'B := T', params=IN_OUT_AB, derives='A from A & @B from A, B'),
+                  'F2 unused: B from A')
+    yield refused('flow_cut_by_a_local.adb', body('@T := X', 'T := 1', 'X := T', derives='@X from X'),
+                  'F2 unused: X from X', 'F3')
+    yield refused('local_to_a_formal_of_mode_in.adb',
+                  body('T := A', 'X := T', '@A := T', params=A_TO_X, derives='X from A'), 'U2')
+    yield refused('export_left_unset_beside_a_local.adb',
+                  at_end(body('@T := A', params=A_TO_X, derives='@@X from A')),
+                  'F1 missing: X from X', 'F2 unused: X from A', 'F3', 'F4 unset: X')
+
+
+def nulls():
+    """`null`, which does nothing."""
+    yield accepted('null_first.adb', longer(X, 'X from X', 'null', 'X := X'), 1)
+    yield accepted('null_thrice.adb', longer(X, 'X from X', 'null', 'null', 'null'), 0)
+    yield accepted('null_in_upper_case.adb', longer(X, 'X from X', 'NULL'), 0)
+    yield accepted('null_in_one_line.adb', COPY.replace('X := X;', 'null;X := X;null;'), 1)
+    yield accepted('null_on_several_lines.adb', longer(X, 'X from X', 'null -- nothing\n\n --#\n'), 0)
+    yield accepted('null_for_two_formals.adb', longer(IN_OUT_AB, 'A, B from *', 'null'), 0)
+    yield examined('null_among_increments.adb',
+                   longer(X, 'X from X', 'null', 'X := X @+ 1', 'null', 'null', 'X := X @+ 1', 'null'),
+                   ('Inc', 4, 1, 3))
+    yield refused('null_for_an_exchange.adb', longer(IN_OUT_AB, '@@A from B & @@B from A', 'null'),
+                  'F1 missing: A from A', 'F2 unused: A from B', 'F1 missing: B from B', 'F2 unused: B from A')
+    yield refused('null_for_a_formal_of_mode_out.adb', at_end(longer(OUT_X, '@X from', 'null')),
+                  'F1 missing: X from X', 'F4 unset: X')
+    yield refused('null_for_in_and_out.adb', at_end(longer(A_TO_X, '@@X from A', 'null')),
+                  'F1 missing: X from X', 'F2 unused: X from A', 'F4 unset: X')
+    yield refused('null_for_an_overwritten_variable.adb', longer(X, '@X from', 'null'), 'U8')
+    yield refused('null_between_a_value_and_the_one_that_overwrites_it.adb',
+                  longer(OUT_X, 'X from', '@X := 1', 'null', 'X := 2'), 'F3')
+    yield unexpected('null_for_a_value.adb', procedure('@null', **OUT))
+    yield unexpected('null_for_a_target.adb', COPY.replace('   X :=', '   null @:='))
+    yield unexpected('null_and_a_name.adb', longer(X, 'X from X', 'null @X'))
+    yield unexpected('null_and_a_number.adb', longer(X, 'X from X', 'null @1'))
+    yield unexpected('null_twice_in_one_statement.adb', longer(X, 'X from X', 'null @null'))
+    yield unexpected('null_with_an_attribute.adb', longer(X, 'X from X', "null@'First"))
+    yield unexpected('null_in_parentheses.adb', longer(X, 'X from X', '@(null)'))
+    yield unexpected('null_without_semicolon.adb', COPY.replace('   X := X;\n', '   null\n@'))
+    yield unexpected('null_and_two_semicolons.adb', longer(X, 'X from X', 'null;@'))
+    yield unexpected('null_that_is_marked.adb', COPY.replace('   X := X;', '--# @null;'))
+    yield unexpected('null_for_an_import.adb', procedure('X', derives='X from @null'))
+    yield unexpected('null_for_a_precondition.adb', procedure('X', pre='@null'))
+    yield unexpected('null_behind_is.adb', COPY.replace('is\n', 'is @null;\n'))
+    yield unexpected('null_behind_the_end.adb', COPY + '@null;\n')
+
+
+def missing_signs():
+    """The text with locals without one of its signs, which leaves conditions open, or without an operand."""
+    whole = spelled(LOCAL_TOKENS)
+    # -A may be 2147483648, and so may be what is behind: -A + 1
+    yield examined('missing_sign_in_pre.adb',
+                   whole.replace('( - A )', '( A )').replace(':= -', ':= @-').replace('T +', 'T @+'),
+                   ('Neg', 5, 1, 3))
+    # nothing bounds A, which T is, from above
+    yield examined('missing_sign.adb', whole.replace(':= - (', ':= (').replace('T +', 'T @+'), ('Neg', 4, 2))
+    # a sign is left, and T is lost
+    yield refused('missing_first_held_operand.adb',
+                  whole.replace('derives X', 'derives @X').replace('T :=', '@T :=').replace('T + 1', '+ 1'),
+                  'F2 unused: X from A', 'F3')
+
+
+def signs_of_numbers():
+    """Static values behind signs and in parentheses."""
+    for name, value in {'minus_of_the_widest_integer': '-2147483647', 'minus_of_a_wide_literal': '-2147483648',
+                        'minus_of_a_wide_literal_in_parentheses': '-(2147483648)',
+                        'minus_of_a_wide_sum': '-(2147483647 + 1)', 'minus_of_a_minus': '-(-2147483647)',
+                        'plus_of_a_literal': '+2147483647', 'plus_of_a_minus': '+(-2147483648)',
+                        'minus_of_zero': '-0', 'minus_before_a_sum': '-2147483649 + 1',
+                        'minus_before_a_difference': '-2147483647 - 1', 'minus_of_last': '-' + LAST,
+                        'minus_of_last_and_one': f'-{LAST} - 1', 'plus_of_first': '+' + FIRST,
+                        'minus_of_a_sum_over_first': f'-({FIRST} + 1)', 'minus_of_an_attribute': f'-({LAST})',
+                        'difference_in_parentheses': '2147483648 - (1)', 'right_sum_in_parentheses': '1 - (1 - 1)',
+                        'parentheses_around_all': f'({LAST})', 'many_parentheses': '(((((1)))))',
+                        'minus_of_the_widest_literal': f'-{WIDEST} + {WIDEST}',
+                        'minus_down_to_the_lowest_value': f'-{WIDEST} - 1 + {WIDEST}',
+                        'literals_that_nest_to_the_right': f'{WIDEST} - ({WIDEST} - 1)'}.items():
+        yield accepted(f'static_{name}.adb', procedure(value, **OUT), 1)
+    for name, value in {'minus_past_the_smallest_integer': '@-2147483649', 'minus_of_first': '@-' + FIRST,
+                        'minus_of_first_in_parentheses': f'@-({FIRST})', 'minus_of_first_and_one': f'@-{FIRST} - 1',
+                        'minus_of_last_and_two': f'-{LAST} @- 2', 'plus_past_the_largest_integer': '@+2147483648',
+                        'wide_literal_in_parentheses': '@(2147483648)', 'minus_of_a_minus': '@-(-2147483648)',
+                        'minus_of_the_widest_literal': '@-' + WIDEST,
+                        'minus_below_the_lowest_value': f'-{WIDEST} @- 2 + {WIDEST}',
+                        'minus_of_the_lowest_value': f'@-(-{WIDEST} - 1) - {WIDEST}',
+                        'sum_past_last_in_parentheses': f'({LAST} @+ 1) - 1',
+                        'sum_past_last_behind': f'1 - ({LAST} @+ 1)',
+                        'wide_literal_in_parentheses_beside_last': f'{LAST} - @(2147483648)'}.items():
+        yield refused(f'past_its_type_{name}.adb', procedure(value, **OUT), 'N12')
+
+
+def signs_and_types():
+    """What is no Integer and what is no condition, and what is read behind a sign and in parentheses."""
+    for name, (rule, value) in {'a_comparison': ('N10', '@(X = 1)'),
+                                'a_comparison_in_more_parentheses': ('N10', '@((X < X))'),
+                                'minus_of_a_comparison': ('N10', '@-(X = 1)'),
+                                'plus_of_a_comparison': ('N10', '@+(X = 1)'),
+                                'minus_of_a_static_comparison': ('N10', '@-(1 = 1) + X'),
+                                'a_comparison_on_the_left': ('N10', '(X = 1) @+ X'),
+                                'a_comparison_on_the_right': ('N10', 'X @- (X = 1)'),
+                                'a_comparison_beside_a_literal': ('N10', '(X = X) @+ 1'),
+                                'a_wide_literal_on_the_right': ('N12', 'X + @(2147483648)'),
+                                'a_wide_sum_on_the_right': ('N12', 'X - @(2147483647 + 1)'),
+                                'a_wide_minus_on_the_left': ('N12', '@-2147483649 + X'),
+                                'a_minus_of_first_on_the_left': ('N12', f'@-{FIRST} + X'),
+                                'an_undeclared_name': ('N1', '-(X - (@Y))'), 'a_type': ('N3', '-@Integer'),
+                                'the_procedure': ('N3', '(@Inc)')}.items():
+        yield refused(f'value_with_{name}.adb', procedure(value, pre='X = 0'), rule)
+    for name, (rule, pre) in {'a_comparison_of_a_comparison': ('N10', '(X = X) @= X'),
+                              'a_comparison_with_a_comparison': ('N10', 'X @< (X = X)'),
+                              'two_comparisons': ('N10', '(X = X) @= (X = X)'),
+                              'two_static_comparisons': ('N10', '(1 = 1) @= (2 = 2)'),
+                              'a_comparison_in_a_sum': ('N10', '(X = X) @+ 1 > 0'),
+                              'minus_of_a_comparison': ('N10', '@-(X < 5)'),
+                              'plus_of_a_comparison': ('N10', '@+(X < 5)'), 'a_name_in_parentheses': ('N10', '@(X)'),
+                              'minus_of_a_name': ('N10', '@-X'), 'a_sum_in_parentheses': ('N10', '@(X + 1)'),
+                              'a_wide_minus': ('N12', 'X > @-2147483649'),
+                              'minus_below_a_wide_literal': ('N12', '-X < @2147483648'),
+                              'minus_of_first': ('N12', f'X > @-{FIRST}'),
+                              'an_undeclared_name_in_parentheses': ('N1', '(@Y) < 5'),
+                              'an_undeclared_name_behind_a_sign': ('N1', 'X < -@Y')}.items():
+        yield refused(f'pre_of_{name}.adb', procedure('X', pre=pre), rule)
+    yield refused('pre_with_a_sign_over_a_formal_of_mode_out.adb', procedure('5', pre='0 < -(@X)', **OUT), 'U11')
+    for name, pre in {'minus_of_a_wide_literal': 'X > -2147483648', 'parentheses': '(X > 0)',
+                      'many_parentheses': '(((X)) > (0))', 'parentheses_around_each': '(X) > (0)',
+                      'a_minus_on_the_left': '-5 < X', 'a_sum_behind_a_minus': 'X >= -5 + 3',
+                      'a_plus_on_both_sides': '+X > +0', 'a_minus_of_parentheses': 'X > -(1 + 1)',
+                      'parentheses_on_the_right': 'X > 5 - (3 - 1)'}.items():
+        yield accepted(f'decrement_with_pre_of_{name}.adb', procedure('X - 1', pre=pre))
+    yield refused('flow_behind_a_sign_missing.adb',
+                  procedure('-B + A', derives='@A from A & B from B', pre='B = 0', **AB), 'F1 missing: A from B')
+    yield refused('flow_in_parentheses_missing.adb',
+                  procedure('A - (B)', derives='@A from A & B from B', pre='B = 0', **AB), 'F1 missing: A from B')
+    yield accepted('flow_behind_a_sign.adb', longer(A_TO_X, 'X from A', 'X := -A', pre='A = 0'))
+    yield accepted('flow_of_nothing_behind_a_sign.adb', longer(OUT_X, 'X from', f'X := -({LAST})'), 1)
+
+
+def signs_and_syntax():
+    """Where signs and parentheses cannot stand, or are not closed."""
+    yield unexpected('value_with_two_hyphens.adb', procedure('--X').replace('end', '@end'))
+    yield accepted('tight_locals.adb',
+                   'procedure Inc(X:in out Integer)--#derives X from X;pre(X)>-5;\n'
+                   'is T,U:Integer;begin null;T:=-(X);X:=-T;end Inc;\n', 4)
+    yield accepted('one_token_a_line_without_formals.adb', spelled(SKIP_TOKENS).replace(' ', '\n'), 0, named='Skip')
+    yield accepted('parentheses_on_several_lines.adb', procedure('(\nX\n-- one more\n+\n1\n)', pre=BELOW))
+    yield accepted('pre_in_parentheses_on_several_lines.adb', procedure(pre="(\n--# X\n\n--# < -\n--# 5\n--# )"))
+    yield accepted('parenthesis_right_behind_a_mark.adb', procedure(pre='\n--#(X<0)'))
+    # each lexeme is maximal: `->` and `<->` are one in annotation text alone
+    yield accepted('less_and_a_minus.adb', procedure(pre='X<-5'))
+    yield accepted('greater_and_a_minus.adb', procedure('X-1', pre='X>-5'))
+    yield accepted('greater_or_equal_and_a_minus.adb', procedure('X-1', pre='X>=-(5)'))
+    yield accepted('equal_and_a_plus.adb', procedure('X-1', pre='X=+5'))
+    yield unexpected('minus_and_greater_in_pre.adb', procedure('X', pre='5@->X'))
+    yield unexpected('less_minus_and_greater_in_pre.adb', procedure('X', pre='X@<->5'))
+    yield unexpected('minus_and_greater_in_code.adb', procedure('X-@>X'))
+    yield unexpected('star_in_parentheses.adb', procedure('X', derives='X from @(*)'))
+    yield unexpected('import_in_parentheses.adb', procedure('X', derives='X from @(X)'))
+    yield unexpected('export_in_parentheses.adb', procedure('X', derives='@(X) from X'))
+    yield unexpected('import_behind_a_sign.adb', procedure('X', derives='X from @-X'))
+    yield unexpected('type_in_parentheses.adb', procedure('X', type_mark='@(Integer)'))
+    yield unexpected('formal_in_more_parentheses.adb', procedure('X', formals='@(X)'))
+    yield unexpected('end_name_in_parentheses.adb', procedure('X', end='@(Inc)'))
+    for name, value in {'a_sign_behind_a_sign': '- @-X', 'a_sign_behind_an_operator': 'X - @-X',
+                        'a_plus_behind_a_minus': 'X - @+X', 'a_sign_behind_a_sum': 'X + X + @-1', 'a_sign_alone': '-@',
+                        'a_sign_before_an_operator': '-@= X', 'no_operand_in_parentheses': '(@)',
+                        'a_sign_alone_in_parentheses': '(-@)', 'two_operands_in_parentheses': '(X @X)',
+                        'a_comma_in_parentheses': '(X@, X)', 'an_open_parenthesis': '(X@',
+                        'two_open_parentheses': '((X)@', 'a_closed_parenthesis': 'X@)',
+                        'two_closed_parentheses': '(X)@)', 'parentheses_behind_a_name': 'X @(X)',
+                        'parentheses_behind_a_number': '1 @(X)', 'parentheses_behind_parentheses': '(X) @(X)',
+                        'a_name_behind_parentheses': '(X) @X', 'a_becomes_in_parentheses': '(X @:= X)',
+                        'a_semicolon_in_parentheses': '(X@; )', 'two_relations_in_parentheses': '(X = X @= X)',
+                        'a_relation_behind_two': '(X = X) = X @= X', 'abs': '@abs X', 'not': '@not (X)',
+                        'a_product_behind_a_sign': '-X @* X', 'a_power_of_parentheses': '(X) @** X',
+                        'a_marked_parenthesis': '--# @(\nX)', 'a_marked_sign': '--# @-\nX'}.items():
+        yield unexpected(f'value_with_{name}.adb', procedure(value))
+    for name, pre in {'a_sign_behind_a_sign': '- @-X < 1', 'a_sign_behind_an_operator': 'X + @-1 < 1',
+                      'an_open_parenthesis': '(X < 1@', 'a_closed_parenthesis': 'X < 1@)',
+                      'no_condition_in_parentheses': '(@)', 'two_relations_in_parentheses': '(X < 1 @< 1)',
+                      'a_relation_behind_two': '(X < 1) = X @< 1', 'a_semicolon_in_parentheses': '(X < 1@; )',
+                      'an_unmarked_parenthesis': '\n@(\n--# X < 1)',
+                      'an_unmarked_closing_parenthesis': '(X < 1\n@)\n--# '}.items():
+        yield unexpected(f'pre_with_{name}.adb', procedure('X', pre=pre))
+
+
+def nested(count, value='1', opening='('):
+    """The value in so many parentheses, with what stands in front of each."""
+    return opening * count + value + ')' * count
+
+
+def levels_of_parentheses():
+    """Parentheses and signs open a level each, as operators do."""
+    yield accepted('two_hundred_parentheses.adb', procedure(nested(200), **OUT), 1)
+    yield too_nested('two_hundred_and_one_parentheses.adb', procedure(nested(201), **OUT))
+    yield accepted('two_hundred_parentheses_of_a_variable.adb', procedure(nested(200, 'X')), 1)
+    yield too_nested('two_hundred_and_one_parentheses_of_a_variable.adb', procedure(nested(201, 'X')))
+    yield accepted('hundred_signs_before_parentheses.adb', procedure(nested(100, opening='-('), **OUT), 1)
+    yield accepted('hundred_signs_of_a_variable.adb', procedure(nested(100, 'X', '-('), pre=ABOVE), 101)
+    yield accepted('hundred_plus_signs_of_a_variable.adb', procedure(nested(100, 'X', '+(')), 1)
+    yield too_nested('two_hundred_and_one_levels_at_a_sign.adb', procedure(nested(100, '-1', '-('), **OUT))
+    yield too_nested('two_hundred_and_one_levels_at_a_parenthesis.adb', procedure(nested(100, '(1)', '-('), **OUT))
+    yield too_nested('two_hundred_and_one_levels_at_an_operator.adb', procedure(nested(100, '1 + 1', '-('), **OUT))
+    yield accepted('two_hundred_levels_at_a_sign.adb', procedure(nested(199, '-1'), **OUT), 1)
+    yield too_nested('sign_in_two_hundred_parentheses.adb', procedure(nested(200, '-1'), **OUT))
+    yield too_nested('plus_in_two_hundred_parentheses.adb', procedure(nested(200, '+1'), **OUT))
+    yield accepted('two_hundred_levels_at_an_operator.adb', procedure(nested(199, '1 + 1'), **OUT), 1)
+    yield too_nested('operator_in_two_hundred_parentheses.adb', procedure(nested(200, '1 + 1'), **OUT))
+    yield accepted('two_hundred_levels_behind_a_sign.adb', procedure('-' + nested(199), **OUT), 1)
+    yield too_nested('two_hundred_parentheses_behind_a_sign.adb', procedure('-' + nested(200), **OUT))
+
+
+def mixed_levels():
+    """Levels of parentheses beside operators, signs and relations."""
+    yield accepted('sum_behind_a_sign_of_two_hundred_levels.adb', procedure('-1' + ' + 1' * 199, **OUT), 1)
+    yield too_nested('sum_behind_a_sign_of_two_hundred_and_one_levels.adb', procedure('-1' + ' + 1' * 200, **OUT))
+    yield accepted('operator_behind_parentheses_at_level_two_hundred.adb', procedure(nested(199) + ' + 1', **OUT), 1)
+    yield too_nested('operator_behind_two_hundred_parentheses.adb', procedure(nested(200) + ' + 1', **OUT))
+    yield accepted('parentheses_behind_an_operator_at_level_two_hundred.adb', procedure('1 + ' + nested(199), **OUT), 1)
+    yield too_nested('two_hundred_parentheses_behind_an_operator.adb', procedure('1 + ' + nested(200), **OUT))
+    yield accepted('parentheses_on_both_sides_at_level_two_hundred.adb',
+                   procedure(f'{nested(199)} - {nested(199)}', **OUT), 1)
+    # each operator is over the parentheses of its right operand, and the first one so makes two levels
+    yield accepted('sum_of_parentheses_of_two_hundred_levels.adb', procedure('1' + ' + (1)' * 199, **OUT), 1)
+    yield too_nested('sum_of_parentheses_of_two_hundred_and_one_levels.adb', procedure('1' + ' + (1)' * 200, **OUT))
+    # the last operand's parentheses are under one operator alone
+    yield accepted('sum_and_parentheses_of_two_hundred_levels.adb', procedure('1' + ' + 1' * 199 + ' + (1)', **OUT), 1)
+    yield accepted('sum_beside_parentheses_of_two_hundred_levels.adb',
+                   procedure('1' + ' + 1' * 100 + ' + ' + nested(199), **OUT), 1)
+    yield accepted('sums_that_nest_to_the_right.adb', procedure(nested(100, '1', '1 + ('), **OUT), 1)
+    yield too_nested('sums_that_nest_to_the_right_too_deep.adb', procedure(nested(100, '1 + 1', '1 + ('), **OUT))
+    yield too_nested('parentheses_that_nest_to_the_right_too_deep.adb', procedure(nested(100, '(1)', '1 - ('), **OUT))
+    yield accepted('relation_in_parentheses_at_level_two_hundred.adb', procedure('X', pre=nested(199, 'X < 5')), 1)
+    yield too_nested('relation_in_two_hundred_parentheses.adb', procedure('X', pre=nested(200, 'X < 5')))
+    yield accepted('relation_behind_parentheses_at_level_two_hundred.adb',
+                   procedure('X', pre=nested(199, 'X') + ' < 5'), 1)
+    yield too_nested('relation_behind_two_hundred_parentheses.adb', procedure('X', pre=nested(200, 'X') + ' < 5'))
+    yield accepted('parentheses_behind_a_relation_at_level_two_hundred.adb',
+                   procedure('X', pre='5 > ' + nested(199, 'X')), 1)
+    yield too_nested('two_hundred_parentheses_behind_a_relation.adb', procedure('X', pre='5 > ' + nested(200, 'X')))
+    yield accepted('sign_behind_a_relation_at_level_two_hundred.adb',
+                   procedure('X', pre='5 > -X' + ' + 0' * 198), 1)
+    yield too_nested('sign_behind_a_relation_at_two_hundred_and_one_levels.adb',
+                     procedure('X', pre='5 > -X' + ' + 0' * 199))
+    yield accepted('sign_before_a_relation_at_level_two_hundred.adb',
+                   procedure('X', pre='-X' + ' + 0' * 198 + ' < 5'), 1)
+    yield too_nested('sign_before_a_relation_at_two_hundred_and_one_levels.adb',
+                     procedure('X', pre='-X' + ' + 0' * 199 + ' < 5'))
+    yield refused('relation_of_a_relation_at_level_two_hundred.adb',
+                  procedure('X', pre=nested(197, '(X = X) @= X')), 'N10')
+    yield too_nested('relation_of_a_relation_at_two_hundred_and_one_levels.adb',
+                     procedure('X', pre=nested(198, '(X = X) = X')))
+    yield accepted('two_hundred_parentheses_in_two_statements.adb',
+                   longer(OUT_XY, 'X, Y from', f'X := {nested(200)}', f'Y := {nested(200)}'), 2)
+
+
+def limit_or_breach():
+    """Of the limit and a breach of syntax, whichever comes first in the text."""
+    yield unexpected('two_hundred_parentheses_at_the_end_of_the_text.adb', cut('(' * 200 + '@'))
+    yield too_nested('two_hundred_and_one_parentheses_at_the_end_of_the_text.adb', cut('(' * 201))
+    yield too_nested('two_hundred_parentheses_and_a_sign_at_the_end_of_the_text.adb', cut('(' * 200 + '-'))
+    yield unexpected('two_hundred_parentheses_and_a_number_at_the_end_of_the_text.adb', cut('(' * 200 + '1@'))
+    yield unexpected('two_hundred_parentheses_and_no_operand.adb', procedure('(' * 200 + '@)', **OUT))
+    yield too_nested('two_hundred_and_one_parentheses_and_no_operand.adb', procedure('(' * 201 + ')', **OUT))
+    yield unexpected('two_hundred_parentheses_and_another_token.adb', procedure(nested(200, '@* 1'), **OUT))
+    yield unexpected('two_hundred_parentheses_and_two_numbers.adb', procedure(nested(200, '1 @1'), **OUT))
+    yield unexpected('two_hundred_parentheses_and_one_not_closed.adb', procedure('((' + nested(198) + ')@', **OUT))
+    yield unexpected('two_hundred_parentheses_and_one_closed_more.adb', procedure(nested(200) + '@)', **OUT))
+    yield unexpected('two_hundred_parentheses_and_a_number_behind.adb', procedure(nested(200) + ' @1 + 1', **OUT))
+    yield unexpected('sign_behind_two_hundred_operators.adb', procedure('1' + ' + 1' * 199 + ' + @-1', **OUT))
+    yield too_nested('sign_behind_two_hundred_and_one_operators.adb', procedure('1' + ' + 1' * 200 + ' + -1', **OUT))
+    yield unexpected('two_signs_at_level_two_hundred.adb', procedure(nested(199, '- @-1'), **OUT))
+    yield unexpected('two_hundred_and_one_parentheses_behind_a_breach.adb', procedure('1 @1 + ' + nested(201), **OUT))
+    yield too_nested('two_hundred_and_one_parentheses_before_a_breach.adb', procedure(nested(201) + ' 1', **OUT))
+    yield unexpected('two_hundred_and_one_parentheses_for_a_target.adb',
+                     COPY.replace('   X', '   @' + nested(201, 'X')))
+    yield unexpected('two_hundred_and_one_parentheses_behind_a_name.adb', procedure('X @' + nested(201), **OUT))
+    yield unexpected('two_relations_in_two_hundred_levels.adb', procedure('X', pre=nested(199, 'X = X @= X')))
+    yield bad_byte('two_hundred_and_one_parentheses_before_a_bad_byte.adb', procedure(nested(201), **OUT) + '@?')
+    yield refused('two_hundred_parentheses_of_an_undeclared_name.adb', procedure(nested(200, '@Y')), 'N1')
+    yield too_nested('two_hundred_and_one_parentheses_of_an_undeclared_name.adb', procedure(nested(201, 'Y')))
+    yield too_nested('two_hundred_and_one_parentheses_in_the_second_procedure.adb',
+                     INC + procedure(nested(201), name='Same', end='Same', **OUT))
+    yield too_nested('two_hundred_and_one_parentheses_in_pre.adb', procedure('1 1', pre=nested(201, 'X < 5')))
+    yield unexpected('two_hundred_and_one_parentheses_behind_a_breach_in_pre.adb',
+                     procedure(nested(201), pre='X @X'))
+
+
+def examples():
+    """The examples of the documents."""
+    for folder in DOCUMENTS.values():
+        for text, report in examples_in(folder):
+            name = text.relative_to(TOP).as_posix()
+            printed = report.read_text(encoding='utf-8')
+            yield Case(name, text.read_bytes(), printed, 0 if printed.endswith('accepted\n') else 1)
+
+
+def examples_in(folder):
+    """The file of each example, and the one with what is printed on it."""
+    return [(text, text.with_suffix('.report')) for text in sorted(folder.glob('*.adb'))]
+
+
+def documented():
+    """The worked example of docs/language.md with each of its changes, and another one of examples/."""
+    yield accepted('ex.adb',
+                   longer('X, Y : in out Integer', 'X from Y & Y from X', 'T := X', 'X := Y', 'Y := T', declared=T,
+                          name='Exchange'), 3, named='Exchange')
+    yield bad_number('inc_with_a_bad_number.adb', procedure('X + 1_0', pre=BELOW), at=(6, 13))
+    yield unexpected('inc_with_a_product.adb', procedure('X * 1', pre=BELOW), at=(6, 11))
+    yield unexpected('inc_without_end.adb', INC.replace('end Inc;\n', ''), at=(7, 1))
+    yield refused('inc_with_an_undeclared_name.adb', procedure('@Y + 1', pre=BELOW), 'N1')
+    yield refused('inc_with_two_formals_of_one_name.adb', procedure(formals='X, @x', pre=BELOW), 'N2')
+    yield refused('inc_of_the_procedure.adb', procedure('@Inc', pre=BELOW), 'N3')
+    yield refused('inc_with_another_end_name.adb', procedure(end='@Dec', pre=BELOW), 'N5')
+    yield refused('inc_with_a_comparison.adb', procedure('X @= 1', pre=BELOW), 'N10')
+    yield refused('inc_past_last.adb', procedure(LAST + ' @+ 1', pre=BELOW), 'N12')
+    yield refused('inc_of_mode_in.adb', procedure(mode='in', derives='@X from X', pre=BELOW), 'U8')
+    yield refused('inc_with_an_import_twice.adb', at_derives(procedure(derives='X from X, X', pre=BELOW)), 'U7')
+    yield refused('inc_of_mode_out.adb', procedure(mode='out', derives='X from @X', pre=BELOW), 'U8')
+    yield refused('inc_of_mode_out_without_imports.adb',
+                  procedure(mode='out', derives='X from ', pre='@' + BELOW), 'U11')
+    yield refused('inc_of_mode_out_without_imports_and_pre.adb',
+                  procedure('@X + 1', mode='out', derives='@X from '), 'F1 missing: X from X', 'F4 unset: X')
+    yield refused('inc_that_sets_one.adb', procedure('1', derives='@X from X', pre=BELOW), 'F2 unused: X from X')
+    yield refused('inc_that_sets_one_behind_its_sum.adb',
+                  longer(X, '@X from X', '@X := X + 1', 'X := 1', pre=BELOW), 'F2 unused: X from X', 'F3')
+
+
+# Lines of whole reports that several procedures have.
+CLOSED_2 = 'Inc: 2 conditions, 2 simplified, 0 scripted, 0 open'
+CLOSED_3 = 'Inc: 3 conditions, 3 simplified, 0 scripted, 0 open'
+ONE_OF_2 = 'Inc: 2 conditions, 1 simplified, 0 scripted, 1 open'
+ONE_OF_3 = 'Inc: 3 conditions, 2 simplified, 0 scripted, 1 open'
+TWO_OF_3 = 'Inc: 3 conditions, 1 simplified, 0 scripted, 2 open'
+ONE_OF_4 = 'Inc: 4 conditions, 3 simplified, 0 scripted, 1 open'
+TWO_OF_4 = 'Inc: 4 conditions, 2 simplified, 0 scripted, 2 open'
+
+
+def assigned(value, pre=None):
+    """The text of a procedure that assigns the value to its one formal, of mode `in out`."""
+    return longer(X, 'X from X', f'X := {value}', pre=pre)
+
+
+def programs_of_one_sum():
+    """Whole reports on one assignment; Integer is L = 2147483647 at the highest, and -L - 1 at the lowest."""
+    # -X is L + 1 where X is -L - 1
+    yield reported('minus.adb', assigned('-X'),
+                   'minus.adb:5:9: V1 unproved: Inc.1 overflow', ONE_OF_2, 'refused: 1')
+    # X is -L at the lowest, so that -X is L at the highest
+    yield reported('minus_above_the_lowest.adb', assigned('-X', pre=ABOVE), CLOSED_2, 'accepted')
+    yield reported('minus_that_just_fits.adb', assigned('-X', pre='X >= -2147483647'), CLOSED_2, 'accepted')
+    yield reported('minus_that_just_does_not_fit.adb', assigned('-X', pre='X >= -2147483648'),
+                   'minus_that_just_does_not_fit.adb:6:9: V1 unproved: Inc.1 overflow', ONE_OF_2, 'refused: 1')
+    # the precondition bounds the term -X itself
+    yield reported('minus_bounded_itself.adb', assigned('-X', pre='-X <= 2147483647'), CLOSED_2, 'accepted')
+    # 0 - X is another term than -X, and a bound on one says nothing of the other
+    yield reported('minus_bounded_as_a_difference.adb', assigned('-X', pre='0 - X <= 2147483647'),
+                   'minus_bounded_as_a_difference.adb:6:9: V1 unproved: Inc.1 overflow', ONE_OF_2, 'refused: 1')
+    yield reported('difference_bounded_as_a_minus.adb', assigned('0 - X', pre='-X <= 2147483647'),
+                   'difference_bounded_as_a_minus.adb:6:11: V1 unproved: Inc.1 overflow', ONE_OF_2, 'refused: 1')
+    # a bound on -X says nothing of X, though it keeps X above -5
+    yield reported('minus_bounds_no_operand.adb', assigned('X - 1', pre='-X < 5'),
+                   'minus_bounds_no_operand.adb:6:11: V1 unproved: Inc.1 overflow', ONE_OF_2, 'refused: 1')
+    # the inner sign comes first; what is shown of it, -L .. L, closes the outer one
+    yield reported('minus_of_a_minus.adb', assigned('-(-X)'),
+                   'minus_of_a_minus.adb:5:11: V1 unproved: Inc.1 overflow', ONE_OF_3, 'refused: 1')
+    # the same of a hundred: the innermost stands in column 9 + 2 * 99
+    yield reported('minus_of_a_hundred.adb', assigned('-(' * 100 + 'X' + ')' * 100),
+                   'minus_of_a_hundred.adb:5:207: V1 unproved: Inc.1 overflow',
+                   'Inc: 101 conditions, 100 simplified, 0 scripted, 1 open', 'refused: 1')
+    # X + 1 may be L + 1; behind that it lies in -L .. L, and so does its minus
+    yield reported('minus_of_a_sum.adb', assigned('-(X + 1)'),
+                   'minus_of_a_sum.adb:5:13: V1 unproved: Inc.1 overflow', ONE_OF_3, 'refused: 1')
+    # X - 1 may be -L - 2; behind that it may be -L - 1 still, whose minus is too high; the operand comes first
+    yield reported('minus_of_a_difference.adb', assigned('-(X - 1)'),
+                   'minus_of_a_difference.adb:5:13: V1 unproved: Inc.1 overflow',
+                   'minus_of_a_difference.adb:5:9: V1 unproved: Inc.2 overflow', TWO_OF_3, 'refused: 2')
+    # X is -L at the lowest: X - 1 fits, but its minus does not
+    yield reported('minus_of_a_difference_above_the_lowest.adb', assigned('-(X - 1)', pre=ABOVE),
+                   'minus_of_a_difference_above_the_lowest.adb:6:9: V1 unproved: Inc.2 overflow', ONE_OF_3,
+                   'refused: 1')
+    # X - 1 is -L at the lowest
+    yield reported('minus_of_a_difference_that_just_fits.adb', assigned('-(X - 1)', pre='X > -2147483647'),
+                   CLOSED_3, 'accepted')
+    # X + 1 may be L + 1; behind that it lies in -L .. L, and 1 less is -L - 1 at the lowest
+    yield reported('sum_and_back.adb', assigned('(X + 1) - 1'),
+                   'sum_and_back.adb:5:12: V1 unproved: Inc.1 overflow', ONE_OF_3, 'refused: 1')
+    yield reported('sum_and_back_below_last.adb', assigned('(X + 1) - 1', pre=BELOW), CLOSED_3, 'accepted')
+    yield reported('difference_and_on.adb', assigned('(X - 1) + 1'),
+                   'difference_and_on.adb:5:12: V1 unproved: Inc.1 overflow', ONE_OF_3, 'refused: 1')
+    # 1 - X is 1 - L at the lowest, and may be L + 2; behind that 1 less it lies in 1 - L .. L
+    yield reported('difference_of_a_difference.adb', assigned('1 - (1 - X)'),
+                   'difference_of_a_difference.adb:5:16: V1 unproved: Inc.1 overflow', ONE_OF_3, 'refused: 1')
+    # the left sum, the right one, and then their difference, which none of them bounds
+    yield reported('difference_of_two_sums.adb', assigned('(X + 1) - (X - 1)'),
+                   'difference_of_two_sums.adb:5:12: V1 unproved: Inc.1 overflow',
+                   'difference_of_two_sums.adb:5:22: V1 unproved: Inc.2 overflow',
+                   'difference_of_two_sums.adb:5:17: V1 unproved: Inc.3 overflow',
+                   'Inc: 4 conditions, 1 simplified, 0 scripted, 3 open', 'refused: 3')
+    # parentheses have no check, and the range check at the first of them is closed by what was shown
+    yield reported('sum_in_parentheses.adb', assigned('((X + 1))'),
+                   'sum_in_parentheses.adb:5:13: V1 unproved: Inc.1 overflow', ONE_OF_2, 'refused: 1')
+    # a plus has no check, so that the range check is alone
+    yield reported('plus.adb', assigned('+X'), 'Inc: 1 conditions, 1 simplified, 0 scripted, 0 open', 'accepted')
+    yield reported('plus_before_a_sum.adb', assigned('+X + 1'),
+                   'plus_before_a_sum.adb:5:12: V1 unproved: Inc.1 overflow', ONE_OF_2, 'refused: 1')
+    # the sign is over X alone: -X, and then 1 more, which may be L + 1 still
+    yield reported('minus_before_a_sum.adb', assigned('-X + 1'),
+                   'minus_before_a_sum.adb:5:9: V1 unproved: Inc.1 overflow',
+                   'minus_before_a_sum.adb:5:12: V1 unproved: Inc.2 overflow', TWO_OF_3, 'refused: 2')
+    yield reported('minus_of_what_is_above_zero.adb', assigned('-X + 1', pre='X > 0'), CLOSED_3, 'accepted')
+    # -X lies in -L .. L behind its check: 1 less just fits, and 2 less do not
+    yield reported('minus_and_one_less.adb', assigned('-X - 1'),
+                   'minus_and_one_less.adb:5:9: V1 unproved: Inc.1 overflow', ONE_OF_3, 'refused: 1')
+    yield reported('minus_and_two_less.adb', assigned('-X - 2'),
+                   'minus_and_two_less.adb:5:9: V1 unproved: Inc.1 overflow',
+                   'minus_and_two_less.adb:5:12: V1 unproved: Inc.2 overflow', TWO_OF_3, 'refused: 2')
+    # -1 - L is the lowest value
+    yield reported('difference_that_just_fits.adb', assigned('X - 2147483647', pre='X >= -1'), CLOSED_2, 'accepted')
+    yield reported('difference_that_just_does_not_fit.adb', assigned('X - 2147483647', pre='X >= -2'),
+                   'difference_that_just_does_not_fit.adb:6:11: V1 unproved: Inc.1 overflow', ONE_OF_2, 'refused: 1')
+    # what is static in parentheses is one number
+    yield reported('static_sum_that_just_fits.adb', assigned('X + (2147483647 - 1)', pre='X <= 1'),
+                   CLOSED_2, 'accepted')
+    yield reported('static_sum_that_just_does_not_fit.adb', assigned('X + (2147483647 - 1)', pre='X <= 2'),
+                   'static_sum_that_just_does_not_fit.adb:6:11: V1 unproved: Inc.1 overflow', ONE_OF_2, 'refused: 1')
+    yield reported('static_minus_that_just_fits.adb', assigned('X + (-5)', pre='X >= -2147483643'),
+                   CLOSED_2, 'accepted')
+    yield reported('static_minus_that_just_does_not_fit.adb', assigned('X + (-5)', pre='X >= -2147483644'),
+                   'static_minus_that_just_does_not_fit.adb:6:11: V1 unproved: Inc.1 overflow', ONE_OF_2, 'refused: 1')
+    # X - 1 lies in 0 .. L - 1, or else in -1 .. L - 1
+    yield reported('difference_from_last_that_just_fits.adb', assigned(LAST + ' - (X - 1)', pre='X > 0'),
+                   CLOSED_3, 'accepted')
+    yield reported('difference_from_last_that_just_does_not_fit.adb', assigned(LAST + ' - (X - 1)', pre='X >= 0'),
+                   'difference_from_last_that_just_does_not_fit.adb:6:22: V1 unproved: Inc.2 overflow', ONE_OF_3,
+                   'refused: 1')
+
+
+def programs_with_pre():
+    """Whole reports on preconditions with signs and parentheses."""
+    # (X + 1) is the term X + 1
+    yield reported('pre_on_a_sum_in_parentheses.adb', assigned('X + 1', pre='(X + 1) <= 2147483647'),
+                   CLOSED_2, 'accepted')
+    yield reported('pre_in_parentheses_bounds.adb', assigned('X + 1', pre='((X) < (2147483647))'),
+                   CLOSED_2, 'accepted')
+    # 2147483646 + 1 fits, and 2147483647 + 1 does not
+    yield reported('pre_with_two_minuses.adb', assigned('X + 1', pre='X <= -(-2147483646)'), CLOSED_2, 'accepted')
+    yield reported('pre_with_two_minuses_past_the_bound.adb', assigned('X + 1', pre='X <= -(-2147483647)'),
+                   'pre_with_two_minuses_past_the_bound.adb:6:11: V1 unproved: Inc.1 overflow', ONE_OF_2, 'refused: 1')
+    # a false precondition closes all
+    yield reported('pre_of_a_minus_that_is_false.adb', assigned('X + X + X', pre='-1 > 1'), CLOSED_3, 'accepted')
+    # (X) and X are one term, which is not less than itself
+    yield reported('pre_of_parentheses_that_is_false.adb', assigned('-(X + X)', pre='(X) < +X'),
+                   CLOSED_3, 'accepted')
+    # -X and -(X) are one term, and that they are equal helps nothing
+    yield reported('pre_of_a_minus_that_is_true.adb', assigned('-X', pre='-X = -(X)'),
+                   'pre_of_a_minus_that_is_true.adb:6:9: V1 unproved: Inc.1 overflow', ONE_OF_2, 'refused: 1')
+    # A is -5, and 5 + -5 fits
+    yield reported('pre_equal_to_a_minus.adb', longer(A_TO_X, 'X from A', 'X := -(A) + A', pre='A = -5'),
+                   CLOSED_3, 'accepted')
+
+
+def programs_of_several_sums():
+    """Whole reports on several variables, statements and procedures."""
+    # the right operand's difference comes before the sum; neither is bounded
+    yield reported('right_operand_first.adb',
+                   longer('A, B : in Integer; X : in out Integer', 'X from *, A, B', 'X := X + (A - B)'),
+                   'right_operand_first.adb:5:16: V1 unproved: Inc.1 overflow',
+                   'right_operand_first.adb:5:11: V1 unproved: Inc.2 overflow', TWO_OF_3, 'refused: 2')
+    yield reported('difference_with_a_minus.adb',
+                   longer('A, B : in Integer; X : out Integer', 'X from A, B', 'X := A - (-B)'),
+                   'difference_with_a_minus.adb:5:14: V1 unproved: Inc.1 overflow',
+                   'difference_with_a_minus.adb:5:11: V1 unproved: Inc.2 overflow', TWO_OF_3, 'refused: 2')
+    # (X + 1), +X + 1 and X + 1 are one term, of which the first statement shows what the second needs
+    yield reported('sum_in_parentheses_and_sum.adb', longer(X_TO_XY, 'X, Y from X', 'Y := (X + 1)', 'X := X + 1'),
+                   'sum_in_parentheses_and_sum.adb:5:12: V1 unproved: Inc.1 overflow', ONE_OF_4, 'refused: 1')
+    yield reported('sum_with_a_plus_and_sum.adb', longer(X_TO_XY, 'X, Y from X', 'Y := +X + 1', 'X := X + 1'),
+                   'sum_with_a_plus_and_sum.adb:5:12: V1 unproved: Inc.1 overflow', ONE_OF_4, 'refused: 1')
+    # 1 + X is another term
+    yield reported('sum_in_another_order.adb', longer(X_TO_XY, 'X, Y from X', 'Y := X + 1', 'X := 1 + X'),
+                   'sum_in_another_order.adb:5:11: V1 unproved: Inc.1 overflow',
+                   'sum_in_another_order.adb:6:11: V1 unproved: Inc.3 overflow', TWO_OF_4, 'refused: 2')
+    yield reported('minus_twice.adb', longer(X_TO_XY, 'X, Y from X', 'Y := -X', 'X := -(X)'),
+                   'minus_twice.adb:5:9: V1 unproved: Inc.1 overflow', ONE_OF_4, 'refused: 1')
+    # 0 - X is another term than -X
+    yield reported('minus_and_difference.adb', longer(X_TO_XY, 'X, Y from X', 'Y := -X', 'X := 0 - X'),
+                   'minus_and_difference.adb:5:9: V1 unproved: Inc.1 overflow',
+                   'minus_and_difference.adb:6:11: V1 unproved: Inc.3 overflow', TWO_OF_4, 'refused: 2')
+    # null changes no value: X + 1 is shown, and 1 less fits
+    yield reported('null_between.adb', longer(X, 'X from X', 'X := X + 1', 'null', 'X := X - 1'),
+                   'null_between.adb:5:11: V1 unproved: Inc.1 overflow', ONE_OF_4, 'refused: 1')
+    yield reported('null_alone.adb', longer(X, 'X from *', 'null'),
+                   'Inc: 0 conditions, 0 simplified, 0 scripted, 0 open', 'accepted')
+    # a procedure without formals has no conditions
+    yield reported('skip.adb', longer(None, None, 'null', name='Skip'),
+                   'Skip: 0 conditions, 0 simplified, 0 scripted, 0 open', 'accepted')
+    # the third begins in line 14
+    yield reported('skip_rest_and_minus.adb',
+                   longer(None, None, 'null', name='Skip')
+                   + longer(None, None, 'null', 'null', pre='-1 < (1)', declared=T, name='Rest') + procedure('-X'),
+                   'skip_rest_and_minus.adb:18:9: V1 unproved: Inc.1 overflow',
+                   'Skip: 0 conditions, 0 simplified, 0 scripted, 0 open',
+                   'Rest: 0 conditions, 0 simplified, 0 scripted, 0 open', ONE_OF_2, 'refused: 1')
+    # the second begins in line 7, and the others are closed
+    yield reported('one_of_three.adb',
+                   longer(X, 'X from X', 'X := (X)', name='Same') + longer(X, 'X from X', 'X := -X', name='Neg') + INC,
+                   'one_of_three.adb:11:9: V1 unproved: Neg.1 overflow',
+                   'Same: 1 conditions, 1 simplified, 0 scripted, 0 open',
+                   'Neg: 2 conditions, 1 simplified, 0 scripted, 1 open', CLOSED_2, 'refused: 1')
+
+
+def programs_with_locals():
+    """Whole reports on locals that carry values."""
+    # L - 1 is a number
+    yield reported('local_of_last.adb', longer(OUT_X, 'X from', 'T := 2147483647', 'X := T - 1', declared=T),
+                   CLOSED_3, 'accepted')
+    # L + 1 does not fit, which makes a fact that is false, and closes the range check
+    yield reported('local_past_last.adb', longer(OUT_X, 'X from', 'T := 2147483647', 'X := T + 1', declared=T),
+                   'local_past_last.adb:7:11: V1 unproved: Inc.2 overflow', ONE_OF_3, 'refused: 1')
+    # L, -L, -L - 1 and then L + 1
+    to_the_lowest = ('T := 2147483647', 'U := -T', 'V := U - 1', 'X := -V')
+    yield reported('locals_to_the_lowest.adb', longer(OUT_X, 'X from', *to_the_lowest, declared=['T, U, V : Integer']),
+                   'locals_to_the_lowest.adb:9:9: V1 unproved: Inc.6 overflow',
+                   'Inc: 7 conditions, 6 simplified, 0 scripted, 1 open', 'refused: 1')
+    # behind a fact that is false all is closed
+    yield reported('locals_past_the_lowest.adb',
+                   longer(OUT_X, 'X from', *to_the_lowest, 'X := X + X', declared=['T, U, V : Integer']),
+                   'locals_past_the_lowest.adb:9:9: V1 unproved: Inc.6 overflow',
+                   'Inc: 9 conditions, 8 simplified, 0 scripted, 1 open', 'refused: 1')
+    # T is X - 1 and at most L - 1, so that T + 1 fits
+    yield reported('local_of_a_difference.adb', longer(X, 'X from X', 'T := X - 1', 'X := T + 1', declared=T),
+                   'local_of_a_difference.adb:6:11: V1 unproved: Inc.1 overflow', ONE_OF_4, 'refused: 1')
+    # U is -(-X), closed by what was shown of -X; then two range checks
+    yield reported('locals_in_a_row.adb',
+                   longer(X, 'X from X', 'T := -X', 'U := -T', 'X := U', declared=T_AND_U),
+                   'locals_in_a_row.adb:6:9: V1 unproved: Inc.1 overflow',
+                   'Inc: 5 conditions, 4 simplified, 0 scripted, 1 open', 'refused: 1')
+    # A - B may be -L - 1, whose minus does not fit
+    yield reported('local_of_a_difference_of_two.adb',
+                   longer('A, B : in Integer; X : out Integer', 'X from A, B', 'T := A - B', 'X := -T', declared=T),
+                   'local_of_a_difference_of_two.adb:6:11: V1 unproved: Inc.1 overflow',
+                   'local_of_a_difference_of_two.adb:7:9: V1 unproved: Inc.3 overflow', TWO_OF_4, 'refused: 2')
+    # T is X - 1 and later 1 less; Y keeps the first of these
+    yield reported('local_of_two_values.adb',
+                   longer(X_TO_XY, 'X, Y from X', 'T := X - 1', 'Y := T', 'T := T - 1', 'X := T', declared=T),
+                   'local_of_two_values.adb:6:11: V1 unproved: Inc.1 overflow',
+                   'local_of_two_values.adb:8:11: V1 unproved: Inc.4 overflow',
+                   'Inc: 6 conditions, 4 simplified, 0 scripted, 2 open', 'refused: 2')
+    # what was shown of X + 1 is a fact for the local's sum too
+    yield reported('local_of_a_sum_that_was_shown.adb',
+                   longer(X_TO_XY, 'X, Y from X', 'T := X', 'Y := T + 1', 'X := (X + 1)', declared=T),
+                   'local_of_a_sum_that_was_shown.adb:7:11: V1 unproved: Inc.2 overflow',
+                   'Inc: 5 conditions, 4 simplified, 0 scripted, 1 open', 'refused: 1')
+
+
+# A text that keeps every rule, with its parts.
+KEPT = '''procedure {name} ({formals} : {mode} Integer; B : in out {type}; X : out Integer)
+--# {derives} {export} from {first} & X from {third}{item};
+--# pre {left} < {right};
+is
+   T{local} : Integer;
+begin
+   {target} := B{sum};
+   T := {value};
+   B := T{comparison};
+{last}end {end};
+'''
+PARTS = {'name': 'Mix', 'formals': 'A', 'mode': 'in', 'type': 'Integer', 'derives': 'derives', 'export': 'B',
+         'first': 'A', 'third': 'B', 'item': '', 'left': 'A', 'right': '5', 'local': '', 'target': 'X', 'sum': '',
+         'value': 'A', 'comparison': '', 'last': '', 'end': 'Mix'}
+
+# What breaks a rule in it: its finding, and the parts that it changes. They stand in the order of the work, and of the
+# walk, so that of two of them the first one is told.
+SLIPS = {
+    'integer_for_the_name': ('N2', {'name': '@Integer', 'end': 'Integer'}),
+    'a_formal_twice': ('N2', {'formals': 'A, @A'}),
+    'no_type_of_a_formal': ('N1', {'type': '@Natural'}),
+    'the_procedure_for_an_export': ('N3', {'export': '@Mix'}),
+    'a_local_for_an_import': ('N1', {'third': '@T'}),
+    'a_comparison_in_pre': ('N10', {'left': '(A = B) @+ A'}),
+    'a_local_twice': ('N2', {'local': ', @B'}),
+    'a_wide_number_in_a_sum': ('N12', {'sum': ' - @2147483648'}),
+    'a_type_for_a_value': ('N3', {'value': '@Integer'}),
+    'a_comparison_for_a_value': ('N10', {'comparison': ' @= A'}),
+    'another_end_name': ('N5', {'end': '@Dec'}),
+    'an_export_twice': ('U7', {'derives': '@derives', 'item': ' & B from A'}),
+    'an_import_of_mode_out': ('U8', {'mode': 'out', 'first': '@A'}),
+    'pre_over_an_output': ('U11', {'right': '@X'}),
+    'an_input_for_a_target': ('U2', {'target': '@A'}),
+    'a_lost_value': ('F3', {'last': '   @T := X;\n'}),
+}
+
+
+def slipped(slip, later=None):
+    """The text with one slip or two; the `@` is that of the first."""
+    parts = PARTS | {part: text.replace('@', '') for part, text in (later or {}).items()} | slip
+    return KEPT.format(**parts)
+
+
+def breaches_in_order():
+    """Each rule broken alone, with a breach that is looked at later, and so with one that is looked at earlier.
+
+    Two slips that change one part cannot stand together.
+    """
+    unproved_sum = {'sum': ' @+ 1'}
+    yield accepted('no_slip.adb', KEPT.format(**PARTS), 3, named='Mix')
+    yield examined('unproved_sum.adb', slipped(unproved_sum), ('Mix', 4, 1))
+    for name, (rule, slip) in SLIPS.items():
+        yield refused(f'{name}.adb', slipped(slip), rule)
+    later_ones = SLIPS | {'an_unproved_sum': (None, unproved_sum)}
+    for (name, (rule, slip)), (later, (_, later_slip)) in combinations(later_ones.items(), 2):
+        if not slip.keys() & later_slip.keys():
+            yield refused(f'{name}_and_{later}.adb', slipped(slip, later_slip), rule)
+
+
+def breaches_in_expressions():
+    """The left operand comes first, then the right one, then the operator, and last what the place asks for."""
+    for name, (rule, value) in {
+            'both_operands_undeclared': ('N1', '@Y + Z'),
+            'undeclared_and_a_comparison': ('N1', '(X = X) + @Y'),
+            'undeclared_in_a_comparison_and_a_sum_of_it': ('N1', '(X = @Y) + 1'),
+            'undeclared_behind_a_wide_number': ('N1', '2147483648 + @Y'),
+            'undeclared_behind_a_sum_with_a_wide_number': ('N12', 'X + @2147483648 - Y'),
+            'undeclared_behind_a_sum_past_last': ('N12', f'{LAST} @+ 1 - Y'),
+            'undeclared_behind_a_comparison_in_a_sum': ('N10', '(X = X) @+ 1 - Y'),
+            'undeclared_in_parentheses_behind_a_type': ('N3', '@Integer + (Y)'),
+            'undeclared_behind_a_sign_of_a_comparison': ('N1', '-(X = @Y)'),
+            'undeclared_behind_the_sign_of_a_comparison': ('N10', '@-(X = X) + Y'),
+            'undeclared_behind_the_sign_of_first': ('N12', f'@-{FIRST} + Y'),
+            'comparison_and_a_wide_number': ('N10', '(X = X) @+ 2147483648'),
+            'wide_number_and_a_comparison': ('N10', '2147483648 @+ (X = X)'),
+            'wide_number_and_a_sum_past_last': ('N12', f'@2147483648 + {LAST}'),
+            'sum_past_last_and_a_wide_number': ('N12', f'{LAST} @+ 1 + 2147483648'),
+            'wide_number_in_a_comparison_assigned': ('N12', 'X = @2147483648'),
+            'wide_number_before_a_relation_assigned': ('N12', '@2147483648 = X'),
+            'wide_numbers_compared_and_assigned': ('N10', '2147483648 @= 2147483648'),
+            'sum_past_the_widest_compared_and_assigned': ('N12', f'{WIDEST} @+ 1 = 1'),
+            'sign_in_a_sum_past_its_type': ('N12', f'1 - (@-{FIRST})'),
+            'attribute_of_nothing_that_is_none': ('N1', "@Y'Size"),
+            'attribute_of_a_formal_that_is_none': ('N3', "@X'Size"),
+            'attribute_that_is_none_in_a_sum_past_last': ('N3', f"{LAST} + @Integer'Size"),
+            }.items():
+        yield refused(f'{name}.adb', procedure(value), rule)
+    for name, (rule, pre) in {
+            'undeclared_and_no_condition': ('N1', 'X + @Y'), 'wide_number_and_no_condition': ('N12', 'X + @2147483648'),
+            'comparison_in_a_sum_and_no_condition': ('N10', '(X = X) @+ 1'),
+            'sign_of_a_comparison_and_no_condition': ('N10', '@-(X = X) + 1'),
+            'undeclared_on_both_sides': ('N1', '@Y < Z'), 'type_and_undeclared': ('N3', '@Inc < Y'),
+            'wide_number_beside_undeclared': ('N1', '2147483648 < @Y'),
+            'comparison_beside_undeclared': ('N1', '(X = X) < @Y')}.items():
+        yield refused(f'pre_with_{name}.adb', procedure('X', pre=pre), rule)
+    yield refused('target_and_value_undeclared.adb', procedure('Z', target='@Y'), 'N1')
+    yield refused('target_of_another_kind_and_a_wide_number.adb', procedure('2147483648', target='@Inc'), 'N3')
+    yield refused('input_for_a_target_and_a_wide_number.adb', longer(A_TO_X, 'X from A', 'A := @2147483648'), 'N12')
+    yield refused('target_of_an_attribute_of_nothing_and_a_value.adb', procedure('Z', target="@Y'First"), 'N1')
+    yield refused('type_of_two_formals_that_is_one.adb', procedure('X', formals='X, Y', type_mark='@Y'), 'N3')
+    yield refused('type_undeclared_and_a_formal_twice.adb',
+                  longer('A : @Natural; A : Integer', 'A from A', 'null'), 'N1')
+    yield refused('formal_twice_and_its_type_undeclared.adb', longer('A, @A : Natural', 'A from A', 'null'), 'N2')
+    yield refused('import_undeclared_and_an_export_of_the_next_item.adb',
+                  procedure('A', derives='A from @Y & Z from B', **AB), 'N1')
+    yield refused('export_of_another_kind_before_an_import_undeclared.adb',
+                  procedure('A', derives='A, @Inc from Y & B from B', **AB), 'N3')
+    yield refused('name_in_a_local_and_in_a_statement.adb', with_local('T : @Y', last='X := Z'), 'N1')
+
+
+def rules_in_order():
+    """The rules on variables: U7, U8 at the names of each item, U11 and U2, one procedure after another."""
+    yield refused('two_inputs_for_exports.adb',
+                  longer('A, B : in Integer; X : out Integer', '@A from & B from & X from', 'X := 1'), 'U8')
+    yield refused('input_exported_and_output_imported.adb', longer(A_TO_X, '@A from X', 'X := A'), 'U8')
+    yield refused('output_imported_before_an_input_exported.adb',
+                  longer('A : in Integer; X, Y : out Integer', 'X from @Y & A from', 'X := 1'), 'U8')
+    yield refused('imports_in_another_order.adb',
+                  longer('A : in Integer; X, Y, Z : out Integer', 'X from A, @Z, Y', 'X := A'), 'U8')
+    yield refused('output_with_a_star_and_an_output_imported.adb', longer(OUT_XY, '@X from *, Y', 'X := 1'), 'U8')
+    yield refused('star_over_an_input.adb', longer(A_AND_X, 'X, @A from *', 'X := X'), 'U8')
+    yield refused('star_over_an_output_in_the_second_item.adb',
+                  longer(A_TO_XY, 'X from A & @Y from *', 'X := A'), 'U8')
+    yield refused('in_out_imported_alone_by_a_second_item.adb',
+                  longer('A, B : in out Integer; X : out Integer', 'A from A & X from A, @B', 'X := A'), 'U8')
+    yield refused('in_out_exported_alone_before_an_output_imported.adb',
+                  longer('A : in out Integer; X, Y : out Integer', '@A from & Y from X', 'A := 1'), 'U8')
+    yield refused('pre_over_two_outputs.adb', longer(OUT_XY, 'X, Y from', 'X := 1', pre='1 < @Y + X'), 'U11')
+    yield refused('pre_over_an_input_and_an_output.adb', longer(A_TO_X, 'X from A', 'X := A', pre='A < @X'), 'U11')
+    yield refused('two_inputs_for_targets.adb',
+                  longer('A, B : in Integer; X : out Integer', 'X from A, B', 'X := A', '@B := A', 'A := B'), 'U2')
+    yield refused('input_for_a_target_read_unset.adb', longer(A_TO_X, 'X from A', '@A := X', 'X := A'), 'U2')
+    # U7 stands at the word, whatever is wrong behind it
+    for name, derives in {'missing_and_twice': 'A from B, B', 'twice_apart': 'A from A & B from B & A from B',
+                          'twice_by_a_star': 'A from A & B from *, B', 'twice_in_two_ways': 'A, A from B, B'}.items():
+        yield refused(f'relation_{name}.adb', at_derives(procedure('A', derives=derives, **AB)), 'U7')
+    yield refused('derives_on_a_line_of_its_own.adb',
+                  procedure('X', derives='X from X, X').replace('--# derives', '--#\n --#  @derives'), 'U7')
+    yield refused('procedure_in_a_column_of_its_own.adb', '\n\t @' + longer(OUT_X, None, 'X := 1'), 'U7')
+
+
+def renamed(text):
+    """The text of a procedure of the name `Dec`."""
+    return text.replace('Inc', 'Dec')
+
+
+# A procedure that breaks a rule, by what it breaks: the phase, the finding and the text.
+BROKEN = {
+    'name': (0, 'N1', procedure('@Y')),
+    'type': (0, 'N10', procedure('X @= 1')),
+    'relation': (1, 'U7', at_derives(procedure('X', derives='X from X, X'))),
+    'target': (1, 'U2', longer(A_TO_X, 'X from A', 'X := A', '@A := X')),
+    'flow': (2, 'F2 unused: X from X', procedure('1', derives='@X from X')),
+}
+
+
+def procedures_in_order():
+    """Breaches of two procedures: that of the earlier phase is told, and in one phase that of the first procedure."""
+    for name, other in product(BROKEN, repeat=2):
+        (phase, finding, text), (other_phase, other_finding, other_text) = BROKEN[name], BROKEN[other]
+        if phase == other_phase == 2:
+            yield refused(f'{name}_and_then_{other}.adb', text + renamed(other_text), finding, other_finding)
+        elif phase <= other_phase:
+            yield refused(f'{name}_and_then_{other}.adb', text + renamed(other_text).replace('@', ''), finding)
+        else:
+            yield refused(f'{name}_and_then_{other}.adb', text.replace('@', '') + renamed(other_text), other_finding)
+    for name, (_, finding, text) in BROKEN.items():
+        yield refused(f'unproved_and_then_{name}.adb', procedure('X + 1') + renamed(text), finding)
+        yield refused(f'{name}_and_then_unproved.adb', text + renamed(procedure('X + 1')), finding)
+    _, unused, flowing = BROKEN['flow']
+    yield refused('flow_of_a_procedure_of_no_formals_behind_another.adb',
+                  flowing + longer(None, None, '@T := 1', declared=T, name='Skip'), unused, 'F3')
+    yield refused('flow_of_three.adb',
+                  flowing + renamed(flowing) + at_end(longer(OUT_X, '@X from', 'null', name='Last')),
+                  unused, unused, 'F1 missing: X from X', 'F4 unset: X')
+    yield refused('flow_of_the_second_of_three.adb', INC + renamed(flowing) + short('Same'), unused)
+
+
+def headings_in_order():
+    """The headings of all procedures come before all else."""
+    yield refused('undeclared_before_a_name_twice.adb', procedure('Y') + INC.replace('Inc', '@Inc', 1), 'N2')
+    yield refused('undeclared_before_a_procedure_named_integer.adb', procedure('Y') + short('@Integer', 'Y'), 'N2')
+    yield refused('formal_twice_before_a_name_twice.adb',
+                  procedure('X', formals='X, X') + short('A') + short('@iNC'), 'N2')
+    yield refused('name_thrice.adb', short('A') + short('@A') + short('a'), 'N2')
+    yield refused('integer_for_a_name_twice.adb', short('@Integer') + short('Integer'), 'N2')
+    yield refused('name_twice_and_then_integer_for_a_name.adb', short('A') + short('@A') + short('Integer'), 'N2')
+
+
+def flow_findings_in_order():
+    """All findings on flow, by place, then by rule, then by text."""
+    abc = 'A, B, C : in Integer; X, Y : out Integer'
+    yield refused('missing_from_two.adb', longer(abc, '@@X from A & Y from B, C', 'X := C - B + A', 'Y := B - C'),
+                  'F1 missing: X from B', 'F1 missing: X from C')
+    yield refused('unused_from_two.adb', longer(abc, '@@X from C, A, B & Y from A, C', 'X := B', 'Y := A - C'),
+                  'F2 unused: X from A', 'F2 unused: X from C')
+    yield refused('missing_and_unused_from_several.adb',
+                  longer(abc, '@@@@X from C, B & Y from A, B', 'X := A', 'X := X - @Y', 'Y := A - B'),
+                  'F1 missing: X from A', 'F1 missing: X from Y', 'F2 unused: X from B', 'F2 unused: X from C',
+                  'F4 unset: Y')
+    # by bytes: what ends comes first, then digits, capitals, the underscore, small letters
+    yield refused('missing_from_names_in_the_order_of_bytes.adb',
+                  longer('a, B, B_1, B1, BA : in Integer; X, Y : out Integer',
+                         '@@@@@X from & Y from a, B, B_1, B1, BA', 'X := a + B + B_1 + B1 + BA', 'Y := X'),
+                  'F1 missing: X from B', 'F1 missing: X from B1', 'F1 missing: X from BA', 'F1 missing: X from B_1',
+                  'F1 missing: X from a')
+    yield refused('unset_at_the_end_in_the_order_of_bytes.adb',
+                  at_end(longer('c, B, A1, A_1, A : out Integer', '@c, @A_1, @A1, @B, @A from', 'null'), '@@@@@'),
+                  'F1 missing: c from c', 'F1 missing: A_1 from A_1', 'F1 missing: A1 from A1', 'F1 missing: B from B',
+                  'F1 missing: A from A', 'F4 unset: A', 'F4 unset: A1', 'F4 unset: A_1', 'F4 unset: B', 'F4 unset: c')
+    yield from flow_of_names_in_cases()
+    yield from flow_in_company()
+    # places are numbers, and no texts
+    yield refused('lost_in_ten_lines.adb', longer(OUT_X, 'X from', *['@X := 1'] * 10, 'X := 2'), *['F3'] * 10)
+    yield refused('lost_in_one_line.adb', longer(OUT_X, 'X from', '@X := 1; @X := 2; @X := 3; X := 4'), *['F3'] * 3)
+    yield refused('unset_in_one_line.adb', longer(OUT_XY, '@X, Y from', 'X := @Y + @Y - @Y', 'Y := 1'),
+                  'F1 missing: X from Y', *['F4 unset: Y'] * 3)
+    yield refused('lost_behind_tabs_and_lines.adb',
+                  '\n\n' + longer(OUT_X, 'X from', '\t\t@X := 1;\r\n@X := 2', 'X := 3'), 'F3', 'F3')
+    yield refused('relation_on_several_lines.adb',
+                  longer(IN_OUT_AB, '\n--# @@A\n--# from B &\n--#\n--#   @@B from\n--# A', 'null'),
+                  'F1 missing: A from A', 'F2 unused: A from B', 'F1 missing: B from B', 'F2 unused: B from A')
+    yield refused('exports_of_one_item.adb', longer(IN_OUT_AB, '@A, @@B from A, B', 'A := A - A', 'B := 1'),
+                  'F2 unused: A from B', 'F2 unused: B from A', 'F2 unused: B from B')
+
+
+def flow_of_names_in_cases():
+    """Findings on flow spell names as they are declared."""
+    aa_to_xx = 'Aa : in out Integer; xX : out Integer'
+    yield refused('missing_of_names_in_another_case.adb', longer(aa_to_xx, 'AA from aA & @xx from', 'XX := aa'),
+                  'F1 missing: xX from Aa')
+    yield refused('unused_of_names_in_another_case.adb', longer(aa_to_xx, 'AA from aA & @xx from AA', 'XX := 1'),
+                  'F2 unused: xX from Aa')
+    yield refused('unset_of_names_in_another_case.adb',
+                  at_end(longer('xX : out Integer', '@XX from', '@Tt := @tt + @TT', declared=['tT : Integer'])),
+                  'F1 missing: xX from xX', 'F3', 'F4 unset: tT', 'F4 unset: tT', 'F4 unset: xX')
+    yield refused('unset_formal_named_as_the_procedure.adb',
+                  longer('iNC : out Integer', '@Inc from', 'INC := @inc'), 'F1 missing: iNC from iNC', 'F4 unset: iNC')
+
+
+def flow_in_company():
+    """Each two of the findings on flow in one procedure."""
+    yield refused('missing_and_unused_at_two_places.adb',
+                  longer(A_TO_XY, '@X from & @Y from A', 'X := A', 'Y := 1'),
+                  'F1 missing: X from A', 'F2 unused: Y from A')
+    yield refused('unused_and_missing_at_two_places.adb',
+                  longer(A_TO_XY, '@Y from A & @X from', 'X := A', 'Y := 1'),
+                  'F2 unused: Y from A', 'F1 missing: X from A')
+    yield refused('missing_and_lost.adb', longer(A_TO_XY, '@X from & Y from A', '@X := 1', 'X := A', 'Y := A'),
+                  'F1 missing: X from A', 'F3')
+    yield refused('missing_and_unset.adb',
+                  longer(A_TO_XY, '@X from & Y from A', 'X := A - @T', 'Y := A', declared=T),
+                  'F1 missing: X from A', 'F4 unset: T')
+    yield refused('unused_and_lost.adb', longer(A_TO_X, '@X from A', '@X := A', 'X := 1'), 'F2 unused: X from A', 'F3')
+    yield refused('unused_and_unset.adb', longer(A_TO_X, '@X from A', 'X := @T', declared=T),
+                  'F2 unused: X from A', 'F4 unset: T')
+    yield refused('lost_and_unset.adb', longer(A_TO_X, 'X from A', '@T := @T', 'X := A', declared=T),
+                  'F3', 'F4 unset: T')
+    yield refused('unset_and_then_lost.adb', longer(A_TO_X, 'X from A', 'X := A - @T', '@T := X', declared=T),
+                  'F4 unset: T', 'F3')
+    yield refused('lost_and_left_unset.adb', at_end(longer(A_TO_XY, 'X, @@Y from A', '@X := 1', 'X := A')),
+                  'F1 missing: Y from Y', 'F2 unused: Y from A', 'F3', 'F4 unset: Y')
+    yield refused('two_read_unset_and_two_left_unset.adb',
+                  at_end(longer(OUT_XY, '@X, @Y from', '@T := @Y - @X', declared=T), '@@'),
+                  'F1 missing: X from X', 'F1 missing: Y from Y', 'F3', 'F4 unset: Y', 'F4 unset: X', 'F4 unset: X',
+                  'F4 unset: Y')
+
+
 # ---------------------------------------------------------------- the table
 
 GROUPS = (form, relations, simplifier, numbers, places, words, layout, comments, marks, other_bytes, tokens, grammar,
-          names, rules, flow, chains, levels, comparisons, parameters, statements, flow_of_statements, several)
+          names, rules, flow, chains, levels, comparisons, parameters, statements, flow_of_statements, several,
+          optional_parts, attributes, declared_locals, flow_of_locals, nulls, missing_signs, signs_of_numbers,
+          signs_and_types, signs_and_syntax, levels_of_parentheses, mixed_levels, limit_or_breach, examples, documented,
+          programs_of_one_sum, programs_with_pre, programs_of_several_sums, programs_with_locals, breaches_in_order,
+          breaches_in_expressions, rules_in_order, procedures_in_order, headings_in_order,
+          flow_findings_in_order)
 CASES = tuple(case for group in GROUPS for case in group())
 
 
@@ -1396,7 +2605,7 @@ def faults():
             yield f'{case.name}: a line looks like a header'
         read = examine(case.name, case.text)
         if (read.report, read.status) != (case.report, case.status):
-            yield f'{case.name}: expected {case.report!r}, but reading.py answers {read.report!r} for {read.breaches}'
+            yield f'{case.name}: expected {case.report!r}, but reading.py answers {read.report!r}'
 
 
 def files():
@@ -1407,20 +2616,38 @@ def files():
     }
 
 
-def print_breaches():
-    """A line for each breach of a refused text."""
-    for case in CASES:
-        for breach in examine(case.name, case.text).breaches:
-            place = f'{breach.place.line}:{breach.place.column}' if breach.place else '-'
-            print(f'{case.name}: {breach.rule} {place} {breach.text}')
+def blocks(document):
+    """The blocks of a document that are set apart, each with the number of its first line."""
+    lines = document.read_text(encoding='utf-8').split('\n')
+    starts = [at for at, line in enumerate(lines) if line.startswith('    ') and (at == 0 or not lines[at - 1])]
+    for start in starts:
+        block = list(takewhile(lambda line: line.startswith('    '), lines[start:]))
+        yield start + 1, ''.join(line[4:] + '\n' for line in block)
+
+
+def wrong_copies(document, folder):
+    """Blocks that are no command, no lines of an example in a row and no report; and reports that no block is."""
+    texts = [text.read_text(encoding='utf-8') for text, _ in examples_in(folder)]
+    reports = {report.read_text(encoding='utf-8'): report for _, report in examples_in(folder)}
+    found = dict((block, line) for line, block in blocks(document))
+    for block, line in found.items():
+        is_piece = any('\n' + block in '\n' + text for text in texts)
+        if not (is_piece or block in reports or block.startswith('./spx check ')):
+            yield f'{document.name}:{line}: a block is no piece of an example of {folder.name}'
+    for report, path in reports.items():
+        if report not in found:
+            yield f'{document.name}: lacks {folder.name}/{path.name}'
 
 
 def check():
-    """Whether each file is what the cases say."""
-    differing = [path for path, wanted in files().items() if not path.exists() or path.read_bytes() != wanted]
-    for path in differing:
-        print(f'{path.name} differs from the table', file=sys.stderr)
-    return not differing
+    """Whether each file is what the cases say, and each copy of an example what the example is."""
+    wrong = [f'{path.name} differs from the table' for path, wanted in files().items()
+             if not path.exists() or path.read_bytes() != wanted]
+    for document, folder in DOCUMENTS.items():
+        wrong += wrong_copies(document, folder)
+    for fault in wrong:
+        print(fault, file=sys.stderr)
+    return not wrong
 
 
 def write():
@@ -1431,13 +2658,8 @@ def write():
 
 def main():
     parser = argparse.ArgumentParser(description='Writes the table of texts and the expected answers.')
-    choice = parser.add_mutually_exclusive_group()
-    choice.add_argument('--check', action='store_true', help='compare with what is there')
-    choice.add_argument('--breaches', action='store_true', help='print which rules the refused texts break')
+    parser.add_argument('--check', action='store_true', help='compare them, and the documents, with what is there')
     options = parser.parse_args()
-    if options.breaches:
-        print_breaches()
-        return 0
     found = list(faults())
     for fault in found:
         print(fault, file=sys.stderr)
