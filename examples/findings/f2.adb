@@ -1,0 +1,6 @@
+procedure Clear (X : in out Integer)
+--# derives X from X;
+is
+begin
+   X := 0;
+end Clear;

@@ -1,0 +1,6 @@
+procedure Clear (X : out Integer)
+--# derives X from;
+is
+begin
+   null;
+end Clear;

@@ -1,0 +1,1 @@
+procedure Add__One (X : in out Integer)

@@ -1,0 +1,6 @@
+procedure Inc (X : in out Integer)
+--# derives X from X;
+is
+begin
+   X := X = 1;
+end Inc;

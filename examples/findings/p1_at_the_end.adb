@@ -1,0 +1,2 @@
+procedure Inc (X : in out Integer)
+--# derives X from X;

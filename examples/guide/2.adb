@@ -1,0 +1,7 @@
+procedure Tick (Count : in out Integer; Before : out Integer)
+is
+   Old : Integer;
+begin
+   Old := Count;
+   Count := Cuont + 1;
+end Tick;
