@@ -66,7 +66,7 @@ def accepted(name, text, total=2, named='Inc'):
     return examined(name, text, (named, total))
 
 
-# What is told of a breach of each rule that has one text.
+# What is told of a breach of each rule that has one text. It is spelled here again, so that reading.py is held to it.
 TEXTS = {
     'L1': 'bad byte',
     'L2': 'bad number',

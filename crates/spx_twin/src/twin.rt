@@ -5,7 +5,7 @@ ghost use Rattle.spx_meaning.specs.Laws.{TwoRuns};
 use spx_core::Program;
 
 /// Two calls of a subprogram that have ended, from stores that agree on the declared imports of an export, give it one
-/// value; and a variable that is no export is kept.
+/// value; and a variable that is neither an export nor a local is kept.
 pub fn two_runs(program: &Program)
     ensures { Fit program.now → TwoRuns program.now }
 {}
