@@ -18,7 +18,7 @@ use Rattle.spx_term.specs.Equality.{same_term}
 use Rattle.spx_term.specs.Folding.{before_literal, of_itself, simplified, folded_step, folded}
 use Rattle.spx_term.specs.Goals.{goal_of}
 use Rattle.spx_term.specs.Intervals.{unbounded, point, meet, allowed, bounds_in, bounds, bounded, structural, interval, interval-Number, interval-Variable, interval-Infix}
-use Rattle.spx_term.specs.Plain.{settled, is_among, joined, is_plain, is_plain-Infix, Plain}
+use Rattle.spx_term.specs.Plain.{closes, settled, is_among, joined, is_plain, is_plain-Infix, Plain}
 use Rattle.spx_num.specs.Widths.{fits}
 use Rattle.spx_term.proofs.Terms.{fold-Number, fold-Variable, fold-Infix}
 use Rattle.spx_meaning.specs.Paths.{conditions_of, ArePlain}
@@ -76,7 +76,7 @@ folded_goal =
     ∙ ap₂ (simplified sign.And) (folded_least next_x folded_next refl) (folded_most next_x folded_next refl)
 
 plain_from : (hyps : List Term) (goal : Term) → map folded hyps ≡ hyps → folded goal ≡ goal → is_plain hyps goal ≡ true → Plain hyps goal
-unfolding Plain
+unfolding Plain closes
 plain_from hyps goal hyps_stay goal_stays h = or_right (is_among (map folded hyps) (term.Truth false)) (is_plain (map folded hyps) (folded goal)) (ap₂ is_plain hyps_stay goal_stays ∙ h)
 
 -- ---- goals that need no proof

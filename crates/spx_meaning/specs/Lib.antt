@@ -5,4 +5,5 @@ pub mod Runs
 pub mod Paths
 pub mod Laws
 pub mod Fit
+pub mod Limits
 pub mod Increment

@@ -13,13 +13,15 @@ use Rattle.spx_term.specs.declared.term.TermPrefix.{TermPrefix}
 use Rattle.spx_term.specs.declared.term.TermPrefix.TheVariants as sign
 use Rattle.spx_term.specs.declared.term.Term.{Term}
 use Rattle.spx_term.specs.declared.term.Term.TheVariants.{Number, Truth, Variable, Prefix, Infix}
+use Rattle.spx_term.specs.declared.folding.Simplification.{Simplification}
+use Rattle.spx_term.specs.declared.folding.Simplification.TheVariants.{Left, Right, Literal, OfItself, Operation}
 use Rattle.spx_term.specs.declared.value.Value.{Value}
 use Rattle.spx_term.specs.declared.value.Value.TheVariants as value
 use Rattle.spx_term.specs.Equality.{same_term}
 use Rattle.spx_term.specs.Sorts.{integers, booleans, alike, sort_of_op, sort_of_prefix, one, both, sort_step, sort_of}
 use Rattle.spx_term.specs.Meaning.{as_number, same_value, value_of_op, value_of_prefix, Valuation, value_step, value_of, HasSort, Respects}
 use Rattle.spx_num.specs.Widths.{fits}
-use Rattle.spx_term.specs.Folding.{literal_of, term_of, fitting_value, literal_or, after_literal, before_literal, of_itself, truth_or, simplified_by, simplified, prefixed_by, prefixed, folded_step, folded, FoldKeepsSorts, FoldKeepsValues}
+use Rattle.spx_term.specs.Folding.{literal_of, term_of, fitting_value, literal_or, literal_if, simplified_to, after_literal, before_literal, of_itself, simpler_form, simplified, prefixed_by, prefixed, folded_step, folded, FoldKeepsSorts, FoldKeepsValues}
 use Rattle.spx_term.proofs.Equality.{same_term-Decides}
 use Rattle.spx_term.proofs.Terms.{Cases, induct, fold-Number, fold-Truth, fold-Variable, fold-Prefix, fold-Infix}
 
@@ -156,7 +158,7 @@ less_itself n = grind (arith, ints)
 at_most_itself : (n : ℤ) → int_le n n ≡ true
 at_most_itself n = grind (arith, ints)
 
-itself : (o : TermOp) (b : Bool) (x : Value) (m n s : Sort) → of_itself o ≡ Some b → sort_of_op o m n ≡ Some s → (s ≡ Boolean) × (value.Truth b ≡ value_of_op o x x)
+itself : (o : TermOp) (b : Bool) (x : Value) (m n s : Sort) → of_itself o ≡ OfItself b → sort_of_op o m n ≡ Some s → (s ≡ Boolean) × (value.Truth b ≡ value_of_op o x x)
 unfolding of_itself sort_of_op value_of_op
 itself op.Equal b x m n s h gives = ((from_alike Boolean m n s gives).1, let e : b ≡ true = cc in ap value.Truth (e ∙ sym (same_value-refl x)))
 itself op.NotEqual b x m n s h gives = ((from_alike Boolean m n s gives).1, let e : b ≡ false = cc in ap value.Truth (e ∙ ap not (sym (same_value-refl x))))
@@ -178,7 +180,7 @@ fitting_is (value.Number n) y =
     cond_both (fits n) (Some (value.Number n)) None (λ r. r ≡ Some y → value.Number n ≡ y) (λ _ h. cc) (λ _ h. absurd (cc))
 fitting_is (value.Truth b) y = λ h. cc
 
--- ---- each simplification keeps sort and value
+-- ---- each simpler_form keeps sort and value
 
 record Good (v : Valuation) (t : Term) (s : Sort) (x : Value) : Type 0 where
   sorted : sort_of t ≡ Some s
@@ -216,11 +218,15 @@ module _ (v : Valuation) (respects : Respects v) where
   literal_keeps t s x (Some y) has good is = subst (λ y. Good v (term_of y) s x) (fitting_is x y is) (good_literal x s has)
   literal_keeps t s x None has good is = good
 
-  after_keeps : (o : TermOp) (x : Value) (a b : Term) (m n s : Sort) → x ≡ value_of v a → sort_of a ≡ Some m → sort_of b ≡ Some n → sort_of_op o m n ≡ Some s → Good v (after_literal o x a b) s (value_of_op o (value_of v a) (value_of v b))
+  literal_form : (o : TermOp) (a b : Term) (r : Option Value) (s : Sort) (x : Value) → Good v (literal_or (Infix o a b) r) s x → Good v (simplified_to (literal_if r) o a b) s x
+  literal_form o a b (Some y) s x good = good
+  literal_form o a b None s x good = good
+
+  after_keeps : (o : TermOp) (x : Value) (a b : Term) (m n s : Sort) → x ≡ value_of v a → sort_of a ≡ Some m → sort_of b ≡ Some n → sort_of_op o m n ≡ Some s → Good v (simplified_to (after_literal o x) o a b) s (value_of_op o (value_of v a) (value_of v b))
   unfolding after_literal sort_of_op
   after_keeps op.Add (value.Number k) a b m n s is a_is b_is gives =
       let sorts = from_integers Integer m n s gives in
-      cond_both (int_eq k (pos 0)) b (Infix op.Add a b) (λ t. Good v t s (value_of_op op.Add (value_of v a) (value_of v b)))
+      cond_both (int_eq k (pos 0)) Right Operation (λ f. Good v (simplified_to f op.Add a b) s (value_of_op op.Add (value_of v a) (value_of v b)))
       (λ zero. good_as b s n _ b_is (sorts.1 ∙ sym sorts.2)
       (zero_add (value_of v b) (sorted_value v respects b Integer (b_is ∙ ap Some sorts.1))
       ∙ ap (λ x. value_of_op op.Add x (value_of v b)) (ap value.Number (sym ((Decides-int_eq k (pos 0)).0 zero)) ∙ is)))
@@ -235,18 +241,18 @@ module _ (v : Valuation) (respects : Respects v) where
       (fold-Truth (value_step v) false ∙ false_and (value_of v b) ∙ ap (λ x. value_of_op op.And x (value_of v b)) is)
   after_keeps o x a b m n s is a_is b_is gives = left_alone o a b m n s a_is b_is gives
 
-  before_keeps : (o : TermOp) (y : Value) (a b : Term) (m n s : Sort) → y ≡ value_of v b → sort_of a ≡ Some m → sort_of b ≡ Some n → sort_of_op o m n ≡ Some s → Good v (before_literal o y a b) s (value_of_op o (value_of v a) (value_of v b))
+  before_keeps : (o : TermOp) (y : Value) (a b : Term) (m n s : Sort) → y ≡ value_of v b → sort_of a ≡ Some m → sort_of b ≡ Some n → sort_of_op o m n ≡ Some s → Good v (simplified_to (before_literal o y) o a b) s (value_of_op o (value_of v a) (value_of v b))
   unfolding before_literal sort_of_op
   before_keeps op.Add (value.Number k) a b m n s is a_is b_is gives =
       let sorts = from_integers Integer m n s gives in
-      cond_both (int_eq k (pos 0)) a (Infix op.Add a b) (λ t. Good v t s (value_of_op op.Add (value_of v a) (value_of v b)))
+      cond_both (int_eq k (pos 0)) Left Operation (λ f. Good v (simplified_to f op.Add a b) s (value_of_op op.Add (value_of v a) (value_of v b)))
       (λ zero. good_as a s m _ a_is (sorts.0 ∙ sym sorts.2)
       (add_zero (value_of v a) (sorted_value v respects a Integer (a_is ∙ ap Some sorts.0))
       ∙ ap (λ y. value_of_op op.Add (value_of v a) y) (ap value.Number (sym ((Decides-int_eq k (pos 0)).0 zero)) ∙ is)))
       (λ _. left_alone op.Add a b m n s a_is b_is gives)
   before_keeps op.Subtract (value.Number k) a b m n s is a_is b_is gives =
       let sorts = from_integers Integer m n s gives in
-      cond_both (int_eq k (pos 0)) a (Infix op.Subtract a b) (λ t. Good v t s (value_of_op op.Subtract (value_of v a) (value_of v b)))
+      cond_both (int_eq k (pos 0)) Left Operation (λ f. Good v (simplified_to f op.Subtract a b) s (value_of_op op.Subtract (value_of v a) (value_of v b)))
       (λ zero. good_as a s m _ a_is (sorts.0 ∙ sym sorts.2)
       (subtract_zero (value_of v a) (sorted_value v respects a Integer (a_is ∙ ap Some sorts.0))
       ∙ ap (λ y. value_of_op op.Subtract (value_of v a) y) (ap value.Number (sym ((Decides-int_eq k (pos 0)).0 zero)) ∙ is)))
@@ -261,23 +267,34 @@ module _ (v : Valuation) (respects : Respects v) where
       (fold-Truth (value_step v) false ∙ and_false (value_of v a) ∙ ap (λ y. value_of_op op.And (value_of v a) y) is)
   before_keeps o y a b m n s is a_is b_is gives = left_alone o a b m n s a_is b_is gives
 
-  between_keeps : (o : TermOp) (a b : Term) (m n s : Sort) (r : Option Bool) → sort_of a ≡ Some m → sort_of b ≡ Some n → sort_of_op o m n ≡ Some s → of_itself o ≡ r → Good v (truth_or (Infix o a b) (same_term a b) r) s (value_of_op o (value_of v a) (value_of v b))
-  between_keeps o a b m n s (Some known) a_is b_is gives is =
+  same_keeps : (o : TermOp) (known : Bool) (a b : Term) (m n s : Sort) → sort_of a ≡ Some m → sort_of b ≡ Some n → sort_of_op o m n ≡ Some s → of_itself o ≡ OfItself known → Good v (simplified_to (OfItself known) o a b) s (value_of_op o (value_of v a) (value_of v b))
+  same_keeps o known a b m n s a_is b_is gives is =
       let law = itself o known (value_of v a) m n s is gives in
       cond_both (same_term a b) (Truth known) (Infix o a b) (λ t. Good v t s (value_of_op o (value_of v a) (value_of v b)))
       (λ same. good_as (Truth known) s Boolean _ (fold-Truth sort_step known) (sym law.0)
       (fold-Truth (value_step v) known ∙ law.1 ∙ ap (λ t. value_of_op o (value_of v a) (value_of v t)) ((same_term-Decides a b).0 same)))
       (λ _. left_alone o a b m n s a_is b_is gives)
-  between_keeps o a b m n s None a_is b_is gives is = left_alone o a b m n s a_is b_is gives
 
-  by_literals : (o : TermOp) (a b : Term) (m n s : Sort) (x y : Option Value) → literal_of a ≡ x → literal_of b ≡ y → sort_of a ≡ Some m → sort_of b ≡ Some n → sort_of_op o m n ≡ Some s → Good v (simplified_by x y o a b) s (value_of_op o (value_of v a) (value_of v b))
+  between_keeps : (o : TermOp) (a b : Term) (m n s : Sort) → sort_of a ≡ Some m → sort_of b ≡ Some n → sort_of_op o m n ≡ Some s → Good v (simplified_to (of_itself o) o a b) s (value_of_op o (value_of v a) (value_of v b))
+  unfolding of_itself
+  between_keeps op.Equal a b m n s a_is b_is gives = same_keeps op.Equal true a b m n s a_is b_is gives refl
+  between_keeps op.LessOrEqual a b m n s a_is b_is gives = same_keeps op.LessOrEqual true a b m n s a_is b_is gives refl
+  between_keeps op.GreaterOrEqual a b m n s a_is b_is gives = same_keeps op.GreaterOrEqual true a b m n s a_is b_is gives refl
+  between_keeps op.NotEqual a b m n s a_is b_is gives = same_keeps op.NotEqual false a b m n s a_is b_is gives refl
+  between_keeps op.Less a b m n s a_is b_is gives = same_keeps op.Less false a b m n s a_is b_is gives refl
+  between_keeps op.Greater a b m n s a_is b_is gives = same_keeps op.Greater false a b m n s a_is b_is gives refl
+  between_keeps op.Add a b m n s a_is b_is gives = left_alone op.Add a b m n s a_is b_is gives
+  between_keeps op.Subtract a b m n s a_is b_is gives = left_alone op.Subtract a b m n s a_is b_is gives
+  between_keeps op.And a b m n s a_is b_is gives = left_alone op.And a b m n s a_is b_is gives
+
+  by_literals : (o : TermOp) (a b : Term) (m n s : Sort) (x y : Option Value) → literal_of a ≡ x → literal_of b ≡ y → sort_of a ≡ Some m → sort_of b ≡ Some n → sort_of_op o m n ≡ Some s → Good v (simplified_to (simpler_form o x y) o a b) s (value_of_op o (value_of v a) (value_of v b))
   by_literals o a b m n s (Some x) (Some y) e f a_is b_is gives =
-      literal_keeps (Infix o a b) s (value_of_op o (value_of v a) (value_of v b)) (fitting_value (value_of_op o x y))
+      literal_form o a b (fitting_value (value_of_op o x y)) s _ (literal_keeps (Infix o a b) s (value_of_op o (value_of v a) (value_of v b)) (fitting_value (value_of_op o x y))
       (op_has o (value_of v a) (value_of v b) m n s gives) (left_alone o a b m n s a_is b_is gives)
-      (ap fitting_value (ap₂ (value_of_op o) (sym (literal_value a x e)) (sym (literal_value b y f))))
+      (ap fitting_value (ap₂ (value_of_op o) (sym (literal_value a x e)) (sym (literal_value b y f)))))
   by_literals o a b m n s (Some x) None e f a_is b_is gives = after_keeps o x a b m n s (literal_value a x e) a_is b_is gives
   by_literals o a b m n s None (Some y) e f a_is b_is gives = before_keeps o y a b m n s (literal_value b y f) a_is b_is gives
-  by_literals o a b m n s None None e f a_is b_is gives = between_keeps o a b m n s (of_itself o) a_is b_is gives refl
+  by_literals o a b m n s None None e f a_is b_is gives = between_keeps o a b m n s a_is b_is gives
 
   simplified_keeps : (o : TermOp) (a b : Term) (m n s : Sort) → sort_of a ≡ Some m → sort_of b ≡ Some n → sort_of_op o m n ≡ Some s → Good v (simplified o a b) s (value_of_op o (value_of v a) (value_of v b))
   unfolding simplified

@@ -19,7 +19,7 @@ use Rattle.spx_term.specs.Sorts.{sort_of}
 use Rattle.spx_term.specs.Meaning.{same_value, value_of_op, Valuation, value_step, value_of, Holds, Respects}
 use Rattle.spx_term.specs.Folding.{folded}
 use Rattle.spx_term.specs.Intervals.{interval}
-use Rattle.spx_term.specs.Plain.{ends_meet, settled, is_among, joined, is_plain, is_plain-Number, is_plain-Truth, is_plain-Variable, is_plain-Prefix, is_plain-Infix, Plain, PlainIsValid}
+use Rattle.spx_term.specs.Plain.{closes, ends_meet, settled, is_among, joined, is_plain, is_plain-Number, is_plain-Truth, is_plain-Variable, is_plain-Prefix, is_plain-Infix, Plain, PlainIsValid}
 use Rattle.spx_term.proofs.Equality.{same_term-Decides}
 use Rattle.spx_term.proofs.Terms.{Cases, induct, fold-Truth, fold-Infix}
 use Rattle.spx_term.proofs.FoldingLaws.{keeps_sort, keeps_value, same_value-refl}
@@ -190,7 +190,7 @@ false_fails : (v : Valuation) (P : Type 0) → Holds (Truth false) v → P
 false_fails v P h = let e : value.Truth false ≡ value.Truth true = sym (fold-Truth (value_step v) false) ∙ h in absurd (cc)
 
 pub plain_valid : PlainIsValid
-unfolding Plain
+unfolding Plain closes
 plain_valid hyps goal hyps_sorted goal_sorted plain v respects hold =
     let sorted = recursion_from_All (λ hyp. sort_of hyp ≡ Some Boolean) hyps hyps_sorted in
     let facts = facts_folded v respects hyps sorted (recursion_from_All (λ hyp. Holds hyp v) hyps hold) in

@@ -7,6 +7,8 @@ use Rattle.spx_term.specs.declared.term.TermOp.TheVariants as op
 use Rattle.spx_term.specs.declared.term.TermPrefix.{TermPrefix}
 use Rattle.spx_term.specs.declared.term.Term.{Term, Term-F, fold-Term}
 use Rattle.spx_term.specs.declared.term.Term.TheVariants.{Number, Truth, Variable, Prefix, Infix}
+use Rattle.spx_term.specs.declared.folding.Simplification.{Simplification}
+use Rattle.spx_term.specs.declared.folding.Simplification.TheVariants.{Left, Right, Literal, OfItself, Operation}
 use Rattle.spx_term.specs.declared.value.Value.{Value}
 use Rattle.spx_term.specs.declared.value.Value.TheVariants as value
 use Rattle.spx_term.specs.Equality.{same_term}
@@ -35,46 +37,54 @@ abbrev pub literal_or : Term → Option Value → Term
 literal_or t (Some x) = term_of x
 literal_or t None = t
 
--- `x op b`, where the literal x is the term a: `0 + b`, and `and` with a literal
-unfoldable pub after_literal : TermOp → Value → Term → Term → Term
-after_literal op.Add (value.Number n) a b = if int_eq n (pos 0) then b else Infix op.Add a b
-after_literal op.And (value.Truth x) a b = if x then b else Truth false
-after_literal op x a b = Infix op a b
+-- `a op b` in simpler form; a comparison of equal operands is a truth value
+abbrev pub simplified_to : Simplification → TermOp → Term → Term → Term
+simplified_to Left op a b = a
+simplified_to Right op a b = b
+simplified_to (Literal x) op a b = term_of x
+simplified_to (OfItself x) op a b = if same_term a b then Truth x else Infix op a b
+simplified_to Operation op a b = Infix op a b
 
--- `a op y`, where the literal y is the term b: `a + 0`, `a - 0`, and `and` with a literal
-unfoldable pub before_literal : TermOp → Value → Term → Term → Term
-before_literal op.Add (value.Number n) a b = if int_eq n (pos 0) then a else Infix op.Add a b
-before_literal op.Subtract (value.Number n) a b = if int_eq n (pos 0) then a else Infix op.Subtract a b
-before_literal op.And (value.Truth y) a b = if y then a else Truth false
-before_literal op y a b = Infix op a b
+-- a literal, where there is one
+abbrev pub literal_if : Option Value → Simplification
+literal_if (Some x) = Literal x
+literal_if None = Operation
 
--- what a comparison of a term with itself gives
-unfoldable pub of_itself : TermOp → Option Bool
-of_itself op.Equal = Some true
-of_itself op.LessOrEqual = Some true
-of_itself op.GreaterOrEqual = Some true
-of_itself op.NotEqual = Some false
-of_itself op.Less = Some false
-of_itself op.Greater = Some false
-of_itself op.Add = None
-of_itself op.Subtract = None
-of_itself op.And = None
+-- `x op b` for a literal x: `0 + b`, and `and` with a literal
+unfoldable pub after_literal : TermOp → Value → Simplification
+after_literal op.Add (value.Number n) = if int_eq n (pos 0) then Right else Operation
+after_literal op.And (value.Truth x) = if x then Right else Literal (value.Truth false)
+after_literal op x = Operation
 
--- the literal of a truth value where there is one and the test is met, and else the term
-abbrev pub truth_or : Term → Bool → Option Bool → Term
-truth_or t same (Some b) = if same then Truth b else t
-truth_or t same None = t
+-- `a op y` for a literal y: `a + 0`, `a - 0`, and `and` with a literal
+unfoldable pub before_literal : TermOp → Value → Simplification
+before_literal op.Add (value.Number n) = if int_eq n (pos 0) then Left else Operation
+before_literal op.Subtract (value.Number n) = if int_eq n (pos 0) then Left else Operation
+before_literal op.And (value.Truth y) = if y then Left else Literal (value.Truth false)
+before_literal op y = Operation
 
--- `a op b`, where the two are literals of these values, or none
-abbrev pub simplified_by : Option Value → Option Value → TermOp → Term → Term → Term
-simplified_by (Some x) (Some y) op a b = literal_or (Infix op a b) (fitting_value (value_of_op op x y))
-simplified_by (Some x) None op a b = after_literal op x a b
-simplified_by None (Some y) op a b = before_literal op y a b
-simplified_by None None op a b = truth_or (Infix op a b) (same_term a b) (of_itself op)
+-- `a op b` where neither is a literal: a comparison of a term with itself
+unfoldable pub of_itself : TermOp → Simplification
+of_itself op.Equal = OfItself true
+of_itself op.LessOrEqual = OfItself true
+of_itself op.GreaterOrEqual = OfItself true
+of_itself op.NotEqual = OfItself false
+of_itself op.Less = OfItself false
+of_itself op.Greater = OfItself false
+of_itself op.Add = Operation
+of_itself op.Subtract = Operation
+of_itself op.And = Operation
+
+-- the simpler form of an operation on operands that are literals of these values, or none
+abbrev pub simpler_form : TermOp → Option Value → Option Value → Simplification
+simpler_form op (Some x) (Some y) = literal_if (fitting_value (value_of_op op x y))
+simpler_form op (Some x) None = after_literal op x
+simpler_form op None (Some y) = before_literal op y
+simpler_form op None None = of_itself op
 
 -- `a op b`, where a and b are folded
 unfoldable pub simplified : TermOp → Term → Term → Term
-simplified op a b = simplified_by (literal_of a) (literal_of b) op a b
+simplified op a b = simplified_to (simpler_form op (literal_of a) (literal_of b)) op a b
 
 -- `op a`, where the operand is a literal of this value, or none
 abbrev pub prefixed_by : Option Value → TermPrefix → Term → Term

@@ -7,3 +7,4 @@ pub mod Shapes
 pub mod Intervals
 pub mod Plain
 pub mod Steps
+pub mod Sizes

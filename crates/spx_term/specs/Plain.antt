@@ -1,5 +1,6 @@
 -- Which sequents need no proof.
 use Rattle.std.specs.Prelude.{◌≡◌, refl, IsTrue, Bool, false, ◌&&◌, ◌||◌, ℤ, int_lt, int_le, Option, Some, None, List, All, map}
+use Rattle.std.specs.Bool.{Decides}
 use Rattle.std.specs.List.{list_any}
 use denote.Hole.Carrier.{hidden}
 use Rattle.std.specs.Ordering.{int_eq}
@@ -74,9 +75,17 @@ is_plain-Infix hyps op a b = refl
 -- whether a goal is plain, at each form of a term
 pub ruleset plain_forms = (is_plain-Number, is_plain-Truth, is_plain-Variable, is_plain-Prefix, is_plain-Infix)
 
--- after folding all, a hypothesis is false or the goal is plain
+-- whether after folding all, a hypothesis is false or the goal is plain
+unfoldable pub closes : List Term → Term → Bool
+closes hyps goal = is_among (map folded hyps) (Truth false) || is_plain (map folded hyps) (folded goal)
+
+-- the sequent needs no proof
 unfoldable pub Plain : List Term → Term → Type 0
-Plain hyps goal = IsTrue (is_among (map folded hyps) (Truth false) || is_plain (map folded hyps) (folded goal))
+Plain hyps goal = IsTrue (closes hyps goal)
+
+pub closes-Decides : (hyps : List Term) (goal : Term) → Decides (closes hyps goal) (Plain hyps goal)
+unfolding Plain
+closes-Decides hyps goal = (λ h. h, λ h. h)
 
 -- a plain sequent of well-sorted terms is valid
 abbrev pub PlainIsValid : Type 0

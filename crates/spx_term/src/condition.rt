@@ -7,6 +7,9 @@ use spx_text::{Place, Text};
 use sqlite_items::Items;
 use std::alloc::{AllocError, Global};
 
+/// The greatest number of nodes of one condition, in its hypotheses and goals together.
+pub const MOST_NODES: u32 = 1_000_000;
+
 /// What a condition is proved for.
 #[derive(Clone, Copy, Debug, PartialEq, Eq)]
 pub enum CondKind {

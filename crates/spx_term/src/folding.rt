@@ -2,13 +2,27 @@
 ghost use Rattle.std.specs.Prelude.{◌≡◌, Some, IfOk};
 ghost use Rattle.spx_num.specs.Exact.{exact as exact_value};
 ghost use Rattle.spx_term.specs.declared.value.Value.TheVariants as value;
-ghost use Rattle.spx_term.specs.Equality.{same_term};
 ghost use Rattle.spx_term.specs.Meaning.{as_number, as_truth, value_of_prefix, value_of_op};
-ghost use Rattle.spx_term.specs.Folding.{literal_of, term_of, fitting_value, after_literal, before_literal, of_itself, truth_or, prefixed, simplified, folded};
+ghost use Rattle.spx_term.specs.Folding.{literal_of, term_of, fitting_value, after_literal, before_literal, of_itself, simpler_form, prefixed, simplified, folded};
 
 use crate::{Term, TermOp, TermPrefix, Value, same};
 use spx_num::{Op, checked};
 use std::alloc::{AllocError, Global};
+
+/// What an operation on two folded operands is simplified to.
+#[derive(Clone, Copy, Debug, PartialEq, Eq)]
+pub enum Simplification {
+    /// Its left operand.
+    Left,
+    /// Its right operand.
+    Right,
+    /// The literal of this value.
+    Literal(Value),
+    /// This truth value where the operands are equal, and else the operation itself.
+    OfItself(bool),
+    /// The operation itself.
+    Operation,
+}
 
 /// The term with its constant parts computed.
 #[cycle(fold)]
@@ -46,18 +60,18 @@ fn simplify_prefix(alloc: Global, op: TermPrefix, operand: Term) -> Result<Term,
 }
 
 /// An operation whose operands are folded.
-#[tactic(auto, unfolding(crate::specs::Folding::simplified))]
+#[tactic(auto, unfolding(crate::specs::Folding::simplified), using(crate::proofs::Equality::same_laws))]
 fn simplify(alloc: Global, op: TermOp, left: Term, right: Term) -> Result<Term, AllocError>
     ensures { IfOk result (λ r. r ≡ simplified op left right) }
 {
-    match (literal_of(&left), literal_of(&right)) {
-        (Some(a), Some(b)) => match compute(op, a, b) {
-            Some(value) => Ok(term_of(value)),
-            None => Term::infix(alloc, op, left, right),
-        },
-        (Some(a), None) => after_literal(alloc, op, a, left, right),
-        (None, Some(b)) => before_literal(alloc, op, b, left, right),
-        (None, None) => between_terms(alloc, op, left, right),
+    match simpler_form(op, literal_of(&left), literal_of(&right)) {
+        Simplification::Left => Ok(left),
+        Simplification::Right => Ok(right),
+        Simplification::Literal(value) => Ok(term_of(value)),
+        Simplification::OfItself(value) if same(&left, &right) => Ok(Term::Truth(value)),
+        Simplification::OfItself(_) | Simplification::Operation => {
+            Term::infix(alloc, op, left, right)
+        }
     }
 }
 
@@ -118,7 +132,7 @@ fn compute(op: TermOp, a: Value, b: Value) -> Option<Value>
 
 /// The value of an operation on one operand, where it fits in 128 bits.
 #[tactic(auto, unfolding(crate::specs::Meaning::value_of_prefix))]
-fn compute_prefix(op: TermPrefix, a: Value) -> Option<Value>
+pub fn compute_prefix(op: TermPrefix, a: Value) -> Option<Value>
     ensures { result ≡ fitting_value (value_of_prefix op a) }
 {
     match op {
@@ -136,69 +150,58 @@ fn exact(op: Op, a: i128, b: i128) -> Option<Value>
     }
 }
 
-/// An operation whose left operand is the literal `a`.
-#[tactic(auto, unfolding(crate::specs::Folding::after_literal))]
-fn after_literal(
-    alloc: Global,
-    op: TermOp,
-    a: Value,
-    left: Term,
-    right: Term,
-) -> Result<Term, AllocError>
-    ensures { IfOk result (λ r. r ≡ after_literal op a left right) }
+/// The simpler form of an operation whose operands are literals of these values, or none.
+pub fn simpler_form(op: TermOp, left: Option<Value>, right: Option<Value>) -> Simplification
+    ensures { result ≡ simpler_form op left right }
 {
-    match (op, a) {
-        (TermOp::Add, Value::Number(0)) => Ok(right),
-        (TermOp::And, Value::Truth(true)) => Ok(right),
-        (TermOp::And, Value::Truth(false)) => Ok(Term::Truth(false)),
-        _ => Term::infix(alloc, op, left, right),
+    match (left, right) {
+        (Some(left), Some(right)) => match compute(op, left, right) {
+            Some(value) => Simplification::Literal(value),
+            None => Simplification::Operation,
+        },
+        (Some(left), None) => after_literal(op, left),
+        (None, Some(right)) => before_literal(op, right),
+        (None, None) => of_itself(op),
     }
 }
 
-/// An operation whose right operand is the literal `b`.
-#[tactic(auto, unfolding(crate::specs::Folding::before_literal))]
-fn before_literal(
-    alloc: Global,
-    op: TermOp,
-    b: Value,
-    left: Term,
-    right: Term,
-) -> Result<Term, AllocError>
-    ensures { IfOk result (λ r. r ≡ before_literal op b left right) }
+/// An operation whose left operand is the literal `left`.
+#[tactic(auto, unfolding(crate::specs::Folding::after_literal))]
+fn after_literal(op: TermOp, left: Value) -> Simplification
+    ensures { result ≡ after_literal op left }
 {
-    match (op, b) {
-        (TermOp::Add | TermOp::Subtract, Value::Number(0)) => Ok(left),
-        (TermOp::And, Value::Truth(true)) => Ok(left),
-        (TermOp::And, Value::Truth(false)) => Ok(Term::Truth(false)),
-        _ => Term::infix(alloc, op, left, right),
+    match (op, left) {
+        (TermOp::Add, Value::Number(0)) => Simplification::Right,
+        (TermOp::And, Value::Truth(true)) => Simplification::Right,
+        (TermOp::And, Value::Truth(false)) => Simplification::Literal(Value::Truth(false)),
+        _ => Simplification::Operation,
+    }
+}
+
+/// An operation whose right operand is the literal `right`.
+#[tactic(auto, unfolding(crate::specs::Folding::before_literal))]
+fn before_literal(op: TermOp, right: Value) -> Simplification
+    ensures { result ≡ before_literal op right }
+{
+    match (op, right) {
+        (TermOp::Add | TermOp::Subtract, Value::Number(0)) => Simplification::Left,
+        (TermOp::And, Value::Truth(true)) => Simplification::Left,
+        (TermOp::And, Value::Truth(false)) => Simplification::Literal(Value::Truth(false)),
+        _ => Simplification::Operation,
     }
 }
 
 /// An operation with no literal among its operands.
-#[tactic(auto, using(crate::proofs::Equality::same_laws))]
-fn between_terms(alloc: Global, op: TermOp, left: Term, right: Term) -> Result<Term, AllocError>
-    ensures { IfOk result (λ r. r ≡ truth_or (Term.Infix op left right) (same_term left right) (of_itself op)) }
-{
-    match of_itself(op) {
-        Some(value) => {
-            if same(&left, &right) {
-                Ok(Term::Truth(value))
-            } else {
-                Term::infix(alloc, op, left, right)
-            }
-        }
-        None => Term::infix(alloc, op, left, right),
-    }
-}
-
 #[tactic(auto, unfolding(crate::specs::Folding::of_itself))]
-fn of_itself(op: TermOp) -> Option<bool>
+fn of_itself(op: TermOp) -> Simplification
     ensures { result ≡ of_itself op }
 {
     match op {
-        TermOp::Equal | TermOp::LessOrEqual | TermOp::GreaterOrEqual => Some(true),
-        TermOp::NotEqual | TermOp::Less | TermOp::Greater => Some(false),
-        TermOp::Add | TermOp::Subtract | TermOp::And => None,
+        TermOp::Equal | TermOp::LessOrEqual | TermOp::GreaterOrEqual => {
+            Simplification::OfItself(true)
+        }
+        TermOp::NotEqual | TermOp::Less | TermOp::Greater => Simplification::OfItself(false),
+        TermOp::Add | TermOp::Subtract | TermOp::And => Simplification::Operation,
     }
 }
 

@@ -11,8 +11,8 @@ pub mod laws;
 mod term;
 mod value;
 
-pub use condition::{CondKind, Condition, Sequent};
-pub use folding::fold;
+pub use condition::{CondKind, Condition, MOST_NODES, Sequent};
+pub use folding::{Simplification, compute_prefix, fold, simpler_form};
 pub use interval::Interval;
 pub use term::{Name, Sort, Symbol, Term, TermOp, TermPrefix, copy_all, same};
 pub use value::Value;
