@@ -1,318 +1,102 @@
-// Sequents that need no proof.
-ghost use Rattle.std.specs.Prelude.{◌≡◌, ◌↔◌, IfOk, IsTrue, int_lt, int_le, map, true, false};
-ghost use Rattle.std.specs.Ordering.{int_eq};
-ghost use Rattle.spx_num.specs.Exact.{exact};
-ghost use Rattle.spx_term.specs.Folding.{folded};
-ghost use Rattle.spx_term.specs.Intervals.{unbounded, point, sum_of, difference_of, end_of, higher, lower, meet, allowed, mirrored, bounds, bounds_before, bounded, structural, structural_prefix, interval};
-ghost use Rattle.spx_term.specs.Plain.{ends_meet, settled, is_among, is_plain, Plain};
+// Sequents and claims that need no proof.
+ghost use Rattle.std.specs.Prelude.{◌≡◌, ◌<◌, ◌↔◌, List, [], ◌∷◌, length, map, IfOk, IsTrue, OnOk};
+ghost use Rattle.spx_term.specs.Goals.{goal_of};
+ghost use Rattle.spx_term.specs.Plain.{Plain};
+ghost use Rattle.spx_term.specs.Steps.{closes_claim};
+ghost use Rattle.spx_arena.specs.Sharing.{Grows};
+ghost use Rattle.spx_arena.specs.Claims.{AreIds, AreLists, trees_at, claims_in, IsWhole};
+ghost use Rattle.spx_arena.specs.Sharing.{Adds};
+ghost use Rattle.spx_simplify.specs.Questions.{AreGoals, Asked, HasFacts};
 
-use spx_num::{Op, checked};
-use spx_term::{Interval, Sequent, Term, TermOp, TermPrefix, fold, same};
+use crate::judge::{Question, answers};
+use spx_arena::{FactLists, FactsId, Node, SharedClaim, SharedClaims, TermId, Terms};
+use spx_term::{Sequent, Term, TermOp};
 use sqlite_items::Items;
 use std::alloc::{AllocError, Global};
 
-const UNBOUNDED: Interval = Interval {
-    low: None,
-    high: None,
-};
-
 /// Whether a sequent is plain.
-#[tactic(auto, unfolding(spx_term::specs::Plain::Plain))]
 pub fn closes(alloc: Global, sequent: &Sequent) -> Result<bool, AllocError>
     ensures { IfOk result (λ yes. IsTrue yes ↔ Plain sequent.now.hyps sequent.now.goal) }
 {
-    let hyps = fold_all(alloc, sequent.hyps.as_slice())?;
-    let goal = fold(alloc, &sequent.goal)?;
-    let hyps = hyps.as_slice();
-    Ok(is_among(hyps, &Term::Truth(false)) || follows(hyps, &goal))
+    let mut terms = Terms::new(alloc);
+    let mut lists = FactLists::new(alloc);
+    let facts = linked(&mut terms, &mut lists, sequent.hyps.as_slice())?;
+    let goal = terms.intern(&sequent.goal)?;
+    let answers = answers(alloc, &mut terms, &lists, &[Question { facts, goal }])?;
+    let yes = answers.as_slice()[0];
+    Ok(yes)
 }
 
-fn fold_all(alloc: Global, terms: &[Term]) -> Result<Items<Term>, AllocError>
-    ensures { IfOk result (λ all. all ≡ map folded terms.now) }
+/// A list of these facts, where there are no lists yet.
+fn linked(terms: &mut Terms, lists: &mut FactLists, hyps: &[Term]) -> Result<FactsId, AllocError>
+    requires { lists.old ≡ [] ∷ [] }
+    ensures { IfOk result (λ facts. HasFacts terms.new lists.new facts hyps.now) }
 {
-    let mut folded = Items::new(alloc);
-    for term in terms {
-        folded.push(fold(alloc, term)?)?;
-    }
-    Ok(folded)
-}
-
-fn is_among(hyps: &[Term], goal: &Term) -> bool
-    ensures { result ≡ is_among hyps.now goal.now }
-{
+    let mut facts = lists.none();
     for hyp in hyps {
-        if same(goal, hyp) {
-            return true;
-        }
+        let fact = terms.intern(hyp)?;
+        facts = lists.more(facts, fact)?;
     }
-    false
+    Ok(facts)
 }
 
-/// Whether a goal follows from the hypotheses, all of them folded.
-#[cycle(follows)]
-#[tactic(auto, unfolding(spx_term::specs::Plain::joined), using(spx_term::specs::Plain::plain_forms))]
-fn follows(hyps: &[Term], goal: &Term) -> bool
-    ensures { result ≡ is_plain hyps.now goal.now }
+/// Which of the claims need no proof.
+pub fn closed_claims(alloc: Global, claims: &mut SharedClaims) -> Result<Items<bool>, AllocError>
+    requires { IsWhole claims.old }
+    ensures same { OnOk result (claims_in claims.new ≡ claims_in claims.old) }
+    ensures closed { IfOk result (λ closed. closed ≡ map closes_claim (claims_in claims.old)) }
 {
-    match goal {
-        Term::Truth(value) => *value || is_among(hyps, goal),
-        Term::Infix(op, left, right) => {
-            is_among(hyps, goal)
-                || match op {
-                    TermOp::And => follows(hyps, left.get()) && follows(hyps, right.get()),
-                    _ => settles(*op, interval(hyps, left.get()), interval(hyps, right.get())),
-                }
-        }
-        Term::Number(_) | Term::Variable(_) | Term::Prefix(_, _) => is_among(hyps, goal),
-    }
+    let questions = questions_of(alloc, &mut claims.terms, claims.list.as_slice())?;
+    let closed = answers(
+        alloc,
+        &mut claims.terms,
+        &claims.facts,
+        questions.as_slice(),
+    )?;
+    Ok(closed)
 }
 
-/// Whether a comparison holds of every two numbers of these intervals.
-#[tactic(auto, unfolding(spx_term::specs::Plain::settled))]
-fn settles(op: TermOp, left: Interval, right: Interval) -> bool
-    ensures { result ≡ settled op left right }
+/// A question for each of the claims.
+fn questions_of(
+    alloc: Global,
+    terms: &mut Terms,
+    list: &[SharedClaim],
+) -> Result<Items<Question>, AllocError>
+    requires { AreGoals (length terms.old) list.now }
+    ensures { IfOk result (Asked terms.old terms.new list.now) }
 {
-    match op {
-        TermOp::Equal => {
-            is_same_end(left.low, left.high)
-                && is_same_end(left.low, right.low)
-                && is_same_end(left.low, right.high)
-        }
-        TermOp::NotEqual => is_below(left.high, right.low) || is_below(right.high, left.low),
-        TermOp::Less => is_below(left.high, right.low),
-        TermOp::LessOrEqual => is_at_most(left.high, right.low),
-        TermOp::Greater => is_below(right.high, left.low),
-        TermOp::GreaterOrEqual => is_at_most(right.high, left.low),
-        TermOp::Add | TermOp::Subtract | TermOp::And => false,
+    let mut questions = Items::new(alloc);
+    for claim in list {
+        let goal = conjunction(terms, claim.goals.as_slice())?;
+        questions.push(Question {
+            facts: claim.facts,
+            goal,
+        })?;
     }
+    Ok(questions)
 }
 
-fn is_same_end(a: Option<i128>, b: Option<i128>) -> bool
-    ensures { result ≡ ends_meet int_eq a b }
+/// `G1 and (G2 and ..)`
+fn conjunction(terms: &mut Terms, goals: &[TermId]) -> Result<TermId, AllocError>
+    requires { AreIds (length terms.old) goals.now }
+    ensures { IfOk result (λ id. Adds terms.old terms.new id (goal_of (trees_at terms.old goals.now))) }
 {
-    match (a, b) {
-        (Some(a), Some(b)) => a == b,
-        _ => false,
+    if goals.len() == 0 {
+        return terms.make(Node::Truth(true));
     }
-}
-
-fn is_below(high: Option<i128>, low: Option<i128>) -> bool
-    ensures { result ≡ ends_meet int_lt high low }
-{
-    match (high, low) {
-        (Some(high), Some(low)) => high < low,
-        _ => false,
+    let mut at = goals.len() - 1;
+    let mut all = goals[at];
+    'join: while at > 0 {
+        at -= 1;
+        all = terms.infix(TermOp::And, goals[at], all)?;
     }
-}
-
-fn is_at_most(high: Option<i128>, low: Option<i128>) -> bool
-    ensures { result ≡ ends_meet int_le high low }
-{
-    match (high, low) {
-        (Some(high), Some(low)) => high <= low,
-        _ => false,
-    }
-}
-
-/// The interval of a term under the hypotheses.
-#[cycle(interval)]
-#[tactic(auto, using(spx_term::specs::Intervals::interval_forms))]
-fn interval(hyps: &[Term], term: &Term) -> Interval
-    ensures { result ≡ interval hyps.now term.now }
-{
-    match term {
-        Term::Number(value) => within_bounds(point(*value), hyps, term),
-        Term::Prefix(op, operand) => {
-            let part = structural_prefix(*op, interval(hyps, operand.get()));
-            within_bounds(part, hyps, term)
-        }
-        Term::Infix(op, left, right) => {
-            let parts = structural(*op, interval(hyps, left.get()), interval(hyps, right.get()));
-            within_bounds(parts, hyps, term)
-        }
-        Term::Truth(_) | Term::Variable(_) => within_bounds(UNBOUNDED, hyps, term),
-    }
-}
-
-/// The interval of an operation on terms of these intervals.
-#[tactic(auto, unfolding(spx_term::specs::Intervals::structural))]
-fn structural(op: TermOp, left: Interval, right: Interval) -> Interval
-    ensures { result ≡ structural op left right }
-{
-    match op {
-        TermOp::Add => sum(left, right),
-        TermOp::Subtract => difference(left, right),
-        _ => UNBOUNDED,
-    }
-}
-
-/// The interval of an operation on a term of this interval.
-#[tactic(auto, unfolding(spx_term::specs::Intervals::structural_prefix))]
-fn structural_prefix(op: TermPrefix, operand: Interval) -> Interval
-    ensures { result ≡ structural_prefix op operand }
-{
-    match op {
-        TermPrefix::Minus => difference(point(0), operand),
-    }
-}
-
-fn point(value: i128) -> Interval
-    ensures { result ≡ point value }
-{
-    Interval {
-        low: Some(value),
-        high: Some(value),
-    }
-}
-
-fn sum(left: Interval, right: Interval) -> Interval
-    ensures { result ≡ sum_of left right }
-{
-    Interval {
-        low: end(Op::Add, left.low, right.low),
-        high: end(Op::Add, left.high, right.high),
-    }
-}
-
-fn difference(left: Interval, right: Interval) -> Interval
-    ensures { result ≡ difference_of left right }
-{
-    Interval {
-        low: end(Op::Sub, left.low, right.high),
-        high: end(Op::Sub, left.high, right.low),
-    }
-}
-
-/// The end at the value of an operation on two ends. There is none where it does not fit in 128 bits.
-#[tactic(auto, using(spx_num::specs::Widths::fits_laws))]
-fn end(op: Op, left: Option<i128>, right: Option<i128>) -> Option<i128>
-    ensures { result ≡ end_of (exact op) left right }
-{
-    match (left, right) {
-        (Some(left), Some(right)) => match checked(op, left, right) {
-            Ok(value) => Some(value),
-            Err(_) => None,
-        },
-        _ => None,
-    }
-}
-
-/// The meet of an interval with the bounds that the hypotheses set to a term.
-#[tactic(auto, unfolding(spx_term::specs::Intervals::bounded))]
-fn within_bounds(initial: Interval, hyps: &[Term], term: &Term) -> Interval
-    ensures { result ≡ bounded initial hyps.now term.now }
-{
-    let mut all = initial;
-    for hyp in hyps {
-        all = meet(all, bounds(hyp, term));
-    }
-    all
-}
-
-fn meet(a: Interval, b: Interval) -> Interval
-    ensures { result ≡ meet a b }
-{
-    Interval {
-        low: higher(a.low, b.low),
-        high: lower(a.high, b.high),
-    }
-}
-
-fn higher(a: Option<i128>, b: Option<i128>) -> Option<i128>
-    ensures { result ≡ higher a b }
-{
-    match (a, b) {
-        (Some(x), Some(y)) => { if x < y { b } else { a } }
-        (None, _) => b,
-        (_, None) => a,
-    }
-}
-
-fn lower(a: Option<i128>, b: Option<i128>) -> Option<i128>
-    ensures { result ≡ lower a b }
-{
-    match (a, b) {
-        (Some(x), Some(y)) => { if y < x { b } else { a } }
-        (None, _) => b,
-        (_, None) => a,
-    }
-}
-
-/// The bounds that a hypothesis sets to a term.
-#[tactic(auto, unfolding(spx_term::specs::Intervals::bounds))]
-fn bounds(hyp: &Term, term: &Term) -> Interval
-    ensures { result ≡ bounds term.now hyp.now }
-{
-    match hyp {
-        Term::Infix(op, left, right) => meet(
-            bounds_before(*op, left.get(), right.get(), term),
-            bounds_before(mirrored(*op), right.get(), left.get(), term),
-        ),
-        _ => UNBOUNDED,
-    }
-}
-
-/// The bounds that `left op right` sets to a term where the term is `left` and a literal is `right`.
-fn bounds_before(op: TermOp, left: &Term, right: &Term, term: &Term) -> Interval
-    ensures { result ≡ bounds_before op left.now right.now term.now }
-{
-    match right {
-        Term::Number(value) => {
-            if same(left, term) {
-                numbers_to(op, *value)
-            } else {
-                UNBOUNDED
-            }
-        }
-        _ => UNBOUNDED,
-    }
-}
-
-/// `b op a` where the operation is `a op b`.
-#[tactic(auto, unfolding(spx_term::specs::Intervals::mirrored))]
-fn mirrored(op: TermOp) -> TermOp
-    ensures { result ≡ mirrored op }
-{
-    match op {
-        TermOp::Less => TermOp::Greater,
-        TermOp::LessOrEqual => TermOp::GreaterOrEqual,
-        TermOp::Greater => TermOp::Less,
-        TermOp::GreaterOrEqual => TermOp::LessOrEqual,
-        TermOp::Add | TermOp::Subtract | TermOp::Equal | TermOp::NotEqual | TermOp::And => op,
-    }
-}
-
-/// The numbers that a comparison with `value` allows.
-#[tactic(auto, unfolding(spx_term::specs::Intervals::allowed))]
-fn numbers_to(op: TermOp, value: i128) -> Interval
-    ensures { result ≡ allowed op value }
-{
-    match op {
-        TermOp::Equal => point(value),
-        TermOp::Less => Interval {
-            low: None,
-            high: end(Op::Sub, Some(value), Some(1)),
-        },
-        TermOp::LessOrEqual => Interval {
-            low: None,
-            high: Some(value),
-        },
-        TermOp::Greater => Interval {
-            low: end(Op::Add, Some(value), Some(1)),
-            high: None,
-        },
-        TermOp::GreaterOrEqual => Interval {
-            low: Some(value),
-            high: None,
-        },
-        TermOp::Add | TermOp::Subtract | TermOp::NotEqual | TermOp::And => UNBOUNDED,
-    }
+    Ok(all)
 }
 
 #[cfg(test)]
 mod tests {
     use super::*;
-    use spx_term::{Name, Sort, Symbol};
+    use spx_term::{Name, Sort, Symbol, TermPrefix};
     use std::test::Fail;
 
     const FIRST: i128 = -2147483648;
@@ -445,6 +229,66 @@ mod tests {
             let answer = closes_conjunction(rt.alloc(), hyp, second)?;
             assert_eq!(rt; answer, closed, "{op:?} {second:?}");
         }
+        Ok(())
+    }
+
+    /// `X + 1 + .. + 1`, with so many ones.
+    fn sum_of_ones(alloc: Global, count: usize) -> Result<Term, AllocError> {
+        let mut sum = variable();
+        for at in 0..count {
+            let _ = at;
+            sum = Term::infix(alloc, TermOp::Add, sum, Term::Number(1))?;
+        }
+        Ok(sum)
+    }
+
+    /// Whether a goal closes under the hypothesis `X <= 0`.
+    fn closes_at_most_zero(alloc: Global, goal: Term) -> Result<bool, AllocError> {
+        let mut hyps = Items::new(alloc);
+        hyps.push(Term::infix(alloc, TermOp::LessOrEqual, variable(), Term::Number(0))?)?;
+        closes(alloc, &Sequent { hyps, goal })
+    }
+
+    #[test]
+    fn closes_a_deep_sum(rt: HostRuntime) -> Result<(), Fail> {
+        let alloc = rt.alloc();
+        for (bound, closed) in [(700, true), (699, false)] {
+            let sum = sum_of_ones(alloc, 700)?;
+            let goal = Term::infix(alloc, TermOp::LessOrEqual, sum, Term::Number(bound))?;
+            assert_eq!(rt; closes_at_most_zero(alloc, goal)?, closed, "{bound}");
+        }
+        Ok(())
+    }
+
+    #[test]
+    fn closes_a_deep_conjunction(rt: HostRuntime) -> Result<(), Fail> {
+        let alloc = rt.alloc();
+        for (last, closed) in [(1, true), (0, false)] {
+            let mut goal = Term::infix(alloc, TermOp::Less, variable(), Term::Number(last))?;
+            for at in 1..700usize {
+                let bound = Term::Number(at as i128);
+                let first = Term::infix(alloc, TermOp::Less, variable(), bound)?;
+                goal = Term::infix(alloc, TermOp::And, first, goal)?;
+            }
+            assert_eq!(rt; closes_at_most_zero(alloc, goal)?, closed, "{last}");
+        }
+        Ok(())
+    }
+
+    #[test]
+    fn takes_facts_back(rt: HostRuntime) -> Result<(), Fail> {
+        let alloc = rt.alloc();
+        let mut terms = Terms::new(alloc);
+        let mut lists = FactLists::new(alloc);
+        let mut hyps = Items::new(alloc);
+        hyps.push(Term::infix(alloc, TermOp::Equal, variable(), Term::Number(0))?)?;
+        let facts = linked(&mut terms, &mut lists, hyps.as_slice())?;
+        let none = lists.none();
+        let goal = terms.intern(&Term::infix(alloc, TermOp::Less, variable(), Term::Number(1))?)?;
+        let open = Question { facts: none, goal };
+        let closed = Question { facts, goal };
+        let answers = answers(alloc, &mut terms, &lists, &[open, closed, open])?;
+        assert_eq!(rt; answers.as_slice(), [false, true, false].as_slice());
         Ok(())
     }
 }

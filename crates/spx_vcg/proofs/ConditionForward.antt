@@ -1,20 +1,12 @@
 -- The conditions made on the way are those taken back over the steps.
-use Rattle.std.proofs.Common.{◌≡◌, Bool, true, false, cond, List, [], ◌∷◌, ◌++◌, map, fold, refl, sym, ap, ◌∙◌, append-nil}
-use Rattle.spx_core.specs.declared.program.VarId.{VarId}
-use Rattle.spx_core.specs.declared.subprogram.Sub.{Sub}
-use Rattle.spx_core.specs.Dependency.{exports}
+use Rattle.std.proofs.Common.{◌≡◌, Bool, true, false, cond, List, [], ◌∷◌, map, fold, refl, sym, ap, ◌∙◌}
 use Rattle.spx_term.specs.declared.term.Name.{Name}
 use Rattle.spx_term.specs.declared.term.Term.{Term}
 use Rattle.spx_term.specs.declared.term.Term.TheVariants.{Variable, Prefix, Infix}
 use Rattle.spx_term.proofs.Terms.{fold-Number, fold-Truth, fold-Variable, fold-Prefix, fold-Infix, induct}
-use Rattle.spx_term.specs.Steps.{Tree, Cut, Assume, Assign, Prove, assume_all, same_name, substituted_step, substituted, Claim, with_fact, with_value, claims_of, with_new, without_doubles, tidy}
-use Rattle.spx_meaning.specs.Paths.{now, entry, numbered, entering, first_facts, walks, tree_of, conditions_of}
-use Rattle.spx_vcg.specs.declared.vcg.Given.{Given}
-use Rattle.spx_vcg.specs.declared.vcg.Walk.{Walk}
-use Rattle.spx_vcg.specs.ConditionWalk.{State, applied, updated, forward, state_of, entered, conditions_from}
+use Rattle.spx_term.specs.Steps.{Tree, Cut, Assume, Assign, Prove, same_name, substituted_step, substituted, Claim, with_fact, with_value, claims_of, with_new, without_doubles, tidy}
+use Rattle.spx_vcg.specs.ConditionWalk.{State, applied, updated, forward}
 use Rattle.spx_vcg.proofs.ConditionTerms.{applied-Number, applied-Truth, applied-Variable, applied-Prefix, applied-Infix}
-use Rattle.spx_vcg.proofs.ConditionStates.{state_of-push, state_of-entry}
-use Rattle.spx_vcg.proofs.ConditionSteps.{forward-assume_all}
 
 -- ---- states and substitution
 module _ (s : State) (x : Name) (u : Term) where
@@ -79,52 +71,7 @@ forward_is s facts (Assign x u rest) =
 forward_is s facts (Prove kind place goals rest) =
     ap (λ claims. record { kind = kind; place = place; hyps = facts; goals = map (applied s) goals } ∷ claims) (forward_is s facts rest)
 
-forward_from_start : (tree : Tree) → forward Variable [] tree ≡ map tidy (claims_of tree)
+pub forward_from_start : (tree : Tree) → forward Variable [] tree ≡ map tidy (claims_of tree)
 forward_from_start tree =
     forward_is Variable [] tree
     ∙ map_same (taken Variable []) tidy (λ c. λ i. record { kind = c.kind; place = c.place; hyps = without_doubles (map_itself (applied Variable) applied-itself c.hyps i); goals = map_itself (applied Variable) applied-itself c.goals i }) (claims_of tree)
-
--- ---- the start
-forward-Assign : (given : List Given) (v : VarId) (facts : List Term) (rest : Tree) → forward (state_of given) facts (Assign (now v) (Variable (entry v)) rest) ≡ forward (state_of (given ++ record { var = v; value = Variable (entry v) } ∷ [])) facts rest
-forward-Assign given v facts rest =
-    ap (λ t. forward (updated (state_of given) (now v) t) facts rest) (applied-Variable (state_of given) (entry v) ∙ state_of-entry given v)
-    ∙ ap (λ (s : State). forward s facts rest) (sym (state_of-push given (record { var = v; value = Variable (entry v) })))
-
-module _ (sub : Sub) (given : List Given) (v : VarId) (vs : List VarId) (facts : List Term) (rest : Tree) where
-  abbrev new : List Given
-  new = given ++ record { var = v; value = Variable (entry v) } ∷ []
-
-  abbrev Same : Tree → List Given → Type 0
-  Same tree known = forward (state_of given) facts tree ≡ forward (state_of (fold (entered sub) known vs)) facts rest
-
-  entered_or : (b : Bool) → Same (entering sub vs rest) given → forward (state_of new) facts (entering sub vs rest) ≡ forward (state_of (fold (entered sub) new vs)) facts rest → Same (cond b (Assign (now v) (Variable (entry v)) (entering sub vs rest)) (entering sub vs rest)) (cond b new given)
-  entered_or true old renewed = forward-Assign given v facts (entering sub vs rest) ∙ renewed
-  entered_or false old renewed = old
-
-forward-entering : (sub : Sub) (given : List Given) (vs : List VarId) (facts : List Term) (rest : Tree) → forward (state_of given) facts (entering sub vs rest) ≡ forward (state_of (fold (entered sub) given vs)) facts rest
-forward-entering sub given [] facts rest = refl
-forward-entering sub given (v ∷ vs) facts rest =
-    entered_or sub given v vs facts rest (exports v sub) (forward-entering sub given vs facts rest) (forward-entering sub (new sub given v vs facts rest) vs facts rest)
-
--- ---- the end
-from_start : (sub : Sub) → numbered sub.name.text 1 (forward (state_of (fold (entered sub) [] sub.formals)) (fold with_new [] (map (applied (state_of (fold (entered sub) [] sub.formals))) (first_facts sub))) (walks sub.statements Cut)) ≡ conditions_of sub
-unfolding conditions_of
-from_start sub =
-    let begun = fold (entered sub) [] sub.formals in
-    let body = walks sub.statements Cut in
-    ap (numbered sub.name.text 1) (
-    sym (forward-assume_all (state_of begun) [] (first_facts sub) body)
-    ∙ sym (forward-entering sub [] sub.formals [] (assume_all (first_facts sub) body))
-    ∙ forward_from_start (tree_of sub))
-
-pub whole : (sub : Sub) (given : List Given) (facts : List Term) (w : Walk)
-    → given ≡ fold (entered sub) [] sub.formals → facts ≡ fold with_new [] (map (applied (state_of given)) (first_facts sub))
-    → ((rest : Tree) → conditions_from sub.name.text (record { given = given; facts = facts; conditions = [] }) (walks sub.statements rest) ≡ conditions_from sub.name.text w rest)
-    → w.conditions ≡ conditions_of sub
-unfolding conditions_from
-whole sub given facts w begins knows walked =
-    sym (append-nil w.conditions)
-    ∙ sym (walked Cut)
-    ∙ ap (λ (fs : List Term). numbered sub.name.text 1 (forward (state_of given) fs (walks sub.statements Cut))) knows
-    ∙ ap (λ (gs : List Given). numbered sub.name.text 1 (forward (state_of gs) (fold with_new [] (map (applied (state_of gs)) (first_facts sub))) (walks sub.statements Cut))) begins
-    ∙ from_start sub

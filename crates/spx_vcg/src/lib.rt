@@ -1,7 +1,18 @@
 //! Verification conditions of subprograms.
+//!
+//! A layer above may rely on this: `shared_conditions` answers the conditions of a subprogram (`conditions_of` of
+//! `spx_meaning`) over shared terms and facts, in time and memory that grow with the length of the body, and
+//! `conditions` answers the same as trees. Both refuse a subprogram exactly where one of its conditions has more than
+//! `MOST_NODES` nodes, or where memory runs out.
 #![tactic(auto)]
 
+mod fault;
+mod ids;
+mod limit;
 mod static_terms;
+mod values;
 mod vcg;
+mod walk;
 
-pub use vcg::conditions;
+pub use fault::VcFault;
+pub use vcg::{condition_name, conditions, shared_conditions};

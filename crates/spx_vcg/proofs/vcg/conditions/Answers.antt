@@ -1,6 +1,7 @@
-use Rattle.spx_vcg.proofs.ConditionForward.{whole}
+use Rattle.std.proofs.Common.{◌∙◌}
+use Rattle.spx_arena.specs.Claims.{claims_in}
+use Rattle.spx_vcg.proofs.Sizes.{conditions_are}
 use Rattle.spx_vcg.proofs.vcg.conditions.Goals as goal
 
-pub returns : goal.returns
-returns c =
-    whole c.args.sub.now c.in_ok-given.given c.in_ok-facts.facts c.stmts.new.self c.in_ok-given.ensures (cc c.in_ok-facts.ensures) (λ rest. cc (c.in_ok-stmts.ensures rest))
+pub returns-clause-exact : goal.returns-clause-exact
+returns-clause-exact c = c.in_ok-as_trees.ensures ∙ conditions_are c.args.sub.now (claims_in c.in_ok-claims.claims) c.in_ok-claims.ensures.claims

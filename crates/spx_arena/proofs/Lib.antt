@@ -1,0 +1,5 @@
+pub mod Growth
+pub mod Ids
+pub mod Sizes
+pub mod Nodes
+pub mod Lists

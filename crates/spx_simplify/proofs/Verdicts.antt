@@ -1,0 +1,74 @@
+-- Which goals are plain, by what the tables say.
+use Rattle.std.proofs.Common.{◌≡◌, ℤ, ◌<◌, Bool, true, false, ◌&&◌, ◌||◌, List, length, refl, sym, ap, ◌∙◌}
+use Rattle.spx_term.specs.declared.term.Name.{Name}
+use Rattle.spx_term.specs.declared.term.TermOp.{TermOp}
+use Rattle.spx_term.specs.declared.term.TermOp.TheVariants as signs
+use Rattle.spx_term.specs.declared.term.TermPrefix.{TermPrefix}
+use Rattle.spx_term.specs.declared.term.Term.{Term}
+use Rattle.spx_term.specs.declared.term.Term.TheVariants.{Number, Truth, Variable, Prefix, Infix}
+use Rattle.spx_term.specs.declared.interval.Interval.{Interval}
+use Rattle.spx_term.specs.Intervals.{interval}
+use Rattle.spx_term.specs.Plain.{is_among, is_plain, settled, joined, is_plain-Number, is_plain-Truth, is_plain-Variable, is_plain-Prefix, is_plain-Infix}
+use Rattle.spx_arena.specs.declared.terms.TermId.{TermId}
+use Rattle.spx_arena.specs.declared.terms.Node.{Node}
+use Rattle.spx_arena.specs.declared.terms.Node.TheVariants as node
+use Rattle.spx_arena.specs.Sharing.{tree_at, tree_in}
+use Rattle.spx_simplify.specs.declared.known.Known.{Known}
+use Rattle.spx_simplify.specs.Tables.{test_at, Knows}
+use Rattle.spx_simplify.proofs.Meets.{or_true, or_false}
+
+module _ (trees hyps : List Term) (k : Known) (knows : Knows trees hyps k) (goal : TermId) (within : goal.0 < length trees) where
+  among_is : test_at k.facts goal.0 ≡ is_among hyps (tree_at trees goal)
+  among_is = knows.facts goal.0 within
+
+  pub plain_known : (n : Node) → tree_at trees goal ≡ tree_in trees n → test_at k.facts goal.0 ≡ true → true ≡ is_plain hyps (tree_at trees goal)
+  plain_known n is here = plain_or n is (sym (sym here ∙ among_is ∙ ap (is_among hyps) is))
+    where
+      plain_or : (n : Node) → tree_at trees goal ≡ tree_in trees n → is_among hyps (tree_in trees n) ≡ true → true ≡ is_plain hyps (tree_at trees goal)
+      plain_or (node.Number m) is e = sym (ap (is_plain hyps) is ∙ is_plain-Number hyps m ∙ e)
+      plain_or (node.Truth b) is e = sym (ap (is_plain hyps) is ∙ is_plain-Truth hyps b ∙ ap (λ c. b || c) e ∙ or_true b)
+      plain_or (node.Variable x) is e = sym (ap (is_plain hyps) is ∙ is_plain-Variable hyps x ∙ e)
+      plain_or (node.Prefix op a) is e = sym (ap (is_plain hyps) is ∙ is_plain-Prefix hyps op (tree_at trees a) ∙ e)
+      plain_or (node.Infix op a b) is e = sym (ap (is_plain hyps) is ∙ is_plain-Infix hyps op (tree_at trees a) (tree_at trees b) ∙ ap (λ c. c || joined op (is_plain hyps (tree_at trees a)) (is_plain hyps (tree_at trees b)) (interval hyps (tree_at trees a)) (interval hyps (tree_at trees b))) e)
+
+  module _ (absent : test_at k.facts goal.0 ≡ false) where
+    not_among : (t : Term) → tree_at trees goal ≡ t → is_among hyps t ≡ false
+    not_among t is = ap (is_among hyps) (sym is) ∙ sym among_is ∙ absent
+
+    pub plain_number : (m : ℤ) → tree_at trees goal ≡ Number m → false ≡ is_plain hyps (tree_at trees goal)
+    plain_number m is = sym (ap (is_plain hyps) is ∙ is_plain-Number hyps m ∙ not_among (Number m) is)
+
+    pub plain_truth : (b : Bool) → tree_at trees goal ≡ Truth b → b ≡ is_plain hyps (tree_at trees goal)
+    plain_truth b is = sym (ap (is_plain hyps) is ∙ is_plain-Truth hyps b ∙ ap (λ c. b || c) (not_among (Truth b) is) ∙ or_false b)
+
+    pub plain_variable : (x : Name) → tree_at trees goal ≡ Variable x → false ≡ is_plain hyps (tree_at trees goal)
+    plain_variable x is = sym (ap (is_plain hyps) is ∙ is_plain-Variable hyps x ∙ not_among (Variable x) is)
+
+    pub plain_prefix : (op : TermPrefix) (a : Term) → tree_at trees goal ≡ Prefix op a → false ≡ is_plain hyps (tree_at trees goal)
+    plain_prefix op a is = sym (ap (is_plain hyps) is ∙ is_plain-Prefix hyps op a ∙ not_among (Prefix op a) is)
+
+    plain_infix : (op : TermOp) (a b : Term) → tree_at trees goal ≡ Infix op a b → joined op (is_plain hyps a) (is_plain hyps b) (interval hyps a) (interval hyps b) ≡ is_plain hyps (tree_at trees goal)
+    plain_infix op a b is =
+        sym (ap (is_plain hyps) is ∙ is_plain-Infix hyps op a b ∙ ap (λ c. c || joined op (is_plain hyps a) (is_plain hyps b) (interval hyps a) (interval hyps b)) (not_among (Infix op a b) is))
+
+    and_is : (op : TermOp) (p q : Bool) (i j : Interval) → op ≡ signs.And → (p && q) ≡ joined op p q i j
+    unfolding joined
+    and_is op p q i j e = ap (λ o. joined o p q i j) (sym e)
+
+    other_is : (op : TermOp) (p q : Bool) (i j : Interval) → (op ≡ signs.And → ⊥) → settled op i j ≡ joined op p q i j
+    unfolding joined
+    other_is signs.And p q i j other = absurd (other refl)
+    other_is signs.Add p q i j other = refl
+    other_is signs.Subtract p q i j other = refl
+    other_is signs.Equal p q i j other = refl
+    other_is signs.NotEqual p q i j other = refl
+    other_is signs.Less p q i j other = refl
+    other_is signs.LessOrEqual p q i j other = refl
+    other_is signs.Greater p q i j other = refl
+    other_is signs.GreaterOrEqual p q i j other = refl
+
+    pub plain_both : (op : TermOp) (a b : Term) → tree_at trees goal ≡ Infix op a b → op ≡ signs.And → (is_plain hyps a && is_plain hyps b) ≡ is_plain hyps (tree_at trees goal)
+    plain_both op a b is e = and_is op (is_plain hyps a) (is_plain hyps b) (interval hyps a) (interval hyps b) e ∙ plain_infix op a b is
+
+    pub plain_settled : (op : TermOp) (a b : Term) (i j : Interval) → tree_at trees goal ≡ Infix op a b → (op ≡ signs.And → ⊥) → i ≡ interval hyps a → j ≡ interval hyps b → settled op i j ≡ is_plain hyps (tree_at trees goal)
+    plain_settled op a b i j is e f g = (λ t. settled op (f t) (g t)) ∙ other_is op (is_plain hyps a) (is_plain hyps b) (interval hyps a) (interval hyps b) e ∙ plain_infix op a b is

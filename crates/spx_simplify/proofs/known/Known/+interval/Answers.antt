@@ -1,0 +1,18 @@
+use Rattle.std.proofs.Common.{length}
+use Rattle.spx_simplify.proofs.Places.{keeps_twice, gives_made}
+use Rattle.spx_simplify.proofs.known.Known.+interval.Goals as goal
+
+pub make-requires-in-Infix-clause-ready : goal.make-requires-in-Infix-clause-ready
+make-requires-in-Infix-clause-ready t c =
+    let right = c.in_ok-interval-in-Infix-2.ensures in
+    (right.keeps.kept c.in-Infix.left (gives_made c.in_ok-interval-in-Infix.ensures.gives), gives_made right.gives)
+
+pub returns-in_ok-interval-in-Prefix-2-clause-keeps : goal.returns-in_ok-interval-in-Prefix-2-clause-keeps
+returns-in_ok-interval-in-Prefix-2-clause-keeps t c =
+    let part = c.in_ok-interval-in-Prefix.ensures.keeps in
+    keeps_twice part (c.in_ok-interval-in-Prefix-2.ensures.keeps (length c.args.terms.now) part.sized)
+
+pub returns-in_ok-interval-in-Infix-3-clause-keeps : goal.returns-in_ok-interval-in-Infix-3-clause-keeps
+returns-in_ok-interval-in-Infix-3-clause-keeps t c =
+    let parts = keeps_twice c.in_ok-interval-in-Infix.ensures.keeps c.in_ok-interval-in-Infix-2.ensures.keeps in
+    keeps_twice parts (c.in_ok-interval-in-Infix-3.ensures.keeps (length c.args.terms.now) parts.sized)

@@ -1,0 +1,4 @@
+pub mod Folds
+pub mod Tables
+pub mod Verdicts
+pub mod Questions

@@ -1,0 +1,72 @@
+-- Terms that are made of terms.
+use Rattle.std.proofs.Common.{◌≡◌, List, length, Option, Some, None, refl, sym, ap, ◌∙◌, subst, arith}
+use Rattle.spx_tree.specs.declared.expression.InfixOp.{InfixOp}
+use Rattle.spx_tree.specs.declared.expression.PrefixOp.{PrefixOp}
+use Rattle.spx_term.specs.declared.term.Term.{Term}
+use Rattle.spx_term.specs.declared.term.TermOp.{TermOp}
+use Rattle.spx_term.specs.declared.term.Term.TheVariants.{Variable, Infix}
+use Rattle.spx_core.specs.declared.program.VarId.{VarId}
+use Rattle.spx_term.specs.declared.value.Value.{Value}
+use Rattle.spx_term.specs.declared.value.Value.TheVariants as value
+use Rattle.spx_term.specs.Folding.{term_of as literal_term}
+use Rattle.spx_vcg.specs.ConditionLiterals.{static_of}
+use Rattle.spx_meaning.specs.Paths.{static_term, now, signed_term, literal, literal_or, term_op, term_of, term_of-Infix, term_of-Prefix}
+use Rattle.spx_text.specs.declared.place.Place.{Place}
+use Rattle.spx_core.specs.declared.expression.CoreExpr.{CoreExpr}
+use Rattle.spx_core.specs.declared.expression.CoreExpr.TheVariants as expr
+use Rattle.spx_arena.specs.declared.terms.TermId.{TermId}
+use Rattle.spx_arena.specs.Sharing.{tree_at, IsId}
+use Rattle.spx_vcg.specs.ConditionWalk.{State, applied}
+use Rattle.spx_vcg.specs.States.{Given, given, value_or, state_in, AreValues}
+use Rattle.spx_arena.specs.Sharing.{Adds}
+use Rattle.spx_vcg.proofs.ConditionTerms.{applied-Infix, applied-signed_term}
+use Rattle.spx_arena.proofs.Growth.{adds_along, grows_twice}
+use Rattle.spx_vcg.proofs.SharedIds.{state_kept}
+
+-- a term with a sign
+pub adds_sign : {old mid new : List Term} {i id : TermId} (a : Term) {t : Term} (s : State) (op : PrefixOp)
+    → Adds old mid i (applied s a) → Adds mid new id (signed_term op (tree_at mid i)) → t ≡ signed_term op a → Adds old new id (applied s t)
+adds_sign {old} {mid} {new} {i} {id} a s op p q e =
+    record {
+      grown = grows_twice p.grown q.grown;
+      made = subst (IsId new id) (ap (signed_term op) p.made.tree ∙ sym (applied-signed_term s op a) ∙ ap (applied s) (sym e)) q.made;
+    }
+
+-- an operation
+pub adds_infix : {old mid late new : List Term} {i j id : TermId} (a b : Term) {t : Term} (values : Given) (op : TermOp) → AreValues (length old) values
+    → Adds old mid i (applied (state_in old values) a) → Adds mid late j (applied (state_in mid values) b)
+    → Adds late new id (Infix op (tree_at late i) (tree_at late j)) → t ≡ Infix op a b → Adds old new id (applied (state_in old values) t)
+adds_infix {old} {mid} {late} {new} {i} {j} {id} a b values op are p q r e =
+    let s = state_in old values in
+    let left : tree_at late i ≡ applied s a = q.grown.kept i p.made.within ∙ p.made.tree in
+    let right : tree_at late j ≡ applied s b = q.made.tree ∙ ap (λ (u : State). applied u b) (state_kept p.grown values are) in
+    record {
+      grown = grows_twice p.grown (grows_twice q.grown r.grown);
+      made = subst (IsId new id) ((λ k. Infix op (left k) (right k)) ∙ sym (applied-Infix s op a b) ∙ ap (applied s) (sym e)) r.made;
+    }
+
+pub ruleset adds_laws = (adds_along)
+
+-- the literal of a static value
+pub static_is : (v : Value) → literal_term v ≡ static_term (static_of v)
+static_is (value.Number n) = refl
+static_is (value.Truth b) = refl
+
+pub ruleset literal_laws = (static_is, adds_along)
+
+-- ---- values
+pub value_found : (trees : List Term) (values : Given) (v : VarId) (id : TermId) → AreValues (length trees) values → given values v.0 ≡ Some id → Adds trees trees id (state_in trees values (now v))
+value_found trees values v id are is =
+    record {
+      grown = record { more = omega arith; kept = λ i w. refl };
+      made = record { within = are.ids v.0 id is; tree = ap (λ (o : Option TermId). value_or trees o (Variable (now v))) (sym is) };
+    }
+
+-- ---- terms of operations that are not static
+pub infix_term : (e : CoreExpr) (op : InfixOp) (place : Place) (a b : CoreExpr) → e ≡ expr.Infix op place a b → None ≡ literal e → term_of e ≡ Infix (term_op op) (term_of a) (term_of b)
+infix_term e op place a b is none =
+    ap term_of is ∙ term_of-Infix op place a b ∙ ap (λ o. literal_or o (Infix (term_op op) (term_of a) (term_of b))) (sym (none ∙ ap literal is))
+
+pub prefix_term : (e : CoreExpr) (op : PrefixOp) (place : Place) (a : CoreExpr) → e ≡ expr.Prefix op place a → None ≡ literal e → term_of e ≡ signed_term op (term_of a)
+prefix_term e op place a is none =
+    ap term_of is ∙ term_of-Prefix op place a ∙ ap (λ o. literal_or o (signed_term op (term_of a))) (sym (none ∙ ap literal is))

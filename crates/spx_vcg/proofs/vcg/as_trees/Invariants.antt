@@ -1,0 +1,7 @@
+use Rattle.std.proofs.Common.{◌≡◌, take}
+use Rattle.spx_arena.specs.Claims.{claims_in}
+use Rattle.spx_meaning.specs.Paths.{numbered}
+use Rattle.spx_vcg.proofs.vcg.as_trees.Given as goal
+
+abbrev pub invariant-loop-at : goal.invariant-loop-at
+invariant-loop-at l = l.all ≡ numbered l.sub.name.text 1 (take l.at (claims_in l.claims))

@@ -1,0 +1,27 @@
+-- Claims with too many nodes, and the sizes by which they are found.
+use Rattle.std.specs.Prelude.{◌≡◌, ◌<◌, ◌+◌, ℕ, Bool, true, ⊤, List, length, slice_index, nat_lt}
+use Rattle.spx_term.specs.declared.condition.TheConstants.{MOST_NODES}
+use Rattle.spx_term.specs.declared.term.Term.{Term}
+use Rattle.spx_term.specs.Sizes.{sizes_of, claim_nodes}
+use Rattle.spx_term.specs.Steps.{Claim}
+use Rattle.spx_arena.specs.declared.facts.FactsId.{FactsId}
+use Rattle.spx_arena.specs.declared.terms.TermId.{TermId}
+use Rattle.spx_arena.specs.Claims.{trees_at}
+use Rattle.spx_arena.specs.Counts.{counted}
+use Rattle.spx_arena.specs.Facts.{facts_at}
+use Rattle.spx_vcg.specs.declared.fault.VcFault.{VcFault}
+use Rattle.spx_vcg.specs.declared.fault.VcFault.TheVariants.{TooManyNodes, Memory}
+
+-- whether a claim has too many nodes
+abbrev pub is_large : Claim → Bool
+is_large c = nat_lt MOST_NODES (claim_nodes c)
+
+-- the fault is the number at which a count stops, and some condition is too large, as the test says; or else memory ran out
+abbrev pub IsFaultWhere : Bool → VcFault → Type 0
+IsFaultWhere is_too_large (TooManyNodes n) = (n ≡ MOST_NODES + 1) × (is_too_large ≡ true)
+IsFaultWhere is_too_large Memory = ⊤
+
+-- the nodes of the first lists of facts, counted
+pub record AreSizes (n : ℕ) (trees : List Term) (lists : List (List TermId)) (sizes : List ℕ) : Type 0 where
+  pub as_many : length sizes ≡ n
+  pub each : (id : FactsId) → id.0 < n → slice_index sizes id.0 ≡ counted (sizes_of (trees_at trees (facts_at lists id)))

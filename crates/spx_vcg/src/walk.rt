@@ -1,0 +1,328 @@
+// The walk along the paths of a body, which makes the conditions on its way.
+ghost use Rattle.std.specs.Prelude.{◌≡◌, ◌<◌, ◌++◌, List, [], ◌∷◌, length, flat_map, IfOk, OnOk};
+ghost use Rattle.spx_term.specs.declared.term.Term.{Term};
+ghost use Rattle.spx_term.specs.declared.term.Term.TheVariants as term;
+ghost use Rattle.spx_term.specs.Steps.{assume_all, check};
+ghost use Rattle.spx_meaning.specs.Paths.{assigned, signed_term, term_of, term_op, static_term, in_integer, operation_check, sign_check, checks, walk, walks, entering, import_facts, pre_facts};
+ghost use Rattle.spx_arena.specs.Sharing.{tree_at, IsId};
+ghost use Rattle.spx_vcg.specs.ConditionLiterals.{static_of};
+ghost use Rattle.spx_vcg.specs.ConditionWalk.{applied};
+ghost use Rattle.spx_vcg.specs.WalkSteps.{state, Stands, AddsFact, Whole, Goes, Checks, Makes, Adding};
+
+use crate::ids::{self, not_above, not_below, signed_id, term_op};
+use crate::static_terms::literal;
+use crate::values::Values;
+use indexmap::IndexSet;
+use spx_arena::{FactLists, FactsId, SharedClaim, TermId, Terms};
+use spx_core::{CoreExpr, CoreStmt, Entity, Sub, VarId};
+use spx_term::{CondKind, Symbol, Value};
+use spx_text::Place;
+use spx_tree::{InfixOp, PrefixOp};
+use sqlite_items::Items;
+use std::alloc::{AllocError, Global};
+
+/// The facts of the present path, and the lists of the facts of all paths.
+#[derive(Drop)]
+pub struct Facts {
+    pub present: IndexSet<TermId>,
+    pub lists: FactLists,
+    /// The list of the present facts.
+    pub at: FactsId,
+}
+
+/// The values that variables have, the facts that hold, and the claims so far.
+#[derive(Drop)]
+pub struct Walk {
+    pub terms: Terms,
+    pub values: Values,
+    pub facts: Facts,
+    pub claims: Items<SharedClaim>,
+}
+
+impl Facts {
+    /// Adds a fact, if it is not there.
+    fn add(&mut self, fact: TermId) -> Result<(), AllocError>
+        requires { Stands self.old }
+        ensures { OnOk result (AddsFact self.old self.new fact) }
+    {
+        if self.present.insert(fact)? {
+            self.at = self.lists.more(self.at, fact)?;
+            return Ok(());
+        }
+        Ok(())
+    }
+}
+
+impl Walk {
+    /// The id of the term of an expression.
+    fn term_id(&mut self, expr: &CoreExpr) -> Result<TermId, AllocError>
+        requires { Whole self.old }
+        ensures { IfOk result (λ id. Makes self.old self.new (λ rest. rest) id (term_of expr.now)) }
+    {
+        let id = ids::term_id(&mut self.terms, &self.values, expr)?;
+        Ok(id)
+    }
+
+    /// The id of the literal of a static expression.
+    fn static_id(&mut self, value: Value) -> Result<TermId, AllocError>
+        requires { Whole self.old }
+        ensures { IfOk result (λ id. (Checks self.old self.new (λ rest. rest)) × (IsId self.new.terms id (static_term (static_of value)))) }
+    {
+        let id = ids::static_id(&mut self.terms, value)?;
+        Ok(id)
+    }
+
+    /// Adds a fact, if it is not there.
+    fn assume(&mut self, fact: TermId) -> Result<(), AllocError>
+        requires { Stands self.old.facts }
+        ensures { OnOk result (Adding self.old self.new fact) }
+    {
+        self.facts.add(fact)?;
+        Ok(())
+    }
+
+    /// Takes for a fact that a value lies in the type `Integer`.
+    fn assume_integer(&mut self, value: TermId) -> Result<(), AllocError>
+        requires whole { Whole self.old }
+        requires within { value.0 < length self.old.terms }
+        ensures { OnOk result ((t : Term) → tree_at self.old.terms value ≡ applied (state self.old) t → Checks self.old self.new (assume_all (in_integer t))) }
+    {
+        let low = not_below(&mut self.terms, value)?;
+        let high = not_above(&mut self.terms, value)?;
+        self.assume(low)?;
+        self.assume(high)?;
+        self.terms.distinct();
+        Ok(())
+    }
+
+    /// Claims two goals under the facts so far.
+    fn claim(
+        &mut self,
+        alloc: Global,
+        kind: CondKind,
+        place: Place,
+        low: TermId,
+        high: TermId,
+    ) -> Result<(), AllocError>
+        ensures { OnOk result (self.new ≡ record self.old { claims = self.old.claims ++ record { kind = kind; place = place; facts = self.old.facts.at; goals = low ∷ high ∷ [] } ∷ [] }) }
+    {
+        let goals = Items::from_slice(alloc, &[low, high])?;
+        let facts = self.facts.at;
+        self.claims.push(SharedClaim {
+            kind,
+            place,
+            facts,
+            goals,
+        })
+    }
+
+    /// Proves that a value lies in the type `Integer`, and takes it for a fact from there on.
+    fn check(
+        &mut self,
+        alloc: Global,
+        kind: CondKind,
+        place: Place,
+        value: TermId,
+    ) -> Result<(), AllocError>
+        requires whole { Whole self.old }
+        requires within { value.0 < length self.old.terms }
+        ensures { OnOk result ((t : Term) → tree_at self.old.terms value ≡ applied (state self.old) t → Checks self.old self.new (check kind place (in_integer t))) }
+    {
+        let low = not_below(&mut self.terms, value)?;
+        let high = not_above(&mut self.terms, value)?;
+        self.claim(alloc, kind, place, low, high)?;
+        self.assume(low)?;
+        self.assume(high)?;
+        self.terms.distinct();
+        Ok(())
+    }
+
+    /// The check of an operation on operands that are checked, and its term.
+    fn operation_id(
+        &mut self,
+        alloc: Global,
+        op: InfixOp,
+        place: Place,
+        left: TermId,
+        right: TermId,
+    ) -> Result<TermId, AllocError>
+        requires whole { Whole self.old }
+        requires within { (left.0 < length self.old.terms) × (right.0 < length self.old.terms) }
+        ensures { IfOk result (λ id. (a b : Term) → tree_at self.old.terms left ≡ applied (state self.old) a → tree_at self.old.terms right ≡ applied (state self.old) b → Makes self.old self.new (operation_check op place (term.Infix (term_op op) a b)) id (term.Infix (term_op op) a b)) }
+    {
+        let value = self.terms.infix(term_op(op), left, right)?;
+        match op {
+            InfixOp::Add | InfixOp::Subtract => {
+                self.check(alloc, CondKind::Overflow, place, value)?;
+                Ok(value)
+            }
+            _ => Ok(value),
+        }
+    }
+
+    /// The check of a sign before an operand that is checked, and its term.
+    fn sign_id(
+        &mut self,
+        alloc: Global,
+        op: PrefixOp,
+        place: Place,
+        operand: TermId,
+    ) -> Result<TermId, AllocError>
+        requires whole { Whole self.old }
+        requires within { operand.0 < length self.old.terms }
+        ensures { IfOk result (λ id. (a : Term) → tree_at self.old.terms operand ≡ applied (state self.old) a → Makes self.old self.new (sign_check op place (signed_term op a)) id (signed_term op a)) }
+    {
+        match op {
+            PrefixOp::Plus => Ok(operand),
+            PrefixOp::Minus => {
+                let value = signed_id(&mut self.terms, op, operand)?;
+                self.check(alloc, CondKind::Overflow, place, value)?;
+                Ok(value)
+            }
+        }
+    }
+
+    /// The checks of an expression, from left to right, and its term. A static one has no checks.
+    #[cycle(checked_id)]
+    fn checked_id(&mut self, alloc: Global, expr: &CoreExpr) -> Result<TermId, AllocError>
+        requires { Whole self.old }
+        ensures { IfOk result (λ id. Makes self.old self.new (checks expr.now) id (term_of expr.now)) }
+    {
+        match expr {
+            CoreExpr::Number(_, _) => {
+                let id = self.term_id(expr)?;
+                Ok(id)
+            }
+            CoreExpr::Name(_) => {
+                let id = self.term_id(expr)?;
+                Ok(id)
+            }
+            CoreExpr::Attribute(_, _) => {
+                let id = self.term_id(expr)?;
+                Ok(id)
+            }
+            CoreExpr::Parenthesized(_, inner) => {
+                let id = self.checked_id(alloc, inner.get())?;
+                Ok(id)
+            }
+            CoreExpr::Prefix(op, place, operand) => {
+                if let Some(value) = literal(expr) {
+                    let id = self.static_id(value)?;
+                    return Ok(id);
+                }
+                let operand = self.checked_id(alloc, operand.get())?;
+                let id = self.sign_id(alloc, *op, *place, operand)?;
+                Ok(id)
+            }
+            CoreExpr::Infix(op, place, left, right) => {
+                if let Some(value) = literal(expr) {
+                    let id = self.static_id(value)?;
+                    return Ok(id);
+                }
+                let left = self.checked_id(alloc, left.get())?;
+                let right = self.checked_id(alloc, right.get())?;
+                let id = self.operation_id(alloc, *op, *place, left, right)?;
+                Ok(id)
+            }
+        }
+    }
+
+    /// Gives the target a value.
+    fn assign(&mut self, entity: Entity, value: TermId) -> Result<(), AllocError>
+        requires whole { Whole self.old }
+        requires within { value.0 < length self.old.terms }
+        ensures { OnOk result ((t : Term) → tree_at self.old.terms value ≡ applied (state self.old) t → Goes self.old self.new (assigned entity t)) }
+    {
+        match entity {
+            Entity::Variable(var) => {
+                self.values.set(var, value)?;
+                Ok(())
+            }
+            Entity::TypeName(_) | Entity::Subprogram(_) => Ok(()),
+        }
+    }
+
+    fn stmt(&mut self, alloc: Global, stmt: &CoreStmt) -> Result<(), AllocError>
+        requires { Whole self.old }
+        ensures { OnOk result (Goes self.old self.new (walk stmt.now)) }
+    {
+        match stmt {
+            CoreStmt::Null(_) => Ok(()),
+            CoreStmt::Assignment(target, expr) => {
+                let value = self.checked_id(alloc, expr)?;
+                self.check(alloc, CondKind::Range, expr.place(), value)?;
+                self.assign(target.entity, value)?;
+                Ok(())
+            }
+        }
+    }
+
+    pub fn stmts(&mut self, alloc: Global, stmts: &[CoreStmt]) -> Result<(), AllocError>
+        requires { Whole self.old }
+        ensures { OnOk result (Goes self.old self.new (walks stmts.now)) }
+    {
+        for stmt in stmts {
+            self.stmt(alloc, stmt)?;
+        }
+        Ok(())
+    }
+
+    /// An exported variable begins with its entry value.
+    fn enter(&mut self, sub: &Sub, var: VarId) -> Result<(), AllocError>
+        requires { Whole self.old }
+        ensures { OnOk result (Goes self.old self.new (entering sub.now (var ∷ []))) }
+    {
+        if sub.exports(var) {
+            let value = ids::variable_id(&mut self.terms, Symbol::Entry(var.0))?;
+            self.values.set(var, value)?;
+            return Ok(());
+        }
+        Ok(())
+    }
+
+    pub fn enter_all(&mut self, sub: &Sub) -> Result<(), AllocError>
+        requires { Whole self.old }
+        ensures { OnOk result (Goes self.old self.new (entering sub.now sub.now.formals)) }
+    {
+        for var in sub.formals.as_slice() {
+            self.enter(sub, *var)?;
+        }
+        Ok(())
+    }
+
+    /// An import lies in its type.
+    fn assume_import(&mut self, sub: &Sub, var: VarId) -> Result<(), AllocError>
+        requires { Whole self.old }
+        ensures { OnOk result (Goes self.old self.new (assume_all (import_facts sub.now var))) }
+    {
+        if sub.imports(var) {
+            let value = ids::value_id(&mut self.terms, &self.values, var)?;
+            self.assume_integer(value)?;
+            return Ok(());
+        }
+        Ok(())
+    }
+
+    pub fn assume_imports(&mut self, sub: &Sub) -> Result<(), AllocError>
+        requires { Whole self.old }
+        ensures { OnOk result (Goes self.old self.new (assume_all (flat_map (import_facts sub.now) sub.now.formals))) }
+    {
+        for var in sub.formals.as_slice() {
+            self.assume_import(sub, *var)?;
+        }
+        Ok(())
+    }
+
+    pub fn assume_pre(&mut self, sub: &Sub) -> Result<(), AllocError>
+        requires { Whole self.old }
+        ensures { OnOk result (Goes self.old self.new (assume_all (pre_facts sub.now.pre))) }
+    {
+        if let Some(pre) = &sub.pre {
+            let fact = self.term_id(&pre.condition)?;
+            self.terms.distinct();
+            self.assume(fact)?;
+            return Ok(());
+        }
+        Ok(())
+    }
+}
