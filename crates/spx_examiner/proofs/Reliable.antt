@@ -1,6 +1,7 @@
 -- What a judgement tells of words and contents, and from an accepted one to runs that may be relied on.
-use Rattle.std.proofs.Common.{◌≡◌, ◌≢◌, ℕ, false, cond, eqb, List, [], ◌∷◌, length, Option, Some, None, inl, inr, refl, sym, ap, ap₂, subst, ◌∙◌, arith}
-use Rattle.std.specs.Prelude.{◌↔◌, unwrap_or}
+use Rattle.std.proofs.Common.{◌≡◌, ◌≢◌, ℕ, true, false, cond, eqb, List, [], ◌∷◌, length, map, Option, Some, None, inl, inr, refl, sym, ap, ap₂, subst, ◌∙◌, arith}
+use Rattle.std.specs.Prelude.{◌↔◌, ◌⊎◌, unwrap_or}
+use Rattle.std.specs.List.{list_any}
 use Rattle.std.proofs.lemmas.Grind.{common_steps}
 use Rattle.std.proofs.lemmas.Bool.Decides.{nat_tests}
 use Rattle.std.proofs.lemmas.List.{length-map}
@@ -9,16 +10,20 @@ use Rattle.spx_tree.specs.Places.{place_behind}
 use Rattle.spx_tree.specs.Form.{forms_of}
 use Rattle.spx_tree.specs.Goes.{place_with}
 use Rattle.spx_core.specs.declared.program.Program.{Program}
-use Rattle.spx_core.specs.Erase.{erased}
+use Rattle.spx_core.specs.declared.subprogram.Sub.{Sub}
+use Rattle.spx_core.specs.Erase.{erased, erased_unit}
+use Rattle.spx_core.specs.Flow.{HasNoFlowFinding}
+use Rattle.spx_core.specs.Rules.{Obeys}
 use Rattle.spx_meaning.specs.Fit.{Clean, Fit}
+use Rattle.spx_meaning.specs.Limits.{has_large_condition, has_large_conditions}
 use Rattle.spx_meaning.specs.Laws.{NeverBad, TwoRuns}
 use Rattle.spx_report.specs.declared.report.Finding.{Finding}
 use Rattle.spx_report.specs.declared.report.Findings.{Findings}
 use Rattle.spx_examiner.specs.declared.status.Status.TheVariants as status
 use Rattle.spx_examiner.specs.declared.judgement.Judgement.{Judgement}
 use Rattle.spx_examiner.specs.declared.judgement.Judgement.TheVariants.{Usage, Limit, Refused, Examined}
-use Rattle.spx_examiner.specs.declared.judgement.LimitName.{LimitName}
-use Rattle.spx_examiner.specs.declared.judgement.LimitName.TheVariants.{Tokens, Nesting}
+use Rattle.spx_report.specs.declared.limit.LimitName.{LimitName}
+use Rattle.spx_report.specs.declared.limit.LimitName.TheVariants.{Tokens, Nesting}
 use Rattle.spx_examiner.specs.declared.reading.Reading.{Reading}
 use Rattle.spx_examiner.specs.declared.reading.Reading.TheVariants.{Units, Broken, TooManyTokens, TooNested}
 use Rattle.spx_examiner.specs.Words.{files_of, HasForm}
@@ -26,7 +31,7 @@ use Rattle.spx_examiner.specs.Judgement.{status_of}
 use Rattle.spx_report.specs.Findings.{findings_of}
 use Rattle.spx_examiner.specs.Causes.{Tells, any_too_long, named}
 use Rattle.spx_examiner.specs.Reading.{IsRead, crowded, stopped, ended, nested, whole, stopped_at, expected_at}
-use Rattle.spx_examiner.specs.Outcome.{Is, IsText, IsSoundFrom, IsReportOn, IsReportOnUnits, IsReportOnReading, IsJudgement, no_form, of_files, IsAssured, AreAcceptable, AreClean, AreFit, AreRefusable, AreReliable, IsReadTooFar, OneOutcome, PassesLimit}
+use Rattle.spx_examiner.specs.Outcome.{Is, IsText, IsSoundFrom, IsReportOn, IsReportOnUnits, IsReportOnReading, IsJudgement, no_form, of_files, IsAssured, AreAcceptable, AreClean, AreFit, AreRefusable, AreReliable, IsReadTooFar, AreTooLarge, OneOutcome, PassesLimit}
 use Rattle.spx_report.proofs.FindingLaws.{lines_of, none_left}
 use Rattle.spx_examiner.specs.Laws.{Laws}
 use Rattle.spx_examiner.proofs.Refusals.{no_sound, one_refusal}
@@ -61,15 +66,23 @@ clean_program units p found sound are none = record {
   conditions = (none_left p.subs).0 (sym (lines_are p) ∙ ap (λ f. f.lines) (sym are) ∙ none);
 }
 
--- a clean program that a text spells is a sound one from its units
-sound_of_clean : Laws → (bytes : List ℕ) (units : List Unit) (p : Program) → IsText 0 bytes units → Is (bytes ∷ []) p → Clean p → IsSoundFrom units p
-sound_of_clean laws bytes units p text spelled clean = record {
+-- a program that a text spells is made from its units, and sound where it obeys the rules and has no flow finding
+sound_from : Laws → (bytes : List ℕ) (units : List Unit) (p : Program) → IsText 0 bytes units → Is (bytes ∷ []) p → Obeys p → HasNoFlowFinding p → IsSoundFrom units p
+sound_from laws bytes units p text spelled obeys flows = record {
   made = one_text laws.spelling laws.tree bytes (erased p) units (units_spelled bytes p spelled) text;
-  visible = clean.visible;
-  typed = clean.typed;
-  obeys = clean.obeys;
-  flows = clean.flows;
+  visible = spelled.visible;
+  typed = spelled.typed;
+  obeys = obeys;
+  flows = flows;
 }
+
+-- some condition of a program is too large, or none is
+not_both : (p q : Program) → p ≡ q → has_large_conditions p ≡ true → ¬ (has_large_conditions q ≡ false)
+not_both p q same large small = let e = ap has_large_conditions same in absurd (cc)
+
+-- what passes a limit once a file has been loaded
+abbrev PassesIn : List (List ℕ) → Type 0
+PassesIn contents = IsReadTooFar contents ⊎ AreTooLarge contents
 
 -- what an accepted judgement tells of the contents
 record IsOnClean (bytes : List ℕ) (p : Program) : Type 0 where
@@ -79,54 +92,74 @@ record IsOnClean (bytes : List ℕ) (p : Program) : Type 0 where
 
 clean_units : (bytes : List ℕ) (units : List Unit) (j : Judgement) → IsText 0 bytes units → status_of j ≡ status.Accepted → IsReportOnUnits units j → AreClean (bytes ∷ [])
 clean_units bytes units Usage text e report = absurd report
-clean_units bytes units (Limit name) text e report = absurd report
+clean_units bytes units (Limit name) text e report = absurd (cc)
 clean_units bytes units (Refused lines) text e report = absurd (cc)
 clean_units bytes units (Examined p found) text e report =
-    (p, spelled_by bytes units p text report.0, clean_program units p found report.0 report.1 (no_lines found.lines e))
+    (p, spelled_by bytes units p text report.0, clean_program units p found report.0 report.2 (no_lines found.lines e))
 
 assured_units : (bytes : List ℕ) (units : List Unit) (j : Judgement) → IsText 0 bytes units → status_of j ≡ status.Accepted → IsReportOnUnits units j → IsAssured j → (p : Program) × IsOnClean bytes p
 assured_units bytes units Usage text e report assured = absurd report
-assured_units bytes units (Limit name) text e report assured = absurd report
+assured_units bytes units (Limit name) text e report assured = absurd (cc)
 assured_units bytes units (Refused lines) text e report assured = absurd (cc)
 assured_units bytes units (Examined p found) text e report assured =
-    let clean = clean_program units p found report.0 report.1 (no_lines found.lines e) in
+    let clean = clean_program units p found report.0 report.2 (no_lines found.lines e) in
     (p, record { spelled = spelled_by bytes units p text report.0; clean = clean; assured = assured clean })
 
-accepted_units : Laws → (bytes : List ℕ) (units : List Unit) (j : Judgement) → IsText 0 bytes units → IsReportOnUnits units j → AreClean (bytes ∷ []) → status_of j ≡ status.Accepted
-accepted_units laws bytes units Usage text report clean = absurd report
-accepted_units laws bytes units (Limit name) text report clean = absurd report
-accepted_units laws bytes units (Refused lines) text report (p, spelled, clean) = absurd (no_sound laws units lines p report (sound_of_clean laws bytes units p text spelled clean))
-accepted_units laws bytes units (Examined q found) text report (p, spelled, clean) =
+-- units with too large a condition spell such a program
+large_units : (bytes : List ℕ) (units : List Unit) (p : Program) → IsText 0 bytes units → IsSoundFrom units p → has_large_conditions p ≡ true → AreTooLarge (bytes ∷ [])
+large_units bytes units p text sound large = (p, spelled_by bytes units p text sound, sound.obeys, sound.flows, large)
+
+accepted_units : Laws → (bytes : List ℕ) (units : List Unit) (j : Judgement) → IsText 0 bytes units → IsReportOnUnits units j → ¬ AreTooLarge (bytes ∷ []) → AreClean (bytes ∷ []) → status_of j ≡ status.Accepted
+accepted_units laws bytes units Usage text report small clean = absurd report
+accepted_units laws bytes units (Limit name) text (is, (p, sound, large)) small clean = absurd (small (large_units bytes units p text sound large))
+accepted_units laws bytes units (Refused lines) text report small (p, spelled, clean) =
+    absurd (no_sound laws units lines p report (sound_from laws bytes units p text spelled clean.obeys clean.flows))
+accepted_units laws bytes units (Examined q found) text report small (p, spelled, clean) =
     let same : q ≡ p = only_program laws bytes p q spelled (spelled_by bytes units q text report.0) in
     let all = subst Clean (sym same) clean in
-    let none : found.lines ≡ [] = ap (λ f. f.lines) report.1 ∙ lines_are q ∙ (none_left q.subs).1 all.conditions in
+    let none : found.lines ≡ [] = ap (λ f. f.lines) report.2 ∙ lines_are q ∙ (none_left q.subs).1 all.conditions in
     ap (λ (lines : List Finding). cond (eqb (length lines) 0) status.Accepted status.Refused) none
 
-refused_units : (units : List Unit) (j : Judgement) → IsReportOnUnits units j → status_of j ≢ status.Accepted → status_of j ≡ status.Refused
-refused_units units Usage report ne = absurd report
-refused_units units (Limit name) report ne = absurd report
-refused_units units (Refused lines) report ne = refl
-refused_units units (Examined p found) report ne = some_line found.lines ne
+refused_units : (bytes : List ℕ) (units : List Unit) (j : Judgement) → IsText 0 bytes units → IsReportOnUnits units j → ¬ AreTooLarge (bytes ∷ []) → status_of j ≢ status.Accepted → status_of j ≡ status.Refused
+refused_units bytes units Usage text report small ne = absurd report
+refused_units bytes units (Limit name) text (is, (p, sound, large)) small ne = absurd (small (large_units bytes units p text sound large))
+refused_units bytes units (Refused lines) text report small ne = refl
+refused_units bytes units (Examined p found) text report small ne = some_line found.lines ne
 
-unlimited_units : (units : List Unit) (j : Judgement) → IsReportOnUnits units j → status_of j ≢ status.Limit
-unlimited_units units Usage report = absurd report
-unlimited_units units (Limit name) report = absurd report
-unlimited_units units (Refused lines) report = λ e. cc
-unlimited_units units (Examined p found) report = λ e. grind (arith, common_steps, nat_tests, e)
+limited_units : (bytes : List ℕ) (units : List Unit) (j : Judgement) → IsText 0 bytes units → IsReportOnUnits units j → status_of j ≡ status.Limit → AreTooLarge (bytes ∷ [])
+limited_units bytes units Usage text report e = absurd report
+limited_units bytes units (Limit name) text (is, (p, sound, large)) e = large_units bytes units p text sound large
+limited_units bytes units (Refused lines) text report e = absurd (cc)
+limited_units bytes units (Examined p found) text report e = absurd (grind (arith, common_steps, nat_tests, e))
+
+passed_units : Laws → (bytes : List ℕ) (units : List Unit) (j : Judgement) → IsText 0 bytes units → IsReportOnUnits units j → AreTooLarge (bytes ∷ []) → status_of j ≡ status.Limit
+passed_units laws bytes units Usage text report large = absurd report
+passed_units laws bytes units (Limit name) text report large = refl
+passed_units laws bytes units (Refused lines) text report (p, spelled, obeys, flows, large) =
+    absurd (no_sound laws units lines p report (sound_from laws bytes units p text spelled obeys flows))
+passed_units laws bytes units (Examined q found) text report (p, spelled, obeys, flows, large) =
+    absurd (not_both p q (only_program laws bytes q p (spelled_by bytes units q text report.0) spelled) large report.1)
+
+-- programs that are made from the same units are one
+one_sound : Laws → (units : List Unit) (p q : Program) → IsSoundFrom units p → IsSoundFrom units q → p ≡ q
+one_sound laws units p q a b = laws.program p q a.visible b.visible (a.made ∙ sym b.made)
 
 one_of_units : Laws → (units : List Unit) (j k : Judgement) → IsReportOnUnits units j → IsReportOnUnits units k → j ≡ k
 one_of_units laws units Usage k a b = absurd a
-one_of_units laws units (Limit name) k a b = absurd a
+one_of_units laws units (Limit name) Usage a b = absurd b
+one_of_units laws units (Limit name) (Limit other) a b = ap (λ n. Limit n) (a.0 ∙ sym b.0)
+one_of_units laws units (Limit name) (Refused lines) (is, (p, sound, large)) b = absurd (no_sound laws units lines p b sound)
+one_of_units laws units (Limit name) (Examined q g) (is, (p, sound, large)) b = absurd (not_both p q (one_sound laws units p q sound b.0) large b.1)
 one_of_units laws units (Refused lines) Usage a b = absurd b
-one_of_units laws units (Refused lines) (Limit name) a b = absurd b
+one_of_units laws units (Refused lines) (Limit name) a (is, (p, sound, large)) = absurd (no_sound laws units lines p a sound)
 one_of_units laws units (Refused lines) (Refused others) a b = ap (λ ls. Refused ls) (one_refusal laws units lines others a b)
 one_of_units laws units (Refused lines) (Examined q g) a b = absurd (no_sound laws units lines q a b.0)
 one_of_units laws units (Examined p f) Usage a b = absurd b
-one_of_units laws units (Examined p f) (Limit name) a b = absurd b
+one_of_units laws units (Examined p f) (Limit name) a (is, (q, sound, large)) = absurd (not_both q p (one_sound laws units q p sound a.0) large a.1)
 one_of_units laws units (Examined p f) (Refused lines) a b = absurd (no_sound laws units lines p b a.0)
 one_of_units laws units (Examined p f) (Examined q g) a b =
-    let same : p ≡ q = laws.program p q a.0.visible b.0.visible (a.0.made ∙ sym b.0.made) in
-    ap₂ Examined same (a.1 ∙ ap findings_of same ∙ sym b.1)
+    let same : p ≡ q = one_sound laws units p q a.0 b.0 in
+    ap₂ Examined same (a.2 ∙ ap findings_of same ∙ sym b.2)
 
 -- ---- reports by readings
 
@@ -158,20 +191,25 @@ assured_case bytes j (on_units units text report) e assured = assured_units byte
 assured_case bytes j (on_broken finding none is) e assured = let refused : status_of j ≡ status.Refused = ap status_of is in absurd (cc)
 assured_case bytes j (on_limit name read is) e assured = let limit : status_of j ≡ status.Limit = ap status_of is in absurd (cc)
 
-accepted_case : Laws → (bytes : List ℕ) (j : Judgement) → Case bytes j → ¬ IsReadTooFar (bytes ∷ []) → AreClean (bytes ∷ []) → status_of j ≡ status.Accepted
-accepted_case laws bytes j (on_units units text report) flat clean = accepted_units laws bytes units j text report clean
+accepted_case : Laws → (bytes : List ℕ) (j : Judgement) → Case bytes j → ¬ PassesIn (bytes ∷ []) → AreClean (bytes ∷ []) → status_of j ≡ status.Accepted
+accepted_case laws bytes j (on_units units text report) flat clean = accepted_units laws bytes units j text report (λ large. flat (inr large)) clean
 accepted_case laws bytes j (on_broken finding none is) flat clean = absurd (none (erased clean.0) (units_spelled bytes clean.0 clean.1))
-accepted_case laws bytes j (on_limit name read is) flat clean = absurd (flat read)
+accepted_case laws bytes j (on_limit name read is) flat clean = absurd (flat (inl read))
 
-refused_case : (bytes : List ℕ) (j : Judgement) → Case bytes j → ¬ IsReadTooFar (bytes ∷ []) → status_of j ≢ status.Accepted → status_of j ≡ status.Refused
-refused_case bytes j (on_units units text report) flat ne = refused_units units j report ne
+refused_case : (bytes : List ℕ) (j : Judgement) → Case bytes j → ¬ PassesIn (bytes ∷ []) → status_of j ≢ status.Accepted → status_of j ≡ status.Refused
+refused_case bytes j (on_units units text report) flat ne = refused_units bytes units j text report (λ large. flat (inr large)) ne
 refused_case bytes j (on_broken finding none is) flat ne = ap status_of is
-refused_case bytes j (on_limit name read is) flat ne = absurd (flat read)
+refused_case bytes j (on_limit name read is) flat ne = absurd (flat (inl read))
 
-limited_case : (bytes : List ℕ) (j : Judgement) → Case bytes j → status_of j ≡ status.Limit → IsReadTooFar (bytes ∷ [])
-limited_case bytes j (on_units units text report) e = absurd (unlimited_units units j report e)
+limited_case : (bytes : List ℕ) (j : Judgement) → Case bytes j → status_of j ≡ status.Limit → PassesIn (bytes ∷ [])
+limited_case bytes j (on_units units text report) e = inr (limited_units bytes units j text report e)
 limited_case bytes j (on_broken finding none is) e = let refused : status_of j ≡ status.Refused = ap status_of is in absurd (cc)
-limited_case bytes j (on_limit name read is) e = read
+limited_case bytes j (on_limit name read is) e = inl read
+
+passed_case : Laws → (bytes : List ℕ) (j : Judgement) → Case bytes j → AreTooLarge (bytes ∷ []) → status_of j ≡ status.Limit
+passed_case laws bytes j (on_units units text report) large = passed_units laws bytes units j text report large
+passed_case laws bytes j (on_broken finding none is) large = absurd (none (erased large.0) (units_spelled bytes large.0 large.1))
+passed_case laws bytes j (on_limit name read is) large = ap status_of is
 
 one_by_reading : Laws → (reading : Reading) (j k : Judgement) → IsReportOnReading reading j → IsReportOnReading reading k → j ≡ k
 one_by_reading laws (Units units) j k a b = one_of_units laws units j k a b
@@ -186,30 +224,31 @@ clean_report laws [] j report e = absurd report
 clean_report laws (bytes ∷ []) j (reading, read, report) e = clean_case bytes j (case_of laws bytes j reading read report) e
 clean_report laws (bytes ∷ more ∷ rest) j report e = absurd report
 
-accepted_report : Laws → (contents : List (List ℕ)) (j : Judgement) → IsReportOn contents j → ¬ IsReadTooFar contents → AreClean contents → status_of j ≡ status.Accepted
+accepted_report : Laws → (contents : List (List ℕ)) (j : Judgement) → IsReportOn contents j → ¬ PassesIn contents → AreClean contents → status_of j ≡ status.Accepted
 accepted_report laws [] j report flat clean = absurd report
 accepted_report laws (bytes ∷ []) j (reading, read, report) flat clean = accepted_case laws bytes j (case_of laws bytes j reading read report) flat clean
 accepted_report laws (bytes ∷ more ∷ rest) j report flat clean = absurd report
 
-refused_report : Laws → (contents : List (List ℕ)) (j : Judgement) → IsReportOn contents j → ¬ IsReadTooFar contents → status_of j ≢ status.Accepted → status_of j ≡ status.Refused
+refused_report : Laws → (contents : List (List ℕ)) (j : Judgement) → IsReportOn contents j → ¬ PassesIn contents → status_of j ≢ status.Accepted → status_of j ≡ status.Refused
 refused_report laws [] j report flat ne = absurd report
 refused_report laws (bytes ∷ []) j (reading, read, report) flat ne = refused_case bytes j (case_of laws bytes j reading read report) flat ne
 refused_report laws (bytes ∷ more ∷ rest) j report flat ne = absurd report
 
-limited_report : Laws → (contents : List (List ℕ)) (j : Judgement) → IsReportOn contents j → status_of j ≡ status.Limit → IsReadTooFar contents
+limited_report : Laws → (contents : List (List ℕ)) (j : Judgement) → IsReportOn contents j → status_of j ≡ status.Limit → PassesIn contents
 limited_report laws [] j report e = absurd report
 limited_report laws (bytes ∷ []) j (reading, read, report) e = limited_case bytes j (case_of laws bytes j reading read report) e
 limited_report laws (bytes ∷ more ∷ rest) j report e = absurd report
 
-passed_report : Laws → (contents : List (List ℕ)) (j : Judgement) → IsReportOn contents j → IsReadTooFar contents → status_of j ≡ status.Limit
-passed_report laws [] j report deep = absurd report
-passed_report laws (bytes ∷ []) j (reading, read, report) (inl crowd) =
+passed_report : Laws → (contents : List (List ℕ)) (j : Judgement) → IsReportOn contents j → PassesIn contents → status_of j ≡ status.Limit
+passed_report laws [] j report passes = absurd report
+passed_report laws (bytes ∷ []) j (reading, read, report) (inl (inl crowd)) =
     let same : reading ≡ TooManyTokens = one_reading laws.spelling laws.stop laws.answer bytes reading TooManyTokens read crowd in
     ap status_of (subst (λ r. IsReportOnReading r j) same report)
-passed_report laws (bytes ∷ []) j (reading, read, report) (inr deep) =
+passed_report laws (bytes ∷ []) j (reading, read, report) (inl (inr deep)) =
     let same : reading ≡ TooNested = one_reading laws.spelling laws.stop laws.answer bytes reading TooNested read deep in
     ap status_of (subst (λ r. IsReportOnReading r j) same report)
-passed_report laws (bytes ∷ more ∷ rest) j report deep = absurd report
+passed_report laws (bytes ∷ []) j (reading, read, report) (inr large) = passed_case laws bytes j (case_of laws bytes j reading read report) large
+passed_report laws (bytes ∷ more ∷ rest) j report passes = absurd report
 
 one_report : Laws → (contents : List (List ℕ)) (j k : Judgement) → IsReportOn contents j → IsReportOn contents k → j ≡ k
 one_report laws [] j k a b = absurd a
@@ -237,10 +276,16 @@ AsMany words contents = length contents ≡ length (named words)
 pub as_many : (told : List ℕ → Option (List ℕ)) (words contents : List (List ℕ)) → Tells told (named words) contents → AsMany words contents
 as_many told words contents tells = tells_len told (named words) contents tells
 
+-- without units there are no subprograms, and so no condition that is too large
+none_large : (subs : List Sub) → map erased_unit subs ≡ [] → ¬ (list_any has_large_condition subs ≡ true)
+none_large [] none large = absurd (cc)
+none_large (sub ∷ subs) none large = absurd (cc)
+
 -- where words have no form there are no contents, which pass no limit
 no_contents : (contents : List (List ℕ)) → length contents ≡ 0 → ¬ PassesLimit contents
 no_contents [] none (inl long) = absurd (cc)
-no_contents [] none (inr deep) = absurd deep
+no_contents [] none (inr (inl deep)) = absurd deep
+no_contents [] none (inr (inr large)) = none_large large.0.subs large.1.texts large.4
 no_contents (bytes ∷ rest) none passes = absurd (omega arith)
 
 none_named : (words contents : List (List ℕ)) → files_of words ≡ None → AsMany words contents → length contents ≡ 0
@@ -254,7 +299,7 @@ concluded_is_report words contents j (of_files files is (inr report)) u l = ((λ
 
 unlimited : Laws → (contents : List (List ℕ)) (j : Judgement) → any_too_long contents ≡ false → IsReportOn contents j → status_of j ≢ status.Limit → ¬ PassesLimit contents
 unlimited laws contents j short report ne (inl long) = absurd (cc)
-unlimited laws contents j short report ne (inr deep) = ne (passed_report laws contents j report deep)
+unlimited laws contents j short report ne (inr passes) = ne (passed_report laws contents j report passes)
 
 -- a judgement on a command whose files pass no limit is a report
 is_report : (words contents : List (List ℕ)) (j : Judgement) → IsJudgement words contents j → HasForm words → ¬ PassesLimit contents → IsReportOn contents j
@@ -266,7 +311,7 @@ is_report words contents j (of_files files is (inr report)) form passes = report
 pub accepted_where : Laws → (words contents : List (List ℕ)) (j : Judgement) → IsJudgement words contents j → (status_of j ≡ status.Accepted) ↔ AreAcceptable words contents
 accepted_where laws words contents j judged = (
   λ e. let r = concluded_is_report words contents j judged (λ u. cc) (λ l. cc) in (r.0, unlimited laws contents j r.1 r.2 (λ l. cc), clean_report laws contents j r.2 e),
-  λ a. accepted_report laws contents j (is_report words contents j judged a.0 a.1) (λ deep. a.1 (inr deep)) a.2,
+  λ a. accepted_report laws contents j (is_report words contents j judged a.0 a.1) (λ passes. a.1 (inr passes)) a.2,
 )
 
 -- refused exactly where they are refusable
@@ -274,8 +319,8 @@ pub refused_where : Laws → (words contents : List (List ℕ)) (j : Judgement) 
 refused_where laws words contents j judged = (
   λ e. let r = concluded_is_report words contents j judged (λ u. cc) (λ l. cc) in
       let flat = unlimited laws contents j r.1 r.2 (λ l. cc) in
-      (r.0, flat, λ clean. let accepted : status_of j ≡ status.Accepted = accepted_report laws contents j r.2 (λ deep. flat (inr deep)) clean in absurd (cc)),
-  λ a. let r = is_report words contents j judged a.0 a.1 in refused_report laws contents j r (λ deep. a.1 (inr deep)) (λ e. a.2 (clean_report laws contents j r e)),
+      (r.0, flat, λ clean. let accepted : status_of j ≡ status.Accepted = accepted_report laws contents j r.2 (λ passes. flat (inr passes)) clean in absurd (cc)),
+  λ a. let r = is_report words contents j judged a.0 a.1 in refused_report laws contents j r (λ passes. a.1 (inr passes)) (λ e. a.2 (clean_report laws contents j r e)),
 )
 
 -- and ended by a limit exactly where one is passed
@@ -288,7 +333,7 @@ judged_limit : Laws → (words contents : List (List ℕ)) (j : Judgement) → A
 judged_limit laws words contents j many (no_form none same) passes = absurd (no_contents contents (none_named words contents none many) passes)
 judged_limit laws words contents j many (of_files files is (inl long)) passes = ap status_of long.1
 judged_limit laws words contents j many (of_files files is (inr report)) (inl long) = absurd (cc)
-judged_limit laws words contents j many (of_files files is (inr report)) (inr deep) = passed_report laws contents j report.1 deep
+judged_limit laws words contents j many (of_files files is (inr report)) (inr passes) = passed_report laws contents j report.1 passes
 
 pub limited_where : Laws → (words contents : List (List ℕ)) (j : Judgement) → AsMany words contents → IsJudgement words contents j → (status_of j ≡ status.Limit) ↔ PassesLimit contents
 limited_where laws words contents j many judged = (limit_judged laws words contents j judged, judged_limit laws words contents j many judged)

@@ -1,12 +1,11 @@
 -- The status and the text of each judgement.
-use Rattle.std.specs.Prelude.{ℕ, ◌==◌, if◌then◌else◌, List, length, codes}
+use Rattle.std.specs.Prelude.{ℕ, ◌==◌, if◌then◌else◌, List, length}
 use Rattle.spx_examiner.specs.declared.status.Status.{Status}
 use Rattle.spx_examiner.specs.declared.status.Status.TheVariants as status
 use Rattle.spx_examiner.specs.declared.judgement.Judgement.{Judgement}
 use Rattle.spx_examiner.specs.declared.judgement.Judgement.TheVariants.{Usage, Limit, Refused, Examined}
-use Rattle.spx_examiner.specs.declared.judgement.LimitName.{LimitName}
-use Rattle.spx_examiner.specs.declared.judgement.LimitName.TheVariants.{FileSize, Tokens, Nesting}
 use Rattle.spx_examiner.specs.Words.{usage_line}
+use Rattle.spx_report.specs.Limits.{limit_text}
 use Rattle.spx_report.specs.Report.{refusal_text, report_text}
 
 -- how the program ends; it is refused exactly where there are findings
@@ -15,12 +14,6 @@ status_of Usage = status.Usage
 status_of (Limit name) = status.Limit
 status_of (Refused lines) = status.Refused
 status_of (Examined p found) = if length found.lines == 0 then status.Accepted else status.Refused
-
--- `limit: NAME, at most NUMBER`
-abbrev pub limit_text : LimitName → List ℕ
-limit_text FileSize = codes "limit: file size, at most 4194304\n"
-limit_text Tokens = codes "limit: tokens, at most 1000000\n"
-limit_text Nesting = codes "limit: nesting, at most 200\n"
 
 -- what is printed, where the files have these names
 abbrev pub text_of : List (List ℕ) → Judgement → List ℕ

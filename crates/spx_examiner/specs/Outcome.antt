@@ -1,5 +1,5 @@
 -- What the program is to answer and to write, by its words and the contents of the files that they name.
-use Rattle.std.specs.Prelude.{◌≡◌, ◌≢◌, ◌⊎◌, ⊤, ℕ, ◌+◌, false, List, [], ◌∷◌, ◌++◌, Option, Some}
+use Rattle.std.specs.Prelude.{◌≡◌, ◌≢◌, ◌⊎◌, ⊤, ℕ, ◌+◌, true, false, List, [], ◌∷◌, ◌++◌, Option, Some}
 use Rattle.spx_tree.specs.declared.token.Token.{Token}
 use Rattle.spx_tree.specs.declared.subprogram.Unit.{Unit}
 use Rattle.spx_tree.specs.Spells.{Spells}
@@ -16,12 +16,13 @@ use Rattle.spx_core.specs.Walk.{first_name_breach}
 use Rattle.spx_core.specs.RuleWalk.{first_rule_breach}
 use Rattle.spx_core.specs.Flow.{HasNoFlowFinding}
 use Rattle.spx_meaning.specs.Fit.{Clean, Fit}
+use Rattle.spx_meaning.specs.Limits.{has_large_conditions}
 use Rattle.spx_meaning.specs.Laws.{NeverBad, TwoRuns}
 use Rattle.spx_examiner.specs.declared.status.Status.{Status}
 use Rattle.spx_report.specs.declared.report.Finding.{Finding}
 use Rattle.spx_examiner.specs.declared.judgement.Judgement.{Judgement}
 use Rattle.spx_examiner.specs.declared.judgement.Judgement.TheVariants.{Usage, Limit, Refused, Examined}
-use Rattle.spx_examiner.specs.declared.judgement.LimitName.TheVariants.{FileSize, Tokens, Nesting}
+use Rattle.spx_report.specs.declared.limit.LimitName.TheVariants.{FileSize, Tokens, Nesting, Nodes}
 use Rattle.spx_examiner.specs.declared.reading.Reading.{Reading}
 use Rattle.spx_examiner.specs.declared.reading.Reading.TheVariants.{Units, Broken, TooManyTokens, TooNested}
 use Rattle.spx_examiner.specs.Reading.{IsRead}
@@ -85,12 +86,13 @@ pub data AreRefusals (units : List Unit) (lines : List Finding) : Type 0 where
   of_rules : (p : Program) (breach : Breach) → IsMadeFrom units p → first_rule_breach p ≡ Some breach → lines ≡ breach_finding breach ∷ [] → AreRefusals units lines
   of_flow : (p : Program) → IsMadeFrom units p → Obeys p → AreFlowLines p lines → lines ≢ [] → AreRefusals units lines
 
--- what there is to report on units: findings in place of conditions, or what the conditions of the sound program come to
+-- what there is to report on units: findings in place of conditions, that the sound program has a condition with too many nodes,
+-- or what its conditions come to
 abbrev pub IsReportOnUnits : List Unit → Judgement → Type 0
 IsReportOnUnits units Usage = ⊥
-IsReportOnUnits units (Limit name) = ⊥
+IsReportOnUnits units (Limit name) = (name ≡ Nodes) × ((p : Program) × IsSoundFrom units p × (has_large_conditions p ≡ true))
 IsReportOnUnits units (Refused lines) = AreRefusals units lines
-IsReportOnUnits units (Examined p found) = IsSoundFrom units p × (found ≡ findings_of p)
+IsReportOnUnits units (Examined p found) = IsSoundFrom units p × (has_large_conditions p ≡ false) × (found ≡ findings_of p)
 
 -- on a text, by what lexis and syntax say of it
 abbrev pub IsReportOnReading : Reading → Judgement → Type 0
@@ -133,8 +135,12 @@ abbrev pub IsReadTooFar : List (List ℕ) → Type 0
 IsReadTooFar (bytes ∷ []) = IsRead bytes TooManyTokens ⊎ IsRead bytes TooNested
 IsReadTooFar _ = ⊥
 
+-- the contents spell a program that obeys the rules, has no flow finding, and has a condition with too many nodes
+abbrev pub AreTooLarge : List (List ℕ) → Type 0
+AreTooLarge contents = (p : Program) × Is contents p × Obeys p × HasNoFlowFinding p × (has_large_conditions p ≡ true)
+
 abbrev pub PassesLimit : List (List ℕ) → Type 0
-PassesLimit contents = AreTooLong contents ⊎ IsReadTooFar contents
+PassesLimit contents = AreTooLong contents ⊎ (IsReadTooFar contents ⊎ AreTooLarge contents)
 
 -- the contents spell a program on which there is nothing to report
 abbrev pub AreClean : List (List ℕ) → Type 0

@@ -1,38 +1,14 @@
 // What the words and the files come to, before anything is written.
 ghost use Rattle.std.specs.Prelude.{◌≡◌, IfOk};
 ghost use Rattle.spx_text.specs.Loads.{names};
-ghost use Rattle.spx_examiner.specs.Judgement.{limit_text, status_of, text_of};
+ghost use Rattle.spx_examiner.specs.Judgement.{status_of, text_of};
 
 use crate::Status;
 use crate::words::USAGE;
 use spx_core::Program;
-use spx_report::{Finding, Findings, refusal_text, report_text};
+use spx_report::{Finding, Findings, LimitName, refusal_text, report_text};
 use sqlite_items::Items;
 use std::alloc::{AllocError, Global};
-
-/// A counted quantity that has a greatest number.
-#[derive(Clone, Copy, Debug, PartialEq, Eq, Drop)]
-pub enum LimitName {
-    /// The bytes of a file.
-    FileSize,
-    /// The tokens of a file.
-    Tokens,
-    /// The levels of an expression.
-    Nesting,
-}
-
-impl LimitName {
-    /// The line that tells of it.
-    fn text(self) -> &'static [u8]
-        ensures { result.now ≡ limit_text self }
-    {
-        match self {
-            LimitName::FileSize => b"limit: file size, at most 4194304\n",
-            LimitName::Tokens => b"limit: tokens, at most 1000000\n",
-            LimitName::Nesting => b"limit: nesting, at most 200\n",
-        }
-    }
-}
 
 /// What there is to report.
 #[derive(Drop)]

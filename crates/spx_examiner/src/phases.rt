@@ -9,10 +9,10 @@ ghost use Rattle.spx_examiner.specs.Judgement.{status_of};
 ghost use Rattle.spx_examiner.specs.Outcome.{IsReportOn, IsReportOnUnits};
 
 use crate::Status;
-use crate::judgement::{Judgement, LimitName};
+use crate::judgement::Judgement;
 use crate::reading::{Reading, read};
 use spx_core::{Breach, Program};
-use spx_report::{Finding, breach_finding, findings, flow_lines};
+use spx_report::{FindFault, Finding, LimitName, breach_finding, findings, flow_lines};
 use spx_resolve::{ResolveFault, resolve};
 use spx_rules::obey;
 use spx_tree::Unit;
@@ -35,8 +35,8 @@ fn refused_by(alloc: Global, breach: Breach) -> Result<Judgement, AllocError>
     refused(alloc, breach_finding(alloc, breach)?)
 }
 
-/// What there is to report on a program: the first breach of a rule on variables; else all flow findings; else what its
-/// conditions come to.
+/// What there is to report on a program: the first breach of a rule on variables; else all flow findings; else that a
+/// condition has too many nodes; else what its conditions come to.
 fn examined_program(alloc: Global, program: Program) -> Result<Judgement, AllocError>
     requires visible { Visible program }
     requires typed { Typed program }
@@ -50,8 +50,11 @@ fn examined_program(alloc: Global, program: Program) -> Result<Judgement, AllocE
     if !lines.is_empty() {
         return Ok(Judgement::Refused(lines));
     }
-    let found = findings(alloc, &program)?;
-    Ok(Judgement::Examined(program, found))
+    match findings(alloc, &program) {
+        Ok(found) => Ok(Judgement::Examined(program, found)),
+        Err(FindFault::Limit(name)) => Ok(Judgement::Limit(name)),
+        Err(FindFault::Memory) => Err(AllocError),
+    }
 }
 
 /// What there is to report on the units of a file: the first breach of a rule on names or types comes first.

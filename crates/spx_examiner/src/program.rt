@@ -10,12 +10,13 @@ ghost use Rattle.spx_meaning.specs.Laws.{NeverBad, TwoRuns};
 ghost use Rattle.spx_examiner.specs.Outcome.{AreAcceptable, AreFit, AreRefusable, AreReliable, EndsAs, IsAssured, IsCutShortAs, IsJudgedOn, IsJudgement, IsReportOn, PassesLimit};
 
 use crate::Status;
-use crate::judgement::{Judgement, LimitName};
+use crate::judgement::Judgement;
 use crate::laws::laws_below;
 use crate::load::{MOST_BYTES, load_all};
 use crate::phases::judge;
 use crate::words::files_of;
 use spx_core::Program;
+use spx_report::LimitName;
 use spx_sound::{clean_is_fit, never_bad};
 use spx_text::{Failed, Files, LoadFault, Sink, write_all_pieces};
 use spx_twin::two_runs;

@@ -1,8 +1,13 @@
 ghost use Rattle.std.specs.Prelude.{◌≤◌, length};
 
 use crate::{Status, examine};
+use spx_core::Program;
 use spx_lexer::lex;
+use spx_parse_unit::parse_units;
+use spx_resolve::resolve;
+use spx_simplify::closes;
 use spx_text::{HeldFile, MemFiles, MemSink, NoFailFiles, NoFailSink};
+use spx_vcg::conditions;
 use std::alloc::{AllocError, Global};
 use std::fmt::Write;
 use std::test::Fail;
@@ -37,6 +42,15 @@ const CUT: &str = "procedure P (X : in out Integer)\n--# derives X from";
 
 const BAD_BYTE: &str =
     "procedure P (X : in out Integer)\n--# derives X from X;\nis\nbegin\n   X := X__1;\nend P;\n";
+
+// The program that a text spells.
+fn program_of(alloc: Global, text: &str) -> Option<Program>
+    requires { length text.now ≤ 4194304 }
+{
+    let tokens = lex(alloc, 0, text.as_bytes()).ok()?;
+    let units = parse_units(alloc, &tokens).ok()?;
+    resolve(alloc, units.as_slice()).ok()
+}
 
 // The words of a line.
 fn words(alloc: Global, line: &str) -> Result<Vec<String>, AllocError> {
@@ -328,5 +342,29 @@ fn a_relation_over_three_lines_has_the_same_tokens(rt: HostRuntime) -> Result<()
     )?;
     assert!(rt; !one.is_empty());
     assert_eq!(rt; three.as_str(), one.as_str());
+    Ok(())
+}
+
+// The conditions as trees, each judged alone: their names, the numbers of their hypotheses, and whether they close.
+#[test]
+fn conditions_are_trees(rt: HostRuntime) -> Result<(), Fail> {
+    let alloc = rt.alloc();
+    let rows = [
+        (INC, [("Inc.1", 3, true), ("Inc.2", 5, true)]),
+        (WITHOUT_PRE, [("Inc.1", 2, false), ("Inc.2", 4, true)]),
+    ];
+    for (text, wanted) in rows {
+        let program = program_of(alloc, text).ok_or("no program")?;
+        let sub = program.subs.get(0).ok_or("no subprogram")?;
+        let all = conditions(alloc, sub)?;
+        assert_eq!(rt; all.len(), wanted.len());
+        for (condition, (name, hypotheses, closed)) in all.as_slice().iter().zip(wanted) {
+            assert_eq!(rt; condition.name.as_bytes(), name.as_bytes());
+            assert_eq!(rt; condition.hyps.len(), hypotheses);
+            assert_eq!(rt; condition.goals.len(), 2);
+            let sequent = condition.sequent(alloc)?;
+            assert_eq!(rt; closes(alloc, &sequent)?, closed);
+        }
+    }
     Ok(())
 }

@@ -12,7 +12,7 @@ use Rattle.spx_term.specs.declared.term.Term.{Term}
 use Rattle.spx_term.specs.declared.term.Term.TheVariants.{Truth}
 use Rattle.spx_term.specs.declared.condition.Condition.{Condition}
 use Rattle.spx_term.specs.Folding.{folded, folded_step}
-use Rattle.spx_term.specs.Plain.{is_among, is_plain, is_plain-Truth, Plain}
+use Rattle.spx_term.specs.Plain.{closes, closes-Decides, is_among, is_plain, is_plain-Truth, Plain}
 use Rattle.spx_term.proofs.Terms.{fold-Truth}
 use Rattle.spx_meaning.specs.Paths.{conditions_of, ArePlain}
 use Rattle.spx_term.specs.Goals.{goal_of}
@@ -20,23 +20,7 @@ use Rattle.spx_core.specs.declared.program.SubId.{SubId}
 use Rattle.spx_core.specs.declared.subprogram.Sub.{Sub}
 use Rattle.spx_report.specs.declared.report.Finding.{Finding}
 use Rattle.spx_report.specs.declared.report.SubRow.{SubRow}
-use Rattle.spx_report.specs.Findings.{closes, closes-Decides, is_closed, is_left, unproved, unproved_of, row_of}
-
-or_true : (b : Bool) → (b || true) ≡ true
-or_true true = refl
-or_true false = refl
-
-closes-Truth : (hyps : List Term) → closes hyps (Truth true) ≡ true
-unfolding closes
-closes-Truth hyps =
-    ap (λ t. is_among (map folded hyps) (Truth false) || is_plain (map folded hyps) t) (fold-Truth folded_step true)
-    ∙ ap (λ b. is_among (map folded hyps) (Truth false) || b) (is_plain-Truth (map folded hyps) true)
-    ∙ or_true (is_among (map folded hyps) (Truth false))
-
-pub no_goals : (c : Condition) → c.goals ≡ [] → is_closed c ≡ true
-no_goals c e = ap (λ (goals : List Term). closes c.hyps (goal_of goals)) e ∙ closes-Truth c.hyps
-
-pub ruleset closed_laws = (no_goals, closes-Decides)
+use Rattle.spx_report.specs.Findings.{is_closed, is_left, unproved, unproved_of, row_of}
 
 -- ---- counts
 left_length : (cs : List Condition) → length (unproved_of cs) ≡ count_by is_left cs
@@ -66,7 +50,7 @@ lines_more subs i d within =
     ∙ flat_map-append (λ (sub : Sub). unproved_of (conditions_of sub)) (take i subs) (get_or subs i d ∷ [])
     ∙ ap (λ found. lines_of (take i subs) ++ found) (append-nil (unproved_of (conditions_of (get_or subs i d))))
 
-enumerate_from-push : {A : Type 0} (n : ℕ) (xs : List A) (x : A) → enumerate_from n (xs ++ x ∷ []) ≡ enumerate_from n xs ++ (n + length xs, x) ∷ []
+pub enumerate_from-push : {A : Type 0} (n : ℕ) (xs : List A) (x : A) → enumerate_from n (xs ++ x ∷ []) ≡ enumerate_from n xs ++ (n + length xs, x) ∷ []
 enumerate_from-push n [] x = ap (λ k. (k, x) ∷ []) (sym (add-zero n))
 enumerate_from-push n (y ∷ xs) x =
     ap (λ es. (n, y) ∷ es) (enumerate_from-push (n + 1) xs x ∙ ap (λ k. enumerate_from (n + 1) xs ++ (k, x) ∷ []) (let e : n + 1 + length xs ≡ n + length (y ∷ xs) = omega arith in e))

@@ -1,29 +1,18 @@
 -- What the verification conditions of a program come to.
-use Rattle.std.specs.Prelude.{ℕ, Bool, false, not, ◌||◌, List, ◌++◌, length, map, flat_map, filter, count_by, codes}
-use Rattle.std.specs.Bool.{Decides}
+use Rattle.std.specs.Prelude.{ℕ, Bool, not, List, ◌++◌, length, map, flat_map, filter, count_by, codes}
 use Rattle.std.specs.List.{enumerate_from}
+use Rattle.spx_text.specs.declared.place.Place.{Place}
 use Rattle.spx_core.specs.declared.program.Program.{Program}
 use Rattle.spx_core.specs.declared.rule.RuleName.TheVariants.{V1}
 use Rattle.spx_term.specs.declared.condition.CondKind.{CondKind}
 use Rattle.spx_term.specs.declared.condition.CondKind.TheVariants.{Overflow, Range}
 use Rattle.spx_term.specs.declared.condition.Condition.{Condition}
-use Rattle.spx_term.specs.declared.term.Term.{Term}
-use Rattle.spx_term.specs.declared.term.Term.TheVariants.{Truth}
-use Rattle.spx_term.specs.Folding.{folded}
 use Rattle.spx_term.specs.Goals.{goal_of}
-use Rattle.spx_term.specs.Plain.{is_among, is_plain, Plain}
+use Rattle.spx_term.specs.Plain.{closes}
 use Rattle.spx_meaning.specs.Paths.{conditions_of}
 use Rattle.spx_report.specs.declared.report.Finding.{Finding}
 use Rattle.spx_report.specs.declared.report.SubRow.{SubRow}
 use Rattle.spx_report.specs.declared.report.Findings.{Findings}
-
--- whether a sequent is plain
-unfoldable pub closes : List Term → Term → Bool
-closes hyps goal = is_among (map folded hyps) (Truth false) || is_plain (map folded hyps) (folded goal)
-
-pub closes-Decides : (hyps : List Term) (goal : Term) → Decides (closes hyps goal) (Plain hyps goal)
-unfolding closes Plain
-closes-Decides hyps goal = (λ h. h, λ h. h)
 
 -- whether a condition needs no proof
 abbrev pub is_closed : Condition → Bool
@@ -37,8 +26,11 @@ kind_text Overflow = codes "overflow"
 kind_text Range = codes "range"
 
 -- `unproved: NAME KIND`
-unfoldable pub unproved : Condition → Finding
-unproved c = record { place = c.place; rule = V1; text = codes "unproved: " ++ (c.name ++ (codes " " ++ kind_text c.kind)) }
+unfoldable pub unproved_named : List ℕ → CondKind → Place → Finding
+unproved_named name kind place = record { place = place; rule = V1; text = codes "unproved: " ++ (name ++ (codes " " ++ kind_text kind)) }
+
+abbrev pub unproved : Condition → Finding
+unproved c = unproved_named c.name c.kind c.place
 
 -- a finding for each condition that is left, in order
 abbrev pub unproved_of : List Condition → List Finding

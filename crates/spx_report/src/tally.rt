@@ -1,14 +1,21 @@
 // What the verification conditions of a program come to.
-ghost use Rattle.std.specs.Prelude.{◌≡◌, ◌++◌, ◌∷◌, [], ◌↔◌, All, IfOk, OnOk};
-ghost use Rattle.spx_meaning.specs.Paths.{ArePlain, conditions_of};
+ghost use Rattle.std.specs.Prelude.{◌≡◌, ◌+◌, ◌-◌, ◌≤◌, ◌++◌, ◌∷◌, [], ◌↔◌, false, map, All, IfErr, IfOk, OnOk};
+ghost use Rattle.spx_arena.specs.Claims.{claims_in, IsWhole};
+ghost use Rattle.spx_meaning.specs.Limits.{has_large_condition, has_large_conditions};
+ghost use Rattle.spx_meaning.specs.Paths.{ArePlain, condition_name, conditions_of, numbered, tree_of};
 ghost use Rattle.spx_report.specs.Findings as spec;
+ghost use Rattle.spx_report.specs.LeftClaims.{left_or};
+ghost use Rattle.spx_report.specs.Limits.{IsFaultWhere};
+ghost use Rattle.spx_term.specs.Steps.{claims_of, closes_claim, tidy};
 
+use crate::limit::{FindFault, LimitName};
 use crate::report::{Finding, Findings, SubRow};
+use spx_arena::{SharedClaim, SharedClaims};
 use spx_core::{Program, RuleName, Sub, SubId};
-use spx_simplify::closes;
-use spx_term::{CondKind, Condition};
+use spx_simplify::closed_claims;
+use spx_term::CondKind;
 use spx_text::Text;
-use spx_vcg::conditions;
+use spx_vcg::{VcFault, condition_name, shared_conditions};
 use sqlite_items::Items;
 use std::alloc::{AllocError, Global};
 
@@ -21,91 +28,110 @@ fn kind_text(kind: CondKind) -> &'static [u8]
     }
 }
 
-/// Whether the simplifier closes a condition. One without a goal has nothing to prove.
-#[tactic(auto, using(crate::proofs::FindingLaws::closed_laws))]
-fn is_closed(alloc: Global, condition: &Condition) -> Result<bool, AllocError>
-    ensures { IfOk result (λ closed. closed ≡ spec.is_closed condition.now) }
-{
-    if condition.goals.is_empty() {
-        return Ok(true);
-    }
-    closes(alloc, &condition.sequent(alloc)?)
-}
-
 /// `unproved: NAME KIND`
-#[tactic(auto, using(crate::proofs::Texts::texts), unfolding(crate::specs::Findings::unproved))]
-fn unproved(alloc: Global, condition: &Condition) -> Result<Finding, AllocError>
-    ensures { IfOk result (λ finding. finding ≡ spec.unproved condition.now) }
+#[tactic(auto, using(crate::proofs::Texts::texts), unfolding(crate::specs::Findings::unproved_named))]
+fn unproved(alloc: Global, name: &Text, claim: &SharedClaim) -> Result<Finding, AllocError>
+    ensures { IfOk result (λ finding. finding ≡ spec.unproved_named name.now claim.now.kind claim.now.place) }
 {
     let mut text = Vec::from_slice(alloc, b"unproved: ")?;
-    text.extend_from_slice(condition.name.as_bytes())?;
+    text.extend_from_slice(name.as_bytes())?;
     text.extend_from_slice(b" ")?;
-    text.extend_from_slice(kind_text(condition.kind))?;
+    text.extend_from_slice(kind_text(claim.kind))?;
     Ok(Finding {
-        place: condition.place,
+        place: claim.place,
         rule: RuleName::V1,
         text: Text::new(alloc, text.as_slice())?,
     })
 }
 
-/// Adds a finding on a condition that is left.
+/// Adds a finding on a condition that is not closed, after so many others of the subprogram.
 fn add_unproved(
     alloc: Global,
-    condition: &Condition,
+    sub: &Sub,
+    earlier: usize,
+    claim: &SharedClaim,
+    closed: bool,
     found: &mut Items<Finding>,
 ) -> Result<(), AllocError>
-    ensures { OnOk result (found.new ≡ found.old ++ spec.unproved_of (condition.now ∷ [])) }
+    ensures { OnOk result (found.new ≡ found.old ++ left_or (spec.unproved_named (condition_name sub.now.name.text (earlier + 1)) claim.now.kind claim.now.place) closed) }
 {
-    if !is_closed(alloc, condition)? {
-        found.push(unproved(alloc, condition)?)?;
+    if closed {
+        return Ok(());
     }
+    let name = condition_name(alloc, sub, earlier)?;
+    let finding = unproved(alloc, &name, claim)?;
+    found.push(finding)?;
     Ok(())
 }
 
-/// A finding for each condition that is left.
-fn unproved_of(alloc: Global, conditions: &[Condition]) -> Result<Items<Finding>, AllocError>
-    ensures { IfOk result (λ found. found ≡ spec.unproved_of conditions.now) }
+/// A finding for each condition that is not closed.
+fn unproved_of(
+    alloc: Global,
+    sub: &Sub,
+    claims: &SharedClaims,
+    closed: &[bool],
+) -> Result<Items<Finding>, AllocError>
+    requires { closed.now ≡ map closes_claim (claims_in claims.now) }
+    ensures { IfOk result (λ found. found ≡ spec.unproved_of (numbered sub.now.name.text 1 (claims_in claims.now))) }
 {
     let mut found = Items::new(alloc);
-    for condition in conditions {
-        add_unproved(alloc, condition, &mut found)?;
+    for (at, claim) in claims.list.as_slice().iter().enumerate() {
+        add_unproved(alloc, sub, at, claim, closed[at], &mut found)?;
     }
     Ok(found)
 }
 
-/// The row of a subprogram with these conditions, of which the findings are left.
-#[tactic(auto, using(crate::proofs::FindingLaws::row_of_counts, crate::proofs::FindingLaws::left_within))]
-fn row_of(id: SubId, conditions: &[Condition], left: &[Finding]) -> SubRow
-    requires { left.now ≡ spec.unproved_of conditions.now }
-    ensures { result ≡ spec.row_of id.0 conditions.now }
+/// The row of a subprogram with so many conditions, of which so many are left.
+fn row_of(id: SubId, total: usize, left: usize) -> SubRow
+    requires { left ≤ total }
+    ensures { result ≡ record { sub = id; total = total; simplified = total - left; scripted = 0; left = left } }
 {
     SubRow {
         sub: id,
-        total: conditions.len(),
-        simplified: conditions.len() - left.len(),
+        total,
+        simplified: total - left,
         scripted: 0,
-        left: left.len(),
+        left,
     }
 }
 
-/// Adds the findings and the row of a subprogram.
-fn add_sub(alloc: Global, id: SubId, sub: &Sub, found: &mut Findings) -> Result<(), AllocError>
-    ensures lines { OnOk result (found.new.lines ≡ found.old.lines ++ spec.unproved_of (conditions_of sub.now)) }
-    ensures rows { OnOk result (found.new.subs ≡ found.old.subs ++ spec.row_of id.0 (conditions_of sub.now) ∷ []) }
+/// The conditions of a subprogram, of which none is too large.
+fn claims_of(alloc: Global, sub: &Sub) -> Result<SharedClaims, FindFault>
+    ensures whole { IfOk result IsWhole }
+    ensures claims { IfOk result (λ all. claims_in all ≡ map tidy (claims_of (tree_of sub.now))) }
+    ensures few { OnOk result (has_large_condition sub.now ≡ false) }
+    ensures limit { IfErr result (IsFaultWhere (has_large_condition sub.now)) }
 {
-    let all = conditions(alloc, sub)?;
-    let left = unproved_of(alloc, all.as_slice())?;
-    found
-        .subs
-        .push(row_of(id, all.as_slice(), left.as_slice()))?;
-    found.lines.append(left)
+    match shared_conditions(alloc, sub) {
+        Ok(claims) => Ok(claims),
+        Err(VcFault::TooManyNodes(_)) => Err(FindFault::Limit(LimitName::Nodes)),
+        Err(VcFault::Memory) => Err(FindFault::Memory),
+    }
 }
 
-/// The conditions that are left, and a row for each subprogram.
+/// Adds the findings and the row of a subprogram, of which no condition is too large.
+fn add_sub(alloc: Global, id: SubId, sub: &Sub, found: &mut Findings) -> Result<(), FindFault>
+    ensures lines { OnOk result (found.new.lines ≡ found.old.lines ++ spec.unproved_of (conditions_of sub.now)) }
+    ensures rows { OnOk result (found.new.subs ≡ found.old.subs ++ spec.row_of id.0 (conditions_of sub.now) ∷ []) }
+    ensures few { OnOk result (has_large_condition sub.now ≡ false) }
+    ensures limit { IfErr result (IsFaultWhere (has_large_condition sub.now)) }
+{
+    let mut claims = claims_of(alloc, sub)?;
+    let closed = closed_claims(alloc, &mut claims)?;
+    let left = unproved_of(alloc, sub, &claims, closed.as_slice())?;
+    let row = row_of(id, claims.list.len(), left.len());
+    found.subs.push(row)?;
+    found.lines.append(left)?;
+    Ok(())
+}
+
+/// The conditions that are left, and a row for each subprogram, where no condition is too large.
 #[tactic(auto, unfolding(crate::specs::Findings::findings_of))]
-pub fn findings(alloc: Global, program: &Program) -> Result<Findings, AllocError>
+pub fn findings(alloc: Global, program: &Program) -> Result<Findings, FindFault>
     ensures exact { IfOk result (λ found. found ≡ spec.findings_of program.now) }
     ensures none { IfOk result (λ found. (found.lines ≡ []) ↔ All (λ sub. ArePlain (conditions_of sub)) program.now.subs) }
+    ensures few { IfOk result (λ _. has_large_conditions program.now ≡ false) }
+    ensures limit { IfErr result (IsFaultWhere (has_large_conditions program.now)) }
 {
     let mut found = Findings {
         lines: Items::new(alloc),

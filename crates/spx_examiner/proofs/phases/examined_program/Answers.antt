@@ -3,15 +3,23 @@ use Rattle.std.proofs.lemmas.Grind.{common_steps}
 use Rattle.std.proofs.lemmas.Bool.Decides.{nat_tests}
 use Rattle.spx_core.specs.declared.program.Program.{Program}
 use Rattle.spx_core.specs.Erase.{erased}
+use Rattle.spx_core.specs.Flow.{HasNoFlowFinding}
+use Rattle.spx_core.specs.Rules.{Obeys}
 use Rattle.spx_core.specs.Typed.{Typed}
 use Rattle.spx_core.specs.Visible.{Visible}
-use Rattle.spx_examiner.specs.Outcome.{IsMadeFrom, IsReportOnUnits, of_rules, of_flow}
+use Rattle.spx_meaning.specs.Limits.{has_large_conditions}
+use Rattle.spx_report.specs.Limits.{IsFaultWhere}
+use Rattle.spx_examiner.specs.Outcome.{IsMadeFrom, IsSoundFrom, IsReportOnUnits, of_rules, of_flow}
 use Rattle.spx_examiner.proofs.Spelled.{if_ok}
 use Rattle.spx_examiner.proofs.phases.examined_program.Goals as goal
 
 -- a program is made from its units
 made_from : (p : Program) → Visible p → Typed p → IsMadeFrom (erased p) p
 made_from p visible typed = record { made = refl; visible = visible; typed = typed }
+
+-- and sound where it obeys the rules and has no flow finding
+sound_from : (p : Program) → Visible p → Typed p → Obeys p → HasNoFlowFinding p → IsSoundFrom (erased p) p
+sound_from p visible typed obeys flows = record { made = refl; visible = visible; typed = typed; obeys = obeys; flows = flows }
 
 pub returns-in-Some-clause-report : goal.returns-in-Some-clause-report
 returns-in-Some-clause-report c =
@@ -26,8 +34,17 @@ returns-then-not-is_empty-clause-report c =
     let some : c.in_ok-lines.lines ≢ [] = λ e. grind (arith, common_steps, nat_tests, e) in
     of_flow p (made_from p c.requires.visible c.requires.typed) (c.obey.ensures.none.0 none) c.in_ok-lines.ensures.exact some
 
-pub returns-clause-report : goal.returns-clause-report
-returns-clause-report c =
+pub returns-in-Ok-clause-report : goal.returns-in-Ok-clause-report
+returns-in-Ok-clause-report c =
     let none : IsNone c.obey.result = search rules in
     let empty : c.in_ok-lines.lines ≡ [] = grind (arith, common_steps, nat_tests) in
-    (record { made = refl; visible = c.requires.visible; typed = c.requires.typed; obeys = c.obey.ensures.none.0 none; flows = c.in_ok-lines.ensures.none.0 empty }, c.in_ok-found.ensures.exact)
+    let sound = sound_from c.args.program c.requires.visible c.requires.typed (c.obey.ensures.none.0 none) (c.in_ok-lines.ensures.none.0 empty) in
+    (sound, c.in-Ok.ensures.few, c.in-Ok.ensures.exact)
+
+pub returns-in-Err-Limit-clause-report : goal.returns-in-Err-Limit-clause-report
+returns-in-Err-Limit-clause-report c =
+    let none : IsNone c.obey.result = search rules in
+    let empty : c.in_ok-lines.lines ≡ [] = grind (arith, common_steps, nat_tests) in
+    let sound = sound_from c.args.program c.requires.visible c.requires.typed (c.obey.ensures.none.0 none) (c.in_ok-lines.ensures.none.0 empty) in
+    let limit = subst (IsFaultWhere (has_large_conditions c.args.program)) c.in-Err-Limit.field-0-is c.in-Err-Limit.ensures.limit in
+    (limit.0, (c.args.program, sound, limit.1))
