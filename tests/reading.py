@@ -16,6 +16,7 @@ WIDE = 2**127
 MOST_BYTES = 4194304
 MOST_TOKENS = 1000000
 MOST_LEVELS = 200
+MOST_NODES = 1000000
 USAGE = ('usage: check [--proofs FILE] FILE... | conditions FILE... | '
          'run --entry NAME [--turns N] [--inputs FILE] FILE... | workload N\n')
 
@@ -62,6 +63,10 @@ class TooManyTokens(Exception):
 
 class TooNested(Exception):
     """The text goes on with more levels alone."""
+
+
+class TooManyNodes(Exception):
+    """A verification condition has more nodes than one may have."""
 
 
 # What is told of a breach of each rule that has one text.
@@ -1085,6 +1090,27 @@ def conditions_of(procedure):
     return found
 
 
+@cache
+def size_of(term):
+    """The nodes of a term, where one that stands twice counts twice. Each term is counted once."""
+    if isinstance(term, MinusTerm):
+        return size_of(term.operand) + 1
+    if isinstance(term, InfixTerm):
+        return size_of(term.left) + size_of(term.right) + 1
+    return 1
+
+
+def nodes_of(condition):
+    """The nodes of the hypotheses and of the goals."""
+    return sum(size_of(term) for term in condition.hypotheses + condition.goals)
+
+
+def require_few_nodes(conditions):
+    """No condition has more nodes than one may have."""
+    if any(nodes_of(condition) > MOST_NODES for condition in conditions):
+        raise TooManyNodes
+
+
 # ---------------------------------------------------------------- simplifier
 
 MIRRORED = {'<': '>', '<=': '>=', '>': '<', '>=': '<='}
@@ -1281,8 +1307,10 @@ def program_of(text):
 def examined(name, procedures):
     """The findings on the conditions, in their order, and a line for each procedure."""
     findings, rows = [], []
-    for procedure in procedures:
-        title, conditions = procedure.name.text, conditions_of(procedure)
+    made = [(procedure.name.text, conditions_of(procedure)) for procedure in procedures]
+    for _, conditions in made:
+        require_few_nodes(conditions)
+    for title, conditions in made:
         left = [condition for condition in conditions if not closes(condition)]
         findings += [Finding('V1', condition.place, f'unproved: {title}.{condition.number} {condition.kind}')
                      for condition in left]
@@ -1312,3 +1340,5 @@ def examine(name, text):
         return Answer(f'limit: tokens, at most {MOST_TOKENS}\n', 6)
     except TooNested:
         return Answer(f'limit: nesting, at most {MOST_LEVELS}\n', 6)
+    except TooManyNodes:
+        return Answer(f'limit: nodes, at most {MOST_NODES}\n', 6)

@@ -134,6 +134,11 @@ def too_nested(name, text):
     return Case(name, encoded(text), 'limit: nesting, at most 200\n', 6)
 
 
+def too_large(name, text):
+    """A condition has more than 1000000 nodes, and nothing is wrong before the conditions are looked at."""
+    return Case(name, encoded(text), 'limit: nodes, at most 1000000\n', 6)
+
+
 def reported(name, text, *lines):
     """The whole report, line by line."""
     return Case(name, encoded(text), ''.join(line + '\n' for line in lines), 0 if lines[-1] == 'accepted' else 1)
@@ -2582,6 +2587,50 @@ def flow_in_company():
                   'F4 unset: Y')
 
 
+def doublings(times, *more, name='Inc'):
+    """A procedure that doubles X so many times, and does more."""
+    return longer('X : in out Integer', 'X from X', *['X := X + X'] * times, *more, pre='X = 0', name=name)
+
+
+def increments(zeros):
+    """A procedure with 704 increments, whose last condition has 999695 nodes, and two for each zero.
+
+    After n increments the value has 2 n + 1 nodes. The last condition has as its hypotheses two facts on the type of X, of 3
+    nodes each, the precondition, of 3 and two for each zero, and two facts of 2 n + 3 nodes for each n from 1 to 704; and two
+    goals of 1411 nodes. Without zeros that is 6 + 3 + 2 * (704 * 705 + 3 * 704) + 2 * 1411 = 999695.
+    """
+    return longer('X : in out Integer', 'X from X', *['X := X + 1'] * 704, pre='X' + ' + 0' * zeros + ' <= 1000000')
+
+
+def doublings_and_increments(pre):
+    """A procedure with 19 statements, each of which doubles X or adds 1 to it; its last condition has 999818 nodes, and those of pre.
+
+    A value of s nodes becomes one of 2 s + 1 or of s + 2. The last condition has two facts of 3 nodes on the type of X, two of
+    s + 2 for each value, and two goals of as many as the last two facts.
+    """
+    steps = {'d': 'X := X + X', 'i': 'X := X + 1'}
+    return longer('X : in out Integer', 'X from X', *[steps[step] for step in 'ddiddddidddiddddddd'], pre=pre)
+
+
+def nodes_of_conditions():
+    """Conditions of 999999, 1000000 and 1000001 nodes, and where the limit comes among the other answers."""
+    yield reported('conditions_of_1000000_nodes.adb', doublings_and_increments('-X' + ' + X' * 89 + ' = 0'),
+                   *[f'conditions_of_1000000_nodes.adb:{line}:11: V1 unproved: Inc.{2 * line - 11} overflow'
+                     for line in range(6, 25)],
+                   'Inc: 38 conditions, 19 simplified, 0 scripted, 19 open', 'refused: 19')
+    yield too_large('conditions_of_1000001_nodes_by_doubling.adb', doublings_and_increments('X' + ' + X' * 90 + ' = 0'))
+    yield accepted('conditions_of_999999_nodes.adb', increments(152), 1408)
+    yield too_large('conditions_of_1000001_nodes.adb', increments(153))
+    yield accepted('sixteen_doublings.adb', doublings(16), 32)
+    yield too_large('seventeen_doublings.adb', doublings(17))
+    yield too_large('twenty_doublings.adb', doublings(20))
+    yield too_large('twenty_doublings_and_an_unproved_sum.adb', doublings(20, 'X := X + 1'))
+    yield too_large('unproved_before_twenty_doublings.adb', procedure('X + 1') + doublings(20, name='Same'))
+    yield too_large('twenty_doublings_before_unproved.adb', doublings(20) + renamed(procedure('X + 1')))
+    yield refused('flow_before_twenty_doublings.adb',
+                  longer('A : in Integer; X : in out Integer', '@X from X, A', *['X := X + X'] * 20), 'F2 unused: X from A')
+
+
 # ---------------------------------------------------------------- the table
 
 GROUPS = (form, relations, simplifier, numbers, places, words, layout, comments, marks, other_bytes, tokens, grammar,
@@ -2590,7 +2639,7 @@ GROUPS = (form, relations, simplifier, numbers, places, words, layout, comments,
           signs_and_types, signs_and_syntax, levels_of_parentheses, mixed_levels, limit_or_breach, examples, documented,
           programs_of_one_sum, programs_with_pre, programs_of_several_sums, programs_with_locals, breaches_in_order,
           breaches_in_expressions, rules_in_order, procedures_in_order, headings_in_order,
-          flow_findings_in_order)
+          flow_findings_in_order, nodes_of_conditions)
 CASES = tuple(case for group in GROUPS for case in group())
 
 
