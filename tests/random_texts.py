@@ -228,7 +228,7 @@ class Writer:
         return changed
 
     def changed(self, text):
-        """The text with up to three changes of its pieces, and at times cut off behind one of them."""
+        """The text with up to three changes of its pieces, and at times cut off after one of them."""
         pieces = PIECE.findall(text) or [b'']
         for _ in range(self.random.choice((0, 1, 1, 1, 2, 3))):
             self.change(pieces)

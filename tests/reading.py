@@ -1,7 +1,7 @@
 """The rules of docs/language.md, read a second time: what `check NAME` must answer on a text.
 
 `examine` gives the report and the status. The layers stand in the order of that page, and each is asked only where the
-ones before it had nothing to tell. Nothing here looks at the program.
+ones before it had nothing to report. Nothing here looks at the program.
 """
 
 import re
@@ -43,7 +43,7 @@ class Place:
 
 @dataclass(frozen=True)
 class Finding:
-    """A rule by its name in docs/language.md, the place, and what is told there."""
+    """A rule by its name in docs/language.md, the place, and what is reported there."""
     rule: str
     place: Place
     text: str
@@ -69,7 +69,7 @@ class TooManyNodes(Exception):
     """A verification condition has more nodes than one may have."""
 
 
-# What is told of a breach of each rule that has one text.
+# What is reported of a breach of each rule that has one text.
 TEXTS = {
     'L1': 'bad byte',
     'L2': 'bad number',
@@ -210,7 +210,7 @@ class Scanner:
         return word if reserved else 'identifier'
 
     def number(self):
-        """Digits alone, with nothing behind them that Ada takes as part of a number, and below 2**127."""
+        """Digits alone, with nothing after them that Ada takes as part of a number, and below 2**127."""
         found = NUMBER.match(self.text, self.at)
         if not found:
             return False
@@ -780,13 +780,13 @@ class Resolver:
         return self.variable(tree) if isinstance(tree, Name) else tree
 
     def attribute(self, tree):
-        """N3: a type is named before `'`, and `First` or `Last` stands behind it."""
+        """N3: a type is named before `'`, and `First` or `Last` comes after it."""
         values = {'first': INTEGER_FIRST, 'last': INTEGER_LAST}
         self.must_denote(tree.prefix, 'type', tree.designator.word() in values)
         return Static(values[tree.designator.word()], False, tree.prefix.place)
 
     def end_name(self):
-        """N5: the name behind `end`, if there is one, is the procedure's."""
+        """N5: the name after `end`, if there is one, is the procedure's."""
         name = self.tree.end_name
         if name:
             require('N5', name.place, name.word() == self.tree.name.word())
@@ -808,7 +808,7 @@ def resolved(trees):
 # ---------------------------------------------------------------- the walk of rules on variables
 
 def assignments(statements):
-    """The statements that are no `null`, which has no part in what is behind names."""
+    """The statements that are no `null`, which has no part in what names denote."""
     return [statement for statement in statements if isinstance(statement, Assignment)]
 
 
@@ -926,7 +926,7 @@ def f1_f2(procedure, relation):
 
 
 def f3(procedure, relation):
-    """F3: from each target there is a flow to an export through the statements behind it."""
+    """F3: from each target there is a flow to an export through the statements after it."""
     statements = assignments(procedure.statements)
     for at, statement in enumerate(statements):
         target = statement.target
@@ -960,7 +960,7 @@ def flow_findings(procedure):
 
 def in_order(findings):
     """Each finding once, by place, rule and text."""
-    return sorted(set(findings), key=lambda told: (told.place.line, told.place.column, told.rule, told.text))
+    return sorted(set(findings), key=lambda finding: (finding.place.line, finding.place.column, finding.rule, finding.text))
 
 
 # ---------------------------------------------------------------- conditions
@@ -1035,7 +1035,7 @@ def term_of(expression, values):
 
 
 def is_minus(expression):
-    """Whether the expression is an operand behind a minus."""
+    """Whether the expression is an operand after a minus."""
     return isinstance(expression, Signed) and expression.sign == '-'
 
 
@@ -1079,7 +1079,7 @@ def checks_of(statement):
 
 
 def conditions_of(procedure):
-    """What was shown is a fact from there on, and a target stands for its term behind its assignment."""
+    """What was shown is a fact from there on, and a target stands for its term after its assignment."""
     facts, values, found = first_facts(procedure), entry_values(procedure), []
     for statement in assignments(procedure.statements):
         for kind, checked in checks_of(statement):
@@ -1292,13 +1292,13 @@ class Answer:
 
 
 def program_of(text):
-    """The procedures that a text spells, where there is nothing to tell of them; else what there is is raised."""
+    """The procedures that a text spells, where there is nothing to report of them; else what there is is raised."""
     scanner = Scanner(text)
     tokens = scanner.run()
     procedures = resolved(Parser(tokens, scanner.place()).file())
     for procedure in procedures:
         require_rules(procedure)
-    findings = in_order(told for procedure in procedures for told in flow_findings(procedure))
+    findings = in_order(finding for procedure in procedures for finding in flow_findings(procedure))
     if findings:
         raise Refused(*findings)
     return procedures
@@ -1321,7 +1321,7 @@ def examined(name, procedures):
 
 def report_of(name, findings, rows=()):
     """The findings, the rows and the last line."""
-    lines = [f'{name}:{told.place.line}:{told.place.column}: {told.rule} {told.text}' for told in findings]
+    lines = [f'{name}:{finding.place.line}:{finding.place.column}: {finding.rule} {finding.text}' for finding in findings]
     verdict = f'refused: {len(findings)}' if findings else 'accepted'
     return Answer('\n'.join([*lines, *rows, verdict]) + '\n', 1 if findings else 0)
 

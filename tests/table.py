@@ -66,7 +66,7 @@ def accepted(name, text, total=2, named='Inc'):
     return examined(name, text, (named, total))
 
 
-# What is told of a breach of each rule that has one text. It is spelled here again, so that reading.py is held to it.
+# What is reported of a breach of each rule that has one text. It is spelled here again, so that reading.py is held to it.
 TEXTS = {
     'L1': 'bad byte',
     'L2': 'bad number',
@@ -92,10 +92,10 @@ def refused(name, text, *findings):
     Each is a rule that has one text, or a rule and its text.
     """
     marks, spelled_out = marked_places(encoded(text))
-    return told(name, spelled_out, marks, findings)
+    return with_findings(name, spelled_out, marks, findings)
 
 
-def told(name, text, places, findings):
+def with_findings(name, text, places, findings):
     """These findings at these places, and nothing else."""
     assert findings and len(places) == len(findings), name
     spelled_out = [f'{finding} {TEXTS[finding]}' if finding in TEXTS else finding for finding in findings]
@@ -114,7 +114,7 @@ def bad_byte(name, text, at=None):
 
 
 def bad_number(name, text, at=None):
-    """The number at this place is spoiled by what stands behind it."""
+    """The number at this place is spoiled by what comes after it."""
     return stopped(name, text, 'L2', at)
 
 
@@ -126,7 +126,7 @@ def too_wide(name, text, at=None):
 def stopped(name, text, rule, at):
     """The one finding, at this line and column, or at the one `@`, which is taken out."""
     marks, spelled_out = marked_places(encoded(text))
-    return told(name, spelled_out, marks if at is None else marks + [at], (rule,))
+    return with_findings(name, spelled_out, marks if at is None else marks + [at], (rule,))
 
 
 def too_nested(name, text):
@@ -224,14 +224,14 @@ def cut(value):
 
 def at_derives(text):
     """The text with an `@` at its one word `derives`."""
-    before, behind = text.split('--# derives')
-    return f'{before}--# @derives{behind}'
+    before, after = text.split('--# derives')
+    return f'{before}--# @derives{after}'
 
 
 def at_end(text, marks='@'):
     """The text of a procedure with an `@` at its word `end`, or with several of them."""
-    before, behind = text.rsplit('\nend', 1)
-    return f'{before}\n{marks}end{behind}'
+    before, after = text.rsplit('\nend', 1)
+    return f'{before}\n{marks}end{after}'
 
 
 def short(name, formal='X'):
@@ -394,19 +394,19 @@ SKIP_TOKENS = (
 
 TOKEN_LISTS = (TOKENS, LOCAL_TOKENS, ATTRIBUTE_TOKENS, SKIP_TOKENS)
 
-# What a text is without a token: which token behind it is unexpected, if not the next one; or a finding, and the token
+# What a text is without a token: which token after it is unexpected, if not the next one; or a finding, and the token
 # at which it stands; or that it is accepted.
-# The name behind `end`, and the one behind `begin`, are a target and a local where the word is missing.
+# The name after `end`, and the one after `begin`, are a target and a local where the word is missing.
 MISSING = {'in': ('U8', 'import'), 'out': ('U8', 'export'), 'import': ('U8', 'export'),
            'left_operand': ('F2 unused: X from X', 'export'), 'end_name': accepted,
            'begin': 2, 'end': 2, 'parenthesis_in_pre': 3, 'closing_parenthesis_in_pre': 3, 'parenthesis': 2,
            'parenthesis_of_a_sum': 4, 'parenthesis_that_closes_a_sum': 3,
            # see `missing_signs`
            'sign': None, 'sign_in_pre': None, 'first_held_operand': None}
-# What a text is with a token doubled: which token behind the second one is unexpected, if not that one.
+# What a text is with a token doubled: which token after the second one is unexpected, if not that one.
 DOUBLED = {'parenthesis_in_pre': 6, 'parenthesis': 3, 'parenthesis_of_a_sum': 7}
-# What a text is with another token instead: which token behind it is unexpected, if not itself; or a finding, and the
-# token at which it stands. `on` is the type where `in` was, and another parameter may come behind `;`.
+# What a text is with another token instead: which token after it is unexpected, if not itself; or a finding, and the
+# token at which it stands. `on` is the type where `in` was, and another parameter may come after `;`.
 EXCHANGED = {'type': ('N1', 'type'), 'left_of_the_relation': ('N1', 'left_of_the_relation'), 'prefix': ('N3', 'prefix'),
              'designator': ('N3', 'prefix'), 'end_name': ('N5', 'end_name'), 'in': 1, 'closing_parenthesis': 1}
 SPOILED = {'opening_parenthesis': bad_byte, 'parenthesis': bad_byte, 'parenthesis_that_closes': bad_byte,
@@ -420,15 +420,15 @@ def spelled(tokens):
 
 
 def with_tokens(tokens, at, *instead, shown=0):
-    """The text with these tokens in the place of one; an `@` shows the token that stands so many behind them."""
-    behind = list(tokens[at + 1:])
+    """The text with these tokens in the place of one; an `@` shows the token that comes so many after them."""
+    after = list(tokens[at + 1:])
     if shown:
-        places = [place for place, (_, token, _) in enumerate(behind) if not token.startswith('\n')]
+        places = [place for place, (_, token, _) in enumerate(after) if not token.startswith('\n')]
         if shown > len(places):
             return with_tokens(tokens, at, *instead) + '@'
-        label, token, other = behind[places[shown - 1]]
-        behind[places[shown - 1]] = (label, '@' + token, other)
-    return spelled(tokens[:at] + tuple((None, token, None) for token in instead) + tuple(behind))
+        label, token, other = after[places[shown - 1]]
+        after[places[shown - 1]] = (label, '@' + token, other)
+    return spelled(tokens[:at] + tuple((None, token, None) for token in instead) + tuple(after))
 
 
 def at_token(tokens, label):
@@ -643,7 +643,7 @@ def numbers():
 
 def places():
     """Where a text is stopped, or goes no further."""
-    # the end of the text: behind its last byte, and in the next line behind a line end
+    # the end of the text: after its last byte, and in the next line after a line end
     yield unexpected('end_behind_procedure.adb', 'procedure@')
     yield unexpected('end_behind_procedure_and_line_end.adb', 'procedure\n@')
     yield unexpected('end_behind_procedure_and_blanks.adb', 'procedure \t@')
@@ -945,7 +945,7 @@ def tokens():
 
 
 def missing(listed, at, label):
-    """Without the token one behind it is unexpected, if the text is not of the grammar still."""
+    """Without the token one after it is unexpected, if the text is not of the grammar still."""
     name, decided = f'missing_{label}.adb', MISSING.get(label, 1)
     if isinstance(decided, int):
         yield unexpected(name, with_tokens(listed, at, shown=decided))
@@ -957,7 +957,7 @@ def missing(listed, at, label):
 
 
 def doubled(listed, at, label, token):
-    """The second token is unexpected, or one behind it."""
+    """The second token is unexpected, or one after it."""
     name = f'doubled_{label}.adb'
     if label in DOUBLED:
         return unexpected(name, with_tokens(listed, at, token, token, shown=DOUBLED[label]))
@@ -1121,7 +1121,7 @@ def rules():
                   at_derives(procedure('1', mode='out', derives='A from ', **AB)), 'U7')
     yield refused('pre_over_a_formal_of_mode_out.adb', procedure('5', pre='@X > 0', **OUT), 'U11')
     yield refused('pre_over_a_formal_of_mode_out_on_the_right.adb', procedure('5', pre='0 > @X', **OUT), 'U11')
-    # one `in out` must be an import, which is told first
+    # one `in out` must be an import, which is reported first
     yield refused('pre_over_a_formal_that_is_not_imported.adb',
                   procedure('B', formals='A, B', target='B', derives='@A, B from B', pre='A > 0'), 'U8')
 
@@ -1592,7 +1592,7 @@ def several():
 
 
 def optional_parts():
-    """Each combination of formals, `derives`, a precondition, locals and a name behind `end`."""
+    """Each combination of formals, `derives`, a precondition, locals and a name after `end`."""
     for formals, derives, pre, local, end_name in product((True, False), repeat=5):
         parts = {'formals': formals, 'derives': derives, 'pre': pre, 'local': local, 'end_name': end_name}
         name = f'with_{"_".join(part for part, is_there in parts.items() if is_there) or "no_part"}.adb'
@@ -1814,7 +1814,7 @@ def nulls():
 def missing_signs():
     """The text with locals without one of its signs, which leaves conditions open, or without an operand."""
     whole = spelled(LOCAL_TOKENS)
-    # -A may be 2147483648, and so may be what is behind: -A + 1
+    # -A may be 2147483648, and so may be what is after: -A + 1
     yield examined('missing_sign_in_pre.adb',
                    whole.replace('( - A )', '( A )').replace(':= -', ':= @-').replace('T +', 'T @+'),
                    ('Neg', 5, 1, 3))
@@ -1827,7 +1827,7 @@ def missing_signs():
 
 
 def signs_of_numbers():
-    """Static values behind signs and in parentheses."""
+    """Static values after signs and in parentheses."""
     for name, value in {'minus_of_the_widest_integer': '-2147483647', 'minus_of_a_wide_literal': '-2147483648',
                         'minus_of_a_wide_literal_in_parentheses': '-(2147483648)',
                         'minus_of_a_wide_sum': '-(2147483647 + 1)', 'minus_of_a_minus': '-(-2147483647)',
@@ -1856,7 +1856,7 @@ def signs_of_numbers():
 
 
 def signs_and_types():
-    """What is no Integer and what is no condition, and what is read behind a sign and in parentheses."""
+    """What is no Integer and what is no condition, and what is read after a sign and in parentheses."""
     for name, (rule, value) in {'a_comparison': ('N10', '@(X = 1)'),
                                 'a_comparison_in_more_parentheses': ('N10', '@((X < X))'),
                                 'minus_of_a_comparison': ('N10', '@-(X = 1)'),
@@ -1950,7 +1950,7 @@ def signs_and_syntax():
 
 
 def nested(count, value='1', opening='('):
-    """The value in so many parentheses, with what stands in front of each."""
+    """The value in so many parentheses, with what comes before each."""
     return opening * count + value + ')' * count
 
 
@@ -2133,10 +2133,10 @@ def programs_of_one_sum():
     yield reported('minus_of_a_hundred.adb', assigned('-(' * 100 + 'X' + ')' * 100),
                    'minus_of_a_hundred.adb:5:207: V1 unproved: Inc.1 overflow',
                    'Inc: 101 conditions, 100 simplified, 0 scripted, 1 open', 'refused: 1')
-    # X + 1 may be L + 1; behind that it lies in -L .. L, and so does its minus
+    # X + 1 may be L + 1; after that it lies in -L .. L, and so does its minus
     yield reported('minus_of_a_sum.adb', assigned('-(X + 1)'),
                    'minus_of_a_sum.adb:5:13: V1 unproved: Inc.1 overflow', ONE_OF_3, 'refused: 1')
-    # X - 1 may be -L - 2; behind that it may be -L - 1 still, whose minus is too high; the operand comes first
+    # X - 1 may be -L - 2; after that it may be -L - 1 still, whose minus is too high; the operand comes first
     yield reported('minus_of_a_difference.adb', assigned('-(X - 1)'),
                    'minus_of_a_difference.adb:5:13: V1 unproved: Inc.1 overflow',
                    'minus_of_a_difference.adb:5:9: V1 unproved: Inc.2 overflow', TWO_OF_3, 'refused: 2')
@@ -2147,13 +2147,13 @@ def programs_of_one_sum():
     # X - 1 is -L at the lowest
     yield reported('minus_of_a_difference_that_just_fits.adb', assigned('-(X - 1)', pre='X > -2147483647'),
                    CLOSED_3, 'accepted')
-    # X + 1 may be L + 1; behind that it lies in -L .. L, and 1 less is -L - 1 at the lowest
+    # X + 1 may be L + 1; after that it lies in -L .. L, and 1 less is -L - 1 at the lowest
     yield reported('sum_and_back.adb', assigned('(X + 1) - 1'),
                    'sum_and_back.adb:5:12: V1 unproved: Inc.1 overflow', ONE_OF_3, 'refused: 1')
     yield reported('sum_and_back_below_last.adb', assigned('(X + 1) - 1', pre=BELOW), CLOSED_3, 'accepted')
     yield reported('difference_and_on.adb', assigned('(X - 1) + 1'),
                    'difference_and_on.adb:5:12: V1 unproved: Inc.1 overflow', ONE_OF_3, 'refused: 1')
-    # 1 - X is 1 - L at the lowest, and may be L + 2; behind that 1 less it lies in 1 - L .. L
+    # 1 - X is 1 - L at the lowest, and may be L + 2; after that 1 less it lies in 1 - L .. L
     yield reported('difference_of_a_difference.adb', assigned('1 - (1 - X)'),
                    'difference_of_a_difference.adb:5:16: V1 unproved: Inc.1 overflow', ONE_OF_3, 'refused: 1')
     # the left sum, the right one, and then their difference, which none of them bounds
@@ -2174,7 +2174,7 @@ def programs_of_one_sum():
                    'minus_before_a_sum.adb:5:9: V1 unproved: Inc.1 overflow',
                    'minus_before_a_sum.adb:5:12: V1 unproved: Inc.2 overflow', TWO_OF_3, 'refused: 2')
     yield reported('minus_of_what_is_above_zero.adb', assigned('-X + 1', pre='X > 0'), CLOSED_3, 'accepted')
-    # -X lies in -L .. L behind its check: 1 less just fits, and 2 less do not
+    # -X lies in -L .. L after its check: 1 less just fits, and 2 less do not
     yield reported('minus_and_one_less.adb', assigned('-X - 1'),
                    'minus_and_one_less.adb:5:9: V1 unproved: Inc.1 overflow', ONE_OF_3, 'refused: 1')
     yield reported('minus_and_two_less.adb', assigned('-X - 2'),
@@ -2287,7 +2287,7 @@ def programs_with_locals():
     yield reported('locals_to_the_lowest.adb', longer(OUT_X, 'X from', *to_the_lowest, declared=['T, U, V : Integer']),
                    'locals_to_the_lowest.adb:9:9: V1 unproved: Inc.6 overflow',
                    'Inc: 7 conditions, 6 simplified, 0 scripted, 1 open', 'refused: 1')
-    # behind a fact that is false all is closed
+    # after a fact that is false all is closed
     yield reported('locals_past_the_lowest.adb',
                    longer(OUT_X, 'X from', *to_the_lowest, 'X := X + X', declared=['T, U, V : Integer']),
                    'locals_past_the_lowest.adb:9:9: V1 unproved: Inc.6 overflow',
@@ -2335,7 +2335,7 @@ PARTS = {'name': 'Mix', 'formals': 'A', 'mode': 'in', 'type': 'Integer', 'derive
          'value': 'A', 'comparison': '', 'last': '', 'end': 'Mix'}
 
 # What breaks a rule in it: its finding, and the parts that it changes. They stand in the order of the work, and of the
-# walk, so that of two of them the first one is told.
+# walk, so that of two of them the first one is reported.
 SLIPS = {
     'integer_for_the_name': ('N2', {'name': '@Integer', 'end': 'Integer'}),
     'a_formal_twice': ('N2', {'formals': 'A, @A'}),
@@ -2451,7 +2451,7 @@ def rules_in_order():
     yield refused('two_inputs_for_targets.adb',
                   longer('A, B : in Integer; X : out Integer', 'X from A, B', 'X := A', '@B := A', 'A := B'), 'U2')
     yield refused('input_for_a_target_read_unset.adb', longer(A_TO_X, 'X from A', '@A := X', 'X := A'), 'U2')
-    # U7 stands at the word, whatever is wrong behind it
+    # U7 stands at the word, whatever is wrong after it
     for name, derives in {'missing_and_twice': 'A from B, B', 'twice_apart': 'A from A & B from B & A from B',
                           'twice_by_a_star': 'A from A & B from *, B', 'twice_in_two_ways': 'A, A from B, B'}.items():
         yield refused(f'relation_{name}.adb', at_derives(procedure('A', derives=derives, **AB)), 'U7')
@@ -2476,7 +2476,7 @@ BROKEN = {
 
 
 def procedures_in_order():
-    """Breaches of two procedures: that of the earlier phase is told, and in one phase that of the first procedure."""
+    """Breaches of two procedures: that of the earlier phase is reported, and in one phase that of the first procedure."""
     for name, other in product(BROKEN, repeat=2):
         (phase, finding, text), (other_phase, other_finding, other_text) = BROKEN[name], BROKEN[other]
         if phase == other_phase == 2:
