@@ -23,6 +23,6 @@ one_loaded told words contents all tells are one =
 
 pub ruleset endings = (one_loaded)
 
--- what is told of the files that the words name
+-- what the files give that the words name
 pub tells_named : (told : List ℕ → Option (List ℕ)) (words files contents : List (List ℕ)) → files_of words ≡ Some files → Tells told (named words) contents → Tells told files contents
 tells_named told words files contents is tells = sym (ap (λ (o : Option (List (List ℕ))). map told (unwrap_or o [])) is) ∙ tells

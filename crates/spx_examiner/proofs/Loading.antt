@@ -12,7 +12,7 @@ pub record TellsAt (told : List ℕ → Option (List ℕ)) (word : String Global
   pub within : i < length contents
   pub told_here : told (string_bytes word) ≡ Some (get_or contents i [])
 
--- what is told of one of the words
+-- what the files give for one of the words
 pub tells_at : (told : List ℕ → Option (List ℕ)) (words : List (String Global)) (contents : List (List ℕ)) (i : ℕ) (d : String Global) → Tells told (names words) contents → i < length words → TellsAt told (get_or words i d) contents i
 tells_at told [] contents i d tells below = absurd (omega arith)
 tells_at told (word ∷ words) [] i d tells below = absurd (cc)

@@ -1,4 +1,4 @@
--- What a judgement tells of words and contents, and from an accepted one to runs that may be relied on.
+-- What a judgement says of words and contents, and from an accepted one to runs that may be relied on.
 use Rattle.std.proofs.Common.{◌≡◌, ◌≢◌, ℕ, true, false, cond, eqb, List, [], ◌∷◌, length, map, Option, Some, None, inl, inr, refl, sym, ap, ap₂, subst, ◌∙◌, arith}
 use Rattle.std.specs.Prelude.{◌↔◌, ◌⊎◌, unwrap_or}
 use Rattle.std.specs.List.{list_any}
@@ -84,7 +84,7 @@ not_both p q same large small = let e = ap has_large_conditions same in absurd (
 abbrev PassesIn : List (List ℕ) → Type 0
 PassesIn contents = IsReadTooFar contents ⊎ AreTooLarge contents
 
--- what an accepted judgement tells of the contents
+-- what an accepted judgement says of the contents
 record IsOnClean (bytes : List ℕ) (p : Program) : Type 0 where
   spelled : Is (bytes ∷ []) p
   clean : Clean p

@@ -9,7 +9,7 @@ use Rattle.spx_examiner.specs.declared.judgement.Judgement.{Judgement}
 use Rattle.spx_examiner.specs.Words.{files_of}
 use Rattle.spx_examiner.specs.Judgement.{status_of, text_of}
 
--- the files tell these contents of these names
+-- the files give these contents for these names
 abbrev pub Tells : (List ℕ → Option (List ℕ)) → List (List ℕ) → List (List ℕ) → Type 0
 Tells told names contents = map told names ≡ map Some contents
 
@@ -20,7 +20,7 @@ is_too_long content = nat_lt 4194304 (length content)
 abbrev pub any_too_long : List (List ℕ) → Bool
 any_too_long contents = list_any is_too_long contents
 
--- neither a fault nor want of memory
+-- neither a fault nor out of memory
 pub record Concludes (status : Status) : Type 0 where
   pub read : status ≢ ReadFault
   pub written : status ≢ WriteFault
@@ -30,11 +30,11 @@ pub record Concludes (status : Status) : Type 0 where
 abbrev pub named : List (List ℕ) → List (List ℕ)
 named words = unwrap_or (files_of words) []
 
--- for whatever contents the files tell of all the names in the words
+-- for whatever contents the files give for all the names in the words
 abbrev pub WhereTold : (List ℕ → Option (List ℕ)) → List (List ℕ) → (List (List ℕ) → Type 0) → Type 0
 WhereTold told words P = (contents : List (List ℕ)) → Tells told (named words) contents → P contents
 
--- this answer is given exactly where its cause holds, faults and want of memory aside
+-- this answer is given exactly where its cause holds, faults and out of memory aside
 abbrev pub Exactly : Status → Type 0 → Status → Type 0
 Exactly answer cause status = Concludes status → (status ≡ answer) ↔ cause
 

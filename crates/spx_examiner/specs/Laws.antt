@@ -29,7 +29,7 @@ pub record OneStop : Type 0 where
   pub cause : (file : ℕ) (bytes : List ℕ) (c d : Cause) (p q : Place) → StopsAt file bytes c p → StopsAt file bytes d q → c ≡ d
   pub place : (file : ℕ) (bytes : List ℕ) (c d : Cause) (p q : Place) → StopsAt file bytes c p → StopsAt file bytes d q → p ≡ q
 
--- what syntax answers on tokens: units and the forms behind them, or a fault
+-- what syntax answers on tokens: units and the forms after them, or a fault
 abbrev pub Parsed : Type 0
 Parsed = Result (List Unit × List Form) Fault
 

@@ -121,10 +121,10 @@ fn prepare<F: Files>(alloc: Global, words: &[String], files: &mut F) -> Result<R
     Ok(reported(alloc, named, judgement)?)
 }
 
-/// Does all that the program does, with the words behind its name.
+/// Does all that the program does, with the words after its name.
 ///
 /// The status is `Accepted` or `Refused` where the report on the files was written, `Usage` and `Limit` where the
-/// one line of that name was. Only the two faults and want of memory are answers that the words and the files do not
+/// one line of that name was. Only the two faults and out of memory are answers that the words and the files do not
 /// decide.
 pub fn examine<F: Files, S: Sink>(
     alloc: Global,
@@ -136,7 +136,7 @@ pub fn examine<F: Files, S: Sink>(
     // findings.
     ensures judged { Concludes result → IsTaken (names words.now) result (S.taken sink.old) (S.taken sink.new) }
 
-    // The judgement is that of the words and of what the files tell.
+    // The judgement is that of the words and of what the files give.
     ensures outcome { WhereTold (F.told files.old) (names words.now) (λ contents. Concludes result
         → EndsAs (names words.now) contents result (S.taken sink.old) (S.taken sink.new)) }
 

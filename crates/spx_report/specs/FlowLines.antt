@@ -54,7 +54,7 @@ same_text (x ∷ xs) (y ∷ ys) = nat_eq x y && same_text xs ys
 unfoldable pub line_before : Finding → Finding → Bool
 line_before a b = place_before a.place b.place || (same_place a.place b.place && (text_before (code a.rule) (code b.rule) || (same_text (code a.rule) (code b.rule) && text_before a.text b.text)))
 
--- each line comes before all behind it, so that none stands twice
+-- each line comes before all after it, so that no line is there twice
 abbrev pub AreInOrder : List Finding → Type 0
 AreInOrder [] = ⊤
 AreInOrder (line ∷ lines) = All (λ other. IsTrue (line_before line other)) lines × AreInOrder lines

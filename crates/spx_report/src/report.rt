@@ -29,7 +29,7 @@ pub struct SubRow {
     pub left: usize,
 }
 
-/// What a report tells: the findings, in the order in which they are printed, and a row for each subprogram.
+/// What a report says: the findings, in the order in which they are printed, and a row for each subprogram.
 #[derive(Debug, Drop)]
 pub struct Findings {
     pub lines: Items<Finding>,

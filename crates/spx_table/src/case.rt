@@ -8,7 +8,7 @@ use std::alloc::{AllocError, Global};
 pub struct Header<'a> {
     /// The name of the text.
     pub name: &'a [u8],
-    /// Whether the line end in front of the next header belongs to the text.
+    /// Whether the line end before the next header belongs to the text.
     pub ended: bool,
 }
 
@@ -31,7 +31,7 @@ fn read_header(line: &[u8]) -> Option<Header<'_>>
     }
 }
 
-/// The line without the line end behind it.
+/// The line without the line end after it.
 fn without_end(line: &[u8]) -> &[u8]
     ensures ended { (front : List ℕ) → line.now ≡ front ++ 10 ∷ [] → result.now ≡ front }
     ensures rest { (line.now ≡ result.now) ⊎ (line.now ≡ result.now ++ 10 ∷ []) }
@@ -57,7 +57,7 @@ impl<'a> Case<'a> {
     }
 }
 
-/// The cases of a table, in order. Lines in front of the first header are passed over.
+/// The cases of a table, in order. Lines before the first header are passed over.
 pub fn cases(alloc: Global, table: &[u8]) -> Result<Vec<Case<'_>>, AllocError> {
     let mut found: Vec<Case<'_>> = Vec::new(alloc);
     for line in table.split_inclusive(|byte| *byte == b'\n') {

@@ -8,7 +8,7 @@ use Rattle.spx_examiner.proofs.Loading.{tells_at, if_told, loaded_more, within_m
 use Rattle.spx_examiner.proofs.load.load_all.Goals as goal
 use Rattle.spx_examiner.proofs.load.load_all.Goals.{After-load}
 
--- what is told of this word
+-- what the files give for this word
 told_here : (g : _) (c : After-load g) (contents : List (List ℕ)) → Tells (g.F.Files.told c.args.files.now) (names c.args.words.now) contents → (c.loop-word.word-index < length contents) × (g.F.Files.told c.loop-word.files c.as_str.result.now ≡ Some (get_or contents c.loop-word.word-index []))
 told_here g c contents tells =
     let at = tells_at (g.F.Files.told c.args.files.now) c.args.words.now contents c.loop-word.word-index c.word-item.result tells (omega arith) in
