@@ -1,8 +1,14 @@
 // Text that is kept.
-ghost use Rattle.std.specs.Prelude.{◌≡◌, ◌↔◌, IfOk, IsTrue};
-ghost use Rattle.std.specs.Str.{str_eq_ignore_ascii_case};
+ghost use Rattle.std.specs.Prelude.{◌≡◌, ◌↔◌, fold, IfOk, IsTrue};
+ghost use Rattle.std.proofs.Common.{ap};
+ghost use Rattle.std.specs.Cmp.{partial_equiv_from_equiv};
+ghost use Rattle.std.specs.Cmp.Lexicographic.{bytes_decides, on_texts_equal};
+ghost use Rattle.std.specs.Hash as fed;
+ghost use Rattle.std.specs.List.{flat_map};
+ghost use Rattle.std.specs.Str.{str_eq_ignore_ascii_case, str_to_ascii_lowercase};
 
 use std::alloc::{AllocError, Global};
+use std::hash::{Hash, Hasher};
 use std::marker::Model;
 
 /// A text that contracts see as the list of its bytes.
@@ -55,5 +61,38 @@ impl Text {
         ensures { result ≡ str_eq_ignore_ascii_case self.now other.now }
     {
         self.as_bytes().eq_ignore_ascii_case(other.as_bytes())
+    }
+}
+
+/// Texts are equal where they are one identifier, so that tables of names ignore letter case.
+impl PartialEq for Text {
+    ghost eq = { str_eq_ignore_ascii_case };
+
+    ghost laws = { partial_equiv_from_equiv (on_texts_equal str_to_ascii_lowercase) };
+
+    fn eq(&self, other: &Text) -> bool {
+        self.is_same_word(other)
+    }
+}
+
+impl Eq for Text {
+    ghost laws = { on_texts_equal str_to_ascii_lowercase };
+}
+
+fn hash_lowercase<H: Hasher>(bytes: &[u8], state: &mut H)
+    ensures { state.new ≡ fold H.write state.old (flat_map fed.u8 (str_to_ascii_lowercase bytes.now)) }
+{
+    for byte in bytes {
+        state.write_u8(byte.to_ascii_lowercase());
+    }
+}
+
+impl Hash for Text {
+    ghost hash_input = { λ text. flat_map fed.u8 (str_to_ascii_lowercase text) };
+
+    ghost respects_eq = { λ a b same. ap (flat_map fed.u8) ((bytes_decides (str_to_ascii_lowercase a) (str_to_ascii_lowercase b)).0 same) };
+
+    fn hash<H: Hasher>(&self, state: &mut H) {
+        hash_lowercase(self.as_bytes(), state);
     }
 }
