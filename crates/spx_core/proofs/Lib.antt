@@ -1,16 +1,8 @@
-pub mod ListTests
-pub mod Variables
-pub mod ReadsLaws
-pub mod FlowLaws
-pub mod Expressions
-pub mod Trees
-pub mod Found
-pub mod Words
-pub mod Names
-pub mod Formals
-pub mod Programs
-pub mod WalkPoints
-pub mod WalkExpressions
-pub mod WalkStatements
-pub mod WalkDeclarations
-pub mod WalkLaws
+pub mod Callers
+mod Judgements
+mod Erasure
+mod TypedLaws
+mod RegionLaws
+mod Consecutive
+mod Scopes
+mod RuleLaws

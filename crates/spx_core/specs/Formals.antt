@@ -1,24 +1,30 @@
 -- The variables of a subprogram: its formal parameters and its locals.
-use Rattle.std.specs.Prelude.{Bool, ◌==◌, List, Option, Some, None, option_and_then, slice_get}
+use Rattle.std.specs.Prelude.{Bool, ◌==◌, List, take, drop, Option, Some, None, option_and_then, slice_get}
 use Rattle.std.specs.List.{list_any}
-use Rattle.spx_core.specs.declared.program.VarId.{VarId}
-use Rattle.spx_core.specs.declared.program.VarKind.{VarKind}
-use Rattle.spx_core.specs.declared.program.VarKind.TheVariants.{Formal, Local}
+use Rattle.spx_core.specs.declared.entity.VarId.{VarId}
+use Rattle.spx_core.specs.declared.entity.VarKind.{VarKind}
+use Rattle.spx_core.specs.declared.entity.VarKind.TheVariants.{Formal, Local}
+use Rattle.spx_core.specs.declared.entity.Mode.{Mode}
 use Rattle.spx_core.specs.declared.program.Var.{Var}
 use Rattle.spx_core.specs.declared.program.Program.{Program}
-use Rattle.spx_core.specs.declared.subprogram.Mode.{Mode}
 use Rattle.spx_core.specs.declared.subprogram.Sub.{Sub}
+
+abbrev pub formals : Sub → List VarId
+formals sub = take sub.formal_count sub.vars
+
+abbrev pub locals : Sub → List VarId
+locals sub = drop sub.formal_count sub.vars
 
 abbrev pub stands_in : VarId → List VarId → Bool
 stands_in v vars = list_any (λ (w : VarId). w.0 == v.0) vars
 
 -- the variable is a formal of the subprogram
 abbrev pub is_formal : VarId → Sub → Bool
-is_formal v sub = stands_in v sub.formals
+is_formal v sub = stands_in v (formals sub)
 
 -- the variable is a local of the subprogram
 abbrev pub is_local : VarId → Sub → Bool
-is_local v sub = stands_in v sub.locals
+is_local v sub = stands_in v (locals sub)
 
 abbrev pub mode_in : VarKind → Option Mode
 mode_in (Formal mode) = Some mode

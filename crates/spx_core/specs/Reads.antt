@@ -1,9 +1,7 @@
 -- The names that an expression reads.
-use Rattle.std.specs.Prelude.{◌≡◌, List, [], ◌∷◌, ◌++◌}
-use Rattle.spx_core.specs.declared.program.VarId.{VarId}
-use Rattle.spx_core.specs.declared.expression.CoreName.{CoreName}
+use Rattle.std.specs.Prelude.{List, [], ◌∷◌, ◌++◌}
+use Rattle.spx_core.specs.declared.name.CoreName.{CoreName}
 use Rattle.spx_core.specs.declared.expression.CoreExpr.{CoreExpr, CoreExpr-F, fold-CoreExpr}
-use Rattle.spx_core.specs.Uses.{mentions, uses}
 
 -- one level, of whose parts the names are known
 abbrev pub names_step : CoreExpr-F (List CoreName) → List CoreName
@@ -17,7 +15,3 @@ names_step (CoreExpr-F.Infix op place left right) = left ++ right
 -- in the order of the text
 abbrev pub names_read : CoreExpr → List CoreName
 names_read = fold-CoreExpr (List CoreName) names_step
-
--- an expression reads the variables that these names denote
-abbrev pub UsesAreNames : Type 0
-UsesAreNames = (v : VarId) (e : CoreExpr) → uses v e ≡ mentions v (names_read e)

@@ -1,237 +1,264 @@
--- The program that units are, found part by part: where there is none, nothing.
-use Rattle.std.specs.Prelude.{ℕ, Bool, ◌||◌, if◌then◌else◌, List, [], ◌∷◌, ◌++◌, length, drop, Option, Some, None, option_and_then, option_map, is_some}
-use Rattle.std.specs.List.{list_any}
+-- The program that units are: each name stands with what it denotes at its place, and each declared name with what it declares.
+-- This is total: a name that no visible declaration explains stands with nothing.
+use Rattle.std.specs.Prelude.{ℕ, ◌+◌, List, [], ◌∷◌, ◌++◌, length, map, Option, Some, None, option_map, codes}
+use Rattle.std.specs.List.{flat_map}
 use Rattle.spx_tree.specs.declared.expression.Identifier.{Identifier}
 use Rattle.spx_tree.specs.declared.expression.Name.{Name}
 use Rattle.spx_tree.specs.declared.expression.Name.TheVariants.{Simple, Attribute}
 use Rattle.spx_tree.specs.declared.expression.Expr.{Expr, Expr-F, fold-Expr}
 use Rattle.spx_tree.specs.declared.declaration.Decl.{Decl}
-use Rattle.spx_tree.specs.declared.declaration.Decl.TheVariants as decl
+use Rattle.spx_tree.specs.declared.declaration.Decl.TheVariants as written_decl
 use Rattle.spx_tree.specs.declared.statement.Stmt.{Stmt}
-use Rattle.spx_tree.specs.declared.statement.Stmt.TheVariants as stmt
+use Rattle.spx_tree.specs.declared.statement.Stmt.TheVariants as written_stmt
 use Rattle.spx_tree.specs.declared.annotation.DerivesItem.{DerivesItem}
 use Rattle.spx_tree.specs.declared.annotation.Derives.{Derives}
 use Rattle.spx_tree.specs.declared.annotation.Precondition.{Precondition}
+use Rattle.spx_tree.specs.declared.subprogram.WrittenMode.{WrittenMode}
+use Rattle.spx_tree.specs.declared.subprogram.WrittenMode.TheVariants as written
 use Rattle.spx_tree.specs.declared.subprogram.Param.{Param}
 use Rattle.spx_tree.specs.declared.subprogram.FormalPart.{FormalPart}
 use Rattle.spx_tree.specs.declared.subprogram.Subprogram.{Subprogram}
 use Rattle.spx_tree.specs.declared.subprogram.Unit.{Unit}
 use Rattle.spx_tree.specs.declared.subprogram.Unit.TheVariants as unit
-use Rattle.spx_core.specs.declared.program.TypeId.TheVariants as type
-use Rattle.spx_core.specs.declared.program.VarKind.{VarKind}
-use Rattle.spx_core.specs.declared.program.VarKind.TheVariants.{Formal, Local}
-use Rattle.spx_core.specs.declared.program.Var.{Var}
-use Rattle.spx_core.specs.declared.program.Program.{Program}
-use Rattle.spx_core.specs.declared.expression.Entity.{Entity}
-use Rattle.spx_core.specs.declared.expression.Entity.TheVariants as entity
-use Rattle.spx_core.specs.declared.expression.CoreName.{CoreName}
+use Rattle.spx_core.specs.declared.entity.TheConstants.{INTEGER}
+use Rattle.spx_core.specs.declared.entity.VarId.{VarId}
+use Rattle.spx_core.specs.declared.entity.Subtype.{Subtype}
+use Rattle.spx_core.specs.declared.entity.Mode.{Mode}
+use Rattle.spx_core.specs.declared.entity.Mode.TheVariants as mode
+use Rattle.spx_core.specs.declared.entity.VarKind.{VarKind}
+use Rattle.spx_core.specs.declared.entity.VarKind.TheVariants.{Formal, Local}
+use Rattle.spx_core.specs.declared.entity.Object.{Object}
+use Rattle.spx_core.specs.declared.entity.Entity.{Entity}
+use Rattle.spx_core.specs.declared.entity.Entity.TheVariants as entity
+use Rattle.spx_core.specs.declared.name.CoreName.{CoreName}
+use Rattle.spx_core.specs.declared.name.Defining.{Defining}
+use Rattle.spx_core.specs.declared.name.Step.TheVariants as step
+use Rattle.spx_core.specs.declared.name.Reference.{Reference}
 use Rattle.spx_core.specs.declared.expression.CoreExpr.{CoreExpr}
 use Rattle.spx_core.specs.declared.expression.CoreExpr.TheVariants as expr
-use Rattle.spx_core.specs.declared.expression.CoreStmt.{CoreStmt}
-use Rattle.spx_core.specs.declared.expression.CoreStmt.TheVariants.{Null, Assignment}
-use Rattle.spx_core.specs.declared.declaration.CoreDecl.{CoreDecl}
-use Rattle.spx_core.specs.declared.declaration.CoreDecl.TheVariants.{Variables}
+use Rattle.spx_core.specs.declared.statement.CoreStmt.{CoreStmt}
+use Rattle.spx_core.specs.declared.statement.CoreStmt.TheVariants as stmt
+use Rattle.spx_core.specs.declared.statement.CoreDecl.{CoreDecl}
+use Rattle.spx_core.specs.declared.statement.CoreDecl.TheVariants as decl
 use Rattle.spx_core.specs.declared.dependency.CoreDerivesItem.{CoreDerivesItem}
 use Rattle.spx_core.specs.declared.dependency.CoreDerives.{CoreDerives}
 use Rattle.spx_core.specs.declared.subprogram.CoreParam.{CoreParam}
 use Rattle.spx_core.specs.declared.subprogram.CoreFormalPart.{CoreFormalPart}
 use Rattle.spx_core.specs.declared.subprogram.CorePrecondition.{CorePrecondition}
 use Rattle.spx_core.specs.declared.subprogram.Sub.{Sub}
-use Rattle.spx_core.specs.Visible.{Regions, same_word, declared_in, denoted, standard, variables_at, positions, inside, is_attribute, mode_of}
+use Rattle.spx_core.specs.declared.program.TypeRow.{TypeRow}
+use Rattle.spx_core.specs.declared.program.Var.{Var}
+use Rattle.spx_core.specs.declared.program.Program.{Program}
+use Rattle.spx_core.specs.Regions.{Region, Regions, denoted, hidden, is_declared, standard, with_declaration}
 
-infixl 10 ◌>>=◌
-abbrev pub ◌>>=◌ : {A B : Type 0} → Option A → (A → Option B) → Option B
-x >>= f = option_and_then f x
+-- ---- names and expressions
 
--- what is found for each item, behind what is found already
-unfoldable pub each : {A B : Type 0} → (A → Option B) → List B → List A → Option (List B)
-each f found [] = Some found
-each f found (x ∷ xs) = f x >>= λ y. each f (found ++ y ∷ []) xs
+abbrev pub resolved_name : Regions → Identifier → CoreName
+resolved_name regions name = record { name = name; entity = denoted regions name.text }
 
--- Names.
+-- where a variable or a type is needed
+abbrev pub resolved_reference : Regions → Name → Reference
+resolved_reference regions (Simple name) = record { root = resolved_name regions name; way = [] }
+resolved_reference regions (Attribute prefix designator) = record { root = resolved_name regions prefix; way = step.Attribute designator ∷ [] }
 
-unfoldable pub resolved_name : Regions → Identifier → Option CoreName
-resolved_name regions name = option_map (λ (e : Entity). record { name = name; entity = e }) (denoted regions name.text)
-
-abbrev pub if_variable : CoreName → Entity → Option CoreName
-if_variable name (entity.Variable var) = Some name
-if_variable name _ = None
-
-abbrev pub if_type : CoreName → Entity → Option CoreName
-if_type name (entity.TypeName type) = Some name
-if_type name _ = None
-
--- an attribute is no variable and no type
-unfoldable pub resolved_variable : Regions → Name → Option CoreName
-resolved_variable regions (Simple name) = do
-  resolved ← resolved_name regions name
-  if_variable resolved resolved.entity
-resolved_variable regions (Attribute prefix designator) = None
-
-unfoldable pub resolved_type : Regions → Name → Option CoreName
-resolved_type regions (Simple name) = do
-  resolved ← resolved_name regions name
-  if_type resolved resolved.entity
-resolved_type regions (Attribute prefix designator) = None
-
-abbrev pub resolved_variables : Regions → List Name → Option (List CoreName)
-resolved_variables regions names = each (resolved_variable regions) [] names
-
--- Expressions and statements.
-
-unfoldable pub resolved_attribute : Regions → Identifier → Identifier → Option CoreExpr
-resolved_attribute regions prefix designator = do
-  resolved ← resolved_type regions (Simple prefix)
-  if is_attribute designator.text then Some (expr.Attribute resolved designator) else None
-
--- a name that has a value
-unfoldable pub resolved_value : Regions → Name → Option CoreExpr
-resolved_value regions (Simple name) = option_map (λ (n : CoreName). expr.Name n) (resolved_variable regions (Simple name))
-resolved_value regions (Attribute prefix designator) = resolved_attribute regions prefix designator
+-- where a value is needed
+abbrev pub resolved_value : Regions → Name → CoreExpr
+resolved_value regions (Simple name) = expr.Name (resolved_name regions name)
+resolved_value regions (Attribute prefix designator) = expr.Attribute (resolved_name regions prefix) designator
 
 -- one level, whose parts are resolved
-abbrev pub expr_step : Regions → Expr-F (Option CoreExpr) → Option CoreExpr
-expr_step regions (Expr-F.Number value place) = Some (expr.Number value place)
+abbrev pub expr_step : Regions → Expr-F CoreExpr → CoreExpr
+expr_step regions (Expr-F.Number value place) = expr.Number value place
 expr_step regions (Expr-F.Name name) = resolved_value regions name
-expr_step regions (Expr-F.Parenthesized place inner) = option_map (λ (a : CoreExpr). expr.Parenthesized place a) inner
-expr_step regions (Expr-F.Prefix op place operand) = option_map (λ (a : CoreExpr). expr.Prefix op place a) operand
-expr_step regions (Expr-F.Infix op place left right) = left >>= λ a. right >>= λ b. Some (expr.Infix op place a b)
+expr_step regions (Expr-F.Parenthesized place inner) = expr.Parenthesized place inner
+expr_step regions (Expr-F.Prefix op place operand) = expr.Prefix op place operand
+expr_step regions (Expr-F.Infix op place left right) = expr.Infix op place left right
 
-abbrev pub resolved_expr : Regions → Expr → Option CoreExpr
-resolved_expr regions = fold-Expr (Option CoreExpr) (expr_step regions)
+abbrev pub resolved_expr : Regions → Expr → CoreExpr
+resolved_expr regions = fold-Expr CoreExpr (expr_step regions)
 
-unfoldable pub resolved_stmt : Regions → Stmt → Option CoreStmt
-resolved_stmt regions (stmt.Null place) = Some (Null place)
-resolved_stmt regions (stmt.Assignment target value) = do
-  variable ← resolved_variable regions target
-  resolved ← resolved_expr regions value
-  Some (Assignment variable resolved)
+-- ---- statements and annotations
 
--- Annotations.
+abbrev pub resolved_stmt : Regions → Stmt → CoreStmt
+resolved_stmt regions (written_stmt.Null place) = stmt.Null place
+resolved_stmt regions (written_stmt.Assignment target value) = stmt.Assignment (resolved_reference regions target) (resolved_expr regions value)
 
-unfoldable pub resolved_item : Regions → DerivesItem → Option CoreDerivesItem
-resolved_item regions item = do
-  exports ← resolved_variables regions item.exports
-  imports ← resolved_variables regions item.imports.names
-  Some (record { exports = exports; itself = item.imports.itself; imports = imports })
+abbrev pub resolved_item : Regions → DerivesItem → CoreDerivesItem
+resolved_item regions item =
+    record { exports = map (resolved_reference regions) item.exports; itself = item.imports.itself; imports = map (resolved_reference regions) item.imports.names }
 
-unfoldable pub resolved_derives : Regions → Option Derives → Option (Option CoreDerives)
-resolved_derives regions None = Some None
-resolved_derives regions (Some derives) = do
-  items ← each (resolved_item regions) [] derives.items
-  Some (Some (record { place = derives.place; items = items }))
+abbrev pub resolved_derives : Regions → Derives → CoreDerives
+resolved_derives regions derives = record { place = derives.place; items = map (resolved_item regions) derives.items }
 
-unfoldable pub resolved_pre : Regions → Option Precondition → Option (Option CorePrecondition)
-resolved_pre regions None = Some None
-resolved_pre regions (Some pre) = do
-  condition ← resolved_expr regions pre.condition
-  Some (Some (record { place = pre.place; condition = condition }))
+abbrev pub resolved_pre : Regions → Precondition → CorePrecondition
+resolved_pre regions pre = record { place = pre.place; condition = resolved_expr regions pre.condition }
 
--- Declarations.
+-- ---- declared names
 
--- of the variables so far, those from `first` on are the subprogram's own
-unfoldable pub is_declared : ℕ → List Var → List ℕ → Bool
-is_declared first vars word = is_some (declared_in standard word) || is_some (declared_in (variables_at first (drop first vars)) word)
+-- the subtype that a name denotes; where it denotes none, a rule is broken, and it counts as `Integer`
+abbrev pub subtype_of : Option Entity → Subtype
+subtype_of (Some (entity.TypeName subtype)) = subtype
+subtype_of _ = INTEGER
 
-unfoldable pub declared : ℕ → VarKind → List Var → Identifier → Option (List Var)
-declared first kind vars name = if is_declared first vars name.text then None else Some (vars ++ record { name = name.text; kind = kind; type_id = type.Integer } ∷ [])
+-- what is declared of the objects of a declaration with this type name
+abbrev pub object_of : VarKind → Reference → Object
+object_of kind type_name = record { kind = kind; subtype = subtype_of type_name.root.entity }
 
-unfoldable pub all_declared : ℕ → VarKind → List Var → List Identifier → Option (List Var)
-all_declared first kind vars [] = Some vars
-all_declared first kind vars (name ∷ names) = declared first kind vars name >>= λ more. all_declared first kind more names
+-- the variable at this position
+abbrev pub variable_at : ℕ → Object → Entity
+variable_at position object = entity.Variable (record { 0 = position }) object
 
--- a subprogram's own regions, and those around them
-abbrev pub regions_of : ℕ → List ℕ → ℕ → List Var → Regions
-regions_of sub name first vars = inside sub name first (drop first vars)
+-- a name that is declared in a region
+abbrev pub defining : Region → Entity → Identifier → Defining
+defining region entity name = record { name = name; entity = entity; again = is_declared region name.text }
 
--- The subprogram at the position `sub`, of this name.
-module _ (sub : ℕ) (name : List ℕ) (first : ℕ) where
-  -- names of this kind, and their type
-  unfoldable pub resolved_names : VarKind → List Var → List Identifier → Name → Option (CoreName × List Var)
-  resolved_names kind vars names type_name = do
-    more ← all_declared first kind vars names
-    resolved ← resolved_type (regions_of sub name first more) type_name
-    Some (resolved, more)
+-- a region with what a name declares
+abbrev pub declaring : Region → Defining → Region
+declaring region d = with_declaration (record { word = d.name.text; entity = Some d.entity }) region
 
-  unfoldable pub resolved_param : List Var → Param → Option (CoreParam × List Var)
-  resolved_param vars param = do
-    declared ← resolved_names (Formal (mode_of param.mode)) vars param.names param.type_name
-    Some (record { names = param.names; mode = param.mode; type_name = declared.0 }, declared.1)
+abbrev pub declaring_all : Region → List Defining → Region
+declaring_all region [] = region
+declaring_all region (d ∷ ds) = declaring_all (declaring region d) ds
 
-  unfoldable pub resolved_params : List CoreParam → List Var → List Param → Option (List CoreParam × List Var)
-  resolved_params found vars [] = Some (found, vars)
-  resolved_params found vars (param ∷ params) = resolved_param vars param >>= λ r. resolved_params (found ++ r.0 ∷ []) r.1 params
+-- names of variables, the first of which has this position
+abbrev pub defining_all : Region → Object → ℕ → List Identifier → List Defining
+defining_all region object position [] = []
+defining_all region object position (name ∷ names) =
+    defining region (variable_at position object) name ∷ defining_all (declaring region (defining region (variable_at position object) name)) object (position + 1) names
 
-  unfoldable pub resolved_formal_part : List Var → Option FormalPart → Option (Option CoreFormalPart × List Var)
-  resolved_formal_part vars None = Some (None, vars)
-  resolved_formal_part vars (Some part) = do
-    params ← resolved_params [] vars part.params
-    Some (Some (record { place = part.place; params = params.0 }), params.1)
+-- ---- declarations
 
-  unfoldable pub resolved_decl : List Var → Decl → Option (CoreDecl × List Var)
-  resolved_decl vars (decl.Variables names type_name) = do
-    declared ← resolved_names Local vars names type_name
-    Some (Variables names declared.0, declared.1)
+-- no mode means `in` (Ada 95 RM 6.1)
+abbrev pub mode_of : WrittenMode → Mode
+mode_of written.Unwritten = mode.In
+mode_of written.In = mode.In
+mode_of written.Out = mode.Out
+mode_of written.InOut = mode.InOut
 
-  unfoldable pub resolved_decls : List CoreDecl → List Var → List Decl → Option (List CoreDecl × List Var)
-  resolved_decls found vars [] = Some (found, vars)
-  resolved_decls found vars (decl ∷ decls) = resolved_decl vars decl >>= λ r. resolved_decls (found ++ r.0 ∷ []) r.1 decls
+-- the names that a declaration declares
+abbrev pub declared_by : CoreDecl → List Defining
+declared_by (decl.Variables names type_name) = names
 
--- Subprograms.
+-- formals with this type name
+abbrev pub param_of : Region → ℕ → Param → Reference → CoreParam
+param_of region position param type_name =
+    record { names = defining_all region (object_of (Formal (mode_of param.mode)) type_name) position param.names; mode = param.mode; type_name = type_name }
 
-unfoldable pub resolved_end : Identifier → Option Identifier → Option (Option Identifier)
-resolved_end name None = Some None
-resolved_end name (Some end_name) = if same_word name.text end_name.text then Some (Some end_name) else None
+-- variables with this type name
+abbrev pub variables_of : Region → ℕ → List Identifier → Reference → CoreDecl
+variables_of region position names type_name = decl.Variables (defining_all region (object_of Local type_name) position names) type_name
 
--- what stands between the formals and the declarations
-unfoldable pub resolved_annotations : Regions → Subprogram → Option (Option CoreDerives × Option CorePrecondition)
-resolved_annotations regions sub = do
-  derives ← resolved_derives regions sub.derives
-  pre ← resolved_pre regions sub.pre
-  Some (derives, pre)
+-- The declarations of a region inside others: each sees those before it, and not itself. The first variable has this position.
+module _ (outer : Regions) where
+  abbrev pub resolved_param : Region → ℕ → Param → CoreParam
+  resolved_param region position param = param_of region position param (resolved_reference (hidden param.names ∷ region ∷ outer) param.type_name)
 
--- what stands behind the declarations
-unfoldable pub resolved_statements : Regions → Subprogram → Option (List CoreStmt × Option Identifier)
-resolved_statements regions sub = do
-  statements ← each (resolved_stmt regions) [] sub.statements
-  end_name ← resolved_end sub.name sub.end_name
-  Some (statements, end_name)
+  abbrev pub resolved_params : Region → ℕ → List Param → List CoreParam
+  resolved_params region position [] = []
+  resolved_params region position (p ∷ ps) =
+      resolved_param region position p
+      ∷ resolved_params (declaring_all region (resolved_param region position p).names) (position + length (resolved_param region position p).names) ps
 
-unfoldable pub is_taken : List Sub → List ℕ → Bool
-is_taken subs word = is_some (declared_in standard word) || list_any (λ (sub : Sub). same_word sub.name.text word) subs
+  abbrev pub resolved_decl : Region → ℕ → Decl → CoreDecl
+  resolved_decl region position (written_decl.Variables names type_name) =
+      variables_of region position names (resolved_reference (hidden names ∷ region ∷ outer) type_name)
 
--- the subprogram at the position `position`, whose variables stand behind these
-unfoldable pub resolved_body : ℕ → List Var → Subprogram → Option (Sub × List Var)
-resolved_body position vars sub = do
-  head ← resolved_formal_part position sub.name.text (length vars) vars sub.formal_part
-  annotations ← resolved_annotations (regions_of position sub.name.text (length vars) head.1) sub
-  part ← resolved_decls position sub.name.text (length vars) [] head.1 sub.declarations
-  body ← resolved_statements (regions_of position sub.name.text (length vars) part.1) sub
-  Some (
-    record {
-      place = sub.place;
-      name = sub.name;
-      formal_part = head.0;
-      formals = positions (length vars) (drop (length vars) head.1);
-      derives = annotations.0;
-      pre = annotations.1;
-      declarations = part.0;
-      locals = positions (length head.1) (drop (length head.1) part.1);
-      statements = body.0;
-      end = sub.end;
-      end_name = body.1;
-    },
-    part.1,
-  )
+  abbrev pub resolved_decls : Region → ℕ → List Decl → List CoreDecl
+  resolved_decls region position [] = []
+  resolved_decls region position (d ∷ ds) =
+      resolved_decl region position d
+      ∷ resolved_decls (declaring_all region (declared_by (resolved_decl region position d))) (position + length (declared_by (resolved_decl region position d))) ds
 
-unfoldable pub resolved_sub : List Sub → List Var → Subprogram → Option (Sub × List Var)
-resolved_sub others vars sub = if is_taken others sub.name.text then None else resolved_body (length others) vars sub
+-- what these declare
+abbrev pub declared_by_params : List CoreParam → List Defining
+declared_by_params params = flat_map (λ (param : CoreParam). param.names) params
 
--- Programs.
+abbrev pub declared_by_decls : List CoreDecl → List Defining
+declared_by_decls decls = flat_map declared_by decls
 
-unfoldable pub resolved_units : List Sub → List Var → List Unit → Option Program
-resolved_units subs vars [] = Some (record { vars = vars; subs = subs })
-resolved_units subs vars (unit.Subprogram sub ∷ units) = resolved_sub subs vars sub >>= λ r. resolved_units (subs ++ r.0 ∷ []) r.1 units
+-- ---- subprograms
 
-unfoldable pub resolved : List Unit → Option Program
-resolved units = resolved_units [] [] units
+abbrev pub params_of : Option CoreFormalPart → List CoreParam
+params_of None = []
+params_of (Some part) = part.params
+
+abbrev pub formal_names : Sub → List Defining
+formal_names sub = declared_by_params (params_of sub.formal_part)
+
+abbrev pub local_names : Sub → List Defining
+local_names sub = declared_by_decls sub.declarations
+
+-- so many variables, from this position on
+abbrev pub positions : ℕ → List Defining → List VarId
+positions position [] = []
+positions position (d ∷ ds) = record { 0 = position } ∷ positions (position + 1) ds
+
+-- around the formal part: there the name of the subprogram is hidden
+abbrev pub around_formals : Identifier → Regions
+around_formals name = hidden (name ∷ []) ∷ standard ∷ []
+
+-- around annotations and body
+abbrev pub around_body : Defining → Regions
+around_body name = declaring [] name ∷ standard ∷ []
+
+abbrev pub resolved_formal_part : Identifier → ℕ → FormalPart → CoreFormalPart
+resolved_formal_part name position part = record { place = part.place; params = resolved_params (around_formals name) [] position part.params }
+
+-- the subprogram of which these parts are resolved, and whose first variable has this position
+abbrev pub sub_of : Defining → ℕ → Subprogram → Option CoreFormalPart → List CoreDecl → Sub
+sub_of name position s part decls = record {
+  place = s.place;
+  name = name;
+  formal_part = part;
+  derives = option_map (resolved_derives (declaring_all [] (declared_by_params (params_of part)) ∷ around_body name)) s.derives;
+  pre = option_map (resolved_pre (declaring_all [] (declared_by_params (params_of part)) ∷ around_body name)) s.pre;
+  declarations = decls;
+  statements = map (resolved_stmt (declaring_all [] (declared_by_params (params_of part) ++ declared_by_decls decls) ∷ around_body name)) s.statements;
+  end = s.end;
+  end_name = s.end_name;
+  vars = positions position (declared_by_params (params_of part) ++ declared_by_decls decls);
+  formal_count = length (declared_by_params (params_of part));
+}
+
+-- its declarations are seen after the formals
+abbrev pub with_formals : Defining → ℕ → Subprogram → Option CoreFormalPart → Sub
+with_formals name position s part =
+    sub_of name position s part
+    (resolved_decls (around_body name) (declaring_all [] (declared_by_params (params_of part))) (position + length (declared_by_params (params_of part))) s.declarations)
+
+abbrev pub resolved_sub : Defining → ℕ → Subprogram → Sub
+resolved_sub name position s = with_formals name position s (option_map (resolved_formal_part s.name position) s.formal_part)
+
+-- ---- programs
+
+-- the variables that a subprogram declares
+abbrev pub var_in : List ℕ → Entity → Var
+var_in word (entity.Variable v object) = record { name = word; kind = object.kind; type_id = object.subtype.id }
+var_in word other = record { name = word; kind = Local; type_id = INTEGER.id }
+
+abbrev pub var_of : Defining → Var
+var_of d = var_in d.name.text d.entity
+
+abbrev pub own_vars : Sub → List Var
+own_vars sub = map var_of (formal_names sub ++ local_names sub)
+
+-- the name of the unit at this position, after those before it
+abbrev pub unit_name : Region → ℕ → Subprogram → Defining
+unit_name library position s = defining library (entity.Subprogram (record { 0 = position })) s.name
+
+-- the units from a position on, whose variables stand after so many; the library has the names of the units before them
+abbrev pub resolved_subs : Region → ℕ → ℕ → List Unit → List Sub
+resolved_subs library position first [] = []
+resolved_subs library position first (unit.Subprogram s ∷ units) =
+    resolved_sub (unit_name library position s) first s
+    ∷ resolved_subs (declaring library (unit_name library position s)) (position + 1) (first + length (own_vars (resolved_sub (unit_name library position s) first s))) units
+
+-- the predefined types
+abbrev pub standard_types : List TypeRow
+standard_types = record { name = codes "Integer"; subtype = INTEGER } ∷ []
+
+abbrev pub program_of : List Sub → Program
+program_of subs = record { types = standard_types; vars = flat_map own_vars subs; subs = subs }
+
+abbrev pub resolved : List Unit → Program
+resolved units = program_of (resolved_subs [] 0 0 units)

@@ -1,18 +1,20 @@
 // The dependency relation of a subprogram.
 ghost use Rattle.std.specs.Prelude.{◌≡◌};
-ghost use Rattle.spx_core.specs.Dependency.{has_export, has_import, has_pair, relation, exports, imports, derives};
+ghost use Rattle.std.specs.List.{list_any};
+ghost use Rattle.spx_core.specs.Dependency.{relation, exports, imports, derives};
+ghost use Rattle.spx_core.specs.DerivesItems.{has_export, has_import, has_pair};
 
-use crate::expression::mentions;
-use crate::{CoreName, Sub, VarId};
+use crate::name::mentions;
+use crate::{Reference, Sub, VarId};
 use spx_text::Place;
 use sqlite_items::Items;
 
 /// `exports from imports`; `itself` is the place of `*`, which stands for the export itself.
 #[derive(Debug, Drop)]
 pub struct CoreDerivesItem {
-    pub exports: Items<CoreName>,
+    pub exports: Items<Reference>,
     pub itself: Option<Place>,
-    pub imports: Items<CoreName>,
+    pub imports: Items<Reference>,
 }
 
 /// The dependency relation of a subprogram, at the word `derives`.
@@ -44,6 +46,24 @@ impl CoreDerivesItem {
     }
 }
 
+fn any_export(items: &[CoreDerivesItem], var: VarId) -> bool
+    ensures { result ≡ list_any (has_export var) items.now }
+{
+    items.iter().any(|item| item.has_export(var))
+}
+
+fn any_import(items: &[CoreDerivesItem], var: VarId) -> bool
+    ensures { result ≡ list_any (has_import var) items.now }
+{
+    items.iter().any(|item| item.has_import(var))
+}
+
+fn any_pair(items: &[CoreDerivesItem], import: VarId, export: VarId) -> bool
+    ensures { result ≡ list_any (has_pair import export) items.now }
+{
+    items.iter().any(|item| item.has_pair(import, export))
+}
+
 impl Sub {
     /// The items of the dependency relation. A subprogram without one derives nothing.
     pub fn relation(&self) -> &[CoreDerivesItem]
@@ -59,22 +79,20 @@ impl Sub {
     pub fn exports(&self, var: VarId) -> bool
         ensures { result ≡ exports var self.now }
     {
-        self.relation().iter().any(|item| item.has_export(var))
+        any_export(self.relation(), var)
     }
 
     /// Whether the variable is imported.
     pub fn imports(&self, var: VarId) -> bool
         ensures { result ≡ imports var self.now }
     {
-        self.relation().iter().any(|item| item.has_import(var))
+        any_import(self.relation(), var)
     }
 
     /// Whether the export is declared to be derived from the import.
     pub fn derives(&self, import: VarId, export: VarId) -> bool
         ensures { result ≡ derives import export self.now }
     {
-        self.relation()
-            .iter()
-            .any(|item| item.has_pair(import, export))
+        any_pair(self.relation(), import, export)
     }
 }

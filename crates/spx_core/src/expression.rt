@@ -1,27 +1,12 @@
-// Resolved names, expressions and statements.
+// Resolved expressions (Ada 95 RM 4.4).
 ghost use Rattle.std.specs.Prelude.{◌≡◌};
 ghost use Rattle.spx_core.specs.Places.{place_of};
-ghost use Rattle.spx_core.specs.Uses.{denotes, mentions, uses};
+ghost use Rattle.spx_core.specs.Uses.{uses};
 
-use crate::{SubId, TypeId, VarId};
+use crate::{CoreName, VarId};
 use spx_text::Place;
 use spx_tree::{Identifier, InfixOp, PrefixOp};
 use sqlite_items::Boxed;
-
-/// What a name denotes.
-#[derive(Clone, Copy, Debug, PartialEq, Eq)]
-pub enum Entity {
-    TypeName(TypeId),
-    Variable(VarId),
-    Subprogram(SubId),
-}
-
-/// A name as it is written, and what it denotes.
-#[derive(Debug, Drop)]
-pub struct CoreName {
-    pub name: Identifier,
-    pub entity: Entity,
-}
 
 /// An expression. Places are those of the tree that it comes from.
 #[derive(Debug, Drop)]
@@ -34,34 +19,6 @@ pub enum CoreExpr {
     Parenthesized(Place, Boxed<CoreExpr>),
     Prefix(PrefixOp, Place, Boxed<CoreExpr>),
     Infix(InfixOp, Place, Boxed<CoreExpr>, Boxed<CoreExpr>),
-}
-
-/// A statement whose names stand with what they denote.
-#[derive(Debug, Drop)]
-pub enum CoreStmt {
-    /// At the word `null`.
-    Null(Place),
-    /// The target and the right side.
-    Assignment(CoreName, CoreExpr),
-}
-
-impl CoreName {
-    /// Whether the name denotes the variable.
-    pub fn denotes(&self, var: VarId) -> bool
-        ensures { result ≡ denotes var self.now }
-    {
-        match self.entity {
-            Entity::Variable(other) => other.0 == var.0,
-            _ => false,
-        }
-    }
-}
-
-/// Whether one of the names denotes the variable.
-pub fn mentions(names: &[CoreName], var: VarId) -> bool
-    ensures { result ≡ mentions var names.now }
-{
-    names.iter().any(|name| name.denotes(var))
 }
 
 impl CoreExpr {
@@ -81,6 +38,7 @@ impl CoreExpr {
 
     /// Whether the variable is read where the expression is evaluated.
     #[cycle(uses)]
+    #[tactic(auto, using(crate::proofs::Callers::ReadsLaws::uses_forms))]
     pub fn uses(&self, var: VarId) -> bool
         ensures { result ≡ uses var self.now }
     {

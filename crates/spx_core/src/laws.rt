@@ -1,32 +1,60 @@
 // Laws of the definitions, each as the contract of a function that does nothing.
-ghost use Rattle.std.specs.Prelude.{◌≡◌, List, Some, None};
+ghost use Rattle.std.specs.Prelude.{◌≡◌, ◌↔◌, All, List, None, Ok};
 ghost use Rattle.spx_tree.specs.declared.subprogram.Unit.{Unit};
+ghost use Rattle.spx_core.specs.declared.expression.CoreExpr.{CoreExpr};
 ghost use Rattle.spx_core.specs.declared.program.Program.{Program};
-ghost use Rattle.spx_core.specs.Erase.{erased};
-ghost use Rattle.spx_core.specs.Flow.{ExportsAreSet, FlowsCompose, FlowsKeep, ReadsAreSet};
-ghost use Rattle.spx_core.specs.Reads.{UsesAreNames};
+ghost use Rattle.spx_core.specs.declared.rule.Typing.{Typing};
+ghost use Rattle.spx_core.specs.Erased.{Visible, erased};
 ghost use Rattle.spx_core.specs.Resolved.{resolved};
-ghost use Rattle.spx_core.specs.Typed.{Typed};
-ghost use Rattle.spx_core.specs.Visible.{Visible};
-ghost use Rattle.spx_core.specs.Walk.{first_name_breach};
+ghost use Rattle.spx_core.specs.Judged.{judged};
+ghost use Rattle.spx_core.specs.HasType.{HasType};
+ghost use Rattle.spx_core.specs.Statements.{Typed, first_name_breach};
+ghost use Rattle.spx_core.specs.Scopes.{Scoped};
+ghost use Rattle.spx_core.specs.Obeyed.{Obeys, first_rule_breach};
+ghost use Rattle.spx_core.specs.Rules.{ObeysRules};
+ghost use Rattle.spx_core.specs.Flow.{ExportsAreSet, FlowsCompose, FlowsKeep, ReadsAreSet};
 
-/// At most one program is made from units.
-#[tactic(auto, using(crate::proofs::Programs::one_program_lem))]
+/// Resolution adds to units what their names denote, and nothing else.
+#[tactic(auto, using(crate::proofs::Erasure::keeps_units, crate::proofs::Erasure::visible))]
+pub fn resolution()
+    ensures keeps_units { (units : List Unit) → erased (resolved units) ≡ units }
+    ensures visible { (units : List Unit) → Visible (resolved units) }
+{}
+
+/// Units have at most one program in which each name stands with what it denotes.
+#[tactic(auto, using(crate::proofs::Erasure::one))]
 pub fn one_program()
     ensures { (p q : Program) → Visible p → Visible q → erased p ≡ erased q → p ≡ q }
 {}
 
-/// What is found for units is the program that is made from them.
-#[tactic(auto, using(crate::proofs::Programs::visible_is_found))]
-pub fn resolution()
-    ensures sound { (units : List Unit) (p : Program) → resolved units ≡ Some p → (erased p ≡ units) × Visible p }
-    ensures complete { (p : Program) → Visible p → resolved (erased p) ≡ Some p }
-{}
-
-/// The walk finds no broken rule exactly where the units are a program whose types fit.
+/// Units break no rule on names or types where they have a program that breaks none, and only there.
+#[tactic(auto, using(crate::proofs::Erasure::no_breach, crate::proofs::Erasure::breach_free))]
 pub fn name_breaches()
     ensures none { (units : List Unit) → first_name_breach units ≡ None → (p : Program) × (erased p ≡ units) × Visible p × Typed p }
     ensures kept { (p : Program) → Visible p → Typed p → first_name_breach (erased p) ≡ None }
+{}
+
+/// An expression is judged to be exactly what it has a derivation of.
+#[tactic(auto, using(crate::proofs::TypedLaws::sound, crate::proofs::TypedLaws::complete))]
+pub fn types_are_derived()
+    ensures sound { (e : CoreExpr) (t : Typing) → judged e ≡ Ok t → HasType e t }
+    ensures complete { (e : CoreExpr) (t : Typing) → HasType e t → judged e ≡ Ok t }
+{}
+
+/// The names of a subprogram denote the variables that it declares, each with what is declared of it.
+pub fn names_are_scoped()
+    ensures { (p : Program) → Visible p → All (Scoped p) p.subs }
+{}
+
+/// A rule on variables is broken first, unless none is.
+#[tactic(auto, unfolding(crate::specs::Obeyed::first_rule_breach))]
+pub fn rule_breaches()
+    ensures { (p : Program) → (first_rule_breach p ≡ None) ↔ Obeys p }
+{}
+
+/// In a program that breaks no rule on variables, each subprogram is as the rules say.
+pub fn rules_hold()
+    ensures { (p : Program) → Visible p → Obeys p → All (ObeysRules p) p.subs }
 {}
 
 /// The flows of a list are those of two parts that it is cut into, one after the other; to a variable that no statement
@@ -41,9 +69,4 @@ pub fn flows_of_lists()
 pub fn variables_are_set()
     ensures reads { ReadsAreSet }
     ensures exports { ExportsAreSet }
-{}
-
-/// An expression reads the variables that its names denote.
-pub fn uses_are_names()
-    ensures { UsesAreNames }
 {}

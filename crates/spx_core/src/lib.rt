@@ -1,19 +1,30 @@
-//! Resolved programs: the trees in which each name stands with the entity that it denotes.
+//! Resolved programs: the trees in which each name stands with what it denotes where it stands, and each declared name
+//! with what it declares; and the definitions of resolution (`resolved`), of types and static values (`judged`), of the
+//! rules on names and types (`judged_program`) and on variables (`obeyed`), of flow, and of the units that a program is
+//! made from (`erased`).
 //!
-//! Trees are plain data: a contract sees a tree as what it holds.
+//! Trees are plain data: a contract sees a tree as what it holds. A name keeps the facts of its declaration, so that no
+//! rule looks into a table.
 #![tactic(auto)]
 
-mod declaration;
 mod dependency;
+mod entity;
 mod expression;
 pub mod laws;
+mod name;
 mod program;
 mod rule;
+mod statement;
 mod subprogram;
 
-pub use declaration::CoreDecl;
 pub use dependency::{CoreDerives, CoreDerivesItem};
-pub use expression::{CoreExpr, CoreName, CoreStmt, Entity, mentions};
-pub use program::{INTEGER_FIRST, INTEGER_LAST, Program, SubId, TypeId, Var, VarId, VarKind};
-pub use rule::{Breach, RuleName};
-pub use subprogram::{CoreFormalPart, CoreParam, CorePrecondition, Mode, Sub};
+pub use entity::{
+    BaseType, Entity, INTEGER, INTEGER_FIRST, INTEGER_LAST, Mode, Object, SubId, Subtype, TypeId,
+    VarId, VarKind, variable_of,
+};
+pub use expression::CoreExpr;
+pub use name::{CoreName, Defining, Reference, Step, mentions};
+pub use program::{Program, TypeRow, Var};
+pub use rule::{Breach, ExprType, RuleName, Typing};
+pub use statement::{CoreDecl, CoreStmt};
+pub use subprogram::{CoreFormalPart, CoreParam, CorePrecondition, Sub};

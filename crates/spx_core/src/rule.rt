@@ -1,5 +1,6 @@
 // The names of rules, and where one is broken.
 
+use crate::BaseType;
 use spx_text::Place;
 
 /// The names under which findings are reported.
@@ -49,5 +50,24 @@ pub enum RuleName {
 #[derive(Clone, Copy, Debug, PartialEq, Eq)]
 pub struct Breach {
     pub rule: RuleName,
+    pub place: Place,
+}
+
+/// The type of an expression (Ada 95 RM 3.4.1).
+#[derive(Clone, Copy, Debug, PartialEq, Eq)]
+pub enum ExprType {
+    /// That of literals and of operations over them.
+    Universal,
+    Boolean,
+    /// A base type.
+    Of(BaseType),
+}
+
+/// What is known of an expression that breaks no rule.
+#[derive(Clone, Copy, Debug, PartialEq, Eq)]
+pub struct Typing {
+    pub of: ExprType,
+    /// Its value, where it is static (Ada 95 RM 4.9). A truth value is its position: 0 for false, 1 for true.
+    pub value: Option<i128>,
     pub place: Place,
 }

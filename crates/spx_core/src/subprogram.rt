@@ -1,24 +1,18 @@
-// Resolved subprograms.
+// Resolved subprograms (Ada 95 RM 6).
+ghost use Rattle.std.specs.Prelude.{◌≡◌};
+ghost use Rattle.spx_core.specs.Formals.{formals, locals};
 
-use crate::{CoreDecl, CoreDerives, CoreExpr, CoreName, CoreStmt, VarId};
+use crate::{CoreDecl, CoreDerives, CoreExpr, CoreStmt, Defining, Reference, VarId};
 use spx_text::Place;
 use spx_tree::{Identifier, WrittenMode};
 use sqlite_items::Items;
 
-/// The mode of a formal parameter (Ada 95 RM 6.1).
-#[derive(Clone, Copy, Debug, PartialEq, Eq)]
-pub enum Mode {
-    In,
-    Out,
-    InOut,
-}
-
 /// `names : mode type_name`
 #[derive(Debug, Drop)]
 pub struct CoreParam {
-    pub names: Items<Identifier>,
+    pub names: Items<Defining>,
     pub mode: WrittenMode,
-    pub type_name: CoreName,
+    pub type_name: Reference,
 }
 
 /// `( params )`, at the parenthesis.
@@ -39,17 +33,35 @@ pub struct CorePrecondition {
 #[derive(Debug, Drop)]
 pub struct Sub {
     pub place: Place,
-    pub name: Identifier,
+    pub name: Defining,
     pub formal_part: Option<CoreFormalPart>,
-    /// The formals, one by one.
-    pub formals: Items<VarId>,
     pub derives: Option<CoreDerives>,
     pub pre: Option<CorePrecondition>,
     pub declarations: Items<CoreDecl>,
-    /// The local variables, one by one.
-    pub locals: Items<VarId>,
     pub statements: Items<CoreStmt>,
     /// The place of the word `end`.
     pub end: Place,
     pub end_name: Option<Identifier>,
+    /// Its variables, one by one: the formals, then the locals.
+    pub vars: Items<VarId>,
+    /// How many of the variables are formals.
+    pub formal_count: usize,
+}
+
+impl Sub {
+    /// The formals, one by one.
+    pub fn formals(&self) -> &[VarId]
+        ensures { result.now ≡ formals self.now }
+    {
+        let vars = self.vars.as_slice();
+        &vars[..self.formal_count.min(vars.len())]
+    }
+
+    /// The local variables, one by one.
+    pub fn locals(&self) -> &[VarId]
+        ensures { result.now ≡ locals self.now }
+    {
+        let vars = self.vars.as_slice();
+        &vars[self.formal_count.min(vars.len())..]
+    }
 }

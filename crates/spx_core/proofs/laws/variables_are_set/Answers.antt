@@ -1,4 +1,4 @@
-use Rattle.spx_core.proofs.FlowLaws.{reads_are_set, exports_are_set}
+use Rattle.spx_core.proofs.Callers.FlowLaws.{reads_are_set, exports_are_set}
 use Rattle.spx_core.proofs.laws.variables_are_set.Goals as goal
 
 pub returns-clause-reads : goal.returns-clause-reads

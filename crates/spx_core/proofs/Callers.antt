@@ -1,0 +1,7 @@
+-- The lemmas that crates above cite.
+pub mod ListTests
+pub mod Variables
+pub mod Expressions
+pub mod ReadsLaws
+pub mod Pairs
+pub mod FlowLaws

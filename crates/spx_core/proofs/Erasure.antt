@@ -1,0 +1,161 @@
+-- Resolution adds to the units what names denote, and nothing else.
+use Rattle.std.proofs.Common.{◌≡◌, ℕ, ◌+◌, List, [], ◌∷◌, ◌++◌, length, map, Option, Some, None, option_map, ap, ap₂, ◌∙◌, sym, subst, refl}
+use denote.Hole.Carrier.{roll}
+use Rattle.spx_tree.specs.declared.expression.Identifier.{Identifier}
+use Rattle.spx_tree.specs.declared.expression.Name.{Name}
+use Rattle.spx_tree.specs.declared.expression.Name.TheVariants.{Simple, Attribute}
+use Rattle.spx_tree.specs.declared.expression.Expr.{Expr, Expr-F, roll-Expr, map-Expr, ind-Expr, fold-roll-Expr}
+use Rattle.spx_tree.specs.declared.expression.Expr.TheVariants as expr
+use Rattle.spx_tree.specs.declared.declaration.Decl.{Decl}
+use Rattle.spx_tree.specs.declared.declaration.Decl.TheVariants as decl
+use Rattle.spx_tree.specs.declared.statement.Stmt.{Stmt}
+use Rattle.spx_tree.specs.declared.statement.Stmt.TheVariants as stmt
+use Rattle.spx_tree.specs.declared.annotation.DerivesItem.{DerivesItem}
+use Rattle.spx_tree.specs.declared.annotation.Derives.{Derives}
+use Rattle.spx_tree.specs.declared.annotation.Precondition.{Precondition}
+use Rattle.spx_tree.specs.declared.subprogram.Param.{Param}
+use Rattle.spx_tree.specs.declared.subprogram.FormalPart.{FormalPart}
+use Rattle.spx_tree.specs.declared.subprogram.Subprogram.{Subprogram}
+use Rattle.spx_tree.specs.declared.subprogram.Unit.{Unit}
+use Rattle.spx_tree.specs.declared.subprogram.Unit.TheVariants as unit
+use Rattle.spx_core.specs.declared.entity.Object.{Object}
+use Rattle.spx_core.specs.declared.expression.CoreExpr.{CoreExpr, CoreExpr-F, roll-CoreExpr, map-CoreExpr, fold-roll-CoreExpr}
+use Rattle.spx_core.specs.declared.program.Program.{Program}
+use Rattle.spx_core.specs.Regions.{Region, Regions, hidden}
+use Rattle.spx_core.specs.Erased.{Visible, erased, erased_decl, erased_defining, erased_derives, erased_expr, erased_formal_part, erased_item, erased_param, erased_pre, erased_reference, erased_step, erased_stmt, erased_sub, erased_unit}
+use Rattle.spx_core.specs.Judged.{breach_in}
+use Rattle.spx_core.specs.Statements.{Typed, first_name_breach, judged_program}
+use Rattle.spx_core.proofs.Judgements.{unbroken}
+use Rattle.spx_core.specs.Resolved as resolved
+use Rattle.spx_core.specs.Resolved.{around_body, around_formals, declared_by, declaring, declaring_all, defining, defining_all, formal_names, local_names, own_vars, resolved_decl, resolved_decls, resolved_derives, resolved_expr, resolved_formal_part, resolved_item, resolved_name, resolved_param, resolved_params, resolved_pre, resolved_reference, resolved_stmt, resolved_sub, resolved_subs, unit_name, variable_at}
+
+-- ---- names and expressions
+
+kept_reference : (regions : Regions) (name : Name) → erased_reference (resolved_reference regions name) ≡ name
+kept_reference regions (Simple name) = refl
+kept_reference regions (Attribute prefix designator) = refl
+
+-- an expression at one layer, without what its names denote
+erased_at : (y : CoreExpr-F CoreExpr) → erased_expr (roll-CoreExpr y) ≡ erased_step (map-CoreExpr CoreExpr Expr erased_expr y)
+erased_at y = fold-roll-CoreExpr Expr erased_step y
+
+module _ (regions : Regions) where
+  abbrev Kept : Expr → Type 0
+  Kept e = erased_expr (resolved_expr regions e) ≡ e
+
+  abbrev Shown : Type 0
+  Shown = (e : Expr) × Kept e
+
+  at_layer : (y : Expr-F Shown) → erased_expr (resolved.expr_step regions (map-Expr Expr CoreExpr (resolved_expr regions) (map-Expr Shown Expr (λ e. e.0) y))) ≡ roll-Expr (map-Expr Shown Expr (λ e. e.0) y)
+  unfolding roll-Expr roll-CoreExpr roll
+  at_layer (Expr-F.Number n place) = erased_at (CoreExpr-F.Number n place)
+  at_layer (Expr-F.Name (Simple name)) = erased_at (CoreExpr-F.Name (resolved_name regions name))
+  at_layer (Expr-F.Name (Attribute prefix designator)) = erased_at (CoreExpr-F.Attribute (resolved_name regions prefix) designator)
+  at_layer (Expr-F.Parenthesized place a) = erased_at (CoreExpr-F.Parenthesized place (resolved_expr regions a.0)) ∙ ap (expr.Parenthesized place) a.1
+  at_layer (Expr-F.Prefix op place a) = erased_at (CoreExpr-F.Prefix op place (resolved_expr regions a.0)) ∙ ap (expr.Prefix op place) a.1
+  at_layer (Expr-F.Infix op place a b) = erased_at (CoreExpr-F.Infix op place (resolved_expr regions a.0) (resolved_expr regions b.0)) ∙ ap₂ (expr.Infix op place) a.1 b.1
+
+  layer : (y : Expr-F Shown) → Kept (roll-Expr (map-Expr Shown Expr (λ e. e.0) y))
+  layer y = ap erased_expr (fold-roll-Expr CoreExpr (resolved.expr_step regions) (map-Expr Shown Expr (λ e. e.0) y)) ∙ at_layer y
+
+  kept_expr : (e : Expr) → Kept e
+  kept_expr = ind-Expr Kept (λ x y is. subst (λ z. Kept (roll-Expr z)) is (layer y))
+
+-- ---- lists and optional parts
+
+kept_each : {T C : Type 0} (back : C → T) (core : T → C) → ((t : T) → back (core t) ≡ t) → (ts : List T) → map back (map core ts) ≡ ts
+kept_each back core kept [] = refl
+kept_each {T} back core kept (t ∷ ts) = ap₂ (λ (x : T) (xs : List T). x ∷ xs) (kept t) (kept_each back core kept ts)
+
+kept_if_there : {T C : Type 0} (back : C → T) (core : T → C) → ((t : T) → back (core t) ≡ t) → (o : Option T) → option_map back (option_map core o) ≡ o
+kept_if_there back core kept None = refl
+kept_if_there back core kept (Some t) = ap Some (kept t)
+
+kept_names : (region : Region) (object : Object) (position : ℕ) (names : List Identifier) → map erased_defining (defining_all region object position names) ≡ names
+kept_names region object position [] = refl
+kept_names region object position (name ∷ names) =
+    ap (λ rest. name ∷ rest) (kept_names (declaring region (defining region (variable_at position object) name)) object (position + 1) names)
+
+-- ---- statements and annotations
+
+module _ (regions : Regions) where
+  kept_stmt : (s : Stmt) → erased_stmt (resolved_stmt regions s) ≡ s
+  kept_stmt (stmt.Null place) = refl
+  kept_stmt (stmt.Assignment target value) = ap₂ stmt.Assignment (kept_reference regions target) (kept_expr regions value)
+
+  kept_item : (item : DerivesItem) → erased_item (resolved_item regions item) ≡ item
+  kept_item item =
+      ap₂ (λ (es is : List Name). let x : DerivesItem = record { exports = es; imports = record { itself = item.imports.itself; names = is } } in x)
+      (kept_each erased_reference (resolved_reference regions) (kept_reference regions) item.exports)
+      (kept_each erased_reference (resolved_reference regions) (kept_reference regions) item.imports.names)
+
+  kept_derives : (derives : Derives) → erased_derives (resolved_derives regions derives) ≡ derives
+  kept_derives derives =
+      ap (λ (items : List DerivesItem). let x : Derives = record { place = derives.place; items = items } in x) (kept_each erased_item (resolved_item regions) kept_item derives.items)
+
+  kept_pre : (pre : Precondition) → erased_pre (resolved_pre regions pre) ≡ pre
+  kept_pre pre = ap (λ (e : Expr). let x : Precondition = record { place = pre.place; condition = e } in x) (kept_expr regions pre.condition)
+
+-- ---- declarations
+
+module _ (outer : Regions) where
+  kept_param : (region : Region) (position : ℕ) (param : Param) → erased_param (resolved_param outer region position param) ≡ param
+  kept_param region position param =
+      ap₂ (λ (names : List Identifier) (type_name : Name). let x : Param = record { names = names; mode = param.mode; type_name = type_name } in x)
+      (kept_names region _ position param.names) (kept_reference (hidden param.names ∷ region ∷ outer) param.type_name)
+
+  kept_params : (region : Region) (position : ℕ) (params : List Param) → map erased_param (resolved_params outer region position params) ≡ params
+  kept_params region position [] = refl
+  kept_params region position (p ∷ ps) = ap₂ (λ (x : Param) (xs : List Param). x ∷ xs) (kept_param region position p) (kept_params (declaring_all region (resolved_param outer region position p).names) (position + length (resolved_param outer region position p).names) ps)
+
+  kept_decl : (region : Region) (position : ℕ) (d : Decl) → erased_decl (resolved_decl outer region position d) ≡ d
+  kept_decl region position (decl.Variables names type_name) = ap₂ decl.Variables (kept_names region _ position names) (kept_reference (hidden names ∷ region ∷ outer) type_name)
+
+  kept_decls : (region : Region) (position : ℕ) (ds : List Decl) → map erased_decl (resolved_decls outer region position ds) ≡ ds
+  kept_decls region position [] = refl
+  kept_decls region position (d ∷ ds) = ap₂ (λ (x : Decl) (xs : List Decl). x ∷ xs) (kept_decl region position d) (kept_decls (declaring_all region (declared_by (resolved_decl outer region position d))) (position + length (declared_by (resolved_decl outer region position d))) ds)
+
+-- ---- subprograms and units
+
+kept_formal_part : (name : Identifier) (position : ℕ) (part : FormalPart) → erased_formal_part (resolved_formal_part name position part) ≡ part
+kept_formal_part name position part =
+    ap (λ (params : List Param). let x : FormalPart = record { place = part.place; params = params } in x) (kept_params (around_formals name) [] position part.params)
+
+kept_sub : (library : Region) (position first : ℕ) (s : Subprogram) → erased_sub (resolved_sub (unit_name library position s) first s) ≡ s
+kept_sub library position first s =
+    let name = unit_name library position s in
+    let sub = resolved_sub name first s in
+    let annotations = declaring_all [] (formal_names sub) ∷ around_body name in
+    let body = declaring_all [] (formal_names sub ++ local_names sub) ∷ around_body name in
+    let part = kept_if_there erased_formal_part (resolved_formal_part s.name first) (kept_formal_part s.name first) s.formal_part in
+    let derives = kept_if_there erased_derives (resolved_derives annotations) (kept_derives annotations) s.derives in
+    let pre = kept_if_there erased_pre (resolved_pre annotations) (kept_pre annotations) s.pre in
+    let decls = kept_decls (around_body name) (declaring_all [] (formal_names sub)) (first + length (formal_names sub)) s.declarations in
+    let stmts = kept_each erased_stmt (resolved_stmt body) (kept_stmt body) s.statements in
+    let all : erased_sub sub ≡ record { place = s.place; name = s.name; formal_part = s.formal_part; derives = s.derives; pre = s.pre; declarations = s.declarations; statements = s.statements; end = s.end; end_name = s.end_name } = cc in
+    all
+
+kept_units : (library : Region) (position first : ℕ) (units : List Unit) → map erased_unit (resolved_subs library position first units) ≡ units
+kept_units library position first [] = refl
+kept_units library position first (unit.Subprogram s ∷ units) =
+    ap₂ (λ (x : Unit) (xs : List Unit). x ∷ xs) (ap unit.Subprogram (kept_sub library position first s)) (kept_units (declaring library (unit_name library position s)) (position + 1) (first + length (own_vars (resolved_sub (unit_name library position s) first s))) units)
+
+-- without what its names denote, the program is the units that it comes from
+pub keeps_units : (units : List Unit) → erased (resolved.resolved units) ≡ units
+keeps_units units = kept_units [] 0 0 units
+
+pub visible : (units : List Unit) → Visible (resolved.resolved units)
+visible units = ap resolved.resolved (sym (keeps_units units))
+
+pub one : (p q : Program) → Visible p → Visible q → erased p ≡ erased q → p ≡ q
+one p q v w e = v ∙ ap resolved.resolved e ∙ sym w
+
+-- ---- breaches of rules on names and types
+
+pub no_breach : (units : List Unit) → first_name_breach units ≡ None → (p : Program) × (erased p ≡ units) × Visible p × Typed p
+unfolding first_name_breach
+no_breach units e = (resolved.resolved units, keeps_units units, visible units, (unbroken (judged_program (resolved.resolved units)) e).1)
+
+pub breach_free : (p : Program) → Visible p → Typed p → first_name_breach (erased p) ≡ None
+unfolding first_name_breach
+breach_free p is typed = ap (λ q. breach_in (judged_program q)) (sym is) ∙ ap breach_in typed

@@ -1,0 +1,138 @@
+-- What a program that breaks no rule on variables is.
+use Rattle.std.proofs.Common.{◌≡◌, ◌≢◌, ◌⊎◌, Bool, true, false, ◌||◌, Some, Ok, is_some, refl, sym, ap, ap₂, subst, ◌∙◌, inl, inr, ⊎_elim}
+use Rattle.std.specs.Prelude.{All, ◌&&◌, ◌==◌}
+use Rattle.std.specs.List.{list_all}
+use Rattle.std.proofs.lemmas.Bool.{and_parts, eqb-true, or_cases}
+use Rattle.std.proofs.lemmas.List.Elements.{All-contains, All-from_recursion}
+use Rattle.spx_core.specs.declared.entity.VarId.{VarId}
+use Rattle.spx_core.specs.declared.entity.Mode.{Mode}
+use Rattle.spx_core.specs.declared.entity.Mode.TheVariants.{In, Out, InOut}
+use Rattle.spx_core.specs.declared.name.CoreName.{CoreName}
+use Rattle.spx_core.specs.declared.name.Reference.{Reference}
+use Rattle.spx_core.specs.declared.dependency.CoreDerivesItem.{CoreDerivesItem}
+use Rattle.spx_core.specs.declared.statement.CoreStmt.{CoreStmt}
+use Rattle.spx_core.specs.declared.statement.CoreStmt.TheVariants.{Null, Assignment}
+use Rattle.spx_core.specs.declared.subprogram.CorePrecondition.{CorePrecondition}
+use Rattle.spx_core.specs.declared.subprogram.Sub.{Sub}
+use Rattle.spx_core.specs.declared.program.Program.{Program}
+use Rattle.spx_core.specs.declared.rule.RuleName.TheVariants.{U2, U7, U8, U11}
+use Rattle.spx_core.specs.Reads.{names_read}
+use Rattle.spx_core.specs.Uses.{denotes, mentions, uses, variable_of}
+use Rattle.spx_core.specs.Dependency.{exports, imports, relation}
+use Rattle.spx_core.specs.DerivesItems.{has_export, has_import}
+use Rattle.spx_core.specs.Flow.{assigns}
+use Rattle.spx_core.specs.Formals.{formals, is_formal, mode_of}
+use Rattle.spx_core.specs.Judged.{each, if_there}
+use Rattle.spx_core.specs.Obeyed.{Obeys, export_agrees, exports_once, import_agrees, is_imported, is_exported, is_listed, is_right_relation, may_be_assigned, mode_named, names_formals, obeyed_export, obeyed_import, obeyed_item, obeyed_pre, obeyed_relation, obeyed_stmt, obeyed_sub, pairs_once, place_or, reads_import, variable_is}
+use Rattle.spx_core.specs.Rules.{ObeysRules, agrees}
+use Rattle.spx_core.specs.Scopes.{HasItsMode, HaveTheirModes, Scoped, TargetHasItsMode}
+use Rattle.spx_core.specs.Erased.{Visible}
+use Rattle.spx_core.proofs.Judgements.{bound, each_passes, kept, passes_at}
+use Rattle.spx_core.proofs.Callers.ListTests.{all_pass, found, passes}
+use Rattle.spx_core.proofs.Callers.Pairs.{exports_are, imports_are}
+use Rattle.spx_core.proofs.Scopes.{all_scoped}
+use Rattle.spx_core.proofs.Callers.Variables.{same_is, same_var}
+
+-- ---- U2
+
+no_input : (p : Program) (v : VarId) (s : CoreStmt) → TargetHasItsMode p s → obeyed_stmt s ≡ Ok tt → assigns v s ≡ true → mode_of v p ≢ Some In
+no_input p v (Null place) its h set is = absurd (cc)
+no_input p v (Assignment target value) its h set is =
+    let e = sym (kept U2 target.root.name.place (may_be_assigned (mode_named target.root)) h) ∙ ap may_be_assigned (its v set ∙ is) in
+    absurd (cc)
+
+-- ---- U8
+
+-- the mode agrees with the relation where it agrees at each export and each import
+agreed : (mode : Mode) (imported exported : Bool) → (imported || exported) ≡ true → (exported ≡ true → (starred : Bool) × (export_agrees (Some mode) starred imported ≡ true))
+    → (imported ≡ true → (import_agrees (Some mode) exported ≡ true) ⊎ ((exported ≡ true) × (export_agrees (Some mode) true imported ≡ true))) → agrees mode imported exported ≡ true
+agreed In true false listed export import = refl
+agreed In imported true listed export import = absurd (let h = (export refl).1 in cc)
+agreed In false false listed export import = absurd (cc)
+agreed Out false true listed export import = refl
+agreed Out true exported listed export import = absurd (⊎_elim (λ h. cc) (λ h. let e = h.1 in cc) (import refl))
+agreed Out false false listed export import = absurd (cc)
+agreed InOut true true listed export import = refl
+agreed InOut false true listed export import = absurd (let h = (export refl).1 in cc)
+agreed InOut true false listed export import = absurd (⊎_elim (λ h. cc) (λ h. let e = h.0 in cc) (import refl))
+agreed InOut false false listed export import = absurd (cc)
+
+-- what a name that denotes the variable tests of it
+tested : (v : VarId) (test : VarId → Bool) (name : CoreName) → denotes v name ≡ true → variable_is test (variable_of name.entity) ≡ test v
+tested v test name is = ap (variable_is test) (same_is v (variable_of name.entity) is)
+
+module _ (p : Program) (sub : Sub) (v : VarId) (mode : Mode) (is : mode_of v p ≡ Some mode) where
+  exported_at : (item : CoreDerivesItem) → HaveTheirModes p item → obeyed_item sub item ≡ Ok tt → has_export v item ≡ true → export_agrees (Some mode) (is_some item.itself) (imports v sub) ≡ true
+  exported_at item theirs h exported =
+      let one = found (λ (n : Reference). denotes v n.root) item.exports exported in
+      let name = one.0.root in
+      let ok = passes_at (obeyed_export sub (is_some item.itself)) item.exports (bound _ (λ _. each (obeyed_import sub) item.imports) tt h).1 one.0 one.1 in
+      ap₂ (λ m b. export_agrees m (is_some item.itself) b) (sym is ∙ sym (All-contains (HasItsMode p) item.exports one.0 theirs.0 one.1 v one.2)) (sym (tested v (λ w. imports w sub) name one.2))
+      ∙ kept U8 name.name.place (export_agrees (mode_named name) (is_some item.itself) (is_imported sub name)) ok
+
+  imported_at : (item : CoreDerivesItem) → HaveTheirModes p item → obeyed_item sub item ≡ Ok tt → mentions v item.imports ≡ true → import_agrees (Some mode) (exports v sub) ≡ true
+  imported_at item theirs h imported =
+      let one = found (λ (n : Reference). denotes v n.root) item.imports imported in
+      let name = one.0.root in
+      let ok = passes_at (obeyed_import sub) item.imports (bound (each (obeyed_export sub (is_some item.itself)) item.exports) (λ _. each (obeyed_import sub) item.imports) tt h).2 one.0 one.1 in
+      ap₂ import_agrees (sym is ∙ sym (All-contains (HasItsMode p) item.imports one.0 theirs.1 one.1 v one.2)) (sym (tested v (λ w. exports w sub) name one.2))
+      ∙ kept U8 name.name.place (import_agrees (mode_named name) (is_exported sub name)) ok
+
+  module _ (theirs : All (HaveTheirModes p) (relation sub)) (obeyed : each (obeyed_item sub) (relation sub) ≡ Ok tt) where
+    at_export : exports v sub ≡ true → (starred : Bool) × (export_agrees (Some mode) starred (imports v sub) ≡ true)
+    at_export exported =
+        let item = found (has_export v) (relation sub) (sym (exports_are v sub) ∙ exported) in
+        (is_some item.0.itself, exported_at item.0 (All-contains (HaveTheirModes p) (relation sub) item.0 theirs item.1) (passes_at (obeyed_item sub) (relation sub) obeyed item.0 item.1) item.2)
+
+    at_import : imports v sub ≡ true → (import_agrees (Some mode) (exports v sub) ≡ true) ⊎ ((exports v sub ≡ true) × (export_agrees (Some mode) true (imports v sub) ≡ true))
+    at_import imported =
+        let item = found (has_import v) (relation sub) (sym (imports_are v sub) ∙ imported) in
+        let its = All-contains (HaveTheirModes p) (relation sub) item.0 theirs item.1 in
+        let passes_here = passes_at (obeyed_item sub) (relation sub) obeyed item.0 item.1 in
+        elim (or_cases (mentions v item.0.imports) (is_some item.0.itself && has_export v item.0) item.2) [
+          | inl named ↦ inl (imported_at item.0 its passes_here named)
+          | inr itself ↦
+              let parts = and_parts (is_some item.0.itself) (has_export v item.0) itself in
+              inr (exports_are v sub ∙ passes (has_export v) (relation sub) item.0 item.1 parts.1, ap (λ b. export_agrees (Some mode) b (imports v sub)) (sym parts.0) ∙ exported_at item.0 its passes_here parts.1)
+        ]
+
+-- ---- U7 and U11
+
+-- a formal is one of those that are listed
+listed : (sub : Sub) (v : VarId) → list_all (is_listed sub) (formals sub) ≡ true → is_formal v sub ≡ true → is_listed sub v ≡ true
+listed sub v all is =
+    let w = found (λ (w : VarId). w.0 == v.0) (formals sub) is in
+    let each = All-from_recursion (λ w. is_listed sub w ≡ true) (formals sub) (all_pass (is_listed sub) (formals sub) all) in
+    subst (λ u. is_listed sub u ≡ true) (same_var w.0 v (eqb-true w.0.0 v.0 w.2)) (All-contains (λ u. is_listed sub u ≡ true) (formals sub) w.0 each w.1)
+
+pre_reads : (sub : Sub) (v : VarId) (pre : CorePrecondition) → if_there (obeyed_pre sub) sub.pre ≡ Ok tt → sub.pre ≡ Some pre → uses v pre.condition ≡ true → imports v sub ≡ true
+pre_reads sub v pre ok is h =
+    let name = found (denotes v) (names_read pre.condition) h in
+    let passes_here = passes_at (reads_import sub) (names_read pre.condition) (ap (if_there (obeyed_pre sub)) (sym is) ∙ ok) name.0 name.1 in
+    sym (tested v (λ w. imports w sub) name.0 name.2) ∙ kept U11 name.0.name.place (is_imported sub name.0) passes_here
+
+-- ---- subprograms and programs
+
+rules_of : (p : Program) (sub : Sub) → Scoped p sub → obeyed_sub sub ≡ Ok tt → ObeysRules p sub
+rules_of p sub scoped ok =
+    let a = bound (obeyed_relation sub) _ tt ok in
+    let b = bound (each (obeyed_item sub) (relation sub)) _ tt a.2 in
+    let c = bound (if_there (obeyed_pre sub) sub.pre) _ tt b.2 in
+    let once = and_parts (exports_once (relation sub)) _ (kept U7 (place_or sub.place sub.derives) (is_right_relation sub) a.1) in
+    let pairs = and_parts (list_all pairs_once (relation sub)) _ once.1 in
+    let rest = and_parts (list_all (is_listed sub) (formals sub)) (list_all (names_formals sub) (relation sub)) pairs.1 in
+    record {
+      targets = λ v set.
+          let s = found (assigns v) sub.statements set in
+          no_input p v s.0 (All-contains (TargetHasItsMode p) sub.statements s.0 scoped.target_modes s.1) (passes_at obeyed_stmt sub.statements c.2 s.0 s.1) s.2;
+      exports_are_named_once = once.0;
+      pairs_are_named_once = pairs.0;
+      formals_are_listed = rest.0;
+      others_are_not = rest.1;
+      modes = λ v mode formal is.
+          agreed mode (imports v sub) (exports v sub) (listed sub v rest.0 formal) (at_export p sub v mode is scoped.relation_modes b.1) (at_import p sub v mode is scoped.relation_modes b.1);
+      precondition = λ pre v is h. pre_reads sub v pre c.1 is h;
+    }
+
+pub hold : (p : Program) → Visible p → Obeys p → All (ObeysRules p) p.subs
+hold p is obeys k d less = rules_of p _ (all_scoped p is k d less) (each_passes obeyed_sub p.subs obeys k d less)

@@ -1,0 +1,196 @@
+-- The names of a subprogram denote the variables that it declares.
+use Rattle.std.proofs.Common.{◌≡◌, ℕ, ◌+◌, Bool, true, false, ◌||◌, List, [], ◌∷◌, ◌++◌, length, map, Option, Some, None, option_map, is_some, refl, sym, ap, ap₂, subst, ◌∙◌, ⊎_elim, append_assoc, length-append}
+use Rattle.std.specs.Prelude.{All, ◌&&◌, option_and_then, slice_get}
+use Rattle.std.specs.List.{AllByRecursion, flat_map, list_any}
+use Rattle.std.proofs.lemmas.Bool.{and_parts, false_from_ne_true, or_cases, or_left, or_right}
+use Rattle.std.proofs.lemmas.List.{length-map, map-append}
+use Rattle.std.proofs.Common.{get_or}
+use Rattle.std.proofs.lemmas.List.Elements.{All-from_recursion, All-map}
+use Rattle.spx_tree.specs.declared.expression.Name.{Name}
+use Rattle.spx_tree.specs.declared.statement.Stmt.{Stmt}
+use Rattle.spx_tree.specs.declared.statement.Stmt.TheVariants as stmt
+use Rattle.spx_tree.specs.declared.annotation.DerivesItem.{DerivesItem}
+use Rattle.spx_tree.specs.declared.annotation.Derives.{Derives}
+use Rattle.spx_tree.specs.declared.subprogram.Subprogram.{Subprogram}
+use Rattle.spx_tree.specs.declared.subprogram.Unit.{Unit}
+use Rattle.spx_tree.specs.declared.subprogram.Unit.TheVariants as unit
+use Rattle.spx_core.specs.declared.entity.VarId.{VarId}
+use Rattle.spx_core.specs.declared.entity.Mode.{Mode}
+use Rattle.spx_core.specs.declared.entity.VarKind.{VarKind}
+use Rattle.spx_core.specs.declared.entity.VarKind.TheVariants.{Formal, Local}
+use Rattle.spx_core.specs.declared.entity.Object.{Object}
+use Rattle.spx_core.specs.declared.name.Defining.{Defining}
+use Rattle.spx_core.specs.declared.dependency.CoreDerivesItem.{CoreDerivesItem}
+use Rattle.spx_core.specs.declared.program.Var.{Var}
+use Rattle.spx_core.specs.declared.program.Program.{Program}
+use Rattle.spx_core.specs.declared.subprogram.Sub.{Sub}
+use Rattle.spx_core.specs.Uses.{mentions}
+use Rattle.spx_core.specs.Dependency.{items_of}
+use Rattle.spx_core.specs.DerivesItems.{has_export, has_import}
+use Rattle.spx_core.specs.Formals.{is_formal, is_local, mode_in, mode_of, stands_in}
+use Rattle.spx_core.specs.Flow.{assigns, reads}
+use Rattle.spx_core.specs.Obeyed.{mode_denoted}
+use Rattle.spx_core.specs.Regions.{Region, Regions}
+use Rattle.spx_core.specs.Resolved.{around_body, declaring, declaring_all, formal_names, local_names, own_vars, resolved, resolved_derives, resolved_item, resolved_reference, resolved_stmt, resolved_sub, resolved_subs, unit_name, var_of}
+use Rattle.spx_core.specs.Erased.{Visible, erased}
+use Rattle.spx_core.specs.Scopes.{HasItsMode, HaveTheirModes, Scoped, TargetHasItsMode, kind_of}
+use Rattle.spx_core.proofs.Callers.Pairs.{exports_are, imports_are}
+use Rattle.spx_core.proofs.Callers.ListTests.{each_append, some_mapped}
+use Rattle.spx_core.proofs.RegionLaws.{AllHold, HoldsIn, inside_holds, mentioned_variable, reference_variable, used_variable}
+use Rattle.spx_core.proofs.Consecutive.{Consecutive, IsFormalKind, IsLocalKind, at_position, decls_consecutive, first_positions, formals_consecutive, is_at, last_positions, rows}
+
+mode_in_row : (kind : VarKind) (row : Option Var) → option_map (λ (var : Var). var.kind) row ≡ Some kind → option_and_then (λ (var : Var). mode_in var.kind) row ≡ mode_in kind
+mode_in_row kind (Some var) is = ap mode_in (let e : var.kind ≡ kind = cc in e)
+mode_in_row kind None is = absurd (cc)
+
+-- the mode of a variable is that of its kind
+pub mode_is : (p : Program) (v : VarId) (kind : VarKind) → kind_of p v ≡ Some kind → mode_of v p ≡ mode_in kind
+mode_is p v kind is = mode_in_row kind (slice_get p.vars v.0) is
+
+-- ---- names of annotations and of statements
+
+module _ (P : VarId → Object → Type 0) (regions : Regions) (all : AllByRecursion (HoldsIn P) regions) (v : VarId) where
+  imported_variable : (item : DerivesItem) → has_import v (resolved_item regions item) ≡ true → (object : Object) × P v object
+  imported_variable item h =
+      ⊎_elim (mentioned_variable P regions all v item.imports.names) (λ itself. mentioned_variable P regions all v item.exports (and_parts (is_some item.imports.itself) (has_export v (resolved_item regions item)) itself).1)
+      (or_cases (mentions v (map (resolved_reference regions) item.imports.names)) (is_some item.imports.itself && has_export v (resolved_item regions item)) h)
+
+  in_relation : (test : CoreDerivesItem → Bool) → ((item : DerivesItem) → test (resolved_item regions item) ≡ true → (object : Object) × P v object)
+      → (derives : Option Derives) → list_any test (items_of (option_map (resolved_derives regions) derives)) ≡ true → (object : Object) × P v object
+  in_relation test known None h = absurd cc
+  in_relation test known (Some derives) h = let one = some_mapped test (resolved_item regions) derives.items h in known one.0 one.1
+
+  assigned_variable : (s : Stmt) → assigns v (resolved_stmt regions s) ≡ true → (object : Object) × P v object
+  assigned_variable (stmt.Null place) h = absurd cc
+  assigned_variable (stmt.Assignment target value) h = let known = reference_variable P regions all v target h in (known.0, known.2)
+
+  read_variable : (s : Stmt) → reads v (resolved_stmt regions s) ≡ true → (object : Object) × P v object
+  read_variable (stmt.Null place) h = absurd cc
+  read_variable (stmt.Assignment target value) h = used_variable P regions all v value h
+
+module _ (p : Program) (P : VarId → Object → Type 0) (row : (v : VarId) (object : Object) → P v object → kind_of p v ≡ Some object.kind) (regions : Regions) (all : AllByRecursion (HoldsIn P) regions) where
+  has_its_mode : (name : Name) → HasItsMode p (resolved_reference regions name)
+  has_its_mode name v is =
+      let known = reference_variable P regions all v name is in
+      ap mode_denoted known.1 ∙ sym (mode_is p v known.0.kind (row v known.0 known.2))
+
+  have_their_modes : (names : List Name) → All (HasItsMode p) (map (resolved_reference regions) names)
+  have_their_modes names = All-map (HasItsMode p) (resolved_reference regions) names (λ k d less. has_its_mode _)
+
+  relation_has_modes : (derives : Option Derives) → All (HaveTheirModes p) (items_of (option_map (resolved_derives regions) derives))
+  relation_has_modes None = All-from_recursion (HaveTheirModes p) [] tt
+  relation_has_modes (Some derives) =
+      All-map (HaveTheirModes p) (resolved_item regions) derives.items (λ k d less. let item = get_or derives.items k d in (have_their_modes item.exports, have_their_modes item.imports.names))
+
+  target_has_mode : (s : Stmt) → TargetHasItsMode p (resolved_stmt regions s)
+  target_has_mode (stmt.Null place) = tt
+  target_has_mode (stmt.Assignment target value) = has_its_mode target
+
+-- ---- subprograms
+
+module _ (p : Program) where
+  -- the unit at this position, whose variables stand between these rows
+  module _ (library : Region) (position first : ℕ) (s : Subprogram) (before after : List Var) (len : length before ≡ first) where
+    abbrev name : Defining
+    name = unit_name library position s
+
+    abbrev sub : Sub
+    sub = resolved_sub name first s
+
+    abbrev its_formals : List Defining
+    its_formals = formal_names sub
+
+    abbrev its_locals : List Defining
+    its_locals = local_names sub
+
+    formal_positions : (v : VarId) → is_formal v sub ≡ is_at v first its_formals
+    formal_positions v = ap (stands_in v) (first_positions first its_formals its_locals)
+
+    local_positions : (v : VarId) → is_local v sub ≡ is_at v (first + length its_formals) its_locals
+    local_positions v = ap (stands_in v) (last_positions first its_formals its_locals)
+
+    formals_are : Consecutive IsFormalKind first its_formals
+    formals_are = formals_consecutive s.name first s.formal_part
+
+    locals_are : Consecutive IsLocalKind (first + length its_formals) its_locals
+    locals_are = decls_consecutive (around_body name) (declaring_all [] its_formals) (first + length its_formals) s.declarations
+
+    abbrev annotations : Regions
+    annotations = declaring_all [] its_formals ∷ around_body name
+
+    abbrev body : Regions
+    body = declaring_all [] (its_formals ++ its_locals) ∷ around_body name
+
+    -- a formal whose row says its kind, and any variable of the subprogram
+    abbrev FormalRow : VarId → Object → Type 0
+    FormalRow v object = (is_formal v sub ≡ true) × (kind_of p v ≡ Some object.kind)
+
+    abbrev Own : VarId → Object → Type 0
+    Own v object = ((is_formal v sub || is_local v sub) ≡ true) × (kind_of p v ≡ Some object.kind)
+
+    module _ (vars : p.vars ≡ before ++ (own_vars sub ++ after)) where
+      vars_are : p.vars ≡ before ++ (map var_of its_formals ++ (map var_of its_locals ++ after))
+      vars_are = vars ∙ ap (λ ws. before ++ (ws ++ after)) (map-append var_of its_formals its_locals) ∙ ap (λ ws. before ++ ws) (append_assoc (map var_of its_formals) (map var_of its_locals) after)
+
+      formal_rows : (P : VarId → Object → Type 0) → ((v : VarId) (object : Object) → IsFormalKind object.kind → is_formal v sub ≡ true → kind_of p v ≡ Some object.kind → P v object) → AllHold P its_formals
+      formal_rows P follows =
+          rows p IsFormalKind P before first its_formals (map var_of its_locals ++ after) len vars_are formals_are (λ v object kind at row. follows v object kind (formal_positions v ∙ at) row)
+
+      local_rows : (P : VarId → Object → Type 0) → ((v : VarId) (object : Object) → IsLocalKind object.kind → is_local v sub ≡ true → kind_of p v ≡ Some object.kind → P v object) → AllHold P its_locals
+      local_rows P follows =
+          rows p IsLocalKind P (before ++ map var_of its_formals) (first + length its_formals) its_locals after
+          (length-append before (map var_of its_formals) ∙ ap₂ ◌+◌ len (length-map its_formals var_of)) (vars_are ∙ sym (append_assoc before (map var_of its_formals) (map var_of its_locals ++ after))) locals_are
+          (λ v object kind at row. follows v object kind (local_positions v ∙ at) row)
+
+      in_annotations : AllByRecursion (HoldsIn FormalRow) annotations
+      in_annotations = inside_holds FormalRow name its_formals tt (formal_rows FormalRow (λ v object kind formal row. (formal, row)))
+
+      in_body : AllByRecursion (HoldsIn Own) body
+      in_body =
+          inside_holds Own name (its_formals ++ its_locals) tt
+          (each_append _ its_formals its_locals (formal_rows Own (λ v object kind formal row. (or_left (is_formal v sub) (is_local v sub) formal, row))) (local_rows Own (λ v object kind local row. (or_right (is_formal v sub) (is_local v sub) local, row))))
+
+      formal_kind : (v : VarId) → is_formal v sub ≡ true → (mode : Mode) × (kind_of p v ≡ Some (Formal mode))
+      formal_kind v h =
+          let P : VarId → Object → Type 0 = λ v object. (mode : Mode) × (kind_of p v ≡ Some (Formal mode)) in
+          (at_position p IsFormalKind P v first its_formals formals_are (formal_rows P (λ v object kind formal row. (kind.0, row ∙ ap Some kind.1))) (sym (formal_positions v) ∙ h)).1
+
+      local_kind : (v : VarId) → is_local v sub ≡ true → kind_of p v ≡ Some Local
+      local_kind v h =
+          let P : VarId → Object → Type 0 = λ v object. kind_of p v ≡ Some Local in
+          (at_position p IsLocalKind P v (first + length its_formals) its_locals locals_are (local_rows P (λ v object kind local row. row ∙ ap Some kind)) (sym (local_positions v) ∙ h)).1
+
+      no_local : (v : VarId) → is_formal v sub ≡ true → is_local v sub ≡ false
+      no_local v h = false_from_ne_true (is_local v sub) (λ l. let kind = formal_kind v h in let other = local_kind v l in absurd (let e : Formal kind.0 ≡ Local = cc in cc))
+
+      scoped_sub : Scoped p sub
+      scoped_sub = record {
+        targets = λ v h. let one = some_mapped (assigns v) (resolved_stmt body) s.statements h in (assigned_variable Own body in_body v one.0 one.1).1.0;
+        read = λ v h. let one = some_mapped (reads v) (resolved_stmt body) s.statements h in (read_variable Own body in_body v one.0 one.1).1.0;
+        exported = λ v h. (in_relation FormalRow annotations in_annotations v (has_export v) (λ item. mentioned_variable FormalRow annotations in_annotations v item.exports) s.derives (sym (exports_are v sub) ∙ h)).1.0;
+        imported = λ v h. (in_relation FormalRow annotations in_annotations v (has_import v) (imported_variable FormalRow annotations in_annotations v) s.derives (sym (imports_are v sub) ∙ h)).1.0;
+        formal_kinds = formal_kind;
+        local_kinds = local_kind;
+        apart = no_local;
+        relation_modes = relation_has_modes p FormalRow (λ v object h. h.1) annotations in_annotations s.derives;
+        target_modes = All-map (TargetHasItsMode p) (resolved_stmt body) s.statements (λ k d less. target_has_mode p Own (λ v object h. h.1) body in_body _);
+      }
+
+  -- ---- programs
+
+  scoped_subs : (library : Region) (position first : ℕ) (before : List Var) (units : List Unit) → length before ≡ first → p.vars ≡ before ++ flat_map own_vars (resolved_subs library position first units)
+      → AllByRecursion (Scoped p) (resolved_subs library position first units)
+  scoped_subs library position first before [] len vars = tt
+  scoped_subs library position first before (unit.Subprogram s ∷ units) len vars =
+      let one = resolved_sub (unit_name library position s) first s in
+      let next = declaring library (unit_name library position s) in
+      let after = flat_map own_vars (resolved_subs next (position + 1) (first + length (own_vars one)) units) in (
+        scoped_sub library position first s before after len vars,
+        scoped_subs next (position + 1) (first + length (own_vars one)) (before ++ own_vars one) units (length-append before (own_vars one) ∙ ap (λ n. n + length (own_vars one)) len)
+            (vars ∙ sym (append_assoc before (own_vars one) after)),
+      )
+
+pub all_scoped : (p : Program) → Visible p → All (Scoped p) p.subs
+all_scoped p is =
+    subst (λ q. All (Scoped q) q.subs) (sym is)
+    (All-from_recursion (Scoped (resolved (erased p))) (resolved (erased p)).subs (scoped_subs (resolved (erased p)) [] 0 0 [] (erased p) refl refl))

@@ -1,0 +1,108 @@
+-- The units that a program is made from: its names without what they denote, and the programs whose names stand with what they denote.
+use Rattle.std.specs.Prelude.{◌≡◌, List, [], ◌∷◌, map, option_map}
+use Rattle.spx_tree.specs.declared.expression.Identifier.{Identifier}
+use Rattle.spx_tree.specs.declared.expression.Name.{Name}
+use Rattle.spx_tree.specs.declared.expression.Name.TheVariants.{Simple, Attribute}
+use Rattle.spx_tree.specs.declared.expression.Expr.{Expr}
+use Rattle.spx_tree.specs.declared.expression.Expr.TheVariants as expr
+use Rattle.spx_tree.specs.declared.declaration.Decl.{Decl}
+use Rattle.spx_tree.specs.declared.declaration.Decl.TheVariants as decl
+use Rattle.spx_tree.specs.declared.statement.Stmt.{Stmt}
+use Rattle.spx_tree.specs.declared.statement.Stmt.TheVariants as stmt
+use Rattle.spx_tree.specs.declared.annotation.DerivesItem.{DerivesItem}
+use Rattle.spx_tree.specs.declared.annotation.Derives.{Derives}
+use Rattle.spx_tree.specs.declared.annotation.Precondition.{Precondition}
+use Rattle.spx_tree.specs.declared.subprogram.Param.{Param}
+use Rattle.spx_tree.specs.declared.subprogram.FormalPart.{FormalPart}
+use Rattle.spx_tree.specs.declared.subprogram.Subprogram.{Subprogram}
+use Rattle.spx_tree.specs.declared.subprogram.Unit.{Unit}
+use Rattle.spx_tree.specs.declared.subprogram.Unit.TheVariants as unit
+use Rattle.spx_core.specs.declared.name.Defining.{Defining}
+use Rattle.spx_core.specs.declared.name.Step.{Step}
+use Rattle.spx_core.specs.declared.name.Step.TheVariants as step
+use Rattle.spx_core.specs.declared.name.Reference.{Reference}
+use Rattle.spx_core.specs.declared.expression.CoreExpr.{CoreExpr, CoreExpr-F, fold-CoreExpr}
+use Rattle.spx_core.specs.declared.statement.CoreStmt.{CoreStmt}
+use Rattle.spx_core.specs.declared.statement.CoreStmt.TheVariants.{Null, Assignment}
+use Rattle.spx_core.specs.declared.statement.CoreDecl.{CoreDecl}
+use Rattle.spx_core.specs.declared.statement.CoreDecl.TheVariants.{Variables}
+use Rattle.spx_core.specs.declared.dependency.CoreDerivesItem.{CoreDerivesItem}
+use Rattle.spx_core.specs.declared.dependency.CoreDerives.{CoreDerives}
+use Rattle.spx_core.specs.declared.subprogram.CoreParam.{CoreParam}
+use Rattle.spx_core.specs.declared.subprogram.CoreFormalPart.{CoreFormalPart}
+use Rattle.spx_core.specs.declared.subprogram.CorePrecondition.{CorePrecondition}
+use Rattle.spx_core.specs.declared.subprogram.Sub.{Sub}
+use Rattle.spx_core.specs.declared.program.Program.{Program}
+use Rattle.spx_core.specs.Resolved.{resolved}
+
+-- the name that the way from an identifier is
+abbrev pub along : Identifier → List Step → Name
+along name [] = Simple name
+along name (step.Attribute designator ∷ way) = Attribute name designator
+
+abbrev pub erased_reference : Reference → Name
+erased_reference reference = along reference.root.name reference.way
+
+abbrev pub erased_references : List Reference → List Name
+erased_references references = map erased_reference references
+
+abbrev pub erased_defining : Defining → Identifier
+erased_defining d = d.name
+
+-- one level, whose parts are erased
+abbrev pub erased_step : CoreExpr-F Expr → Expr
+erased_step (CoreExpr-F.Number value place) = expr.Number value place
+erased_step (CoreExpr-F.Name name) = expr.Name (Simple name.name)
+erased_step (CoreExpr-F.Attribute prefix designator) = expr.Name (Attribute prefix.name designator)
+erased_step (CoreExpr-F.Parenthesized place inner) = expr.Parenthesized place inner
+erased_step (CoreExpr-F.Prefix op place operand) = expr.Prefix op place operand
+erased_step (CoreExpr-F.Infix op place left right) = expr.Infix op place left right
+
+abbrev pub erased_expr : CoreExpr → Expr
+erased_expr = fold-CoreExpr Expr erased_step
+
+abbrev pub erased_stmt : CoreStmt → Stmt
+erased_stmt (Null place) = stmt.Null place
+erased_stmt (Assignment target expr) = stmt.Assignment (erased_reference target) (erased_expr expr)
+
+abbrev pub erased_decl : CoreDecl → Decl
+erased_decl (Variables names type_name) = decl.Variables (map erased_defining names) (erased_reference type_name)
+
+abbrev pub erased_item : CoreDerivesItem → DerivesItem
+erased_item item = record { exports = erased_references item.exports; imports = record { itself = item.itself; names = erased_references item.imports } }
+
+abbrev pub erased_derives : CoreDerives → Derives
+erased_derives derives = record { place = derives.place; items = map erased_item derives.items }
+
+abbrev pub erased_pre : CorePrecondition → Precondition
+erased_pre pre = record { place = pre.place; condition = erased_expr pre.condition }
+
+abbrev pub erased_param : CoreParam → Param
+erased_param param = record { names = map erased_defining param.names; mode = param.mode; type_name = erased_reference param.type_name }
+
+abbrev pub erased_formal_part : CoreFormalPart → FormalPart
+erased_formal_part part = record { place = part.place; params = map erased_param part.params }
+
+abbrev pub erased_sub : Sub → Subprogram
+erased_sub sub = record {
+  place = sub.place;
+  name = sub.name.name;
+  formal_part = option_map erased_formal_part sub.formal_part;
+  derives = option_map erased_derives sub.derives;
+  pre = option_map erased_pre sub.pre;
+  declarations = map erased_decl sub.declarations;
+  statements = map erased_stmt sub.statements;
+  end = sub.end;
+  end_name = sub.end_name;
+}
+
+abbrev pub erased_unit : Sub → Unit
+erased_unit sub = unit.Subprogram (erased_sub sub)
+
+-- the units, in the order of their subprograms
+abbrev pub erased : Program → List Unit
+erased program = map erased_unit program.subs
+
+-- each name stands with what it denotes at its place, and each declared name with what it declares
+abbrev pub Visible : Program → Type 0
+Visible program = program ≡ resolved (erased program)

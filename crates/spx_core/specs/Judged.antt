@@ -1,0 +1,161 @@
+-- The static rules on names and expressions: what an expression is, or the first rule that is broken, in the order of the text.
+use Rattle.std.specs.Prelude.{⊤, ℕ, ℤ, Bool, true, false, ◌||◌, List, [], ◌∷◌, Option, Some, None, codes, if◌then◌else◌, Result, Ok, Err}
+use Rattle.std.specs.Str.{str_eq_ignore_ascii_case}
+use Rattle.spx_text.specs.declared.place.Place.{Place}
+use Rattle.spx_tree.specs.declared.expression.Identifier.{Identifier}
+use Rattle.spx_tree.specs.declared.expression.InfixOp.{InfixOp}
+use Rattle.spx_tree.specs.declared.expression.PrefixOp.{PrefixOp}
+use Rattle.spx_core.specs.declared.entity.Subtype.{Subtype}
+use Rattle.spx_core.specs.declared.entity.Object.{Object}
+use Rattle.spx_core.specs.declared.entity.Entity.{Entity}
+use Rattle.spx_core.specs.declared.entity.Entity.TheVariants as entity
+use Rattle.spx_core.specs.declared.name.CoreName.{CoreName}
+use Rattle.spx_core.specs.declared.name.Step.{Step}
+use Rattle.spx_core.specs.declared.name.Reference.{Reference}
+use Rattle.spx_core.specs.declared.expression.CoreExpr.{CoreExpr, CoreExpr-F, fold-CoreExpr}
+use Rattle.spx_core.specs.declared.rule.RuleName.{RuleName}
+use Rattle.spx_core.specs.declared.rule.RuleName.TheVariants.{N1, N3, N10, N12}
+use Rattle.spx_core.specs.declared.rule.Breach.{Breach}
+use Rattle.spx_core.specs.declared.rule.ExprType.{ExprType}
+use Rattle.spx_core.specs.declared.rule.ExprType.TheVariants.{Universal, Of}
+use Rattle.spx_core.specs.declared.rule.Typing.{Typing}
+use Rattle.spx_core.specs.Types.{both_held, is_boolean, is_held, is_number, is_of, lies_in, meet, met, result_of, result_type, signed_result}
+
+-- ---- judgements
+
+-- a value, or the first rule that is broken
+abbrev pub Judged : Type 0 → Type 0
+Judged A = Result A Breach
+
+-- one part after another: the first broken rule counts
+infixl 10 ◌>>=◌
+abbrev pub ◌>>=◌ : {A B : Type 0} → Judged A → (A → Judged B) → Judged B
+Ok x >>= f = f x
+Err breach >>= f = Err breach
+
+-- the rule is looked at, at the place
+abbrev pub keeps : RuleName → Place → Bool → Judged ⊤
+keeps rule place true = Ok tt
+keeps rule place false = Err (record { rule = rule; place = place })
+
+-- each of a list in turn
+abbrev pub each : {A : Type 0} → (A → Judged ⊤) → List A → Judged ⊤
+each f [] = Ok tt
+each f (x ∷ xs) = f x >>= λ _. each f xs
+
+-- what is there, if anything
+abbrev pub if_there : {A : Type 0} → (A → Judged ⊤) → Option A → Judged ⊤
+if_there f None = Ok tt
+if_there f (Some x) = f x
+
+-- the broken rule, if one is
+abbrev pub breach_in : {A : Type 0} → Judged A → Option Breach
+breach_in (Ok x) = None
+breach_in (Err breach) = Some breach
+
+-- ---- names (Ada 95 RM 4.1, 8.3)
+
+-- a type is needed
+abbrev pub type_at : Place → Option Entity → Judged Subtype
+type_at place None = Err (record { rule = N1; place = place })
+type_at place (Some (entity.TypeName subtype)) = Ok subtype
+type_at place (Some other) = Err (record { rule = N3; place = place })
+
+abbrev pub named_type : CoreName → Judged Subtype
+named_type name = type_at name.name.place name.entity
+
+-- an object is needed
+abbrev pub object_at : Place → Option Entity → Judged Object
+object_at place None = Err (record { rule = N1; place = place })
+object_at place (Some (entity.Variable v object)) = Ok object
+object_at place (Some other) = Err (record { rule = N3; place = place })
+
+abbrev pub named_object : CoreName → Judged Object
+named_object name = object_at name.name.place name.entity
+
+-- nothing follows the identifier
+abbrev pub is_whole : List Step → Bool
+is_whole [] = true
+is_whole (step ∷ way) = false
+
+abbrev pub whole : Reference → Judged ⊤
+whole reference = keeps N3 reference.root.name.place (is_whole reference.way)
+
+abbrev pub referred_type : Reference → Judged Subtype
+referred_type reference = do
+  subtype ← named_type reference.root
+  _ ← whole reference
+  Ok subtype
+
+abbrev pub referred_object : Reference → Judged Object
+referred_object reference = do
+  object ← named_object reference.root
+  _ ← whole reference
+  Ok object
+
+-- ---- expressions (Ada 95 RM 4.4, 4.5, 4.9)
+
+abbrev pub typing : ExprType → Option ℤ → Place → Typing
+typing of value place = record { of = of; value = value; place = place }
+
+-- the attributes of a type (Ada 95 RM 3.5)
+abbrev pub is_first : List ℕ → Bool
+is_first designator = str_eq_ignore_ascii_case designator (codes "first")
+
+abbrev pub is_attribute : List ℕ → Bool
+is_attribute designator = is_first designator || str_eq_ignore_ascii_case designator (codes "last")
+
+abbrev pub attribute_of : Subtype → List ℕ → ℤ
+attribute_of subtype designator = if is_first designator then subtype.first else subtype.last
+
+abbrev pub attribute : CoreName → Identifier → Judged Typing
+attribute prefix designator = do
+  subtype ← named_type prefix
+  _ ← keeps N3 prefix.name.place (is_attribute designator.text)
+  Ok (typing (Of subtype.base) (Some (attribute_of subtype designator.text)) prefix.name.place)
+
+-- a number of the type is needed, which a universal one then must be
+abbrev pub operand_of : Subtype → Typing → Judged ⊤
+operand_of subtype operand = do
+  _ ← keeps N10 operand.place (is_of subtype.base operand.of)
+  keeps N12 operand.place (lies_in (Of subtype.base) operand.value)
+
+-- a truth value is needed
+abbrev pub condition : Typing → Judged ⊤
+condition operand = keeps N10 operand.place (is_boolean operand.of)
+
+abbrev pub sign : PrefixOp → Place → Typing → Judged Typing
+sign op place operand = do
+  _ ← keeps N10 place (is_number operand.of)
+  _ ← keeps N12 place (is_held operand.value (signed_result op operand.value))
+  _ ← keeps N12 place (lies_in operand.of (signed_result op operand.value))
+  Ok (typing operand.of (signed_result op operand.value) place)
+
+abbrev pub operation : InfixOp → Place → Typing → Typing → Judged Typing
+operation op place left right = do
+  _ ← keeps N10 place (meet left.of right.of)
+  _ ← keeps N12 left.place (lies_in (met left.of right.of) left.value)
+  _ ← keeps N12 right.place (lies_in (met left.of right.of) right.value)
+  _ ← keeps N12 place (both_held left.value right.value (result_of op left.value right.value))
+  _ ← keeps N12 place (lies_in (result_type op (met left.of right.of)) (result_of op left.value right.value))
+  Ok (typing (result_type op (met left.of right.of)) (result_of op left.value right.value) place)
+
+-- one level, of whose parts it is known: an infix operation stands at its operator, every other node at its first token
+abbrev pub expr_step : CoreExpr-F (Judged Typing) → Judged Typing
+expr_step (CoreExpr-F.Number n place) = Ok (typing Universal (Some n) place)
+expr_step (CoreExpr-F.Name name) = named_object name >>= λ object. Ok (typing (Of object.subtype.base) None name.name.place)
+expr_step (CoreExpr-F.Attribute prefix designator) = attribute prefix designator
+expr_step (CoreExpr-F.Parenthesized place inner) = inner >>= λ e. Ok (typing e.of e.value place)
+expr_step (CoreExpr-F.Prefix op place operand) = operand >>= λ e. sign op place e
+expr_step (CoreExpr-F.Infix op place left right) = left >>= λ l. right >>= λ r. operation op place l r
+
+abbrev pub judged : CoreExpr → Judged Typing
+judged = fold-CoreExpr (Judged Typing) expr_step
+
+-- the value of a static expression
+abbrev pub value_in : Judged Typing → Option ℤ
+value_in (Ok t) = t.value
+value_in (Err breach) = None
+
+abbrev pub static_value : CoreExpr → Option ℤ
+static_value e = value_in (judged e)

@@ -1,0 +1,153 @@
+-- The static rules on the use of variables (Barnes, High Integrity Software), in the order of the text.
+use Rattle.std.specs.Prelude.{◌≡◌, ⊤, Bool, true, false, not, ◌&&◌, ◌||◌, is_some, List, [], ◌∷◌, Option, Some, None, Ok}
+use Rattle.std.specs.List.{list_any, list_all}
+use Rattle.spx_text.specs.declared.place.Place.{Place}
+use Rattle.spx_core.specs.declared.entity.VarId.{VarId}
+use Rattle.spx_core.specs.declared.entity.Mode.{Mode}
+use Rattle.spx_core.specs.declared.entity.Mode.TheVariants.{In, Out, InOut}
+use Rattle.spx_core.specs.declared.entity.Entity.{Entity}
+use Rattle.spx_core.specs.declared.entity.Entity.TheVariants as entity
+use Rattle.spx_core.specs.declared.name.CoreName.{CoreName}
+use Rattle.spx_core.specs.declared.name.Reference.{Reference}
+use Rattle.spx_core.specs.declared.statement.CoreStmt.{CoreStmt}
+use Rattle.spx_core.specs.declared.statement.CoreStmt.TheVariants.{Null, Assignment}
+use Rattle.spx_core.specs.declared.dependency.CoreDerivesItem.{CoreDerivesItem}
+use Rattle.spx_core.specs.declared.dependency.CoreDerives.{CoreDerives}
+use Rattle.spx_core.specs.declared.subprogram.CorePrecondition.{CorePrecondition}
+use Rattle.spx_core.specs.declared.subprogram.Sub.{Sub}
+use Rattle.spx_core.specs.declared.program.Program.{Program}
+use Rattle.spx_core.specs.declared.rule.RuleName.TheVariants.{U2, U7, U8, U11}
+use Rattle.spx_core.specs.declared.rule.Breach.{Breach}
+use Rattle.spx_core.specs.Reads.{names_read}
+use Rattle.spx_core.specs.Uses.{mentions, variable_of}
+use Rattle.spx_core.specs.Dependency.{relation, exports, imports}
+use Rattle.spx_core.specs.Formals.{formals, is_formal, mode_in}
+use Rattle.spx_core.specs.Judged.{Judged, ◌>>=◌, breach_in, each, if_there, keeps}
+
+-- ---- what is known of a name
+
+-- the mode of the formal that is denoted
+abbrev pub mode_denoted : Option Entity → Option Mode
+mode_denoted (Some (entity.Variable v object)) = mode_in object.kind
+mode_denoted _ = None
+
+abbrev pub mode_named : CoreName → Option Mode
+mode_named name = mode_denoted name.entity
+
+-- a test of the variable that a name denotes
+abbrev pub variable_is : (VarId → Bool) → Option VarId → Bool
+variable_is test (Some v) = test v
+variable_is test None = false
+
+abbrev pub is_imported : Sub → CoreName → Bool
+is_imported sub name = variable_is (λ v. imports v sub) (variable_of name.entity)
+
+abbrev pub is_exported : Sub → CoreName → Bool
+is_exported sub name = variable_is (λ v. exports v sub) (variable_of name.entity)
+
+abbrev pub names_formal : Sub → Reference → Bool
+names_formal sub name = variable_is (λ v. is_formal v sub) (variable_of name.root.entity)
+
+-- one of the names denotes the same variable
+abbrev pub is_among : Reference → List Reference → Bool
+is_among name names = variable_is (λ v. mentions v names) (variable_of name.root.entity)
+
+-- ---- U7: the relation names each export and each pair once, each formal, and nothing else
+
+-- no variable is named twice
+abbrev pub names_once : List Reference → Bool
+names_once [] = true
+names_once (name ∷ names) = not (is_among name names) && names_once names
+
+-- one of the items exports it
+abbrev pub is_export_of : List CoreDerivesItem → Reference → Bool
+is_export_of items name = list_any (λ (item : CoreDerivesItem). is_among name item.exports) items
+
+abbrev pub exports_once : List CoreDerivesItem → Bool
+exports_once [] = true
+exports_once (item ∷ items) = names_once item.exports && (not (list_any (is_export_of items) item.exports) && exports_once items)
+
+-- an import is named once, and beside `*` it is none of the exports
+abbrev pub pairs_once : CoreDerivesItem → Bool
+pairs_once item = names_once item.imports && not (is_some item.itself && list_any (λ name. is_among name item.imports) item.exports)
+
+abbrev pub is_listed : Sub → VarId → Bool
+is_listed sub v = imports v sub || exports v sub
+
+abbrev pub names_formals : Sub → CoreDerivesItem → Bool
+names_formals sub item = list_all (names_formal sub) item.exports && list_all (names_formal sub) item.imports
+
+abbrev pub is_right_relation : Sub → Bool
+is_right_relation sub =
+    exports_once (relation sub) && (list_all pairs_once (relation sub) && (list_all (is_listed sub) (formals sub) && list_all (names_formals sub) (relation sub)))
+
+-- at the word `derives`, or, where there is none, at the heading
+abbrev pub place_or : Place → Option CoreDerives → Place
+place_or heading None = heading
+place_or heading (Some derives) = derives.place
+
+abbrev pub obeyed_relation : Sub → Judged ⊤
+obeyed_relation sub = keeps U7 (place_or sub.place sub.derives) (is_right_relation sub)
+
+-- ---- U8: the mode of a formal agrees with the relation
+
+-- as an export: `in` is none; `out` is no import, which `*` would make it; `in out` is an import too
+abbrev pub export_agrees : Option Mode → (starred imported : Bool) → Bool
+export_agrees (Some In) starred imported = false
+export_agrees (Some Out) starred imported = not starred
+export_agrees (Some InOut) starred imported = imported
+export_agrees None starred imported = true
+
+-- as an import: `out` is none; `in out` is an export too
+abbrev pub import_agrees : Option Mode → (exported : Bool) → Bool
+import_agrees (Some In) exported = true
+import_agrees (Some Out) exported = false
+import_agrees (Some InOut) exported = exported
+import_agrees None exported = true
+
+abbrev pub obeyed_export : Sub → Bool → Reference → Judged ⊤
+obeyed_export sub starred name = keeps U8 name.root.name.place (export_agrees (mode_named name.root) starred (is_imported sub name.root))
+
+abbrev pub obeyed_import : Sub → Reference → Judged ⊤
+obeyed_import sub name = keeps U8 name.root.name.place (import_agrees (mode_named name.root) (is_exported sub name.root))
+
+abbrev pub obeyed_item : Sub → CoreDerivesItem → Judged ⊤
+obeyed_item sub item = each (obeyed_export sub (is_some item.itself)) item.exports >>= λ _. each (obeyed_import sub) item.imports
+
+-- ---- U11: a precondition names only imports
+
+abbrev pub reads_import : Sub → CoreName → Judged ⊤
+reads_import sub name = keeps U11 name.name.place (is_imported sub name)
+
+abbrev pub obeyed_pre : Sub → CorePrecondition → Judged ⊤
+obeyed_pre sub pre = each (reads_import sub) (names_read pre.condition)
+
+-- ---- U2: no formal of mode `in` is assigned
+
+abbrev pub may_be_assigned : Option Mode → Bool
+may_be_assigned (Some In) = false
+may_be_assigned _ = true
+
+abbrev pub obeyed_stmt : CoreStmt → Judged ⊤
+obeyed_stmt (Null place) = Ok tt
+obeyed_stmt (Assignment target value) = keeps U2 target.root.name.place (may_be_assigned (mode_named target.root))
+
+-- ---- programs
+
+abbrev pub obeyed_sub : Sub → Judged ⊤
+obeyed_sub sub = do
+  _ ← obeyed_relation sub
+  _ ← each (obeyed_item sub) (relation sub)
+  _ ← if_there (obeyed_pre sub) sub.pre
+  each obeyed_stmt sub.statements
+
+abbrev pub obeyed : Program → Judged ⊤
+obeyed program = each obeyed_sub program.subs
+
+-- no rule on variables is broken
+abbrev pub Obeys : Program → Type 0
+Obeys program = obeyed program ≡ Ok tt
+
+-- the first breach of a rule on variables
+unfoldable pub first_rule_breach : Program → Option Breach
+first_rule_breach program = breach_in (obeyed program)

@@ -1,0 +1,46 @@
+-- Where the variables of a subprogram are seen: the names of its body denote its formals and locals, those of its relation its formals, each
+-- with the facts that are declared of it.
+use Rattle.std.specs.Prelude.{◌≡◌, ⊤, true, false, ◌||◌, All, Option, Some, option_map, slice_get}
+use Rattle.std.specs.List.{list_any}
+use Rattle.spx_core.specs.declared.entity.VarId.{VarId}
+use Rattle.spx_core.specs.declared.entity.VarKind.{VarKind}
+use Rattle.spx_core.specs.declared.entity.VarKind.TheVariants.{Formal, Local}
+use Rattle.spx_core.specs.declared.entity.Mode.{Mode}
+use Rattle.spx_core.specs.declared.name.Reference.{Reference}
+use Rattle.spx_core.specs.declared.statement.CoreStmt.{CoreStmt}
+use Rattle.spx_core.specs.declared.statement.CoreStmt.TheVariants.{Null, Assignment}
+use Rattle.spx_core.specs.declared.dependency.CoreDerivesItem.{CoreDerivesItem}
+use Rattle.spx_core.specs.declared.program.Var.{Var}
+use Rattle.spx_core.specs.declared.program.Program.{Program}
+use Rattle.spx_core.specs.declared.subprogram.Sub.{Sub}
+use Rattle.spx_core.specs.Uses.{denotes}
+use Rattle.spx_core.specs.Dependency.{exports, imports, relation}
+use Rattle.spx_core.specs.Formals.{is_formal, is_local, mode_of}
+use Rattle.spx_core.specs.Flow.{defines, reads}
+use Rattle.spx_core.specs.Obeyed.{mode_named}
+
+-- what a variable is declared as
+abbrev pub kind_of : Program → VarId → Option VarKind
+kind_of p v = option_map (λ (var : Var). var.kind) (slice_get p.vars v.0)
+
+-- the name has the mode with which its variable is declared
+abbrev pub HasItsMode : Program → Reference → Type 0
+HasItsMode p name = (v : VarId) → denotes v name.root ≡ true → mode_named name.root ≡ mode_of v p
+
+abbrev pub HaveTheirModes : Program → CoreDerivesItem → Type 0
+HaveTheirModes p item = All (HasItsMode p) item.exports × All (HasItsMode p) item.imports
+
+abbrev pub TargetHasItsMode : Program → CoreStmt → Type 0
+TargetHasItsMode p (Null place) = ⊤
+TargetHasItsMode p (Assignment target value) = HasItsMode p target
+
+pub record Scoped (p : Program) (sub : Sub) : Type 0 where
+  pub targets : (v : VarId) → defines v sub.statements ≡ true → (is_formal v sub || is_local v sub) ≡ true
+  pub read : (v : VarId) → list_any (reads v) sub.statements ≡ true → (is_formal v sub || is_local v sub) ≡ true
+  pub exported : (v : VarId) → exports v sub ≡ true → is_formal v sub ≡ true
+  pub imported : (v : VarId) → imports v sub ≡ true → is_formal v sub ≡ true
+  pub formal_kinds : (v : VarId) → is_formal v sub ≡ true → (mode : Mode) × (kind_of p v ≡ Some (Formal mode))
+  pub local_kinds : (v : VarId) → is_local v sub ≡ true → kind_of p v ≡ Some Local
+  pub apart : (v : VarId) → is_formal v sub ≡ true → is_local v sub ≡ false
+  pub relation_modes : All (HaveTheirModes p) (relation sub)
+  pub target_modes : All (TargetHasItsMode p) sub.statements
