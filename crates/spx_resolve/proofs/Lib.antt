@@ -1,7 +1,3 @@
-pub mod ResolvedNames
-pub mod ResolvedPrograms
-pub mod Seen
-pub mod FirstBroken
-pub mod WrittenTypes
-pub mod Headings
-pub mod Steps
+pub mod Declared
+pub mod Subprograms
+pub mod Programs

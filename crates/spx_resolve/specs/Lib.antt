@@ -1,2 +1,3 @@
-pub mod Resolving
-pub mod Walking
+pub mod Ids
+pub mod Units
+pub mod Explains

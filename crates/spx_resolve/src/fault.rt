@@ -1,13 +1,12 @@
-// Why units are no program.
+// Why units are no program that keeps the rules on names and types.
 ghost use Rattle.std.specs.Prelude.{◌≡◌};
 ghost use Rattle.spx_resolve.specs.declared.fault.ResolveFault.TheVariants as reason;
-ghost use Rattle.spx_resolve.specs.declared.fault.Unresolved.TheVariants as unresolved;
 
 use spx_core::Breach;
 use std::alloc::AllocError;
 use thiserror::Error;
 
-/// Why units are no program.
+/// Why units are no program that keeps the rules on names and types.
 #[derive(Clone, Copy, Debug, PartialEq, Eq, Error)]
 pub enum ResolveFault {
     /// The first breach of a rule on names or types.
@@ -30,22 +29,5 @@ impl From<AllocError> for ResolveFault {
 
     fn from(_: AllocError) -> ResolveFault {
         ResolveFault::Memory
-    }
-}
-
-/// Why a part of units is not resolved.
-#[derive(Clone, Copy, Debug, PartialEq, Eq)]
-pub enum Unresolved {
-    /// A rule on names or types is broken.
-    Broken,
-    /// Memory ran out.
-    Memory,
-}
-
-impl From<AllocError> for Unresolved {
-    ghost from_gives = { λ _ fault. fault ≡ unresolved.Memory };
-
-    fn from(_: AllocError) -> Unresolved {
-        Unresolved::Memory
     }
 }

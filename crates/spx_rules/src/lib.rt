@@ -1,7 +1,11 @@
-//! The static rules on the use of variables (Barnes, High Integrity Software).
+//! The static rules on the use of variables, in the order of the text (Barnes, High Integrity Software).
+//!
+//! Each function mirrors the definition that its contract cites: `Ok` where no rule is broken, `Err` with the rule that
+//! is broken first.
 #![tactic(auto)]
 
-pub mod laws;
-mod rules;
+mod modes;
+mod program;
+mod relation;
 
-pub use rules::obey;
+pub use program::obey;

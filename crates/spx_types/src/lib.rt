@@ -1,9 +1,14 @@
-//! Types of expressions, and the values of static ones (Ada 95 RM 3.4.1, 4.5, 4.9).
+//! The static rules on names and types: what an expression is, and the first rule that a program breaks, in the order of
+//! the text (Ada 95 RM 3, 4, 5, 6, 8.3).
+//!
+//! Each function mirrors the definition that its contract cites: `Ok` says what a node is, `Err` which rule is broken
+//! first in it. No function allocates.
 #![tactic(auto)]
 
+mod expression;
+mod program;
+mod statement;
 mod types;
 
-pub use types::{
-    ExprType, Typing, attribute, is_typed, meets_integer, numbers, operation, signed, static_value,
-    type_of,
-};
+pub use expression::{judge, keeps};
+pub use program::judge_program;

@@ -1,259 +1,167 @@
-// Types of expressions, and the values of static ones (Ada 95 RM 4.9).
-ghost use Rattle.std.specs.Prelude.{◌≡◌, option_map};
-ghost use Rattle.std.specs.Bool.{Decides};
-ghost use Rattle.std.specs.List.{list_all};
-ghost use Rattle.spx_core.specs.Static.{attribute_value, static_value as value_is};
-ghost use Rattle.spx_core.specs.Typed.{Typed, TypedExpr};
-ghost use Rattle.spx_types.specs.Typing as found;
-ghost use Rattle.spx_types.specs.Typing.{value_of};
+// Types, and operations on static values (Ada 95 RM 3.4.1, 3.5, 4.5, 4.9).
+ghost use Rattle.std.specs.Prelude.{◌≡◌};
+ghost use Rattle.spx_core.specs.Types as is;
+ghost use Rattle.spx_num.specs.Widths.{fitting};
 
-use spx_core::{CoreExpr, CorePrecondition, CoreStmt, INTEGER_FIRST, INTEGER_LAST, Program, Sub};
-use spx_num::{Op, checked};
-use spx_term::Value;
-use spx_tree::{Identifier, InfixOp, PrefixOp};
+use spx_core::{BaseType, ExprType};
+use spx_tree::{InfixOp, PrefixOp};
 
-/// The type of an expression.
-#[derive(Clone, Copy, Debug, PartialEq, Eq)]
-pub enum ExprType {
-    /// That of literals and of operations over them (Ada 95 RM 3.4.1).
-    Universal,
-    Integer,
-    Boolean,
-}
-
-/// The type of an expression, and its value where it is static.
-#[derive(Clone, Copy, Debug, PartialEq, Eq)]
-pub struct Typing {
-    pub of: ExprType,
-    pub value: Option<Value>,
-}
-
-/// Whether a number is one of the type `Integer`.
-fn is_integer(value: i128) -> bool
-    ensures { result ≡ found.is_integer value }
+fn same_base(a: BaseType, b: BaseType) -> bool
+    ensures { result ≡ is.same_base a b }
 {
-    INTEGER_FIRST <= value && value <= INTEGER_LAST
+    a.id.0 == b.id.0
 }
 
-/// The value of `Integer'First` or `Integer'Last`.
-#[tactic(auto, unfolding(spx_core::specs::Static::attribute_value))]
-pub fn attribute(designator: &Identifier) -> i128
-    ensures { result ≡ attribute_value designator.now.text }
-{
-    if designator.text.as_bytes().eq_ignore_ascii_case(b"first") {
-        INTEGER_FIRST
-    } else {
-        INTEGER_LAST
-    }
-}
-
-/// Whether an expression may stand where an `Integer` is needed.
-pub fn meets_integer(typing: Typing) -> bool
-    ensures { result ≡ found.meets typing }
-{
-    match (typing.of, typing.value) {
-        (ExprType::Boolean, _) => false,
-        (ExprType::Universal, Some(Value::Number(value))) => is_integer(value),
-        _ => true,
-    }
-}
-
-/// The type that two operands have together.
-fn meet(left: Typing, right: Typing) -> Option<ExprType>
-    ensures { result ≡ found.met left right }
-{
-    match (left.of, right.of) {
-        (ExprType::Universal, ExprType::Universal) => Some(ExprType::Universal),
-        _ if meets_integer(left) && meets_integer(right) => Some(ExprType::Integer),
-        _ => None,
-    }
-}
-
-/// Whether a number that 128 bits hold is one of the type.
-fn is_of(of: ExprType, value: i128) -> bool
-    ensures { result ≡ found.is_of of value }
+/// Whether an expression of this type fits where the base type is needed.
+pub fn is_of(base: BaseType, of: ExprType) -> bool
+    ensures { result ≡ is.is_of base of }
 {
     match of {
         ExprType::Universal => true,
-        _ => is_integer(value),
+        ExprType::Boolean => false,
+        ExprType::Of(other) => same_base(base, other),
     }
 }
 
-/// The value of a static sum.
-#[tactic(auto, using(spx_num::specs::Widths::fits_laws), unfolding(crate::specs::Typing::sum))]
-fn sum(op: Op, of: ExprType, left: i128, right: i128) -> Option<i128>
-    ensures { result ≡ found.sum op of left right }
+/// Whether an expression of this type is a number.
+pub fn is_number(of: ExprType) -> bool
+    ensures { result ≡ is.is_number of }
 {
-    match checked(op, left, right) {
-        Ok(value) if is_of(of, value) => Some(value),
-        _ => None,
+    matches!(of, ExprType::Universal | ExprType::Of(_))
+}
+
+/// Whether an expression of this type is a truth value.
+pub fn is_boolean(of: ExprType) -> bool
+    ensures { result ≡ is.is_boolean of }
+{
+    matches!(of, ExprType::Boolean)
+}
+
+/// Whether two operands are numbers of one type.
+pub fn meet(left: ExprType, right: ExprType) -> bool
+    ensures { result ≡ is.meet left right }
+{
+    match left {
+        ExprType::Universal => is_number(right),
+        ExprType::Boolean => false,
+        ExprType::Of(base) => is_of(base, right),
     }
 }
 
-#[tactic(auto, unfolding(crate::specs::Typing::sum_typing))]
-fn sum_typing(op: Op, of: ExprType, values: Option<(i128, i128)>) -> Option<Typing>
-    ensures { result ≡ found.sum_typing op of values }
+/// The type that two operands have together: the one of the two that is not universal.
+pub fn met(left: ExprType, right: ExprType) -> ExprType
+    ensures { result ≡ is.met left right }
 {
-    let Some((left, right)) = values else {
-        return Some(Typing { of, value: None });
-    };
-    let value = sum(op, of, left, right)?;
-    Some(Typing {
-        of,
-        value: Some(Value::Number(value)),
-    })
-}
-
-fn comparison_typing(outcome: Option<bool>) -> Typing
-    ensures { result ≡ found.comparison_typing outcome }
-{
-    Typing {
-        of: ExprType::Boolean,
-        value: outcome.map(Value::Truth),
+    match left {
+        ExprType::Universal => right,
+        _ => left,
     }
 }
 
-/// The numbers of two static operands.
-pub fn numbers(left: Typing, right: Typing) -> Option<(i128, i128)>
-    ensures { result ≡ found.numbers left right }
+fn is_between(first: i128, last: i128, n: i128) -> bool
+    ensures { result ≡ is.is_between first last n }
 {
-    match (left.value, right.value) {
-        (Some(Value::Number(left)), Some(Value::Number(right))) => Some((left, right)),
-        _ => None,
-    }
+    first <= n && n <= last
 }
 
-/// The type of an operation, whose operands have the type `of` and, where they are static, these numbers: none, where
-/// its value lies outside of its type.
-#[tactic(auto, unfolding(crate::specs::Typing::operation))]
-pub fn operation(op: InfixOp, of: ExprType, values: Option<(i128, i128)>) -> Option<Typing>
-    ensures { result ≡ found.operation op of values }
-{
-    match op {
-        InfixOp::Add => sum_typing(Op::Add, of, values),
-        InfixOp::Subtract => sum_typing(Op::Sub, of, values),
-        InfixOp::Equal => Some(comparison_typing(values.map(|(a, b)| a == b))),
-        InfixOp::NotEqual => Some(comparison_typing(values.map(|(a, b)| a != b))),
-        InfixOp::Less => Some(comparison_typing(values.map(|(a, b)| a < b))),
-        InfixOp::LessOrEqual => Some(comparison_typing(values.map(|(a, b)| a <= b))),
-        InfixOp::Greater => Some(comparison_typing(values.map(|(a, b)| a > b))),
-        InfixOp::GreaterOrEqual => Some(comparison_typing(values.map(|(a, b)| a >= b))),
-    }
-}
-
-/// Zero, and the number of a static operand.
-fn zero_and(value: Option<Value>) -> Option<(i128, i128)>
-    ensures { result ≡ found.zero_and value }
+/// Whether a value lies in a range, if it is static.
+fn lies_between(first: i128, last: i128, value: Option<i128>) -> bool
+    ensures { result ≡ is.lies_between first last value }
 {
     match value {
-        Some(Value::Number(value)) => Some((0, value)),
+        Some(n) => is_between(first, last, n),
+        None => true,
+    }
+}
+
+/// Whether a value is one of the type, if it is static.
+pub fn lies_in(of: ExprType, value: Option<i128>) -> bool
+    ensures { result ≡ is.lies_in of value }
+{
+    match of {
+        ExprType::Universal | ExprType::Boolean => true,
+        ExprType::Of(base) => lies_between(base.first, base.last, value),
+    }
+}
+
+/// The position of a truth value.
+fn truth(value: bool) -> i128
+    ensures { result ≡ is.truth value }
+{
+    if value { 1 } else { 0 }
+}
+
+/// The value of an operation, where 128 bits hold it.
+#[tactic(auto, using(spx_num::specs::Widths::fits_laws))]
+fn operated(op: InfixOp, m: i128, n: i128) -> Option<i128>
+    ensures { result ≡ fitting (is.operated op m n) }
+{
+    match op {
+        InfixOp::Add => m.checked_add(n),
+        InfixOp::Subtract => m.checked_sub(n),
+        InfixOp::Equal => Some(truth(m == n)),
+        InfixOp::NotEqual => Some(truth(m != n)),
+        InfixOp::Less => Some(truth(m < n)),
+        InfixOp::LessOrEqual => Some(truth(m <= n)),
+        InfixOp::Greater => Some(truth(m > n)),
+        InfixOp::GreaterOrEqual => Some(truth(m >= n)),
+    }
+}
+
+/// The value of a number with a sign before it, where 128 bits hold it.
+#[tactic(auto, using(spx_num::specs::Widths::fits_laws))]
+fn signed(op: PrefixOp, n: i128) -> Option<i128>
+    ensures { result ≡ fitting (is.signed op n) }
+{
+    match op {
+        PrefixOp::Plus => Some(n),
+        PrefixOp::Minus => n.checked_neg(),
+    }
+}
+
+/// The value of an operation, where both operands are static and 128 bits hold it.
+pub fn result_of(op: InfixOp, left: Option<i128>, right: Option<i128>) -> Option<i128>
+    ensures { result ≡ is.result_of op left right }
+{
+    match (left, right) {
+        (Some(m), Some(n)) => operated(op, m, n),
         _ => None,
     }
 }
 
-/// The operation on zero and a number that a sign before the number stands for.
-fn op_of(sign: PrefixOp) -> Op
-    ensures { result ≡ found.op_of sign }
+/// The value of a sign and its operand, where the operand is static and 128 bits hold it.
+pub fn signed_result(op: PrefixOp, operand: Option<i128>) -> Option<i128>
+    ensures { result ≡ is.signed_result op operand }
 {
-    match sign {
-        PrefixOp::Plus => Op::Add,
-        PrefixOp::Minus => Op::Sub,
+    match operand {
+        Some(n) => signed(op, n),
+        None => None,
     }
 }
 
-/// The type of a number with a sign before it: none, where its value lies outside of its type.
-pub fn signed(sign: PrefixOp, operand: Typing) -> Option<Typing>
-    ensures { result ≡ found.signed_as sign operand.of operand.value }
+/// Whether 128 bits hold a value, if the operand is static.
+pub fn is_held(operand: Option<i128>, value: Option<i128>) -> bool
+    ensures { result ≡ is.is_held operand value }
 {
-    match operand.of {
-        ExprType::Boolean => None,
-        of => sum_typing(op_of(sign), of, zero_and(operand.value)),
+    !matches!((operand, value), (Some(_), None))
+}
+
+/// Whether 128 bits hold a value, if both operands are static.
+pub fn both_held(left: Option<i128>, right: Option<i128>, value: Option<i128>) -> bool
+    ensures { result ≡ is.both_held left right value }
+{
+    match left {
+        Some(_) => is_held(right, value),
+        None => true,
     }
 }
 
-/// The type of an expression, where no rule on types is broken in it.
-#[cycle(type_of)]
-#[tactic(auto, using(spx_num::specs::Widths::fits_laws))]
-pub fn type_of(expr: &CoreExpr) -> Option<Typing>
-    ensures { result ≡ found.typing expr.now }
+/// The type of an operation on numbers of this type.
+pub fn result_type(op: InfixOp, of: ExprType) -> ExprType
+    ensures { result ≡ is.result_type op of }
 {
-    match expr {
-        CoreExpr::Number(value, _) => Some(Typing {
-            of: ExprType::Universal,
-            value: Some(Value::Number(*value)),
-        }),
-        CoreExpr::Name(_) => Some(Typing {
-            of: ExprType::Integer,
-            value: None,
-        }),
-        CoreExpr::Attribute(_, designator) => Some(Typing {
-            of: ExprType::Integer,
-            value: Some(Value::Number(attribute(designator))),
-        }),
-        CoreExpr::Parenthesized(_, inner) => type_of(inner.get()),
-        CoreExpr::Prefix(sign, _, operand) => signed(*sign, type_of(operand.get())?),
-        CoreExpr::Infix(op, _, left, right) => {
-            let left = type_of(left.get())?;
-            let right = type_of(right.get())?;
-            operation(*op, meet(left, right)?, numbers(left, right))
-        }
+    match op {
+        InfixOp::Add | InfixOp::Subtract => of,
+        _ => ExprType::Boolean,
     }
-}
-
-/// The value of an expression, where it is static and breaks no rule.
-#[tactic(auto, using(crate::proofs::TypingLaws::static_found))]
-pub fn static_value(expr: &CoreExpr) -> Option<Value>
-    ensures { TypedExpr expr.now → result ≡ option_map value_of (value_is expr.now) }
-{
-    type_of(expr)?.value
-}
-
-fn is_typed_stmt(stmt: &CoreStmt) -> bool
-    ensures { result ≡ found.typed_stmt stmt.now }
-{
-    match stmt {
-        CoreStmt::Null(_) => true,
-        CoreStmt::Assignment(_, expr) => match type_of(expr) {
-            Some(typing) => meets_integer(typing),
-            None => false,
-        },
-    }
-}
-
-fn is_typed_pre(pre: &Option<CorePrecondition>) -> bool
-    ensures { result ≡ found.typed_pre pre.now }
-{
-    let Some(pre) = pre else {
-        return true;
-    };
-    match type_of(&pre.condition) {
-        Some(typing) => typing.of == ExprType::Boolean,
-        None => false,
-    }
-}
-
-fn are_typed_stmts(stmts: &[CoreStmt]) -> bool
-    ensures { result ≡ list_all found.typed_stmt stmts.now }
-{
-    stmts.iter().all(|stmt| is_typed_stmt(stmt))
-}
-
-fn is_typed_sub(sub: &Sub) -> bool
-    ensures { result ≡ found.typed_sub sub.now }
-{
-    is_typed_pre(&sub.pre) && are_typed_stmts(sub.statements.as_slice())
-}
-
-fn are_typed_subs(subs: &[Sub]) -> bool
-    ensures { result ≡ list_all found.typed_sub subs.now }
-{
-    subs.iter().all(|sub| is_typed_sub(sub))
-}
-
-/// Whether no rule on types is broken.
-#[tactic(auto, using(crate::proofs::TypingLaws::typed_Decides))]
-pub fn is_typed(program: &Program) -> bool
-    ensures { Decides result (Typed program.now) }
-{
-    are_typed_subs(program.subs.as_slice())
 }

@@ -1,0 +1,109 @@
+// Names and expressions.
+ghost use Rattle.std.specs.Prelude.{◌≡◌, [], ◌∷◌, IfOk, map};
+ghost use Rattle.spx_core.specs.declared.name.Step.TheVariants as step;
+ghost use Rattle.spx_core.specs.Resolved.{resolved_expr, resolved_name, resolved_reference, resolved_value};
+ghost use Rattle.spx_scope.specs.Seen.{seen};
+
+use spx_core::{CoreExpr, CoreName, Reference, Step};
+use spx_scope::Scope;
+use spx_tree::{Expr, Identifier, Name};
+use sqlite_items::{Boxed, Items};
+use std::alloc::{AllocError, Global};
+
+fn resolve_name(alloc: Global, name: &Identifier, scope: &Scope<'_>) -> Result<CoreName, AllocError>
+    ensures { IfOk result (λ r. r ≡ resolved_name (seen scope.now) name.now) }
+{
+    Ok(CoreName {
+        name: name.copy(alloc)?,
+        entity: scope.look_up(&name.text),
+    })
+}
+
+fn attribute_way(alloc: Global, designator: &Identifier) -> Result<Items<Step>, AllocError>
+    ensures { IfOk result (λ way. way ≡ step.Attribute designator.now ∷ []) }
+{
+    let mut way = Items::new(alloc);
+    way.push(Step::Attribute(designator.copy(alloc)?))?;
+    Ok(way)
+}
+
+/// A name where a variable or a type is needed.
+pub fn resolve_reference(
+    alloc: Global,
+    name: &Name,
+    scope: &Scope<'_>,
+) -> Result<Reference, AllocError>
+    ensures { IfOk result (λ r. r ≡ resolved_reference (seen scope.now) name.now) }
+{
+    match name {
+        Name::Simple(name) => {
+            let root = resolve_name(alloc, name, scope)?;
+            let way = Items::new(alloc);
+            Ok(Reference { root, way })
+        }
+        Name::Attribute(prefix, designator) => {
+            let root = resolve_name(alloc, prefix, scope)?;
+            let way = attribute_way(alloc, designator)?;
+            Ok(Reference { root, way })
+        }
+    }
+}
+
+/// Names where variables are needed.
+pub fn resolve_references(
+    alloc: Global,
+    names: &[Name],
+    scope: &Scope<'_>,
+) -> Result<Items<Reference>, AllocError>
+    ensures { IfOk result (λ r. r ≡ map (resolved_reference (seen scope.now)) names.now) }
+{
+    let mut resolved = Items::new(alloc);
+    for name in names {
+        resolved.push(resolve_reference(alloc, name, scope)?)?;
+    }
+    Ok(resolved)
+}
+
+fn resolve_value(alloc: Global, name: &Name, scope: &Scope<'_>) -> Result<CoreExpr, AllocError>
+    ensures { IfOk result (λ r. r ≡ resolved_value (seen scope.now) name.now) }
+{
+    match name {
+        Name::Simple(name) => Ok(CoreExpr::Name(resolve_name(alloc, name, scope)?)),
+        Name::Attribute(prefix, designator) => {
+            let prefix = resolve_name(alloc, prefix, scope)?;
+            Ok(CoreExpr::Attribute(prefix, designator.copy(alloc)?))
+        }
+    }
+}
+
+#[cycle(resolve_expr)]
+fn resolve_part(
+    alloc: Global,
+    expr: &Boxed<Expr>,
+    scope: &Scope<'_>,
+) -> Result<Boxed<CoreExpr>, AllocError>
+    ensures { IfOk result (λ r. r ≡ resolved_expr (seen scope.now) expr.now) }
+{
+    Boxed::new(alloc, resolve_expr(alloc, expr.get(), scope)?)
+}
+
+/// An expression.
+#[cycle(resolve_expr)]
+pub fn resolve_expr(alloc: Global, expr: &Expr, scope: &Scope<'_>) -> Result<CoreExpr, AllocError>
+    ensures { IfOk result (λ r. r ≡ resolved_expr (seen scope.now) expr.now) }
+{
+    match expr {
+        Expr::Number(value, place) => Ok(CoreExpr::Number(*value, *place)),
+        Expr::Name(name) => Ok(resolve_value(alloc, name, scope)?),
+        Expr::Parenthesized(place, inner) => {
+            Ok(CoreExpr::Parenthesized(*place, resolve_part(alloc, inner, scope)?))
+        }
+        Expr::Prefix(op, place, operand) => {
+            Ok(CoreExpr::Prefix(*op, *place, resolve_part(alloc, operand, scope)?))
+        }
+        Expr::Infix(op, place, left, right) => {
+            let left = resolve_part(alloc, left, scope)?;
+            Ok(CoreExpr::Infix(*op, *place, left, resolve_part(alloc, right, scope)?))
+        }
+    }
+}

@@ -1,0 +1,102 @@
+// Statements and annotations.
+ghost use Rattle.std.specs.Prelude.{◌≡◌, IfOk, map, option_map};
+ghost use Rattle.spx_core.specs.Resolved.{resolved_derives, resolved_item, resolved_pre, resolved_stmt};
+ghost use Rattle.spx_scope.specs.Seen.{seen};
+
+use crate::expression::{resolve_expr, resolve_reference, resolve_references};
+use spx_core::{CoreDerives, CoreDerivesItem, CorePrecondition, CoreStmt};
+use spx_scope::Scope;
+use spx_tree::{Derives, DerivesItem, Precondition, Stmt};
+use sqlite_items::Items;
+use std::alloc::{AllocError, Global};
+
+fn resolve_stmt(alloc: Global, stmt: &Stmt, scope: &Scope<'_>) -> Result<CoreStmt, AllocError>
+    ensures { IfOk result (λ r. r ≡ resolved_stmt (seen scope.now) stmt.now) }
+{
+    match stmt {
+        Stmt::Null(place) => Ok(CoreStmt::Null(*place)),
+        Stmt::Assignment(target, value) => {
+            let target = resolve_reference(alloc, target, scope)?;
+            Ok(CoreStmt::Assignment(target, resolve_expr(alloc, value, scope)?))
+        }
+    }
+}
+
+/// Statements.
+pub fn resolve_stmts(
+    alloc: Global,
+    stmts: &[Stmt],
+    scope: &Scope<'_>,
+) -> Result<Items<CoreStmt>, AllocError>
+    ensures { IfOk result (λ r. r ≡ map (resolved_stmt (seen scope.now)) stmts.now) }
+{
+    let mut resolved = Items::new(alloc);
+    for stmt in stmts {
+        resolved.push(resolve_stmt(alloc, stmt, scope)?)?;
+    }
+    Ok(resolved)
+}
+
+fn resolve_item(
+    alloc: Global,
+    item: &DerivesItem,
+    scope: &Scope<'_>,
+) -> Result<CoreDerivesItem, AllocError>
+    ensures { IfOk result (λ r. r ≡ resolved_item (seen scope.now) item.now) }
+{
+    let exports = resolve_references(alloc, item.exports.as_slice(), scope)?;
+    let imports = resolve_references(alloc, item.imports.names.as_slice(), scope)?;
+    Ok(CoreDerivesItem {
+        exports,
+        itself: item.imports.itself,
+        imports,
+    })
+}
+
+fn resolve_items(
+    alloc: Global,
+    items: &[DerivesItem],
+    scope: &Scope<'_>,
+) -> Result<Items<CoreDerivesItem>, AllocError>
+    ensures { IfOk result (λ r. r ≡ map (resolved_item (seen scope.now)) items.now) }
+{
+    let mut resolved = Items::new(alloc);
+    for item in items {
+        resolved.push(resolve_item(alloc, item, scope)?)?;
+    }
+    Ok(resolved)
+}
+
+/// The dependency relation of a subprogram, if it has one.
+pub fn resolve_derives(
+    alloc: Global,
+    derives: &Option<Derives>,
+    scope: &Scope<'_>,
+) -> Result<Option<CoreDerives>, AllocError>
+    ensures { IfOk result (λ r. r ≡ option_map (resolved_derives (seen scope.now)) derives.now) }
+{
+    match derives {
+        Some(derives) => Ok(Some(CoreDerives {
+            place: derives.place,
+            items: resolve_items(alloc, derives.items.as_slice(), scope)?,
+        })),
+        None => Ok(None),
+    }
+}
+
+/// The precondition of a subprogram, if it has one.
+pub fn resolve_precondition(
+    alloc: Global,
+    pre: &Option<Precondition>,
+    scope: &Scope<'_>,
+) -> Result<Option<CorePrecondition>, AllocError>
+    ensures { IfOk result (λ r. r ≡ option_map (resolved_pre (seen scope.now)) pre.now) }
+{
+    match pre {
+        Some(pre) => Ok(Some(CorePrecondition {
+            place: pre.place,
+            condition: resolve_expr(alloc, &pre.condition, scope)?,
+        })),
+        None => Ok(None),
+    }
+}

@@ -1,0 +1,199 @@
+// Subprograms and programs.
+ghost use Rattle.std.specs.Prelude.{◌≡◌, ◌∷◌, ◌++◌, ◌-◌, [], IfOk, length, map, option_map};
+ghost use Rattle.std.specs.List.{flat_map};
+ghost use Rattle.spx_core.specs.Resolved.{around_body, declared_by_decls, declared_by_params, declaring, declaring_all, own_vars, params_of, resolved, resolved_decls, resolved_derives, resolved_formal_part, resolved_pre, resolved_stmt, resolved_sub, resolved_subs, standard_types, var_of};
+ghost use Rattle.spx_resolve.specs.Ids.{ids_from};
+ghost use Rattle.spx_resolve.specs.Units.{subprogram_of};
+
+use crate::declaration::{declare, resolve_decls, resolve_params};
+use crate::statement::{resolve_derives, resolve_precondition, resolve_stmts};
+use spx_core::{
+    CoreDecl, CoreDerives, CoreFormalPart, CorePrecondition, CoreStmt, Defining, Entity, INTEGER,
+    Program, Sub, SubId, TypeRow, Var, VarId,
+};
+use spx_scope::{Region, Scope, Standard};
+use spx_text::Text;
+use spx_tree::{Identifier, Subprogram, Unit};
+use sqlite_items::Items;
+use std::alloc::{AllocError, Global};
+use std::slice;
+
+/// A region in which only the name of a subprogram is declared.
+fn region_of(alloc: Global, name: &Defining) -> Result<Region, AllocError>
+    ensures { IfOk result (λ region. region ≡ declaring [] name.now) }
+{
+    let mut region = Region::new(alloc);
+    region.declare(name.name.text.copy(alloc)?, name.entity)?;
+    Ok(region)
+}
+
+/// The formal part of a subprogram, whose name is hidden there.
+fn resolve_formal_part(
+    alloc: Global,
+    region: &mut Region,
+    vars: &mut Items<Var>,
+    everywhere: &Standard,
+    subprogram: &Subprogram,
+) -> Result<Option<CoreFormalPart>, AllocError>
+    requires { region.old ≡ [] }
+    ensures { IfOk result (λ r. (r ≡ option_map (resolved_formal_part subprogram.now.name (length vars.old)) subprogram.now.formal_part) × (region.new ≡ declaring_all [] (declared_by_params (params_of r))) × (vars.new ≡ vars.old ++ map var_of (declared_by_params (params_of r)))) }
+{
+    let Some(part) = &subprogram.formal_part else {
+        return Ok(None);
+    };
+    let outermost = Scope::outermost(everywhere);
+    let outer = Scope::hiding(slice::from_ref(&subprogram.name), &outermost);
+    let params = resolve_params(alloc, region, vars, &outer, part.params.as_slice())?;
+    Ok(Some(CoreFormalPart {
+        place: part.place,
+        params,
+    }))
+}
+
+/// The variables from a position on, up to another.
+#[tactic(auto, using(crate::proofs::Declared::ids_step, std::proofs::lemmas::Grind::common_steps))]
+fn ids_between(alloc: Global, first: usize, end: usize) -> Result<Items<VarId>, AllocError>
+    ensures { IfOk result (λ ids. ids ≡ ids_from first (end - first)) }
+{
+    let mut ids = Items::new(alloc);
+    for position in first..end {
+        ids.push(VarId(position))?;
+    }
+    Ok(ids)
+}
+
+/// What stands after the formal part of a subprogram.
+#[derive(Drop)]
+struct Inner {
+    derives: Option<CoreDerives>,
+    pre: Option<CorePrecondition>,
+    declarations: Items<CoreDecl>,
+    statements: Items<CoreStmt>,
+}
+
+/// The annotations and the body of a subprogram: there its name and its formals are seen.
+fn resolve_inner(
+    alloc: Global,
+    formals: Region,
+    vars: &mut Items<Var>,
+    everywhere: &Standard,
+    name: &Defining,
+    subprogram: &Subprogram,
+) -> Result<Inner, AllocError>
+    ensures derives { IfOk result (λ r. r.derives ≡ option_map (resolved_derives (formals ∷ around_body name.now)) subprogram.now.derives) }
+    ensures pre { IfOk result (λ r. r.pre ≡ option_map (resolved_pre (formals ∷ around_body name.now)) subprogram.now.pre) }
+    ensures declarations { IfOk result (λ r. r.declarations ≡ resolved_decls (around_body name.now) formals (length vars.old) subprogram.now.declarations) }
+    ensures statements { IfOk result (λ r. r.statements ≡ map (resolved_stmt (declaring_all formals (declared_by_decls r.declarations) ∷ around_body name.now)) subprogram.now.statements) }
+    ensures vars { IfOk result (λ r. vars.new ≡ vars.old ++ map var_of (declared_by_decls r.declarations)) }
+{
+    let outermost = Scope::outermost(everywhere);
+    let own_name = region_of(alloc, name)?;
+    let outer = Scope::inside(&own_name, &outermost);
+    let mut region = formals;
+    let scope = Scope::inside(&region, &outer);
+    let derives = resolve_derives(alloc, &subprogram.derives, &scope)?;
+    let pre = resolve_precondition(alloc, &subprogram.pre, &scope)?;
+    let declarations = subprogram.declarations.as_slice();
+    let declarations = resolve_decls(alloc, &mut region, vars, &outer, declarations)?;
+    let scope = Scope::inside(&region, &outer);
+    let statements = resolve_stmts(alloc, subprogram.statements.as_slice(), &scope)?;
+    Ok(Inner {
+        derives,
+        pre,
+        declarations,
+        statements,
+    })
+}
+
+fn copy_end_name(alloc: Global, name: &Option<Identifier>) -> Result<Option<Identifier>, AllocError>
+    ensures { IfOk result (λ copied. copied ≡ name.now) }
+{
+    match name {
+        Some(name) => Ok(Some(name.copy(alloc)?)),
+        None => Ok(None),
+    }
+}
+
+/// A subprogram, of which the name is declared.
+fn resolve_subprogram(
+    alloc: Global,
+    vars: &mut Items<Var>,
+    everywhere: &Standard,
+    name: Defining,
+    subprogram: &Subprogram,
+) -> Result<Sub, AllocError>
+    ensures { IfOk result (λ sub. (sub ≡ resolved_sub name (length vars.old) subprogram.now) × (vars.new ≡ vars.old ++ own_vars sub)) }
+{
+    let first = vars.len();
+    let mut formals = Region::new(alloc);
+    let formal_part = resolve_formal_part(alloc, &mut formals, vars, everywhere, subprogram)?;
+    let formal_count = vars.len() - first;
+    let inner = resolve_inner(alloc, formals, vars, everywhere, &name, subprogram)?;
+    let end_name = copy_end_name(alloc, &subprogram.end_name)?;
+    let vars = ids_between(alloc, first, vars.len())?;
+    Ok(Sub {
+        place: subprogram.place,
+        name,
+        formal_part,
+        derives: inner.derives,
+        pre: inner.pre,
+        declarations: inner.declarations,
+        statements: inner.statements,
+        end: subprogram.end,
+        end_name,
+        vars,
+        formal_count,
+    })
+}
+
+/// The subprogram that a unit is.
+fn subprogram_of(unit: &Unit) -> &Subprogram
+    ensures { result.now ≡ subprogram_of unit.now }
+{
+    let Unit::Subprogram(subprogram) = unit;
+    subprogram
+}
+
+/// The subprograms of the units. Each name is declared in the library only so that a second one is found (`again`).
+fn resolve_units(
+    alloc: Global,
+    vars: &mut Items<Var>,
+    everywhere: &Standard,
+    units: &[Unit],
+) -> Result<Items<Sub>, AllocError>
+    ensures { IfOk result (λ subs. (subs ≡ resolved_subs [] 0 (length vars.old) units.now) × (vars.new ≡ vars.old ++ flat_map own_vars subs)) }
+{
+    let outermost = Scope::outermost(everywhere);
+    let mut library = Region::new(alloc);
+    let mut subs = Items::new(alloc);
+    for unit in units {
+        let subprogram = subprogram_of(unit);
+        let entity = Entity::Subprogram(SubId(subs.len()));
+        let name = declare(alloc, &mut library, &outermost, entity, &subprogram.name)?;
+        subs.push(resolve_subprogram(alloc, vars, everywhere, name, subprogram)?)?;
+    }
+    Ok(subs)
+}
+
+/// The table of the predefined types.
+fn predefined_types(alloc: Global) -> Result<Items<TypeRow>, AllocError>
+    ensures { IfOk result (λ types. types ≡ standard_types) }
+{
+    let mut types = Items::new(alloc);
+    types.push(TypeRow {
+        name: Text::new(alloc, b"Integer")?,
+        subtype: INTEGER,
+    })?;
+    Ok(types)
+}
+
+/// The program that the units are.
+pub fn make_program(alloc: Global, units: &[Unit]) -> Result<Program, AllocError>
+    ensures { IfOk result (λ program. program ≡ resolved units.now) }
+{
+    let everywhere = Standard::new(alloc)?;
+    let types = predefined_types(alloc)?;
+    let mut vars = Items::new(alloc);
+    let subs = resolve_units(alloc, &mut vars, &everywhere, units)?;
+    Ok(Program { types, vars, subs })
+}

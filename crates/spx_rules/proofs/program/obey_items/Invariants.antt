@@ -1,0 +1,7 @@
+use Rattle.std.proofs.Common.{◌≡◌, drop}
+use Rattle.spx_core.specs.Judged.{each}
+use Rattle.spx_core.specs.Obeyed.{obeyed_item}
+use Rattle.spx_rules.proofs.program.obey_items.Given as goal
+
+abbrev pub invariant-loop-item : goal.invariant-loop-item
+invariant-loop-item l = each (obeyed_item l.sub) l.items ≡ each (obeyed_item l.sub) (drop l.item-index l.items)

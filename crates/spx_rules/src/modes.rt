@@ -1,0 +1,130 @@
+// U8, U2: the mode of a formal agrees with the relation, and no formal of mode `in` is assigned.
+ghost use Rattle.std.specs.Prelude.{◌≡◌};
+ghost use Rattle.spx_core.specs.Formals.{mode_in};
+ghost use Rattle.spx_core.specs.Judged.{each};
+ghost use Rattle.spx_core.specs.Obeyed as rules;
+
+use spx_core::{
+    Breach, CoreDerivesItem, CoreName, CoreStmt, Entity, Mode, Reference, RuleName, Sub, VarKind,
+    variable_of,
+};
+use spx_types::keeps;
+
+fn mode_in(kind: VarKind) -> Option<Mode>
+    ensures { result ≡ mode_in kind }
+{
+    match kind {
+        VarKind::Formal(mode) => Some(mode),
+        VarKind::Local => None,
+    }
+}
+
+/// The mode of the formal that a name denotes.
+fn mode_named(name: &CoreName) -> Option<Mode>
+    ensures { result ≡ rules.mode_named name.now }
+{
+    match name.entity {
+        Some(Entity::Variable(_, object)) => mode_in(object.kind),
+        _ => None,
+    }
+}
+
+/// Whether the variable that a name denotes is imported.
+pub fn is_imported(sub: &Sub, name: &CoreName) -> bool
+    ensures { result ≡ rules.is_imported sub.now name.now }
+{
+    variable_of(name.entity).is_some_and(|var| sub.imports(var))
+}
+
+fn is_exported(sub: &Sub, name: &CoreName) -> bool
+    ensures { result ≡ rules.is_exported sub.now name.now }
+{
+    variable_of(name.entity).is_some_and(|var| sub.exports(var))
+}
+
+/// Whether a formal of this mode may be such an export. `starred` says that `*` imports it.
+fn export_agrees(mode: Option<Mode>, starred: bool, imported: bool) -> bool
+    ensures { result ≡ rules.export_agrees mode starred imported }
+{
+    match mode {
+        Some(Mode::In) => false,
+        Some(Mode::Out) => !starred,
+        Some(Mode::InOut) => imported,
+        None => true,
+    }
+}
+
+/// Whether a formal of this mode may be such an import.
+fn import_agrees(mode: Option<Mode>, exported: bool) -> bool
+    ensures { result ≡ rules.import_agrees mode exported }
+{
+    match mode {
+        Some(Mode::In) => true,
+        Some(Mode::Out) => false,
+        Some(Mode::InOut) => exported,
+        None => true,
+    }
+}
+
+fn obey_export(sub: &Sub, starred: bool, name: &Reference) -> Result<(), Breach>
+    ensures { result ≡ rules.obeyed_export sub.now starred name.now }
+{
+    let place = name.root.name.place;
+    let mode = mode_named(&name.root);
+    let imported = is_imported(sub, &name.root);
+    keeps(RuleName::U8, place, export_agrees(mode, starred, imported))
+}
+
+fn obey_exports(sub: &Sub, starred: bool, names: &[Reference]) -> Result<(), Breach>
+    ensures { result ≡ each (rules.obeyed_export sub.now starred) names.now }
+{
+    for name in names {
+        obey_export(sub, starred, name)?;
+    }
+    Ok(())
+}
+
+fn obey_import(sub: &Sub, name: &Reference) -> Result<(), Breach>
+    ensures { result ≡ rules.obeyed_import sub.now name.now }
+{
+    let place = name.root.name.place;
+    let mode = mode_named(&name.root);
+    let exported = is_exported(sub, &name.root);
+    keeps(RuleName::U8, place, import_agrees(mode, exported))
+}
+
+fn obey_imports(sub: &Sub, names: &[Reference]) -> Result<(), Breach>
+    ensures { result ≡ each (rules.obeyed_import sub.now) names.now }
+{
+    for name in names {
+        obey_import(sub, name)?;
+    }
+    Ok(())
+}
+
+/// The first name of the item whose mode does not agree with the relation.
+pub fn obey_item(sub: &Sub, item: &CoreDerivesItem) -> Result<(), Breach>
+    ensures { result ≡ rules.obeyed_item sub.now item.now }
+{
+    obey_exports(sub, item.itself.is_some(), item.exports.as_slice())?;
+    obey_imports(sub, item.imports.as_slice())
+}
+
+fn may_be_assigned(mode: Option<Mode>) -> bool
+    ensures { result ≡ rules.may_be_assigned mode }
+{
+    !matches!(mode, Some(Mode::In))
+}
+
+/// An assignment to a formal of mode `in`.
+pub fn obey_stmt(stmt: &CoreStmt) -> Result<(), Breach>
+    ensures { result ≡ rules.obeyed_stmt stmt.now }
+{
+    match stmt {
+        CoreStmt::Null(_) => Ok(()),
+        CoreStmt::Assignment(target, _) => {
+            let assigned = may_be_assigned(mode_named(&target.root));
+            keeps(RuleName::U2, target.root.name.place, assigned)
+        }
+    }
+}

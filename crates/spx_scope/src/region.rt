@@ -1,0 +1,54 @@
+// The declarations of one region (Ada 95 RM 8.1).
+ghost use Rattle.std.specs.Prelude.{◌≡◌, [], Some, OnOk, OnErr};
+ghost use Rattle.spx_core.specs.Regions.{declared_in, with_declaration};
+
+use indexmap::IndexMap;
+use spx_core::Entity;
+use spx_text::Text;
+use std::alloc::{AllocError, Global};
+use std::marker::Model;
+
+/// The declarations of a region, in order. A look-up takes the time of one hash.
+#[derive(Drop)]
+pub struct Region {
+    names: IndexMap<Text, Option<Entity>>,
+}
+
+impl Model for Region {
+    ghost use Rattle.spx_core.specs.Regions.{Region};
+    ghost use Rattle.spx_scope.specs.Entries.{declarations};
+
+    ghost Value = { Region };
+
+    ghost view = { λ region. declarations region.names.entries };
+}
+
+impl Region {
+    /// No declarations.
+    pub fn new(alloc: Global) -> Region
+        ensures { result ≡ [] }
+    {
+        Region {
+            names: IndexMap::new(alloc),
+        }
+    }
+
+    /// What a name denotes by a declaration of this region, if there is one.
+    pub fn get(&self, name: &Text) -> Option<Option<Entity>>
+        ensures { result ≡ declared_in self.now name.now }
+    {
+        self.names.get(name).copied()
+    }
+
+    /// One more declaration, unless the region has one of the name.
+    pub fn declare(&mut self, name: Text, entity: Entity) -> Result<(), AllocError>
+        ensures ok { OnOk result (self.new ≡ with_declaration (record { word = name; entity = Some entity }) self.old) }
+        ensures err { OnErr result (self.new ≡ self.old) }
+    {
+        let None = self.get(&name) else {
+            return Ok(());
+        };
+        self.names.insert(name, Some(entity))?;
+        Ok(())
+    }
+}
