@@ -4,10 +4,10 @@ use Rattle.spx_tree.specs.declared.subprogram.Unit.{Unit}
 use Rattle.spx_core.specs.declared.program.Program.{Program}
 use Rattle.spx_core.specs.declared.subprogram.Sub.{Sub}
 use Rattle.spx_core.specs.declared.rule.Breach.{Breach}
-use Rattle.spx_core.specs.Rules.{Obeys}
+use Rattle.spx_core.specs.Obeyed.{Obeys}
 use Rattle.spx_core.specs.Flow.{HasNoFinding, HasNoFlowFinding}
-use Rattle.spx_core.specs.Walk.{first_name_breach}
-use Rattle.spx_core.specs.RuleWalk.{first_rule_breach}
+use Rattle.spx_core.specs.Statements.{first_name_breach}
+use Rattle.spx_core.specs.Obeyed.{first_rule_breach}
 use Rattle.spx_flow.specs.declared.derives.FlowFinding.{FlowFinding}
 use Rattle.spx_flow.specs.FlowFindings.{Finds, missing, unused, ineffective, unset}
 use Rattle.spx_report.specs.declared.report.Finding.{Finding}

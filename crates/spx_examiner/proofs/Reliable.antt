@@ -11,9 +11,9 @@ use Rattle.spx_tree.specs.Form.{forms_of}
 use Rattle.spx_tree.specs.Goes.{place_with}
 use Rattle.spx_core.specs.declared.program.Program.{Program}
 use Rattle.spx_core.specs.declared.subprogram.Sub.{Sub}
-use Rattle.spx_core.specs.Erase.{erased, erased_unit}
+use Rattle.spx_core.specs.Erased.{erased, erased_unit}
 use Rattle.spx_core.specs.Flow.{HasNoFlowFinding}
-use Rattle.spx_core.specs.Rules.{Obeys}
+use Rattle.spx_core.specs.Obeyed.{Obeys}
 use Rattle.spx_meaning.specs.Fit.{Clean, Fit}
 use Rattle.spx_meaning.specs.Limits.{has_large_condition, has_large_conditions}
 use Rattle.spx_meaning.specs.Laws.{NeverBad, TwoRuns}

@@ -10,12 +10,12 @@ use Rattle.spx_tree.specs.Written.{written}
 use Rattle.spx_tree.specs.Grammar.{IsFile}
 use Rattle.spx_tree.specs.Goes.{Fault, Answers}
 use Rattle.spx_core.specs.declared.program.Program.{Program}
-use Rattle.spx_core.specs.Erase.{erased}
-use Rattle.spx_core.specs.Visible.{Visible}
-use Rattle.spx_core.specs.Typed.{Typed}
-use Rattle.spx_core.specs.Rules.{Obeys}
-use Rattle.spx_core.specs.Walk.{first_name_breach}
-use Rattle.spx_core.specs.RuleWalk.{first_rule_breach}
+use Rattle.spx_core.specs.Erased.{erased}
+use Rattle.spx_core.specs.Erased.{Visible}
+use Rattle.spx_core.specs.Statements.{Typed}
+use Rattle.spx_core.specs.Obeyed.{Obeys}
+use Rattle.spx_core.specs.Statements.{first_name_breach}
+use Rattle.spx_core.specs.Obeyed.{first_rule_breach}
 use Rattle.spx_report.specs.declared.report.Finding.{Finding}
 use Rattle.spx_report.specs.FlowLines.{AreFlowLines}
 

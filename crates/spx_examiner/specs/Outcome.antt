@@ -7,13 +7,13 @@ use Rattle.spx_tree.specs.Form.{forms_of}
 use Rattle.spx_tree.specs.Written.{written}
 use Rattle.spx_tree.specs.Grammar.{IsFile}
 use Rattle.spx_core.specs.declared.program.Program.{Program}
-use Rattle.spx_core.specs.Erase.{erased}
-use Rattle.spx_core.specs.Visible.{Visible}
-use Rattle.spx_core.specs.Typed.{Typed}
-use Rattle.spx_core.specs.Rules.{Obeys}
+use Rattle.spx_core.specs.Erased.{erased}
+use Rattle.spx_core.specs.Erased.{Visible}
+use Rattle.spx_core.specs.Statements.{Typed}
+use Rattle.spx_core.specs.Obeyed.{Obeys}
 use Rattle.spx_core.specs.declared.rule.Breach.{Breach}
-use Rattle.spx_core.specs.Walk.{first_name_breach}
-use Rattle.spx_core.specs.RuleWalk.{first_rule_breach}
+use Rattle.spx_core.specs.Statements.{first_name_breach}
+use Rattle.spx_core.specs.Obeyed.{first_rule_breach}
 use Rattle.spx_core.specs.Flow.{HasNoFlowFinding}
 use Rattle.spx_meaning.specs.Fit.{Clean, Fit}
 use Rattle.spx_meaning.specs.Limits.{has_large_conditions}

@@ -2,10 +2,9 @@
 ghost use Rattle.spx_examiner.specs.Laws.{Laws};
 ghost use Rattle.spx_examiner.specs.Outcome.{OneOutcome};
 
-use spx_core::laws::{name_breaches, one_program};
+use spx_core::laws::{name_breaches, one_program, rule_breaches};
 use spx_parse_unit::one_answer;
 use spx_report::laws::one_list_of_flow_lines;
-use spx_rules::laws::rule_breaches;
 use spx_tree::{one_spelling, one_stop, one_tree};
 
 /// The laws of the crates below.

@@ -1,8 +1,8 @@
 // From units to what there is to report, phase by phase.
 ghost use Rattle.std.specs.Prelude.{◌≡◌, ◌≢◌, ◌≤◌, [], ◌∷◌, length, IfOk};
-ghost use Rattle.spx_core.specs.Erase.{erased};
-ghost use Rattle.spx_core.specs.Visible.{Visible};
-ghost use Rattle.spx_core.specs.Typed.{Typed};
+ghost use Rattle.spx_core.specs.Erased.{erased};
+ghost use Rattle.spx_core.specs.Erased.{Visible};
+ghost use Rattle.spx_core.specs.Statements.{Typed};
 ghost use Rattle.spx_report.specs.RuleTexts.{breach_finding};
 ghost use Rattle.spx_examiner.specs.declared.judgement.Judgement.TheVariants.{Refused};
 ghost use Rattle.spx_examiner.specs.Judgement.{status_of};

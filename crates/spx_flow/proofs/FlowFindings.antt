@@ -5,22 +5,21 @@ use Rattle.std.proofs.lemmas.List.Elements.{Contains-get_or, Contains-append_lef
 use Rattle.std.proofs.lemmas.Grind.{take_at_read}
 use Rattle.std.proofs.lemmas.Bool.{and_parts, and_from, cases_Bool, not-true, not_from_false, false_from_ne_true, both_ways}
 use Rattle.spx_text.specs.declared.place.Place.{Place}
-use Rattle.spx_core.specs.declared.program.VarId.{VarId}
+use Rattle.spx_core.specs.declared.entity.VarId.{VarId}
 use Rattle.spx_core.specs.declared.subprogram.Sub.{Sub}
-use Rattle.spx_core.specs.declared.expression.Entity.{Entity}
-use Rattle.spx_core.specs.declared.expression.Entity.TheVariants as entity
-use Rattle.spx_core.specs.declared.expression.CoreStmt.{CoreStmt}
-use Rattle.spx_core.specs.declared.expression.CoreStmt.TheVariants.{Null, Assignment}
-use Rattle.spx_core.specs.Uses.{is_variable}
+use Rattle.spx_core.specs.declared.statement.CoreStmt.{CoreStmt}
+use Rattle.spx_core.specs.declared.statement.CoreStmt.TheVariants.{Null, Assignment}
+use Rattle.spx_core.specs.Uses.{is_same, variable_of}
+use Rattle.spx_core.specs.Formals.{formals}
 use Rattle.spx_core.specs.Dependency.{exports, derives}
 use Rattle.spx_core.specs.Flow.{assigns, MayFlowAll, Missing, Unused, Ineffective, HasNoFinding}
 use Rattle.spx_flow.specs.declared.flow.Flow.{Flow}
 use Rattle.spx_flow.specs.declared.derives.FlowFinding.{FlowFinding}
 use Rattle.spx_flow.specs.declared.derives.FlowFinding.TheVariants as finding
-use Rattle.spx_flow.specs.FlowLists.{variable_of, reached, exported, has_flow, AreFlowsOf}
+use Rattle.spx_flow.specs.FlowLists.{reached, exported, has_flow, AreFlowsOf}
 use Rattle.spx_flow.specs.UnsetReads.{all_unset}
 use Rattle.spx_flow.specs.FlowFindings.{export_place, is_missing, missing_at, missing_in, is_unused, unused_to, unused_in, reaches_export, ineffective_from, ineffective_at, ineffective_in, unset_findings, findings_of, target_place, Finds, missing, unused, ineffective, unset, AreFindingsOf, AddsFindings, AreFindingsIn}
-use Rattle.spx_core.proofs.Variables.{variable_is, variable_itself}
+use Rattle.spx_core.proofs.Callers.Variables.{same_is, same_itself}
 use Rattle.spx_flow.proofs.FlowLists.{Among, among_contains, contains_among, among_append, among_left, among_right, none_among, among_filter, filter_among, among_map, map_among, among_flat_map, flat_map_among}
 use Rattle.spx_flow.proofs.FlowReached.{any_var, reached_from}
 use Rattle.spx_flow.proofs.FlowMembers.{has_among, the_flow, listed_flow, flow_listed, exported_among, derives_exports}
@@ -48,48 +47,47 @@ unused_found : (sub : Sub) (flows : List Flow) → AreFlowsOf sub flows → (f :
 unused_found sub flows are f h =
     let l = among_flat_map (unused_to sub flows) (exported sub) f h in
     let y = l.0 in
-    let m = among_map (λ from. finding.Unused (export_place sub y) from y) (filter (is_unused sub flows y) sub.formals) f l.2 in
+    let m = among_map (λ from. finding.Unused (export_place sub y) from y) (filter (is_unused sub flows y) (formals sub)) f l.2 in
     let x = m.0 in
-    let k = among_filter (is_unused sub flows y) sub.formals x m.1 in
+    let k = among_filter (is_unused sub flows y) (formals sub) x m.1 in
     let p = and_parts (derives x y sub) (not (has_flow x y flows)) k.1 in
-    let formal = (has_among x sub.formals).1 k.0 in
+    let formal = (has_among x (formals sub)).1 k.0 in
     subst (Finds sub) m.2 (unused (formal, p.0, λ flow. both_ways (has_flow x y flows) (not-true (has_flow x y flows) p.1) ((are x y).1 (formal, flow))))
 
 found_unused : (sub : Sub) (flows : List Flow) → AreFlowsOf sub flows → (x y : VarId) → Unused sub x y → Among (unused_in sub flows) (finding.Unused (export_place sub y) x y)
 found_unused sub flows are x y u =
     flat_map_among (unused_to sub flows) (exported sub) y (finding.Unused (export_place sub y) x y) (exported_among sub y (derives_exports sub x y u.1))
-    (map_among (λ from. finding.Unused (export_place sub y) from y) (filter (is_unused sub flows y) sub.formals) x
-    (filter_among (is_unused sub flows y) sub.formals x ((has_among x sub.formals).0 u.0)
+    (map_among (λ from. finding.Unused (export_place sub y) from y) (filter (is_unused sub flows y) (formals sub)) x
+    (filter_among (is_unused sub flows y) (formals sub) x ((has_among x (formals sub)).0 u.0)
     (and_from (derives x y sub) (not (has_flow x y flows)) u.1 (not_from_false (has_flow x y flows) (false_from_ne_true (has_flow x y flows) (λ listed. u.2 ((are x y).0 listed).1))))))
 
 -- ---- F3
 
 -- a variable from which no export is reached
-unreached : (sub : Sub) (v : VarId) (behind : List CoreStmt) → (reaches_export sub v behind ≡ false) ↔ ((y : VarId) → IsTrue (exports y sub) → ¬ MayFlowAll behind v y)
-unreached sub v behind = (
-  λ none y exported flow. both_ways (reaches_export sub v behind) none ((any_var (λ to. exports to sub) (reached behind (v ∷ []))).1 (y, (reached_from behind v y).1 flow, exported)),
-  λ none. false_from_ne_true (reaches_export sub v behind) (λ h.
-      let w = (any_var (λ to. exports to sub) (reached behind (v ∷ []))).0 h in
-      none w.0 w.2 ((reached_from behind v w.0).0 w.1)),
+unreached : (sub : Sub) (v : VarId) (after : List CoreStmt) → (reaches_export sub v after ≡ false) ↔ ((y : VarId) → IsTrue (exports y sub) → ¬ MayFlowAll after v y)
+unreached sub v after = (
+  λ none y exported flow. both_ways (reaches_export sub v after) none ((any_var (λ to. exports to sub) (reached after (v ∷ []))).1 (y, (reached_from after v y).1 flow, exported)),
+  λ none. false_from_ne_true (reaches_export sub v after) (λ h.
+      let w = (any_var (λ to. exports to sub) (reached after (v ∷ []))).0 h in
+      none w.0 w.2 ((reached_from after v w.0).0 w.1)),
 )
 
-denoted : (e : Entity) (v : VarId) → variable_of e ≡ Some v → is_variable v e ≡ true
-denoted (entity.Variable w) v h = let s : ◌≡◌ {A = Option VarId} (Some w) (Some v) = h in let is : w ≡ v = cc in subst (λ x. is_variable x (entity.Variable w) ≡ true) is (variable_itself w)
-denoted _ v h = absurd (cc)
+denoted : (o : Option VarId) (v : VarId) → o ≡ Some v → is_same v o ≡ true
+denoted o v h = ap (is_same v) h ∙ same_itself v
 
-from_found : (sub : Sub) (o : Option VarId) (place : Place) (behind : List CoreStmt) (f : FlowFinding) → Among (ineffective_from sub o place behind) f → (v : VarId) × (o ≡ Some v) × (reaches_export sub v behind ≡ false) × (finding.Ineffective place ≡ f)
-from_found sub (Some v) place behind f h =
-    elim (cases_Bool (reaches_export sub v behind)) [
+from_found : (sub : Sub) (o : Option VarId) (place : Place) (after : List CoreStmt) (f : FlowFinding) → Among (ineffective_from sub o place after) f → (v : VarId) × (o ≡ Some v) × (reaches_export sub v after ≡ false) × (finding.Ineffective place ≡ f)
+from_found sub (Some v) place after f h =
+    elim (cases_Bool (reaches_export sub v after)) [
       | inl is ↦ absurd (subst (λ b. Among (cond b [] (finding.Ineffective place ∷ [])) f) is h)
       | inr is ↦ (v, refl, is, ⊎_elim (λ e. e) (λ none. absurd none) (subst (λ b. Among (cond b [] (finding.Ineffective place ∷ [])) f) is h))
     ]
-from_found sub None place behind f h = absurd h
+from_found sub None place after f h = absurd h
 
-at_found : (sub : Sub) (before : List CoreStmt) (s : CoreStmt) (behind : List CoreStmt) → sub.statements ≡ before ++ s ∷ behind → (f : FlowFinding) → Among (ineffective_at sub s behind) f → Finds sub f
-at_found sub before (Null place) behind parts f h = absurd h
-at_found sub before (Assignment target value) behind parts f h =
-    let w = from_found sub (variable_of target.entity) target.name.place behind f h in
-    subst (Finds sub) w.3 (ineffective before (Assignment target value) behind parts (w.0, denoted target.entity w.0 w.1, (unreached sub w.0 behind).0 w.2))
+at_found : (sub : Sub) (before : List CoreStmt) (s : CoreStmt) (after : List CoreStmt) → sub.statements ≡ before ++ s ∷ after → (f : FlowFinding) → Among (ineffective_at sub s after) f → Finds sub f
+at_found sub before (Null place) after parts f h = absurd h
+at_found sub before (Assignment target value) after parts f h =
+    let w = from_found sub (variable_of target.root.entity) target.root.name.place after f h in
+    subst (Finds sub) w.3 (ineffective before (Assignment target value) after parts (w.0, denoted (variable_of target.root.entity) w.0 w.1, (unreached sub w.0 after).0 w.2))
 
 ineffective_found : (sub : Sub) (before stmts : List CoreStmt) → sub.statements ≡ before ++ stmts → (f : FlowFinding) → Among (ineffective_in sub stmts) f → Finds sub f
 ineffective_found sub before [] parts f h = absurd h
@@ -98,20 +96,20 @@ ineffective_found sub before (s ∷ rest) parts f h =
     (λ later. ineffective_found sub (before ++ s ∷ []) rest (parts ∙ sym (append_assoc before (s ∷ []) rest)) f later)
     (among_append (ineffective_at sub s rest) (ineffective_in sub rest) f h)
 
-found_at : (sub : Sub) (s : CoreStmt) (behind : List CoreStmt) (v : VarId) → assigns v s ≡ true → reaches_export sub v behind ≡ false → Among (ineffective_at sub s behind) (finding.Ineffective (target_place s))
-found_at sub (Null place) behind v is none = absurd (cc)
-found_at sub (Assignment target value) behind v is none =
-    subst (λ o. Among (ineffective_from sub o target.name.place behind) (finding.Ineffective target.name.place)) (sym (ap variable_of (variable_is v target.entity is)))
-    (subst (λ b. Among (cond b [] (finding.Ineffective target.name.place ∷ [])) (finding.Ineffective target.name.place)) (sym none) (inl refl))
+found_at : (sub : Sub) (s : CoreStmt) (after : List CoreStmt) (v : VarId) → assigns v s ≡ true → reaches_export sub v after ≡ false → Among (ineffective_at sub s after) (finding.Ineffective (target_place s))
+found_at sub (Null place) after v is none = absurd (cc)
+found_at sub (Assignment target value) after v is none =
+    subst (λ o. Among (ineffective_from sub o target.root.name.place after) (finding.Ineffective target.root.name.place)) (sym (same_is v (variable_of target.root.entity) is))
+    (subst (λ b. Among (cond b [] (finding.Ineffective target.root.name.place ∷ [])) (finding.Ineffective target.root.name.place)) (sym none) (inl refl))
 
-found_later : (sub : Sub) (before : List CoreStmt) (s : CoreStmt) (behind : List CoreStmt) (f : FlowFinding) → Among (ineffective_at sub s behind) f → Among (ineffective_in sub (before ++ s ∷ behind)) f
-found_later sub [] s behind f h = among_left (ineffective_at sub s behind) (ineffective_in sub behind) f h
-found_later sub (first ∷ before) s behind f h = among_right (ineffective_at sub first (before ++ s ∷ behind)) (ineffective_in sub (before ++ s ∷ behind)) f (found_later sub before s behind f h)
+found_later : (sub : Sub) (before : List CoreStmt) (s : CoreStmt) (after : List CoreStmt) (f : FlowFinding) → Among (ineffective_at sub s after) f → Among (ineffective_in sub (before ++ s ∷ after)) f
+found_later sub [] s after f h = among_left (ineffective_at sub s after) (ineffective_in sub after) f h
+found_later sub (first ∷ before) s after f h = among_right (ineffective_at sub first (before ++ s ∷ after)) (ineffective_in sub (before ++ s ∷ after)) f (found_later sub before s after f h)
 
-found_ineffective : (sub : Sub) (before : List CoreStmt) (s : CoreStmt) (behind : List CoreStmt) → sub.statements ≡ before ++ s ∷ behind → Ineffective sub s behind → Among (ineffective_in sub sub.statements) (finding.Ineffective (target_place s))
-found_ineffective sub before s behind parts i =
+found_ineffective : (sub : Sub) (before : List CoreStmt) (s : CoreStmt) (after : List CoreStmt) → sub.statements ≡ before ++ s ∷ after → Ineffective sub s after → Among (ineffective_in sub sub.statements) (finding.Ineffective (target_place s))
+found_ineffective sub before s after parts i =
     subst (λ stmts. Among (ineffective_in sub stmts) (finding.Ineffective (target_place s))) (sym parts)
-    (found_later sub before s behind (finding.Ineffective (target_place s)) (found_at sub s behind i.0 i.1 ((unreached sub i.0 behind).1 i.2)))
+    (found_later sub before s after (finding.Ineffective (target_place s)) (found_at sub s after i.0 i.1 ((unreached sub i.0 after).1 i.2)))
 
 -- ---- F4
 
@@ -144,9 +142,9 @@ module _ (sub : Sub) (flows : List Flow) (are : AreFlowsOf sub flows) where
   found_all : (f : FlowFinding) → Finds sub f → Among (findings_of sub flows) f
   found_all _ (missing {x} {y} m) = of_two (finding.Missing (export_place sub y) x y) (among_left (missing_in sub flows) (unused_in sub flows) (finding.Missing (export_place sub y) x y) (found_missing sub flows are x y m))
   found_all _ (unused {x} {y} u) = of_two (finding.Unused (export_place sub y) x y) (among_right (missing_in sub flows) (unused_in sub flows) (finding.Unused (export_place sub y) x y) (found_unused sub flows are x y u))
-  found_all _ (ineffective before s behind parts i) =
+  found_all _ (ineffective before s after parts i) =
       among_left first_three (unset_findings sub) (finding.Ineffective (target_place s))
-      (among_right first_two (ineffective_in sub sub.statements) (finding.Ineffective (target_place s)) (found_ineffective sub before s behind parts i))
+      (among_right first_two (ineffective_in sub sub.statements) (finding.Ineffective (target_place s)) (found_ineffective sub before s after parts i))
   found_all _ (unset {place} {v} m) =
       among_right first_three (unset_findings sub) (finding.UnsetRead place v) (map_among read_finding (all_unset sub) (place, v) (contains_among (all_unset sub) (place, v) ((are_unset_reads sub place v).1 m)))
 
@@ -158,14 +156,14 @@ module _ (sub : Sub) (flows : List Flow) (are : AreFlowsOf sub flows) where
 no_finding : (sub : Sub) → HasNoFinding sub → (f : FlowFinding) → ¬ Finds sub f
 no_finding sub none _ (missing {x} {y} m) = none.none_missing x y m
 no_finding sub none _ (unused {x} {y} u) = none.none_unused x y u
-no_finding sub none _ (ineffective before s behind parts i) = none.none_ineffective before s behind parts i
+no_finding sub none _ (ineffective before s after parts i) = none.none_ineffective before s after parts i
 no_finding sub none _ (unset {place} {v} m) = none.none_unset place v m
 
 finds_nothing : (sub : Sub) → ((f : FlowFinding) → ¬ Finds sub f) → HasNoFinding sub
 finds_nothing sub none = record {
   none_missing = λ x y m. none (finding.Missing (export_place sub y) x y) (missing m);
   none_unused = λ x y u. none (finding.Unused (export_place sub y) x y) (unused u);
-  none_ineffective = λ before s behind parts i. none (finding.Ineffective (target_place s)) (ineffective before s behind parts i);
+  none_ineffective = λ before s after parts i. none (finding.Ineffective (target_place s)) (ineffective before s after parts i);
   none_unset = λ place v m. none (finding.UnsetRead place v) (unset m);
 }
 

@@ -1,21 +1,21 @@
 -- Flows, variables and exports as members of lists.
-use Rattle.std.proofs.Common.{◌≡◌, ◌↔◌, Bool, true, false, ◌&&◌, ◌||◌, List, [], ◌∷◌, is_some, Option, Some, None, refl, sym, ap, ap₂, ◌∙◌, inl, inr, eqb}
-use Rattle.std.specs.Option.{option_to_list}
-use Rattle.std.specs.List.{list_any, flat_map, cons_option}
+use Rattle.std.proofs.Common.{◌≡◌, ◌↔◌, true, ◌&&◌, ◌||◌, List, [], ◌∷◌, is_some, refl, sym, ap, ap₂, ◌∙◌, inl, inr, eqb}
+use Rattle.std.specs.List.{list_any, flat_map}
 use Rattle.std.proofs.lemmas.List.Folds.{list_any-append}
 use Rattle.std.proofs.lemmas.Bool.{eqb-true, eq-eqb, and_parts, and_from, or_cases, or_left, or_right}
-use Rattle.spx_core.specs.declared.program.VarId.{VarId}
-use Rattle.spx_core.specs.declared.expression.CoreName.{CoreName}
+use Rattle.spx_core.specs.declared.entity.VarId.{VarId}
 use Rattle.spx_core.specs.declared.subprogram.Sub.{Sub}
 use Rattle.spx_core.specs.declared.dependency.CoreDerivesItem.{CoreDerivesItem}
 use Rattle.spx_core.specs.Uses.{mentions}
-use Rattle.spx_core.specs.Dependency.{has_export, has_pair, relation, exports, derives}
+use Rattle.spx_core.specs.Dependency.{relation, exports, derives, variables}
+use Rattle.spx_core.specs.DerivesItems.{has_export, has_pair}
 use Rattle.spx_flow.specs.declared.flow.Flow.{Flow}
-use Rattle.spx_flow.specs.FlowLists.{variable_of, variables, exported, has_flow}
-use Rattle.spx_core.proofs.ListTests.{covers}
-use Rattle.spx_core.proofs.Variables.{same_var}
+use Rattle.spx_flow.specs.FlowLists.{exported, has_flow}
+use Rattle.spx_core.proofs.Callers.ListTests.{covers}
+use Rattle.spx_core.proofs.Callers.Variables.{same_var}
+use Rattle.spx_core.proofs.Callers.Pairs.{derives_are, exports_are, variables_are}
 use Rattle.spx_flow.proofs.FlowLists.{Among}
-use Rattle.spx_flow.proofs.FlowReached.{has, has_option}
+use Rattle.spx_flow.proofs.FlowReached.{has}
 
 -- ---- members
 
@@ -50,28 +50,18 @@ flow_listed (g ∷ flows) f (inl e) =
     (and_from (eqb g.from.0 f.from.0) (eqb g.to.0 f.to.0) (eq-eqb g.from.0 f.from.0 (ap (λ (x : Flow). x.from.0) e)) (eq-eqb g.to.0 f.to.0 (ap (λ (x : Flow). x.to.0) e)))
 flow_listed (g ∷ flows) f (inr h) = or_right (eqb g.from.0 f.from.0 && eqb g.to.0 f.to.0) (has_flow f.from f.to flows) (flow_listed flows f h)
 
-has_first : (v : VarId) (o : Option VarId) (vars : List VarId) → has v (cons_option o vars) ≡ (has v (option_to_list o) || has v vars)
-has_first v None vars = refl
-has_first v (Some w) vars = by_test (eqb w.0 v.0) where
-  by_test : (b : Bool) → (b || has v vars) ≡ ((b || false) || has v vars)
-  by_test true = refl
-  by_test false = refl
-
-variables_has : (v : VarId) (names : List CoreName) → has v (variables names) ≡ mentions v names
-variables_has v [] = refl
-variables_has v (name ∷ names) = has_first v (variable_of name.entity) (variables names) ∙ ap₂ ◌||◌ (has_option v name.entity) (variables_has v names)
-
 exported_has : (v : VarId) (items : List CoreDerivesItem) → has v (flat_map (λ (item : CoreDerivesItem). variables item.exports) items) ≡ list_any (has_export v) items
 exported_has v [] = refl
 exported_has v (item ∷ items) =
-    list_any-append (λ w. eqb w.0 v.0) (variables item.exports) (flat_map (λ (item : CoreDerivesItem). variables item.exports) items) ∙ ap₂ ◌||◌ (variables_has v item.exports) (exported_has v items)
+    list_any-append (λ w. eqb w.0 v.0) (variables item.exports) (flat_map (λ (item : CoreDerivesItem). variables item.exports) items) ∙ ap₂ ◌||◌ (variables_are v item.exports) (exported_has v items)
 
 pub exported_among : (sub : Sub) (v : VarId) → exports v sub ≡ true → Among (exported sub) v
-exported_among sub v h = (has_among v (exported sub)).0 (exported_has v (relation sub) ∙ h)
+exported_among sub v h = (has_among v (exported sub)).0 (exported_has v (relation sub) ∙ sym (exports_are v sub) ∙ h)
 
 pub among_exported : (sub : Sub) (v : VarId) → Among (exported sub) v → exports v sub ≡ true
-among_exported sub v h = sym (exported_has v (relation sub)) ∙ (has_among v (exported sub)).1 h
+among_exported sub v h = exports_are v sub ∙ sym (exported_has v (relation sub)) ∙ (has_among v (exported sub)).1 h
 
 pub derives_exports : (sub : Sub) (x y : VarId) → derives x y sub ≡ true → exports y sub ≡ true
 derives_exports sub x y h =
-    covers (has_pair x y) (has_export y) (λ item is. (and_parts (has_export y item) (mentions x item.imports || (is_some item.itself && eqb x.0 y.0)) is).0) (relation sub) h
+    exports_are y sub
+    ∙ covers (has_pair x y) (has_export y) (λ item is. (and_parts (has_export y item) (mentions x item.imports || (is_some item.itself && eqb x.0 y.0)) is).0) (relation sub) (sym (derives_are x y sub) ∙ h)

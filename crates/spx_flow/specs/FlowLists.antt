@@ -1,26 +1,19 @@
 -- Where flows lead, as lists of variables.
-use Rattle.std.specs.Prelude.{◌↔◌, ◌==◌, Bool, not, ◌&&◌, if◌then◌else◌, IsTrue, Option, Some, None, List, [], ◌∷◌, ◌++◌, map, filter}
-use Rattle.std.specs.List.{list_any, flat_map, filter_map}
+use Rattle.std.specs.Prelude.{◌↔◌, ◌==◌, Bool, not, ◌&&◌, if◌then◌else◌, IsTrue, List, [], ◌∷◌, ◌++◌, map, filter}
+use Rattle.std.specs.List.{list_any, flat_map}
 use Rattle.std.specs.Option.{option_to_list}
-use Rattle.spx_core.specs.declared.program.VarId.{VarId}
+use Rattle.spx_core.specs.declared.entity.VarId.{VarId}
 use Rattle.spx_core.specs.declared.subprogram.Sub.{Sub}
 use Rattle.spx_core.specs.declared.dependency.CoreDerivesItem.{CoreDerivesItem}
-use Rattle.spx_core.specs.declared.expression.Entity.{Entity}
-use Rattle.spx_core.specs.declared.expression.Entity.TheVariants as entity
-use Rattle.spx_core.specs.declared.expression.CoreName.{CoreName}
+use Rattle.spx_core.specs.declared.name.CoreName.{CoreName}
 use Rattle.spx_core.specs.declared.expression.CoreExpr.{CoreExpr}
-use Rattle.spx_core.specs.declared.expression.CoreStmt.{CoreStmt}
-use Rattle.spx_core.specs.declared.expression.CoreStmt.TheVariants.{Null, Assignment}
-use Rattle.spx_core.specs.Uses.{denotes, uses}
-use Rattle.spx_core.specs.Dependency.{relation}
-use Rattle.spx_core.specs.Formals.{is_formal}
+use Rattle.spx_core.specs.declared.statement.CoreStmt.{CoreStmt}
+use Rattle.spx_core.specs.declared.statement.CoreStmt.TheVariants.{Null, Assignment}
+use Rattle.spx_core.specs.Uses.{denotes, uses, variable_of}
+use Rattle.spx_core.specs.Dependency.{relation, variables}
+use Rattle.spx_core.specs.Formals.{formals, is_formal}
 use Rattle.spx_core.specs.Flow.{MayFlowAll}
 use Rattle.spx_flow.specs.declared.flow.Flow.{Flow}
-
--- the variable that a name denotes
-abbrev pub variable_of : Entity → Option VarId
-variable_of (entity.Variable v) = Some v
-variable_of _ = None
 
 abbrev pub kept : CoreName → List VarId → List VarId
 kept target vars = filter (λ v. not (denotes v target)) vars
@@ -35,7 +28,7 @@ given target value vars = if reads_any value vars then option_to_list (variable_
 -- the variables to which a statement leads from one of these
 abbrev pub passed : CoreStmt → List VarId → List VarId
 passed (Null place) vars = vars
-passed (Assignment target value) vars = kept target vars ++ given target value vars
+passed (Assignment target value) vars = kept target.root vars ++ given target.root value vars
 
 -- the same for statements
 abbrev pub reached : List CoreStmt → List VarId → List VarId
@@ -46,10 +39,7 @@ abbrev pub flows_from : List CoreStmt → VarId → List Flow
 flows_from stmts from = map (λ to. let flow : Flow = record { from = from; to = to } in flow) (reached stmts (from ∷ []))
 
 abbrev pub flows_in : Sub → List Flow
-flows_in sub = flat_map (flows_from sub.statements) sub.formals
-
-abbrev pub variables : List CoreName → List VarId
-variables names = filter_map (λ (name : CoreName). variable_of name.entity) names
+flows_in sub = flat_map (flows_from sub.statements) (formals sub)
 
 -- the exports of a subprogram, in the order of its relation
 abbrev pub exported : Sub → List VarId

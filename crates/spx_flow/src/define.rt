@@ -1,10 +1,10 @@
 // Reads of variables that may be unset (Bergeretti and Carré, TOPLAS 1985).
 ghost use Rattle.std.specs.Prelude.{◌≡◌, ◌++◌, [], IfOk, OnOk};
 ghost use Rattle.spx_core.specs.Flow.{assigns, defines};
-ghost use Rattle.spx_flow.specs.UnsetReads.{may_be_unset, unset_names, unset_in, unset_behind, left_unset, all_unset, AreUnsetReads};
+ghost use Rattle.spx_flow.specs.UnsetReads.{may_be_unset, unset_names, unset_in, unset_after, left_unset, all_unset, AreUnsetReads};
 
 use crate::flow::exported;
-use spx_core::{CoreExpr, CoreStmt, Entity, Sub, VarId};
+use spx_core::{CoreExpr, CoreStmt, Sub, VarId, variable_of};
 use spx_text::Place;
 use std::alloc::{AllocError, Global};
 
@@ -13,7 +13,7 @@ fn assigns(stmt: &CoreStmt, var: VarId) -> bool
 {
     match stmt {
         CoreStmt::Null(_) => false,
-        CoreStmt::Assignment(target, _) => target.denotes(var),
+        CoreStmt::Assignment(target, _) => target.root.denotes(var),
     }
 }
 
@@ -23,7 +23,7 @@ fn defines(stmts: &[CoreStmt], var: VarId) -> bool
     stmts.iter().any(|stmt| assigns(stmt, var))
 }
 
-/// Whether the variable may be unset behind these statements. Imports are set from the start.
+/// Whether the variable may be unset after these statements. Imports are set from the start.
 fn may_be_unset(sub: &Sub, before: &[CoreStmt], var: VarId) -> bool
     ensures { result ≡ may_be_unset sub.now before.now var }
 {
@@ -43,8 +43,8 @@ fn add_unset_names(
     match expr {
         CoreExpr::Number(_, _) => Ok(()),
         CoreExpr::Attribute(_, _) => Ok(()),
-        CoreExpr::Name(name) => match name.entity {
-            Entity::Variable(var) if may_be_unset(sub, before, var) => {
+        CoreExpr::Name(name) => match variable_of(name.entity) {
+            Some(var) if may_be_unset(sub, before, var) => {
                 reads.push((name.name.place, var))?;
                 Ok(())
             }
@@ -59,7 +59,7 @@ fn add_unset_names(
     }
 }
 
-/// Adds the unset reads of a statement that stands behind `before`.
+/// Adds the unset reads of a statement that stands after `before`.
 fn add_unset_in(
     sub: &Sub,
     before: &[CoreStmt],
@@ -75,7 +75,7 @@ fn add_unset_in(
 }
 
 fn read_unset(alloc: Global, sub: &Sub) -> Result<Vec<(Place, VarId)>, AllocError>
-    ensures { IfOk result (λ reads. reads.items ≡ unset_behind sub.now [] sub.now.statements) }
+    ensures { IfOk result (λ reads. reads.items ≡ unset_after sub.now [] sub.now.statements) }
 {
     let stmts = sub.statements.as_slice();
     let mut reads = Vec::new(alloc);

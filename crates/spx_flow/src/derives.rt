@@ -5,8 +5,8 @@ ghost use Rattle.spx_flow.specs.FlowFindings.{place_in_item, export_place, is_mi
 ghost use Rattle.spx_flow.specs.FlowLists.{AreFlowsOf};
 
 use crate::define::all_unset;
-use crate::flow::{Flow, exported, flow_of, has_flow, reached, variable};
-use spx_core::{CoreDerivesItem, CoreStmt, Sub, VarId};
+use crate::flow::{Flow, exported, flow_of, has_flow, reached};
+use spx_core::{CoreDerivesItem, CoreStmt, Sub, VarId, variable_of};
 use spx_text::Place;
 use std::alloc::{AllocError, Global};
 
@@ -27,8 +27,8 @@ fn place_in_item(item: &CoreDerivesItem, export: VarId) -> Option<Place>
     ensures { result ≡ place_in_item export item.now }
 {
     for name in item.exports.as_slice() {
-        if name.denotes(export) {
-            return Some(name.name.place);
+        if name.root.denotes(export) {
+            return Some(name.root.name.place);
         }
     }
     None
@@ -85,8 +85,7 @@ fn unused_to(
     ensures { IfOk result (λ found. found.items ≡ unused_to sub.now flows.now to) }
 {
     let place = export_place(sub, to);
-    sub.formals
-        .as_slice()
+    sub.formals()
         .iter()
         .copied()
         .filter(|from| is_unused(sub, flows, to, *from))
@@ -112,11 +111,11 @@ fn reaches_export(
     alloc: Global,
     sub: &Sub,
     var: VarId,
-    behind: &[CoreStmt],
+    after: &[CoreStmt],
 ) -> Result<bool, AllocError>
-    ensures { IfOk result (λ yes. yes ≡ reaches_export sub.now var behind.now) }
+    ensures { IfOk result (λ yes. yes ≡ reaches_export sub.now var after.now) }
 {
-    let vars = reached(alloc, behind, var)?;
+    let vars = reached(alloc, after, var)?;
     Ok(vars.iter().any(|to| sub.exports(*to)))
 }
 
@@ -125,20 +124,20 @@ fn ineffective_at(
     alloc: Global,
     sub: &Sub,
     stmt: &CoreStmt,
-    behind: &[CoreStmt],
+    after: &[CoreStmt],
 ) -> Result<Option<FlowFinding>, AllocError>
-    ensures { IfOk result (λ found. option_to_list found ≡ ineffective_at sub.now stmt.now behind.now) }
+    ensures { IfOk result (λ found. option_to_list found ≡ ineffective_at sub.now stmt.now after.now) }
 {
     let CoreStmt::Assignment(target, _) = stmt else {
         return Ok(None);
     };
-    let Some(var) = variable(target) else {
+    let Some(var) = variable_of(target.root.entity) else {
         return Ok(None);
     };
-    if reaches_export(alloc, sub, var, behind)? {
+    if reaches_export(alloc, sub, var, after)? {
         Ok(None)
     } else {
-        Ok(Some(FlowFinding::Ineffective(target.name.place)))
+        Ok(Some(FlowFinding::Ineffective(target.root.name.place)))
     }
 }
 

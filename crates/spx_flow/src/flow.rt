@@ -3,10 +3,10 @@ ghost use Rattle.std.specs.Prelude.{◌≡◌, ◌∷◌, [], IfOk};
 ghost use Rattle.std.specs.Option.{option_to_list};
 ghost use Rattle.std.specs.List.{list_any, flat_map};
 ghost use Rattle.spx_core.specs.Uses.{uses};
-ghost use Rattle.spx_core.specs.declared.expression.CoreStmt.TheVariants.{Assignment};
-ghost use Rattle.spx_flow.specs.FlowLists.{variable_of, variables, exported, kept, reads_any, given, passed, reached, flows_from, flows_in, has_flow, AreFlowsOf};
+ghost use Rattle.spx_core.specs.Dependency.{variables};
+ghost use Rattle.spx_flow.specs.FlowLists.{exported, kept, reads_any, given, passed, reached, flows_from, flows_in, has_flow, AreFlowsOf};
 
-use spx_core::{CoreExpr, CoreName, CoreStmt, Entity, Sub, VarId};
+use spx_core::{CoreExpr, CoreName, CoreStmt, Reference, Sub, VarId, variable_of};
 use std::alloc::{AllocError, Global};
 
 /// The value of `to` after the statements may depend on that of `from` before them.
@@ -16,22 +16,12 @@ pub struct Flow {
     pub to: VarId,
 }
 
-/// The variable that a name denotes.
-pub(crate) fn variable(name: &CoreName) -> Option<VarId>
-    ensures { result ≡ variable_of name.now.entity }
-{
-    match name.entity {
-        Entity::Variable(var) => Some(var),
-        _ => None,
-    }
-}
-
-fn variables(alloc: Global, names: &[CoreName]) -> Result<Vec<VarId>, AllocError>
+fn variables(alloc: Global, names: &[Reference]) -> Result<Vec<VarId>, AllocError>
     ensures { IfOk result (λ vars. vars.items ≡ variables names.now) }
 {
     names
         .iter()
-        .filter_map(|name| variable(name))
+        .filter_map(|name| variable_of(name.root.entity))
         .collect(alloc)
 }
 
@@ -69,21 +59,21 @@ fn given(target: &CoreName, value: &CoreExpr, vars: &[VarId]) -> Option<VarId>
     ensures { option_to_list result ≡ given target.now value.now vars.now }
 {
     if reads_any(value, vars) {
-        variable(target)
+        variable_of(target.entity)
     } else {
         None
     }
 }
 
-/// The variables whose values behind the statement may come from those of `vars` before it.
+/// The variables whose values after the statement may come from those of `vars` before it.
 fn passed(alloc: Global, stmt: &CoreStmt, vars: &[VarId]) -> Result<Vec<VarId>, AllocError>
     ensures { IfOk result (λ after. after.items ≡ passed stmt.now vars.now) }
 {
     match stmt {
         CoreStmt::Null(_) => vars.iter().copied().collect(alloc),
         CoreStmt::Assignment(target, value) => {
-            let mut after = kept(alloc, target, vars)?;
-            if let Some(var) = given(target, value, vars) {
+            let mut after = kept(alloc, &target.root, vars)?;
+            if let Some(var) = given(&target.root, value, vars) {
                 after.push(var)?;
             }
             Ok(after)
@@ -91,7 +81,7 @@ fn passed(alloc: Global, stmt: &CoreStmt, vars: &[VarId]) -> Result<Vec<VarId>, 
     }
 }
 
-/// The variables whose values behind the statements may come from that of `from` before them.
+/// The variables whose values after the statements may come from that of `from` before them.
 pub(crate) fn reached(
     alloc: Global,
     stmts: &[CoreStmt],
@@ -118,7 +108,7 @@ fn flows_in(alloc: Global, sub: &Sub) -> Result<Vec<Flow>, AllocError>
 {
     let stmts = sub.statements.as_slice();
     let mut flows = Vec::new(alloc);
-    for var in sub.formals.as_slice() {
+    for var in sub.formals() {
         let mut more = flows_from(alloc, stmts, *var)?;
         flows.append(&mut more)?;
     }
@@ -132,7 +122,7 @@ pub(crate) fn has_flow(flows: &[Flow], from: VarId, to: VarId) -> bool
     flows.iter().any(|flow| flow.from == from && flow.to == to)
 }
 
-/// All flows from the formals before the body to what they lead to behind it.
+/// All flows from the formals before the body to what they lead to after it.
 pub fn flow_of(alloc: Global, sub: &Sub) -> Result<Vec<Flow>, AllocError>
     ensures { IfOk result (λ flows. AreFlowsOf sub.now flows.items) }
 {

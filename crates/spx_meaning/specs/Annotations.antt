@@ -1,20 +1,20 @@
 -- What an annotation says of a store. Its numbers have no bound, and it has a truth value always.
 use Rattle.std.specs.Prelude.{pos, Bool, Option, Some, None}
-use Rattle.spx_core.specs.declared.program.TypeId.{TypeId}
+use Rattle.spx_core.specs.declared.entity.Subtype.{Subtype}
 use Rattle.spx_core.specs.declared.program.Program.{Program}
-use Rattle.spx_core.specs.declared.expression.Entity.{Entity}
-use Rattle.spx_core.specs.declared.expression.Entity.TheVariants.{Variable}
-use Rattle.spx_core.specs.declared.program.VarId.{VarId}
+use Rattle.spx_core.specs.declared.entity.VarId.{VarId}
 use Rattle.spx_core.specs.declared.expression.CoreExpr.{CoreExpr, CoreExpr-F, fold-CoreExpr}
-use Rattle.spx_core.specs.Static.{attribute_value}
+use Rattle.spx_core.specs.Judged.{attribute}
+use Rattle.spx_core.specs.Uses.{variable_of}
 use Rattle.spx_term.specs.declared.value.Value.{Value}
 use Rattle.spx_term.specs.declared.value.Value.TheVariants as value
 use Rattle.spx_term.specs.Meaning.{as_truth}
+use Rattle.spx_meaning.specs.Literals.{literal_in}
 use Rattle.spx_meaning.specs.Stores.{Store, look, type_of, first_value}
 use Rattle.spx_meaning.specs.Evaluation.{applied_sign, applied}
 
 -- an unset variable counts as the first value of its type
-abbrev pub seen : TypeId → Option Value → Value
+abbrev pub seen : Subtype → Option Value → Value
 seen of (Some x) = x
 seen of None = first_value of
 
@@ -23,15 +23,20 @@ abbrev pub reading : Program → Store → VarId → Value
 reading p s v = seen (type_of p v) (look s v)
 
 -- what denotes no variable counts as 0
-abbrev pub reading_of : Program → Store → Entity → Value
-reading_of p s (Variable v) = reading p s v
-reading_of p s _ = value.Number (pos 0)
+abbrev pub reading_of : Program → Store → Option VarId → Value
+reading_of p s (Some v) = reading p s v
+reading_of p s None = value.Number (pos 0)
+
+-- an attribute without a value counts as 0
+abbrev pub value_or_zero : Option Value → Value
+value_or_zero (Some x) = x
+value_or_zero None = value.Number (pos 0)
 
 -- one level, whose parts have these values; `entry` is the store on entry to the body
 abbrev pub meant_step : Program → Store → Store → CoreExpr-F Value → Value
 meant_step p entry s (CoreExpr-F.Number n place) = value.Number n
-meant_step p entry s (CoreExpr-F.Name name) = reading_of p s name.entity
-meant_step p entry s (CoreExpr-F.Attribute prefix designator) = value.Number (attribute_value designator.text)
+meant_step p entry s (CoreExpr-F.Name name) = reading_of p s (variable_of name.entity)
+meant_step p entry s (CoreExpr-F.Attribute prefix designator) = value_or_zero (literal_in (attribute prefix designator))
 meant_step p entry s (CoreExpr-F.Parenthesized place a) = a
 meant_step p entry s (CoreExpr-F.Prefix op place a) = applied_sign op a
 meant_step p entry s (CoreExpr-F.Infix op place a b) = applied op a b

@@ -7,14 +7,14 @@ use Rattle.spx_tree.specs.declared.expression.InfixOp.{InfixOp}
 use Rattle.spx_tree.specs.declared.expression.InfixOp.TheVariants as op
 use Rattle.spx_tree.specs.declared.expression.PrefixOp.{PrefixOp}
 use Rattle.spx_tree.specs.declared.expression.PrefixOp.TheVariants as sign
-use Rattle.spx_core.specs.declared.program.TypeId.TheVariants.{Integer}
-use Rattle.spx_core.specs.declared.expression.Entity.{Entity}
-use Rattle.spx_core.specs.declared.expression.Entity.TheVariants.{Variable}
-use Rattle.spx_core.specs.declared.expression.CoreName.{CoreName}
-use Rattle.spx_core.specs.declared.expression.CoreExpr.{CoreExpr, end_of-CoreExpr, more_of-CoreExpr}
+use Rattle.spx_core.specs.declared.entity.TheConstants.{INTEGER}
+use Rattle.spx_core.specs.declared.entity.VarId.{VarId}
+use Rattle.spx_core.specs.declared.name.CoreName.{CoreName}
+use Rattle.spx_core.specs.declared.expression.CoreExpr.{CoreExpr}
 use Rattle.spx_core.specs.declared.expression.CoreExpr.TheBlock.{hidden-the_row-CoreExpr-0}
-use Rattle.spx_core.specs.declared.expression.CoreExpr.TheVariants.{Number, Name, Attribute, Parenthesized, Parenthesized', Prefix, Prefix', Infix, Infix'}
-use Rattle.spx_core.specs.Static.{Static, number, truth, attribute_value, static_value}
+use Rattle.spx_core.specs.declared.expression.CoreExpr.TheVariants.{Number, Name, Attribute, Parenthesized, Prefix, Infix}
+use Rattle.spx_core.specs.Shapes.{infix_of, parenthesized_of, prefix_of}
+use Rattle.spx_core.specs.Uses.{variable_of}
 use Rattle.spx_term.specs.declared.term.TermOp.{TermOp}
 use Rattle.spx_term.specs.declared.term.TermOp.TheVariants as term
 use Rattle.spx_term.specs.declared.term.TermPrefix.TheVariants.{Minus}
@@ -23,6 +23,7 @@ use Rattle.spx_term.specs.declared.value.Value.TheVariants as value
 use Rattle.spx_term.specs.Meaning.{value_of_prefix, value_of_op}
 use Rattle.spx_meaning.specs.declared.bad.BadKind.{BadKind}
 use Rattle.spx_meaning.specs.declared.bad.BadKind.TheVariants.{Overflow, Unset}
+use Rattle.spx_meaning.specs.Literals.{literal}
 use Rattle.spx_meaning.specs.Stores.{Store, look, is_in}
 
 -- what an evaluation gives
@@ -50,14 +51,14 @@ term_op op.GreaterOrEqual = term.GreaterOrEqual
 abbrev pub applied : InfixOp → Value → Value → Value
 applied op x y = value_of_op (term_op op) x y
 
--- the value behind a sign
+-- the value after a sign
 abbrev pub applied_sign : PrefixOp → Value → Value
 applied_sign sign.Plus x = x
 applied_sign sign.Minus x = value_of_prefix Minus x
 
 -- the value, if it lies in the base range
 abbrev pub in_base : Place → Value → Answer
-in_base place x = if is_in Integer x then Gives x else Fails Overflow place
+in_base place x = if is_in INTEGER x then Gives x else Fails Overflow place
 
 -- the result of an operation: that of + and - must lie in the base range (Ada 95 RM 3.5.4)
 abbrev pub checked : InfixOp → Place → Value → Answer
@@ -76,49 +77,36 @@ read_at place (Some x) = Gives x
 read_at place None = Fails Unset place
 
 -- what denotes no variable counts as 0
-abbrev pub read : Store → Place → Entity → Answer
-read s place (Variable v) = read_at place (look s v)
-read s place _ = Gives (value.Number (pos 0))
-
-abbrev pub value_of_static : Static → Value
-value_of_static (number n) = value.Number n
-value_of_static (truth b) = value.Truth b
+abbrev pub read : Store → Place → Option VarId → Answer
+read s place (Some v) = read_at place (look s v)
+read s place None = Gives (value.Number (pos 0))
 
 -- the value of what is static, and else the answer
-abbrev pub static_or : Option Static → Answer → Answer
-static_or (Some x) answer = Gives (value_of_static x)
+abbrev pub static_or : Option Value → Answer → Answer
+static_or (Some x) answer = Gives x
 static_or None answer = answer
-
-pattern abbrev pub parenthesized_of : Place → CoreExpr → CoreExpr
-parenthesized_of place a = Parenthesized' place tt (more_of-CoreExpr a end_of-CoreExpr)
-
-pattern abbrev pub prefix_of : PrefixOp → Place → CoreExpr → CoreExpr
-prefix_of op place a = Prefix' op place tt (more_of-CoreExpr a end_of-CoreExpr)
-
-pattern abbrev pub infix_of : InfixOp → Place → CoreExpr → CoreExpr → CoreExpr
-infix_of op place a b = Infix' op place tt (more_of-CoreExpr a end_of-CoreExpr) tt (more_of-CoreExpr b end_of-CoreExpr)
 
 -- The value of an expression, evaluated from left to right; the first operand without a value decides.
 -- A static expression stands for its exact value and brings no check: a static rule has seen to that value
--- (Ada 95 RM 4.9).
+-- (Ada 95 RM 4.9). An attribute without a value counts as 0.
 unfoldable pub eval : Store → CoreExpr → Answer
 eval s (Number n place) = Gives (value.Number n)
-eval s (Name name) = read s name.name.place name.entity
-eval s (Attribute prefix designator) = Gives (value.Number (attribute_value designator.text))
+eval s (Name name) = read s name.name.place (variable_of name.entity)
+eval s (Attribute prefix designator) = static_or (literal (Attribute prefix designator)) (Gives (value.Number (pos 0)))
 eval s (parenthesized_of place a) = eval s a
-eval s (prefix_of op place a) = static_or (static_value (Prefix op place a)) (with_value (eval s a) (λ x. signed op place x))
+eval s (prefix_of op place a) = static_or (literal (Prefix op place a)) (with_value (eval s a) (λ x. signed op place x))
 eval s (infix_of op place a b) =
-    static_or (static_value (Infix op place a b)) (with_value (eval s a) (λ x. with_value (eval s b) (λ y. checked op place (applied op x y))))
+    static_or (literal (Infix op place a b)) (with_value (eval s a) (λ x. with_value (eval s b) (λ y. checked op place (applied op x y))))
 
 pub eval-Number : (s : Store) (n : ℤ) (place : Place) → eval s (Number n place) ≡ Gives (value.Number n)
 unfolding eval
 eval-Number s n place = refl
 
-pub eval-Name : (s : Store) (name : CoreName) → eval s (Name name) ≡ read s name.name.place name.entity
+pub eval-Name : (s : Store) (name : CoreName) → eval s (Name name) ≡ read s name.name.place (variable_of name.entity)
 unfolding eval
 eval-Name s name = refl
 
-pub eval-Attribute : (s : Store) (prefix : CoreName) (designator : Identifier) → eval s (Attribute prefix designator) ≡ Gives (value.Number (attribute_value designator.text))
+pub eval-Attribute : (s : Store) (prefix : CoreName) (designator : Identifier) → eval s (Attribute prefix designator) ≡ static_or (literal (Attribute prefix designator)) (Gives (value.Number (pos 0)))
 unfolding eval
 eval-Attribute s prefix designator = refl
 
@@ -126,11 +114,11 @@ pub eval-Parenthesized : (s : Store) (place : Place) (a : CoreExpr) → eval s (
 unfolding eval hidden-the_row-CoreExpr-0 hidden
 eval-Parenthesized s place a = refl
 
-pub eval-Prefix : (s : Store) (op : PrefixOp) (place : Place) (a : CoreExpr) → eval s (Prefix op place a) ≡ static_or (static_value (Prefix op place a)) (with_value (eval s a) (λ x. signed op place x))
+pub eval-Prefix : (s : Store) (op : PrefixOp) (place : Place) (a : CoreExpr) → eval s (Prefix op place a) ≡ static_or (literal (Prefix op place a)) (with_value (eval s a) (λ x. signed op place x))
 unfolding eval hidden-the_row-CoreExpr-0 hidden
 eval-Prefix s op place a = refl
 
-pub eval-Infix : (s : Store) (op : InfixOp) (place : Place) (a b : CoreExpr) → eval s (Infix op place a b) ≡ static_or (static_value (Infix op place a b)) (with_value (eval s a) (λ x. with_value (eval s b) (λ y. checked op place (applied op x y))))
+pub eval-Infix : (s : Store) (op : InfixOp) (place : Place) (a b : CoreExpr) → eval s (Infix op place a b) ≡ static_or (literal (Infix op place a b)) (with_value (eval s a) (λ x. with_value (eval s b) (λ y. checked op place (applied op x y))))
 unfolding eval hidden-the_row-CoreExpr-0 hidden
 eval-Infix s op place a b = refl
 

@@ -2,9 +2,9 @@
 use Rattle.std.specs.Prelude.{All}
 use Rattle.spx_core.specs.declared.program.Program.{Program}
 use Rattle.spx_core.specs.declared.subprogram.Sub.{Sub}
-use Rattle.spx_core.specs.Visible.{Visible}
-use Rattle.spx_core.specs.Typed.{Typed}
-use Rattle.spx_core.specs.Rules.{Obeys}
+use Rattle.spx_core.specs.Erased.{Visible}
+use Rattle.spx_core.specs.Statements.{Typed}
+use Rattle.spx_core.specs.Obeyed.{Obeys}
 use Rattle.spx_core.specs.Flow.{HasNoFlowFinding}
 use Rattle.spx_term.specs.declared.condition.Condition.{Condition}
 use Rattle.spx_term.specs.Goals.{goal_of}

@@ -1,10 +1,10 @@
 -- What holds of the runs of an accepted program.
 use Rattle.std.specs.Prelude.{◌≡◌, ◌≢◌, ℕ, ◌≤◌, false, IsTrue, IsSome, IfSome, List, All}
 use Rattle.spx_text.specs.declared.place.Place.{Place}
-use Rattle.spx_core.specs.declared.program.VarId.{VarId}
+use Rattle.spx_core.specs.declared.entity.VarId.{VarId}
 use Rattle.spx_core.specs.declared.program.Program.{Program}
 use Rattle.spx_core.specs.declared.subprogram.Sub.{Sub}
-use Rattle.spx_core.specs.declared.expression.CoreStmt.{CoreStmt}
+use Rattle.spx_core.specs.declared.statement.CoreStmt.{CoreStmt}
 use Rattle.spx_core.specs.Formals.{is_local}
 use Rattle.spx_core.specs.Dependency.{derives, exports, imports}
 use Rattle.spx_meaning.specs.declared.bad.BadKind.{BadKind}
@@ -38,14 +38,14 @@ NeverBad p = All (IsNeverBad p) p.subs
 abbrev pub Agree : (VarId → Type 0) → Store → Store → Type 0
 Agree P s t = (v : VarId) → P v → look s v ≡ look t v
 
--- Two calls that have ended, at whatever bounds: an export has one value behind both, where its declared imports had
+-- Two calls that have ended, at whatever bounds: an export has one value after both, where its declared imports had
 -- before them.
 abbrev pub AreDerived : Program → Sub → Type 0
 AreDerived p sub =
     (n m : ℕ) (s t s' t' : Store) → Start p sub s → Start p sub t → call p n sub s ≡ Ended s' → call p m sub t ≡ Ended t' →
     (y : VarId) → IsTrue (exports y sub) → Agree (λ x. IsTrue (derives x y sub)) s t → look s' y ≡ look t' y
 
--- a variable that is neither an export nor a local has the value with which the body began, behind a call that has ended
+-- a variable that is neither an export nor a local has the value with which the body began, after a call that has ended
 abbrev pub OthersAreKept : Program → Sub → Type 0
 OthersAreKept p sub =
     (n : ℕ) (s s' : Store) → Start p sub s → call p n sub s ≡ Ended s' → (v : VarId) → exports v sub ≡ false → is_local v sub ≡ false → look s' v ≡ look (entry_of p sub s) v

@@ -1,4 +1,5 @@
 pub mod Stores
+pub mod Literals
 pub mod Evaluation
 pub mod Annotations
 pub mod Runs
@@ -6,4 +7,3 @@ pub mod Paths
 pub mod Laws
 pub mod Fit
 pub mod Limits
-pub mod Increment

@@ -9,28 +9,26 @@ use Rattle.spx_tree.specs.declared.expression.InfixOp.TheVariants as op
 use Rattle.spx_tree.specs.declared.expression.Identifier.{Identifier}
 use Rattle.spx_tree.specs.declared.expression.PrefixOp.{PrefixOp}
 use Rattle.spx_tree.specs.declared.expression.PrefixOp.TheVariants as prefix
-use Rattle.spx_core.specs.declared.program.TheConstants.{INTEGER_FIRST, INTEGER_LAST}
-use Rattle.spx_core.specs.declared.program.VarId.{VarId}
-use Rattle.spx_core.specs.declared.expression.Entity.{Entity}
-use Rattle.spx_core.specs.declared.expression.Entity.TheVariants as entity
-use Rattle.spx_core.specs.declared.expression.CoreName.{CoreName}
-use Rattle.spx_core.specs.declared.expression.CoreExpr.{CoreExpr, CoreExpr-F, fold-CoreExpr, end_of-CoreExpr, more_of-CoreExpr}
+use Rattle.spx_core.specs.declared.entity.TheConstants.{INTEGER_FIRST, INTEGER_LAST}
+use Rattle.spx_core.specs.declared.entity.VarId.{VarId}
+use Rattle.spx_core.specs.declared.name.CoreName.{CoreName}
+use Rattle.spx_core.specs.declared.expression.CoreExpr.{CoreExpr}
 use Rattle.spx_core.specs.declared.expression.CoreExpr.TheBlock.{hidden-the_row-CoreExpr-0}
 use Rattle.spx_core.specs.declared.expression.CoreExpr.TheVariants as expr
-use Rattle.spx_core.specs.declared.expression.CoreExpr.TheVariants.{Parenthesized', Prefix', Infix'}
-use Rattle.spx_core.specs.declared.expression.CoreStmt.{CoreStmt}
-use Rattle.spx_core.specs.declared.expression.CoreStmt.TheVariants.{Null, Assignment}
+use Rattle.spx_core.specs.declared.statement.CoreStmt.{CoreStmt}
+use Rattle.spx_core.specs.declared.statement.CoreStmt.TheVariants.{Null, Assignment}
 use Rattle.spx_core.specs.declared.subprogram.CorePrecondition.{CorePrecondition}
 use Rattle.spx_core.specs.declared.subprogram.Sub.{Sub}
 use Rattle.spx_core.specs.Places.{place_of}
 use Rattle.spx_core.specs.Dependency.{exports, imports}
-use Rattle.spx_core.specs.Static.{Static, number, truth, attribute_value, signed_or, operated_or, static_step}
+use Rattle.spx_core.specs.Formals.{formals}
+use Rattle.spx_core.specs.Shapes.{infix_of, parenthesized_of, prefix_of}
+use Rattle.spx_core.specs.Uses.{variable_of}
 use Rattle.spx_term.specs.declared.condition.CondKind.TheVariants.{Overflow, Range}
 use Rattle.spx_term.specs.declared.condition.Condition.{Condition}
 use Rattle.spx_term.specs.declared.term.Sort.TheVariants.{Integer}
 use Rattle.spx_term.specs.declared.term.Symbol.TheVariants as symbol
 use Rattle.spx_term.specs.declared.term.Name.{Name}
-use Rattle.spx_term.specs.declared.term.TermOp.{TermOp}
 use Rattle.spx_term.specs.declared.term.TermOp.TheVariants as sign
 use Rattle.spx_term.specs.declared.term.TermPrefix.TheVariants.{Minus}
 use Rattle.spx_term.specs.declared.term.Term.{Term}
@@ -38,28 +36,10 @@ use Rattle.spx_term.specs.declared.term.Term.TheVariants as term
 use Rattle.spx_term.specs.Goals.{goal_of}
 use Rattle.spx_term.specs.Plain.{Plain}
 use Rattle.spx_term.specs.Steps.{Tree, Cut, Assign, assume_all, check, Claim, claims_of, tidy}
-use Rattle.spx_num.specs.Widths.{fits}
-
--- ---- static expressions
-
--- a number is kept where it has at most 128 bits
-abbrev pub kept : Option Static → Option Static
-kept (Some (number n)) = if fits n then Some (number n) else None
-kept (Some (truth b)) = Some (truth b)
-kept None = None
-
--- one level, of whose parts it is known
-abbrev pub literal_step : CoreExpr-F (Option Static) → Option Static
-literal_step (CoreExpr-F.Infix op place a b) = kept (operated_or op a b)
-literal_step (CoreExpr-F.Prefix op place a) = kept (signed_or op a)
-literal_step (CoreExpr-F.Parenthesized place a) = static_step (CoreExpr-F.Parenthesized place a)
-literal_step (CoreExpr-F.Number n place) = static_step (CoreExpr-F.Number n place)
-literal_step (CoreExpr-F.Name name) = static_step (CoreExpr-F.Name name)
-literal_step (CoreExpr-F.Attribute prefix designator) = static_step (CoreExpr-F.Attribute prefix designator)
-
--- the value of a static expression, where it and those of its parts have at most 128 bits
-abbrev pub literal : CoreExpr → Option Static
-literal = fold-CoreExpr (Option Static) literal_step
+use Rattle.spx_term.specs.declared.value.Value.{Value}
+use Rattle.spx_term.specs.declared.value.Value.TheVariants as value
+use Rattle.spx_meaning.specs.Evaluation.{term_op}
+use Rattle.spx_meaning.specs.Literals.{literal}
 
 -- ---- from expressions to terms
 
@@ -70,44 +50,24 @@ now v = record { symbol = symbol.Now v.0; sort = Integer }
 abbrev pub entry : VarId → Name
 entry v = record { symbol = symbol.Entry v.0; sort = Integer }
 
-abbrev pub term_op : InfixOp → TermOp
-term_op op.Add = sign.Add
-term_op op.Subtract = sign.Subtract
-term_op op.Equal = sign.Equal
-term_op op.NotEqual = sign.NotEqual
-term_op op.Less = sign.Less
-term_op op.LessOrEqual = sign.LessOrEqual
-term_op op.Greater = sign.Greater
-term_op op.GreaterOrEqual = sign.GreaterOrEqual
-
--- the term behind a sign
+-- the term after a sign
 abbrev pub signed_term : PrefixOp → Term → Term
 signed_term prefix.Plus t = t
 signed_term prefix.Minus t = term.Prefix Minus t
 
--- only variables have a value
-abbrev pub named : Entity → Term
-named (entity.Variable v) = term.Variable (now v)
-named (entity.TypeName t) = term.Number (pos 0)
-named (entity.Subprogram s) = term.Number (pos 0)
+-- what denotes no variable counts as 0
+abbrev pub named : Option VarId → Term
+named (Some v) = term.Variable (now v)
+named None = term.Number (pos 0)
 
 -- a static expression stands as its literal
-abbrev pub static_term : Static → Term
-static_term (number n) = term.Number n
-static_term (truth b) = term.Truth b
+abbrev pub static_term : Value → Term
+static_term (value.Number n) = term.Number n
+static_term (value.Truth b) = term.Truth b
 
-abbrev pub literal_or : Option Static → Term → Term
+abbrev pub literal_or : Option Value → Term → Term
 literal_or (Some x) t = static_term x
 literal_or None t = t
-
-pattern abbrev pub parenthesized_of : Place → CoreExpr → CoreExpr
-parenthesized_of place a = Parenthesized' place tt (more_of-CoreExpr a end_of-CoreExpr)
-
-pattern abbrev pub prefix_of : PrefixOp → Place → CoreExpr → CoreExpr
-prefix_of op place a = Prefix' op place tt (more_of-CoreExpr a end_of-CoreExpr)
-
-pattern abbrev pub infix_of : InfixOp → Place → CoreExpr → CoreExpr → CoreExpr
-infix_of op place a b = Infix' op place tt (more_of-CoreExpr a end_of-CoreExpr) tt (more_of-CoreExpr b end_of-CoreExpr)
 
 -- the term of an expression over the values now
 unfoldable pub term_of : CoreExpr → Term
@@ -115,8 +75,8 @@ term_of (parenthesized_of place a) = term_of a
 term_of (prefix_of op place a) = literal_or (literal (prefix_of op place a)) (signed_term op (term_of a))
 term_of (infix_of op place a b) = literal_or (literal (infix_of op place a b)) (term.Infix (term_op op) (term_of a) (term_of b))
 term_of (expr.Number n place) = term.Number n
-term_of (expr.Name name) = named name.entity
-term_of (expr.Attribute prefix designator) = term.Number (attribute_value designator.text)
+term_of (expr.Name name) = named (variable_of name.entity)
+term_of (expr.Attribute prefix designator) = literal_or (literal (expr.Attribute prefix designator)) (term.Number (pos 0))
 
 pub term_of-Parenthesized : (place : Place) (a : CoreExpr) → term_of (expr.Parenthesized place a) ≡ term_of a
 unfolding term_of hidden-the_row-CoreExpr-0 hidden
@@ -134,11 +94,11 @@ pub term_of-Number : (n : ℤ) (place : Place) → term_of (expr.Number n place)
 unfolding term_of
 term_of-Number n place = refl
 
-pub term_of-Name : (name : CoreName) → term_of (expr.Name name) ≡ named name.entity
+pub term_of-Name : (name : CoreName) → term_of (expr.Name name) ≡ named (variable_of name.entity)
 unfolding term_of
 term_of-Name name = refl
 
-pub term_of-Attribute : (prefix : CoreName) (designator : Identifier) → term_of (expr.Attribute prefix designator) ≡ term.Number (attribute_value designator.text)
+pub term_of-Attribute : (prefix : CoreName) (designator : Identifier) → term_of (expr.Attribute prefix designator) ≡ literal_or (literal (expr.Attribute prefix designator)) (term.Number (pos 0))
 unfolding term_of
 term_of-Attribute prefix designator = refl
 
@@ -162,7 +122,7 @@ sign_check prefix.Plus place t rest = rest
 sign_check prefix.Minus place t rest = check Overflow place (in_integer t) rest
 
 -- a static expression is not evaluated
-abbrev pub unless_static : Option Static → Tree → Tree → Tree
+abbrev pub unless_static : Option Value → Tree → Tree → Tree
 unless_static (Some x) rest checks = rest
 unless_static None rest checks = checks
 
@@ -204,16 +164,15 @@ pub ruleset check_forms = (checks-Parenthesized, checks-Prefix, checks-Infix, ch
 -- ---- statements
 
 -- the target stands for the value; only variables are assigned
-abbrev pub assigned : Entity → Term → Tree → Tree
-assigned (entity.Variable v) t rest = Assign (now v) t rest
-assigned (entity.TypeName u) t rest = rest
-assigned (entity.Subprogram s) t rest = rest
+abbrev pub assigned : Option VarId → Term → Tree → Tree
+assigned (Some v) t rest = Assign (now v) t rest
+assigned None t rest = rest
 
 -- the paths through a statement and then along the rest
 abbrev pub walk : CoreStmt → Tree → Tree
 walk (Null place) rest = rest
 walk (Assignment target e) rest =
-    checks e (check Range (place_of e) (in_integer (term_of e)) (assigned target.entity (term_of e) rest))
+    checks e (check Range (place_of e) (in_integer (term_of e)) (assigned (variable_of target.root.entity) (term_of e) rest))
 
 abbrev pub walks : List CoreStmt → Tree → Tree
 walks [] rest = rest
@@ -237,11 +196,11 @@ pre_facts (Some pre) = term_of pre.condition ∷ []
 
 -- what is known at the start
 abbrev pub first_facts : Sub → List Term
-first_facts sub = flat_map (import_facts sub) sub.formals ++ pre_facts sub.pre
+first_facts sub = flat_map (import_facts sub) (formals sub) ++ pre_facts sub.pre
 
 -- the paths of the body
 abbrev pub tree_of : Sub → Tree
-tree_of sub = entering sub sub.formals (assume_all (first_facts sub) (walks sub.statements Cut))
+tree_of sub = entering sub (formals sub) (assume_all (first_facts sub) (walks sub.statements Cut))
 
 -- ---- conditions
 
@@ -258,7 +217,7 @@ numbered sub n claims = map (λ p. condition sub p.0 p.1) (enumerate_from n clai
 
 -- the verification conditions of a subprogram
 unfoldable pub conditions_of : Sub → List Condition
-conditions_of sub = numbered sub.name.text 1 (map tidy (claims_of (tree_of sub)))
+conditions_of sub = numbered sub.name.name.text 1 (map tidy (claims_of (tree_of sub)))
 
 -- each condition needs no proof
 abbrev pub ArePlain : List Condition → Type 0

@@ -1,20 +1,20 @@
 -- What statements and calls do to a store, within a bound.
-use Rattle.std.specs.Prelude.{ℕ, Bool, true, false, not, ◌||◌, if◌then◌else◌, List, [], ◌∷◌, ◌++◌, is_some, Option, Some, None}
+use Rattle.std.specs.Prelude.{ℕ, Bool, true, false, not, ◌||◌, if◌then◌else◌, List, [], ◌∷◌, is_some, Option, Some, None}
 use Rattle.std.specs.List.{list_all}
 use Rattle.spx_text.specs.declared.place.Place.{Place}
-use Rattle.spx_core.specs.declared.program.VarId.{VarId}
-use Rattle.spx_core.specs.declared.program.VarKind.{VarKind}
-use Rattle.spx_core.specs.declared.program.VarKind.TheVariants.{Formal, Local}
+use Rattle.spx_core.specs.declared.entity.VarId.{VarId}
+use Rattle.spx_core.specs.declared.entity.VarKind.{VarKind}
+use Rattle.spx_core.specs.declared.entity.VarKind.TheVariants.{Formal, Local}
 use Rattle.spx_core.specs.declared.program.Var.{Var}
 use Rattle.spx_core.specs.declared.program.Program.{Program}
-use Rattle.spx_core.specs.declared.subprogram.Mode.TheVariants as mode
+use Rattle.spx_core.specs.declared.entity.Mode.TheVariants as mode
 use Rattle.spx_core.specs.declared.subprogram.CorePrecondition.{CorePrecondition}
 use Rattle.spx_core.specs.declared.subprogram.Sub.{Sub}
-use Rattle.spx_core.specs.declared.expression.Entity.{Entity}
-use Rattle.spx_core.specs.declared.expression.Entity.TheVariants.{Variable}
-use Rattle.spx_core.specs.declared.expression.CoreStmt.{CoreStmt}
-use Rattle.spx_core.specs.declared.expression.CoreStmt.TheVariants.{Null, Assignment}
+use Rattle.spx_core.specs.declared.statement.CoreStmt.{CoreStmt}
+use Rattle.spx_core.specs.declared.statement.CoreStmt.TheVariants.{Null, Assignment}
+use Rattle.spx_core.specs.Formals.{formals}
 use Rattle.spx_core.specs.Places.{place_of}
+use Rattle.spx_core.specs.Uses.{variable_of}
 use Rattle.spx_core.specs.Dependency.{exports}
 use Rattle.spx_term.specs.declared.value.Value.{Value}
 use Rattle.spx_meaning.specs.declared.bad.BadKind.{BadKind}
@@ -46,14 +46,14 @@ demand true kind place s = Ended s
 demand false kind place s = Bad kind place
 
 -- gives a variable a value of its type (Ada 95 RM 5.2); what is no variable takes none
-abbrev pub assign : Program → Place → Entity → Store → Value → Outcome
-assign p place (Variable v) s x = demand (is_in (type_of p v) x) Range place (put s v (Some x))
-assign p place _ s x = Ended s
+abbrev pub assign : Program → Place → Option VarId → Store → Value → Outcome
+assign p place (Some v) s x = demand (is_in (type_of p v) x) Range place (put s v (Some x))
+assign p place None s x = Ended s
 
 -- a statement
 abbrev pub run_one : Program → ℕ → Store → CoreStmt → Outcome
 run_one p n s (Null place) = Ended s
-run_one p n s (Assignment target e) = use_value (eval s e) (assign p (place_of e) target.entity s)
+run_one p n s (Assignment target e) = use_value (eval s e) (assign p (place_of e) (variable_of target.root.entity) s)
 
 -- statements, one after another; the bound is handed down to each
 abbrev pub run : Program → ℕ → Store → List CoreStmt → Outcome
@@ -82,7 +82,7 @@ cleared p s (v ∷ rest) = if starts_unset p v then put (cleared p s rest) v Non
 
 -- the store that the body of a subprogram begins with
 abbrev pub entry_of : Program → Sub → Store → Store
-entry_of p sub s = cleared p s (sub.formals ++ sub.locals)
+entry_of p sub s = cleared p s sub.vars
 
 -- whether a precondition is true; none is true
 abbrev pub pre_holds : Program → Option CorePrecondition → Store → Bool
@@ -96,7 +96,7 @@ demand_pre p None s = Ended s
 
 -- whether each export is set
 abbrev pub exports_set : Sub → Store → Bool
-exports_set sub s = list_all (λ v. not (exports v sub) || is_some (look s v)) sub.formals
+exports_set sub s = list_all (λ v. not (exports v sub) || is_some (look s v)) (formals sub)
 
 -- a call: `out` formals and locals start unset, the precondition is looked at, the body is run, each export must be set at its end
 abbrev pub call : Program → ℕ → Sub → Store → Outcome

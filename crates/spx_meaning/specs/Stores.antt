@@ -1,36 +1,40 @@
 -- Values in types, and the stores that a run goes through.
 use Rattle.std.specs.Prelude.{ℕ, zero, suc, Bool, false, ◌&&◌, int_le, List, [], ◌∷◌, Option, Some, None, slice_get}
-use Rattle.spx_core.specs.declared.program.TheConstants.{INTEGER_FIRST, INTEGER_LAST}
-use Rattle.spx_core.specs.declared.program.TypeId.{TypeId}
-use Rattle.spx_core.specs.declared.program.TypeId.TheVariants.{Integer}
-use Rattle.spx_core.specs.declared.program.VarId.{VarId}
+use Rattle.spx_core.specs.declared.entity.TheConstants.{INTEGER}
+use Rattle.spx_core.specs.declared.entity.Subtype.{Subtype}
+use Rattle.spx_core.specs.declared.entity.VarId.{VarId}
+use Rattle.spx_core.specs.declared.program.TypeRow.{TypeRow}
 use Rattle.spx_core.specs.declared.program.Var.{Var}
 use Rattle.spx_core.specs.declared.program.Program.{Program}
 use Rattle.spx_term.specs.declared.value.Value.{Value}
 use Rattle.spx_term.specs.declared.value.Value.TheVariants.{Number, Truth}
 
 -- whether a value is one of the type (Ada 95 RM 3.5)
-abbrev pub is_in : TypeId → Value → Bool
-is_in Integer (Number n) = int_le INTEGER_FIRST n && int_le n INTEGER_LAST
-is_in Integer (Truth b) = false
+abbrev pub is_in : Subtype → Value → Bool
+is_in subtype (Number n) = int_le subtype.first n && int_le n subtype.last
+is_in subtype (Truth b) = false
 
 -- the first value of a type
-abbrev pub first_value : TypeId → Value
-first_value Integer = Number INTEGER_FIRST
+abbrev pub first_value : Subtype → Value
+first_value subtype = Number subtype.first
 
 -- what is declared of a variable
 abbrev pub declared : Program → VarId → Option Var
 declared p v = slice_get p.vars v.0
 
-abbrev pub type_in : Option Var → TypeId
-type_in (Some var) = var.type_id
-type_in None = Integer
+abbrev pub subtype_in : Option TypeRow → Subtype
+subtype_in (Some row) = row.subtype
+subtype_in None = INTEGER
+
+abbrev pub type_in : List TypeRow → Option Var → Subtype
+type_in types (Some var) = subtype_in (slice_get types var.type_id.0)
+type_in types None = INTEGER
 
 -- the type of a variable
-abbrev pub type_of : Program → VarId → TypeId
-type_of p v = type_in (declared p v)
+abbrev pub type_of : Program → VarId → Subtype
+type_of p v = type_in p.types (declared p v)
 
--- a value for each variable that is set, by the variable's position; behind the end all are unset
+-- a value for each variable that is set, by the variable's position; after the end all are unset
 abbrev pub Store : Type 0
 Store = List (Option Value)
 

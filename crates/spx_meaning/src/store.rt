@@ -1,6 +1,6 @@
 // The values of variables.
 ghost use Rattle.std.specs.Prelude.{◌≡◌, ◌<◌, length, map, IfOk, Some, None};
-ghost use Rattle.spx_core.specs.declared.program.VarId.{VarId};
+ghost use Rattle.spx_core.specs.declared.entity.VarId.{VarId};
 ghost use Rattle.spx_meaning.specs.Stores.{look, put};
 
 use spx_core::{Program, Var, VarId};
@@ -83,7 +83,7 @@ impl Store {
 #[cfg(test)]
 mod tests {
     use super::*;
-    use spx_core::{Mode, TypeId, VarKind};
+    use spx_core::{INTEGER, Mode, VarKind};
     use spx_text::Text;
     use std::test::Fail;
 
@@ -95,7 +95,7 @@ mod tests {
         Ok(Var {
             name: Text::new(alloc, name.as_bytes())?,
             kind,
-            type_id: TypeId::Integer,
+            type_id: INTEGER.id,
         })
     }
 
@@ -106,6 +106,7 @@ mod tests {
         vars.push(var(alloc, "X", VarKind::Formal(Mode::InOut))?)?;
         vars.push(var(alloc, "Y", VarKind::Local)?)?;
         Ok(Program {
+            types: Items::new(alloc),
             vars,
             subs: Items::new(alloc),
         })

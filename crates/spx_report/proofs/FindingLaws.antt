@@ -1,5 +1,5 @@
 -- Conditions that are closed, and those that are left.
-use Rattle.std.proofs.Common.{◌≡◌, ℕ, ◌+◌, Bool, true, false, ◌||◌, not, cond, List, [], ◌∷◌, ◌++◌, ◌-◌, ◌<◌, ◌≤◌, length, map, filter, count_by, flat_map, take, get_or, add-zero, add-one, refl, sym, ap, ◌∙◌, arith}
+use Rattle.std.proofs.Common.{◌≡◌, ℕ, ◌+◌, Bool, true, false, not, cond, List, [], ◌∷◌, ◌++◌, ◌-◌, ◌<◌, ◌≤◌, length, map, filter, count_by, flat_map, take, get_or, add-zero, add-one, refl, sym, ap, ◌∙◌, arith}
 use Rattle.std.specs.Prelude.{◌↔◌}
 use Rattle.std.specs.List.{All, AllByRecursion, enumerate_from}
 use Rattle.std.proofs.lemmas.List.Elements.{All-from_recursion, recursion_from_All}
@@ -8,15 +8,11 @@ use Rattle.std.proofs.lemmas.List.{length-map, length-take, map-append, append-n
 use Rattle.std.proofs.lemmas.Grind.{flat_map-append}
 use Rattle.std.proofs.lemmas.List.Sums.{length-filter}
 use Rattle.std.proofs.lemmas.List.Filters.{length-filter_both}
-use Rattle.spx_term.specs.declared.term.Term.{Term}
-use Rattle.spx_term.specs.declared.term.Term.TheVariants.{Truth}
 use Rattle.spx_term.specs.declared.condition.Condition.{Condition}
-use Rattle.spx_term.specs.Folding.{folded, folded_step}
-use Rattle.spx_term.specs.Plain.{closes, closes-Decides, is_among, is_plain, is_plain-Truth, Plain}
-use Rattle.spx_term.proofs.Terms.{fold-Truth}
+use Rattle.spx_term.specs.Plain.{closes-Decides, Plain}
 use Rattle.spx_meaning.specs.Paths.{conditions_of, ArePlain}
 use Rattle.spx_term.specs.Goals.{goal_of}
-use Rattle.spx_core.specs.declared.program.SubId.{SubId}
+use Rattle.spx_core.specs.declared.entity.SubId.{SubId}
 use Rattle.spx_core.specs.declared.subprogram.Sub.{Sub}
 use Rattle.spx_report.specs.declared.report.Finding.{Finding}
 use Rattle.spx_report.specs.declared.report.SubRow.{SubRow}

@@ -39,7 +39,7 @@ partitioned lines line order i j d le len is =
 
 -- ---- a line is put among others
 
--- what is behind a line that comes after this one comes after it
+-- what follows a line that comes after this one comes after it
 behind_after : (lines : List Finding) (line : Finding) (i : ℕ) → AreInOrder lines → i < length lines → IsTrue (line_before line (get_or lines i line)) → All (λ other. IsTrue (line_before line other)) (drop i lines)
 behind_after [] line i order lt is = absurd (omega arith)
 behind_after (first ∷ lines) line zero order lt is =

@@ -1,7 +1,7 @@
 -- The lines of a report on flow: one for each finding, in the order of their places, rules and texts.
 use Rattle.std.specs.Prelude.{◌≡◌, ◌↔◌, ⊤, ℕ, Bool, true, false, ◌&&◌, ◌||◌, nat_lt, nat_eq, IsTrue, List, [], ◌∷◌, ◌++◌, Option, Some, None, slice_get, Any, All, Contains, codes}
 use Rattle.spx_text.specs.declared.place.Place.{Place}
-use Rattle.spx_core.specs.declared.program.VarId.{VarId}
+use Rattle.spx_core.specs.declared.entity.VarId.{VarId}
 use Rattle.spx_core.specs.declared.program.Var.{Var}
 use Rattle.spx_core.specs.declared.program.Program.{Program}
 use Rattle.spx_core.specs.declared.rule.RuleName.TheVariants.{F1, F2, F3, F4}

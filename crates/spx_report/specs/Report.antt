@@ -2,7 +2,7 @@
 use Rattle.std.specs.Prelude.{ℕ, List, [], ◌++◌, if◌then◌else◌, ◌==◌, length, flat_map, slice_index_or, slice_get, Option, Some, None, codes}
 use Rattle.spx_text.specs.declared.place.Place.{Place}
 use Rattle.spx_core.specs.declared.subprogram.Sub.{Sub}
-use Rattle.spx_core.specs.declared.program.SubId.{SubId}
+use Rattle.spx_core.specs.declared.entity.SubId.{SubId}
 use Rattle.std.specs.Fmt.{decimal}
 use Rattle.spx_core.specs.declared.program.Program.{Program}
 use Rattle.spx_core.specs.declared.rule.RuleName.{RuleName}
@@ -49,7 +49,7 @@ abbrev pub finding_lines : List (List ℕ) → List Finding → List ℕ
 finding_lines names fs = flat_map (finding_line names) fs
 
 abbrev pub name_or_none : Option Sub → List ℕ
-name_or_none (Some sub) = sub.name.text
+name_or_none (Some sub) = sub.name.name.text
 name_or_none None = []
 
 abbrev pub sub_name : Program → SubId → List ℕ
@@ -82,6 +82,6 @@ verdict n = if n == 0 then codes "accepted\n" else codes "refused: " ++ counted 
 unfoldable pub report_text : Program → List (List ℕ) → Findings → List ℕ
 report_text p names found = finding_lines names found.lines ++ (row_lines p found.subs ++ verdict (length found.lines))
 
--- the findings alone, and the verdict
+-- the findings, and the verdict
 unfoldable pub refusal_text : List (List ℕ) → List Finding → List ℕ
 refusal_text names fs = finding_lines names fs ++ verdict (length fs)

@@ -178,7 +178,7 @@ pub fn flow_lines(alloc: Global, program: &Program) -> Result<Items<Finding>, Al
 mod tests {
     use super::*;
     use crate::report::refusal_text;
-    use spx_core::{TypeId, Var, VarKind};
+    use spx_core::{INTEGER, Var, VarKind};
     use std::test::Fail;
 
     fn place(line: u32) -> Place {
@@ -193,7 +193,7 @@ mod tests {
         Ok(Var {
             name: Text::new(alloc, name)?,
             kind: VarKind::Local,
-            type_id: TypeId::Integer,
+            type_id: INTEGER.id,
         })
     }
 
@@ -202,6 +202,7 @@ mod tests {
         vars.push(var(alloc, b"X")?)?;
         vars.push(var(alloc, b"Y")?)?;
         Ok(Program {
+            types: Items::new(alloc),
             vars,
             subs: Items::new(alloc),
         })

@@ -147,7 +147,7 @@ fn sub_name(program: &Program, sub: SubId) -> &[u8]
     ensures { result.now ≡ spec.sub_name program.now sub }
 {
     match program.subs.get(sub.0) {
-        Some(sub) => sub.name.text.as_bytes(),
+        Some(sub) => sub.name.name.text.as_bytes(),
         None => &[],
     }
 }

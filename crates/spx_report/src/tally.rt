@@ -53,7 +53,7 @@ fn add_unproved(
     closed: bool,
     found: &mut Items<Finding>,
 ) -> Result<(), AllocError>
-    ensures { OnOk result (found.new ≡ found.old ++ left_or (spec.unproved_named (condition_name sub.now.name.text (earlier + 1)) claim.now.kind claim.now.place) closed) }
+    ensures { OnOk result (found.new ≡ found.old ++ left_or (spec.unproved_named (condition_name sub.now.name.name.text (earlier + 1)) claim.now.kind claim.now.place) closed) }
 {
     if closed {
         return Ok(());
@@ -72,7 +72,7 @@ fn unproved_of(
     closed: &[bool],
 ) -> Result<Items<Finding>, AllocError>
     requires { closed.now ≡ map closes_claim (claims_in claims.now) }
-    ensures { IfOk result (λ found. found ≡ spec.unproved_of (numbered sub.now.name.text 1 (claims_in claims.now))) }
+    ensures { IfOk result (λ found. found ≡ spec.unproved_of (numbered sub.now.name.name.text 1 (claims_in claims.now))) }
 {
     let mut found = Items::new(alloc);
     for (at, claim) in claims.list.as_slice().iter().enumerate() {

@@ -1,23 +1,20 @@
 -- No call of a program that is fit is bad.
-use Rattle.std.proofs.Common.{◌≡◌, ℕ, pos, Bool, true, false, not, ◌&&◌, ◌||◌, if◌then◌else◌, List, [], ◌∷◌, ◌++◌, Option, Some, None, refl, sym, ap, ap₂, ◌∙◌, subst, inl, inr}
-use Rattle.std.proofs.lemmas.Bool.{or_cases}
-use Rattle.std.specs.Prelude.{⊤, IsSome, IfSome, is_some, IsTrue}
-use Rattle.std.specs.List.{AllByRecursion, flat_map, list_all}
-use Rattle.std.proofs.lemmas.List.Elements.{All-from_recursion, recursion_from_All}
-use Rattle.spx_tree.specs.Grammar.{Each}
-use Rattle.spx_core.specs.declared.program.VarId.{VarId}
-use Rattle.spx_core.specs.declared.program.VarKind.TheVariants.{Formal}
+use Rattle.std.proofs.Common.{◌≡◌, ℕ, ℤ, pos, Bool, true, false, not, ◌&&◌, ◌||◌, if◌then◌else◌, List, [], ◌∷◌, get_or, Option, Some, None, refl, sym, ap, ap₂, ◌∙◌, subst, inl, inr}
+use Rattle.std.proofs.lemmas.Bool.{and_parts, both_ways, or_cases}
+use Rattle.std.specs.Prelude.{⊤, All, IsSome, IfSome, is_some, IsTrue}
+use Rattle.std.specs.List.{flat_map, list_all}
+use Rattle.spx_core.specs.declared.entity.VarId.{VarId}
+use Rattle.spx_core.specs.declared.entity.VarKind.TheVariants.{Formal}
 use Rattle.spx_core.specs.declared.program.Program.{Program}
-use Rattle.spx_core.specs.declared.subprogram.Mode.{Mode}
-use Rattle.spx_core.specs.declared.subprogram.Mode.TheVariants as mode
+use Rattle.spx_core.specs.declared.entity.Mode.{Mode}
+use Rattle.spx_core.specs.declared.entity.Mode.TheVariants as mode
 use Rattle.spx_core.specs.declared.subprogram.CorePrecondition.{CorePrecondition}
 use Rattle.spx_core.specs.declared.subprogram.Sub.{Sub}
-use Rattle.spx_core.specs.Uses.{uses}
 use Rattle.spx_core.specs.Dependency.{exports, imports}
-use Rattle.spx_core.specs.Formals.{mode_of}
+use Rattle.spx_core.specs.Formals.{formals, mode_of}
 use Rattle.spx_core.specs.Flow.{defines, HasNoFinding}
-use Rattle.spx_core.specs.Rules.{agrees, ObeysRules}
-use Rattle.spx_core.specs.Typed.{TypedSub}
+use Rattle.spx_core.specs.Rules.{ObeysRules}
+use Rattle.spx_core.specs.Scopes.{Scoped}
 use Rattle.spx_term.specs.declared.term.Sort.{Sort}
 use Rattle.spx_term.specs.declared.term.Sort.TheVariants.{Integer, Boolean}
 use Rattle.spx_term.specs.declared.term.Symbol.{Symbol}
@@ -29,7 +26,7 @@ use Rattle.spx_term.specs.declared.value.Value.TheVariants as value
 use Rattle.spx_term.specs.Meaning.{as_number, as_truth, Valuation, value_step, value_of, HasSort, Holds, Respects}
 use Rattle.spx_term.specs.Steps.{Tree, Cut, Assign, assume_all, same_name}
 use Rattle.spx_term.proofs.Terms.{fold-Variable}
-use Rattle.spx_core.specs.declared.program.TypeId.TheVariants.{Integer as IntegerType}
+use Rattle.spx_core.specs.declared.entity.TheConstants.{INTEGER}
 use Rattle.spx_meaning.specs.declared.bad.BadKind.TheVariants.{Pre, Unset}
 use Rattle.spx_meaning.specs.Stores.{Store, at, look, type_of, is_in}
 use Rattle.spx_meaning.specs.Annotations.{meant}
@@ -37,13 +34,16 @@ use Rattle.spx_meaning.specs.Runs.{Ended, then_do, demand, run, is_unset_kind, s
 use Rattle.spx_meaning.specs.Paths.{now, entry, in_integer, entering, import_facts, pre_facts, first_facts, walks}
 use Rattle.spx_meaning.specs.Laws.{Start, IsNeverBad, NeverBad}
 use Rattle.spx_meaning.specs.Fit.{HasValidConditions, Fit}
-use Rattle.spx_core.proofs.FlowLaws.{exports_are_set}
-use Rattle.spx_meaning.proofs.Entries.{cleared_keeps, cleared_part}
-use Rattle.spx_meaning.proofs.Evaluation.{meant_same}
-use Rattle.spx_meaning.proofs.Scopes.{Scoped, mode_is, unset_is, all_scoped}
-use Rattle.spx_sound.proofs.NeverBadTrees.{AllHold, changed, Safe, each_append, assumed, safe_sub}
+use Rattle.spx_core.proofs.Callers.FlowLaws.{exports_are_set}
+use Rattle.spx_meaning.proofs.Callers.Entries.{cleared_keeps, cleared_part}
+use Rattle.spx_meaning.proofs.Callers.Evaluation.{meant_same}
+use Rattle.spx_meaning.proofs.Callers.IntegerTypes.{one_type}
+use Rattle.spx_meaning.proofs.Callers.Scopes.{mode_is, unset_is}
+use Rattle.spx_sound.proofs.Typings.{TypedSub, typed_subs}
+use Rattle.spx_sound.proofs.NeverBadTrees.{AllHold, changed, Safe, each_append, each_flat_map, assumed, safe_sub}
 use Rattle.spx_sound.proofs.NeverBadExpressions.{type_facts, IsSet, AgreesWith}
-use Rattle.spx_sound.proofs.NeverBadBodies.{InTypes, one_type, integer_number, means_its_term, same_name-Decides, IsGood, good_then, SetBehind, body_good}
+use Rattle.spx_sound.proofs.NeverBadAnnotations.{means_its_term}
+use Rattle.spx_sound.proofs.NeverBadBodies.{same_name-Decides, AreIntegers, IsGood, good_then, SetAfter, body_good}
 
 -- ---- the valuation of a store
 
@@ -70,11 +70,22 @@ has_sort Boolean w = tt
 valuation_respects : (s : Store) → Respects (valuation_of s)
 valuation_respects s name = has_sort name.sort (symbol_value s name.symbol)
 
-valuation_agrees : (p : Program) (s : Store) → InTypes p s → AgreesWith s (valuation_of s)
+abbrev IsInteger : Value → Type 0
+IsInteger w = (n : ℤ) × (w ≡ value.Number n) × (is_in INTEGER (value.Number n) ≡ true)
+
+integer_is : (w : Value) → is_in INTEGER w ≡ true → IsInteger w
+integer_is (value.Number n) h = (n, refl, h)
+integer_is (value.Truth b) h = absurd (cc)
+
+-- each variable that is set has an integer
+abbrev HasIntegers : Store → Type 0
+HasIntegers s = (x : VarId) (w : Value) → look s x ≡ Some w → IsInteger w
+
+valuation_agrees : (s : Store) → HasIntegers s → AgreesWith s (valuation_of s)
 unfolding or_zero
-valuation_agrees p s typed x w is =
-    let of = integer_number w (sym (one_type (type_of p x) w) ∙ typed x w is) in
-    ap (λ o. value.Number (as_number (or_zero o))) is ∙ ap (λ u. value.Number (as_number u)) of.1 ∙ sym of.1
+valuation_agrees s typed x w is =
+    let number = (typed x w is).1 in
+    ap (λ o. value.Number (as_number (or_zero o))) is ∙ ap (λ u. value.Number (as_number u)) number ∙ sym number
 
 some_of : (o : Option Value) → IsSome o → (w : Value) × (o ≡ Some w)
 some_of (Some w) h = (w, refl)
@@ -88,14 +99,11 @@ as_truth_is (value.Truth b) h = ap value.Truth h
 
 -- a name that takes the value that it has changes nothing
 unchanged : (v : Valuation) (x : Name) (w : Value) → v x ≡ w → changed v x w ≡ v
-unchanged v x w same = λ i y. pointwise y i
+unchanged v x w same = λ i y. by_name y (same_name x y) refl i
   where
     by_name : (y : Name) (b : Bool) → same_name x y ≡ b → (if b then w else v y) ≡ v y
     by_name y true is = sym same ∙ ap v ((same_name-Decides x y).0 is)
     by_name y false is = refl
-
-    pointwise : (y : Name) → changed v x w y ≡ v y
-    pointwise y = by_name y (same_name x y) refl
 
 entered : (sub : Sub) (s : Store) (vars : List VarId) (rest : Tree) → Safe (entering sub vars rest) (valuation_of s) → Safe rest (valuation_of s)
 entered sub s [] rest safe = safe
@@ -107,24 +115,16 @@ entered sub s (x ∷ vars) rest safe = entered sub s vars rest (by_export (expor
 
 -- ---- a call
 
-module _ (p : Program) (sub : Sub) (scoped : Scoped p sub) (obeys : ObeysRules p sub) where
+module _ (p : Program) (integers : AreIntegers p) (sub : Sub) (scoped : Scoped p sub) (obeys : ObeysRules p sub) where
   -- what is imported is set on entry
   import_starts_set : (x : VarId) → imports x sub ≡ true → starts_unset p x ≡ false
   import_starts_set x import =
       let kind = scoped.formal_kinds x (scoped.imported x import) in
       unset_is p x (Formal kind.0) kind.1 ∙ by_mode kind.0 (mode_is p x (Formal kind.0) kind.1)
     where
-      by_export : (e i : Bool) → i ≡ true → (e && not i) ≡ false
-      by_export true true h = refl
-      by_export true false h = absurd (cc)
-      by_export false i h = refl
-
-      disagrees : agrees mode.Out (imports x sub) (exports x sub) ≡ false
-      disagrees = by_export (exports x sub) (imports x sub) import
-
       by_mode : (m : Mode) → mode_of x p ≡ Some m → is_unset_kind (Formal m) ≡ false
       by_mode mode.In is = refl
-      by_mode mode.Out is = absurd (obeys.modes (x, mode.Out, scoped.imported x import, is, disagrees))
+      by_mode mode.Out is = absurd (both_ways (not (imports x sub)) (ap not import) (and_parts (exports x sub) (not (imports x sub)) (obeys.modes x mode.Out (scoped.imported x import) is)).1)
       by_mode mode.InOut is = refl
 
   module _ (s : Store) (start : Start p sub s) where
@@ -132,68 +132,53 @@ module _ (p : Program) (sub : Sub) (scoped : Scoped p sub) (obeys : ObeysRules p
     first = entry_of p sub s
 
     kept_import : (x : VarId) → imports x sub ≡ true → look first x ≡ look s x
-    kept_import x import = cleared_keeps p s (sub.formals ++ sub.locals) x (import_starts_set x import)
+    kept_import x import = cleared_keeps p s sub.vars x (import_starts_set x import)
 
     set_import : (x : VarId) → imports x sub ≡ true → IsSet first x
     set_import x import =
         let set = some_of (look s x) (start.imports_set x import) in
         (set.0, kept_import x import ∙ set.1)
 
-    typed_first : InTypes p first
-    typed_first x w is = subst (λ o. IfSome o (λ u. IsTrue (is_in (type_of p x) u))) (cleared_part p s (sub.formals ++ sub.locals) x w is) (start.in_types x)
-
-    pre_imports : (pre : CorePrecondition) → sub.pre ≡ Some pre → (x : VarId) → uses x pre.condition ≡ true → imports x sub ≡ true
-    pre_imports pre is x used = by_import (imports x sub) refl
-      where
-        by_import : (b : Bool) → imports x sub ≡ b → imports x sub ≡ true
-        by_import true h = h
-        by_import false h = absurd (obeys.precondition (pre, x, is, used, h))
+    typed_first : HasIntegers first
+    typed_first x w is =
+        integer_is w (ap (λ of. is_in of w) (sym (integers x)) ∙ subst (λ o. IfSome o (λ u. IsTrue (is_in (type_of p x) u))) (cleared_part p s sub.vars x w is) (start.in_types x))
 
     pre_first : (pre : Option CorePrecondition) → sub.pre ≡ pre → pre_holds p pre s ≡ true → pre_holds p pre first ≡ true
     pre_first None is h = refl
-    pre_first (Some pre) is h = ap as_truth (meant_same p first s pre.condition (λ x used. kept_import x (pre_imports pre is x used))) ∙ h
+    pre_first (Some pre) is h = ap as_truth (meant_same p first s pre.condition (λ x used. kept_import x (obeys.precondition pre x is used))) ∙ h
 
     -- the facts at the start hold
     import_holds : (x : VarId) → AllHold (valuation_of first) (import_facts sub x)
     import_holds x = by_import (imports x sub) refl
       where
-        facts : imports x sub ≡ true → AllHold (valuation_of first) (in_integer (Variable (now x)))
-        facts import =
-            let set = set_import x import in
-            let within = sym (one_type (type_of p x) set.0) ∙ typed_first x set.0 set.1 in
-            let of = integer_number set.0 within in
-            type_facts (valuation_of first) (Variable (now x)) of.0
-            (fold-Variable (value_step (valuation_of first)) (now x) ∙ valuation_agrees p first typed_first x set.0 set.1 ∙ of.1)
-            (ap (is_in IntegerType) (sym of.1) ∙ within)
-
         by_import : (b : Bool) → imports x sub ≡ b → AllHold (valuation_of first) (if b then in_integer (Variable (now x)) else [])
-        by_import true is = facts is
+        by_import true import =
+            let set = set_import x import in
+            let of = typed_first x set.0 set.1 in
+            type_facts (valuation_of first) (Variable (now x)) of.0
+            (fold-Variable (value_step (valuation_of first)) (now x) ∙ valuation_agrees first typed_first x set.0 set.1 ∙ of.1) of.2
         by_import false is = tt
-
-    imports_hold : (vars : List VarId) → AllHold (valuation_of first) (flat_map (import_facts sub) vars)
-    imports_hold [] = tt
-    imports_hold (x ∷ vars) = each_append (λ t. Holds t (valuation_of first)) (import_facts sub x) (flat_map (import_facts sub) vars) (import_holds x) (imports_hold vars)
 
     pre_holds_first : (pre : Option CorePrecondition) → sub.pre ≡ pre → pre_holds p pre first ≡ true → AllHold (valuation_of first) (pre_facts pre)
     pre_holds_first None is h = tt
     pre_holds_first (Some pre) is h =
-        let means = means_its_term p first (valuation_of first) (valuation_agrees p first typed_first) pre.condition (λ x used. set_import x (pre_imports pre is x used)) in
+        let means = means_its_term p first (valuation_of first) (valuation_agrees first typed_first) pre.condition (λ x used. set_import x (obeys.precondition pre x is used)) in
         (sym means ∙ as_truth_is (meant p first first pre.condition) h, tt)
 
     body_safe : HasValidConditions sub → Safe (walks sub.statements Cut) (valuation_of first)
     body_safe valid =
-        let whole = entered sub first sub.formals (assume_all (first_facts sub) (walks sub.statements Cut)) (safe_sub sub valid (valuation_of first) (valuation_respects first)) in
+        let whole = entered sub first (formals sub) (assume_all (first_facts sub) (walks sub.statements Cut)) (safe_sub sub valid (valuation_of first) (valuation_respects first)) in
         assumed (first_facts sub) (walks sub.statements Cut) (valuation_of first)
-        (each_append (λ t. Holds t (valuation_of first)) (flat_map (import_facts sub) sub.formals) (pre_facts sub.pre) (imports_hold sub.formals) (pre_holds_first sub.pre refl (pre_first sub.pre refl start.precondition))) whole
+        (each_append (λ t. Holds t (valuation_of first)) (flat_map (import_facts sub) (formals sub)) (pre_facts sub.pre) (each_flat_map (λ t. Holds t (valuation_of first)) (import_facts sub) import_holds (formals sub)) (pre_holds_first sub.pre refl (pre_first sub.pre refl start.precondition))) whole
 
     pre_good : (pre : Option CorePrecondition) → pre_holds p pre first ≡ true → demand_pre p pre first ≡ Ended first
     pre_good None h = refl
     pre_good (Some pre) h = ap (λ b. demand b Pre pre.place first) h
 
-    export_set : HasNoFinding sub → (t : Store) → SetBehind sub sub.statements t → (x : VarId) → exports x sub ≡ true → IsSet t x
+    export_set : HasNoFinding sub → (t : Store) → SetAfter sub sub.statements t → (x : VarId) → exports x sub ≡ true → IsSet t x
     export_set flows t set x export = set x (or_cases (imports x sub) (defines x sub.statements) (exports_are_set sub flows x export))
 
-    exports_good : HasNoFinding sub → (t : Store) → SetBehind sub sub.statements t → (vars : List VarId) → list_all (λ v. not (exports v sub) || is_some (look t v)) vars ≡ true
+    exports_good : HasNoFinding sub → (t : Store) → SetAfter sub sub.statements t → (vars : List VarId) → list_all (λ v. not (exports v sub) || is_some (look t v)) vars ≡ true
     exports_good flows t set [] = refl
     exports_good flows t set (x ∷ vars) = ap₂ ◌&&◌ (by_export (exports x sub) refl) (exports_good flows t set vars)
       where
@@ -204,11 +189,11 @@ module _ (p : Program) (sub : Sub) (scoped : Scoped p sub) (obeys : ObeysRules p
     call_good : HasNoFinding sub → TypedSub sub → HasValidConditions sub → (n : ℕ) → IsGood (call p n sub s) (λ t. ⊤)
     call_good flows typed valid n =
         subst (λ o. IsGood (then_do o (λ e. then_do (run p n e sub.statements) (λ t. demand (exports_set sub t) Unset sub.end t))) (λ t. ⊤)) (sym (pre_good sub.pre (pre_first sub.pre refl start.precondition)))
-        (good_then (run p n first sub.statements) (λ t. demand (exports_set sub t) Unset sub.end t) (SetBehind sub sub.statements) (λ t. ⊤)
-        (body_good p sub flows n [] sub.statements first (valuation_of first) refl typed.1 (record { agrees = valuation_agrees p first typed_first; typed = typed_first }) set_first (body_safe valid))
-        (λ t set. subst (λ b. IsGood (demand b Unset sub.end t) (λ t. ⊤)) (sym (exports_good flows t set sub.formals)) tt))
+        (good_then (run p n first sub.statements) (λ t. demand (exports_set sub t) Unset sub.end t) (SetAfter sub sub.statements) (λ t. ⊤)
+        (body_good p integers sub flows n [] sub.statements first (valuation_of first) refl typed.statements (record { agrees = valuation_agrees first typed_first; respects = valuation_respects first }) set_first (body_safe valid))
+        (λ t set. subst (λ b. IsGood (demand b Unset sub.end t) (λ t. ⊤)) (sym (exports_good flows t set (formals sub))) tt))
       where
-        set_first : SetBehind sub [] first
+        set_first : SetAfter sub [] first
         set_first x (inl import) = set_import x import
         set_first x (inr defined) = absurd (cc)
 
@@ -217,15 +202,6 @@ module _ (p : Program) (sub : Sub) (scoped : Scoped p sub) (obeys : ObeysRules p
 
 -- ---- programs
 
-pub never_bad : (p : Program) → Fit p → NeverBad p
-never_bad p fit =
-    let scoped = recursion_from_All (Scoped p) p.subs (all_scoped p fit.visible) in
-    let obeys = recursion_from_All (ObeysRules p) p.subs fit.obeys in
-    let flows = recursion_from_All HasNoFinding p.subs fit.flows in
-    let valid = recursion_from_All HasValidConditions p.subs fit.conditions in
-    All-from_recursion (IsNeverBad p) p.subs (each p.subs scoped obeys flows fit.typed valid)
-  where
-    each : (subs : List Sub) → AllByRecursion (Scoped p) subs → AllByRecursion (ObeysRules p) subs → AllByRecursion HasNoFinding subs → Each TypedSub subs → AllByRecursion HasValidConditions subs → AllByRecursion (IsNeverBad p) subs
-    each [] scoped obeys flows typed valid = tt
-    each (sub ∷ subs) scoped obeys flows typed valid =
-        (is_never_bad p sub scoped.0 obeys.0 flows.0 typed.0 valid.0, each subs scoped.1 obeys.1 flows.1 typed.1 valid.1)
+pub never_bad : (p : Program) → All (Scoped p) p.subs → All (ObeysRules p) p.subs → Fit p → NeverBad p
+never_bad p scoped obeys fit k d within =
+    is_never_bad p (one_type p fit.visible) (get_or p.subs k d) (scoped k d within) (obeys k d within) (fit.flows k d within) (typed_subs p fit.typed k d within) (fit.conditions k d within)

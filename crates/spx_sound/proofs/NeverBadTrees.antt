@@ -1,7 +1,7 @@
 -- Trees whose conditions are valid are safe.
 use Rattle.std.proofs.Common.{◌≡◌, ℕ, ◌+◌, Bool, true, false, if◌then◌else◌, List, [], ◌∷◌, ◌++◌, map, fold, refl, sym, ap, ap₂, ◌∙◌}
 use Rattle.std.specs.Prelude.{⊤}
-use Rattle.std.specs.List.{AllByRecursion}
+use Rattle.std.specs.List.{AllByRecursion, flat_map}
 use Rattle.std.proofs.lemmas.List.Elements.{All-from_recursion, recursion_from_All}
 use Rattle.spx_term.specs.declared.term.Name.{Name}
 use Rattle.spx_term.specs.declared.term.Term.{Term}
@@ -105,6 +105,10 @@ module _ (P : Term → Type 0) where
   each_append [] us h k = k
   each_append (t ∷ ts) us h k = (h.0, each_append ts us h.1 k)
 
+  pub each_flat_map : {A : Type 0} (f : A → List Term) → ((x : A) → AllByRecursion P (f x)) → (xs : List A) → AllByRecursion P (flat_map f xs)
+  each_flat_map f each [] = tt
+  each_flat_map f each (x ∷ xs) = each_append (f x) (flat_map f xs) (each x) (each_flat_map f each xs)
+
   each_with_new : (facts : List Term) (t : Term) → AllByRecursion P facts → P t → AllByRecursion P (with_new facts t)
   each_with_new facts t each h = by_test (is_among facts t)
     where
@@ -129,7 +133,7 @@ met_by v respects name n (c ∷ cs) valid = (met_where_valid v respects c.hyps c
 pub safe_sub : (sub : Sub) → HasValidConditions sub → (v : Valuation) → Respects v → Safe (tree_of sub) v
 unfolding conditions_of
 safe_sub sub valid v respects =
-    safe (tree_of sub) v (met_by v respects sub.name.text 1 (claims_of (tree_of sub)) (recursion_from_All IsValid (conditions_of sub) valid))
+    safe (tree_of sub) v (met_by v respects sub.name.name.text 1 (claims_of (tree_of sub)) (recursion_from_All IsValid (conditions_of sub) valid))
 
 -- ---- what a safe tree says
 

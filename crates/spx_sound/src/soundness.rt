@@ -1,10 +1,9 @@
-// What the verification conditions of a program tell of its runs.
+// What the verification conditions of a program say of its runs.
 ghost use Rattle.spx_meaning.specs.Fit.{Clean, Fit};
 ghost use Rattle.spx_meaning.specs.Laws.{NeverBad};
-ghost use Rattle.spx_meaning.specs.Increment.{increment};
 
 use spx_core::Program;
-use spx_meaning::laws::increment_is_clean;
+use spx_core::laws::{names_are_scoped, rules_hold};
 
 /// Conditions that need no proof are valid.
 pub fn clean_is_fit(program: &Program)
@@ -15,12 +14,7 @@ pub fn clean_is_fit(program: &Program)
 /// values in their types.
 pub fn never_bad(program: &Program)
     ensures { Fit program.now → NeverBad program.now }
-{}
-
-/// The procedure of examples/inc.adb meets the premise of the laws.
-pub fn increment_is_never_bad()
-    ensures fit { Fit increment }
-    ensures never_bad { NeverBad increment }
 {
-    increment_is_clean();
+    names_are_scoped();
+    rules_hold();
 }

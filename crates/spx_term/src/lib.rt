@@ -1,7 +1,7 @@
 //! Logical terms, sequents and verification conditions.
 //!
 //! Trees are plain data: a contract sees a term as what it holds. A layer above may rely on this: a copy equals its
-//! source, `same` tells whether two terms are equal, and `fold` changes no value of a well-sorted term.
+//! source, `same` says whether two terms are equal, and `fold` changes no value of a well-sorted term.
 #![tactic(auto)]
 
 mod condition;

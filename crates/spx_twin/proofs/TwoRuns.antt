@@ -1,31 +1,30 @@
--- What the dependency relation of a subprogram tells of two of its runs.
-use Rattle.std.proofs.Common.{◌≡◌, Bool, true, false, not, ◌==◌, ◌||◌, List, [], ◌∷◌, ◌++◌, Option, Some, None, refl, sym, ap, ◌∙◌, subst, inl, inr}
+-- What the dependency relation of a subprogram says of two of its runs.
+use Rattle.std.proofs.Common.{◌≡◌, Bool, true, false, not, ◌||◌, List, [], ◌∷◌, Some, refl, sym, ap, ◌∙◌, subst, inl, inr}
 use Rattle.std.specs.Prelude.{All}
 use Rattle.std.specs.List.{AllByRecursion, list_any}
 use Rattle.std.proofs.lemmas.List.Elements.{All-from_recursion, recursion_from_All}
-use Rattle.std.proofs.lemmas.List.Folds.{list_any-append}
-use Rattle.std.proofs.lemmas.Bool.{and_parts, or_right}
-use Rattle.spx_core.specs.declared.program.VarId.{VarId}
+use Rattle.std.proofs.lemmas.Bool.{and_parts}
+use Rattle.spx_core.specs.declared.entity.VarId.{VarId}
 use Rattle.spx_core.specs.declared.program.Program.{Program}
-use Rattle.spx_core.specs.declared.program.VarKind.TheVariants.{Local}
-use Rattle.spx_core.specs.declared.subprogram.Mode.{Mode}
-use Rattle.spx_core.specs.declared.subprogram.Mode.TheVariants as mode
+use Rattle.spx_core.specs.declared.entity.VarKind.TheVariants.{Formal}
+use Rattle.spx_core.specs.declared.entity.Mode.{Mode}
+use Rattle.spx_core.specs.declared.entity.Mode.TheVariants as mode
 use Rattle.spx_core.specs.declared.subprogram.Sub.{Sub}
-use Rattle.spx_core.specs.declared.expression.CoreStmt.{CoreStmt}
-use Rattle.spx_core.specs.declared.expression.CoreStmt.TheVariants.{Null, Assignment}
+use Rattle.spx_core.specs.declared.statement.CoreStmt.{CoreStmt}
+use Rattle.spx_core.specs.declared.statement.CoreStmt.TheVariants.{Null, Assignment}
 use Rattle.spx_core.specs.Uses.{uses}
 use Rattle.spx_core.specs.Dependency.{derives, exports, imports}
 use Rattle.spx_core.specs.Formals.{is_formal, is_local, mode_of}
-use Rattle.spx_core.specs.Flow.{reads, defines, MayFlow, MayFlowAll, HasNoFinding}
-use Rattle.spx_core.specs.Rules.{agrees, ObeysRules}
+use Rattle.spx_core.specs.Flow.{reads, defines, MayFlow, MayFlowAll, HasNoFinding, HasNoFlowFinding}
+use Rattle.spx_core.specs.Rules.{ObeysRules}
 use Rattle.spx_meaning.specs.Stores.{Store, look}
 use Rattle.spx_meaning.specs.Runs.{entry_of}
 use Rattle.spx_meaning.specs.Laws.{AreDerived, OthersAreKept, TwoRuns}
-use Rattle.spx_meaning.specs.Fit.{Fit}
-use Rattle.spx_meaning.proofs.Scopes.{Scoped, unset_is, all_scoped}
-use Rattle.spx_meaning.proofs.Entries.{cleared_agree, cleared_unset}
-use Rattle.spx_meaning.proofs.Runs.{call_ended}
-use Rattle.spx_meaning.proofs.Flows.{or_false, kept, determined}
+use Rattle.spx_core.specs.Scopes.{Scoped}
+use Rattle.spx_meaning.proofs.Callers.Scopes.{local_starts_unset, mode_is}
+use Rattle.spx_meaning.proofs.Callers.Entries.{cleared_agree}
+use Rattle.spx_meaning.proofs.Callers.Runs.{call_ended}
+use Rattle.spx_meaning.proofs.Callers.Flows.{or_false, kept, determined}
 
 -- ---- what flows from a variable that is not read
 
@@ -63,15 +62,9 @@ module _ (p : Program) (sub : Sub) (scoped : Scoped p sub) where
   begin_alike : (s t : Store) (u : VarId) → (is_local u sub ≡ false → look s u ≡ look t u) → look (entry_of p sub s) u ≡ look (entry_of p sub t) u
   begin_alike s t u agree = by_local (is_local u sub) refl
     where
-      unset : is_local u sub ≡ true → (r : Store) → look (entry_of p sub r) u ≡ None
-      unset is r =
-          cleared_unset p r (sub.formals ++ sub.locals) u
-          (list_any-append (λ (w : VarId). w.0 == u.0) sub.formals sub.locals ∙ or_right (is_formal u sub) (is_local u sub) is)
-          (unset_is p u Local (scoped.local_kinds u is))
-
       by_local : (b : Bool) → is_local u sub ≡ b → look (entry_of p sub s) u ≡ look (entry_of p sub t) u
-      by_local true is = unset is s ∙ sym (unset is t)
-      by_local false is = cleared_agree p s t (sub.formals ++ sub.locals) u (agree is)
+      by_local true is = local_starts_unset p sub scoped u is s ∙ sym (local_starts_unset p sub scoped u is t)
+      by_local false is = cleared_agree p s t sub.vars u (agree is)
 
   pub are_derived : HasNoFinding sub → AreDerived p sub
   are_derived fits n m s t s' t' start start' ended ended' y export agree =
@@ -82,18 +75,16 @@ module _ (p : Program) (sub : Sub) (scoped : Scoped p sub) where
   unset_others : ObeysRules p sub → (v : VarId) → exports v sub ≡ false → is_local v sub ≡ false → defines v sub.statements ≡ false
   unset_others obeys v other no_local = by_defined (defines v sub.statements) refl
     where
-      allowed : (mode : Mode) → mode_of v p ≡ Some mode → is_formal v sub ≡ true → defines v sub.statements ≡ true → (a : Bool) → agrees mode (imports v sub) (exports v sub) ≡ a → ⊥
-      allowed mode.In is formal defined a agreed = obeys.targets (v, defined, is)
-      allowed mode is formal defined false agreed = obeys.modes (v, mode, formal, is, agreed)
-      allowed mode.Out is formal defined true agreed = absurd (let h = and_parts (exports v sub) (not (imports v sub)) agreed in cc)
-      allowed mode.InOut is formal defined true agreed = absurd (let h = and_parts (imports v sub) (exports v sub) agreed in cc)
+      allowed : (mode : Mode) → mode_of v p ≡ Some mode → is_formal v sub ≡ true → defines v sub.statements ≡ true → ⊥
+      allowed mode.In is formal defined = obeys.targets v defined is
+      allowed mode.Out is formal defined = absurd (let h = and_parts (exports v sub) (not (imports v sub)) (obeys.modes v mode.Out formal is) in cc)
+      allowed mode.InOut is formal defined = absurd (let h = and_parts (imports v sub) (exports v sub) (obeys.modes v mode.InOut formal is) in cc)
 
-      by_mode : (o : Option Mode) → mode_of v p ≡ o → is_formal v sub ≡ true → defines v sub.statements ≡ true → ⊥
-      by_mode (Some mode) is formal defined = allowed mode is formal defined _ refl
-      by_mode None is formal defined = scoped.modes v formal is
+      by_mode : is_formal v sub ≡ true → defines v sub.statements ≡ true → ⊥
+      by_mode formal defined = let kind = scoped.formal_kinds v formal in allowed kind.0 (mode_is p v (Formal kind.0) kind.1) formal defined
 
       by_defined : (d : Bool) → defines v sub.statements ≡ d → defines v sub.statements ≡ false
-      by_defined true is = absurd (by_mode (mode_of v p) refl (the_formal (is_formal v sub) (is_local v sub) (scoped.targets v is) no_local) is)
+      by_defined true is = absurd (by_mode (the_formal (is_formal v sub) (is_local v sub) (scoped.targets v is) no_local) is)
       by_defined false is = is
 
   pub others_are_kept : ObeysRules p sub → OthersAreKept p sub
@@ -111,10 +102,8 @@ all_by {A} P Q R S each xs p q r =
     by_recursion [] p q r = tt
     by_recursion (x ∷ xs) p q r = (each x p.0 q.0 r.0, by_recursion xs p.1 q.1 r.1)
 
-pub two_runs : (p : Program) → Fit p → TwoRuns p
-two_runs p fit =
-    let scoped = all_scoped p fit.visible in
-    record {
-      derived = all_by (Scoped p) HasNoFinding (ObeysRules p) (AreDerived p) (λ sub scoped fits obeys. are_derived p sub scoped fits) p.subs scoped fit.flows fit.obeys;
-      kept = all_by (Scoped p) HasNoFinding (ObeysRules p) (OthersAreKept p) (λ sub scoped fits obeys. others_are_kept p sub scoped obeys) p.subs scoped fit.flows fit.obeys;
-    }
+pub two_runs : (p : Program) → All (Scoped p) p.subs → All (ObeysRules p) p.subs → HasNoFlowFinding p → TwoRuns p
+two_runs p scoped obeys flows = record {
+  derived = all_by (Scoped p) HasNoFinding (ObeysRules p) (AreDerived p) (λ sub scoped fits obeys. are_derived p sub scoped fits) p.subs scoped flows obeys;
+  kept = all_by (Scoped p) HasNoFinding (ObeysRules p) (OthersAreKept p) (λ sub scoped fits obeys. others_are_kept p sub scoped obeys) p.subs scoped flows obeys;
+}

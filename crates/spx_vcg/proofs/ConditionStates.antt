@@ -1,7 +1,7 @@
 -- Names of variables.
 use Rattle.std.proofs.Common.{◌≡◌, ℕ, eqb, ap, Decides}
 use Rattle.std.proofs.lemmas.Bool.Decides.{same_from_decides, Decides-eqb}
-use Rattle.spx_core.specs.declared.program.VarId.{VarId}
+use Rattle.spx_core.specs.declared.entity.VarId.{VarId}
 use Rattle.spx_term.specs.declared.term.Sort.TheVariants.{Integer}
 use Rattle.spx_term.specs.declared.term.Symbol.{Symbol}
 use Rattle.spx_term.specs.declared.term.Symbol.TheVariants as symbol

@@ -3,13 +3,14 @@ use Rattle.std.proofs.Common.{◌≡◌, ℤ, Bool, refl}
 use Rattle.std.proofs.lemmas.Int.{to_z-of_z}
 use Rattle.spx_tree.specs.declared.expression.PrefixOp.{PrefixOp}
 use Rattle.spx_tree.specs.declared.expression.PrefixOp.TheVariants.{Plus, Minus}
-use Rattle.spx_core.specs.Static.{Static, number, truth}
 use Rattle.spx_term.specs.declared.term.Name.{Name}
 use Rattle.spx_term.specs.declared.term.TermOp.{TermOp}
 use Rattle.spx_term.specs.declared.term.TermPrefix.{TermPrefix}
 use Rattle.spx_term.specs.declared.term.TermPrefix.TheVariants as sign
 use Rattle.spx_term.specs.declared.term.Term.{Term}
 use Rattle.spx_term.specs.declared.term.Term.TheVariants.{Number, Truth, Variable, Prefix, Infix}
+use Rattle.spx_term.specs.declared.value.Value.{Value}
+use Rattle.spx_term.specs.declared.value.Value.TheVariants as value
 use Rattle.spx_term.proofs.Terms.{fold-Number, fold-Truth, fold-Variable, fold-Prefix, fold-Infix}
 use Rattle.spx_meaning.specs.Paths.{static_term, signed_term}
 use Rattle.spx_vcg.specs.ConditionWalk.{State, applied_step, applied}
@@ -34,9 +35,9 @@ pub applied-Infix : (s : State) (op : TermOp) (a b : Term) → applied s (Infix 
 unfolding applied
 applied-Infix s op a b = fold-Infix (applied_step s) op a b
 
-pub applied-static_term : (s : State) (x : Static) → applied s (static_term x) ≡ static_term x
-applied-static_term s (number n) = applied-Number s n
-applied-static_term s (truth b) = applied-Truth s b
+pub applied-static_term : (s : State) (x : Value) → applied s (static_term x) ≡ static_term x
+applied-static_term s (value.Number n) = applied-Number s n
+applied-static_term s (value.Truth b) = applied-Truth s b
 
 pub applied-signed_term : (s : State) (op : PrefixOp) (t : Term) → applied s (signed_term op t) ≡ signed_term op (applied s t)
 applied-signed_term s Plus t = refl

@@ -10,20 +10,21 @@ use Rattle.spx_text.specs.declared.place.Place.{Place}
 use Rattle.spx_tree.specs.declared.expression.InfixOp.{InfixOp}
 use Rattle.spx_tree.specs.declared.expression.PrefixOp.{PrefixOp}
 use Rattle.spx_tree.specs.declared.expression.PrefixOp.TheVariants as prefix
-use Rattle.spx_core.specs.declared.program.TheConstants.{INTEGER_FIRST, INTEGER_LAST}
+use Rattle.spx_core.specs.declared.entity.TheConstants.{INTEGER_FIRST, INTEGER_LAST}
 use Rattle.spx_core.specs.declared.expression.CoreExpr.{CoreExpr}
 use Rattle.spx_core.specs.declared.expression.CoreExpr.TheVariants as expr
-use Rattle.spx_core.specs.declared.program.VarId.{VarId}
-use Rattle.spx_core.specs.Static.{Static}
+use Rattle.spx_core.specs.declared.entity.VarId.{VarId}
 use Rattle.spx_core.specs.Places.{place_of}
-use Rattle.spx_core.specs.Dependency.{exports, imports}
+use Rattle.spx_core.specs.Dependency.{exports}
 use Rattle.spx_core.specs.declared.subprogram.Sub.{Sub}
 use Rattle.spx_core.specs.declared.subprogram.CorePrecondition.{CorePrecondition}
-use Rattle.spx_core.specs.declared.expression.CoreStmt.{CoreStmt}
-use Rattle.spx_core.specs.declared.expression.CoreStmt.TheVariants.{Assignment}
-use Rattle.spx_core.specs.declared.expression.Entity.{Entity}
-use Rattle.spx_core.specs.declared.expression.Entity.TheVariants as denotes
-use Rattle.spx_core.specs.declared.expression.CoreName.{CoreName}
+use Rattle.spx_core.specs.declared.statement.CoreStmt.{CoreStmt}
+use Rattle.spx_core.specs.declared.statement.CoreStmt.TheVariants.{Assignment}
+use Rattle.spx_core.specs.declared.name.CoreName.{CoreName}
+use Rattle.spx_core.specs.declared.name.Reference.{Reference}
+use Rattle.spx_core.specs.Formals.{formals}
+use Rattle.spx_core.specs.Uses.{variable_of}
+use Rattle.spx_term.specs.declared.value.Value.{Value}
 use Rattle.spx_tree.specs.declared.expression.Identifier.{Identifier}
 use Rattle.spx_term.specs.declared.condition.CondKind.{CondKind}
 use Rattle.spx_tree.specs.declared.expression.InfixOp.TheVariants as sign_op
@@ -38,7 +39,9 @@ use Rattle.spx_term.specs.declared.term.Symbol.{Symbol}
 use Rattle.spx_term.specs.declared.term.Symbol.TheVariants.{Now, Entry}
 use Rattle.spx_term.specs.declared.term.Sort.{Sort}
 use Rattle.spx_term.specs.declared.term.Sort.TheVariants.{Integer, Boolean}
-use Rattle.spx_meaning.specs.Paths.{now, entry, entering, import_facts, pre_facts, first_facts, tree_of, walk, walks, in_integer, term_of, term_op, term_of-Infix, term_of-Prefix, assigned, checks, checks-Number, checks-Name, checks-Attribute, checks-Parenthesized, term_of-Parenthesized, checks-Infix, checks-Prefix, literal, literal_or, static_term, signed_term, unless_static, operation_check, sign_check}
+use Rattle.spx_meaning.specs.Evaluation.{term_op}
+use Rattle.spx_meaning.specs.Literals.{literal}
+use Rattle.spx_meaning.specs.Paths.{now, entry, entering, import_facts, pre_facts, first_facts, tree_of, walk, walks, in_integer, term_of, term_of-Infix, term_of-Prefix, assigned, checks, checks-Number, checks-Name, checks-Attribute, checks-Parenthesized, term_of-Parenthesized, checks-Infix, checks-Prefix, literal_or, static_term, signed_term, unless_static, operation_check, sign_check}
 use Rattle.spx_arena.specs.declared.terms.TermId.{TermId}
 use Rattle.spx_arena.specs.declared.claims.SharedClaim.{SharedClaim}
 use Rattle.spx_arena.specs.Sharing.{tree_at, Grows, IsId, Distinct}
@@ -49,6 +52,7 @@ use Rattle.spx_vcg.specs.declared.walk.Walk.{Walk}
 use Rattle.spx_vcg.specs.ConditionWalk.{State, applied, forward, updated}
 use Rattle.spx_vcg.specs.States.{Given, given, value_or, state_at, state_in, AreValues, IsSet}
 use Rattle.spx_arena.specs.Sharing.{Adds}
+use Rattle.spx_vcg.specs.VarSets.{entered, known_of}
 use Rattle.spx_vcg.specs.WalkSteps.{id_eq, state, Longer, Stands, AddsFact, Whole, claims_from, Goes, Checks, Makes, Adding}
 use Rattle.spx_vcg.proofs.ConditionTerms.{applied-Infix, applied-Variable, applied-static_term, applied-signed_term}
 use Rattle.spx_vcg.proofs.ConditionSteps.{forward-assume_all, applied-in_integer}
@@ -58,17 +62,17 @@ use Rattle.spx_arena.proofs.Growth.{grows_not, grows_twice}
 use Rattle.spx_arena.proofs.Ids.{wider_ids, wider_claims, claims_push, kept_ids, kept_hyps, kept_claims, wider_lists, list_more, ids_push}
 use Rattle.spx_vcg.proofs.SharedIds.{same_tests, inserted_trees, inserted_ids, state_kept}
 
-abbrev pub checks_static : CoreExpr → Static → Type 0
+abbrev pub checks_static : CoreExpr → Value → Type 0
 checks_static e s = ((rest : Tree) → checks e rest ≡ rest) × (term_of e ≡ static_term s)
 
-pub static_infix : (e : CoreExpr) (op : InfixOp) (place : Place) (a b : CoreExpr) (s : Static) → e ≡ expr.Infix op place a b → Some s ≡ literal e → checks_static e s
+pub static_infix : (e : CoreExpr) (op : InfixOp) (place : Place) (a b : CoreExpr) (s : Value) → e ≡ expr.Infix op place a b → Some s ≡ literal e → checks_static e s
 static_infix e op place a b s is some =
     let static = sym (some ∙ ap literal is) in (
       λ rest. ap (λ d. checks d rest) is ∙ checks-Infix op place a b rest ∙ ap (λ o. unless_static o rest (checks a (checks b (operation_check op place (term_of (expr.Infix op place a b)) rest)))) static,
       ap term_of is ∙ term_of-Infix op place a b ∙ ap (λ o. literal_or o (Infix (term_op op) (term_of a) (term_of b))) static,
     )
 
-pub static_prefix : (e : CoreExpr) (op : PrefixOp) (place : Place) (a : CoreExpr) (s : Static) → e ≡ expr.Prefix op place a → Some s ≡ literal e → checks_static e s
+pub static_prefix : (e : CoreExpr) (op : PrefixOp) (place : Place) (a : CoreExpr) (s : Value) → e ≡ expr.Prefix op place a → Some s ≡ literal e → checks_static e s
 static_prefix e op place a s is some =
     let static = sym (some ∙ ap literal is) in (
       λ rest. ap (λ d. checks d rest) is ∙ checks-Prefix op place a rest ∙ ap (λ o. unless_static o rest (checks a (sign_check op place (term_of (expr.Prefix op place a)) rest))) static,
@@ -466,7 +470,7 @@ after_sign {w} {x} {y} {i} {id} e op place a is none whole p q =
     }
 
 -- a static expression
-pub after_static : {w x : Walk} {id : TermId} (e : CoreExpr) (s : Static) → Some s ≡ literal e → Whole w → Checks w x (λ rest. rest) → IsId x.terms id (static_term s) → checks_static e s → Makes w x (checks e) id (term_of e)
+pub after_static : {w x : Walk} {id : TermId} (e : CoreExpr) (s : Value) → Some s ≡ literal e → Whole w → Checks w x (λ rest. rest) → IsId x.terms id (static_term s) → checks_static e s → Makes w x (checks e) id (term_of e)
 after_static {w} {x} {id} e s is whole c i f =
     record { checks = checks_along f.0 c; made = subst (IsId x.terms id) (sym (applied-static_term (state w) s) ∙ ap (applied (state w)) (sym f.1)) i }
 
@@ -523,9 +527,9 @@ after_parens {w} {x} {id} e a place is m = record {
   made = subst (IsId x.terms id) (ap (applied (state w)) (sym (ap term_of is ∙ term_of-Parenthesized place a))) m.made;
 }
 
-pub assign_entity : (old new : Walk) (entity : Entity) (v : VarId) (id : TermId) (t : Term) → Whole old → new.terms ≡ old.terms → new.facts ≡ old.facts → new.claims ≡ old.claims → IsSet old.values new.values v id → id.0 < length old.terms
-    → tree_at old.terms id ≡ applied (state old) t → entity ≡ denotes.Variable v → Goes old new (assigned entity t)
-assign_entity old new entity v id t whole terms facts claims set within is e =
+pub assign_target : (old new : Walk) (target : Option VarId) (v : VarId) (id : TermId) (t : Term) → Whole old → new.terms ≡ old.terms → new.facts ≡ old.facts → new.claims ≡ old.claims → IsSet old.values new.values v id → id.0 < length old.terms
+    → tree_at old.terms id ≡ applied (state old) t → target ≡ Some v → Goes old new (assigned target t)
+assign_target old new target v id t whole terms facts claims set within is e =
     subst (λ d. Goes old new (assigned d t)) (sym e) (after_assign old new v id t whole terms facts claims set within is)
 
 pub leaf_number : (e : CoreExpr) (n : ℤ) (place : Place) → e ≡ expr.Number n place → (rest : Tree) → checks e rest ≡ rest
@@ -552,33 +556,27 @@ module _ {w x y : Walk} {id : TermId} (e : CoreExpr) (place : Place) (whole : Wh
   pub value_within : id.0 < length y.terms
   value_within = value_kept.within
 
-  pub after_statement : {z : Walk} (s : CoreStmt) (target : CoreName) → s ≡ Assignment target e → place ≡ place_of e → ((t : Term) → tree_at y.terms id ≡ applied (state y) t → Goes y z (assigned target.entity t)) → Goes w z (walk s)
+  pub after_statement : {z : Walk} (s : CoreStmt) (target : Reference) → s ≡ Assignment target e → place ≡ place_of e → ((t : Term) → tree_at y.terms id ≡ applied (state y) t → Goes y z (assigned (variable_of target.root.entity) t)) → Goes w z (walk s)
   after_statement {z} s target is at a =
       subst (λ d. Goes w z (walk d)) (sym is)
-      (subst (λ p. Goes w z (λ rest. checks e (check Range p (in_integer (term_of e)) (assigned target.entity (term_of e) rest)))) at
+      (subst (λ p. Goes w z (λ rest. checks e (check Range p (in_integer (term_of e)) (assigned (variable_of target.root.entity) (term_of e) rest)))) at
       (goes_twice value_checked.goes (a (term_of e) (value_kept.tree ∙ ap (λ (u : State). applied u (term_of e)) (sym (state_same whole value_checked))))))
 
 -- ---- the start
-pub after_enter : (old new : Walk) (sub : Sub) (v : VarId) (mid : List Term) (id : TermId) → Whole old → Adds old.terms mid id (Variable (entry v)) → mid ≡ new.terms → new.facts ≡ old.facts → new.claims ≡ old.claims → IsSet old.values new.values v id
-    → exports v sub ≡ true → Goes old new (entering sub (v ∷ []))
-after_enter old new sub v mid id whole a e facts claims set is =
+pub after_enter : (old new : Walk) (v : VarId) (mid : List Term) (id : TermId) (b : Bool) → Whole old → Adds old.terms mid id (Variable (entry v)) → mid ≡ new.terms → new.facts ≡ old.facts → new.claims ≡ old.claims → IsSet old.values new.values v id
+    → b ≡ true → Goes old new (entered b v)
+after_enter old new v mid id b whole a e facts claims set is =
     let between : Walk = record old { terms = mid } in
     let first = after_terms old between whole a.grown refl refl refl in
     let second = after_assign between new v id (Variable (entry v)) first.goes.whole (sym e) facts claims set a.made.within (a.made.tree ∙ sym (applied-Variable (state between) (entry v))) in
-    subst (λ b. Goes old new (λ rest. cond b (Assign (now v) (Variable (entry v)) rest) rest)) (sym is) (goes_twice first.goes second)
+    subst (λ b. Goes old new (entered b v)) (sym is) (goes_twice first.goes second)
 
-pub enter_not : (old : Walk) (sub : Sub) (v : VarId) → Whole old → exports v sub ≡ false → Goes old old (entering sub (v ∷ []))
-enter_not old sub v whole is = subst (λ b. Goes old old (λ rest. cond b (Assign (now v) (Variable (entry v)) rest) rest)) (sym is) (record { whole = whole; same = λ rest. refl })
-
-pub after_import : {old mid new : Walk} {id : TermId} (sub : Sub) (v : VarId) → Whole old → Makes old mid (λ rest. rest) id (Variable (now v))
-    → ((t : Term) → tree_at mid.terms id ≡ applied (state mid) t → Checks mid new (assume_all (in_integer t))) → imports v sub ≡ true → Goes old new (assume_all (import_facts sub v))
-after_import {old} {mid} {new} {id} sub v whole m c is =
+pub after_import : {old mid new : Walk} {id : TermId} (v : VarId) (b : Bool) → Whole old → Makes old mid (λ rest. rest) id (Variable (now v))
+    → ((t : Term) → tree_at mid.terms id ≡ applied (state mid) t → Checks mid new (assume_all (in_integer t))) → b ≡ true → Goes old new (assume_all (known_of b v))
+after_import {old} {mid} {new} {id} v b whole m c is =
     let t = Variable (now v) in
     let then = c t (m.made.tree ∙ ap (λ (u : State). applied u t) (sym (state_same whole m.checks))) in
-    subst (λ b. Goes old new (assume_all (cond b (in_integer t) []))) (sym is) (goes_twice m.checks.goes then.goes)
-
-pub import_not : (old : Walk) (sub : Sub) (v : VarId) → Whole old → imports v sub ≡ false → Goes old old (assume_all (import_facts sub v))
-import_not old sub v whole is = subst (λ b. Goes old old (assume_all (cond b (in_integer (Variable (now v))) []))) (sym is) (record { whole = whole; same = λ rest. refl })
+    subst (λ b. Goes old new (assume_all (known_of b v))) (sym is) (goes_twice m.checks.goes then.goes)
 
 pub makes_value : (old new : Walk) (vs : Given) (id : TermId) (v : VarId) → Whole old → vs ≡ old.values → new.values ≡ old.values → new.facts ≡ old.facts → new.claims ≡ old.claims
     → Adds old.terms new.terms id (state_in old.terms vs (now v)) → Makes old new (λ rest. rest) id (Variable (now v))
@@ -638,7 +636,7 @@ unfolding claims_from
 claims_end w = append-nil (claims_at w.terms w.facts.lists w.claims)
 
 pub all_claims : (a b c d e : Walk) (sub : Sub) → Starts a
-    → Goes a b (entering sub sub.formals) → Goes b c (assume_all (flat_map (import_facts sub) sub.formals)) → Goes c d (assume_all (pre_facts sub.pre)) → Goes d e (walks sub.statements)
+    → Goes a b (entering sub (formals sub)) → Goes b c (assume_all (flat_map (import_facts sub) (formals sub))) → Goes c d (assume_all (pre_facts sub.pre)) → Goes d e (walks sub.statements)
     → claims_at e.terms e.facts.lists e.claims ≡ map tidy (claims_of (tree_of sub))
 all_claims a b c d e sub starts p q r s =
     let body = walks sub.statements Cut in
@@ -646,7 +644,7 @@ all_claims a b c d e sub starts p q r s =
     ∙ sym (s.same Cut)
     ∙ sym (r.same body)
     ∙ sym (q.same (assume_all (pre_facts sub.pre) body))
-    ∙ ap (claims_from b) (sym (assume_all-append (flat_map (import_facts sub) sub.formals) (pre_facts sub.pre) body))
+    ∙ ap (claims_from b) (sym (assume_all-append (flat_map (import_facts sub) (formals sub)) (pre_facts sub.pre) body))
     ∙ sym (p.same (assume_all (first_facts sub) body))
     ∙ claims_start a (tree_of sub) starts
     ∙ forward_from_start (tree_of sub)
@@ -660,3 +658,12 @@ import_step a b c sub vs i v d within is before g rest =
     ∙ ap (λ us. claims_from b (assume_all (flat_map (import_facts sub) us) rest)) (drop-cons vs i d within ∙ (λ k. sym is k ∷ drop (sym (add-one i) k) vs))
     ∙ ap (claims_from b) (assume_all-append (import_facts sub v) (flat_map (import_facts sub) (drop (i + 1) vs)) rest)
     ∙ g.same (assume_all (flat_map (import_facts sub) (drop (i + 1) vs)) rest)
+
+pub enter_step : (a b c : Walk) (sub : Sub) (vs : List VarId) (i : ℕ) (v d : VarId) → i < length vs → v ≡ get_or vs i d
+    → ((rest : Tree) → claims_from a (entering sub vs rest) ≡ claims_from b (entering sub (drop i vs) rest))
+    → Goes b c (entered (exports v sub) v)
+    → (rest : Tree) → claims_from a (entering sub vs rest) ≡ claims_from c (entering sub (drop (i + 1) vs) rest)
+enter_step a b c sub vs i v d within is before g rest =
+    before rest
+    ∙ ap (λ us. claims_from b (entering sub us rest)) (drop-cons vs i d within ∙ (λ k. sym is k ∷ drop (sym (add-one i) k) vs))
+    ∙ g.same (entering sub (drop (i + 1) vs) rest)

@@ -5,12 +5,13 @@ use Rattle.spx_tree.specs.declared.expression.PrefixOp.{PrefixOp}
 use Rattle.spx_term.specs.declared.term.Term.{Term}
 use Rattle.spx_term.specs.declared.term.TermOp.{TermOp}
 use Rattle.spx_term.specs.declared.term.Term.TheVariants.{Variable, Infix}
-use Rattle.spx_core.specs.declared.program.VarId.{VarId}
+use Rattle.spx_core.specs.declared.entity.VarId.{VarId}
 use Rattle.spx_term.specs.declared.value.Value.{Value}
 use Rattle.spx_term.specs.declared.value.Value.TheVariants as value
 use Rattle.spx_term.specs.Folding.{term_of as literal_term}
-use Rattle.spx_vcg.specs.ConditionLiterals.{static_of}
-use Rattle.spx_meaning.specs.Paths.{static_term, now, signed_term, literal, literal_or, term_op, term_of, term_of-Infix, term_of-Prefix}
+use Rattle.spx_meaning.specs.Evaluation.{term_op}
+use Rattle.spx_meaning.specs.Literals.{literal}
+use Rattle.spx_meaning.specs.Paths.{static_term, now, signed_term, literal_or, term_of, term_of-Infix, term_of-Prefix}
 use Rattle.spx_text.specs.declared.place.Place.{Place}
 use Rattle.spx_core.specs.declared.expression.CoreExpr.{CoreExpr}
 use Rattle.spx_core.specs.declared.expression.CoreExpr.TheVariants as expr
@@ -48,7 +49,7 @@ adds_infix {old} {mid} {late} {new} {i} {j} {id} a b values op are p q r e =
 pub ruleset adds_laws = (adds_along)
 
 -- the literal of a static value
-pub static_is : (v : Value) → literal_term v ≡ static_term (static_of v)
+pub static_is : (v : Value) → literal_term v ≡ static_term v
 static_is (value.Number n) = refl
 static_is (value.Truth b) = refl
 

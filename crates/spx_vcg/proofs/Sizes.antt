@@ -69,11 +69,11 @@ large_numbered name n (c ∷ cs) = ap (λ b. is_large c || b) (large_numbered na
 
 pub large_is : (sub : Sub) (cs : List Claim) → cs ≡ map tidy (claims_of (tree_of sub)) → list_any is_large cs ≡ has_large_condition sub
 unfolding conditions_of
-large_is sub cs e = ap (list_any is_large) e ∙ sym (large_numbered sub.name.text 1 (map tidy (claims_of (tree_of sub))))
+large_is sub cs e = ap (list_any is_large) e ∙ sym (large_numbered sub.name.name.text 1 (map tidy (claims_of (tree_of sub))))
 
-pub conditions_are : (sub : Sub) (cs : List Claim) → cs ≡ map tidy (claims_of (tree_of sub)) → numbered sub.name.text 1 cs ≡ conditions_of sub
+pub conditions_are : (sub : Sub) (cs : List Claim) → cs ≡ map tidy (claims_of (tree_of sub)) → numbered sub.name.name.text 1 cs ≡ conditions_of sub
 unfolding conditions_of
-conditions_are sub cs e = ap (numbered sub.name.text 1) e
+conditions_are sub cs e = ap (numbered sub.name.name.text 1) e
 
 -- ---- numbers
 enumerate_from-push : {A : Type 0} (n : ℕ) (xs : List A) (x : A) → enumerate_from n (xs ++ x ∷ []) ≡ enumerate_from n xs ++ (n + length xs, x) ∷ []

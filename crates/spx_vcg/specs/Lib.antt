@@ -1,5 +1,5 @@
-pub mod ConditionLiterals
 pub mod ConditionWalk
 pub mod States
 pub mod WalkSteps
 pub mod Largeness
+pub mod VarSets

@@ -7,7 +7,7 @@ use Rattle.spx_term.specs.declared.term.Symbol.{Symbol}
 use Rattle.spx_term.specs.declared.term.Symbol.TheVariants.{Now, Entry}
 use Rattle.spx_term.specs.declared.term.Term.{Term}
 use Rattle.spx_term.specs.declared.term.Term.TheVariants.{Variable}
-use Rattle.spx_core.specs.declared.program.VarId.{VarId}
+use Rattle.spx_core.specs.declared.entity.VarId.{VarId}
 use Rattle.spx_arena.specs.declared.terms.TermId.{TermId}
 use Rattle.spx_arena.specs.Sharing.{tree_at}
 use Rattle.spx_vcg.specs.ConditionWalk.{State}

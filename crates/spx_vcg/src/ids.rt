@@ -1,17 +1,18 @@
 // Terms of expressions, by ids.
 ghost use Rattle.std.specs.Prelude.{◌≡◌, ◌<◌, length, IfOk};
 ghost use Rattle.spx_term.specs.declared.term.Term.TheVariants as term;
-ghost use Rattle.spx_meaning.specs.Paths.{now, named, signed_term, term_of, term_op, static_term};
+ghost use Rattle.spx_core.specs.Uses.{variable_of};
+ghost use Rattle.spx_meaning.specs.Evaluation.{term_op};
+ghost use Rattle.spx_meaning.specs.Paths.{now, named, signed_term, term_of, static_term};
 ghost use Rattle.spx_arena.specs.Sharing.{tree_at};
-ghost use Rattle.spx_vcg.specs.ConditionLiterals.{static_of};
 ghost use Rattle.spx_vcg.specs.ConditionWalk.{applied};
 ghost use Rattle.spx_vcg.specs.States.{state_in, AreValues};
 ghost use Rattle.spx_arena.specs.Sharing.{Adds};
 
-use crate::static_terms::{attribute, literal};
+use crate::literals::literal;
 use crate::values::Values;
 use spx_arena::{Node, TermId, Terms};
-use spx_core::{CoreExpr, Entity, INTEGER_FIRST, INTEGER_LAST, VarId};
+use spx_core::{CoreExpr, Entity, INTEGER_FIRST, INTEGER_LAST, VarId, variable_of};
 use spx_term::{Name, Sort, Symbol, TermOp, TermPrefix, Value};
 use spx_tree::{InfixOp, PrefixOp};
 use std::alloc::AllocError;
@@ -44,7 +45,7 @@ pub fn variable_id(terms: &mut Terms, symbol: Symbol) -> Result<TermId, AllocErr
 /// The id of the literal of a static expression.
 #[tactic(auto, using(crate::proofs::SharedTerms::literal_laws))]
 pub fn static_id(terms: &mut Terms, value: Value) -> Result<TermId, AllocError>
-    ensures { IfOk result (λ id. Adds terms.old terms.new id (static_term (static_of value))) }
+    ensures { IfOk result (λ id. Adds terms.old terms.new id (static_term value)) }
 {
     terms.literal(value)
 }
@@ -62,13 +63,17 @@ pub fn value_id(terms: &mut Terms, values: &Values, var: VarId) -> Result<TermId
 
 /// The id of what a name denotes.
 #[tactic(auto, using(crate::proofs::SharedTerms::adds_laws, crate::proofs::ConditionTerms::applied_forms))]
-pub fn name_id(terms: &mut Terms, values: &Values, entity: Entity) -> Result<TermId, AllocError>
+pub fn name_id(
+    terms: &mut Terms,
+    values: &Values,
+    entity: Option<Entity>,
+) -> Result<TermId, AllocError>
     requires { AreValues (length terms.old) values.now }
-    ensures { IfOk result (λ id. Adds terms.old terms.new id (applied (state_in terms.old values.now) (named entity))) }
+    ensures { IfOk result (λ id. Adds terms.old terms.new id (applied (state_in terms.old values.now) (named (variable_of entity)))) }
 {
-    match entity {
-        Entity::Variable(var) => value_id(terms, values, var),
-        Entity::TypeName(_) | Entity::Subprogram(_) => terms.make(Node::Number(0)),
+    match variable_of(entity) {
+        Some(var) => value_id(terms, values, var),
+        None => terms.make(Node::Number(0)),
     }
 }
 
@@ -93,7 +98,10 @@ pub fn term_id(terms: &mut Terms, values: &Values, expr: &CoreExpr) -> Result<Te
     match expr {
         CoreExpr::Number(value, _) => terms.make(Node::Number(*value)),
         CoreExpr::Name(name) => name_id(terms, values, name.entity),
-        CoreExpr::Attribute(_, designator) => terms.make(Node::Number(attribute(designator))),
+        CoreExpr::Attribute(_, _) => match literal(expr) {
+            Some(value) => static_id(terms, value),
+            None => terms.make(Node::Number(0)),
+        },
         CoreExpr::Parenthesized(_, inner) => term_id(terms, values, inner.get()),
         CoreExpr::Prefix(op, _, operand) => {
             if let Some(value) = literal(expr) {

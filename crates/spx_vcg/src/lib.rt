@@ -1,16 +1,18 @@
 //! Verification conditions of subprograms.
 //!
 //! A layer above may rely on this: `shared_conditions` answers the conditions of a subprogram (`conditions_of` of
-//! `spx_meaning`) over shared terms and facts, in time and memory that grow with the length of the body, and
-//! `conditions` answers the same as trees. Both refuse a subprogram exactly where one of its conditions has more than
-//! `MOST_NODES` nodes, or where memory runs out.
+//! `spx_meaning`) over shared terms and facts, in memory that grows with the length of the subprogram. So does the time,
+//! save that each operator looks for a static value in all that it is applied to. `conditions` answers the same as trees.
+//! Both refuse a subprogram exactly where one of its conditions has more than `MOST_NODES` nodes, or where memory runs
+//! out.
 #![tactic(auto)]
 
 mod fault;
 mod ids;
 mod limit;
-mod static_terms;
+mod literals;
 mod values;
+mod vars;
 mod vcg;
 mod walk;
 

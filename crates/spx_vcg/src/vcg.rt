@@ -36,8 +36,8 @@ fn walked(alloc: Global, sub: &Sub) -> Result<SharedClaims, AllocError>
         },
         claims: Items::new(alloc),
     };
-    walk.enter_all(sub)?;
-    walk.assume_imports(sub)?;
+    walk.enter_all(alloc, sub)?;
+    walk.assume_imports(alloc, sub)?;
     walk.assume_pre(sub)?;
     walk.stmts(alloc, sub.statements.as_slice())?;
     let Walk {
@@ -71,9 +71,9 @@ pub fn shared_conditions(alloc: Global, sub: &Sub) -> Result<SharedClaims, VcFau
 
 /// `SUB.N`, after so many conditions.
 pub fn condition_name(alloc: Global, sub: &Sub, earlier: usize) -> Result<Text, AllocError>
-    ensures { IfOk result (λ text. text ≡ condition_name sub.now.name.text (earlier + 1)) }
+    ensures { IfOk result (λ text. text ≡ condition_name sub.now.name.name.text (earlier + 1)) }
 {
-    let mut name = Vec::from_slice(alloc, sub.name.text.as_bytes())?;
+    let mut name = Vec::from_slice(alloc, sub.name.name.text.as_bytes())?;
     name.extend_from_slice(b".")?;
     name.extend_from_slice(decimal(alloc, earlier as i128 + 1)?.as_slice())?;
     Text::new(alloc, name.as_slice())
@@ -102,7 +102,7 @@ fn condition(
     requires whole { IsWhole claims.now }
     requires facts { claim.now.facts.0 < length claims.now.facts }
     requires goals { AreIds (length claims.now.terms) claim.now.goals }
-    ensures { IfOk result (λ made. made ≡ condition sub.now.name.text (earlier + 1) (claim_at claims.now.terms claims.now.facts claim.now)) }
+    ensures { IfOk result (λ made. made ≡ condition sub.now.name.name.text (earlier + 1) (claim_at claims.now.terms claims.now.facts claim.now)) }
 {
     let facts = claims.facts.facts(alloc, claim.facts)?;
     Ok(Condition {
@@ -117,7 +117,7 @@ fn condition(
 /// Conditions as trees, named by their numbers.
 fn as_trees(alloc: Global, sub: &Sub, claims: &SharedClaims) -> Result<Items<Condition>, AllocError>
     requires { IsWhole claims.now }
-    ensures { IfOk result (λ all. all ≡ numbered sub.now.name.text 1 (claims_in claims.now)) }
+    ensures { IfOk result (λ all. all ≡ numbered sub.now.name.name.text 1 (claims_in claims.now)) }
 {
     let mut all = Items::new(alloc);
     for (at, claim) in claims.list.as_slice().iter().enumerate() {

@@ -3,18 +3,22 @@ ghost use Rattle.std.specs.Prelude.{◌≡◌, ◌<◌, ◌++◌, List, [], ◌�
 ghost use Rattle.spx_term.specs.declared.term.Term.{Term};
 ghost use Rattle.spx_term.specs.declared.term.Term.TheVariants as term;
 ghost use Rattle.spx_term.specs.Steps.{assume_all, check};
-ghost use Rattle.spx_meaning.specs.Paths.{assigned, signed_term, term_of, term_op, static_term, in_integer, operation_check, sign_check, checks, walk, walks, entering, import_facts, pre_facts};
+ghost use Rattle.spx_core.specs.Formals.{formals};
+ghost use Rattle.spx_core.specs.Uses.{variable_of};
+ghost use Rattle.spx_meaning.specs.Evaluation.{term_op};
+ghost use Rattle.spx_meaning.specs.Paths.{assigned, signed_term, term_of, static_term, in_integer, operation_check, sign_check, checks, walk, walks, entering, import_facts, pre_facts};
+ghost use Rattle.spx_vcg.specs.VarSets.{entered, holds, known_of};
 ghost use Rattle.spx_arena.specs.Sharing.{tree_at, IsId};
-ghost use Rattle.spx_vcg.specs.ConditionLiterals.{static_of};
 ghost use Rattle.spx_vcg.specs.ConditionWalk.{applied};
 ghost use Rattle.spx_vcg.specs.WalkSteps.{state, Stands, AddsFact, Whole, Goes, Checks, Makes, Adding};
 
 use crate::ids::{self, not_above, not_below, signed_id, term_op};
-use crate::static_terms::literal;
+use crate::literals::literal;
 use crate::values::Values;
+use crate::vars::VarSet;
 use indexmap::IndexSet;
 use spx_arena::{FactLists, FactsId, SharedClaim, TermId, Terms};
-use spx_core::{CoreExpr, CoreStmt, Entity, Sub, VarId};
+use spx_core::{CoreExpr, CoreStmt, Entity, Sub, VarId, variable_of};
 use spx_term::{CondKind, Symbol, Value};
 use spx_text::Place;
 use spx_tree::{InfixOp, PrefixOp};
@@ -66,7 +70,7 @@ impl Walk {
     /// The id of the literal of a static expression.
     fn static_id(&mut self, value: Value) -> Result<TermId, AllocError>
         requires { Whole self.old }
-        ensures { IfOk result (λ id. (Checks self.old self.new (λ rest. rest)) × (IsId self.new.terms id (static_term (static_of value)))) }
+        ensures { IfOk result (λ id. (Checks self.old self.new (λ rest. rest)) × (IsId self.new.terms id (static_term value))) }
     {
         let id = ids::static_id(&mut self.terms, value)?;
         Ok(id)
@@ -227,18 +231,18 @@ impl Walk {
         }
     }
 
-    /// Gives the target a value.
-    fn assign(&mut self, entity: Entity, value: TermId) -> Result<(), AllocError>
+    /// Gives the variable that is denoted a value.
+    fn assign(&mut self, entity: Option<Entity>, value: TermId) -> Result<(), AllocError>
         requires whole { Whole self.old }
         requires within { value.0 < length self.old.terms }
-        ensures { OnOk result ((t : Term) → tree_at self.old.terms value ≡ applied (state self.old) t → Goes self.old self.new (assigned entity t)) }
+        ensures { OnOk result ((t : Term) → tree_at self.old.terms value ≡ applied (state self.old) t → Goes self.old self.new (assigned (variable_of entity) t)) }
     {
-        match entity {
-            Entity::Variable(var) => {
+        match variable_of(entity) {
+            Some(var) => {
                 self.values.set(var, value)?;
                 Ok(())
             }
-            Entity::TypeName(_) | Entity::Subprogram(_) => Ok(()),
+            None => Ok(()),
         }
     }
 
@@ -251,7 +255,7 @@ impl Walk {
             CoreStmt::Assignment(target, expr) => {
                 let value = self.checked_id(alloc, expr)?;
                 self.check(alloc, CondKind::Range, expr.place(), value)?;
-                self.assign(target.entity, value)?;
+                self.assign(target.root.entity, value)?;
                 Ok(())
             }
         }
@@ -267,12 +271,12 @@ impl Walk {
         Ok(())
     }
 
-    /// An exported variable begins with its entry value.
-    fn enter(&mut self, sub: &Sub, var: VarId) -> Result<(), AllocError>
+    /// An export begins with its entry value.
+    fn enter(&mut self, exports: &VarSet, var: VarId) -> Result<(), AllocError>
         requires { Whole self.old }
-        ensures { OnOk result (Goes self.old self.new (entering sub.now (var ∷ []))) }
+        ensures { OnOk result (Goes self.old self.new (entered (holds exports.now var) var)) }
     {
-        if sub.exports(var) {
+        if exports.contains(var) {
             let value = ids::variable_id(&mut self.terms, Symbol::Entry(var.0))?;
             self.values.set(var, value)?;
             return Ok(());
@@ -280,22 +284,23 @@ impl Walk {
         Ok(())
     }
 
-    pub fn enter_all(&mut self, sub: &Sub) -> Result<(), AllocError>
+    pub fn enter_all(&mut self, alloc: Global, sub: &Sub) -> Result<(), AllocError>
         requires { Whole self.old }
-        ensures { OnOk result (Goes self.old self.new (entering sub.now sub.now.formals)) }
+        ensures { OnOk result (Goes self.old self.new (entering sub.now (formals sub.now))) }
     {
-        for var in sub.formals.as_slice() {
-            self.enter(sub, *var)?;
+        let exports = VarSet::exports(alloc, sub)?;
+        for var in sub.formals() {
+            self.enter(&exports, *var)?;
         }
         Ok(())
     }
 
     /// An import lies in its type.
-    fn assume_import(&mut self, sub: &Sub, var: VarId) -> Result<(), AllocError>
+    fn assume_import(&mut self, imports: &VarSet, var: VarId) -> Result<(), AllocError>
         requires { Whole self.old }
-        ensures { OnOk result (Goes self.old self.new (assume_all (import_facts sub.now var))) }
+        ensures { OnOk result (Goes self.old self.new (assume_all (known_of (holds imports.now var) var))) }
     {
-        if sub.imports(var) {
+        if imports.contains(var) {
             let value = ids::value_id(&mut self.terms, &self.values, var)?;
             self.assume_integer(value)?;
             return Ok(());
@@ -303,12 +308,13 @@ impl Walk {
         Ok(())
     }
 
-    pub fn assume_imports(&mut self, sub: &Sub) -> Result<(), AllocError>
+    pub fn assume_imports(&mut self, alloc: Global, sub: &Sub) -> Result<(), AllocError>
         requires { Whole self.old }
-        ensures { OnOk result (Goes self.old self.new (assume_all (flat_map (import_facts sub.now) sub.now.formals))) }
+        ensures { OnOk result (Goes self.old self.new (assume_all (flat_map (import_facts sub.now) (formals sub.now)))) }
     {
-        for var in sub.formals.as_slice() {
-            self.assume_import(sub, *var)?;
+        let imports = VarSet::imports(alloc, sub)?;
+        for var in sub.formals() {
+            self.assume_import(&imports, *var)?;
         }
         Ok(())
     }

@@ -1,6 +1,6 @@
 use Rattle.std.proofs.Common.{refl, sym, subst}
-use Rattle.spx_core.specs.Walk.{first_name_breach}
-use Rattle.spx_resolve.specs.Resolving.{Explains}
+use Rattle.spx_core.specs.Statements.{first_name_breach}
+use Rattle.spx_resolve.specs.Explains.{Explains}
 use Rattle.spx_examiner.specs.Outcome.{IsReportOnUnits, of_names}
 use Rattle.spx_examiner.proofs.Spelled.{if_ok}
 use Rattle.spx_examiner.proofs.phases.examined.Goals as goal

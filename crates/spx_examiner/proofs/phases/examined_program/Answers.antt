@@ -2,11 +2,11 @@ use Rattle.std.proofs.Common.{rules, arith, ◌≡◌, ◌≢◌, [], IsNone, re
 use Rattle.std.proofs.lemmas.Grind.{common_steps}
 use Rattle.std.proofs.lemmas.Bool.Decides.{nat_tests}
 use Rattle.spx_core.specs.declared.program.Program.{Program}
-use Rattle.spx_core.specs.Erase.{erased}
+use Rattle.spx_core.specs.Erased.{erased}
 use Rattle.spx_core.specs.Flow.{HasNoFlowFinding}
-use Rattle.spx_core.specs.Rules.{Obeys}
-use Rattle.spx_core.specs.Typed.{Typed}
-use Rattle.spx_core.specs.Visible.{Visible}
+use Rattle.spx_core.specs.Obeyed.{Obeys}
+use Rattle.spx_core.specs.Statements.{Typed}
+use Rattle.spx_core.specs.Erased.{Visible}
 use Rattle.spx_meaning.specs.Limits.{has_large_conditions}
 use Rattle.spx_report.specs.Limits.{IsFaultWhere}
 use Rattle.spx_examiner.specs.Outcome.{IsMadeFrom, IsSoundFrom, IsReportOnUnits, of_rules, of_flow}

@@ -2,7 +2,7 @@ use Rattle.std.proofs.Common.{◌≡◌, take}
 use Rattle.std.specs.List.{flat_map}
 use Rattle.spx_core.specs.declared.dependency.CoreDerivesItem.{CoreDerivesItem}
 use Rattle.spx_core.specs.Dependency.{relation}
-use Rattle.spx_flow.specs.FlowLists.{variables}
+use Rattle.spx_core.specs.Dependency.{variables}
 use Rattle.spx_flow.proofs.flow.exported.Given as goal
 
 abbrev pub invariant-loop-item : goal.invariant-loop-item

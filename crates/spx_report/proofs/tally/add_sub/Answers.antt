@@ -1,4 +1,4 @@
-use Rattle.std.proofs.Common.{◌≡◌, ◌++◌, ◌-◌, ap, sym, ◌∙◌, subst, arith, [], ◌∷◌, length}
+use Rattle.std.proofs.Common.{◌≡◌, ◌++◌, ◌-◌, ap, sym, ◌∙◌, arith, [], ◌∷◌, length}
 use Rattle.spx_report.specs.Findings.{unproved_of}
 use Rattle.spx_report.specs.declared.report.SubRow.{SubRow}
 use Rattle.spx_report.proofs.LeftLaws.{conditions_are, few_left, row_is}

@@ -1,10 +1,9 @@
-use Rattle.std.proofs.Common.{rules, ◌≡◌, ◌<◌, ◌≤◌, Bool, false, true, ◌||◌, List, [], length, take, get_or, refl, sym, ap, ap₂, ◌∙◌, subst, arith}
+use Rattle.std.proofs.Common.{◌≡◌, ◌<◌, ◌≤◌, Bool, false, true, ◌||◌, List, [], length, take, get_or, sym, ap, ap₂, ◌∙◌, subst, arith}
 use Rattle.std.specs.Prelude.{◌↔◌}
 use Rattle.std.specs.List.{All, list_any}
 use Rattle.std.proofs.lemmas.List.{take_all}
 use Rattle.std.proofs.lemmas.List.Folds.{list_any_at, list_any_more}
 use Rattle.std.proofs.lemmas.Result.{err_from_is_err_and}
-use Rattle.spx_core.specs.declared.subprogram.Sub.{Sub}
 use Rattle.spx_meaning.specs.Limits.{has_large_condition, has_large_conditions}
 use Rattle.spx_report.specs.declared.report.Finding.{Finding}
 use Rattle.spx_report.specs.declared.limit.FindFault.{FindFault}

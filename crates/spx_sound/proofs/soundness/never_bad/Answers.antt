@@ -2,4 +2,6 @@ use Rattle.spx_sound.proofs.NeverBad.{never_bad}
 use Rattle.spx_sound.proofs.soundness.never_bad.Goals as goal
 
 pub returns : goal.returns
-returns c = never_bad c.args.program.now
+returns c fit =
+    let p = c.args.program.now in
+    never_bad p (c.names_are_scoped.ensures p fit.visible) (c.rules_hold.ensures p fit.visible fit.obeys) fit

@@ -31,4 +31,4 @@ loop-at-preserved c =
     let is : d ≡ get_or s.list i d = c.claim-item.is ∙ ap (λ (xs : List SharedClaim). get_or xs i d) c.as_slice-claim-items.ensures in
     c.in_ok-push.ensures.ok
     ∙ (λ k. c.loop-at.invariant k ++ c.in_ok-condition.ensures k ∷ [])
-    ∙ numbered_taken c.args.sub.now.name.text (claim_at s.terms s.facts) s.list i d w is
+    ∙ numbered_taken c.args.sub.now.name.name.text (claim_at s.terms s.facts) s.list i d w is

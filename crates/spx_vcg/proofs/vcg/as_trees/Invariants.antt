@@ -4,4 +4,4 @@ use Rattle.spx_meaning.specs.Paths.{numbered}
 use Rattle.spx_vcg.proofs.vcg.as_trees.Given as goal
 
 abbrev pub invariant-loop-at : goal.invariant-loop-at
-invariant-loop-at l = l.all ≡ numbered l.sub.name.text 1 (take l.at (claims_in l.claims))
+invariant-loop-at l = l.all ≡ numbered l.sub.name.name.text 1 (take l.at (claims_in l.claims))

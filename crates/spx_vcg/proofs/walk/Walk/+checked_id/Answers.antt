@@ -1,7 +1,6 @@
 use Rattle.std.proofs.Common.{subst}
 use Rattle.spx_core.specs.declared.expression.CoreExpr.{CoreExpr}
 use Rattle.spx_meaning.specs.Paths.{checks, term_of}
-use Rattle.spx_vcg.specs.ConditionLiterals.{static_of}
 use Rattle.spx_vcg.specs.WalkSteps.{Makes}
 use Rattle.spx_vcg.proofs.SharedSteps.{after_static, static_prefix, static_infix, after_infix, after_sign, after_parens, made_along, leaf_number, leaf_name, leaf_attribute}
 use Rattle.spx_vcg.proofs.walk.Walk.+checked_id.Goals as goal
@@ -9,13 +8,13 @@ use Rattle.spx_vcg.proofs.walk.Walk.+checked_id.Goals as goal
 pub returns-in-Some : goal.returns-in-Some
 returns-in-Some t c =
     let e = c.args.expr.now in
-    let s = static_of c.in-Some.value in
+    let s = c.in-Some.value in
     after_static e s c.in-Some.ensures c.requires c.in_ok-id-in-Prefix.ensures.0 c.in_ok-id-in-Prefix.ensures.1 (static_prefix e c.in-Prefix.op c.in-Prefix.place c.in-Prefix.operand s c.in-Prefix.is c.in-Some.ensures)
 
 pub returns-in-Some-literal : goal.returns-in-Some-literal
 returns-in-Some-literal t c =
     let e = c.args.expr.now in
-    let s = static_of c.in-Some-literal.value in
+    let s = c.in-Some-literal.value in
     after_static e s c.in-Some-literal.ensures c.requires c.in_ok-id-in-Infix.ensures.0 c.in_ok-id-in-Infix.ensures.1 (static_infix e c.in-Infix.op c.in-Infix.place c.in-Infix.left c.in-Infix.right s c.in-Infix.is c.in-Some-literal.ensures)
 
 pub returns-in_ok-id-in-Parenthesized : goal.returns-in_ok-id-in-Parenthesized

@@ -1,7 +1,8 @@
-use Rattle.std.proofs.Common.{refl}
-use Rattle.spx_vcg.proofs.SharedSteps.{assign_entity}
+use Rattle.std.proofs.Common.{refl, sym}
+use Rattle.spx_core.specs.Uses.{variable_of}
+use Rattle.spx_vcg.proofs.SharedSteps.{assign_target}
 use Rattle.spx_vcg.proofs.walk.Walk.assign.Goals as goal
 
-pub returns-in_ok-set-in-Variable : goal.returns-in_ok-set-in-Variable
-returns-in_ok-set-in-Variable c = λ t is.
-    assign_entity c.args.self.now _ c.args.entity c.in-Variable.var c.args.value t c.requires.whole refl refl refl c.in_ok-set-in-Variable.ensures c.requires.within is c.in-Variable.is
+pub returns-in_ok-set-in-Some : goal.returns-in_ok-set-in-Some
+returns-in_ok-set-in-Some c = λ t is.
+    assign_target c.args.self.now _ (variable_of c.args.entity) c.in-Some.var c.args.value t c.requires.whole refl refl refl c.in_ok-set-in-Some.ensures c.requires.within is (sym c.in-Some.ensures)

@@ -6,8 +6,8 @@ pub assume_integer-requires-clause-whole : goal.assume_integer-requires-clause-w
 assume_integer-requires-clause-whole c =
     (makes_value c.args.self.now _ _ c.in_ok-value.value c.args.var c.requires refl refl refl refl c.in_ok-value.ensures).checks.goes.whole
 
-pub returns-then-imports : goal.returns-then-imports
-returns-then-imports c =
-    after_import c.args.sub.now c.args.var c.requires
+pub returns-then-contains : goal.returns-then-contains
+returns-then-contains c =
+    after_import c.args.var _ c.requires
     (makes_value c.args.self.now _ _ c.in_ok-value.value c.args.var c.requires refl refl refl refl c.in_ok-value.ensures)
-    c.in_ok-assume_integer.ensures (sym c.imports.ensures ∙ c.if-imports.true)
+    c.in_ok-assume_integer.ensures (sym c.contains.ensures ∙ c.if-contains.true)

@@ -1,16 +1,33 @@
-use Rattle.std.proofs.Common.{◌<◌, List, get_or, length, ap, arith}
-use Rattle.spx_core.specs.declared.program.VarId.{VarId}
+use Rattle.std.proofs.Common.{◌∙◌, flat_map, ◌<◌, ◌≤◌, Bool, List, get_or, length, ap, arith, subst}
+use Rattle.std.proofs.lemmas.List.{at_drop_all}
+use Rattle.spx_core.specs.declared.entity.VarId.{VarId}
+use Rattle.spx_core.specs.Formals.{formals}
+use Rattle.spx_term.specs.Steps.{assume_all}
+use Rattle.spx_meaning.specs.Paths.{import_facts}
+use Rattle.spx_vcg.specs.VarSets.{known_of}
+use Rattle.spx_vcg.specs.WalkSteps.{Goes, claims_from}
 use Rattle.spx_vcg.proofs.SharedSteps.{import_step}
 use Rattle.spx_vcg.proofs.walk.Walk.assume_imports.Goals as goal
 
 pub loop-var-preserved : goal.loop-var-preserved
 loop-var-preserved c =
     let none : VarId = record { 0 = 0 } in
-    let items = c.as_slice-var-items.result.now in
+    let items = c.formals-var-items.result.now in
     let i = c.loop-var.var-index in
-    let formals = c.args.sub.now.formals in
-    let within : i < length formals = omega (arith, ap length c.as_slice-var-items.ensures, c.loop-var-test.true) in
+    let vars = formals c.args.sub.now in
+    let within : i < length vars = omega (arith, ap length c.formals-var-items.ensures, c.loop-var-test.true) in
+    let var = get_or items i none in
+    let step = subst (λ (b : Bool). Goes c.loop-var.self c.assume_import.new.self (assume_all (known_of b var))) (c.in_ok-imports.ensures var) c.in_ok-assume_import.ensures in
     record {
       whole = c.in_ok-assume_import.ensures.whole;
-      same = import_step c.args.self.now c.loop-var.self c.assume_import.new.self c.args.sub.now formals i (get_or items i none) none within (ap (λ (vs : List VarId). get_or vs i none) c.as_slice-var-items.ensures) c.loop-var.invariant.same c.in_ok-assume_import.ensures;
+      same = import_step c.args.self.now c.loop-var.self c.assume_import.new.self c.args.sub.now vars i var none within (ap (λ (vs : List VarId). get_or vs i none) c.formals-var-items.ensures) c.loop-var.invariant.same step;
+    }
+
+pub returns : goal.returns
+returns c =
+    let sub = c.args.sub.now in
+    let end : length (formals sub) ≤ c.loop-var.var-index = omega (arith, ap length c.formals-var-items.ensures, c.loop-var-test.false) in
+    record {
+      whole = c.loop-var.invariant.whole;
+      same = λ rest. c.loop-var.invariant.same rest ∙ at_drop_all (λ (vs : List VarId). claims_from c.loop-var.self (assume_all (flat_map (import_facts sub) vs) rest)) (formals sub) c.loop-var.var-index end;
     }

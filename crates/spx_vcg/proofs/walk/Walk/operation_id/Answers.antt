@@ -1,7 +1,7 @@
 use Rattle.std.proofs.Common.{refl}
 use Rattle.spx_term.specs.declared.condition.CondKind.TheVariants.{Overflow}
 use Rattle.spx_term.specs.declared.term.Term.TheVariants.{Infix}
-use Rattle.spx_meaning.specs.Paths.{term_op}
+use Rattle.spx_meaning.specs.Evaluation.{term_op}
 use Rattle.spx_arena.specs.Sharing.{tree_at}
 use Rattle.spx_vcg.specs.WalkSteps.{state}
 use Rattle.spx_vcg.proofs.SharedSteps.{after_terms, makes_term, made_then, made_along, op_adds, op_checked, op_free}

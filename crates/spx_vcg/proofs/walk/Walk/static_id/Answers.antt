@@ -1,8 +1,7 @@
 use Rattle.std.proofs.Common.{refl}
 use Rattle.spx_meaning.specs.Paths.{static_term}
-use Rattle.spx_vcg.specs.ConditionLiterals.{static_of}
 use Rattle.spx_vcg.proofs.SharedSteps.{makes_static}
 use Rattle.spx_vcg.proofs.walk.Walk.static_id.Goals as goal
 
 pub returns : goal.returns
-returns c = makes_static _ _ c.in_ok-id.id (static_term (static_of c.args.value)) c.requires refl refl refl c.in_ok-id.ensures
+returns c = makes_static _ _ c.in_ok-id.id (static_term c.args.value) c.requires refl refl refl c.in_ok-id.ensures

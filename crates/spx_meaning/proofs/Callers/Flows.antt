@@ -1,16 +1,16 @@
--- What a variable is behind two runs of statements is told by what flows to it.
+-- What a variable is after two runs of statements is decided by what flows to it.
 use Rattle.std.proofs.Common.{◌≡◌, ℕ, Bool, true, false, ◌||◌, List, [], ◌∷◌, Some, refl, sym, ap, ◌∙◌, inl, inr}
-use Rattle.spx_core.specs.declared.program.VarId.{VarId}
+use Rattle.spx_core.specs.declared.entity.VarId.{VarId}
 use Rattle.spx_core.specs.declared.program.Program.{Program}
-use Rattle.spx_core.specs.declared.expression.CoreStmt.{CoreStmt}
-use Rattle.spx_core.specs.declared.expression.CoreStmt.TheVariants.{Null, Assignment}
+use Rattle.spx_core.specs.declared.statement.CoreStmt.{CoreStmt}
+use Rattle.spx_core.specs.declared.statement.CoreStmt.TheVariants.{Null, Assignment}
 use Rattle.spx_core.specs.Uses.{denotes}
 use Rattle.spx_core.specs.Flow.{assigns, defines, MayFlow, MayFlowAll}
 use Rattle.spx_meaning.specs.Stores.{Store, look}
 use Rattle.spx_meaning.specs.Runs.{Ended, run_one, run}
 use Rattle.spx_meaning.specs.Laws.{Agree}
-use Rattle.spx_meaning.proofs.Evaluation.{eval_same}
-use Rattle.spx_meaning.proofs.Runs.{same_store, same_gift, then_ended, Assigns, assignment}
+use Rattle.spx_meaning.proofs.Callers.Evaluation.{eval_same}
+use Rattle.spx_meaning.proofs.Callers.Runs.{same_store, same_gift, then_ended, Assigns, assignment}
 
 pub or_false : (x y : Bool) → (x || y) ≡ false → (x ≡ false) × (y ≡ false)
 or_false true y h = absurd (cc)
@@ -31,14 +31,14 @@ kept p n s s' (stmt ∷ rest) v ended h =
 
 -- ---- two runs
 
--- each variable's values in the two stores behind are told by what flows to it from the two before
+-- each variable's values in the two stores after them are decided by what flows to it from the two before
 abbrev pub Determined : (VarId → VarId → Type 0) → (s t s' t' : Store) → Type 0
 Determined R s t s' t' = (w : VarId) → Agree (λ u. R u w) s t → look s' w ≡ look t' w
 
 determined_one : (p : Program) (n m : ℕ) (s t s' t' : Store) (stmt : CoreStmt) → run_one p n s stmt ≡ Ended s' → run_one p m t stmt ≡ Ended t' → Determined (MayFlow stmt) s t s' t'
 determined_one p n m s t s' t' (Null place) ended ended' w agree =
     ap (λ x. look x w) (sym (same_store s s' ended)) ∙ agree w refl ∙ ap (λ x. look x w) (same_store t t' ended')
-determined_one p n m s t s' t' (Assignment target e) ended ended' w agree = by_target (denotes w target) refl
+determined_one p n m s t s' t' (Assignment target e) ended ended' w agree = by_target (denotes w target.root) refl
   where
     a : Assigns target e s s'
     a = assignment p n s s' target e ended
@@ -46,7 +46,7 @@ determined_one p n m s t s' t' (Assignment target e) ended ended' w agree = by_t
     b : Assigns target e t t'
     b = assignment p m t t' target e ended'
 
-    by_target : (d : Bool) → denotes w target ≡ d → look s' w ≡ look t' w
+    by_target : (d : Bool) → denotes w target.root ≡ d → look s' w ≡ look t' w
     by_target true d =
         let same : a.value ≡ b.value = same_gift a.value b.value (sym a.gives ∙ eval_same s t e (λ u h. agree u (inl (d, h))) ∙ b.gives) in
         a.given w d ∙ ap Some same ∙ sym (b.given w d)
@@ -59,4 +59,4 @@ determined p n m s t s' t' (stmt ∷ rest) ended ended' w agree =
     let a = then_ended _ _ s' ended in
     let b = then_ended _ _ t' ended' in
     determined p n m a.0 b.0 s' t' rest a.2 b.2 w
-    (λ v behind. determined_one p n m s t a.0 b.0 stmt a.1 b.1 v (λ u here. agree u (v, here, behind)))
+    (λ v after. determined_one p n m s t a.0 b.0 stmt a.1 b.1 v (λ u here. agree u (v, here, after)))

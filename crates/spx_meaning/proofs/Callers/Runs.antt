@@ -2,23 +2,21 @@
 use Rattle.std.proofs.Common.{◌≡◌, ℕ, Bool, true, false, Option, Some, None, refl, sym, ap, ◌∙◌}
 use Rattle.std.proofs.lemmas.Bool.{eqb-true, eqb-false}
 use Rattle.spx_text.specs.declared.place.Place.{Place}
-use Rattle.spx_core.specs.declared.program.VarId.{VarId}
+use Rattle.spx_core.specs.declared.entity.VarId.{VarId}
 use Rattle.spx_core.specs.declared.program.Program.{Program}
 use Rattle.spx_core.specs.declared.subprogram.Sub.{Sub}
 use Rattle.spx_core.specs.declared.subprogram.CorePrecondition.{CorePrecondition}
-use Rattle.spx_core.specs.declared.expression.Entity.{Entity}
-use Rattle.spx_core.specs.declared.expression.Entity.TheVariants.{TypeName, Variable, Subprogram}
-use Rattle.spx_core.specs.declared.expression.CoreName.{CoreName}
+use Rattle.spx_core.specs.declared.name.Reference.{Reference}
 use Rattle.spx_core.specs.declared.expression.CoreExpr.{CoreExpr}
-use Rattle.spx_core.specs.declared.expression.CoreStmt.TheVariants.{Assignment}
+use Rattle.spx_core.specs.declared.statement.CoreStmt.TheVariants.{Assignment}
 use Rattle.spx_core.specs.Places.{place_of}
-use Rattle.spx_core.specs.Uses.{is_variable, denotes}
+use Rattle.spx_core.specs.Uses.{is_same, denotes, variable_of}
 use Rattle.spx_term.specs.declared.value.Value.{Value}
 use Rattle.spx_meaning.specs.declared.bad.BadKind.{BadKind}
 use Rattle.spx_meaning.specs.Stores.{Store, look, put}
 use Rattle.spx_meaning.specs.Evaluation.{Answer, Gives, Fails, eval}
 use Rattle.spx_meaning.specs.Runs.{Outcome, Ended, Bad, Later, then_do, use_value, demand, assign, run_one, run, entry_of, demand_pre, call}
-use Rattle.spx_meaning.proofs.Stores.{look-put_same, look-put_other}
+use Rattle.spx_meaning.proofs.Callers.Stores.{look-put_same, look-put_other}
 
 pub same_store : (s t : Store) → Ended s ≡ Ended t → s ≡ t
 same_store s t h = cc
@@ -54,29 +52,27 @@ call_ended p n sub s t h =
     ap (λ x. run p n x sub.statements) entry ∙ body.1 ∙ ap Ended end
 
 -- after an assignment the target has the value of the right side, and every other variable its own
-pub record Assigns (target : CoreName) (e : CoreExpr) (s t : Store) : Type 0 where
+pub record Assigns (target : Reference) (e : CoreExpr) (s t : Store) : Type 0 where
   pub value : Value
   pub gives : eval s e ≡ Gives value
-  pub given : (w : VarId) → denotes w target ≡ true → look t w ≡ Some value
-  pub kept : (w : VarId) → denotes w target ≡ false → look t w ≡ look s w
+  pub given : (w : VarId) → denotes w target.root ≡ true → look t w ≡ Some value
+  pub kept : (w : VarId) → denotes w target.root ≡ false → look t w ≡ look s w
 
-put_given : (s : Store) (v w : VarId) (x : Value) → is_variable w (Variable v) ≡ true → look (put s v (Some x)) w ≡ Some x
+put_given : (s : Store) (v w : VarId) (x : Value) → is_same w (Some v) ≡ true → look (put s v (Some x)) w ≡ Some x
 put_given s v w x h = ap (λ k. look (put s v (Some x)) (record { 0 = k })) (sym (eqb-true v.0 w.0 h)) ∙ look-put_same s v (Some x)
 
-put_kept : (s : Store) (v w : VarId) (x : Value) → is_variable w (Variable v) ≡ false → look (put s v (Some x)) w ≡ look s w
+put_kept : (s : Store) (v w : VarId) (x : Value) → is_same w (Some v) ≡ false → look (put s v (Some x)) w ≡ look s w
 put_kept s v w x h = look-put_other s v w (Some x) (eqb-false v.0 w.0 h)
 
-pub assignment : (p : Program) (n : ℕ) (s t : Store) (target : CoreName) (e : CoreExpr) → run_one p n s (Assignment target e) ≡ Ended t → Assigns target e s t
+pub assignment : (p : Program) (n : ℕ) (s t : Store) (target : Reference) (e : CoreExpr) → run_one p n s (Assignment target e) ≡ Ended t → Assigns target e s t
 assignment p n s t target e h =
-    let used = use_ended (eval s e) (assign p (place_of e) target.entity s) t h in
-    record { value = used.0; gives = used.1; given = given target.entity used.0 used.2; kept = kept target.entity used.0 used.2 }
+    let used = use_ended (eval s e) (assign p (place_of e) (variable_of target.root.entity) s) t h in
+    record { value = used.0; gives = used.1; given = given (variable_of target.root.entity) used.0 used.2; kept = kept (variable_of target.root.entity) used.0 used.2 }
   where
-    given : (entity : Entity) (x : Value) → assign p (place_of e) entity s x ≡ Ended t → (w : VarId) → is_variable w entity ≡ true → look t w ≡ Some x
-    given (Variable v) x is w h = ap (λ u. look u w) (sym (demand_ended _ _ _ (put s v (Some x)) t is).1) ∙ put_given s v w x h
-    given (TypeName u) x is w h = absurd (cc)
-    given (Subprogram f) x is w h = absurd (cc)
+    given : (o : Option VarId) (x : Value) → assign p (place_of e) o s x ≡ Ended t → (w : VarId) → is_same w o ≡ true → look t w ≡ Some x
+    given (Some v) x is w h = ap (λ u. look u w) (sym (demand_ended _ _ _ (put s v (Some x)) t is).1) ∙ put_given s v w x h
+    given None x is w h = absurd (cc)
 
-    kept : (entity : Entity) (x : Value) → assign p (place_of e) entity s x ≡ Ended t → (w : VarId) → is_variable w entity ≡ false → look t w ≡ look s w
-    kept (Variable v) x is w h = ap (λ u. look u w) (sym (demand_ended _ _ _ (put s v (Some x)) t is).1) ∙ put_kept s v w x h
-    kept (TypeName u) x is w h = ap (λ u. look u w) (sym (same_store s t is))
-    kept (Subprogram f) x is w h = ap (λ u. look u w) (sym (same_store s t is))
+    kept : (o : Option VarId) (x : Value) → assign p (place_of e) o s x ≡ Ended t → (w : VarId) → is_same w o ≡ false → look t w ≡ look s w
+    kept (Some v) x is w h = ap (λ u. look u w) (sym (demand_ended _ _ _ (put s v (Some x)) t is).1) ∙ put_kept s v w x h
+    kept None x is w h = ap (λ u. look u w) (sym (same_store s t is))

@@ -2,13 +2,13 @@
 use Rattle.std.proofs.Common.{◌≡◌, Bool, true, false, ◌==◌, if◌then◌else◌, List, [], ◌∷◌, Option, Some, None, refl, sym, ap, ◌∙◌, inl, inr}
 use Rattle.std.proofs.lemmas.Bool.{eqb-true, or_cases}
 use Rattle.std.proofs.lemmas.Bool.Decides.{eqb_tells}
-use Rattle.spx_core.specs.declared.program.VarId.{VarId}
+use Rattle.spx_core.specs.declared.entity.VarId.{VarId}
 use Rattle.spx_core.specs.declared.program.Program.{Program}
 use Rattle.spx_core.specs.Formals.{stands_in}
 use Rattle.spx_term.specs.declared.value.Value.{Value}
 use Rattle.spx_meaning.specs.Stores.{Store, look, put}
 use Rattle.spx_meaning.specs.Runs.{starts_unset, cleared}
-use Rattle.spx_meaning.proofs.Stores.{look-put_same, look-put_other}
+use Rattle.spx_meaning.proofs.Callers.Stores.{look-put_same, look-put_other}
 
 -- a variable that is put into two stores, or that they agree on, has one value in both
 put_agree : (s t : Store) (v w : VarId) (x : Option Value) → look s w ≡ look t w → look (put s v x) w ≡ look (put t v x) w

@@ -1,0 +1,8 @@
+-- The lemmas that crates above cite.
+pub mod Stores
+pub mod IntegerTypes
+pub mod Evaluation
+pub mod Runs
+pub mod Flows
+pub mod Entries
+pub mod Scopes

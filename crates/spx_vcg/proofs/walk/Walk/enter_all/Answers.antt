@@ -1,0 +1,32 @@
+use Rattle.std.proofs.Common.{◌∙◌, ◌<◌, ◌≤◌, Bool, List, get_or, length, ap, arith, subst}
+use Rattle.std.proofs.lemmas.List.{at_drop_all}
+use Rattle.spx_core.specs.declared.entity.VarId.{VarId}
+use Rattle.spx_core.specs.Formals.{formals}
+use Rattle.spx_meaning.specs.Paths.{entering}
+use Rattle.spx_vcg.specs.VarSets.{entered}
+use Rattle.spx_vcg.specs.WalkSteps.{Goes, claims_from}
+use Rattle.spx_vcg.proofs.SharedSteps.{enter_step}
+use Rattle.spx_vcg.proofs.walk.Walk.enter_all.Goals as goal
+
+pub loop-var-preserved : goal.loop-var-preserved
+loop-var-preserved c =
+    let none : VarId = record { 0 = 0 } in
+    let items = c.formals-var-items.result.now in
+    let i = c.loop-var.var-index in
+    let vars = formals c.args.sub.now in
+    let within : i < length vars = omega (arith, ap length c.formals-var-items.ensures, c.loop-var-test.true) in
+    let var = get_or items i none in
+    let step = subst (λ (b : Bool). Goes c.loop-var.self c.enter.new.self (entered b var)) (c.in_ok-exports.ensures var) c.in_ok-enter.ensures in
+    record {
+      whole = c.in_ok-enter.ensures.whole;
+      same = enter_step c.args.self.now c.loop-var.self c.enter.new.self c.args.sub.now vars i var none within (ap (λ (vs : List VarId). get_or vs i none) c.formals-var-items.ensures) c.loop-var.invariant.same step;
+    }
+
+pub returns : goal.returns
+returns c =
+    let sub = c.args.sub.now in
+    let end : length (formals sub) ≤ c.loop-var.var-index = omega (arith, ap length c.formals-var-items.ensures, c.loop-var-test.false) in
+    record {
+      whole = c.loop-var.invariant.whole;
+      same = λ rest. c.loop-var.invariant.same rest ∙ at_drop_all (λ (vs : List VarId). claims_from c.loop-var.self (entering sub vs rest)) (formals sub) c.loop-var.var-index end;
+    }
