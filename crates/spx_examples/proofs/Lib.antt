@@ -1,0 +1,11 @@
+mod IncrementTypes
+mod IncrementNames
+mod IncrementRuns
+mod IncrementTerms
+mod IncrementConditions
+mod IncrementRules
+mod IncrementFlows
+mod IncrementPlain
+mod IncrementLaws
+mod Refused
+mod Examples

@@ -1,0 +1,2 @@
+pub mod Increment
+pub mod Refused

@@ -1,0 +1,48 @@
+// What holds of the programs of this crate, each as the contract of a function that does nothing.
+ghost use Rattle.std.specs.Prelude.{◌≡◌, ℕ, pos, [], ◌∷◌, Some};
+ghost use Rattle.spx_core.specs.Erased.{Visible};
+ghost use Rattle.spx_core.specs.Flow.{HasNoFlowFinding};
+ghost use Rattle.spx_core.specs.Obeyed.{Obeys};
+ghost use Rattle.spx_core.specs.Statements.{Typed};
+ghost use Rattle.spx_term.specs.declared.value.Value.TheVariants as value;
+ghost use Rattle.spx_meaning.specs.declared.bad.BadKind.TheVariants.{Overflow};
+ghost use Rattle.spx_meaning.specs.Fit.{Clean, Fit};
+ghost use Rattle.spx_meaning.specs.Laws.{NeverBad, Start};
+ghost use Rattle.spx_meaning.specs.Paths.{conditions_of};
+ghost use Rattle.spx_meaning.specs.Runs.{Bad, Ended, call};
+ghost use Rattle.spx_examples.specs.Increment.{place, inc, inc_conditions, increment};
+ghost use Rattle.spx_examples.specs.Refused.{inc_without_pre, increment_without_pre, x_is_last};
+
+use spx_core::laws::{names_are_scoped, resolution, rules_hold};
+
+/// The procedure of examples/inc.adb meets the premises of the laws, so they are not empty.
+pub fn increment_is_clean()
+    ensures conditions { conditions_of inc ≡ inc_conditions }
+    ensures clean { Clean increment }
+    ensures run { (n : ℕ) → call increment n inc (Some (value.Number (pos 41)) ∷ []) ≡ Ended (Some (value.Number (pos 42)) ∷ []) }
+{
+    resolution();
+}
+
+/// It meets the premise of the law on runs.
+pub fn increment_is_never_bad()
+    ensures fit { Fit increment }
+    ensures never_bad { NeverBad increment }
+{
+    increment_is_clean();
+    names_are_scoped();
+    rules_hold();
+}
+
+/// The same procedure without its precondition breaks no static rule and flows as it declares, and yet a call of it is bad: a
+/// program whose conditions are not valid may go wrong.
+pub fn a_run_without_proof_is_bad()
+    ensures visible { Visible increment_without_pre }
+    ensures typed { Typed increment_without_pre }
+    ensures obeys { Obeys increment_without_pre }
+    ensures flows { HasNoFlowFinding increment_without_pre }
+    ensures start { Start increment_without_pre inc_without_pre x_is_last }
+    ensures bad { (n : ℕ) → call increment_without_pre n inc_without_pre x_is_last ≡ Bad Overflow (place 6 11) }
+{
+    resolution();
+}
