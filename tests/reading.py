@@ -686,6 +686,8 @@ class Resolver:
         self.formals = []
         self.locals = []
         self.spelled = {}
+        self.hidden = set()
+        self.around = None
 
     def run(self):
         """The procedure with what its names denote. Annotations see the formals and not the locals."""
@@ -701,18 +703,24 @@ class Resolver:
                        statements=statements, spelled=self.spelled)
 
     def param(self, param):
-        """A type mark sees the formals before it, and its own ones."""
+        """A type mark sees the formals before it. Its own ones, and the procedure, are hidden there."""
         for name in param.names:
             self.declare(name)
             self.formals.append(Formal(name.word(), param.mode))
-        self.need(param.type_mark, 'type')
+        self.type_mark(param, self.tree.name.word())
 
     def declaration(self, declaration):
-        """A type mark sees the formals, the locals before it, and its own ones."""
+        """A type mark sees the procedure, the formals and the locals before it. Its own ones are hidden there."""
         for name in declaration.names:
             self.declare(name)
             self.locals.append(name.word())
+        self.type_mark(declaration)
+
+    def type_mark(self, declaration, around=None):
+        """The type mark of a declaration, whose names are hidden in it; and so is the procedure, `around` it."""
+        self.hidden, self.around = {name.word() for name in declaration.names}, around
         self.need(declaration.type_mark, 'type')
+        self.hidden, self.around = set(), None
 
     def declare(self, name):
         """N2: no two formals and locals are the same word, and none is named Integer."""
@@ -721,10 +729,12 @@ class Resolver:
 
     def denoted(self, name):
         """The innermost region that declares a word has it: variables, the procedure, what is declared everywhere."""
+        if name.word() in self.hidden:
+            return None
         if name.word() in self.spelled:
             return 'variable'
         if name.word() == self.tree.name.word():
-            return 'subprogram'
+            return None if name.word() == self.around else 'subprogram'
         return 'type' if is_everywhere(name) else None
 
     def must_denote(self, name, entity, is_fit=True):

@@ -1074,19 +1074,23 @@ def names():
     yield refused('procedure_for_an_import.adb', procedure('X', derives='X from X, @Inc'), 'N3')
     yield refused('procedure_for_an_export.adb', procedure('X', derives='X, @Inc from X'), 'N3')
     yield refused('procedure_in_pre.adb', procedure('X', pre='@Inc < 0'), 'N3')
-    yield refused('procedure_for_a_type.adb', procedure('X', type_mark='@Inc'), 'N3')
+    yield refused('procedure_for_a_type.adb', procedure('X', type_mark='@Inc'), 'N1')
     yield refused('type_for_an_operand.adb', procedure('X + @Integer', pre='X = 0'), 'N3')
     yield refused('type_for_the_value.adb', procedure('@Integer', **OUT), 'N3')
     yield refused('type_for_a_target.adb', procedure('X', target='@Integer'), 'N3')
     yield refused('type_for_an_import.adb', procedure('X', derives='X from X, @Integer'), 'N3')
     yield refused('type_for_an_export.adb', procedure('X', derives='X, @Integer from X'), 'N3')
     yield refused('type_in_pre.adb', procedure('X', pre='X < @Integer'), 'N3')
-    yield refused('variable_for_a_type.adb', procedure('X', type_mark='@X'), 'N3')
-    yield refused('variable_for_a_type_in_another_case.adb', procedure('X', type_mark='@x'), 'N3')
+    yield refused('variable_for_a_type.adb', procedure('X', type_mark='@X'), 'N1')
+    yield refused('variable_for_a_type_in_another_case.adb', procedure('X', type_mark='@x'), 'N1')
+    yield refused('formal_named_as_the_procedure_for_a_later_type.adb',
+                  longer('Inc : in out Integer; Y : in out @Inc', 'Inc, Y from *', 'null'), 'N3')
+    yield refused('formal_of_its_own_type_behind_another.adb',
+                  longer('X : in out Integer; Y : in out @Y', 'X, Y from *', 'null'), 'N1')
     yield refused('attribute_of_a_variable.adb', procedure("@X'First", **OUT), 'N3')
     yield refused('attribute_of_a_variable_in_pre.adb', procedure('X', pre="X < @X'Last"), 'N3')
     yield refused('formal_named_as_the_procedure_for_a_type.adb',
-                  procedure('X', name='X', type_mark='@X', end='X'), 'N3')
+                  procedure('X', name='X', type_mark='@X', end='X'), 'N1')
     yield refused('attribute_of_a_procedure.adb', procedure("@Inc'First", **OUT), 'N3')
     yield refused('attribute_size.adb', procedure("@Integer'Size", **OUT), 'N3')
     yield refused('attribute_firsts.adb', procedure("@Integer'Firsts", **OUT), 'N3')
@@ -1633,7 +1637,8 @@ def attributes():
                                      'of_the_procedure': ('N3', "@Inc'Last"), 'of_nothing': ('N1', "@Y'First"),
                                      'of_no_name': ('N3', "@Integer'Size")}.items():
         yield refused(f'attribute_{label}_for_a_target.adb', procedure('X', target=attribute), rule)
-        yield refused(f'attribute_{label}_for_a_type.adb', procedure('X', type_mark=attribute), rule)
+        hidden = label in ('of_a_variable', 'of_the_procedure')  # in the declaration of the formal itself
+        yield refused(f'attribute_{label}_for_a_type.adb', procedure('X', type_mark=attribute), 'N1' if hidden else rule)
         yield refused(f'attribute_{label}_for_a_type_of_locals.adb',
                       longer(X, 'X from X', 'X := X', declared=['T : ' + attribute]), rule)
         yield refused(f'attribute_{label}_for_an_export.adb', procedure('X', derives=f'X, {attribute} from X'), rule)
@@ -1694,12 +1699,14 @@ def declared_locals():
                                     'named_integer': ('N2', 'T : Integer', '@Integer : Integer'),
                                     'named_integer_in_upper_case': ('N2', 'T, @INTEGER : Integer'),
                                     'of_no_type': ('N1', 'T : @Natural'), 'of_a_formal': ('N3', 'T : @X'),
-                                    'of_the_procedure': ('N3', 'T : @Inc'), 'of_itself': ('N3', 'T : @T'),
-                                    'of_the_next_one': ('N3', 'T, U : @U'),
+                                    'of_the_procedure': ('N3', 'T : @Inc'), 'of_itself': ('N1', 'T : @T'),
+                                    'of_the_next_one': ('N1', 'T, U : @U'),
                                     'of_a_local_before': ('N3', 'U : Integer', 'T : @U'),
                                     'of_a_local_behind': ('N1', 'T : @U', 'U : Integer')}.items():
         yield refused(f'local_{name}.adb', with_local(*declared), rule)
-    yield refused('local_named_as_the_procedure_for_a_type.adb', with_local('T : Integer', 'Inc : @Inc'), 'N3')
+    yield refused('local_named_as_the_procedure_for_a_type.adb', with_local('T : Integer', 'Inc : @Inc'), 'N1')
+    yield refused('local_of_its_own_name_and_an_outer_one.adb', with_local('Inc, T : @INC'), 'N1')
+    yield refused('local_that_hides_the_procedure_for_a_type.adb', with_local('Inc : Integer', 'T : @Inc'), 'N3')
     yield refused('local_for_a_type_of_a_formal.adb',
                   longer('X : in out @T', 'X from X', 'T := X', 'X := T', declared=T), 'N1')
     yield refused('local_for_an_export.adb', longer(X, 'X, @T from X', 'T := X', 'X := T', declared=T), 'N1')
@@ -2418,7 +2425,7 @@ def breaches_in_expressions():
     yield refused('target_of_another_kind_and_a_wide_number.adb', procedure('2147483648', target='@Inc'), 'N3')
     yield refused('input_for_a_target_and_a_wide_number.adb', longer(A_TO_X, 'X from A', 'A := @2147483648'), 'N12')
     yield refused('target_of_an_attribute_of_nothing_and_a_value.adb', procedure('Z', target="@Y'First"), 'N1')
-    yield refused('type_of_two_formals_that_is_one.adb', procedure('X', formals='X, Y', type_mark='@Y'), 'N3')
+    yield refused('type_of_two_formals_that_is_one.adb', procedure('X', formals='X, Y', type_mark='@Y'), 'N1')
     yield refused('type_undeclared_and_a_formal_twice.adb',
                   longer('A : @Natural; A : Integer', 'A from A', 'null'), 'N1')
     yield refused('formal_twice_and_its_type_undeclared.adb', longer('A, @A : Natural', 'A from A', 'null'), 'N2')
