@@ -1,0 +1,68 @@
+-- Relations to which a loop adds pairs.
+use Rattle.std.proofs.Common.{◌≡◌, ◌≢◌, ap, ℕ, ◌<◌, ◌+◌, ◌⊎◌, ◌↔◌, inl, inr, List, length, get_or, refl, sym, ◌∙◌, subst, ⊎_elim, arith}
+use Rattle.std.specs.Prelude.{Contains}
+use Rattle.std.proofs.lemmas.Bool.{cases_eq}
+use Rattle.std.proofs.lemmas.List.{get_or_default}
+use Rattle.std.proofs.lemmas.List.Elements.{Contains-get_or}
+use Rattle.spx_rows.specs.Relations.{Rel, Matrix, Holds, Gains, Of}
+
+-- a loop adds at each k the pairs of Q k
+pub record Grown (start now : Matrix) (i : ℕ) (Q : ℕ → Rel) : Type 0 where
+  pub size : length now ≡ length start
+  pub pairs : Gains start now (λ a b. (k : ℕ) × (k < i) × Q k a b)
+
+pub below_or_at : (k i : ℕ) → k < i + 1 → (k < i) ⊎ (k ≡ i)
+below_or_at k i lt = grind arith
+
+-- row `to` has the old rows before i, and its own old row where it is one of those read; the other rows are as they were
+pub record Gathered (from : List ℕ) (to : ℕ) (old now : Matrix) (i : ℕ) : Type 0 where
+  pub size : length now ≡ length old
+  pub here : (b : ℕ) → Holds now to b ↔ ((Contains from to × Holds old to b) ⊎ ((k : ℕ) × (k < i) × Holds old (get_or from k 0) b))
+  pub kept : (a b : ℕ) → to ≢ a → Holds now a b ↔ Holds old a b
+
+pub gathered_kept : (from : List ℕ) (to : ℕ) (m : Matrix) → Contains from to → Gathered from to m m 0
+gathered_kept from to m c = record { size = refl; here = λ b. (λ h. inl (c, h), λ h. ⊎_elim (λ p. p.1) (λ p. absurd (omega (arith, p.1))) h); kept = λ a b ne. (λ h. h, λ h. h) }
+
+pub gathered_clear : (from : List ℕ) (to : ℕ) (old now : Matrix) → (Contains from to → ⊥) → length now ≡ length old → ((a b : ℕ) → Holds now a b ↔ ((to ≢ a) × Holds old a b)) → Gathered from to old now 0
+gathered_clear from to old now none e h = record {
+  size = e;
+  here = λ b. (λ p. absurd (((h to b).0 p).0 refl), λ p. ⊎_elim (λ q. absurd (none q.0)) (λ q. absurd (omega (arith, q.1))) p);
+  kept = λ a b ne. (λ p. ((h a b).0 p).1, λ p. (h a b).1 (ne, p));
+}
+
+pub gathered_more : (from : List ℕ) (to : ℕ) (old now next : Matrix) (i x : ℕ) → i < length from → x ≡ get_or from i 0 → Gathered from to old now i → length next ≡ length now → Gains now next (λ a b. (to ≡ a) × Holds now x b) → Gathered from to old next (i + 1)
+gathered_more from to old now next i x lt at g e gains = record {
+  size = e ∙ g.size;
+  here = λ b. (
+    λ h. ⊎_elim (λ p. wider b ((g.here b).0 p)) (λ p. ⊎_elim
+        (λ is. wider b ((g.here b).0 (subst (λ y. Holds now y b) (sym is) p.1)))
+        (λ ne. inr (i, omega arith, subst (λ y. Holds old y b) at ((g.kept x b ne).0 p.1)))
+        (cases_eq to x)) ((gains to b).0 h),
+    λ h. (gains to b).1 (⊎_elim (λ p. inl ((g.here b).1 (inl p))) (λ p. ⊎_elim
+        (λ less. inl ((g.here b).1 (inr (p.0, less, p.2))))
+        (λ is. new b (subst (λ y. Holds old y b) (ap (λ k. get_or from k 0) is ∙ sym at) p.2))
+        (below_or_at p.0 i p.1)) h),
+  );
+  kept = λ a b ne. (λ h. ⊎_elim (λ p. (g.kept a b ne).0 p) (λ p. absurd (ne p.0)) ((gains a b).0 h), λ h. (gains a b).1 (inl ((g.kept a b ne).1 h)));
+}
+  where
+    wider : (b : ℕ) → (Contains from to × Holds old to b) ⊎ ((k : ℕ) × (k < i) × Holds old (get_or from k 0) b) → (Contains from to × Holds old to b) ⊎ ((k : ℕ) × (k < i + 1) × Holds old (get_or from k 0) b)
+    wider b h = ⊎_elim (λ p. inl p) (λ p. inr (p.0, omega (arith, p.1), p.2)) h
+
+    new : (b : ℕ) → Holds old x b → Holds now to b ⊎ ((to ≡ to) × Holds now x b)
+    new b h = ⊎_elim
+        (λ is. inl ((g.here b).1 (inl (subst (λ y. Contains from y) (sym at ∙ sym is) (Contains-get_or from i 0 lt), subst (λ y. Holds old y b) (sym is) h))))
+        (λ ne. inr (refl, (g.kept x b ne).1 h))
+        (cases_eq to x)
+
+pub gathered_all : (from : List ℕ) (to : ℕ) (old now : Matrix) → Gathered from to old now (length from) → (a b : ℕ) → Holds now a b ↔ (((to ≡ a) × Of from old b) ⊎ ((to ≢ a) × Holds old a b))
+gathered_all from to old now g a b = (
+  λ h. ⊎_elim
+      (λ is. inl (is, ⊎_elim (λ p. (to, p.0, p.1)) (λ p. (get_or from p.0 0, Contains-get_or from p.0 0 p.1, p.2)) ((g.here b).0 (subst (λ y. Holds now y b) (sym is) h))))
+      (λ ne. inr (ne, (g.kept a b ne).0 h))
+      (cases_eq to a),
+  λ h. ⊎_elim
+      (λ p. subst (λ y. Holds now y b) p.0 ((g.here b).1 (inr (p.1.1.0, p.1.1.1, subst (λ y. Holds old y b) (sym p.1.1.2 ∙ get_or_default from p.1.1.0 p.1.0 0 p.1.1.1) p.1.2))))
+      (λ p. (g.kept a b p.0).1 p.1)
+      h,
+)

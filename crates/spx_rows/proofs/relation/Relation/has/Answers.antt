@@ -1,0 +1,5 @@
+use Rattle.spx_rows.proofs.BitRows.{has_at}
+use Rattle.spx_rows.proofs.relation.Relation.has.Goals as goal
+
+pub returns : goal.returns
+returns c = has_at c.self.inside.size c.args.self.now c.self.inside.words.items c.self.view_is c.args.u c.args.w _ _ c.requires.u c.requires.w c.self.invariant.0 c.row_at.ensures.at c.index.ensures
