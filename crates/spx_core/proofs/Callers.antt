@@ -5,3 +5,5 @@ pub mod Expressions
 pub mod ReadsLaws
 pub mod Pairs
 pub mod FlowLaws
+pub mod MarkLaws
+pub mod Bodies

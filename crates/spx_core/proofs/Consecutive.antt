@@ -1,7 +1,8 @@
 -- The variables that a subprogram declares are consecutive, each with a row that says of which kind it is.
-use Rattle.std.proofs.Common.{◌≡◌, ℕ, ◌+◌, List, [], ◌∷◌, ◌++◌, length, map, take, drop, Option, Some, None, option_map, refl, sym, ap, subst, ◌∙◌, inl, inr, append_assoc, arith}
+use Rattle.std.proofs.Common.{◌≡◌, ℕ, ◌+◌, ◌<◌, false, List, [], ◌∷◌, ◌++◌, length, map, take, drop, Option, Some, None, option_map, refl, sym, ap, subst, ◌∙◌, inl, inr, append_assoc, arith}
 use Rattle.std.specs.Prelude.{◌==◌, Bool, true, ⊤, slice_get}
-use Rattle.std.proofs.lemmas.Bool.{eq-eqb, eqb-true, or_cases, or_left, or_right}
+use Rattle.std.specs.List.{AllByRecursion, IsDistinct}
+use Rattle.std.proofs.lemmas.Bool.{eq-eqb, ne_eqb, eqb-true, or_cases, or_left, or_right}
 use Rattle.std.proofs.lemmas.List.{length_push}
 use Rattle.spx_tree.specs.declared.expression.Identifier.{Identifier}
 use Rattle.spx_tree.specs.declared.declaration.Decl.{Decl}
@@ -71,6 +72,16 @@ formals_consecutive name position None = tt
 formals_consecutive name position (Some part) = params_consecutive (around_formals name) [] position part.params
 
 -- ---- their positions
+
+later_positions : (n position : ℕ) (ds : List Defining) → n < position → AllByRecursion (λ (w : VarId). (w.0 == n) ≡ false) (positions position ds)
+later_positions n position [] less = tt
+later_positions n position (d ∷ ds) less = (ne_eqb position n (λ e. omega (arith, less, e)), later_positions n (position + 1) ds (omega (arith, less)))
+
+-- no position is there twice
+pub positions_differ : (position : ℕ) (ds : List Defining) → IsDistinct (λ (v : VarId) (w : VarId). w.0 == v.0) (positions position ds)
+unfolding IsDistinct
+positions_differ position [] = tt
+positions_differ position (d ∷ ds) = (later_positions position (position + 1) ds (omega arith), positions_differ (position + 1) ds)
 
 pub first_positions : (position : ℕ) (a b : List Defining) → take (length a) (positions position (a ++ b)) ≡ positions position a
 first_positions position [] b = refl

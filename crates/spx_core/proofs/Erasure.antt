@@ -22,9 +22,10 @@ use Rattle.spx_core.specs.declared.entity.Object.{Object}
 use Rattle.spx_core.specs.declared.expression.CoreExpr.{CoreExpr, CoreExpr-F, roll-CoreExpr, map-CoreExpr, fold-roll-CoreExpr}
 use Rattle.spx_core.specs.declared.program.Program.{Program}
 use Rattle.spx_core.specs.Regions.{Region, Regions, hidden}
-use Rattle.spx_core.specs.Erased.{Visible, erased, erased_decl, erased_defining, erased_derives, erased_expr, erased_formal_part, erased_item, erased_param, erased_pre, erased_reference, erased_step, erased_stmt, erased_sub, erased_unit}
+use Rattle.spx_core.specs.Erased.{Visible, erased, erased_decl, erased_defining, erased_derives, erased_expr, erased_formal_part, erased_item, erased_param, erased_pre, erased_reference, erased_step, erased_stmt, erased_sub, unit_of}
 use Rattle.spx_core.specs.Judged.{breach_in}
 use Rattle.spx_core.specs.Statements.{Typed, first_name_breach, judged_program}
+use Rattle.spx_core.proofs.Callers.Bodies.{all_are_units}
 use Rattle.spx_core.proofs.Judgements.{unbroken}
 use Rattle.spx_core.specs.Resolved as resolved
 use Rattle.spx_core.specs.Resolved.{around_body, around_formals, declared_by, declaring, declaring_all, defining, defining_all, formal_names, local_names, own_vars, resolved_decl, resolved_decls, resolved_derives, resolved_expr, resolved_formal_part, resolved_item, resolved_name, resolved_param, resolved_params, resolved_pre, resolved_reference, resolved_stmt, resolved_sub, resolved_subs, unit_name, variable_at}
@@ -135,14 +136,14 @@ kept_sub library position first s =
     let all : erased_sub sub ≡ record { place = s.place; name = s.name; formal_part = s.formal_part; derives = s.derives; pre = s.pre; declarations = s.declarations; statements = s.statements; end = s.end; end_name = s.end_name } = cc in
     all
 
-kept_units : (library : Region) (position first : ℕ) (units : List Unit) → map erased_unit (resolved_subs library position first units) ≡ units
+kept_units : (library : Region) (position first : ℕ) (units : List Unit) → map unit_of (resolved_subs library position first units) ≡ units
 kept_units library position first [] = refl
 kept_units library position first (unit.Subprogram s ∷ units) =
     ap₂ (λ (x : Unit) (xs : List Unit). x ∷ xs) (ap unit.Subprogram (kept_sub library position first s)) (kept_units (declaring library (unit_name library position s)) (position + 1) (first + length (own_vars (resolved_sub (unit_name library position s) first s))) units)
 
 -- without what its names denote, the program is the units that it comes from
 pub keeps_units : (units : List Unit) → erased (resolved.resolved units) ≡ units
-keeps_units units = kept_units [] 0 0 units
+keeps_units units = all_are_units (resolved_subs [] 0 0 units) ∙ kept_units [] 0 0 units
 
 pub visible : (units : List Unit) → Visible (resolved.resolved units)
 visible units = ap resolved.resolved (sym (keeps_units units))

@@ -6,3 +6,4 @@ mod RegionLaws
 mod Consecutive
 mod Scopes
 mod RuleLaws
+mod VarSetLaws

@@ -28,16 +28,17 @@ use Rattle.spx_core.specs.Uses.{mentions}
 use Rattle.spx_core.specs.Dependency.{items_of}
 use Rattle.spx_core.specs.DerivesItems.{has_export, has_import}
 use Rattle.spx_core.specs.Formals.{is_formal, is_local, mode_in, mode_of, stands_in}
-use Rattle.spx_core.specs.Flow.{assigns, reads}
+use Rattle.spx_core.specs.Effects.{effect, sets, reads}
 use Rattle.spx_core.specs.Obeyed.{mode_denoted}
 use Rattle.spx_core.specs.Regions.{Region, Regions}
-use Rattle.spx_core.specs.Resolved.{around_body, declaring, declaring_all, formal_names, local_names, own_vars, resolved, resolved_derives, resolved_item, resolved_reference, resolved_stmt, resolved_sub, resolved_subs, unit_name, var_of}
+use Rattle.spx_core.specs.Resolved.{around_body, declaring, declaring_all, formal_names, local_names, own_vars, resolved, resolved_derives, resolved_item, resolved_expr, resolved_reference, resolved_stmt, resolved_sub, resolved_subs, unit_name, var_of}
 use Rattle.spx_core.specs.Erased.{Visible, erased}
 use Rattle.spx_core.specs.Scopes.{HasItsMode, HaveTheirModes, Scoped, TargetHasItsMode, kind_of}
 use Rattle.spx_core.proofs.Callers.Pairs.{exports_are, imports_are}
 use Rattle.spx_core.proofs.Callers.ListTests.{each_append, some_mapped}
+use Rattle.spx_core.proofs.Callers.FlowLaws.{reads_any, reads_uses, sets_any}
 use Rattle.spx_core.proofs.RegionLaws.{AllHold, HoldsIn, inside_holds, mentioned_variable, reference_variable, used_variable}
-use Rattle.spx_core.proofs.Consecutive.{Consecutive, IsFormalKind, IsLocalKind, at_position, decls_consecutive, first_positions, formals_consecutive, is_at, last_positions, rows}
+use Rattle.spx_core.proofs.Consecutive.{Consecutive, positions_differ, IsFormalKind, IsLocalKind, at_position, decls_consecutive, first_positions, formals_consecutive, is_at, last_positions, rows}
 
 mode_in_row : (kind : VarKind) (row : Option Var) → option_map (λ (var : Var). var.kind) row ≡ Some kind → option_and_then (λ (var : Var). mode_in var.kind) row ≡ mode_in kind
 mode_in_row kind (Some var) is = ap mode_in (let e : var.kind ≡ kind = cc in e)
@@ -60,13 +61,13 @@ module _ (P : VarId → Object → Type 0) (regions : Regions) (all : AllByRecur
   in_relation test known None h = absurd cc
   in_relation test known (Some derives) h = let one = some_mapped test (resolved_item regions) derives.items h in known one.0 one.1
 
-  assigned_variable : (s : Stmt) → assigns v (resolved_stmt regions s) ≡ true → (object : Object) × P v object
+  assigned_variable : (s : Stmt) → sets v (effect (resolved_stmt regions s)) ≡ true → (object : Object) × P v object
   assigned_variable (stmt.Null place) h = absurd cc
   assigned_variable (stmt.Assignment target value) h = let known = reference_variable P regions all v target h in (known.0, known.2)
 
-  read_variable : (s : Stmt) → reads v (resolved_stmt regions s) ≡ true → (object : Object) × P v object
+  read_variable : (s : Stmt) → reads v (effect (resolved_stmt regions s)) ≡ true → (object : Object) × P v object
   read_variable (stmt.Null place) h = absurd cc
-  read_variable (stmt.Assignment target value) h = used_variable P regions all v value h
+  read_variable (stmt.Assignment target value) h = used_variable P regions all v value (sym (reads_uses v (resolved_expr regions value)) ∙ h)
 
 module _ (p : Program) (P : VarId → Object → Type 0) (row : (v : VarId) (object : Object) → P v object → kind_of p v ≡ Some object.kind) (regions : Regions) (all : AllByRecursion (HoldsIn P) regions) where
   has_its_mode : (name : Name) → HasItsMode p (resolved_reference regions name)
@@ -165,12 +166,13 @@ module _ (p : Program) where
 
       scoped_sub : Scoped p sub
       scoped_sub = record {
-        targets = λ v h. let one = some_mapped (assigns v) (resolved_stmt body) s.statements h in (assigned_variable Own body in_body v one.0 one.1).1.0;
-        read = λ v h. let one = some_mapped (reads v) (resolved_stmt body) s.statements h in (read_variable Own body in_body v one.0 one.1).1.0;
+        targets = λ v h. let one = some_mapped (λ t. sets v (effect t)) (resolved_stmt body) s.statements (sym (sets_any v sub.statements) ∙ h) in (assigned_variable Own body in_body v one.0 one.1).1.0;
+        read = λ v h. let one = some_mapped (λ t. reads v (effect t)) (resolved_stmt body) s.statements (sym (reads_any v sub.statements) ∙ h) in (read_variable Own body in_body v one.0 one.1).1.0;
         exported = λ v h. (in_relation FormalRow annotations in_annotations v (has_export v) (λ item. mentioned_variable FormalRow annotations in_annotations v item.exports) s.derives (sym (exports_are v sub) ∙ h)).1.0;
         imported = λ v h. (in_relation FormalRow annotations in_annotations v (has_import v) (imported_variable FormalRow annotations in_annotations v) s.derives (sym (imports_are v sub) ∙ h)).1.0;
         formal_kinds = formal_kind;
         local_kinds = local_kind;
+        once = positions_differ first (its_formals ++ its_locals);
         apart = no_local;
         relation_modes = relation_has_modes p FormalRow (λ v object h. h.1) annotations in_annotations s.derives;
         target_modes = All-map (TargetHasItsMode p) (resolved_stmt body) s.statements (λ k d less. target_has_mode p Own (λ v object h. h.1) body in_body _);

@@ -1,5 +1,5 @@
 -- The units that a program is made from: its names without what they denote, and the programs whose names stand with what they denote.
-use Rattle.std.specs.Prelude.{◌≡◌, List, [], ◌∷◌, map, option_map}
+use Rattle.std.specs.Prelude.{◌≡◌, List, [], ◌∷◌, map, Option, option_map, filter_map, slice_get}
 use Rattle.spx_tree.specs.declared.expression.Identifier.{Identifier}
 use Rattle.spx_tree.specs.declared.expression.Name.{Name}
 use Rattle.spx_tree.specs.declared.expression.Name.TheVariants.{Simple, Attribute}
@@ -32,6 +32,8 @@ use Rattle.spx_core.specs.declared.subprogram.CoreParam.{CoreParam}
 use Rattle.spx_core.specs.declared.subprogram.CoreFormalPart.{CoreFormalPart}
 use Rattle.spx_core.specs.declared.subprogram.CorePrecondition.{CorePrecondition}
 use Rattle.spx_core.specs.declared.subprogram.Sub.{Sub}
+use Rattle.spx_core.specs.declared.program.CoreUnit.{CoreUnit}
+use Rattle.spx_core.specs.declared.program.CoreUnit.TheVariants as core_unit
 use Rattle.spx_core.specs.declared.program.Program.{Program}
 use Rattle.spx_core.specs.Resolved.{resolved}
 
@@ -96,12 +98,16 @@ erased_sub sub = record {
   end_name = sub.end_name;
 }
 
-abbrev pub erased_unit : Sub → Unit
-erased_unit sub = unit.Subprogram (erased_sub sub)
+-- the unit that the body of a subprogram is
+abbrev pub unit_of : Sub → Unit
+unit_of sub = unit.Subprogram (erased_sub sub)
 
--- the units, in the order of their subprograms
+abbrev pub erased_unit : Program → CoreUnit → Option Unit
+erased_unit program (core_unit.Subprogram id) = option_map unit_of (slice_get program.subs id.0)
+
+-- the units, in their order
 abbrev pub erased : Program → List Unit
-erased program = map erased_unit program.subs
+erased program = filter_map (erased_unit program) program.units
 
 -- each name stands with what it denotes at its place, and each declared name with what it declares
 abbrev pub Visible : Program → Type 0

@@ -5,10 +5,16 @@ pub mod Uses
 pub mod Dependency
 pub mod DerivesItems
 pub mod Formals
+pub mod Effects
 pub mod Flow
+pub mod Marks
+pub mod Ways
+pub mod FlowRules
+pub mod VarSets
 pub mod Regions
 pub mod Resolved
 pub mod Erased
+pub mod Bodies
 pub mod Types
 pub mod Judged
 pub mod HasType

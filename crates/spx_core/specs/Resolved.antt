@@ -1,7 +1,7 @@
 -- The program that units are: each name stands with what it denotes at its place, and each declared name with what it declares.
 -- This is total: a name that no visible declaration explains stands with nothing.
 use Rattle.std.specs.Prelude.{ℕ, ◌+◌, List, [], ◌∷◌, ◌++◌, length, map, Option, Some, None, option_map, codes}
-use Rattle.std.specs.List.{flat_map}
+use Rattle.std.specs.List.{flat_map, range_with_len}
 use Rattle.spx_tree.specs.declared.expression.Identifier.{Identifier}
 use Rattle.spx_tree.specs.declared.expression.Name.{Name}
 use Rattle.spx_tree.specs.declared.expression.Name.TheVariants.{Simple, Attribute}
@@ -21,6 +21,7 @@ use Rattle.spx_tree.specs.declared.subprogram.Subprogram.{Subprogram}
 use Rattle.spx_tree.specs.declared.subprogram.Unit.{Unit}
 use Rattle.spx_tree.specs.declared.subprogram.Unit.TheVariants as unit
 use Rattle.spx_core.specs.declared.entity.TheConstants.{INTEGER}
+use Rattle.spx_core.specs.declared.entity.SubId.{SubId}
 use Rattle.spx_core.specs.declared.entity.VarId.{VarId}
 use Rattle.spx_core.specs.declared.entity.Subtype.{Subtype}
 use Rattle.spx_core.specs.declared.entity.Mode.{Mode}
@@ -46,6 +47,7 @@ use Rattle.spx_core.specs.declared.subprogram.CoreParam.{CoreParam}
 use Rattle.spx_core.specs.declared.subprogram.CoreFormalPart.{CoreFormalPart}
 use Rattle.spx_core.specs.declared.subprogram.CorePrecondition.{CorePrecondition}
 use Rattle.spx_core.specs.declared.subprogram.Sub.{Sub}
+use Rattle.spx_core.specs.declared.program.CoreUnit.TheVariants as core_unit
 use Rattle.spx_core.specs.declared.program.TypeRow.{TypeRow}
 use Rattle.spx_core.specs.declared.program.Var.{Var}
 use Rattle.spx_core.specs.declared.program.Program.{Program}
@@ -257,8 +259,23 @@ resolved_subs library position first (unit.Subprogram s ∷ units) =
 abbrev pub standard_types : List TypeRow
 standard_types = record { name = codes "Integer"; subtype = INTEGER } ∷ []
 
+-- the subprogram at this position
+abbrev pub sub_at : ℕ → SubId
+sub_at position = record { 0 = position }
+
+-- an id for each of these, in their order
+abbrev pub sub_ids : List Sub → List SubId
+sub_ids subs = map sub_at (range_with_len 0 (length subs))
+
+-- each unit is the body of a subprogram and its declaration, so that the three orders are one
 abbrev pub program_of : List Sub → Program
-program_of subs = record { types = standard_types; vars = flat_map own_vars subs; subs = subs }
+program_of subs = record {
+  units = map core_unit.Subprogram (sub_ids subs);
+  types = standard_types;
+  vars = flat_map own_vars subs;
+  subs = subs;
+  bodies = sub_ids subs;
+}
 
 abbrev pub resolved : List Unit → Program
 resolved units = program_of (resolved_subs [] 0 0 units)

@@ -9,7 +9,7 @@ use Rattle.spx_core.specs.declared.subprogram.Sub.{Sub}
 use Rattle.spx_core.specs.declared.program.Program.{Program}
 use Rattle.spx_core.specs.Uses.{uses}
 use Rattle.spx_core.specs.Dependency.{exports, imports, relation}
-use Rattle.spx_core.specs.Flow.{defines}
+use Rattle.spx_core.specs.Effects.{defines}
 use Rattle.spx_core.specs.Formals.{formals, is_formal, mode_of}
 use Rattle.spx_core.specs.Obeyed.{exports_once, is_listed, names_formals, pairs_once}
 

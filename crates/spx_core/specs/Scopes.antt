@@ -1,7 +1,7 @@
 -- Where the variables of a subprogram are seen: the names of its body denote its formals and locals, those of its relation its formals, each
 -- with the facts that are declared of it.
-use Rattle.std.specs.Prelude.{◌≡◌, ⊤, true, false, ◌||◌, All, Option, Some, option_map, slice_get}
-use Rattle.std.specs.List.{list_any}
+use Rattle.std.specs.Prelude.{◌≡◌, ⊤, true, false, ◌||◌, ◌==◌, All, Option, Some, option_map, slice_get}
+use Rattle.std.specs.List.{IsDistinct}
 use Rattle.spx_core.specs.declared.entity.VarId.{VarId}
 use Rattle.spx_core.specs.declared.entity.VarKind.{VarKind}
 use Rattle.spx_core.specs.declared.entity.VarKind.TheVariants.{Formal, Local}
@@ -16,7 +16,7 @@ use Rattle.spx_core.specs.declared.subprogram.Sub.{Sub}
 use Rattle.spx_core.specs.Uses.{denotes}
 use Rattle.spx_core.specs.Dependency.{exports, imports, relation}
 use Rattle.spx_core.specs.Formals.{is_formal, is_local, mode_of}
-use Rattle.spx_core.specs.Flow.{defines, reads}
+use Rattle.spx_core.specs.Effects.{defines, effects, reads}
 use Rattle.spx_core.specs.Obeyed.{mode_named}
 
 -- what a variable is declared as
@@ -36,11 +36,12 @@ TargetHasItsMode p (Assignment target value) = HasItsMode p target
 
 pub record Scoped (p : Program) (sub : Sub) : Type 0 where
   pub targets : (v : VarId) → defines v sub.statements ≡ true → (is_formal v sub || is_local v sub) ≡ true
-  pub read : (v : VarId) → list_any (reads v) sub.statements ≡ true → (is_formal v sub || is_local v sub) ≡ true
+  pub read : (v : VarId) → reads v (effects sub.statements) ≡ true → (is_formal v sub || is_local v sub) ≡ true
   pub exported : (v : VarId) → exports v sub ≡ true → is_formal v sub ≡ true
   pub imported : (v : VarId) → imports v sub ≡ true → is_formal v sub ≡ true
   pub formal_kinds : (v : VarId) → is_formal v sub ≡ true → (mode : Mode) × (kind_of p v ≡ Some (Formal mode))
   pub local_kinds : (v : VarId) → is_local v sub ≡ true → kind_of p v ≡ Some Local
+  pub once : IsDistinct (λ (v : VarId) (w : VarId). w.0 == v.0) sub.vars
   pub apart : (v : VarId) → is_formal v sub ≡ true → is_local v sub ≡ false
   pub relation_modes : All (HaveTheirModes p) (relation sub)
   pub target_modes : All (TargetHasItsMode p) sub.statements

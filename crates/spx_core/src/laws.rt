@@ -12,7 +12,9 @@ ghost use Rattle.spx_core.specs.Statements.{Typed, first_name_breach};
 ghost use Rattle.spx_core.specs.Scopes.{Scoped};
 ghost use Rattle.spx_core.specs.Obeyed.{Obeys, first_rule_breach};
 ghost use Rattle.spx_core.specs.Rules.{ObeysRules};
-ghost use Rattle.spx_core.specs.Flow.{ExportsAreSet, FlowsCompose, FlowsKeep, ReadsAreSet};
+ghost use Rattle.spx_core.specs.Flow.{FlowsCompose, FlowsKeep};
+ghost use Rattle.spx_core.specs.Marks.{MarkLaw};
+ghost use Rattle.spx_core.specs.FlowRules.{ExportsAreSet, MarkReaches, ReadsAreSet};
 
 /// Resolution adds to units what their names denote, and nothing else.
 #[tactic(auto, using(crate::proofs::Erasure::keeps_units, crate::proofs::Erasure::visible))]
@@ -62,6 +64,12 @@ pub fn rules_hold()
 pub fn flows_of_lists()
     ensures compose { FlowsCompose }
     ensures keep { FlowsKeep }
+{}
+
+/// A mark adds the flows from it to what `Mu` says, and no other; the mark of a program reaches the exports that `Mu` says.
+pub fn marks()
+    ensures law { MarkLaw }
+    ensures reaches { (p : Program) → Visible p → All (MarkReaches p) p.subs }
 {}
 
 /// Where a subprogram has no flow finding, what a statement reads has been set before it, and so have the exports at the

@@ -16,6 +16,7 @@ mod program;
 mod rule;
 mod statement;
 mod subprogram;
+mod vars;
 
 pub use dependency::{CoreDerives, CoreDerivesItem};
 pub use entity::{
@@ -24,7 +25,8 @@ pub use entity::{
 };
 pub use expression::CoreExpr;
 pub use name::{CoreName, Defining, Reference, Step, mentions};
-pub use program::{Program, TypeRow, Var};
+pub use program::{CoreUnit, Program, TypeRow, Var};
 pub use rule::{Breach, ExprType, RuleName, Typing};
 pub use statement::{CoreDecl, CoreStmt};
 pub use subprogram::{CoreFormalPart, CoreParam, CorePrecondition, Sub};
+pub use vars::VarSet;

@@ -1,6 +1,6 @@
 // Whole programs.
 
-use crate::{Sub, Subtype, TypeId, VarKind};
+use crate::{Sub, SubId, Subtype, TypeId, VarKind};
 use spx_text::Text;
 use sqlite_items::Items;
 
@@ -21,13 +21,24 @@ pub struct Var {
     pub type_id: TypeId,
 }
 
+/// A library unit.
+#[derive(Clone, Copy, Debug, PartialEq, Eq)]
+pub enum CoreUnit {
+    /// The body of a subprogram, which is its declaration too.
+    Subprogram(SubId),
+}
+
 /// A resolved program. A `TypeId` is a position in `types`, a `VarId` one in `vars`, a `SubId` one in `subs`.
 #[derive(Debug, Drop)]
 pub struct Program {
+    /// The library units, in the order of the files.
+    pub units: Items<CoreUnit>,
     /// The types, the predefined ones first.
     pub types: Items<TypeRow>,
     /// Of each subprogram the formals and then the locals, in the order of the text.
     pub vars: Items<Var>,
-    /// In the order of their bodies in the files.
+    /// In the order of their declarations.
     pub subs: Items<Sub>,
+    /// The subprograms that have bodies, in the order of the bodies in the files.
+    pub bodies: Items<SubId>,
 }

@@ -94,6 +94,8 @@ mod tests {
         let program = make_program(rt.alloc(), units.as_slice())?;
         assert_eq!(rt; program.vars.len(), 2);
         assert_eq!(rt; program.subs.len(), 1);
+        assert_eq!(rt; program.bodies.len(), 1);
+        assert_eq!(rt; program.units.len(), 1);
         for sub in program.subs.as_slice() {
             assert_eq!(rt; sub.formal_count, 1);
             for decl in sub.declarations.as_slice() {

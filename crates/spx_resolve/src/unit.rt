@@ -1,15 +1,15 @@
 // Subprograms and programs.
 ghost use Rattle.std.specs.Prelude.{◌≡◌, ◌∷◌, ◌++◌, ◌-◌, [], IfOk, length, map, option_map};
-ghost use Rattle.std.specs.List.{flat_map};
-ghost use Rattle.spx_core.specs.Resolved.{around_body, declared_by_decls, declared_by_params, declaring, declaring_all, own_vars, params_of, resolved, resolved_decls, resolved_derives, resolved_formal_part, resolved_pre, resolved_stmt, resolved_sub, resolved_subs, standard_types, var_of};
+ghost use Rattle.std.specs.List.{flat_map, range_with_len};
+ghost use Rattle.spx_core.specs.Resolved.{around_body, declared_by_decls, declared_by_params, declaring, declaring_all, own_vars, params_of, resolved, resolved_decls, resolved_derives, resolved_formal_part, resolved_pre, resolved_stmt, resolved_sub, resolved_subs, standard_types, sub_at, var_of};
 ghost use Rattle.spx_resolve.specs.Ids.{ids_from};
 ghost use Rattle.spx_resolve.specs.Units.{subprogram_of};
 
 use crate::declaration::{declare, resolve_decls, resolve_params};
 use crate::statement::{resolve_derives, resolve_precondition, resolve_stmts};
 use spx_core::{
-    CoreDecl, CoreDerives, CoreFormalPart, CorePrecondition, CoreStmt, Defining, Entity, INTEGER,
-    Program, Sub, SubId, TypeRow, Var, VarId,
+    CoreDecl, CoreDerives, CoreFormalPart, CorePrecondition, CoreStmt, CoreUnit, Defining, Entity,
+    INTEGER, Program, Sub, SubId, TypeRow, Var, VarId,
 };
 use spx_scope::{Region, Scope, Standard};
 use spx_text::Text;
@@ -51,7 +51,7 @@ fn resolve_formal_part(
 }
 
 /// The variables from a position on, up to another.
-#[tactic(auto, using(crate::proofs::Declared::ids_step, std::proofs::lemmas::Grind::common_steps))]
+#[tactic(auto, using(crate::proofs::Declared::range_step, std::proofs::lemmas::Grind::common_steps))]
 fn ids_between(alloc: Global, first: usize, end: usize) -> Result<Items<VarId>, AllocError>
     ensures { IfOk result (λ ids. ids ≡ ids_from first (end - first)) }
 {
@@ -187,6 +187,29 @@ fn predefined_types(alloc: Global) -> Result<Items<TypeRow>, AllocError>
     Ok(types)
 }
 
+/// An id for each of so many subprograms, in their order.
+#[tactic(auto, using(crate::proofs::Declared::range_step, std::proofs::lemmas::Grind::common_steps))]
+fn sub_ids(alloc: Global, count: usize) -> Result<Items<SubId>, AllocError>
+    ensures { IfOk result (λ ids. ids ≡ map sub_at (range_with_len 0 count)) }
+{
+    let mut ids = Items::new(alloc);
+    for position in 0..count {
+        ids.push(SubId(position))?;
+    }
+    Ok(ids)
+}
+
+/// The library units that the bodies of these subprograms are.
+fn units_of(alloc: Global, bodies: &[SubId]) -> Result<Items<CoreUnit>, AllocError>
+    ensures { IfOk result (λ units. units ≡ map CoreUnit.Subprogram bodies.now) }
+{
+    let mut units = Items::new(alloc);
+    for id in bodies {
+        units.push(CoreUnit::Subprogram(*id))?;
+    }
+    Ok(units)
+}
+
 /// The program that the units are.
 pub fn make_program(alloc: Global, units: &[Unit]) -> Result<Program, AllocError>
     ensures { IfOk result (λ program. program ≡ resolved units.now) }
@@ -195,5 +218,12 @@ pub fn make_program(alloc: Global, units: &[Unit]) -> Result<Program, AllocError
     let types = predefined_types(alloc)?;
     let mut vars = Items::new(alloc);
     let subs = resolve_units(alloc, &mut vars, &everywhere, units)?;
-    Ok(Program { types, vars, subs })
+    let bodies = sub_ids(alloc, subs.len())?;
+    Ok(Program {
+        units: units_of(alloc, bodies.as_slice())?,
+        types,
+        vars,
+        subs,
+        bodies,
+    })
 }

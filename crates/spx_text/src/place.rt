@@ -1,7 +1,7 @@
 // Where something stands in a text.
 
 /// A place in the files that are examined.
-#[derive(Clone, Copy, Debug, PartialEq, Eq)]
+#[derive(Clone, Copy, Debug, PartialEq, Eq, Hash)]
 pub struct Place {
     /// The position of the file in the order of the words, from 0.
     pub file: u32,

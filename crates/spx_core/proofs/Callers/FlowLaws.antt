@@ -1,37 +1,114 @@
 -- Laws of flow.
-use Rattle.std.proofs.Common.{◌≡◌, ◌↔◌, Bool, true, false, ◌||◌, [], ◌∷◌, refl, sym, subst, inr, ⊎_elim}
-use Rattle.std.proofs.lemmas.Bool.{or_parts, both_ways}
+use Rattle.std.proofs.Common.{◌≡◌, Bool, true, false, ◌||◌, List, [], ◌∷◌, ◌++◌, Option, Some, None, option_map, refl, sym, ap, ap₂, ◌∙◌, subst, inl, inr, ⊎_elim}
+use Rattle.std.specs.Prelude.{◌==◌, Contains}
+use Rattle.std.specs.List.{cons_option, filter_map, list_any}
+use Rattle.std.specs.Option.{option_to_list}
+use Rattle.std.proofs.lemmas.Bool.{or_parts, both_ways, eqb-true}
+use Rattle.std.proofs.lemmas.List.Folds.{list_any-append}
+use Rattle.spx_text.specs.declared.place.Place.{Place}
 use Rattle.spx_core.specs.declared.entity.VarId.{VarId}
+use Rattle.spx_core.specs.declared.name.CoreName.{CoreName}
+use Rattle.spx_core.specs.declared.expression.CoreExpr.{CoreExpr}
 use Rattle.spx_core.specs.declared.statement.CoreStmt.{CoreStmt}
 use Rattle.spx_core.specs.declared.statement.CoreStmt.TheVariants.{Null, Assignment}
-use Rattle.spx_core.specs.Uses.{denotes}
+use Rattle.spx_core.specs.Uses.{denotes, is_same, uses, variable_of}
 use Rattle.spx_core.specs.Reads.{names_read}
+use Rattle.spx_core.specs.Formals.{stands_in}
 use Rattle.spx_core.specs.Dependency.{imports}
-use Rattle.spx_core.specs.Flow.{assigns, defines, MayFlow, MayFlowAll, FlowsCompose, FlowsKeep, read, left, ReadsAreSet, ExportsAreSet}
+use Rattle.spx_core.specs.Effects.{Effect, Read, nothing, assign, next, effect, effects, sets, reads, is_read, read_of, reads_of, defines}
+use Rattle.spx_core.specs.Flow.{MayFlow, FlowsCompose, FlowsKeep}
+use Rattle.spx_core.specs.Ways.{Free, Goes, Reaches}
+use Rattle.spx_core.specs.FlowRules.{read, left, ReadsAreSet, ExportsAreSet}
 use Rattle.spx_core.proofs.Callers.ListTests.{found}
+use Rattle.spx_core.proofs.Callers.Variables.{same_var}
+
+-- ---- reads
+
+read_first : (v : VarId) (place : Place) (o : Option VarId) (rest : List Read) → is_read v (cons_option (option_map (λ w. (place, w)) o) rest) ≡ (is_same v o || is_read v rest)
+read_first v place (Some w) rest = refl
+read_first v place None rest = refl
+
+read_names : (v : VarId) (names : List CoreName) → is_read v (filter_map read_of names) ≡ list_any (denotes v) names
+read_names v [] = refl
+read_names v (name ∷ names) = read_first v name.name.place (variable_of name.entity) (filter_map read_of names) ∙ ap (λ b. denotes v name || b) (read_names v names)
+
+-- an expression reads the variables that it uses
+pub reads_uses : (v : VarId) (e : CoreExpr) → is_read v (reads_of e) ≡ uses v e
+reads_uses v e = read_names v (names_read e)
+
+-- ---- lists of statements
+
+pub sets_any : (v : VarId) (stmts : List CoreStmt) → defines v stmts ≡ list_any (λ s. sets v (effect s)) stmts
+sets_any v [] = refl
+sets_any v (s ∷ stmts) = ap (λ b. sets v (effect s) || b) (sets_any v stmts)
+
+pub reads_any : (v : VarId) (stmts : List CoreStmt) → reads v (effects stmts) ≡ list_any (λ s. reads v (effect s)) stmts
+reads_any v [] = refl
+reads_any v (s ∷ stmts) = ap (λ b. reads v (effect s) || b) (reads_any v stmts)
 
 pub composes : FlowsCompose
-composes [] back u w = (λ h. (u, refl, h), λ h. subst (λ x. MayFlowAll back x w) (sym h.1) h.2)
+composes [] back u w = (λ h. (u, refl, h), λ h. subst (λ x. MayFlow (effects back) x w) (sym h.1) h.2)
 composes (s ∷ front) back u w = (
   λ h. let g = (composes front back h.0 w).0 h.2 in (g.0, (h.0, h.1, g.1), g.2),
   λ h. (h.1.0, h.1.1, (composes front back h.1.0 w).1 (h.0, h.1.2, h.2)),
 )
 
--- a statement that does not set the variable keeps it
-pub keeps_one : (s : CoreStmt) (u w : VarId) → assigns w s ≡ false → MayFlow s u w ↔ (u ≡ w)
-keeps_one (Null place) u w none = (λ h. h, λ h. h)
-keeps_one (Assignment target value) u w none = (
-  λ h. ⊎_elim (λ p. absurd (both_ways (denotes w target.root) none p.0)) (λ p. p.1) h,
+pub keeps : FlowsKeep
+keeps nothing u w none = (λ h. h, λ h. h)
+keeps (assign target values place) u w none = (
+  λ h. ⊎_elim (λ p. absurd (both_ways (is_same w target) none p.0)) (λ p. p.1) h,
   λ e. inr (none, e),
 )
-
-pub keeps : FlowsKeep
-keeps [] u w none = (λ h. h, λ h. h)
-keeps (s ∷ rest) u w none =
-    let parts = or_parts (assigns w s) (defines w rest) none in (
-      λ h. let last = (keeps rest h.0 w parts.1).0 h.2 in (keeps_one s u w parts.0).0 (subst (λ x. MayFlow s u x) last h.1),
-      λ e. (w, (keeps_one s u w parts.0).1 e, (keeps rest w w parts.1).1 refl),
+keeps (next a b) u w none =
+    let parts = or_parts (sets w a) (sets w b) none in (
+      λ h. let last = (keeps b h.0 w parts.1).0 h.2 in (keeps a u w parts.0).0 (subst (λ x. MayFlow a u x) last h.1),
+      λ e. (w, (keeps a u w parts.0).1 e, (keeps b w w parts.1).1 refl),
     )
+
+-- what is not read flows to itself alone
+pub unread : (e : Effect) (u w : VarId) → reads u e ≡ false → MayFlow e u w → u ≡ w
+unread nothing u w none flow = flow
+unread (assign target values place) u w none flow = ⊎_elim (λ p. absurd (both_ways (is_read u values) none p.1)) (λ p. p.1) flow
+unread (next a b) u w none flow =
+    let parts = or_parts (reads u a) (reads u b) none in
+    let here : u ≡ flow.0 = unread a u flow.0 parts.0 flow.1 in
+    unread b u w parts.1 (subst (λ v. MayFlow b v w) (sym here) flow.2)
+
+-- ---- ways
+
+without : (v : VarId) (front back : List VarId) → stands_in v front ≡ false → stands_in v back ≡ false → stands_in v (front ++ back) ≡ false
+without v front back f b = list_any-append (λ (w : VarId). w.0 == v.0) front back ∙ ap₂ ◌||◌ f b
+
+without_target : (v : VarId) (target : Option VarId) → is_same v target ≡ false → stands_in v (option_to_list target) ≡ false
+without_target v (Some w) none = ap (λ b. b || false) none
+without_target v None none = refl
+
+-- some way goes on without a variable that is not set
+pub goes_free : (e : Effect) (v : VarId) → sets v e ≡ false → Free (Goes e) v
+goes_free nothing v none = ([], refl, refl)
+goes_free (assign target values place) v none = (option_to_list target, refl, without_target v target none)
+goes_free (next a b) v none =
+    let parts = or_parts (sets v a) (sets v b) none in
+    let first = goes_free a v parts.0 in
+    let second = goes_free b v parts.1 in
+    (first.0 ++ second.0, (first.0, second.0, refl, first.1, second.1), without v first.0 second.0 first.2 second.2)
+
+reaches_after : (place : Place) (v : VarId) (before rest : List CoreStmt) → defines v before ≡ false → Free (Reaches (effects rest) place v) v → Free (Reaches (effects (before ++ rest)) place v) v
+reaches_after place v [] rest none way = way
+reaches_after place v (s ∷ before) rest none way =
+    let parts = or_parts (sets v (effect s)) (defines v before) none in
+    let first = goes_free (effect s) v parts.0 in
+    let second = reaches_after place v before rest parts.1 way in
+    (first.0 ++ second.0, inr (first.0, second.0, refl, first.1, second.1), without v first.0 second.0 first.2 second.2)
+
+reaches_here : (stmt : CoreStmt) (v : VarId) → reads v (effect stmt) ≡ true → (place : Place) × Reaches (effect stmt) place v []
+reaches_here (Null place) v is = absurd cc
+reaches_here (Assignment target value) v is =
+    let one = found (λ (r : Read). r.1.0 == v.0) (reads_of value) is in
+    let same : one.0.1 ≡ v = same_var one.0.1 v (eqb-true one.0.1.0 v.0 one.2) in
+    (one.0.0, (subst (λ w. Contains (reads_of value) (one.0.0, w)) same one.1, refl))
+
+-- ---- what is set
 
 -- where the variable is not unset, it is set
 set_where : (imported defined : Bool) → ¬ ((imported ≡ false) × (defined ≡ false)) → (imported || defined) ≡ true
@@ -40,12 +117,13 @@ set_where false true none = refl
 set_where false false none = absurd (none (refl, refl))
 
 pub reads_are_set : ReadsAreSet
-reads_are_set sub none before (Null place) after v parts is = absurd cc
-reads_are_set sub none before (Assignment target value) after v parts is =
-    let name = found (denotes v) (names_read value) is in
+reads_are_set p sub none before stmt after v parts is =
     set_where (imports v sub) (defines v before)
-    (λ unset. none.none_unset name.0.name.place v (read before (Assignment target value) after parts (name.0, name.1, name.2, refl) unset))
+    (λ unset.
+    let here = reaches_here stmt v is in
+    let way = reaches_after here.0 v before (stmt ∷ after) unset.1 ([], inl here.1, refl) in
+    none.none_unset here.0 v (read unset.0 (subst (λ stmts. Free (Reaches (effects stmts) here.0 v) v) (sym parts) way)))
 
 pub exports_are_set : ExportsAreSet
-exports_are_set sub none v exported =
-    set_where (imports v sub) (defines v sub.statements) (λ unset. none.none_unset sub.end v (left exported unset))
+exports_are_set p sub none v exported =
+    set_where (imports v sub) (defines v sub.statements) (λ unset. none.none_unset sub.end v (left exported unset.0 (goes_free (effects sub.statements) v unset.1)))

@@ -1,0 +1,116 @@
+-- Laws of marks.
+use Rattle.std.proofs.Common.{◌≡◌, ◌↔◌, ◌⊎◌, Bool, true, false, ◌||◌, List, [], ◌∷◌, length, Option, Some, None, refl, sym, ap, ◌∙◌, subst, inl, inr, ⊎_elim}
+use Rattle.std.specs.Prelude.{◌&&◌, ◌==◌, if◌then◌else◌, option_map, slice_get}
+use Rattle.std.proofs.lemmas.Bool.{and_parts, both_ways, eqb-true, eq-eqb, or_cases, or_left, or_parts, or_right, false_from_ne_true}
+use Rattle.spx_text.specs.declared.place.Place.{Place}
+use Rattle.spx_core.specs.declared.entity.VarId.{VarId}
+use Rattle.spx_core.specs.declared.entity.VarKind.{VarKind}
+use Rattle.spx_core.specs.declared.entity.VarKind.TheVariants.{Local}
+use Rattle.spx_core.specs.declared.program.Program.{Program}
+use Rattle.spx_core.specs.declared.subprogram.Sub.{Sub}
+use Rattle.spx_core.specs.Formals.{is_formal, is_local}
+use Rattle.spx_core.specs.Dependency.{exports}
+use Rattle.spx_core.specs.Effects.{Effect, Read, nothing, assign, next, sets, reads, is_read}
+use Rattle.spx_core.specs.Flow.{MayFlow}
+use Rattle.spx_core.specs.Marks.{MarkLaw, Mu, marked, same_place, with_mark}
+use Rattle.spx_core.specs.FlowRules.{MarkReaches, body_effect, mark}
+use Rattle.spx_core.specs.Scopes.{Scoped, kind_of}
+use Rattle.spx_core.proofs.Callers.FlowLaws.{keeps, unread}
+use Rattle.spx_core.proofs.Callers.Variables.{same_var}
+
+-- ---- places
+
+pub same_place_is : (a b : Place) → same_place a b ≡ true → a ≡ b
+same_place_is a b h =
+    let file = and_parts (a.file == b.file) ((a.line == b.line) && (a.column == b.column)) h in
+    let line = and_parts (a.line == b.line) (a.column == b.column) file.1 in
+    let f : a.file ≡ b.file = eqb-true a.file b.file file.0 in
+    let l : a.line ≡ b.line = eqb-true a.line b.line line.0 in
+    let c : a.column ≡ b.column = eqb-true a.column b.column line.1 in
+    λ i. record { file = f i; line = l i; column = c i }
+
+pub same_place_itself : (a : Place) → same_place a a ≡ true
+same_place_itself a = by_parts (a.file == a.file) (a.line == a.line) (a.column == a.column) (eq-eqb a.file a.file refl) (eq-eqb a.line a.line refl) (eq-eqb a.column a.column refl)
+  where
+    by_parts : (x y z : Bool) → x ≡ true → y ≡ true → z ≡ true → (x && (y && z)) ≡ true
+    by_parts true true true f l c = refl
+    by_parts true true false f l c = absurd cc
+    by_parts true false z f l c = absurd cc
+    by_parts false y z f l c = absurd cc
+
+-- ---- the law
+
+module _ (p : Place) (m : VarId) where
+  -- what is read with the mark
+  reads_mark : (place : Place) (values : List Read) (u : VarId) → (is_read u (with_mark p m place values) ≡ true) ↔ ((is_read u values ≡ true) ⊎ ((m ≡ u) × (place ≡ p)))
+  reads_mark place values u = by_place (same_place place p) refl
+    where
+      by_place : (b : Bool) → same_place place p ≡ b → (is_read u (if b then (place, m) ∷ values else values) ≡ true) ↔ ((is_read u values ≡ true) ⊎ ((m ≡ u) × (place ≡ p)))
+      by_place true is = (
+        λ h. ⊎_elim (λ here. inr (same_var m u (eqb-true m.0 u.0 here), same_place_is place p is)) (λ there. inl there) (or_cases (m.0 == u.0) (is_read u values) h),
+        λ h. ⊎_elim (λ there. or_right (m.0 == u.0) (is_read u values) there) (λ e. or_left (m.0 == u.0) (is_read u values) (eq-eqb m.0 u.0 (ap (λ (x : VarId). x.0) e.0))) h,
+      )
+      by_place false is = (
+        λ h. inl h,
+        λ h. ⊎_elim (λ there. there) (λ e. absurd (both_ways (same_place place p) is (ap (same_place place) (sym e.1) ∙ same_place_itself place))) h,
+      )
+
+  law : (e : Effect) → sets m e ≡ false → (u w : VarId) → MayFlow (marked p m e) u w ↔ (MayFlow e u w ⊎ ((m ≡ u) × Mu e p w))
+  law nothing none u w = (λ h. inl h, λ h. ⊎_elim (λ e. e) (λ e. absurd e.1) h)
+  law (assign target values place) none u w = (
+    λ h. ⊎_elim (λ q. ⊎_elim (λ c. inl (inl (q.0, c))) (λ k. inr (k.0, (k.1, q.0))) ((reads_mark place values u).0 q.1)) (λ q. inl (inr q)) h,
+    λ h. ⊎_elim (λ q. ⊎_elim (λ c. inl (c.0, (reads_mark place values u).1 (inl c.1))) (λ q. inr q) q) (λ k. inl (k.1.1, (reads_mark place values u).1 (inr (k.0, k.1.0)))) h,
+  )
+  law (next a b) none u w =
+      let parts = or_parts (sets m a) (sets m b) none in (
+        λ h. ⊎_elim
+            (λ q. ⊎_elim (λ r. inl (h.0, r, q)) (λ k. inr (k.0, inl (h.0, k.1, q))) ((law a parts.0 u h.0).0 h.1))
+            (λ q. ⊎_elim (λ r. inr (sym ((keeps a u m parts.0).0 (subst (MayFlow a u) (sym q.0) r)), inr q.1)) (λ k. inr (k.0, inr q.1)) ((law a parts.0 u h.0).0 h.1))
+            ((law b parts.1 h.0 w).0 h.2),
+        λ h. ⊎_elim
+            (λ q. (q.0, (law a parts.0 u q.0).1 (inl q.1), (law b parts.1 q.0 w).1 (inl q.2)))
+            (λ k. ⊎_elim
+            (λ q. (q.0, (law a parts.0 u q.0).1 (inr (k.0, q.1)), (law b parts.1 q.0 w).1 (inl q.2)))
+            (λ q. (m, (law a parts.0 u m).1 (inl ((keeps a u m parts.0).1 (sym k.0))), (law b parts.1 m w).1 (inr (refl, q))))
+            k.1)
+            h,
+      )
+
+pub mark_law : MarkLaw
+mark_law p m e none u w = law p m e none u w
+
+-- ---- the mark of a program
+
+past_end : {A : Type 0} (xs : List A) → slice_get xs (length xs) ≡ None
+past_end [] = refl
+past_end (x ∷ xs) = past_end xs
+
+module _ (p : Program) (sub : Sub) (scoped : Scoped p sub) where
+  no_kind : (kind : VarKind) → kind_of p (mark p) ≡ Some kind → ⊥
+  no_kind kind is =
+      let none : kind_of p (mark p) ≡ None = ap (option_map _) (past_end p.vars) in
+      let e : ◌≡◌ {A = Option VarKind} None (Some kind) = sym none ∙ is in
+      absurd cc
+
+  -- it is no variable of the subprogram
+  foreign : (is_formal (mark p) sub || is_local (mark p) sub) ≡ true → ⊥
+  foreign h =
+      ⊎_elim (λ formal. let kind = scoped.formal_kinds (mark p) formal in no_kind _ kind.1) (λ local. no_kind Local (scoped.local_kinds (mark p) local))
+      (or_cases (is_formal (mark p) sub) (is_local (mark p) sub) h)
+
+  pub mark_unset : sets (mark p) (body_effect sub) ≡ false
+  mark_unset = false_from_ne_true _ (λ set. foreign (scoped.targets (mark p) set))
+
+  pub mark_unread : reads (mark p) (body_effect sub) ≡ false
+  mark_unread = false_from_ne_true _ (λ is. foreign (scoped.read (mark p) is))
+
+  pub mark_reaches : MarkReaches p sub
+  mark_reaches place w exported = (
+    λ h. ⊎_elim
+        (λ flow.
+        let same : mark p ≡ w = unread (body_effect sub) (mark p) w mark_unread flow in
+        absurd (foreign (or_left (is_formal (mark p) sub) (is_local (mark p) sub) (scoped.exported (mark p) (ap (λ v. exports v sub) same ∙ exported)))))
+        (λ k. k.1)
+        ((mark_law place (mark p) (body_effect sub) mark_unset (mark p) w).0 h),
+    λ h. (mark_law place (mark p) (body_effect sub) mark_unset (mark p) w).1 (inr (refl, h)),
+  )

@@ -1,0 +1,30 @@
+-- Ways through statements that ignore the values of conditions. A way is the list of the variables that it sets.
+use Rattle.std.specs.Prelude.{◌≡◌, ◌⊎◌, false, List, [], ◌++◌, Contains}
+use Rattle.std.specs.Option.{option_to_list}
+use Rattle.spx_text.specs.declared.place.Place.{Place}
+use Rattle.spx_core.specs.declared.entity.VarId.{VarId}
+use Rattle.spx_core.specs.Formals.{stands_in}
+use Rattle.spx_core.specs.Effects.{Effect, nothing, assign, next}
+
+abbrev pub Ways : Type 1
+Ways = List VarId → Type 0
+
+-- a way of the first, then one of the second
+abbrev pub Follow : Ways → Ways → Ways
+Follow A B way = (front : List VarId) × (back : List VarId) × (way ≡ front ++ back) × A front × B back
+
+-- a way on past the statement
+abbrev pub Goes : Effect → Ways
+Goes nothing way = way ≡ []
+Goes (assign target reads place) way = way ≡ option_to_list target
+Goes (next a b) way = Follow (Goes a) (Goes b) way
+
+-- a way to a read of v at the place p
+abbrev pub Reaches : Effect → Place → VarId → Ways
+Reaches nothing p v way = ⊥
+Reaches (assign target reads place) p v way = Contains reads (p, v) × (way ≡ [])
+Reaches (next a b) p v way = Reaches a p v way ⊎ Follow (Goes a) (Reaches b p v) way
+
+-- one of the ways does not set v
+abbrev pub Free : Ways → VarId → Type 0
+Free A v = (way : List VarId) × A way × (stands_in v way ≡ false)
