@@ -19,6 +19,6 @@ clean visible = record {
   visible = subst Visible increment_is_resolved (visible inc_units);
   typed = typed;
   obeys = obeys;
-  flows = flows;
+  flows = flows inc.pre;
   conditions = All-cons (λ (sub : Sub). ArePlain (conditions_of sub)) inc [] plain (All-nil (λ (sub : Sub). ArePlain (conditions_of sub)));
 }

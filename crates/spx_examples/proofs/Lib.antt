@@ -4,7 +4,7 @@ mod IncrementRuns
 mod IncrementTerms
 mod IncrementConditions
 mod IncrementRules
-mod IncrementFlows
+pub mod IncrementFlows
 mod IncrementPlain
 mod IncrementLaws
 mod Refused

@@ -1,9 +1,7 @@
 -- The procedure `Inc` without its precondition: a call of it from the last value.
-use Rattle.std.proofs.Common.{◌≡◌, ℕ, zero, suc, [], None, refl, ap, subst}
+use Rattle.std.proofs.Common.{◌≡◌, ℕ, zero, suc, refl, ap, subst}
 use Rattle.std.specs.Prelude.{IsTrue, IsSome, IfSome}
-use Rattle.std.proofs.lemmas.List.Elements.{All-cons, All-nil}
 use Rattle.spx_core.specs.declared.entity.VarId.{VarId}
-use Rattle.spx_core.specs.Flow.{HasNoFinding, HasNoFlowFinding}
 use Rattle.spx_core.specs.Obeyed.{Obeys}
 use Rattle.spx_core.specs.Statements.{Typed}
 use Rattle.spx_term.specs.Meaning.{value_of_op}
@@ -14,7 +12,7 @@ use Rattle.spx_meaning.specs.Runs.{Bad, call}
 use Rattle.spx_meaning.specs.Stores.{look, type_of, is_in}
 use Rattle.spx_examples.specs.Increment.{place}
 use Rattle.spx_examples.specs.Refused.{inc_without_pre, increment_without_pre, x_is_last}
-use Rattle.spx_examples.proofs.IncrementFlows.{no_finding, only_import}
+use Rattle.spx_examples.proofs.IncrementFlows.{only_import}
 use Rattle.spx_examples.proofs.IncrementRules.{and_no_more, step_judged}
 use Rattle.spx_examples.proofs.IncrementRuns.{body_is, eval_successor}
 use Rattle.spx_examples.proofs.IncrementTypes.{judged_successor}
@@ -24,9 +22,6 @@ typed = ap (λ value. and_no_more (step_judged value)) judged_successor
 
 pub obeys : Obeys increment_without_pre
 obeys = refl
-
-pub flows : HasNoFlowFinding increment_without_pre
-flows = All-cons HasNoFinding inc_without_pre [] (no_finding None) (All-nil HasNoFinding)
 
 -- each variable that has a value has one of its type
 in_type : (k : ℕ) → let v : VarId = record { 0 = k } in IfSome (look x_is_last v) (λ y. IsTrue (is_in (type_of increment_without_pre v) y))

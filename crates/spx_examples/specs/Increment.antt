@@ -22,6 +22,8 @@ use Rattle.spx_core.specs.declared.name.Reference.{Reference}
 use Rattle.spx_core.specs.Resolved.{standard_types}
 use Rattle.spx_core.specs.declared.entity.VarKind.TheVariants.{Formal}
 use Rattle.spx_core.specs.declared.entity.VarId.{VarId}
+use Rattle.spx_core.specs.declared.entity.SubId.{SubId}
+use Rattle.spx_core.specs.declared.program.CoreUnit.TheVariants as core_unit
 use Rattle.spx_core.specs.declared.program.Program.{Program}
 use Rattle.spx_core.specs.declared.entity.Mode.TheVariants as mode
 use Rattle.spx_core.specs.declared.subprogram.CoreParam.{CoreParam}
@@ -33,6 +35,7 @@ use Rattle.spx_core.specs.declared.expression.CoreExpr.{CoreExpr}
 use Rattle.spx_core.specs.declared.expression.CoreExpr.TheVariants as expr
 use Rattle.spx_core.specs.declared.statement.CoreStmt.{CoreStmt}
 use Rattle.spx_core.specs.declared.statement.CoreStmt.TheVariants as stmt
+use Rattle.spx_core.specs.Effects.{Effect, nothing, assign, next}
 use Rattle.spx_term.specs.declared.condition.CondKind.TheVariants.{Overflow, Range}
 use Rattle.spx_term.specs.declared.condition.Condition.{Condition}
 use Rattle.spx_term.specs.declared.term.Sort.TheVariants.{Integer}
@@ -123,9 +126,13 @@ integer_at line column = record { name = word (codes "Integer") line column; ent
 abbrev pub x_declared : Defining
 x_declared = record { name = word (codes "X") 1 16; entity = entity.Variable x object; again = false }
 
+-- its one subprogram
+abbrev pub inc_id : SubId
+inc_id = record { 0 = 0 }
+
 -- `Inc`, where it is declared
 abbrev pub inc_declared : Defining
-inc_declared = record { name = word (codes "Inc") 1 11; entity = entity.Subprogram (record { 0 = 0 }); again = false }
+inc_declared = record { name = word (codes "Inc") 1 11; entity = entity.Subprogram inc_id; again = false }
 
 -- `X : in out Integer`
 abbrev pub formal : CoreParam
@@ -167,9 +174,19 @@ inc = record {
   formal_count = 1;
 }
 
+-- its body sets X, and reads X for that
+abbrev pub inc_effect : Effect
+inc_effect = next (assign (Some x) ((place 6 9, x) ∷ []) (place 6 4)) nothing
+
 -- the program of the one procedure
 abbrev pub increment : Program
-increment = record { types = standard_types; vars = record { name = codes "X"; kind = Formal mode.InOut; type_id = INTEGER.id } ∷ []; subs = inc ∷ [] }
+increment = record {
+  units = core_unit.Subprogram inc_id ∷ [];
+  types = standard_types;
+  vars = record { name = codes "X"; kind = Formal mode.InOut; type_id = INTEGER.id } ∷ [];
+  subs = inc ∷ [];
+  bodies = inc_id ∷ [];
+}
 
 -- ---- the conditions
 

@@ -1,7 +1,11 @@
 // What holds of the programs of this crate, each as the contract of a function that does nothing.
-ghost use Rattle.std.specs.Prelude.{◌≡◌, ℕ, pos, [], ◌∷◌, Some};
+ghost use Rattle.std.specs.Prelude.{◌≡◌, ◌↔◌, ℕ, pos, List, [], ◌∷◌, Some};
 ghost use Rattle.spx_core.specs.Erased.{Visible};
-ghost use Rattle.spx_core.specs.Flow.{HasNoFlowFinding};
+ghost use Rattle.spx_core.specs.declared.entity.VarId.{VarId};
+ghost use Rattle.spx_core.specs.Flow.{MayFlow};
+ghost use Rattle.spx_core.specs.FlowRules.{HasNoFlowFinding, body_effect, mark};
+ghost use Rattle.spx_core.specs.Marks.{marked};
+ghost use Rattle.spx_core.specs.Ways.{Goes};
 ghost use Rattle.spx_core.specs.Obeyed.{Obeys};
 ghost use Rattle.spx_core.specs.Statements.{Typed};
 ghost use Rattle.spx_term.specs.declared.value.Value.TheVariants as value;
@@ -10,7 +14,7 @@ ghost use Rattle.spx_meaning.specs.Fit.{Clean, Fit};
 ghost use Rattle.spx_meaning.specs.Laws.{NeverBad, Start};
 ghost use Rattle.spx_meaning.specs.Paths.{conditions_of};
 ghost use Rattle.spx_meaning.specs.Runs.{Bad, Ended, call};
-ghost use Rattle.spx_examples.specs.Increment.{place, inc, inc_conditions, increment};
+ghost use Rattle.spx_examples.specs.Increment.{place, x, inc, inc_conditions, inc_effect, increment};
 ghost use Rattle.spx_examples.specs.Refused.{inc_without_pre, increment_without_pre, x_is_last};
 
 use spx_core::laws::{names_are_scoped, resolution, rules_hold};
@@ -23,6 +27,14 @@ pub fn increment_is_clean()
 {
     resolution();
 }
+
+/// Its body sets X, and reads X for that: a mark on the assignment comes to X, and the one way through the body sets X.
+#[tactic(auto, using(crate::proofs::IncrementFlows::effect_is, crate::proofs::IncrementFlows::mark_arrives, crate::proofs::IncrementFlows::one_way))]
+pub fn increment_flows()
+    ensures body { body_effect inc ≡ inc_effect }
+    ensures mark_arrives { MayFlow (marked (place 6 4) (mark increment) (body_effect inc)) (mark increment) x }
+    ensures one_way { (way : List VarId) → Goes (body_effect inc) way ↔ (way ≡ x ∷ []) }
+{}
 
 /// It meets the premise of the law on runs.
 pub fn increment_is_never_bad()

@@ -5,7 +5,7 @@ use Rattle.spx_core.specs.declared.subprogram.Sub.{Sub}
 use Rattle.spx_core.specs.Erased.{Visible}
 use Rattle.spx_core.specs.Statements.{Typed}
 use Rattle.spx_core.specs.Obeyed.{Obeys}
-use Rattle.spx_core.specs.Flow.{HasNoFlowFinding}
+use Rattle.spx_core.specs.FlowRules.{HasNoFlowFinding}
 use Rattle.spx_term.specs.declared.condition.Condition.{Condition}
 use Rattle.spx_term.specs.Goals.{goal_of}
 use Rattle.spx_term.specs.Meaning.{Valid}

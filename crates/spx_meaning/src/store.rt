@@ -106,9 +106,11 @@ mod tests {
         vars.push(var(alloc, "X", VarKind::Formal(Mode::InOut))?)?;
         vars.push(var(alloc, "Y", VarKind::Local)?)?;
         Ok(Program {
+            units: Items::new(alloc),
             types: Items::new(alloc),
             vars,
             subs: Items::new(alloc),
+            bodies: Items::new(alloc),
         })
     }
 

@@ -12,7 +12,8 @@ use Rattle.spx_core.specs.declared.subprogram.CorePrecondition.{CorePrecondition
 use Rattle.spx_core.specs.declared.subprogram.Sub.{Sub}
 use Rattle.spx_core.specs.Dependency.{exports, imports}
 use Rattle.spx_core.specs.Formals.{formals, mode_of}
-use Rattle.spx_core.specs.Flow.{defines, HasNoFinding}
+use Rattle.spx_core.specs.Effects.{defines}
+use Rattle.spx_core.specs.FlowRules.{HasNoFinding}
 use Rattle.spx_core.specs.Rules.{ObeysRules}
 use Rattle.spx_core.specs.Scopes.{Scoped}
 use Rattle.spx_term.specs.declared.term.Sort.{Sort}
@@ -175,10 +176,10 @@ module _ (p : Program) (integers : AreIntegers p) (sub : Sub) (scoped : Scoped p
     pre_good None h = refl
     pre_good (Some pre) h = ap (λ b. demand b Pre pre.place first) h
 
-    export_set : HasNoFinding sub → (t : Store) → SetAfter sub sub.statements t → (x : VarId) → exports x sub ≡ true → IsSet t x
-    export_set flows t set x export = set x (or_cases (imports x sub) (defines x sub.statements) (exports_are_set sub flows x export))
+    export_set : HasNoFinding p sub → (t : Store) → SetAfter sub sub.statements t → (x : VarId) → exports x sub ≡ true → IsSet t x
+    export_set flows t set x export = set x (or_cases (imports x sub) (defines x sub.statements) (exports_are_set p sub flows x export))
 
-    exports_good : HasNoFinding sub → (t : Store) → SetAfter sub sub.statements t → (vars : List VarId) → list_all (λ v. not (exports v sub) || is_some (look t v)) vars ≡ true
+    exports_good : HasNoFinding p sub → (t : Store) → SetAfter sub sub.statements t → (vars : List VarId) → list_all (λ v. not (exports v sub) || is_some (look t v)) vars ≡ true
     exports_good flows t set [] = refl
     exports_good flows t set (x ∷ vars) = ap₂ ◌&&◌ (by_export (exports x sub) refl) (exports_good flows t set vars)
       where
@@ -186,7 +187,7 @@ module _ (p : Program) (integers : AreIntegers p) (sub : Sub) (scoped : Scoped p
         by_export true is = ap is_some (export_set flows t set x is).1
         by_export false is = refl
 
-    call_good : HasNoFinding sub → TypedSub sub → HasValidConditions sub → (n : ℕ) → IsGood (call p n sub s) (λ t. ⊤)
+    call_good : HasNoFinding p sub → TypedSub sub → HasValidConditions sub → (n : ℕ) → IsGood (call p n sub s) (λ t. ⊤)
     call_good flows typed valid n =
         subst (λ o. IsGood (then_do o (λ e. then_do (run p n e sub.statements) (λ t. demand (exports_set sub t) Unset sub.end t))) (λ t. ⊤)) (sym (pre_good sub.pre (pre_first sub.pre refl start.precondition)))
         (good_then (run p n first sub.statements) (λ t. demand (exports_set sub t) Unset sub.end t) (SetAfter sub sub.statements) (λ t. ⊤)
@@ -197,7 +198,7 @@ module _ (p : Program) (integers : AreIntegers p) (sub : Sub) (scoped : Scoped p
         set_first x (inl import) = set_import x import
         set_first x (inr defined) = absurd (cc)
 
-  pub is_never_bad : HasNoFinding sub → TypedSub sub → HasValidConditions sub → IsNeverBad p sub
+  pub is_never_bad : HasNoFinding p sub → TypedSub sub → HasValidConditions sub → IsNeverBad p sub
   is_never_bad flows typed valid n s start kind place bad = subst (λ o. IsGood o (λ t. ⊤)) bad (call_good s start flows typed valid n)
 
 -- ---- programs

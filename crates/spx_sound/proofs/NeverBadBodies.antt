@@ -1,7 +1,7 @@
 -- A body whose tree is safe does not run into a check that fails.
 use Rattle.std.proofs.Common.{◌≡◌, ℕ, ℤ, Bool, true, false, ◌==◌, if◌then◌else◌, List, [], ◌∷◌, ◌++◌, Option, Some, None, Ok, refl, sym, ap, ◌∙◌, subst, inl, inr, Decides}
 use Rattle.std.specs.Prelude.{⊤, ◌⊎◌}
-use Rattle.std.specs.List.{AllByRecursion}
+use Rattle.std.specs.List.{AllByRecursion, list_any}
 use Rattle.std.proofs.lemmas.List.Folds.{list_any-append}
 use Rattle.std.proofs.lemmas.List.{append-nil, append_assoc}
 use Rattle.std.proofs.lemmas.Bool.{false_from_ne_true, or_cases}
@@ -18,7 +18,8 @@ use Rattle.spx_core.specs.declared.statement.CoreStmt.TheVariants.{Null, Assignm
 use Rattle.spx_core.specs.Places.{place_of}
 use Rattle.spx_core.specs.Uses.{is_same, variable_of}
 use Rattle.spx_core.specs.Dependency.{imports}
-use Rattle.spx_core.specs.Flow.{assigns, reads, defines, HasNoFinding}
+use Rattle.spx_core.specs.Effects.{effect, sets, reads, defines}
+use Rattle.spx_core.specs.FlowRules.{HasNoFinding}
 use Rattle.spx_core.specs.Statements.{judged_stmt}
 use Rattle.spx_term.specs.declared.condition.CondKind.TheVariants.{Range as RangeCheck}
 use Rattle.spx_term.specs.declared.term.Sort.TheVariants.{Integer}
@@ -35,7 +36,7 @@ use Rattle.spx_meaning.specs.declared.bad.BadKind.TheVariants.{Range}
 use Rattle.spx_meaning.specs.Stores.{Store, look, put, type_of, is_in}
 use Rattle.spx_meaning.specs.Runs.{Outcome, Ended, Bad, Later, then_do, use_value, demand, assign, run_one, run}
 use Rattle.spx_meaning.specs.Paths.{now, term_of, in_integer, assigned, walk, walks}
-use Rattle.spx_core.proofs.Callers.FlowLaws.{reads_are_set}
+use Rattle.spx_core.proofs.Callers.FlowLaws.{reads_are_set, reads_uses, sets_any}
 use Rattle.spx_meaning.proofs.Callers.Stores.{look-put_same, look-put_other}
 use Rattle.spx_sound.proofs.Typings.{right_side}
 use Rattle.spx_sound.proofs.SortedTerms.{number_sorted, integer_value}
@@ -77,11 +78,11 @@ good_then (Bad kind place) go P Q h k = absurd h
 good_then Later go P Q h k = tt
 
 -- after a statement that sets these variables, before the rest
-record After (sets : VarId → Bool) (rest : Tree) (s t : Store) : Type 0 where
+record After (targets : VarId → Bool) (rest : Tree) (s t : Store) : Type 0 where
   valuation : Valuation
   fits : Fits t valuation
   safe : Safe rest valuation
-  given : (x : VarId) → sets x ≡ true → IsSet t x
+  given : (x : VarId) → targets x ≡ true → IsSet t x
   kept : (x : VarId) → IsSet s x → IsSet t x
 
 module _ (s : Store) (x : VarId) (w : Value) where
@@ -135,7 +136,7 @@ module _ (p : Program) (integers : AreIntegers p) (s : Store) (v : Valuation) (f
       in_type_of = ap (λ of. is_in of w) (integers x) ∙ ap (is_in INTEGER) is ∙ within
   assign_good place None t n rest is within safe = record { valuation = v; fits = fits; safe = safe; given = λ y h. absurd (cc); kept = λ y set. set }
 
-  stmt_good : (n : ℕ) (target : Reference) (e : CoreExpr) (rest : Tree) → judged_stmt (Assignment target e) ≡ Ok tt → UsesSet s e → Safe (walk (Assignment target e) rest) v → IsGood (run_one p n s (Assignment target e)) (After (λ x. assigns x (Assignment target e)) rest s)
+  stmt_good : (n : ℕ) (target : Reference) (e : CoreExpr) (rest : Tree) → judged_stmt (Assignment target e) ≡ Ok tt → UsesSet s e → Safe (walk (Assignment target e) rest) v → IsGood (run_one p n s (Assignment target e)) (After (λ x. sets x (effect (Assignment target e))) rest s)
   stmt_good n target e rest typed set safe =
       let t = term_of e in
       let o = variable_of target.root.entity in
@@ -151,18 +152,19 @@ module _ (p : Program) (integers : AreIntegers p) (s : Store) (v : Valuation) (f
 abbrev pub SetAfter : Sub → List CoreStmt → Store → Type 0
 SetAfter sub before s = (x : VarId) → ((imports x sub ≡ true) ⊎ (defines x before ≡ true)) → IsSet s x
 
-module _ (p : Program) (integers : AreIntegers p) (sub : Sub) (flows : HasNoFinding sub) where
+module _ (p : Program) (integers : AreIntegers p) (sub : Sub) (flows : HasNoFinding p sub) where
   -- what a statement reads is set
-  reads_set : (before : List CoreStmt) (stmt : CoreStmt) (after : List CoreStmt) (s : Store) → sub.statements ≡ before ++ stmt ∷ after → SetAfter sub before s → (x : VarId) → reads x stmt ≡ true → IsSet s x
+  reads_set : (before : List CoreStmt) (stmt : CoreStmt) (after : List CoreStmt) (s : Store) → sub.statements ≡ before ++ stmt ∷ after → SetAfter sub before s → (x : VarId) → reads x (effect stmt) ≡ true → IsSet s x
   reads_set before stmt after s split set x read =
-      set x (or_cases (imports x sub) (defines x before) (reads_are_set sub flows before stmt after x split read))
+      set x (or_cases (imports x sub) (defines x before) (reads_are_set p sub flows before stmt after x split read))
 
-  more_set : (before : List CoreStmt) (stmt : CoreStmt) (s t : Store) → SetAfter sub before s → ((x : VarId) → assigns x stmt ≡ true → IsSet t x) → ((x : VarId) → IsSet s x → IsSet t x) → SetAfter sub (before ++ stmt ∷ []) t
+  more_set : (before : List CoreStmt) (stmt : CoreStmt) (s t : Store) → SetAfter sub before s → ((x : VarId) → sets x (effect stmt) ≡ true → IsSet t x) → ((x : VarId) → IsSet s x → IsSet t x) → SetAfter sub (before ++ stmt ∷ []) t
   more_set before stmt s t set given kept x (inl import) = kept x (set x (inl import))
   more_set before stmt s t set given kept x (inr defined) =
-      elim (or_cases (defines x before) (defines x (stmt ∷ [])) (sym (list_any-append (assigns x) before (stmt ∷ [])) ∙ defined)) [
-        | inl earlier ↦ kept x (set x (inr earlier))
-        | inr here ↦ elim (or_cases (assigns x stmt) false here) [ inl is ↦ given x is | inr is ↦ absurd (cc) ]
+      let sets_x = λ (one : CoreStmt). sets x (effect one) in
+      elim (or_cases (list_any sets_x before) (list_any sets_x (stmt ∷ [])) (sym (list_any-append sets_x before (stmt ∷ [])) ∙ sym (sets_any x (before ++ stmt ∷ [])) ∙ defined)) [
+        | inl earlier ↦ kept x (set x (inr (sets_any x before ∙ earlier)))
+        | inr here ↦ elim (or_cases (sets_x stmt) false here) [ inl is ↦ given x is | inr is ↦ absurd (cc) ]
       ]
 
   pub body_good : (n : ℕ) (before stmts : List CoreStmt) (s : Store) (v : Valuation) → sub.statements ≡ before ++ stmts → AllByRecursion (λ stmt. judged_stmt stmt ≡ Ok tt) stmts → Fits s v → SetAfter sub before s → Safe (walks stmts Cut) v → IsGood (run p n s stmts) (SetAfter sub sub.statements)
@@ -171,8 +173,8 @@ module _ (p : Program) (integers : AreIntegers p) (sub : Sub) (flows : HasNoFind
       body_good n (before ++ Null place ∷ []) rest s v (split ∙ sym (append_assoc before (Null place ∷ []) rest)) typed.1 fits
       (more_set before (Null place) s s set (λ x h. absurd (cc)) (λ x h. h)) safe
   body_good n before (Assignment target e ∷ rest) s v split typed fits set safe =
-      good_then (run_one p n s (Assignment target e)) (λ t. run p n t rest) (After (λ x. assigns x (Assignment target e)) (walks rest Cut) s) (SetAfter sub sub.statements)
-      (stmt_good p integers s v fits n target e (walks rest Cut) typed.0 (reads_set before (Assignment target e) rest s split set) safe)
+      good_then (run_one p n s (Assignment target e)) (λ t. run p n t rest) (After (λ x. sets x (effect (Assignment target e))) (walks rest Cut) s) (SetAfter sub sub.statements)
+      (stmt_good p integers s v fits n target e (walks rest Cut) typed.0 (λ x used. reads_set before (Assignment target e) rest s split set x (reads_uses x e ∙ used)) safe)
       (λ t after.
       body_good n (before ++ Assignment target e ∷ []) rest t after.valuation (split ∙ sym (append_assoc before (Assignment target e ∷ []) rest)) typed.1 after.fits
       (more_set before (Assignment target e) s t set after.given after.kept) after.safe)

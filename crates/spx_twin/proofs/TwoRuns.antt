@@ -1,7 +1,7 @@
 -- What the dependency relation of a subprogram says of two of its runs.
-use Rattle.std.proofs.Common.{◌≡◌, Bool, true, false, not, ◌||◌, List, [], ◌∷◌, Some, refl, sym, ap, ◌∙◌, subst, inl, inr}
+use Rattle.std.proofs.Common.{◌≡◌, Bool, true, false, not, ◌||◌, List, [], ◌∷◌, Some, refl, sym, ap, ◌∙◌}
 use Rattle.std.specs.Prelude.{All}
-use Rattle.std.specs.List.{AllByRecursion, list_any}
+use Rattle.std.specs.List.{AllByRecursion}
 use Rattle.std.proofs.lemmas.List.Elements.{All-from_recursion, recursion_from_All}
 use Rattle.std.proofs.lemmas.Bool.{and_parts}
 use Rattle.spx_core.specs.declared.entity.VarId.{VarId}
@@ -10,35 +10,21 @@ use Rattle.spx_core.specs.declared.entity.VarKind.TheVariants.{Formal}
 use Rattle.spx_core.specs.declared.entity.Mode.{Mode}
 use Rattle.spx_core.specs.declared.entity.Mode.TheVariants as mode
 use Rattle.spx_core.specs.declared.subprogram.Sub.{Sub}
-use Rattle.spx_core.specs.declared.statement.CoreStmt.{CoreStmt}
-use Rattle.spx_core.specs.declared.statement.CoreStmt.TheVariants.{Null, Assignment}
-use Rattle.spx_core.specs.Uses.{uses}
 use Rattle.spx_core.specs.Dependency.{derives, exports, imports}
 use Rattle.spx_core.specs.Formals.{is_formal, is_local, mode_of}
-use Rattle.spx_core.specs.Flow.{reads, defines, MayFlow, MayFlowAll, HasNoFinding, HasNoFlowFinding}
+use Rattle.spx_core.specs.Effects.{defines, reads}
+use Rattle.spx_core.specs.Flow.{MayFlow}
+use Rattle.spx_core.specs.FlowRules.{HasNoFinding, HasNoFlowFinding, body_effect}
 use Rattle.spx_core.specs.Rules.{ObeysRules}
 use Rattle.spx_meaning.specs.Stores.{Store, look}
 use Rattle.spx_meaning.specs.Runs.{entry_of}
 use Rattle.spx_meaning.specs.Laws.{AreDerived, OthersAreKept, TwoRuns}
 use Rattle.spx_core.specs.Scopes.{Scoped}
+use Rattle.spx_core.proofs.Callers.FlowLaws.{unread}
 use Rattle.spx_meaning.proofs.Callers.Scopes.{local_starts_unset, mode_is}
 use Rattle.spx_meaning.proofs.Callers.Entries.{cleared_agree}
 use Rattle.spx_meaning.proofs.Callers.Runs.{call_ended}
-use Rattle.spx_meaning.proofs.Callers.Flows.{or_false, kept, determined}
-
--- ---- what flows from a variable that is not read
-
-unread_one : (stmt : CoreStmt) (u w : VarId) → reads u stmt ≡ false → MayFlow stmt u w → u ≡ w
-unread_one (Null place) u w unread flow = flow
-unread_one (Assignment target e) u w unread (inl flow) = absurd (let h : uses u e ≡ true = flow.1 in cc)
-unread_one (Assignment target e) u w unread (inr flow) = flow.1
-
-unread : (stmts : List CoreStmt) (u w : VarId) → list_any (reads u) stmts ≡ false → MayFlowAll stmts u w → u ≡ w
-unread [] u w h flow = flow
-unread (stmt ∷ rest) u w h flow =
-    let parts = or_false (reads u stmt) (list_any (reads u) rest) h in
-    let here : u ≡ flow.0 = unread_one stmt u flow.0 parts.0 flow.1 in
-    unread rest u w parts.1 (subst (λ v. MayFlowAll rest v w) (sym here) flow.2)
+use Rattle.spx_meaning.proofs.Callers.Flows.{kept, determined}
 
 -- a formal or a local that is no local is a formal
 the_formal : (formal local : Bool) → (formal || local) ≡ true → local ≡ false → formal ≡ true
@@ -47,16 +33,16 @@ the_formal false local own no_local = absurd (cc)
 
 module _ (p : Program) (sub : Sub) (scoped : Scoped p sub) where
   -- every flow to an export that does not come from a local is declared
-  declared_flow : HasNoFinding sub → (u y : VarId) → exports y sub ≡ true → MayFlowAll sub.statements u y → is_local u sub ≡ false → derives u y sub ≡ true
+  declared_flow : HasNoFinding p sub → (u y : VarId) → exports y sub ≡ true → MayFlow (body_effect sub) u y → is_local u sub ≡ false → derives u y sub ≡ true
   declared_flow fits u y export flow no_local = by_derives (derives u y sub) refl
     where
-      by_read : (r : Bool) → list_any (reads u) sub.statements ≡ r → is_formal u sub ≡ true
+      by_read : (r : Bool) → reads u (body_effect sub) ≡ r → is_formal u sub ≡ true
       by_read true is = the_formal (is_formal u sub) (is_local u sub) (scoped.read u is) no_local
-      by_read false is = ap (λ v. is_formal v sub) (unread sub.statements u y is flow) ∙ scoped.exported y export
+      by_read false is = ap (λ v. is_formal v sub) (unread (body_effect sub) u y is flow) ∙ scoped.exported y export
 
       by_derives : (d : Bool) → derives u y sub ≡ d → derives u y sub ≡ true
       by_derives true is = is
-      by_derives false is = absurd (fits.none_missing u y (by_read (list_any (reads u) sub.statements) refl, export, flow, is))
+      by_derives false is = absurd (fits.none_missing u y (by_read (reads u (body_effect sub)) refl, export, flow, is))
 
   -- two bodies begin with one value of a variable where the calls do; a local has none
   begin_alike : (s t : Store) (u : VarId) → (is_local u sub ≡ false → look s u ≡ look t u) → look (entry_of p sub s) u ≡ look (entry_of p sub t) u
@@ -66,7 +52,7 @@ module _ (p : Program) (sub : Sub) (scoped : Scoped p sub) where
       by_local true is = local_starts_unset p sub scoped u is s ∙ sym (local_starts_unset p sub scoped u is t)
       by_local false is = cleared_agree p s t sub.vars u (agree is)
 
-  pub are_derived : HasNoFinding sub → AreDerived p sub
+  pub are_derived : HasNoFinding p sub → AreDerived p sub
   are_derived fits n m s t s' t' start start' ended ended' y export agree =
       determined p n m (entry_of p sub s) (entry_of p sub t) s' t' sub.statements (call_ended p n sub s s' ended) (call_ended p m sub t t' ended') y
       (λ u flow. begin_alike s t u (λ no_local. agree u (declared_flow fits u y export flow no_local)))
@@ -104,6 +90,6 @@ all_by {A} P Q R S each xs p q r =
 
 pub two_runs : (p : Program) → All (Scoped p) p.subs → All (ObeysRules p) p.subs → HasNoFlowFinding p → TwoRuns p
 two_runs p scoped obeys flows = record {
-  derived = all_by (Scoped p) HasNoFinding (ObeysRules p) (AreDerived p) (λ sub scoped fits obeys. are_derived p sub scoped fits) p.subs scoped flows obeys;
-  kept = all_by (Scoped p) HasNoFinding (ObeysRules p) (OthersAreKept p) (λ sub scoped fits obeys. others_are_kept p sub scoped obeys) p.subs scoped flows obeys;
+  derived = all_by (Scoped p) (HasNoFinding p) (ObeysRules p) (AreDerived p) (λ sub scoped fits obeys. are_derived p sub scoped fits) p.subs scoped flows obeys;
+  kept = all_by (Scoped p) (HasNoFinding p) (ObeysRules p) (OthersAreKept p) (λ sub scoped fits obeys. others_are_kept p sub scoped obeys) p.subs scoped flows obeys;
 }

@@ -52,7 +52,7 @@ use Rattle.spx_vcg.specs.declared.walk.Walk.{Walk}
 use Rattle.spx_vcg.specs.ConditionWalk.{State, applied, forward, updated}
 use Rattle.spx_vcg.specs.States.{Given, given, value_or, state_at, state_in, AreValues, IsSet}
 use Rattle.spx_arena.specs.Sharing.{Adds}
-use Rattle.spx_vcg.specs.VarSets.{entered, known_of}
+use Rattle.spx_vcg.specs.Entering.{entered, known_of}
 use Rattle.spx_vcg.specs.WalkSteps.{id_eq, state, Longer, Stands, AddsFact, Whole, claims_from, Goes, Checks, Makes, Adding}
 use Rattle.spx_vcg.proofs.ConditionTerms.{applied-Infix, applied-Variable, applied-static_term, applied-signed_term}
 use Rattle.spx_vcg.proofs.ConditionSteps.{forward-assume_all, applied-in_integer}

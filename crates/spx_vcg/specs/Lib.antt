@@ -2,4 +2,4 @@ pub mod ConditionWalk
 pub mod States
 pub mod WalkSteps
 pub mod Largeness
-pub mod VarSets
+pub mod Entering

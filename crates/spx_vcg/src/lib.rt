@@ -12,7 +12,6 @@ mod ids;
 mod limit;
 mod literals;
 mod values;
-mod vars;
 mod vcg;
 mod walk;
 

@@ -1,8 +1,9 @@
-use Rattle.std.proofs.Common.{subst}
+use Rattle.std.proofs.Common.{None, subst}
 use Rattle.spx_core.specs.Erased.{Visible}
 use Rattle.spx_examples.specs.Refused.{units_without_pre}
 use Rattle.spx_examples.proofs.IncrementNames.{without_pre_is_resolved}
-use Rattle.spx_examples.proofs.Refused.{typed, obeys, flows, starts, overflows}
+use Rattle.spx_examples.proofs.IncrementFlows.{flows}
+use Rattle.spx_examples.proofs.Refused.{typed, obeys, starts, overflows}
 use Rattle.spx_examples.proofs.laws.a_run_without_proof_is_bad.Goals as goal
 
 pub returns-clause-visible : goal.returns-clause-visible
@@ -15,7 +16,7 @@ pub returns-clause-obeys : goal.returns-clause-obeys
 returns-clause-obeys c = obeys
 
 pub returns-clause-flows : goal.returns-clause-flows
-returns-clause-flows c = flows
+returns-clause-flows c = flows None
 
 pub returns-clause-start : goal.returns-clause-start
 returns-clause-start c = starts

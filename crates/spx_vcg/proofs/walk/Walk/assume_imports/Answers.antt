@@ -4,7 +4,7 @@ use Rattle.spx_core.specs.declared.entity.VarId.{VarId}
 use Rattle.spx_core.specs.Formals.{formals}
 use Rattle.spx_term.specs.Steps.{assume_all}
 use Rattle.spx_meaning.specs.Paths.{import_facts}
-use Rattle.spx_vcg.specs.VarSets.{known_of}
+use Rattle.spx_vcg.specs.Entering.{known_of}
 use Rattle.spx_vcg.specs.WalkSteps.{Goes, claims_from}
 use Rattle.spx_vcg.proofs.SharedSteps.{import_step}
 use Rattle.spx_vcg.proofs.walk.Walk.assume_imports.Goals as goal

@@ -3,7 +3,7 @@ use Rattle.std.proofs.lemmas.List.{at_drop_all}
 use Rattle.spx_core.specs.declared.entity.VarId.{VarId}
 use Rattle.spx_core.specs.Formals.{formals}
 use Rattle.spx_meaning.specs.Paths.{entering}
-use Rattle.spx_vcg.specs.VarSets.{entered}
+use Rattle.spx_vcg.specs.Entering.{entered}
 use Rattle.spx_vcg.specs.WalkSteps.{Goes, claims_from}
 use Rattle.spx_vcg.proofs.SharedSteps.{enter_step}
 use Rattle.spx_vcg.proofs.walk.Walk.enter_all.Goals as goal

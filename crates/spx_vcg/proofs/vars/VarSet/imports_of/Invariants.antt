@@ -1,9 +1,0 @@
-use Rattle.std.proofs.Common.{◌≡◌, ◌||◌, drop}
-use Rattle.std.specs.List.{list_any}
-use Rattle.spx_core.specs.declared.entity.VarId.{VarId}
-use Rattle.spx_core.specs.DerivesItems.{has_import}
-use Rattle.spx_vcg.specs.VarSets.{holds}
-use Rattle.spx_vcg.proofs.vars.VarSet.imports_of.Given as goal
-
-abbrev pub invariant-loop-item : goal.invariant-loop-item
-invariant-loop-item l = (v : VarId) → (list_any (has_import v) (drop l.item-index l.items) || holds l.set v) ≡ list_any (has_import v) l.items

@@ -1,8 +1,0 @@
-use Rattle.std.proofs.Common.{◌≡◌, ◌||◌, drop}
-use Rattle.spx_core.specs.declared.entity.VarId.{VarId}
-use Rattle.spx_core.specs.Uses.{mentions}
-use Rattle.spx_vcg.specs.VarSets.{holds}
-use Rattle.spx_vcg.proofs.vars.VarSet.insert_all.Given as goal
-
-abbrev pub invariant-loop-name : goal.invariant-loop-name
-invariant-loop-name l = (v : VarId) → (mentions v (drop l.name-index l.names) || holds l.self v) ≡ (mentions v l.names || holds l.initial.self v)
