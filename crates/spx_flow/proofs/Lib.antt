@@ -1,5 +1,5 @@
-pub mod FlowLists
-pub mod FlowReached
-pub mod FlowMembers
-pub mod UnsetReads
-pub mod FlowFindings
+mod PositionLaws
+mod Occurrences
+mod BackwardLaws
+mod ForwardLaws
+mod FlowLaws

@@ -1,3 +1,4 @@
-pub mod FlowLists
-pub mod UnsetReads
-pub mod FlowFindings
+pub mod Positions
+pub mod Flows
+pub mod BackwardSteps
+pub mod ForwardSteps

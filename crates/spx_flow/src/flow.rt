@@ -1,130 +1,107 @@
-// Information flow of a subprogram (Bergeretti and Carré, TOPLAS 1985).
-ghost use Rattle.std.specs.Prelude.{◌≡◌, ◌∷◌, [], IfOk};
-ghost use Rattle.std.specs.Option.{option_to_list};
-ghost use Rattle.std.specs.List.{list_any, flat_map};
-ghost use Rattle.spx_core.specs.Uses.{uses};
-ghost use Rattle.spx_core.specs.Dependency.{variables};
-ghost use Rattle.spx_flow.specs.FlowLists.{exported, kept, reads_any, given, passed, reached, flows_from, flows_in, has_flow, AreFlowsOf};
+// The flow of a subprogram.
+ghost use Rattle.std.specs.Prelude.{◌≡◌, ◌==◌, ◌||◌, ◌<◌, ◌≤◌, Some, false, length, slice_get, IfErr, IfOk, OnOk};
+ghost use Rattle.std.specs.List.{IsDistinct};
+ghost use Rattle.spx_core.specs.declared.entity.VarId.{VarId};
+ghost use Rattle.spx_core.specs.declared.subprogram.Sub.{Sub};
+ghost use Rattle.spx_core.specs.Erased.{Visible};
+ghost use Rattle.spx_core.specs.Effects.{defines, effect, sets};
+ghost use Rattle.spx_core.specs.VarSets.{holds, positions_of};
+ghost use Rattle.spx_core.specs.FlowRules.{body_effect, is_wide};
+ghost use Rattle.spx_flow.specs.Positions.{Covers};
+ghost use Rattle.spx_flow.specs.Flows.{IsFaultOf, IsFlow};
 
-use spx_core::{CoreExpr, CoreName, CoreStmt, Reference, Sub, VarId, variable_of};
+use crate::backward::backward;
+use crate::fault::{FlowFault, MOST_VARIABLES};
+use crate::forward::forward;
+use spx_core::laws::names_are_scoped;
+use spx_core::{CoreStmt, Program, Sub, SubId, VarSet, variable_of};
+use spx_rows::{Relation, Row};
+use spx_text::Place;
+use sqlite_items::Items;
 use std::alloc::{AllocError, Global};
 
-/// The value of `to` after the statements may depend on that of `from` before them.
-#[derive(Clone, Copy, Debug, PartialEq, Eq)]
+/// An occurrence, named by the place at which a finding on it stands, and variables, by their position in the
+/// subprogram's list.
+#[derive(Drop)]
+pub struct Occurrence {
+    pub place: Place,
+    pub vars: Row,
+}
+
+/// The flow of a body. Variables stand by their position in the subprogram's list.
+#[derive(Drop)]
 pub struct Flow {
-    pub from: VarId,
-    pub to: VarId,
+    /// Each occurrence with the variables whose values before the body may come to what it reads.
+    pub lambda: Items<Occurrence>,
+    /// Each occurrence with the variables to whose values after the body what it reads may come.
+    pub mu: Items<Occurrence>,
+    /// The pairs of a variable before the body and one after it to which its value may come.
+    pub rho: Relation,
+    /// The variables that the body sets.
+    pub defines: VarSet,
 }
 
-fn variables(alloc: Global, names: &[Reference]) -> Result<Vec<VarId>, AllocError>
-    ensures { IfOk result (λ vars. vars.items ≡ variables names.now) }
-{
-    names
-        .iter()
-        .filter_map(|name| variable_of(name.root.entity))
-        .collect(alloc)
-}
-
-/// The exports of a subprogram.
-pub(crate) fn exported(alloc: Global, sub: &Sub) -> Result<Vec<VarId>, AllocError>
-    ensures { IfOk result (λ vars. vars.items ≡ exported sub.now) }
-{
-    let mut vars = Vec::new(alloc);
-    for item in sub.relation() {
-        let mut more = variables(alloc, item.exports.as_slice())?;
-        vars.append(&mut more)?;
-    }
-    Ok(vars)
-}
-
-/// Whether the expression reads one of the variables.
-fn reads_any(value: &CoreExpr, vars: &[VarId]) -> bool
-    ensures { result ≡ reads_any value.now vars.now }
-{
-    vars.iter().any(|var| value.uses(*var))
-}
-
-/// Those of the variables that keep their values where the target is set.
-fn kept(alloc: Global, target: &CoreName, vars: &[VarId]) -> Result<Vec<VarId>, AllocError>
-    ensures { IfOk result (λ after. after.items ≡ kept target.now vars.now) }
-{
-    vars.iter()
-        .copied()
-        .filter(|var| !target.denotes(*var))
-        .collect(alloc)
-}
-
-/// The target, where the value that it is given reads one of the variables.
-fn given(target: &CoreName, value: &CoreExpr, vars: &[VarId]) -> Option<VarId>
-    ensures { option_to_list result ≡ given target.now value.now vars.now }
-{
-    if reads_any(value, vars) {
-        variable_of(target.entity)
-    } else {
-        None
-    }
-}
-
-/// The variables whose values after the statement may come from those of `vars` before it.
-fn passed(alloc: Global, stmt: &CoreStmt, vars: &[VarId]) -> Result<Vec<VarId>, AllocError>
-    ensures { IfOk result (λ after. after.items ≡ passed stmt.now vars.now) }
+/// Adds the variable that the statement sets, if it sets one.
+fn insert_target(set: &mut VarSet, stmt: &CoreStmt) -> Result<(), AllocError>
+    ensures { OnOk result ((v : VarId) → holds set.new v ≡ (sets v (effect stmt.now) || holds set.old v)) }
 {
     match stmt {
-        CoreStmt::Null(_) => vars.iter().copied().collect(alloc),
-        CoreStmt::Assignment(target, value) => {
-            let mut after = kept(alloc, &target.root, vars)?;
-            if let Some(var) = given(&target.root, value, vars) {
-                after.push(var)?;
+        CoreStmt::Null(_) => Ok(()),
+        CoreStmt::Assignment(target, _) => match variable_of(target.root.entity) {
+            Some(var) => {
+                set.insert(var)?;
+                Ok(())
             }
-            Ok(after)
-        }
+            None => Ok(()),
+        },
     }
 }
 
-/// The variables whose values after the statements may come from that of `from` before them.
-pub(crate) fn reached(
-    alloc: Global,
-    stmts: &[CoreStmt],
-    from: VarId,
-) -> Result<Vec<VarId>, AllocError>
-    ensures { IfOk result (λ vars. vars.items ≡ reached stmts.now (from ∷ [])) }
+/// The variables that the statements set.
+fn defined(alloc: Global, stmts: &[CoreStmt]) -> Result<VarSet, AllocError>
+    ensures { IfOk result (λ set. (v : VarId) → holds set v ≡ defines v stmts.now) }
 {
-    let mut vars = vec![in alloc; from]?;
+    let mut set = VarSet::new(alloc);
     for stmt in stmts {
-        vars = passed(alloc, stmt, vars.as_slice())?;
+        insert_target(&mut set, stmt)?;
     }
-    Ok(vars)
+    Ok(set)
 }
 
-fn flows_from(alloc: Global, stmts: &[CoreStmt], from: VarId) -> Result<Vec<Flow>, AllocError>
-    ensures { IfOk result (λ flows. flows.items ≡ flows_from stmts.now from) }
+/// The flow of a body whose variables are the subprogram's.
+fn flow_in(alloc: Global, sub: &Sub) -> Result<Flow, AllocError>
+    requires once { IsDistinct (λ (v : VarId) (w : VarId). w.0 == v.0) sub.now.vars }
+    requires covers { Covers (positions_of sub.now.vars) (body_effect sub.now) }
+    requires size { length sub.now.vars ≤ 65536 }
+    ensures { IfOk result (IsFlow sub.now) }
 {
-    let vars = reached(alloc, stmts, from)?;
-    vars.iter().map(|to| Flow { from, to: *to }).collect(alloc)
-}
-
-fn flows_in(alloc: Global, sub: &Sub) -> Result<Vec<Flow>, AllocError>
-    ensures { IfOk result (λ flows. flows.items ≡ flows_in sub.now) }
-{
+    let vars = VarSet::of(alloc, sub.vars.as_slice())?;
     let stmts = sub.statements.as_slice();
-    let mut flows = Vec::new(alloc);
-    for var in sub.formals() {
-        let mut more = flows_from(alloc, stmts, *var)?;
-        flows.append(&mut more)?;
+    let back = backward(alloc, &vars, stmts)?;
+    let lambda = forward(alloc, &vars, stmts)?;
+    let defines = defined(alloc, stmts)?;
+    Ok(Flow {
+        lambda,
+        mu: back.mu,
+        rho: back.rho,
+        defines,
+    })
+}
+
+/// The flow of the body of a subprogram.
+pub fn flow_of(alloc: Global, program: &Program, id: SubId) -> Result<Flow, FlowFault>
+    requires visible { Visible program.now }
+    requires id { id.0 < length program.now.subs }
+    ensures flow { (sub : Sub) → slice_get program.now.subs id.0 ≡ Some sub → IfOk result (IsFlow sub) }
+    ensures narrow { (sub : Sub) → slice_get program.now.subs id.0 ≡ Some sub → IfOk result (λ flow. is_wide sub ≡ false) }
+    ensures refused { (sub : Sub) → slice_get program.now.subs id.0 ≡ Some sub → IfErr result (IsFaultOf sub) }
+{
+    names_are_scoped();
+    let sub = &program.subs.as_slice()[id.0];
+    let count = sub.vars.len();
+    if count > MOST_VARIABLES {
+        return Err(FlowFault::TooManyVariables(count));
     }
-    Ok(flows)
-}
-
-/// Whether the flow is among these.
-pub(crate) fn has_flow(flows: &[Flow], from: VarId, to: VarId) -> bool
-    ensures { result ≡ has_flow from to flows.now }
-{
-    flows.iter().any(|flow| flow.from == from && flow.to == to)
-}
-
-/// All flows from the formals before the body to what they lead to after it.
-pub fn flow_of(alloc: Global, sub: &Sub) -> Result<Vec<Flow>, AllocError>
-    ensures { IfOk result (λ flows. AreFlowsOf sub.now flows.items) }
-{
-    flows_in(alloc, sub)
+    let flow = flow_in(alloc, sub)?;
+    Ok(flow)
 }

@@ -1,12 +1,16 @@
-//! Information flow and data flow of subprograms, compared with what they declare (Bergeretti and Carré, TOPLAS 1985).
+//! Information flow of subprograms (Bergeretti and Carré, TOPLAS 1985).
+//!
+//! A layer above may rely on this: `flow_of` answers the flow of a body exactly as `spx_core` defines it (`IsFlow`), with
+//! variables by their position in the subprogram's list and occurrences by their place, in two passes over the body. A
+//! statement costs a union of rows for each variable that it reads. It refuses a subprogram exactly where that has more
+//! than `MOST_VARIABLES` variables, or where memory runs out.
 #![tactic(auto)]
 
-mod define;
-mod derives;
-mod findings;
+mod backward;
+mod fault;
 mod flow;
+mod forward;
+mod positions;
 
-pub use define::unset_reads;
-pub use derives::{FlowFinding, compare};
-pub use findings::flow_findings;
-pub use flow::{Flow, flow_of};
+pub use fault::{FlowFault, MOST_VARIABLES};
+pub use flow::{Flow, Occurrence, flow_of};

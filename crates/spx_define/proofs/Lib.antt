@@ -1,0 +1,5 @@
+mod Elements
+mod WayLaws
+mod FoundLaws
+mod PassLaws
+mod UnsetReads

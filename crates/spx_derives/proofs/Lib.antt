@@ -1,0 +1,7 @@
+mod TableLaws
+mod Steps
+mod Elements
+mod DifferenceLaws
+mod Variables
+mod ExportPlaces
+mod Findings

@@ -1,0 +1,11 @@
+use Rattle.std.proofs.Common.{◌≡◌, ◌||◌, drop}
+use Rattle.std.specs.List.{list_any}
+use Rattle.indexmap.specs.IndexSet.{contains, IsUnique}
+use Rattle.spx_text.specs.declared.place.Place.{Place}
+use Rattle.spx_derives.specs.Tables.{is_other, same_place}
+use Rattle.spx_derives.proofs.occurrences.other_places.Given as goal
+
+abbrev pub invariant-loop-occurrence : goal.invariant-loop-occurrence
+invariant-loop-occurrence l =
+    ((p : Place) → (list_any (is_other l.effective.keys p) (drop l.occurrence-index l.occurrences) || contains same_place l.places p) ≡ list_any (is_other l.effective.keys p) l.occurrences)
+    × IsUnique same_place l.places

@@ -1,0 +1,4 @@
+pub mod Places
+pub mod FlowFindings
+pub mod Tables
+pub mod Differences

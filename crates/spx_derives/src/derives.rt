@@ -1,0 +1,62 @@
+// A body against the dependency relation that its subprogram declares.
+ghost use Rattle.std.specs.Prelude.{◌≡◌, ◌<◌, Some, length, slice_get, IfOk};
+ghost use Rattle.spx_core.specs.declared.subprogram.Sub.{Sub};
+ghost use Rattle.spx_core.specs.Erased.{Visible};
+ghost use Rattle.spx_core.specs.FlowRules.{MarkReaches};
+ghost use Rattle.spx_core.specs.Scopes.{Scoped};
+ghost use Rattle.spx_flow.specs.Flows.{IsFlow};
+ghost use Rattle.spx_derives.specs.FlowFindings.{AreFindingsOf};
+
+use crate::differences::add_differences;
+use crate::finding::FlowFinding;
+use crate::occurrences::{add_ineffective, ineffective_places};
+use crate::tables::Tables;
+use crate::unset::add_unset_reads;
+use spx_core::laws::{marks, names_are_scoped};
+use spx_core::{Program, Sub, SubId};
+use spx_define::unset_reads;
+use spx_flow::Flow;
+use std::alloc::{AllocError, Global};
+
+/// The findings of the subprogram that the program has at `id`.
+fn findings(
+    alloc: Global,
+    program: &Program,
+    id: SubId,
+    sub: &Sub,
+    flow: &Flow,
+) -> Result<Vec<FlowFinding>, AllocError>
+    requires at { slice_get program.now.subs id.0 ≡ Some sub.now }
+    requires scoped { Scoped program.now sub.now }
+    requires marks { MarkReaches program.now sub.now }
+    requires flow { IsFlow sub.now flow.now }
+    ensures { IfOk result (λ found. AreFindingsOf program.now sub.now found.items) }
+{
+    let tables = Tables::of(alloc, sub, flow.rho.size())?;
+    let ineffective = ineffective_places(alloc, flow.mu.as_slice(), &tables.exported)?;
+    let unset = unset_reads(alloc, program, id)?;
+    let mut found = Vec::new(alloc);
+    add_differences(&mut found, &flow.rho, &tables, sub)?;
+    add_ineffective(&mut found, &ineffective)?;
+    add_unset_reads(&mut found, unset.as_slice())?;
+    Ok(found)
+}
+
+/// All that the body of a subprogram and its declared relation disagree on.
+pub fn compare(
+    alloc: Global,
+    program: &Program,
+    id: SubId,
+    flow: &Flow,
+) -> Result<Vec<FlowFinding>, AllocError>
+    requires visible { Visible program.now }
+    requires id { id.0 < length program.now.subs }
+    requires flow { (sub : Sub) → slice_get program.now.subs id.0 ≡ Some sub → IsFlow sub flow.now }
+    ensures { (sub : Sub) → slice_get program.now.subs id.0 ≡ Some sub → IfOk result (λ found. AreFindingsOf program.now sub found.items) }
+{
+    names_are_scoped();
+    marks();
+    let sub = &program.subs.as_slice()[id.0];
+    let found = findings(alloc, program, id, sub, flow)?;
+    Ok(found)
+}

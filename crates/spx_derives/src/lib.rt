@@ -1,0 +1,14 @@
+//! The bodies of subprograms against the dependency relations that they declare (Bergeretti and Carré, TOPLAS 1985).
+//!
+//! A layer above may rely on this: `compare` answers exactly the findings of a subprogram, each once.
+#![tactic(auto)]
+
+mod derives;
+mod differences;
+mod finding;
+mod occurrences;
+mod tables;
+mod unset;
+
+pub use derives::compare;
+pub use finding::FlowFinding;

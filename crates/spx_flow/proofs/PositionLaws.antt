@@ -1,0 +1,190 @@
+-- Variables by their position in a set.
+use Rattle.std.proofs.Common.{◌≡◌, ◌≢◌, ◌↔◌, ℕ, ℤ, ◌<◌, Bool, true, false, ◌||◌, cond, ltb, eqb, List, [], ◌∷◌, ◌++◌, length, get_or, Option, Some, None, refl, sym, ap, ap₂, ◌∙◌, subst, inl, inr, append_assoc, arith}
+use Rattle.std.specs.Prelude.{◌==◌, Contains, All}
+use Rattle.std.specs.Option.{option_and_then}
+use Rattle.std.specs.List.{IsDistinct, cons_option, filter_map, list_any, position_or_len}
+use Rattle.std.proofs.lemmas.Bool.{both_ways, cases_Bool, eq-eqb, eqb-true, lt-ltb, ne_eqb}
+use Rattle.std.proofs.lemmas.Option.{get_or_from_slice_get, slice_get-get_or, slice_get_within}
+use Rattle.std.proofs.lemmas.List.Elements.{All-cons, All-nil, filter_map-append}
+use Rattle.std.proofs.lemmas.List.Quantifiers.{position-Some}
+use Rattle.std.proofs.lemmas.List.Sums.{position_or_len_is}
+use Rattle.std.proofs.lemmas.Map.Keys.{apart_from_distinct}
+use Rattle.spx_text.specs.declared.place.Place.{Place}
+use Rattle.spx_tree.specs.declared.expression.Identifier.{Identifier}
+use Rattle.spx_tree.specs.declared.expression.InfixOp.{InfixOp}
+use Rattle.spx_tree.specs.declared.expression.PrefixOp.{PrefixOp}
+use Rattle.spx_core.specs.declared.entity.VarId.{VarId}
+use Rattle.spx_core.specs.declared.name.CoreName.{CoreName}
+use Rattle.spx_core.specs.declared.expression.CoreExpr.{CoreExpr}
+use Rattle.spx_core.specs.declared.statement.CoreStmt.{CoreStmt}
+use Rattle.spx_core.specs.declared.expression.CoreExpr.TheVariants.{Number, Name, Attribute, Parenthesized, Prefix, Infix}
+use Rattle.spx_core.specs.Uses.{denotes, is_same, variable_of}
+use Rattle.spx_core.specs.Reads.{names_read, names_step}
+use Rattle.spx_core.specs.Effects.{Effect, effect, effects, is_read, reads, reads_of, sets}
+use Rattle.spx_core.specs.Flow.{MayFlow}
+use Rattle.spx_core.specs.VarSets.{holds, place_in_set}
+use Rattle.spx_flow.specs.Positions.{Covers, Stands, position_named, positions_read}
+use Rattle.spx_core.proofs.Callers.Expressions.{fold-Number, fold-Name, fold-Attribute, fold-Parenthesized, fold-Prefix, fold-Infix}
+use Rattle.spx_core.proofs.Callers.FlowLaws.{keeps, reads_any, reads_uses, sets_any}
+use Rattle.spx_core.proofs.Callers.ListTests.{found, passes}
+use Rattle.spx_core.proofs.Callers.Variables.{same_itself, same_var}
+
+-- ---- what an expression reads, at each form of it
+
+module _ (set : List ℕ) where
+  pub positions-Number : (n : ℤ) (place : Place) → positions_read set (Number n place) ≡ []
+  positions-Number n place = ap (filter_map (position_named set)) (fold-Number names_step n place)
+
+  pub positions-Name : (name : CoreName) → positions_read set (Name name) ≡ cons_option (position_named set name) []
+  positions-Name name = ap (filter_map (position_named set)) (fold-Name names_step name)
+
+  pub positions-Attribute : (prefix : CoreName) (designator : Identifier) → positions_read set (Attribute prefix designator) ≡ []
+  positions-Attribute prefix designator = ap (filter_map (position_named set)) (fold-Attribute names_step prefix designator)
+
+  pub positions-Parenthesized : (place : Place) (a : CoreExpr) → positions_read set (Parenthesized place a) ≡ positions_read set a
+  positions-Parenthesized place a = ap (filter_map (position_named set)) (fold-Parenthesized names_step place a)
+
+  pub positions-Prefix : (op : PrefixOp) (place : Place) (a : CoreExpr) → positions_read set (Prefix op place a) ≡ positions_read set a
+  positions-Prefix op place a = ap (filter_map (position_named set)) (fold-Prefix names_step op place a)
+
+  pub positions-Infix : (op : InfixOp) (place : Place) (a b : CoreExpr) → positions_read set (Infix op place a b) ≡ positions_read set a ++ positions_read set b
+  positions-Infix op place a b = ap (filter_map (position_named set)) (fold-Infix names_step op place a b) ∙ filter_map-append (position_named set) (names_read a) (names_read b)
+
+pub ruleset positions_forms = (positions-Number, positions-Name, positions-Attribute, positions-Parenthesized, positions-Prefix, positions-Infix, append_assoc)
+
+-- ---- positions and variables
+
+-- at a position stands one variable
+pub one_var : (set : List ℕ) (k : ℕ) (v w : VarId) → Stands set k v → Stands set k w → v ≡ w
+one_var set k v w a b = same_var v w (sym (get_or_from_slice_get set k v.0 0 a) ∙ get_or_from_slice_get set k w.0 0 b)
+
+-- at each position stands a variable
+pub stands_within : (set : List ℕ) (k : ℕ) → k < length set → (v : VarId) × Stands set k v
+stands_within set k less = (record { 0 = get_or set k 0 }, slice_get-get_or set k 0 less)
+
+-- a variable of a set stands where its position says
+pub place_stands : (set : List ℕ) (v : VarId) (k : ℕ) → place_in_set set v ≡ Some k → Stands set k v
+place_stands set v k is =
+    let at = position-Some (λ n. v.0 == n) set k 0 is in
+    slice_get-get_or set k 0 at.0 ∙ ap Some (sym (eqb-true v.0 (get_or set k 0) at.1))
+
+pub place_within : (set : List ℕ) (v : VarId) (k : ℕ) → place_in_set set v ≡ Some k → k < length set
+place_within set v k is = slice_get_within set k v.0 (place_stands set v k is)
+
+-- and nowhere else, where the elements differ
+pub place_of_standing : (set : List ℕ) (v : VarId) (k : ℕ) → IsDistinct ◌==◌ set → Stands set k v → place_in_set set v ≡ Some k
+place_of_standing set v k once stands =
+    let less = slice_get_within set k v.0 stands in
+    let at : get_or set k 0 ≡ v.0 = get_or_from_slice_get set k v.0 0 stands in
+    let first : position_or_len (λ n. v.0 == n) set ≡ k =
+    position_or_len_is (λ n. v.0 == n) set k 0 (omega (arith, less))
+    (λ j before. ne_eqb v.0 (get_or set j 0)
+    (λ e. both_ways (eqb (get_or set j 0) (get_or set k 0)) (apart_from_distinct ◌==◌ set j k 0 once before less) (eq-eqb (get_or set j 0) (get_or set k 0) (sym e ∙ sym at))))
+    (λ inside. eq-eqb v.0 (get_or set k 0) (sym at)) in
+    ap (λ n. cond (ltb n (length set)) (Some n) None) first ∙ ap (λ b. cond b (Some k) None) (lt-ltb k (length set) less)
+
+-- ---- the positions of names
+
+some_is : {j k : ℕ} → Some j ≡ Some k → j ≡ k
+some_is e = cc
+
+pub not_both : (o : Option ℕ) (k : ℕ) → o ≡ None → o ≡ Some k → ⊥
+not_both o k none some = absurd cc
+
+module _ (set : List ℕ) (once : IsDistinct ◌==◌ set) (k : ℕ) (v : VarId) (stands : Stands set k v) where
+  -- a variable at another position is another one
+  same_at : (w : VarId) (j : ℕ) → place_in_set set w ≡ Some j → (j == k) ≡ (w.0 == v.0)
+  same_at w j is =
+      elim (cases_Bool (j == k)) [
+        | inl same ↦ same ∙ sym (eq-eqb w.0 v.0 (ap (λ (x : VarId). x.0) (one_var set k w v (subst (λ i. Stands set i w) (eqb-true j k same) (place_stands set w j is)) stands)))
+        | inr differ ↦ differ ∙ sym (ne_eqb w.0 v.0 (λ e.
+            both_ways (j == k) differ (eq-eqb j k (some_is (sym is ∙ ap (place_in_set set) (same_var w v e) ∙ place_of_standing set v k once stands)))))
+      ]
+
+  is_place : (w : VarId) (o : Option ℕ) → place_in_set set w ≡ o → (rest : List ℕ) → list_any (λ j. j == k) (cons_option o rest) ≡ ((w.0 == v.0) || list_any (λ j. j == k) rest)
+  is_place w (Some j) is rest = ap (λ b. b || list_any (λ j. j == k) rest) (same_at w j is)
+  is_place w None is rest =
+      ap (λ b. b || list_any (λ j. j == k) rest)
+      (sym (ne_eqb w.0 v.0 (λ e. not_both (place_in_set set w) k is (ap (place_in_set set) (same_var w v e) ∙ place_of_standing set v k once stands))))
+
+  named_first : (o : Option VarId) (rest : List ℕ) → list_any (λ j. j == k) (cons_option (option_and_then (place_in_set set) o) rest) ≡ (is_same v o || list_any (λ j. j == k) rest)
+  named_first (Some w) rest = is_place w (place_in_set set w) refl rest
+  named_first None rest = refl
+
+  named : (names : List CoreName) → list_any (λ j. j == k) (filter_map (position_named set) names) ≡ list_any (denotes v) names
+  named [] = refl
+  named (name ∷ names) = named_first (variable_of name.entity) (filter_map (position_named set) names) ∙ ap (λ b. denotes v name || b) (named names)
+
+  pub read_at : (e : CoreExpr) → Contains (positions_read set e) k ↔ (is_read v (reads_of e) ≡ true)
+  read_at e = (
+    λ c. reads_uses v e ∙ sym (named (names_read e)) ∙ passes (λ j. j == k) (positions_read set e) k c (eq-eqb k k refl),
+    λ h.
+        let one = found (λ j. j == k) (positions_read set e) (named (names_read e) ∙ sym (reads_uses v e) ∙ h) in
+        subst (Contains (positions_read set e)) (eqb-true one.0 k one.2) one.1,
+  )
+
+-- ---- they are within the set
+
+within_first : (set : List ℕ) (o : Option VarId) (rest : List ℕ) → All (λ k. k < length set) rest → All (λ k. k < length set) (cons_option (option_and_then (place_in_set set) o) rest)
+within_first set (Some w) rest all = within_place (place_in_set set w) refl
+  where
+    within_place : (o : Option ℕ) → place_in_set set w ≡ o → All (λ k. k < length set) (cons_option o rest)
+    within_place (Some k) is = All-cons (λ k. k < length set) k rest (place_within set w k is) all
+    within_place None is = all
+within_first set None rest all = all
+
+within_names : (set : List ℕ) (names : List CoreName) → All (λ k. k < length set) (filter_map (position_named set) names)
+within_names set [] = All-nil (λ k. k < length set)
+within_names set (name ∷ names) = within_first set (variable_of name.entity) (filter_map (position_named set) names) (within_names set names)
+
+pub read_within : (set : List ℕ) (e : CoreExpr) → All (λ k. k < length set) (positions_read set e)
+read_within set e = within_names set (names_read e)
+
+-- ---- sets that cover statements
+
+-- a variable stands at one position
+pub one_place : (set : List ℕ) (j k : ℕ) (v : VarId) → IsDistinct ◌==◌ set → Stands set j v → Stands set k v → j ≡ k
+one_place set j k v once a b = some_is (sym (place_of_standing set v j once a) ∙ place_of_standing set v k once b)
+
+-- a variable that is held stands somewhere
+pub held_stands : (set : List ℕ) (v : VarId) → holds set v ≡ true → (k : ℕ) × Stands set k v
+held_stands set v is =
+    let one = found (λ n. v.0 == n) set is in
+    (one.1.0, slice_get-get_or set one.1.0 one.0 one.1.1 ∙ ap Some (one.1.2 ∙ sym (eqb-true v.0 one.0 one.2)))
+
+-- what covers statements covers each of them
+pub covers_one : (set : List ℕ) (stmts : List CoreStmt) (s : CoreStmt) → Covers set (effects stmts) → Contains stmts s → Covers set (effect s)
+covers_one set stmts s covers is = record {
+  once = covers.once;
+  targets = λ v h. covers.targets v (sets_any v stmts ∙ passes (λ t. sets v (effect t)) stmts s is h);
+  read = λ v h. covers.read v (reads_any v stmts ∙ passes (λ t. reads v (effect t)) stmts s is h);
+}
+
+-- a variable that is set has a position
+pub target_placed : (set : List ℕ) (e : Effect) (v : VarId) → Covers set e → sets v e ≡ true → place_in_set set v ≡ None → ⊥
+target_placed set e v covers is none =
+    let held = held_stands set v (covers.targets v is) in
+    not_both (place_in_set set v) held.0 none (place_of_standing set v held.0 covers.once held.1)
+
+-- a variable to which a flow leads from the set is in the set
+pub led_stands : (set : List ℕ) (e : Effect) → Covers set e → (a : ℕ) (x z : VarId) → Stands set a x → MayFlow e x z → (k : ℕ) × Stands set k z
+led_stands set e covers a x z at flow =
+    elim (cases_Bool (sets z e)) [
+      | inl is ↦ held_stands set z (covers.targets z is)
+      | inr none ↦ (a, subst (Stands set a) ((keeps e x z none).0 flow) at)
+    ]
+
+-- ---- whether a variable is the target of an assignment shows at its position
+
+module _ (set : List ℕ) (once : IsDistinct ◌==◌ set) (v : VarId) (to : ℕ) (at : Stands set to v) where
+  pub target_at : (a : ℕ) (x : VarId) → Stands set a x → is_same x (Some v) ≡ true → to ≡ a
+  target_at a x stands is = one_place set to a v once at (subst (Stands set a) (sym (same_var v x (eqb-true v.0 x.0 is))) stands)
+
+  pub at_target : (a : ℕ) (x : VarId) → Stands set a x → to ≡ a → is_same x (Some v) ≡ true
+  at_target a x stands e = ap (λ w. is_same w (Some v)) (one_var set a x v stands (subst (λ k. Stands set k v) e at)) ∙ same_itself v
+
+  pub other_at : (a : ℕ) (x : VarId) → Stands set a x → to ≢ a → is_same x (Some v) ≡ false
+  other_at a x stands differ = elim (cases_Bool (is_same x (Some v))) [ inl is ↦ absurd (differ (target_at a x stands is)) | inr is ↦ is ]
+
+  pub differ_at : (a : ℕ) (x : VarId) → Stands set a x → is_same x (Some v) ≡ false → to ≢ a
+  differ_at a x stands other e = both_ways (is_same x (Some v)) other (at_target a x stands e)

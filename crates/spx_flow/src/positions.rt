@@ -1,0 +1,57 @@
+// The variables that expressions read, by their position.
+ghost use Rattle.std.specs.Prelude.{◌≡◌, ◌==◌, ◌↔◌, ◌++◌, ℕ, ◌<◌, All, Contains, IfOk, IsTrue, OnOk, length};
+ghost use Rattle.std.specs.List.{IsDistinct};
+ghost use Rattle.spx_core.specs.declared.entity.VarId.{VarId};
+ghost use Rattle.spx_core.specs.Effects.{is_read, reads_of};
+ghost use Rattle.spx_flow.specs.Positions.{Stands, position_named, positions_read};
+
+use spx_core::{CoreExpr, CoreName, VarSet, variable_of};
+use std::alloc::{AllocError, Global};
+
+/// The position of the variable that the name denotes, if it denotes one of the set.
+pub(crate) fn position_named(vars: &VarSet, name: &CoreName) -> Option<usize>
+    ensures { result ≡ position_named vars.now name.now }
+{
+    vars.position(variable_of(name.entity)?)
+}
+
+/// Adds the positions of the variables that the expression reads, in the order of the text.
+#[cycle(add_positions)]
+#[tactic(auto, using(crate::proofs::PositionLaws::positions_forms))]
+fn add_positions(vars: &VarSet, value: &CoreExpr, found: &mut Vec<usize>) -> Result<(), AllocError>
+    ensures { OnOk result (found.new.items ≡ found.old.items ++ positions_read vars.now value.now) }
+{
+    match value {
+        CoreExpr::Number(_, _) => Ok(()),
+        CoreExpr::Attribute(_, _) => Ok(()),
+        CoreExpr::Name(name) => match position_named(vars, name) {
+            Some(position) => {
+                found.push(position)?;
+                Ok(())
+            }
+            None => Ok(()),
+        },
+        CoreExpr::Parenthesized(_, inner) => add_positions(vars, inner.get(), found),
+        CoreExpr::Prefix(_, _, operand) => add_positions(vars, operand.get(), found),
+        CoreExpr::Infix(_, _, left, right) => {
+            add_positions(vars, left.get(), found)?;
+            add_positions(vars, right.get(), found)?;
+            Ok(())
+        }
+    }
+}
+
+/// The positions of the variables that the expression reads.
+pub(crate) fn positions_read(
+    alloc: Global,
+    vars: &VarSet,
+    value: &CoreExpr,
+) -> Result<Vec<usize>, AllocError>
+    requires { IsDistinct ◌==◌ vars.now }
+    ensures within { IfOk result (λ found. All (λ k. k < length vars.now) found.items) }
+    ensures exact { IfOk result (λ found. (k : ℕ) (v : VarId) → Stands vars.now k v → Contains found.items k ↔ IsTrue (is_read v (reads_of value.now))) }
+{
+    let mut found = Vec::new(alloc);
+    add_positions(vars, value, &mut found)?;
+    Ok(found)
+}
