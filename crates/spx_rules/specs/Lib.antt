@@ -1,0 +1,2 @@
+pub mod NamedOnce
+pub mod SetsOfSub

@@ -1,11 +1,13 @@
 //! The static rules on the use of variables, in the order of the text (Barnes, High Integrity Software).
 //!
 //! Each function mirrors the definition that its contract cites: `Ok` where no rule is broken, `Err` with the rule that
-//! is broken first.
+//! is broken first. Variables are looked up in sets and not in lists of names.
 #![tactic(auto)]
 
 mod modes;
+mod named;
 mod program;
 mod relation;
+mod tables;
 
 pub use program::obey;

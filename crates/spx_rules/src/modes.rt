@@ -4,8 +4,9 @@ ghost use Rattle.spx_core.specs.Formals.{mode_in};
 ghost use Rattle.spx_core.specs.Judged.{each};
 ghost use Rattle.spx_core.specs.Obeyed as rules;
 
+use crate::tables::Tables;
 use spx_core::{
-    Breach, CoreDerivesItem, CoreName, CoreStmt, Entity, Mode, Reference, RuleName, Sub, VarKind,
+    Breach, CoreDerivesItem, CoreName, CoreStmt, Entity, Mode, Reference, RuleName, VarKind,
     variable_of,
 };
 use spx_types::keeps;
@@ -30,16 +31,22 @@ fn mode_named(name: &CoreName) -> Option<Mode>
 }
 
 /// Whether the variable that a name denotes is imported.
-pub fn is_imported(sub: &Sub, name: &CoreName) -> bool
-    ensures { result ≡ rules.is_imported sub.now name.now }
+pub fn is_imported(tables: &Tables, name: &CoreName) -> bool
+    ensures { result ≡ rules.is_imported tables.now name.now }
 {
-    variable_of(name.entity).is_some_and(|var| sub.imports(var))
+    match variable_of(name.entity) {
+        Some(var) => tables.imports(var),
+        None => false,
+    }
 }
 
-fn is_exported(sub: &Sub, name: &CoreName) -> bool
-    ensures { result ≡ rules.is_exported sub.now name.now }
+fn is_exported(tables: &Tables, name: &CoreName) -> bool
+    ensures { result ≡ rules.is_exported tables.now name.now }
 {
-    variable_of(name.entity).is_some_and(|var| sub.exports(var))
+    match variable_of(name.entity) {
+        Some(var) => tables.exports(var),
+        None => false,
+    }
 }
 
 /// Whether a formal of this mode may be such an export. `starred` says that `*` imports it.
@@ -66,48 +73,48 @@ fn import_agrees(mode: Option<Mode>, exported: bool) -> bool
     }
 }
 
-fn obey_export(sub: &Sub, starred: bool, name: &Reference) -> Result<(), Breach>
-    ensures { result ≡ rules.obeyed_export sub.now starred name.now }
+fn obey_export(tables: &Tables, starred: bool, name: &Reference) -> Result<(), Breach>
+    ensures { result ≡ rules.obeyed_export tables.now starred name.now }
 {
     let place = name.root.name.place;
     let mode = mode_named(&name.root);
-    let imported = is_imported(sub, &name.root);
+    let imported = is_imported(tables, &name.root);
     keeps(RuleName::U8, place, export_agrees(mode, starred, imported))
 }
 
-fn obey_exports(sub: &Sub, starred: bool, names: &[Reference]) -> Result<(), Breach>
-    ensures { result ≡ each (rules.obeyed_export sub.now starred) names.now }
+fn obey_exports(tables: &Tables, starred: bool, names: &[Reference]) -> Result<(), Breach>
+    ensures { result ≡ each (rules.obeyed_export tables.now starred) names.now }
 {
     for name in names {
-        obey_export(sub, starred, name)?;
+        obey_export(tables, starred, name)?;
     }
     Ok(())
 }
 
-fn obey_import(sub: &Sub, name: &Reference) -> Result<(), Breach>
-    ensures { result ≡ rules.obeyed_import sub.now name.now }
+fn obey_import(tables: &Tables, name: &Reference) -> Result<(), Breach>
+    ensures { result ≡ rules.obeyed_import tables.now name.now }
 {
     let place = name.root.name.place;
     let mode = mode_named(&name.root);
-    let exported = is_exported(sub, &name.root);
+    let exported = is_exported(tables, &name.root);
     keeps(RuleName::U8, place, import_agrees(mode, exported))
 }
 
-fn obey_imports(sub: &Sub, names: &[Reference]) -> Result<(), Breach>
-    ensures { result ≡ each (rules.obeyed_import sub.now) names.now }
+fn obey_imports(tables: &Tables, names: &[Reference]) -> Result<(), Breach>
+    ensures { result ≡ each (rules.obeyed_import tables.now) names.now }
 {
     for name in names {
-        obey_import(sub, name)?;
+        obey_import(tables, name)?;
     }
     Ok(())
 }
 
 /// The first name of the item whose mode does not agree with the relation.
-pub fn obey_item(sub: &Sub, item: &CoreDerivesItem) -> Result<(), Breach>
-    ensures { result ≡ rules.obeyed_item sub.now item.now }
+pub fn obey_item(tables: &Tables, item: &CoreDerivesItem) -> Result<(), Breach>
+    ensures { result ≡ rules.obeyed_item tables.now item.now }
 {
-    obey_exports(sub, item.itself.is_some(), item.exports.as_slice())?;
-    obey_imports(sub, item.imports.as_slice())
+    obey_exports(tables, item.itself.is_some(), item.exports.as_slice())?;
+    obey_imports(tables, item.imports.as_slice())
 }
 
 fn may_be_assigned(mode: Option<Mode>) -> bool

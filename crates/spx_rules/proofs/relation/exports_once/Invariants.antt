@@ -1,6 +1,8 @@
 use Rattle.std.proofs.Common.{◌≡◌, drop}
 use Rattle.spx_core.specs.Obeyed.{exports_once}
+use Rattle.spx_core.specs.VarSets.{holds}
+use Rattle.spx_rules.specs.NamedOnce.{all_new, exports_in}
 use Rattle.spx_rules.proofs.relation.exports_once.Given as goal
 
-abbrev pub invariant-loop-position : goal.invariant-loop-position
-invariant-loop-position l = exports_once l.items ≡ exports_once (drop l.position l.items)
+abbrev pub invariant-loop-item : goal.invariant-loop-item
+invariant-loop-item l = exports_once l.items ≡ all_new (holds l.seen) (exports_in (drop l.item-index l.items))
