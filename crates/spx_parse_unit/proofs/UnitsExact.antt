@@ -7,10 +7,10 @@ use Rattle.spx_tree.specs.Goes.{Answers}
 use Rattle.spx_tree.specs.Grammar.{IsFile}
 use Rattle.spx_tree.specs.Written.{written}
 use Rattle.spx_tree.proofs.MoreLevels.{file_more}
-use Rattle.spx_parse_unit.specs.Reading.{Outcome}
+use Rattle.spx_parse_body.specs.Reading.{Outcome}
 use Rattle.spx_parse_unit.specs.Units.{file}
-use Rattle.spx_parse_unit.proofs.Shaped.{AreShaped}
-use Rattle.spx_parse_unit.proofs.Exact as exact
+use Rattle.spx_parse_body.proofs.Callers.Shaped.{AreShaped}
+use Rattle.spx_parse_body.proofs.Callers.Exact as exact
 use Rattle.spx_parse_unit.proofs.UnitsGood.{file_good}
 use Rattle.spx_parse_unit.proofs.UnitsReach.{file_again}
 

@@ -1,4 +1,4 @@
--- The readers of declarations, statements, annotations, subprograms and units keep the laws of readers.
+-- The readers of declarations, annotations, subprograms and units keep the laws of readers.
 use Rattle.std.specs.Prelude.{⊤}
 use Rattle.std.proofs.Common.{◌≡◌, ℕ, suc, Bool, true, List, [], ◌∷◌, ◌++◌, Option, Some, None, refl, append_assoc}
 use Rattle.std.proofs.lemmas.List.{append-nil}
@@ -7,21 +7,21 @@ use Rattle.spx_tree.specs.declared.token.Kind.TheVariants as k
 use Rattle.spx_tree.specs.declared.expression.Identifier.{Identifier}
 use Rattle.spx_tree.specs.declared.expression.Name.{Name}
 use Rattle.spx_tree.specs.declared.declaration.Decl.TheVariants.{Variables}
-use Rattle.spx_tree.specs.declared.statement.Stmt.TheVariants.{Null, Assignment}
 use Rattle.spx_tree.specs.declared.annotation.Imports.{Imports}
 use Rattle.spx_tree.specs.declared.subprogram.WrittenMode.TheVariants as modes
 use Rattle.spx_tree.specs.declared.subprogram.Unit.TheVariants as unit
 use Rattle.spx_tree.specs.Form.{Form, bare, placed, named}
-use Rattle.spx_tree.specs.Written.{program, annotation, behind, separated, optional, written_identifier, written_identifiers, written_name, written_names, written_decl, written_decls, written_stmt, written_stmts, written_imports, written_item, written_derives, written_pre, written_mode, written_param, written_params, written_formal_part, written_subprogram, written_unit, written}
-use Rattle.spx_tree.specs.Grammar.{Each, OneOrMore, IsIdentifiers, IsNames, IsDecl, IsStmt, IsItem, IsDerives, IsPrecondition, IsParam, IsFormalPart, IsSubprogram, IsUnit, IsFile}
-use Rattle.spx_parse_unit.specs.Reading.{◌>>◌, peek, sees, expect, identifier, item_step}
-use Rattle.spx_parse_unit.specs.Expressions.{name}
-use Rattle.spx_parse_unit.specs.Units.{more_identifiers, identifiers, more_names, names, starred, unstarred, imports_by, imports, item, more_derives, items, derives, precondition, in_by, behind_in, mode_by, mode, param, more_params, params, formal_part, declaration, more_declarations, declarations, null_statement, assignment, stmt_by, stmt, starts_stmt, sees_stmt, more_stmts, stmts, subprogram, unit_at, more_units, file}
-use Rattle.spx_parse_unit.proofs.Loops.{Shrinks}
-use Rattle.spx_parse_unit.proofs.Lawful.{Ends, Any, Sees, Always}
-use Rattle.spx_parse_unit.proofs.Good.{Good, Starts, Case, Adds, absent, present, good_bind, good_pure, good_refuse, good_before, good_given, good_expect, good_expect_place, good_identifier, good_choose, good_option, good_more, list_shrinks, starts_bind, starts_choose, starts_expect, starts_place, starts_identifier}
-use Rattle.spx_parse_unit.proofs.Separated.{sees_kind, all_added, joined_added, next, behind_added, separated_adds, next_starts, good_separated, separated_shrinks, good_items, good_some_items, items_shrinks, good_if_seen}
-use Rattle.spx_parse_unit.proofs.ExpressionsGood.{name_starts, name_good, expression_good}
+use Rattle.spx_tree.specs.Written.{program, annotation, behind, separated, optional, written_identifier, written_identifiers, written_name, written_names, written_decl, written_decls, written_stmts, written_imports, written_item, written_derives, written_pre, written_mode, written_param, written_params, written_formal_part, written_subprogram, written_unit, written}
+use Rattle.spx_tree.specs.Grammar.{Each, OneOrMore, IsIdentifiers, IsNames, IsDecl, IsItem, IsDerives, IsPrecondition, IsParam, IsFormalPart, IsSubprogram, IsUnit, IsFile}
+use Rattle.spx_parse_body.specs.Reading.{◌>>◌, peek, sees, expect, identifier, item_step}
+use Rattle.spx_parse_body.specs.Expressions.{name}
+use Rattle.spx_parse_unit.specs.Units.{more_identifiers, identifiers, more_names, names, starred, unstarred, imports_by, imports, item, more_derives, items, derives, precondition, in_by, behind_in, mode_by, mode, param, more_params, params, formal_part, declaration, more_declarations, declarations, subprogram, unit_at, more_units, file}
+use Rattle.spx_parse_body.proofs.Callers.Loops.{Shrinks}
+use Rattle.spx_parse_body.proofs.Callers.Lawful.{Any, Sees, Always}
+use Rattle.spx_parse_body.proofs.Callers.Good.{Good, Starts, Case, Adds, absent, present, good_bind, good_pure, good_before, good_given, good_expect, good_expect_place, good_identifier, good_option, good_more, list_shrinks, starts_bind, starts_expect, starts_place, starts_identifier}
+use Rattle.spx_parse_body.proofs.Callers.Separated.{sees_kind, all_added, joined_added, next, behind_added, separated_adds, next_starts, good_separated, separated_shrinks, good_items, items_shrinks, good_if_seen}
+use Rattle.spx_parse_body.proofs.Callers.ExpressionsGood.{name_starts, name_good, expression_good}
+use Rattle.spx_parse_body.proofs.Callers.StatementsGood.{stmts_good}
 
 -- ---- identifiers
 
@@ -190,52 +190,6 @@ declarations_shrinks = items_shrinks written_decl IsDecl (sees program k.Identif
 declarations_good : {L P : Type 0} → Good L P written_decls (Each IsDecl) [] Any declarations declarations
 unfolding declarations more_declarations
 declarations_good = good_items written_decl IsDecl (sees program k.Identifier) (λ t xs ys. refl) refl (declaration_starts (sees_kind program k.Identifier))
-
--- ---- statements
-
-null_starts : {L P : Type 0} {on : List Form → Type 0} (levels : ℕ) → ((fs : List Form) → on fs → peek program fs ≡ Some k.Null) → Starts L P written_stmt (IsStmt levels) [] on null_statement null_statement
-unfolding null_statement
-null_starts levels here =
-    starts_bind (starts_place program k.Null here refl) (λ place.
-    good_bind (good_expect program k.Semicolon) (λ u.
-    good_pure (Null place) (λ l w. refl) (λ l w. tt)))
-
-assignment_starts : {L P : Type 0} {on : List Form → Type 0} (levels : ℕ) → ((fs : List Form) → on fs → peek program fs ≡ Some k.Identifier) → Starts L P written_stmt (IsStmt levels) [] on (assignment levels) (assignment (suc levels))
-unfolding assignment
-assignment_starts levels here =
-    starts_bind (name_starts program here) (λ target.
-    good_bind (good_expect program k.Assignment) (λ u.
-    good_bind (expression_good program levels) (λ value.
-    good_bind (good_expect program k.Semicolon) (λ v.
-    good_pure (Assignment target value) (λ l w. simp append_assoc) (λ l w. w.0.1)))))
-
-stmt_ends : (levels : ℕ) → Ends written_stmt (IsStmt levels) []
-stmt_ends levels = ((null_starts {L = ⊤} {P = ⊤} {on = λ fs. peek program fs ≡ Some k.Null} levels (λ fs here. here)).good.law tt tt).ends
-
-stmt_case : {L P : Type 0} (levels : ℕ) (kind : Option Kind) → Good L P written_stmt (IsStmt levels) [] (Sees (peek program) kind) (stmt_by levels kind) (stmt_by (suc levels) kind)
-stmt_case levels (Some k.Null) = (null_starts levels (λ fs here. here)).good
-stmt_case levels (Some k.Identifier) = (assignment_starts levels (λ fs here. here)).good
-stmt_case levels _ = good_refuse (λ l w. stmt_ends levels)
-
-stmt_good : {L P : Type 0} (levels : ℕ) → Good L P written_stmt (IsStmt levels) [] Any (stmt levels) (stmt (suc levels))
-unfolding stmt
-stmt_good levels = good_choose (peek program) (λ t xs ys. refl) (stmt_by levels) (stmt_by (suc levels)) refl refl (stmt_case levels)
-
-begun_case : {L P : Type 0} (levels : ℕ) (kind : Option Kind) → starts_stmt kind ≡ true → Starts L P written_stmt (IsStmt levels) [] (Sees (peek program) kind) (stmt_by levels kind) (stmt_by (suc levels) kind)
-begun_case levels (Some k.Null) e = null_starts levels (λ fs here. here)
-begun_case levels (Some k.Identifier) e = assignment_starts levels (λ fs here. here)
-begun_case levels _ e = absurd cc
-
-stmt_begins : {L P : Type 0} (levels : ℕ) → Starts L P written_stmt (IsStmt levels) [] (Sees sees_stmt true) (stmt levels) (stmt (suc levels))
-unfolding stmt
-stmt_begins levels = starts_choose (peek program) (λ t xs ys. refl) (stmt_by levels) (stmt_by (suc levels)) (stmt_good levels) (λ fs here. begun_case levels (peek program fs) here)
-
-pub stmts_shrinks : (levels : ℕ) → Shrinks sees_stmt (item_step (stmt levels))
-stmts_shrinks levels = items_shrinks written_stmt (IsStmt levels) sees_stmt (λ t xs ys. refl) refl {L = ⊤} (stmt_begins levels) tt
-
-stmts_good : {L P : Type 0} (levels : ℕ) → Good L P written_stmts (OneOrMore (IsStmt levels)) [] Any (stmts levels) (stmts (suc levels))
-unfolding stmts more_stmts
-stmts_good levels = good_some_items written_stmt (IsStmt levels) sees_stmt (λ t xs ys. refl) refl (stmt_begins levels) (stmt_good levels)
 
 -- ---- subprograms and units
 

@@ -1,18 +1,13 @@
--- The forms of declarations, statements, annotations, subprograms and units are read as those.
+-- The forms of declarations, annotations, subprograms and units are read as those.
 use Rattle.std.specs.Prelude.{⊤}
 use Rattle.std.proofs.Common.{◌≡◌, ℕ, Bool, true, false, List, [], ◌∷◌, ◌++◌, Option, Some, None, refl, ap, ◌∙◌, append_assoc}
 use Rattle.spx_text.specs.declared.place.Place.{Place}
 use Rattle.spx_tree.specs.declared.token.Kind.{Kind}
 use Rattle.spx_tree.specs.declared.token.Kind.TheVariants as k
 use Rattle.spx_tree.specs.declared.expression.Identifier.{Identifier}
-use Rattle.spx_tree.specs.declared.expression.Layer.TheVariants as layer
 use Rattle.spx_tree.specs.declared.expression.Name.{Name}
-use Rattle.spx_tree.specs.declared.expression.Name.TheVariants.{Simple, Attribute}
-use Rattle.spx_tree.specs.declared.expression.Expr.{Expr}
 use Rattle.spx_tree.specs.declared.declaration.Decl.{Decl}
 use Rattle.spx_tree.specs.declared.declaration.Decl.TheVariants.{Variables}
-use Rattle.spx_tree.specs.declared.statement.Stmt.{Stmt}
-use Rattle.spx_tree.specs.declared.statement.Stmt.TheVariants.{Null, Assignment}
 use Rattle.spx_tree.specs.declared.annotation.DerivesItem.{DerivesItem}
 use Rattle.spx_tree.specs.declared.annotation.Derives.{Derives}
 use Rattle.spx_tree.specs.declared.annotation.Precondition.{Precondition}
@@ -24,26 +19,16 @@ use Rattle.spx_tree.specs.declared.subprogram.Subprogram.{Subprogram}
 use Rattle.spx_tree.specs.declared.subprogram.Unit.{Unit}
 use Rattle.spx_tree.specs.declared.subprogram.Unit.TheVariants as unit
 use Rattle.spx_tree.specs.Form.{Form, bare, placed, named}
-use Rattle.spx_tree.specs.Written.{program, annotation, behind, separated, optional, written_identifier, written_identifiers, written_name, written_names, written_expr, written_decl, written_decls, written_stmt, written_stmts, written_imports, written_item, written_derives, written_pre, written_mode, written_param, written_params, written_formal_part, written_subprogram, written_unit, written}
-use Rattle.spx_tree.specs.Grammar.{Each, OneOrMore, IfThere, IsExpr, IsIdentifiers, IsNames, IsDecl, IsStmt, IsItem, IsDerives, IsPrecondition, IsParam, IsFormalPart, IsSubprogram, IsUnit, IsFile}
-use Rattle.spx_parse_unit.specs.Reading.{peek, sees, identifier, if_seen}
-use Rattle.spx_parse_unit.specs.Units.{more_identifiers, identifiers, more_names, names, starred, unstarred, imports_by, imports, item, more_derives, items, derives, precondition, in_by, behind_in, mode_by, mode, param, more_params, params, formal_part, declaration, more_declarations, declarations, null_statement, assignment, stmt_by, stmt, starts_stmt, sees_stmt, more_stmts, stmts, subprogram, unit_at, more_units, file}
-use Rattle.spx_parse_unit.proofs.Shaped.{kind_self}
-use Rattle.spx_parse_unit.proofs.Separated.{sees_kind, sees_front, reaches_behind, reaches_separated, reaches_some_items, reaches_if_seen}
-use Rattle.spx_parse_unit.proofs.Reaches.{Reaches, reaches_bind, reaches_pure, reaches_choose, reaches_expect, reaches_expect_place, reaches_identifier, reaches_items, peek_front}
-use Rattle.spx_parse_unit.proofs.ExpressionsReach.{Free, name_again, name_front, expression_again}
-use Rattle.spx_parse_unit.proofs.UnitsGood.{identifiers_shrinks, names_shrinks, derives_shrinks, params_shrinks, declarations_shrinks, stmts_shrinks, units_shrinks}
-
--- the next form has not this mark and kind
-abbrev Lacks : Bool → Kind → List Form → Type 0
-Lacks marked kind zs = peek marked zs ≡ Some kind → ⊥
-
-not_seen : (marked : Bool) (kind : Kind) (zs : List Form) → Lacks marked kind zs → sees marked kind zs ≡ false
-not_seen marked kind zs h = by_value (sees marked kind zs) refl
-  where
-    by_value : (b : Bool) → sees marked kind zs ≡ b → b ≡ false
-    by_value false e = refl
-    by_value true e = absurd (h (sees_kind marked kind zs e))
+use Rattle.spx_tree.specs.Written.{program, annotation, behind, separated, optional, written_identifier, written_identifiers, written_name, written_names, written_expr, written_decl, written_decls, written_stmts, written_imports, written_item, written_derives, written_pre, written_mode, written_param, written_params, written_formal_part, written_subprogram, written_unit, written}
+use Rattle.spx_tree.specs.Grammar.{Each, OneOrMore, IfThere, IsIdentifiers, IsNames, IsDecl, IsItem, IsDerives, IsPrecondition, IsParam, IsFormalPart, IsSubprogram, IsUnit, IsFile}
+use Rattle.spx_parse_body.specs.Reading.{peek, sees, identifier, if_seen}
+use Rattle.spx_parse_unit.specs.Units.{more_identifiers, identifiers, more_names, names, starred, unstarred, imports_by, imports, item, more_derives, items, derives, precondition, in_by, behind_in, mode_by, mode, param, more_params, params, formal_part, declaration, more_declarations, declarations, subprogram, unit_at, more_units, file}
+use Rattle.spx_parse_body.proofs.Callers.Shaped.{kind_self}
+use Rattle.spx_parse_body.proofs.Callers.Separated.{Lacks, not_seen, sees_front, reaches_behind, reaches_separated, reaches_if_seen}
+use Rattle.spx_parse_body.proofs.Callers.Reaches.{Reaches, reaches_bind, reaches_pure, reaches_choose, reaches_expect, reaches_expect_place, reaches_identifier, reaches_items, peek_front}
+use Rattle.spx_parse_body.proofs.Callers.ExpressionsReach.{name_again, name_front, expression_again, semicolon_free}
+use Rattle.spx_parse_body.proofs.Callers.StatementsReach.{stmts_again}
+use Rattle.spx_parse_unit.proofs.UnitsGood.{identifiers_shrinks, names_shrinks, derives_shrinks, params_shrinks, declarations_shrinks, units_shrinks}
 
 -- ---- identifiers and names
 
@@ -128,10 +113,6 @@ derives_again x fs zs f h =
     reaches_bind _ (items_again x.items us (bare annotation k.Semicolon ∷ zs) f (λ e. cc) (semicolon_closes zs) a) (λ vs b.
     reaches_bind _ (reaches_expect annotation k.Semicolon b) (λ ws d. reaches_pure d)))
 
-semicolon_free : (marked : Bool) (zs : List Form) → Free layer.Relation (peek marked (bare marked k.Semicolon ∷ zs))
-semicolon_free true zs = (λ e. cc, refl, refl)
-semicolon_free false zs = (λ e. cc, refl, refl)
-
 precondition_again : (levels : ℕ) (x : Precondition) (fs zs : List Form) → IsPrecondition levels x → fs ≡ written_pre x ++ zs → Reaches (precondition levels) fs x zs
 unfolding precondition
 precondition_again levels x fs zs f h =
@@ -196,49 +177,6 @@ declarations_again : (xs : List Decl) (fs zs : List Form) → Each IsDecl xs →
 unfolding declarations more_declarations
 declarations_again xs fs zs f over h =
     reaches_items written_decl IsDecl (sees program k.Identifier) declaration declarations_shrinks declaration_seen declaration_again [] xs fs zs f (not_seen program k.Identifier zs over) h
-
--- ---- statements
-
-assignment_again : (levels : ℕ) (target : Name) (value : Expr) (fs zs : List Form) → IsExpr levels value → fs ≡ written_stmt (Assignment target value) ++ zs → Reaches (assignment levels) fs (Assignment target value) zs
-unfolding assignment
-assignment_again levels target value fs zs f h =
-    let flat : written_stmt (Assignment target value) ++ zs ≡ written_name program target ++ bare program k.Assignment ∷ (written_expr program value ++ bare program k.Semicolon ∷ zs) = simp append_assoc in
-    reaches_bind _ (name_again program target fs (bare program k.Assignment ∷ (written_expr program value ++ bare program k.Semicolon ∷ zs)) (λ e. cc) (h ∙ flat)) (λ us a.
-    reaches_bind _ (reaches_expect program k.Assignment a) (λ vs b.
-    reaches_bind _ (expression_again program levels value vs (bare program k.Semicolon ∷ zs) f (semicolon_free program zs) b) (λ ws d.
-    reaches_bind _ (reaches_expect program k.Semicolon d) (λ xs e. reaches_pure e))))
-
-target_first : (target : Name) (value : Expr) (ws : List Form) → peek program (written_stmt (Assignment target value) ++ ws) ≡ Some k.Identifier
-target_first (Simple prefix) value ws = refl
-target_first (Attribute prefix designator) value ws = refl
-
-stmt_again : (levels : ℕ) (x : Stmt) (fs zs : List Form) → IsStmt levels x → fs ≡ written_stmt x ++ zs → Reaches (stmt levels) fs x zs
-unfolding stmt null_statement
-stmt_again levels (Null place) fs zs f h =
-    reaches_choose (peek program) (stmt_by levels) (Some k.Null) (peek_front program fs h)
-    (reaches_bind _ (reaches_expect_place program k.Null h) (λ us a.
-    reaches_bind _ (reaches_expect program k.Semicolon a) (λ vs b. reaches_pure b)))
-stmt_again levels (Assignment target value) fs zs f h =
-    reaches_choose (peek program) (stmt_by levels) (Some k.Identifier) (peek_front program fs h ∙ target_first target value zs) (assignment_again levels target value fs zs f h)
-
-stmt_seen : (levels : ℕ) (x : Stmt) (ws : List Form) → IsStmt levels x → sees_stmt (written_stmt x ++ ws) ≡ true
-stmt_seen levels (Null place) ws f = refl
-stmt_seen levels (Assignment target value) ws f = ap starts_stmt (target_first target value ws)
-
--- no statement comes next
-record NoStmt (zs : List Form) : Type 0 where
-  no_null : Lacks program k.Null zs
-  no_name : Lacks program k.Identifier zs
-
-not_begun : (kind : Option Kind) → (kind ≡ Some k.Null → ⊥) → (kind ≡ Some k.Identifier → ⊥) → starts_stmt kind ≡ false
-not_begun (Some k.Null) a b = absurd (a refl)
-not_begun (Some k.Identifier) a b = absurd (b refl)
-not_begun _ a b = refl
-
-stmts_again : (levels : ℕ) (xs : List Stmt) (fs zs : List Form) → OneOrMore (IsStmt levels) xs → NoStmt zs → fs ≡ written_stmts xs ++ zs → Reaches (stmts levels) fs xs zs
-unfolding stmts more_stmts
-stmts_again levels xs fs zs f over h =
-    reaches_some_items written_stmt (IsStmt levels) sees_stmt (stmts_shrinks levels) (stmt_seen levels) (stmt_again levels) xs fs zs f (not_begun (peek program zs) over.no_null over.no_name) h
 
 -- ---- subprograms and units
 

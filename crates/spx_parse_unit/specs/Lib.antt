@@ -1,4 +1,1 @@
-pub mod Reading
-pub mod Expressions
 pub mod Units
-pub mod Answers

@@ -1,13 +1,11 @@
--- Reading declarations, statements, annotations, subprograms and units (Ada 95 RM 3, 5, 6 and 10.1; Barnes, High Integrity Software).
-use Rattle.std.specs.Prelude.{ℕ, Bool, true, false, List, [], ◌∷◌, Option, Some, None}
+-- Reading declarations, annotations, subprograms and units (Ada 95 RM 3, 6 and 10.1; Barnes, High Integrity Software).
+use Rattle.std.specs.Prelude.{ℕ, Bool, List, [], ◌∷◌, Option, Some, None}
 use Rattle.spx_tree.specs.declared.token.Kind.{Kind}
 use Rattle.spx_tree.specs.declared.token.Kind.TheVariants as k
 use Rattle.spx_tree.specs.declared.expression.Identifier.{Identifier}
 use Rattle.spx_tree.specs.declared.expression.Name.{Name}
 use Rattle.spx_tree.specs.declared.declaration.Decl.{Decl}
 use Rattle.spx_tree.specs.declared.declaration.Decl.TheVariants.{Variables}
-use Rattle.spx_tree.specs.declared.statement.Stmt.{Stmt}
-use Rattle.spx_tree.specs.declared.statement.Stmt.TheVariants.{Null, Assignment}
 use Rattle.spx_tree.specs.declared.annotation.Imports.{Imports}
 use Rattle.spx_tree.specs.declared.annotation.DerivesItem.{DerivesItem}
 use Rattle.spx_tree.specs.declared.annotation.Derives.{Derives}
@@ -19,10 +17,10 @@ use Rattle.spx_tree.specs.declared.subprogram.FormalPart.{FormalPart}
 use Rattle.spx_tree.specs.declared.subprogram.Subprogram.{Subprogram}
 use Rattle.spx_tree.specs.declared.subprogram.Unit.{Unit}
 use Rattle.spx_tree.specs.declared.subprogram.Unit.TheVariants as unit
-use Rattle.spx_tree.specs.Form.{Form}
 use Rattle.spx_tree.specs.Written.{program, annotation}
-use Rattle.spx_parse_unit.specs.Reading.{Reader, ◌>>=◌, ◌>>◌, pure, refuse, peek, sees, expect, expect_place, identifier, if_seen, more_items}
-use Rattle.spx_parse_unit.specs.Expressions.{name, expression}
+use Rattle.spx_parse_body.specs.Reading.{Reader, ◌>>=◌, ◌>>◌, pure, peek, sees, expect, expect_place, identifier, if_seen, more_items}
+use Rattle.spx_parse_body.specs.Expressions.{name, expression}
+use Rattle.spx_parse_body.specs.Statements.{stmts}
 
 -- ---- names
 
@@ -156,50 +154,6 @@ more_declarations found = more_items (sees program k.Identifier) declaration fou
 -- {declaration}
 unfoldable pub declarations : Reader (List Decl)
 declarations = more_declarations []
-
--- ---- statements
-
--- "null" ";"
-unfoldable pub null_statement : Reader Stmt
-null_statement = do
-  place ← expect_place program k.Null
-  expect program k.Semicolon
-  pure (Null place)
-
--- name ":=" expression ";"
-unfoldable pub assignment : ℕ → Reader Stmt
-assignment levels = do
-  target ← name program
-  expect program k.Assignment
-  value ← expression program levels
-  expect program k.Semicolon
-  pure (Assignment target value)
-
-abbrev pub stmt_by : ℕ → Option Kind → Reader Stmt
-stmt_by levels (Some k.Null) = null_statement
-stmt_by levels (Some k.Identifier) = assignment levels
-stmt_by levels _ = refuse
-
--- "null" ";" | name ":=" expression ";"
-unfoldable pub stmt : ℕ → Reader Stmt
-stmt levels = λ fs. stmt_by levels (peek program fs) fs
-
--- a statement starts with a form of this kind
-abbrev pub starts_stmt : Option Kind → Bool
-starts_stmt (Some k.Null) = true
-starts_stmt (Some k.Identifier) = true
-starts_stmt _ = false
-
--- a statement comes next
-abbrev pub sees_stmt : List Form → Bool
-sees_stmt fs = starts_stmt (peek program fs)
-
-unfoldable pub more_stmts : ℕ → List Stmt → Reader (List Stmt)
-more_stmts levels found = more_items sees_stmt (stmt levels) found
-
--- statement {statement}
-unfoldable pub stmts : ℕ → Reader (List Stmt)
-stmts levels = stmt levels >>= λ x. more_stmts levels (x ∷ [])
 
 -- ---- subprograms and units
 

@@ -2,12 +2,11 @@
 ghost use Rattle.std.specs.Prelude.{◌≡◌};
 ghost use Rattle.spx_tree.specs.Written.{annotation};
 ghost use Rattle.spx_tree.specs.declared.token.Kind.TheVariants as k;
-ghost use Rattle.spx_parse_unit.specs.Reading as reading;
+ghost use Rattle.spx_parse_body.specs.Reading as reading;
 ghost use Rattle.spx_parse_unit.specs.Units as read;
-ghost use Rattle.spx_parse_unit.specs.Answers.{Reads};
+ghost use Rattle.spx_parse_body.specs.Answers.{Reads};
 
-use crate::cursor::{ANNOTATION, Cursor, Stop};
-use crate::expressions::{expression, name};
+use spx_parse_body::{ANNOTATION, Cursor, Stop, expression, name};
 use spx_tree::{Derives, DerivesItem, Identifier, Imports, Kind, Name, Precondition};
 use sqlite_items::Items;
 use std::alloc::Global;
@@ -148,7 +147,7 @@ fn derives(alloc: Global, cursor: &mut Cursor<'_>) -> Result<Derives, Stop>
 }
 
 /// Reads a dependency relation, if there is one.
-#[tactic(auto, unfolding(crate::specs::Reading::if_seen))]
+#[tactic(auto, unfolding(spx_parse_body::specs::Reading::if_seen))]
 pub fn optional_derives(alloc: Global, cursor: &mut Cursor<'_>) -> Result<Option<Derives>, Stop>
     ensures { Reads (reading.if_seen annotation k.Derives read.derives cursor.old) result cursor.new }
 {
@@ -170,7 +169,7 @@ fn precondition(alloc: Global, cursor: &mut Cursor<'_>, levels: u32) -> Result<P
 }
 
 /// Reads a precondition, if there is one.
-#[tactic(auto, unfolding(crate::specs::Reading::if_seen))]
+#[tactic(auto, unfolding(spx_parse_body::specs::Reading::if_seen))]
 pub fn optional_pre(
     alloc: Global,
     cursor: &mut Cursor<'_>,

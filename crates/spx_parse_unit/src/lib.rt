@@ -5,8 +5,6 @@
 #![tactic(auto)]
 
 mod annotations;
-mod cursor;
-mod expressions;
 mod laws;
 mod parse;
 mod subprograms;
@@ -14,4 +12,5 @@ mod subprograms;
 mod tests;
 
 pub use laws::one_answer;
-pub use parse::{MOST_LEVELS, ParseFault, parse_units};
+pub use parse::parse_units;
+pub use spx_parse_body::{MOST_LEVELS, ParseFault};

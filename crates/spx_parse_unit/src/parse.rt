@@ -5,32 +5,15 @@ ghost use Rattle.spx_tree.specs.Goes.{place_with};
 ghost use Rattle.spx_tree.specs.Grammar.{IsFile};
 ghost use Rattle.spx_tree.specs.Written.{written};
 ghost use Rattle.spx_tree.specs.declared.subprogram.Unit.{Unit};
-ghost use Rattle.spx_parse_unit.specs.Answers.{SaysAll, StopsWithin, IsUnlessMemory, fault_at};
+ghost use Rattle.spx_parse_body.specs.Answers.{SaysAll, StopsWithin, IsUnlessMemory, fault_at};
 
-use crate::cursor::{Cursor, Stop};
 use crate::subprograms::file;
 use spx_lexer::Tokens;
+use spx_parse_body::{Cursor, MOST_LEVELS, ParseFault, Stop};
 use spx_text::Place;
 use spx_tree::{Token, Unit};
 use sqlite_items::Items;
 use std::alloc::Global;
-use thiserror::Error;
-
-/// How many parentheses, signs and operators may lie one below the other.
-pub const MOST_LEVELS: u32 = 200;
-
-/// Why tokens are no text of the grammar.
-#[derive(Clone, Copy, Debug, PartialEq, Eq, Error)]
-pub enum ParseFault {
-    /// No text of the grammar goes on with the token at this place, or ends there.
-    #[error("expected another token")]
-    Expected(Place),
-    /// No text of so few levels goes on with the token at this place.
-    #[error("nesting too deep")]
-    TooDeep(Place),
-    #[error("out of memory")]
-    Memory,
-}
 
 /// The place of the token with which so many are left.
 fn place_of(tokens: &[Token], left: usize, end: Place) -> Place

@@ -1,15 +1,14 @@
-// From tokens to subprograms and units (Ada 95 RM 3, 5, 6 and 10.1).
+// From tokens to subprograms and units (Ada 95 RM 3, 6 and 10.1).
 ghost use Rattle.std.specs.Prelude.{◌≡◌};
 ghost use Rattle.spx_tree.specs.Written.{program};
 ghost use Rattle.spx_tree.specs.declared.token.Kind.TheVariants as k;
-ghost use Rattle.spx_parse_unit.specs.Reading as reading;
+ghost use Rattle.spx_parse_body.specs.Reading as reading;
 ghost use Rattle.spx_parse_unit.specs.Units as read;
-ghost use Rattle.spx_parse_unit.specs.Answers.{Reads};
+ghost use Rattle.spx_parse_body.specs.Answers.{Reads};
 
 use crate::annotations::{identifiers, optional_derives, optional_pre};
-use crate::cursor::{Cursor, PROGRAM, Stop};
-use crate::expressions::{expression, name};
-use spx_tree::{Decl, FormalPart, Identifier, Kind, Param, Stmt, Subprogram, Unit, WrittenMode};
+use spx_parse_body::{Cursor, PROGRAM, Stop, name, stmts};
+use spx_tree::{Decl, FormalPart, Identifier, Kind, Param, Subprogram, Unit, WrittenMode};
 use sqlite_items::Items;
 use std::alloc::Global;
 
@@ -86,7 +85,7 @@ fn formal_part(alloc: Global, cursor: &mut Cursor<'_>) -> Result<FormalPart, Sto
 }
 
 // [formal_part]
-#[tactic(auto, unfolding(crate::specs::Reading::if_seen))]
+#[tactic(auto, unfolding(spx_parse_body::specs::Reading::if_seen))]
 fn optional_formal_part(alloc: Global, cursor: &mut Cursor<'_>) -> Result<Option<FormalPart>, Stop>
     ensures { Reads (reading.if_seen program k.LeftParenthesis read.formal_part cursor.old) result cursor.new }
 {
@@ -120,65 +119,8 @@ fn declarations(alloc: Global, cursor: &mut Cursor<'_>) -> Result<Items<Decl>, S
     Ok(declarations)
 }
 
-// null_statement = "null" ";"
-#[tactic(auto, unfolding(crate::specs::Units::null_statement))]
-fn null_statement(cursor: &mut Cursor<'_>) -> Result<Stmt, Stop>
-    ensures { Reads (read.null_statement cursor.old) result cursor.new }
-{
-    let place = cursor.expect_place(PROGRAM, Kind::Null)?;
-    cursor.expect(PROGRAM, Kind::Semicolon)?;
-    Ok(Stmt::Null(place))
-}
-
-// assignment = name ":=" expression ";"
-#[tactic(auto, unfolding(crate::specs::Units::assignment))]
-fn assignment(alloc: Global, cursor: &mut Cursor<'_>, levels: u32) -> Result<Stmt, Stop>
-    ensures { Reads (read.assignment levels cursor.old) result cursor.new }
-{
-    let target = name(alloc, cursor, PROGRAM)?;
-    cursor.expect(PROGRAM, Kind::Assignment)?;
-    let value = expression(alloc, cursor, levels, PROGRAM)?;
-    cursor.expect(PROGRAM, Kind::Semicolon)?;
-    Ok(Stmt::Assignment(target, value))
-}
-
-// stmt = null_statement | assignment
-#[tactic(auto, unfolding(crate::specs::Units::stmt))]
-fn stmt(alloc: Global, cursor: &mut Cursor<'_>, levels: u32) -> Result<Stmt, Stop>
-    ensures { Reads (read.stmt levels cursor.old) result cursor.new }
-{
-    match cursor.peek(PROGRAM) {
-        Some(Kind::Null) => null_statement(cursor),
-        Some(Kind::Identifier) => assignment(alloc, cursor, levels),
-        _ => Err(cursor.expected()),
-    }
-}
-
-/// Whether a statement comes next.
-fn sees_stmt(cursor: &Cursor<'_>) -> bool
-    ensures { result ≡ read.sees_stmt cursor.now }
-{
-    match cursor.peek(PROGRAM) {
-        Some(Kind::Null | Kind::Identifier) => true,
-        _ => false,
-    }
-}
-
-// stmts = stmt {stmt}
-#[tactic(auto, using(crate::proofs::Turns::more_stmts_is), unfolding(crate::specs::Units::stmts))]
-fn stmts(alloc: Global, cursor: &mut Cursor<'_>, levels: u32) -> Result<Items<Stmt>, Stop>
-    ensures { Reads (read.stmts levels cursor.old) result cursor.new }
-{
-    let mut stmts = Items::new(alloc);
-    stmts.push(stmt(alloc, cursor, levels)?)?;
-    'more: while sees_stmt(cursor) {
-        stmts.push(stmt(alloc, cursor, levels)?)?;
-    }
-    Ok(stmts)
-}
-
 // [identifier]
-#[tactic(auto, unfolding(crate::specs::Reading::if_seen))]
+#[tactic(auto, unfolding(spx_parse_body::specs::Reading::if_seen))]
 fn end_name(alloc: Global, cursor: &mut Cursor<'_>) -> Result<Option<Identifier>, Stop>
     ensures { Reads (reading.if_seen program k.Identifier (reading.identifier program) cursor.old) result cursor.new }
 {

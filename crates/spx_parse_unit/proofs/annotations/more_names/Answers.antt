@@ -1,7 +1,7 @@
 use Rattle.std.proofs.Common.{sym, ◌∙◌}
 use Rattle.spx_tree.specs.declared.token.Kind.TheVariants as k
-use Rattle.spx_parse_unit.specs.Expressions.{name}
-use Rattle.spx_parse_unit.proofs.Turns.{next_shorter}
+use Rattle.spx_parse_body.specs.Expressions.{name}
+use Rattle.spx_parse_body.proofs.Callers.Turns.{next_shorter}
 use Rattle.spx_parse_unit.proofs.UnitsGood.{names_shrinks}
 use Rattle.spx_parse_unit.proofs.annotations.more_names.Goals as goal
 

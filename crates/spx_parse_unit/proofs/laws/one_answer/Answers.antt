@@ -1,6 +1,6 @@
 use Rattle.std.proofs.Common.{sym, ◌∙◌}
 use Rattle.spx_tree.specs.Form.{forms_of}
-use Rattle.spx_parse_unit.proofs.Shaped.{shaped_forms}
+use Rattle.spx_parse_body.proofs.Callers.Shaped.{shaped_forms}
 use Rattle.spx_parse_unit.proofs.UnitsExact.{only_answer}
 use Rattle.spx_parse_unit.proofs.laws.one_answer.Goals as goal
 

@@ -1,9 +1,9 @@
 use Rattle.std.proofs.Common.{sym, ◌∙◌}
 use Rattle.spx_tree.specs.declared.token.Kind.TheVariants as k
 use Rattle.spx_tree.specs.Written.{program}
-use Rattle.spx_parse_unit.specs.Reading.{sees}
+use Rattle.spx_parse_body.specs.Reading.{sees}
 use Rattle.spx_parse_unit.specs.Units.{declaration}
-use Rattle.spx_parse_unit.proofs.Turns.{item_shorter}
+use Rattle.spx_parse_body.proofs.Callers.Turns.{item_shorter}
 use Rattle.spx_parse_unit.proofs.UnitsGood.{declarations_shrinks}
 use Rattle.spx_parse_unit.proofs.subprograms.declarations.Goals as goal
 

@@ -2,7 +2,7 @@ use Rattle.std.proofs.Common.{sym, ◌∙◌}
 use Rattle.spx_tree.specs.declared.token.Kind.TheVariants as k
 use Rattle.spx_tree.specs.Written.{program}
 use Rattle.spx_parse_unit.specs.Units.{param}
-use Rattle.spx_parse_unit.proofs.Turns.{next_shorter}
+use Rattle.spx_parse_body.proofs.Callers.Turns.{next_shorter}
 use Rattle.spx_parse_unit.proofs.UnitsGood.{params_shrinks}
 use Rattle.spx_parse_unit.proofs.subprograms.params.Goals as goal
 

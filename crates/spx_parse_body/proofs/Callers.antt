@@ -1,0 +1,14 @@
+-- The lemmas that crates above cite.
+pub mod Shaped
+pub mod Loops
+pub mod Lawful
+pub mod Good
+pub mod Reaches
+pub mod Separated
+pub mod ExpressionsGood
+pub mod Exact
+pub mod Located
+pub mod StatementsGood
+pub mod Turns
+pub mod ExpressionsReach
+pub mod StatementsReach

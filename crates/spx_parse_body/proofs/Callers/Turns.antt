@@ -1,0 +1,48 @@
+-- What the functions of lists use: a list is read item by item, and each item takes a form.
+use Rattle.std.specs.Prelude.{⊤}
+use Rattle.std.proofs.Common.{◌≡◌, ℕ, ◌<◌, Bool, true, false, List, [], ◌∷◌, ◌++◌, length, Ok, refl, ap, ◌∙◌}
+use Rattle.spx_tree.specs.declared.token.Kind.{Kind}
+use Rattle.spx_tree.specs.declared.statement.Stmt.{Stmt}
+use Rattle.spx_tree.specs.Form.{Form}
+use Rattle.spx_parse_body.specs.Reading.{Outcome, Reader, and_then, ◌>>=◌, ◌>>◌, pure, sees, expect, turn, loop, item_step}
+use Rattle.spx_parse_body.specs.Statements.{sees_stmt, stmt, more_stmts}
+use Rattle.spx_parse_body.proofs.Callers.Loops.{Shrinks, loop_is}
+use Rattle.spx_parse_body.proofs.Levels.{and_then_assoc}
+use Rattle.spx_parse_body.proofs.Callers.StatementsGood.{stmts_shrinks}
+
+-- one turn of a list, as the code takes it
+abbrev pub items_by : {A : Type 0} → Reader A → (List A → Reader (List A)) → List A → Bool → Reader (List A)
+items_by reads go_on found true = reads >>= λ x. go_on (found ++ x ∷ [])
+items_by reads go_on found false = pure found
+
+turn_is : {A : Type 0} (reads : Reader A) (go_on : List A → Reader (List A)) (found : List A) (b : Bool) (fs : List Form) → turn go_on found (item_step reads found b) fs ≡ items_by reads go_on found b fs
+turn_is reads go_on found false fs = refl
+turn_is reads go_on found true fs = and_then_assoc (reads fs) (λ x. pure (found ++ x ∷ [])) go_on
+
+pub items_is : {A : Type 0} (look : List Form → Bool) (reads : Reader A) → Shrinks look (item_step reads) → (found : List A) (fs : List Form) → loop look (item_step reads) found fs ≡ items_by reads (loop look (item_step reads)) found (look fs) fs
+items_is look reads shrinks found fs = loop_is look (item_step reads) shrinks found fs ∙ turn_is reads (loop look (item_step reads)) found (look fs) fs
+
+-- a separator, and an item behind it
+abbrev pub next_by : {A : Type 0} → Bool → Kind → Reader A → (List A → Reader (List A)) → List A → Bool → Reader (List A)
+next_by marked kind reads go_on found true = expect marked kind >>= λ u. reads >>= λ x. go_on (found ++ x ∷ [])
+next_by marked kind reads go_on found false = pure found
+
+pub next_is : {A : Type 0} (marked : Bool) (kind : Kind) (reads : Reader A) (go_on : List A → Reader (List A)) (found : List A) (b : Bool) (fs : List Form) → items_by (expect marked kind >> reads) go_on found b fs ≡ next_by marked kind reads go_on found b fs
+next_is marked kind reads go_on found false fs = refl
+next_is marked kind reads go_on found true fs = and_then_assoc (expect marked kind fs) (λ u. reads) (λ x. go_on (found ++ x ∷ []))
+
+pub more_stmts_is : (levels : ℕ) (found : List Stmt) (fs : List Form) → more_stmts levels found fs ≡ items_by (stmt levels) (more_stmts levels) found (sees_stmt fs) fs
+unfolding more_stmts
+more_stmts_is levels found fs = items_is sees_stmt (stmt levels) (stmts_shrinks levels) found fs
+
+-- ---- an item takes a form
+
+-- an item that was looked for
+pub item_shorter : {A : Type 0} (look : List Form → Bool) (reads : Reader A) → Shrinks look (item_step reads) → (fs r : List Form) (x : A) → look fs ≡ true → reads fs ≡ Ok (x, r) → length r < length fs
+item_shorter look reads shrinks fs r x seen e =
+    shrinks.shortens [] fs (reads >>= λ y. pure (y ∷ [])) (ap (item_step reads []) seen) (x ∷ []) r (ap (λ (o : Outcome _). and_then o (λ y. pure (y ∷ []))) e)
+
+-- and one behind its separator
+pub next_shorter : {A : Type 0} (marked : Bool) (kind : Kind) (reads : Reader A) → Shrinks (sees marked kind) (item_step (expect marked kind >> reads)) → (fs middle r : List Form) (x : A) → sees marked kind fs ≡ true → expect marked kind fs ≡ Ok (tt, middle) → reads middle ≡ Ok (x, r) → length r < length fs
+next_shorter marked kind reads shrinks fs middle r x seen e f =
+    item_shorter (sees marked kind) (expect marked kind >> reads) shrinks fs r x seen (ap (λ (o : Outcome ⊤). and_then o (λ u. reads)) e ∙ f)

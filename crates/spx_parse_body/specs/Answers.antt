@@ -1,0 +1,50 @@
+-- What the functions of the parser answer.
+use Rattle.std.specs.Prelude.{◌≡◌, ◌⊎◌, ⊤, ℕ, ◌≤◌, List, [], ◌∷◌, length, Result, Ok, Err}
+use Rattle.spx_text.specs.declared.place.Place.{Place}
+use Rattle.spx_tree.specs.declared.token.Token.{Token}
+use Rattle.spx_tree.specs.Form.{Form, forms_of}
+use Rattle.spx_tree.specs.Goes.{Expected, TooDeep, IsText, IsExpected, IsTooDeep, place_with}
+use Rattle.spx_parse_body.specs.declared.cursor.Stop.{Stop}
+use Rattle.spx_parse_body.specs.declared.cursor.Stop.TheVariants as stop
+use Rattle.spx_parse_body.specs.declared.fault.ParseFault.{ParseFault}
+use Rattle.spx_parse_body.specs.declared.fault.ParseFault.TheVariants as fault
+use Rattle.spx_parse_body.specs.Reading.{Outcome}
+
+-- what a reader stops with, unless memory ran out
+abbrev pub Fails : {A : Type 0} → Stop → Outcome A → Type 0
+Fails stop.Memory outcome = ⊤
+Fails (stop.Expected left) outcome = outcome ≡ Err (Expected left)
+Fails (stop.TooDeep left) outcome = outcome ≡ Err (TooDeep left)
+
+-- what a reader finds, and the forms that are left
+abbrev pub Reads : {A : Type 0} → Outcome A → Result A Stop → List Form → Type 0
+Reads outcome (Ok x) left = outcome ≡ Ok (x, left)
+Reads outcome (Err s) left = Fails s outcome
+
+-- so many tokens may be left
+abbrev pub StopsWithin : ℕ → Stop → Type 0
+StopsWithin n stop.Memory = ⊤
+StopsWithin n (stop.Expected left) = left ≤ n
+StopsWithin n (stop.TooDeep left) = left ≤ n
+
+-- a fault with its place among these tokens
+abbrev pub fault_at : Place → List Token → Stop → ParseFault
+fault_at end all stop.Memory = fault.Memory
+fault_at end all (stop.Expected left) = fault.Expected (place_with end all left)
+fault_at end all (stop.TooDeep left) = fault.TooDeep (place_with end all left)
+
+-- the second is the first, or memory ran out
+abbrev pub IsUnlessMemory : {X : Type 0} → Result X ParseFault → Result X ParseFault → Type 0
+IsUnlessMemory r (Err fault.Memory) = ⊤
+IsUnlessMemory r result = (r ≡ result) ⊎ (r ≡ Err fault.Memory)
+
+-- What a function answers that reads all tokens of a text: the value that they are written from,
+-- or the place where the longest front of them that begins a text ends, the first token more, or the end.
+module _ {A : Type 0} (spell : A → List Form) (fits : ℕ → A → Type 0) where
+  abbrev pub SaysAll : ℕ → Place → List ℕ → List Token → Result A ParseFault → Type 0
+  SaysAll levels end source all (Ok x) = IsText spell fits levels (forms_of source all) [] x
+  SaysAll levels end source all (Err fault.Memory) = ⊤
+  SaysAll levels end source all (Err (fault.Expected place)) =
+      ((left : ℕ) × IsExpected spell fits levels (forms_of source all) left × (place ≡ place_with end all left))
+      ⊎ ((f : Form) × (rest : List Form) × (x : A) × IsText spell fits levels (forms_of source all) (f ∷ rest) x × (place ≡ place_with end all (length (f ∷ rest))))
+  SaysAll levels end source all (Err (fault.TooDeep place)) = (left : ℕ) × IsTooDeep spell fits levels (forms_of source all) left × (place ≡ place_with end all left)

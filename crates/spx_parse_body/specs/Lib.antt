@@ -1,0 +1,4 @@
+pub mod Reading
+pub mod Expressions
+pub mod Statements
+pub mod Answers
