@@ -5,15 +5,17 @@ use Rattle.std.specs.List.{list_any}
 use Rattle.std.proofs.lemmas.Grind.{common_steps}
 use Rattle.std.proofs.lemmas.Bool.Decides.{nat_tests}
 use Rattle.std.proofs.lemmas.List.{length-map}
+use Rattle.std.proofs.lemmas.Bool.{false_from_ne_true}
 use Rattle.spx_tree.specs.declared.subprogram.Unit.{Unit}
 use Rattle.spx_tree.specs.Places.{place_behind}
 use Rattle.spx_tree.specs.Form.{forms_of}
 use Rattle.spx_tree.specs.Goes.{place_with}
 use Rattle.spx_core.specs.declared.program.Program.{Program}
 use Rattle.spx_core.specs.declared.subprogram.Sub.{Sub}
-use Rattle.spx_core.specs.Erased.{erased, erased_unit}
-use Rattle.spx_core.specs.Flow.{HasNoFlowFinding}
+use Rattle.spx_core.specs.Erased.{Visible, erased, unit_of}
+use Rattle.spx_core.specs.FlowRules.{HasNoFlowFinding, has_many_variables, is_wide}
 use Rattle.spx_core.specs.Obeyed.{Obeys}
+use Rattle.spx_core.proofs.Callers.Bodies.{bodies_are, erased_are}
 use Rattle.spx_meaning.specs.Fit.{Clean, Fit}
 use Rattle.spx_meaning.specs.Limits.{has_large_condition, has_large_conditions}
 use Rattle.spx_meaning.specs.Laws.{NeverBad, TwoRuns}
@@ -31,10 +33,10 @@ use Rattle.spx_examiner.specs.Judgement.{status_of}
 use Rattle.spx_report.specs.Findings.{findings_of}
 use Rattle.spx_examiner.specs.Causes.{Tells, any_too_long, named}
 use Rattle.spx_examiner.specs.Reading.{IsRead, crowded, stopped, ended, nested, whole, stopped_at, expected_at}
-use Rattle.spx_examiner.specs.Outcome.{Is, IsText, IsSoundFrom, IsReportOn, IsReportOnUnits, IsReportOnReading, IsJudgement, no_form, of_files, IsAssured, AreAcceptable, AreClean, AreFit, AreRefusable, AreReliable, IsReadTooFar, AreTooLarge, OneOutcome, PassesLimit}
+use Rattle.spx_examiner.specs.Outcome.{Is, IsText, IsSoundFrom, IsReportOn, IsReportOnUnits, IsReportOnReading, IsJudgement, no_form, of_files, IsAssured, AreAcceptable, AreClean, AreFit, AreRefusable, AreReliable, IsMadeFrom, IsPassed, variables, nodes, AreRefusals, IsReadTooFar, AreTooWide, AreTooLarge, OneOutcome, PassesLimit}
 use Rattle.spx_report.proofs.FindingLaws.{lines_of, none_left}
 use Rattle.spx_examiner.specs.Laws.{Laws}
-use Rattle.spx_examiner.proofs.Refusals.{no_sound, one_refusal}
+use Rattle.spx_examiner.proofs.Refusals.{made_of_sound, no_sound, no_wide, one_made, one_refusal}
 use Rattle.spx_examiner.proofs.Spelled.{one_text, text_of_whole, spelled_by, units_spelled, forms_of_text, goes_on, one_reading}
 
 -- the contents of one file spell one program
@@ -52,9 +54,9 @@ some_line : (lines : List Finding) → cond (eqb (length lines) 0) status.Accept
 some_line [] ne = absurd (ne refl)
 some_line (line ∷ lines) ne = grind (arith, common_steps, nat_tests)
 
-lines_are : (p : Program) → (findings_of p).lines ≡ lines_of p.subs
+lines_are : (p : Program) → Visible p → (findings_of p).lines ≡ lines_of p.subs
 unfolding findings_of
-lines_are p = refl
+lines_are p visible = ap lines_of (bodies_are p visible)
 
 -- a sound program with no finding on its conditions is clean
 clean_program : (units : List Unit) (p : Program) (found : Findings) → IsSoundFrom units p → found ≡ findings_of p → found.lines ≡ [] → Clean p
@@ -63,16 +65,24 @@ clean_program units p found sound are none = record {
   typed = sound.typed;
   obeys = sound.obeys;
   flows = sound.flows;
-  conditions = (none_left p.subs).0 (sym (lines_are p) ∙ ap (λ f. f.lines) (sym are) ∙ none);
+  conditions = (none_left p.subs).0 (sym (lines_are p sound.visible) ∙ ap (λ f. f.lines) (sym are) ∙ none);
 }
 
--- a program that a text spells is made from its units, and sound where it obeys the rules and has no flow finding
-sound_from : Laws → (bytes : List ℕ) (units : List Unit) (p : Program) → IsText 0 bytes units → Is (bytes ∷ []) p → Obeys p → HasNoFlowFinding p → IsSoundFrom units p
-sound_from laws bytes units p text spelled obeys flows = record {
+-- a program that a text spells is made from its units, and sound where it obeys the rules, is not too wide and has no flow finding
+made_from : Laws → (bytes : List ℕ) (units : List Unit) (p : Program) → IsText 0 bytes units → Is (bytes ∷ []) p → IsMadeFrom units p
+made_from laws bytes units p text spelled = record {
+  made = one_text laws.spelling laws.tree bytes (erased p) units (units_spelled bytes p spelled) text;
+  visible = spelled.visible;
+  typed = spelled.typed;
+}
+
+sound_from : Laws → (bytes : List ℕ) (units : List Unit) (p : Program) → IsText 0 bytes units → Is (bytes ∷ []) p → Obeys p → has_many_variables p ≡ false → HasNoFlowFinding p → IsSoundFrom units p
+sound_from laws bytes units p text spelled obeys narrow flows = record {
   made = one_text laws.spelling laws.tree bytes (erased p) units (units_spelled bytes p spelled) text;
   visible = spelled.visible;
   typed = spelled.typed;
   obeys = obeys;
+  narrow = narrow;
   flows = flows;
 }
 
@@ -80,9 +90,17 @@ sound_from laws bytes units p text spelled obeys flows = record {
 not_both : (p q : Program) → p ≡ q → has_large_conditions p ≡ true → ¬ (has_large_conditions q ≡ false)
 not_both p q same large small = let e = ap has_large_conditions same in absurd (cc)
 
+-- the contents spell a program that passes a limit
+abbrev SpellTooMuch : List (List ℕ) → Type 0
+SpellTooMuch contents = AreTooWide contents ⊎ AreTooLarge contents
+
+-- some subprogram of a program has too many variables, or none has
+narrow_and_wide : (p q : Program) → p ≡ q → has_many_variables p ≡ true → ¬ (has_many_variables q ≡ false)
+narrow_and_wide p q same wide narrow = let e = ap has_many_variables same in absurd (cc)
+
 -- what passes a limit once a file has been loaded
 abbrev PassesIn : List (List ℕ) → Type 0
-PassesIn contents = IsReadTooFar contents ⊎ AreTooLarge contents
+PassesIn contents = IsReadTooFar contents ⊎ SpellTooMuch contents
 
 -- what an accepted judgement says of the contents
 record IsOnClean (bytes : List ℕ) (p : Program) : Type 0 where
@@ -95,7 +113,7 @@ clean_units bytes units Usage text e report = absurd report
 clean_units bytes units (Limit name) text e report = absurd (cc)
 clean_units bytes units (Refused lines) text e report = absurd (cc)
 clean_units bytes units (Examined p found) text e report =
-    (p, spelled_by bytes units p text report.0, clean_program units p found report.0 report.2 (no_lines found.lines e))
+    (p, spelled_by bytes units p text (made_of_sound units p report.0), clean_program units p found report.0 report.2 (no_lines found.lines e))
 
 assured_units : (bytes : List ℕ) (units : List Unit) (j : Judgement) → IsText 0 bytes units → status_of j ≡ status.Accepted → IsReportOnUnits units j → IsAssured j → (p : Program) × IsOnClean bytes p
 assured_units bytes units Usage text e report assured = absurd report
@@ -103,59 +121,83 @@ assured_units bytes units (Limit name) text e report assured = absurd (cc)
 assured_units bytes units (Refused lines) text e report assured = absurd (cc)
 assured_units bytes units (Examined p found) text e report assured =
     let clean = clean_program units p found report.0 report.2 (no_lines found.lines e) in
-    (p, record { spelled = spelled_by bytes units p text report.0; clean = clean; assured = assured clean })
+    (p, record { spelled = spelled_by bytes units p text (made_of_sound units p report.0); clean = clean; assured = assured clean })
 
--- units with too large a condition spell such a program
-large_units : (bytes : List ℕ) (units : List Unit) (p : Program) → IsText 0 bytes units → IsSoundFrom units p → has_large_conditions p ≡ true → AreTooLarge (bytes ∷ [])
-large_units bytes units p text sound large = (p, spelled_by bytes units p text sound, sound.obeys, sound.flows, large)
+-- where units pass a limit, the text spells such a program
+passing_units : (bytes : List ℕ) (units : List Unit) (name : LimitName) → IsText 0 bytes units → IsPassed units name → SpellTooMuch (bytes ∷ [])
+passing_units bytes units _ text (variables p made obeys wide) = inl (p, spelled_by bytes units p text made, obeys, wide)
+passing_units bytes units _ text (nodes p sound large) = inr (p, spelled_by bytes units p text (made_of_sound units p sound), sound.obeys, sound.narrow, sound.flows, large)
 
-accepted_units : Laws → (bytes : List ℕ) (units : List Unit) (j : Judgement) → IsText 0 bytes units → IsReportOnUnits units j → ¬ AreTooLarge (bytes ∷ []) → AreClean (bytes ∷ []) → status_of j ≡ status.Accepted
+-- a program is not too wide where nothing that is spelled is
+not_wide : (contents : List (List ℕ)) (p : Program) → Is contents p → Obeys p → ¬ SpellTooMuch contents → has_many_variables p ≡ false
+not_wide contents p spelled obeys small = false_from_ne_true (has_many_variables p) (λ wide. small (inl (p, spelled, obeys, wide)))
+
+accepted_units : Laws → (bytes : List ℕ) (units : List Unit) (j : Judgement) → IsText 0 bytes units → IsReportOnUnits units j → ¬ SpellTooMuch (bytes ∷ []) → AreClean (bytes ∷ []) → status_of j ≡ status.Accepted
 accepted_units laws bytes units Usage text report small clean = absurd report
-accepted_units laws bytes units (Limit name) text (is, (p, sound, large)) small clean = absurd (small (large_units bytes units p text sound large))
+accepted_units laws bytes units (Limit name) text passed small clean = absurd (small (passing_units bytes units name text passed))
 accepted_units laws bytes units (Refused lines) text report small (p, spelled, clean) =
-    absurd (no_sound laws units lines p report (sound_from laws bytes units p text spelled clean.obeys clean.flows))
+    absurd (no_sound laws units lines p report (sound_from laws bytes units p text spelled clean.obeys (not_wide (bytes ∷ []) p spelled clean.obeys small) clean.flows))
 accepted_units laws bytes units (Examined q found) text report small (p, spelled, clean) =
-    let same : q ≡ p = only_program laws bytes p q spelled (spelled_by bytes units q text report.0) in
+    let same : q ≡ p = only_program laws bytes p q spelled (spelled_by bytes units q text (made_of_sound units q report.0)) in
     let all = subst Clean (sym same) clean in
-    let none : found.lines ≡ [] = ap (λ f. f.lines) report.2 ∙ lines_are q ∙ (none_left q.subs).1 all.conditions in
+    let none : found.lines ≡ [] = ap (λ f. f.lines) report.2 ∙ lines_are q report.0.visible ∙ (none_left q.subs).1 all.conditions in
     ap (λ (lines : List Finding). cond (eqb (length lines) 0) status.Accepted status.Refused) none
 
-refused_units : (bytes : List ℕ) (units : List Unit) (j : Judgement) → IsText 0 bytes units → IsReportOnUnits units j → ¬ AreTooLarge (bytes ∷ []) → status_of j ≢ status.Accepted → status_of j ≡ status.Refused
+refused_units : (bytes : List ℕ) (units : List Unit) (j : Judgement) → IsText 0 bytes units → IsReportOnUnits units j → ¬ SpellTooMuch (bytes ∷ []) → status_of j ≢ status.Accepted → status_of j ≡ status.Refused
 refused_units bytes units Usage text report small ne = absurd report
-refused_units bytes units (Limit name) text (is, (p, sound, large)) small ne = absurd (small (large_units bytes units p text sound large))
+refused_units bytes units (Limit name) text passed small ne = absurd (small (passing_units bytes units name text passed))
 refused_units bytes units (Refused lines) text report small ne = refl
 refused_units bytes units (Examined p found) text report small ne = some_line found.lines ne
 
-limited_units : (bytes : List ℕ) (units : List Unit) (j : Judgement) → IsText 0 bytes units → IsReportOnUnits units j → status_of j ≡ status.Limit → AreTooLarge (bytes ∷ [])
+limited_units : (bytes : List ℕ) (units : List Unit) (j : Judgement) → IsText 0 bytes units → IsReportOnUnits units j → status_of j ≡ status.Limit → SpellTooMuch (bytes ∷ [])
 limited_units bytes units Usage text report e = absurd report
-limited_units bytes units (Limit name) text (is, (p, sound, large)) e = large_units bytes units p text sound large
+limited_units bytes units (Limit name) text passed e = passing_units bytes units name text passed
 limited_units bytes units (Refused lines) text report e = absurd (cc)
 limited_units bytes units (Examined p found) text report e = absurd (grind (arith, common_steps, nat_tests, e))
 
-passed_units : Laws → (bytes : List ℕ) (units : List Unit) (j : Judgement) → IsText 0 bytes units → IsReportOnUnits units j → AreTooLarge (bytes ∷ []) → status_of j ≡ status.Limit
+passed_units : Laws → (bytes : List ℕ) (units : List Unit) (j : Judgement) → IsText 0 bytes units → IsReportOnUnits units j → SpellTooMuch (bytes ∷ []) → status_of j ≡ status.Limit
 passed_units laws bytes units Usage text report large = absurd report
 passed_units laws bytes units (Limit name) text report large = refl
-passed_units laws bytes units (Refused lines) text report (p, spelled, obeys, flows, large) =
-    absurd (no_sound laws units lines p report (sound_from laws bytes units p text spelled obeys flows))
-passed_units laws bytes units (Examined q found) text report (p, spelled, obeys, flows, large) =
-    absurd (not_both p q (only_program laws bytes q p (spelled_by bytes units q text report.0) spelled) large report.1)
+passed_units laws bytes units (Refused lines) text report (inl (p, spelled, obeys, wide)) =
+    absurd (no_wide laws units lines p report (made_from laws bytes units p text spelled) obeys wide)
+passed_units laws bytes units (Refused lines) text report (inr (p, spelled, obeys, narrow, flows, large)) =
+    absurd (no_sound laws units lines p report (sound_from laws bytes units p text spelled obeys narrow flows))
+passed_units laws bytes units (Examined q found) text report (inl (p, spelled, obeys, wide)) =
+    absurd (narrow_and_wide p q (only_program laws bytes q p (spelled_by bytes units q text (made_of_sound units q report.0)) spelled) wide report.0.narrow)
+passed_units laws bytes units (Examined q found) text report (inr (p, spelled, obeys, narrow, flows, large)) =
+    absurd (not_both p q (only_program laws bytes q p (spelled_by bytes units q text (made_of_sound units q report.0)) spelled) large report.1)
 
 -- programs that are made from the same units are one
 one_sound : Laws → (units : List Unit) (p q : Program) → IsSoundFrom units p → IsSoundFrom units q → p ≡ q
 one_sound laws units p q a b = laws.program p q a.visible b.visible (a.made ∙ sym b.made)
 
+-- units pass one limit, and then they are neither refused nor examined
+one_limit : Laws → (units : List Unit) (a b : LimitName) → IsPassed units a → IsPassed units b → a ≡ b
+one_limit laws units _ _ (variables p made obeys wide) (variables q made' obeys' wide') = refl
+one_limit laws units _ _ (variables p made obeys wide) (nodes q sound large) = absurd (narrow_and_wide p q (one_made laws units p q made (made_of_sound units q sound)) wide sound.narrow)
+one_limit laws units _ _ (nodes p sound large) (variables q made obeys wide) = absurd (narrow_and_wide q p (one_made laws units q p made (made_of_sound units p sound)) wide sound.narrow)
+one_limit laws units _ _ (nodes p sound large) (nodes q sound' large') = refl
+
+not_refused : Laws → (units : List Unit) (name : LimitName) (lines : List Finding) → IsPassed units name → ¬ AreRefusals units lines
+not_refused laws units _ lines (variables p made obeys wide) refused = no_wide laws units lines p refused made obeys wide
+not_refused laws units _ lines (nodes p sound large) refused = no_sound laws units lines p refused sound
+
+not_examined : Laws → (units : List Unit) (name : LimitName) (q : Program) → IsPassed units name → IsSoundFrom units q → ¬ (has_large_conditions q ≡ false)
+not_examined laws units _ q (variables p made obeys wide) sound small = narrow_and_wide p q (one_made laws units p q made (made_of_sound units q sound)) wide sound.narrow
+not_examined laws units _ q (nodes p sound' large) sound small = not_both p q (one_sound laws units p q sound' sound) large small
+
 one_of_units : Laws → (units : List Unit) (j k : Judgement) → IsReportOnUnits units j → IsReportOnUnits units k → j ≡ k
 one_of_units laws units Usage k a b = absurd a
 one_of_units laws units (Limit name) Usage a b = absurd b
-one_of_units laws units (Limit name) (Limit other) a b = ap (λ n. Limit n) (a.0 ∙ sym b.0)
-one_of_units laws units (Limit name) (Refused lines) (is, (p, sound, large)) b = absurd (no_sound laws units lines p b sound)
-one_of_units laws units (Limit name) (Examined q g) (is, (p, sound, large)) b = absurd (not_both p q (one_sound laws units p q sound b.0) large b.1)
+one_of_units laws units (Limit name) (Limit other) a b = ap (λ n. Limit n) (one_limit laws units name other a b)
+one_of_units laws units (Limit name) (Refused lines) a b = absurd (not_refused laws units name lines a b)
+one_of_units laws units (Limit name) (Examined q g) a b = absurd (not_examined laws units name q a b.0 b.1)
 one_of_units laws units (Refused lines) Usage a b = absurd b
-one_of_units laws units (Refused lines) (Limit name) a (is, (p, sound, large)) = absurd (no_sound laws units lines p a sound)
+one_of_units laws units (Refused lines) (Limit name) a b = absurd (not_refused laws units name lines b a)
 one_of_units laws units (Refused lines) (Refused others) a b = ap (λ ls. Refused ls) (one_refusal laws units lines others a b)
 one_of_units laws units (Refused lines) (Examined q g) a b = absurd (no_sound laws units lines q a b.0)
 one_of_units laws units (Examined p f) Usage a b = absurd b
-one_of_units laws units (Examined p f) (Limit name) a (is, (q, sound, large)) = absurd (not_both q p (one_sound laws units q p sound a.0) large a.1)
+one_of_units laws units (Examined p f) (Limit name) a b = absurd (not_examined laws units name p b a.0 a.1)
 one_of_units laws units (Examined p f) (Refused lines) a b = absurd (no_sound laws units lines p b a.0)
 one_of_units laws units (Examined p f) (Examined q g) a b =
     let same : p ≡ q = one_sound laws units p q a.0 b.0 in
@@ -206,9 +248,10 @@ limited_case bytes j (on_units units text report) e = inr (limited_units bytes u
 limited_case bytes j (on_broken finding none is) e = let refused : status_of j ≡ status.Refused = ap status_of is in absurd (cc)
 limited_case bytes j (on_limit name read is) e = inl read
 
-passed_case : Laws → (bytes : List ℕ) (j : Judgement) → Case bytes j → AreTooLarge (bytes ∷ []) → status_of j ≡ status.Limit
+passed_case : Laws → (bytes : List ℕ) (j : Judgement) → Case bytes j → SpellTooMuch (bytes ∷ []) → status_of j ≡ status.Limit
 passed_case laws bytes j (on_units units text report) large = passed_units laws bytes units j text report large
-passed_case laws bytes j (on_broken finding none is) large = absurd (none (erased large.0) (units_spelled bytes large.0 large.1))
+passed_case laws bytes j (on_broken finding none is) (inl wide) = absurd (none (erased wide.0) (units_spelled bytes wide.0 wide.1))
+passed_case laws bytes j (on_broken finding none is) (inr large) = absurd (none (erased large.0) (units_spelled bytes large.0 large.1))
 passed_case laws bytes j (on_limit name read is) large = ap status_of is
 
 one_by_reading : Laws → (reading : Reading) (j k : Judgement) → IsReportOnReading reading j → IsReportOnReading reading k → j ≡ k
@@ -277,15 +320,21 @@ pub as_many : (told : List ℕ → Option (List ℕ)) (words contents : List (Li
 as_many told words contents tells = tells_len told (named words) contents tells
 
 -- without units there are no subprograms, and so no condition that is too large
-none_large : (subs : List Sub) → map erased_unit subs ≡ [] → ¬ (list_any has_large_condition subs ≡ true)
+none_large : (subs : List Sub) → map unit_of subs ≡ [] → ¬ (list_any has_large_condition subs ≡ true)
 none_large [] none large = absurd (cc)
 none_large (sub ∷ subs) none large = absurd (cc)
+
+-- nor one with too many variables
+none_wide : (subs : List Sub) → map unit_of subs ≡ [] → ¬ (list_any is_wide subs ≡ true)
+none_wide [] none wide = absurd (cc)
+none_wide (sub ∷ subs) none wide = absurd (cc)
 
 -- where words have no form there are no contents, which pass no limit
 no_contents : (contents : List (List ℕ)) → length contents ≡ 0 → ¬ PassesLimit contents
 no_contents [] none (inl long) = absurd (cc)
 no_contents [] none (inr (inl deep)) = absurd deep
-no_contents [] none (inr (inr large)) = none_large large.0.subs large.1.texts large.4
+no_contents [] none (inr (inr (inl wide))) = none_wide wide.0.subs (sym (erased_are wide.0 wide.1.visible) ∙ wide.1.texts) wide.3
+no_contents [] none (inr (inr (inr large))) = none_large large.0.subs (sym (erased_are large.0 large.1.visible) ∙ large.1.texts) large.5
 no_contents (bytes ∷ rest) none passes = absurd (omega arith)
 
 none_named : (words contents : List (List ℕ)) → files_of words ≡ None → AsMany words contents → length contents ≡ 0

@@ -20,7 +20,7 @@ use Rattle.spx_report.specs.declared.report.Finding.{Finding}
 use Rattle.spx_examiner.specs.declared.reading.Reading.{Reading}
 use Rattle.spx_examiner.specs.declared.reading.Reading.TheVariants.{Units, Broken, TooManyTokens, TooNested}
 use Rattle.spx_examiner.specs.Reading.{stopped_at, expected_at, GoesNoFurther, AreTokens, IsRead, crowded, stopped, ended, nested, whole}
-use Rattle.spx_examiner.specs.Outcome.{Is, IsText, AreTexts, IsSoundFrom}
+use Rattle.spx_examiner.specs.Outcome.{Is, IsText, AreTexts, IsMadeFrom}
 use Rattle.spx_examiner.specs.Laws.{Parsed, OneSpelling, OneStop, OneAnswer, OneTree}
 
 -- ---- texts
@@ -51,11 +51,11 @@ text_of_whole bytes tokens units spelled text = record {
 }
 
 -- a program that is made from the units of a file is spelled by it
-pub spelled_by : (bytes : List ℕ) (units : List Unit) (p : Program) → IsText 0 bytes units → IsSoundFrom units p → Is (bytes ∷ []) p
-spelled_by bytes units p text sound = record {
-  texts = one_file_is_all bytes (erased p) (subst (IsText 0 bytes) (sym sound.made) text);
-  visible = sound.visible;
-  typed = sound.typed;
+pub spelled_by : (bytes : List ℕ) (units : List Unit) (p : Program) → IsText 0 bytes units → IsMadeFrom units p → Is (bytes ∷ []) p
+spelled_by bytes units p text made = record {
+  texts = one_file_is_all bytes (erased p) (subst (IsText 0 bytes) (sym made.made) text);
+  visible = made.visible;
+  typed = made.typed;
 }
 
 pub units_spelled : (bytes : List ℕ) (p : Program) → Is (bytes ∷ []) p → IsText 0 bytes (erased p)

@@ -14,7 +14,7 @@ use Rattle.spx_core.specs.Obeyed.{Obeys}
 use Rattle.spx_core.specs.declared.rule.Breach.{Breach}
 use Rattle.spx_core.specs.Statements.{first_name_breach}
 use Rattle.spx_core.specs.Obeyed.{first_rule_breach}
-use Rattle.spx_core.specs.Flow.{HasNoFlowFinding}
+use Rattle.spx_core.specs.FlowRules.{HasNoFlowFinding, has_many_variables}
 use Rattle.spx_meaning.specs.Fit.{Clean, Fit}
 use Rattle.spx_meaning.specs.Limits.{has_large_conditions}
 use Rattle.spx_meaning.specs.Laws.{NeverBad, TwoRuns}
@@ -22,7 +22,8 @@ use Rattle.spx_examiner.specs.declared.status.Status.{Status}
 use Rattle.spx_report.specs.declared.report.Finding.{Finding}
 use Rattle.spx_examiner.specs.declared.judgement.Judgement.{Judgement}
 use Rattle.spx_examiner.specs.declared.judgement.Judgement.TheVariants.{Usage, Limit, Refused, Examined}
-use Rattle.spx_report.specs.declared.limit.LimitName.TheVariants.{FileSize, Tokens, Nesting, Nodes}
+use Rattle.spx_report.specs.declared.limit.LimitName.{LimitName}
+use Rattle.spx_report.specs.declared.limit.LimitName.TheVariants.{FileSize, Tokens, Nesting, Variables, Nodes}
 use Rattle.spx_examiner.specs.declared.reading.Reading.{Reading}
 use Rattle.spx_examiner.specs.declared.reading.Reading.TheVariants.{Units, Broken, TooManyTokens, TooNested}
 use Rattle.spx_examiner.specs.Reading.{IsRead}
@@ -55,12 +56,13 @@ pub record Is (contents : List (List ℕ)) (p : Program) : Type 0 where
   pub visible : Visible p
   pub typed : Typed p
 
--- this program is made from the units; it obeys the rules and has no flow finding
+-- this program is made from the units; it obeys the rules, no subprogram has too many variables, and there is no flow finding
 pub record IsSoundFrom (units : List Unit) (p : Program) : Type 0 where
   pub made : erased p ≡ units
   pub visible : Visible p
   pub typed : Typed p
   pub obeys : Obeys p
+  pub narrow : has_many_variables p ≡ false
   pub flows : HasNoFlowFinding p
 
 -- The contents spell exactly this program, and its runs may be relied on: from a store that meets its precondition no run of a
@@ -80,17 +82,24 @@ pub record IsMadeFrom (units : List Unit) (p : Program) : Type 0 where
   pub typed : Typed p
 
 -- The findings on units that make no sound program, in the order of work: the first breach of a rule on names or types; else the
--- first one of a rule on variables; else all that the bodies and their declared relations disagree on.
+-- first one of a rule on variables; else, where no subprogram has too many variables, all that the bodies and their declared relations
+-- disagree on.
 pub data AreRefusals (units : List Unit) (lines : List Finding) : Type 0 where
   of_names : (breach : Breach) → first_name_breach units ≡ Some breach → lines ≡ breach_finding breach ∷ [] → AreRefusals units lines
   of_rules : (p : Program) (breach : Breach) → IsMadeFrom units p → first_rule_breach p ≡ Some breach → lines ≡ breach_finding breach ∷ [] → AreRefusals units lines
-  of_flow : (p : Program) → IsMadeFrom units p → Obeys p → AreFlowLines p lines → lines ≢ [] → AreRefusals units lines
+  of_flow : (p : Program) → IsMadeFrom units p → Obeys p → has_many_variables p ≡ false → AreFlowLines p lines → lines ≢ [] → AreRefusals units lines
 
--- what there is to report on units: findings in place of conditions, that the sound program has a condition with too many nodes,
--- or what its conditions come to
+-- The first limit that a program made from the units passes, in the order of work: one that obeys the rules has a subprogram with too many
+-- variables; or a sound one has a condition with too many nodes.
+pub data IsPassed (units : List Unit) : LimitName → Type 0 where
+  variables : (p : Program) → IsMadeFrom units p → Obeys p → has_many_variables p ≡ true → IsPassed units Variables
+  nodes : (p : Program) → IsSoundFrom units p → has_large_conditions p ≡ true → IsPassed units Nodes
+
+-- what there is to report on units: findings in place of conditions, a limit that is passed, or what the conditions of the sound program
+-- come to
 abbrev pub IsReportOnUnits : List Unit → Judgement → Type 0
 IsReportOnUnits units Usage = ⊥
-IsReportOnUnits units (Limit name) = (name ≡ Nodes) × ((p : Program) × IsSoundFrom units p × (has_large_conditions p ≡ true))
+IsReportOnUnits units (Limit name) = IsPassed units name
 IsReportOnUnits units (Refused lines) = AreRefusals units lines
 IsReportOnUnits units (Examined p found) = IsSoundFrom units p × (has_large_conditions p ≡ false) × (found ≡ findings_of p)
 
@@ -135,12 +144,16 @@ abbrev pub IsReadTooFar : List (List ℕ) → Type 0
 IsReadTooFar (bytes ∷ []) = IsRead bytes TooManyTokens ⊎ IsRead bytes TooNested
 IsReadTooFar _ = ⊥
 
--- the contents spell a program that obeys the rules, has no flow finding, and has a condition with too many nodes
+-- the contents spell a program that obeys the rules, and has a subprogram with too many variables
+abbrev pub AreTooWide : List (List ℕ) → Type 0
+AreTooWide contents = (p : Program) × Is contents p × Obeys p × (has_many_variables p ≡ true)
+
+-- or one that obeys the rules, has no such subprogram and no flow finding, and has a condition with too many nodes
 abbrev pub AreTooLarge : List (List ℕ) → Type 0
-AreTooLarge contents = (p : Program) × Is contents p × Obeys p × HasNoFlowFinding p × (has_large_conditions p ≡ true)
+AreTooLarge contents = (p : Program) × Is contents p × Obeys p × (has_many_variables p ≡ false) × HasNoFlowFinding p × (has_large_conditions p ≡ true)
 
 abbrev pub PassesLimit : List (List ℕ) → Type 0
-PassesLimit contents = AreTooLong contents ⊎ (IsReadTooFar contents ⊎ AreTooLarge contents)
+PassesLimit contents = AreTooLong contents ⊎ (IsReadTooFar contents ⊎ (AreTooWide contents ⊎ AreTooLarge contents))
 
 -- the contents spell a program on which there is nothing to report
 abbrev pub AreClean : List (List ℕ) → Type 0

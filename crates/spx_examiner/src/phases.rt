@@ -2,17 +2,18 @@
 ghost use Rattle.std.specs.Prelude.{◌≡◌, ◌≢◌, ◌≤◌, [], ◌∷◌, length, IfOk};
 ghost use Rattle.spx_core.specs.Erased.{erased};
 ghost use Rattle.spx_core.specs.Erased.{Visible};
+ghost use Rattle.spx_core.specs.Obeyed.{Obeys};
 ghost use Rattle.spx_core.specs.Statements.{Typed};
 ghost use Rattle.spx_report.specs.RuleTexts.{breach_finding};
 ghost use Rattle.spx_examiner.specs.declared.judgement.Judgement.TheVariants.{Refused};
 ghost use Rattle.spx_examiner.specs.Judgement.{status_of};
-ghost use Rattle.spx_examiner.specs.Outcome.{IsReportOn, IsReportOnUnits};
+ghost use Rattle.spx_examiner.specs.Outcome.{IsMadeFrom, IsReportOn, IsReportOnUnits, IsSoundFrom};
 
 use crate::Status;
 use crate::judgement::Judgement;
 use crate::reading::{Reading, read};
 use spx_core::{Breach, Program};
-use spx_report::{FindFault, Finding, LimitName, breach_finding, findings, flow_lines};
+use spx_report::{FindFault, Finding, LimitName, breach_finding, findings, flow_findings};
 use spx_resolve::{ResolveFault, resolve};
 use spx_rules::obey;
 use spx_tree::Unit;
@@ -35,25 +36,46 @@ fn refused_by(alloc: Global, breach: Breach) -> Result<Judgement, AllocError>
     refused(alloc, breach_finding(alloc, breach)?)
 }
 
-/// What there is to report on a program: the first breach of a rule on variables; else all flow findings; else that a
-/// condition has too many nodes; else what its conditions come to.
+/// What the conditions of a sound program come to, or that one has too many nodes.
+fn examined_conditions(alloc: Global, program: Program) -> Result<Judgement, AllocError>
+    requires { IsSoundFrom (erased program) program }
+    ensures report { IfOk result (IsReportOnUnits (erased program)) }
+    ensures named { IfOk result (λ judgement. status_of judgement ≢ Status.Usage) }
+{
+    match findings(alloc, &program) {
+        Ok(found) => Ok(Judgement::Examined(program, found)),
+        Err(FindFault::Limit(name)) => Ok(Judgement::Limit(name)),
+        Err(FindFault::Memory) => Err(AllocError),
+    }
+}
+
+/// What there is to report on a program that obeys the rules: that a subprogram has too many variables; else all flow
+/// findings; else what its conditions come to.
+fn examined_flow(alloc: Global, program: Program) -> Result<Judgement, AllocError>
+    requires made { IsMadeFrom (erased program) program }
+    requires obeys { Obeys program }
+    ensures report { IfOk result (IsReportOnUnits (erased program)) }
+    ensures named { IfOk result (λ judgement. status_of judgement ≢ Status.Usage) }
+{
+    match flow_findings(alloc, &program) {
+        Ok(found) if found.lines.is_empty() => examined_conditions(alloc, program),
+        Ok(found) => Ok(Judgement::Refused(found.lines)),
+        Err(FindFault::Limit(limit)) => Ok(Judgement::Limit(limit)),
+        Err(FindFault::Memory) => Err(AllocError),
+    }
+}
+
+/// What there is to report on a program: the first breach of a rule on variables; else what its flow and its conditions come
+/// to.
 fn examined_program(alloc: Global, program: Program) -> Result<Judgement, AllocError>
     requires visible { Visible program }
     requires typed { Typed program }
     ensures report { IfOk result (IsReportOnUnits (erased program)) }
     ensures named { IfOk result (λ judgement. status_of judgement ≢ Status.Usage) }
 {
-    if let Some(breach) = obey(&program) {
-        return refused_by(alloc, breach);
-    }
-    let lines = flow_lines(alloc, &program)?;
-    if !lines.is_empty() {
-        return Ok(Judgement::Refused(lines));
-    }
-    match findings(alloc, &program) {
-        Ok(found) => Ok(Judgement::Examined(program, found)),
-        Err(FindFault::Limit(name)) => Ok(Judgement::Limit(name)),
-        Err(FindFault::Memory) => Err(AllocError),
+    match obey(alloc, &program)? {
+        Some(breach) => refused_by(alloc, breach),
+        None => examined_flow(alloc, program),
     }
 }
 

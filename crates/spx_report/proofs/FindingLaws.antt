@@ -1,22 +1,24 @@
 -- Conditions that are closed, and those that are left.
-use Rattle.std.proofs.Common.{◌≡◌, ℕ, ◌+◌, Bool, true, false, not, cond, List, [], ◌∷◌, ◌++◌, ◌-◌, ◌<◌, ◌≤◌, length, map, filter, count_by, flat_map, take, get_or, add-zero, add-one, refl, sym, ap, ◌∙◌, arith}
-use Rattle.std.specs.Prelude.{◌↔◌}
-use Rattle.std.specs.List.{All, AllByRecursion, enumerate_from}
-use Rattle.std.proofs.lemmas.List.Elements.{All-from_recursion, recursion_from_All}
+use Rattle.std.proofs.Common.{◌≡◌, ℕ, ◌+◌, Bool, true, false, not, cond, List, [], ◌∷◌, ◌++◌, ◌-◌, ◌<◌, ◌≤◌, length, map, filter, count_by, ◌||◌, Option, Some, None, flat_map, take, get_or, add-zero, add-one, refl, sym, ap, ◌∙◌, arith}
+use Rattle.std.specs.Prelude.{◌↔◌, filter_map, slice_get}
+use Rattle.std.specs.List.{All, AllByRecursion, cons_option, enumerate_from, list_any}
+use Rattle.std.proofs.lemmas.List.Elements.{All-from_recursion, filter_map-append, recursion_from_All}
 use Rattle.std.proofs.Math.Seq.{take-suc}
-use Rattle.std.proofs.lemmas.List.{length-map, length-take, map-append, append-nil}
+use Rattle.std.proofs.lemmas.List.{length-map, append-nil}
 use Rattle.std.proofs.lemmas.Grind.{flat_map-append}
 use Rattle.std.proofs.lemmas.List.Sums.{length-filter}
 use Rattle.std.proofs.lemmas.List.Filters.{length-filter_both}
 use Rattle.spx_term.specs.declared.condition.Condition.{Condition}
 use Rattle.spx_term.specs.Plain.{closes-Decides, Plain}
+use Rattle.spx_meaning.specs.Limits.{has_large_condition}
 use Rattle.spx_meaning.specs.Paths.{conditions_of, ArePlain}
 use Rattle.spx_term.specs.Goals.{goal_of}
 use Rattle.spx_core.specs.declared.entity.SubId.{SubId}
+use Rattle.spx_core.specs.declared.program.Program.{Program}
 use Rattle.spx_core.specs.declared.subprogram.Sub.{Sub}
 use Rattle.spx_report.specs.declared.report.Finding.{Finding}
-use Rattle.spx_report.specs.declared.report.SubRow.{SubRow}
-use Rattle.spx_report.specs.Findings.{is_closed, is_left, unproved, unproved_of, row_of}
+use Rattle.spx_report.specs.declared.report.Findings.{Findings}
+use Rattle.spx_report.specs.Findings.{findings_of, is_closed, is_large_at, is_left, lines_at, row_at, row_of, unproved, unproved_of}
 
 -- ---- counts
 left_length : (cs : List Condition) → length (unproved_of cs) ≡ count_by is_left cs
@@ -36,33 +38,59 @@ row_of_counts id cs =
     let closed : count_by is_closed cs ≡ length cs - length (unproved_of cs) = omega (arith, left, closed_and_left cs) in
     λ i. record { sub = id; total = length cs; simplified = closed i; scripted = 0; left = sym left i }
 
--- ---- lines and rows
-abbrev pub lines_of : List Sub → List Finding
-lines_of subs = flat_map (λ sub. unproved_of (conditions_of sub)) subs
-
-pub lines_more : (subs : List Sub) (i : ℕ) (d : Sub) → i < length subs → lines_of (take (i + 1) subs) ≡ lines_of (take i subs) ++ unproved_of (conditions_of (get_or subs i d))
-lines_more subs i d within =
-    ap lines_of (ap (λ k. take k subs) (add-one i) ∙ take-suc subs i d within)
-    ∙ flat_map-append (λ (sub : Sub). unproved_of (conditions_of sub)) (take i subs) (get_or subs i d ∷ [])
-    ∙ ap (λ found. lines_of (take i subs) ++ found) (append-nil (unproved_of (conditions_of (get_or subs i d))))
-
+-- ---- numbered lists
 pub enumerate_from-push : {A : Type 0} (n : ℕ) (xs : List A) (x : A) → enumerate_from n (xs ++ x ∷ []) ≡ enumerate_from n xs ++ (n + length xs, x) ∷ []
 enumerate_from-push n [] x = ap (λ k. (k, x) ∷ []) (sym (add-zero n))
 enumerate_from-push n (y ∷ xs) x =
     ap (λ es. (n, y) ∷ es) (enumerate_from-push (n + 1) xs x ∙ ap (λ k. enumerate_from (n + 1) xs ++ (k, x) ∷ []) (let e : n + 1 + length xs ≡ n + length (y ∷ xs) = omega arith in e))
 
-abbrev pub rows_of : List Sub → List SubRow
-rows_of subs = map (λ e. row_of e.0 (conditions_of e.1)) (enumerate_from 0 subs)
+-- ---- lines and rows, body by body
+abbrev pub lines_of : List Sub → List Finding
+lines_of subs = flat_map (λ sub. unproved_of (conditions_of sub)) subs
 
-pub rows_more : (subs : List Sub) (i : ℕ) (d : Sub) → i < length subs → rows_of (take (i + 1) subs) ≡ rows_of (take i subs) ++ row_of i (conditions_of (get_or subs i d)) ∷ []
-rows_more subs i d within =
-    ap rows_of (ap (λ k. take k subs) (add-one i) ∙ take-suc subs i d within)
-    ∙ ap (map row) (enumerate_from-push 0 (take i subs) (get_or subs i d))
-    ∙ map-append row (enumerate_from 0 (take i subs)) ((0 + length (take i subs), get_or subs i d) ∷ [])
-    ∙ ap (λ k. rows_of (take i subs) ++ row_of k (conditions_of (get_or subs i d)) ∷ []) (let e : 0 + length (take i subs) ≡ i = omega (arith, length-take i subs) in e)
-  where
-    row : ℕ × Sub → SubRow
-    row e = row_of e.0 (conditions_of e.1)
+module _ (p : Program) where
+  abbrev pub lines_in : List SubId → List Finding
+  lines_in ids = flat_map (λ (id : SubId). lines_at (slice_get p.subs id.0)) ids
+
+  abbrev pub is_large_in : List SubId → Bool
+  is_large_in ids = list_any (λ (id : SubId). is_large_at (slice_get p.subs id.0)) ids
+
+  abbrev subs_in : List SubId → List Sub
+  subs_in ids = filter_map (λ (id : SubId). slice_get p.subs id.0) ids
+
+  pub lines_by_body : (ids : List SubId) → lines_in ids ≡ lines_of (subs_in ids)
+  lines_by_body [] = refl
+  lines_by_body (id ∷ ids) = ap (λ found. lines_at (slice_get p.subs id.0) ++ found) (lines_by_body ids) ∙ first (slice_get p.subs id.0)
+    where
+      first : (o : Option Sub) → lines_at o ++ lines_of (subs_in ids) ≡ lines_of (cons_option o (subs_in ids))
+      first (Some sub) = refl
+      first None = refl
+
+  pub large_by_body : (ids : List SubId) → is_large_in ids ≡ list_any has_large_condition (subs_in ids)
+  large_by_body [] = refl
+  large_by_body (id ∷ ids) = ap (λ large. is_large_at (slice_get p.subs id.0) || large) (large_by_body ids) ∙ first (slice_get p.subs id.0)
+    where
+      first : (o : Option Sub) → (is_large_at o || list_any has_large_condition (subs_in ids)) ≡ list_any has_large_condition (cons_option o (subs_in ids))
+      first (Some sub) = refl
+      first None = refl
+
+  -- what is found in all bodies is what is found in the program
+  pub findings_are : (found : Findings) → found.lines ≡ lines_in p.bodies → found.subs ≡ filter_map (row_at p) p.bodies → found ≡ findings_of p
+  unfolding findings_of
+  findings_are found lines rows = λ i. record { lines = (lines ∙ lines_by_body p.bodies) i; subs = rows i }
+
+  -- one more body
+  one_more : (ids : List SubId) (i : ℕ) (d : SubId) → i < length ids → take (i + 1) ids ≡ take i ids ++ get_or ids i d ∷ []
+  one_more ids i d within = ap (λ k. take k ids) (add-one i) ∙ take-suc ids i d within
+
+  pub lines_more : (ids : List SubId) (i : ℕ) (d : SubId) → i < length ids → lines_in (take (i + 1) ids) ≡ lines_in (take i ids) ++ lines_at (slice_get p.subs (get_or ids i d).0)
+  lines_more ids i d within =
+      ap lines_in (one_more ids i d within)
+      ∙ flat_map-append (λ (id : SubId). lines_at (slice_get p.subs id.0)) (take i ids) (get_or ids i d ∷ [])
+      ∙ ap (λ found. lines_in (take i ids) ++ found) (append-nil (lines_at (slice_get p.subs (get_or ids i d).0)))
+
+  pub rows_more : (ids : List SubId) (i : ℕ) (d : SubId) → i < length ids → filter_map (row_at p) (take (i + 1) ids) ≡ filter_map (row_at p) (take i ids) ++ cons_option (row_at p (get_or ids i d)) []
+  rows_more ids i d within = ap (filter_map (row_at p)) (one_more ids i d within) ∙ filter_map-append (row_at p) (take i ids) (get_or ids i d ∷ [])
 
 -- ---- no line
 abbrev IsPlain : Condition → Type 0

@@ -1,34 +1,33 @@
 -- Lines are in a strict order, in which any two that differ compare.
-use Rattle.std.proofs.Common.{◌≡◌, ℕ, true, false, ◌&&◌, ◌||◌, List, [], ◌∷◌, nat_eq, nat_lt, Ordering, Less, Equal, Greater, refl, sym, ap, ◌∙◌, arith}
+use Rattle.std.proofs.Common.{◌≡◌, ℕ, true, ◌&&◌, ◌||◌, List, [], ◌∷◌, nat_eq, nat_lt, Ordering, Less, Equal, Greater, refl, sym, ap, ◌∙◌, arith}
 use Rattle.std.specs.Prelude.{IsTrue, Option, Some, find}
 use Rattle.std.specs.Cmp.{IsTotalOrder}
-use Rattle.std.specs.Cmp.Lexicographic.{slice_cmp}
-use Rattle.std.specs.Ordering.{is_lt, is_eq, nat_cmp, ordering_then, ordering_reverse, then_cmp, on}
+use Rattle.std.specs.Ordering.{is_lt, is_eq, nat_cmp, ordering_then}
 use Rattle.std.proofs.lemmas.Bool.{and_parts, eqb-true}
 use Rattle.std.proofs.lemmas.Bool.Decides.{nat_tests}
 use Rattle.std.proofs.lemmas.Cmp.{on_total, then_total, nat_cmp_total, nat_list_cmp_total, same_from_slice_cmp, tied_itself}
 use Rattle.spx_text.specs.declared.place.Place.{Place}
 use Rattle.spx_core.specs.declared.rule.RuleName.{RuleName}
 use Rattle.spx_core.specs.declared.rule.RuleName.TheVariants as rule
+use Rattle.spx_core.specs.Marks.{same_place}
 use Rattle.spx_report.specs.declared.report.Finding.{Finding}
 use Rattle.spx_report.specs.Report.{code}
-use Rattle.spx_report.specs.FlowLines.{text_before, same_text, place_before, same_place, line_before}
+use Rattle.spx_report.specs.FlowLines.{text_before, same_text, place_before, line_before}
+use Rattle.spx_report.specs.LineLists.{place_cmp, text_cmp, line_cmp}
 
 -- ---- the order as comparisons
 
-abbrev place_cmp : Place → Place → Ordering
-place_cmp = then_cmp (on (λ (p : Place). p.file) nat_cmp) (then_cmp (on (λ (p : Place). p.line) nat_cmp) (on (λ (p : Place). p.column) nat_cmp))
+place_cmp_total : IsTotalOrder place_cmp
+place_cmp_total = then_total (then_total (on_total (λ (p : Place). p.file) nat_cmp_total) (on_total (λ (p : Place). p.line) nat_cmp_total)) (on_total (λ (p : Place). p.column) nat_cmp_total)
 
-abbrev text_cmp : List ℕ → List ℕ → Ordering
-text_cmp = slice_cmp nat_cmp
-
-abbrev line_cmp : Finding → Finding → Ordering
-line_cmp = then_cmp (on (λ (f : Finding). f.place) place_cmp) (then_cmp (on (λ (f : Finding). code f.rule) text_cmp) (on (λ (f : Finding). f.text) text_cmp))
-
-line_cmp_total : IsTotalOrder line_cmp
+pub line_cmp_total : IsTotalOrder line_cmp
 line_cmp_total =
-    then_total (on_total (λ (f : Finding). f.place) (then_total (on_total (λ (p : Place). p.file) nat_cmp_total) (then_total (on_total (λ (p : Place). p.line) nat_cmp_total) (on_total (λ (p : Place). p.column) nat_cmp_total))))
-    (then_total (on_total (λ (f : Finding). code f.rule) nat_list_cmp_total) (on_total (λ (f : Finding). f.text) nat_list_cmp_total))
+    then_total (then_total (on_total (λ (f : Finding). f.place) place_cmp_total) (on_total (λ (f : Finding). code f.rule) nat_list_cmp_total)) (on_total (λ (f : Finding). f.text) nat_list_cmp_total)
+
+then_assoc : (o p q : Ordering) → ordering_then (ordering_then o p) q ≡ ordering_then o (ordering_then p q)
+then_assoc Less p q = refl
+then_assoc Equal p q = refl
+then_assoc Greater p q = refl
 
 then_lt : (o p : Ordering) → is_lt (ordering_then o p) ≡ (is_lt o || (is_eq o && is_lt p))
 then_lt Less p = refl
@@ -52,15 +51,26 @@ text_is_lt xs ys = same_from_slice_cmp nat_cmp is_lt text_before refl (λ _ _. r
 text_is_eq : (xs ys : List ℕ) → is_eq (text_cmp xs ys) ≡ same_text xs ys
 text_is_eq xs ys = same_from_slice_cmp nat_cmp is_eq same_text refl (λ _ _. refl) (λ _ _. refl) (λ x y xs ys o h. grind (arith, nat_tests)) xs ys (text_cmp xs ys) refl
 
+-- by line and column
+abbrev lines_cmp : Place → Place → Ordering
+lines_cmp a b = ordering_then (nat_cmp a.line b.line) (nat_cmp a.column b.column)
+
 place_is_lt : (a b : Place) → is_lt (place_cmp a b) ≡ place_before a b
-place_is_lt a b = simp (then_lt, nat_is_lt, nat_is_eq)
+place_is_lt a b =
+    let parts : is_lt (ordering_then (nat_cmp a.file b.file) (lines_cmp a b)) ≡ place_before a b = simp (then_lt, nat_is_lt, nat_is_eq) in
+    ap is_lt (then_assoc (nat_cmp a.file b.file) (nat_cmp a.line b.line) (nat_cmp a.column b.column)) ∙ parts
 
 place_is_eq : (a b : Place) → is_eq (place_cmp a b) ≡ same_place a b
-place_is_eq a b = simp (then_eq, nat_is_eq)
+place_is_eq a b =
+    let parts : is_eq (ordering_then (nat_cmp a.file b.file) (lines_cmp a b)) ≡ same_place a b = simp (then_eq, nat_is_eq) in
+    ap is_eq (then_assoc (nat_cmp a.file b.file) (nat_cmp a.line b.line) (nat_cmp a.column b.column)) ∙ parts
 
 -- by rule and text
 abbrev rest_cmp : Finding → Finding → Ordering
 rest_cmp a b = ordering_then (text_cmp (code a.rule) (code b.rule)) (text_cmp a.text b.text)
+
+line_then_rest : (a b : Finding) → line_cmp a b ≡ ordering_then (place_cmp a.place b.place) (rest_cmp a b)
+line_then_rest a b = then_assoc (place_cmp a.place b.place) (text_cmp (code a.rule) (code b.rule)) (text_cmp a.text b.text)
 
 rest_is_lt : (a b : Finding) → is_lt (rest_cmp a b) ≡ (text_before (code a.rule) (code b.rule) || (same_text (code a.rule) (code b.rule) && text_before a.text b.text))
 rest_is_lt a b =
@@ -71,7 +81,9 @@ line_is_lt : (a b : Finding) → is_lt (line_cmp a b) ≡ line_before a b
 unfolding line_before
 line_is_lt a b =
     let rest = rest_is_lt a b in
-    then_lt (place_cmp a.place b.place) (rest_cmp a b) ∙ (λ i. place_is_lt a.place b.place i || (place_is_eq a.place b.place i && rest i))
+    ap is_lt (line_then_rest a b)
+    ∙ then_lt (place_cmp a.place b.place) (rest_cmp a b)
+    ∙ (λ i. place_is_lt a.place b.place i || (place_is_eq a.place b.place i && rest i))
 
 -- ---- equality
 
@@ -122,10 +134,10 @@ rules_same a b same =
     let found : ◌≡◌ {A = Option RuleName} (Some a) (Some b) = sym (rule_found a) ∙ ap rule_of same ∙ rule_found b in
     cc
 
-lines_same : (a b : Finding) → line_cmp a b ≡ Equal → a ≡ b
+pub lines_same : (a b : Finding) → line_cmp a b ≡ Equal → a ≡ b
 lines_same a b e =
     let all : is_eq (line_cmp a b) ≡ true = ap is_eq e in
-    let first = and_parts (is_eq (place_cmp a.place b.place)) (is_eq (rest_cmp a b)) (sym (then_eq (place_cmp a.place b.place) (rest_cmp a b)) ∙ all) in
+    let first = and_parts (is_eq (place_cmp a.place b.place)) (is_eq (rest_cmp a b)) (sym (then_eq (place_cmp a.place b.place) (rest_cmp a b)) ∙ ap is_eq (sym (line_then_rest a b)) ∙ all) in
     let rest = and_parts (is_eq (text_cmp (code a.rule) (code b.rule))) (is_eq (text_cmp a.text b.text)) (sym (then_eq (text_cmp (code a.rule) (code b.rule)) (text_cmp a.text b.text)) ∙ first.1) in
     let place = places_same a.place b.place (sym (place_is_eq a.place b.place) ∙ first.0) in
     let rule' = rules_same a.rule b.rule (texts_same (code a.rule) (code b.rule) (sym (text_is_eq (code a.rule) (code b.rule)) ∙ rest.0)) in
@@ -142,6 +154,9 @@ lt_Less Greater is = absurd (cc)
 before_cmp : (a b : Finding) → IsTrue (line_before a b) → line_cmp a b ≡ Less
 before_cmp a b is = lt_Less (line_cmp a b) (line_is_lt a b ∙ is)
 
+pub cmp_before : (a b : Finding) → line_cmp a b ≡ Less → IsTrue (line_before a b)
+cmp_before a b is = sym (line_is_lt a b) ∙ ap is_lt is
+
 pub line_before-irreflexive : (a : Finding) → ¬ IsTrue (line_before a a)
 line_before-irreflexive a is =
     let less = before_cmp a a is in
@@ -151,13 +166,3 @@ line_before-irreflexive a is =
 pub line_before-transitive : (a b c : Finding) → IsTrue (line_before a b) → IsTrue (line_before b c) → IsTrue (line_before a c)
 line_before-transitive a b c first second =
     sym (line_is_lt a c) ∙ ap is_lt (line_cmp_total.trans a b c (before_cmp a b first) (before_cmp b c second))
-
-neither : (o p : Ordering) → o ≡ ordering_reverse p → is_lt o ≡ false → is_lt p ≡ false → o ≡ Equal
-neither Less p e no_o no_p = absurd (cc)
-neither Equal p e no_o no_p = refl
-neither Greater Less e no_o no_p = absurd (cc)
-neither Greater Equal e no_o no_p = absurd (cc)
-neither Greater Greater e no_o no_p = absurd (cc)
-
-pub line_before-total : (a b : Finding) → line_before a b ≡ false → line_before b a ≡ false → a ≡ b
-line_before-total a b no_ab no_ba = lines_same a b (neither (line_cmp a b) (line_cmp b a) (line_cmp_total.antisymm a b) (line_is_lt a b ∙ no_ab) (line_is_lt b a ∙ no_ba))

@@ -1,118 +1,70 @@
 -- Lists of lines in order.
-use Rattle.std.proofs.Common.{◌≡◌, ◌↔◌, ◌⊎◌, ℕ, zero, suc, ◌<◌, ◌≤◌, ◌+◌, Bool, true, false, List, [], ◌∷◌, ◌++◌, length, get_or, take, drop, refl, sym, ap, subst, ◌∙◌, inl, inr, ⊎_elim, arith}
+use Rattle.std.proofs.Common.{◌≡◌, ◌↔◌, List, [], ◌∷◌, map, Less, Equal, Greater, Ordering, true, refl, sym, ap, subst, ◌∙◌, inl, inr, ⊎_elim}
 use Rattle.std.specs.Prelude.{IsTrue, All, Contains}
-use Rattle.std.specs.List.{AllWithin, insert}
-use Rattle.std.specs.List.Sorted.{IsPartitionedBy, IsPartitionPoint, IsPermutation}
-use Rattle.std.proofs.lemmas.List.{drop_all}
-use Rattle.std.proofs.lemmas.List.Elements.{All-nil, All-cons, All-append, All-take, All-drop, All-weaker, All-contains, Contains-append_left, Contains-push, Contains-push_cases}
-use Rattle.std.proofs.lemmas.List.Sorted.{IsPermutation-insert, IsPermutation-sym, Contains-permutation}
-use Rattle.std.proofs.lemmas.Bool.{cases_lt, not-true, not-false, both_ways}
-use Rattle.std.proofs.lemmas.Option.{slice_get-get_or, slice_get_past}
-use Rattle.std.proofs.lemmas.Grind.{take_at_read}
+use Rattle.std.specs.List.{dedup}
+use Rattle.std.specs.List.Sorted.{IsPermutation, IsSorted, IsStrictlySortedBy}
+use Rattle.std.specs.Ordering.{eq_by_cmp, is_eq}
+use Rattle.std.proofs.lemmas.Cmp.{eq_by_cmp_equiv}
+use Rattle.std.proofs.lemmas.List.Elements.{All-contains, All-from_recursion, All-weaker}
+use Rattle.std.proofs.lemmas.List.Kept.{Contains-dedup, Contains-from_dedup, IsStrictlySortedBy-dedup}
+use Rattle.std.proofs.lemmas.List.Sorted.{IsPermutation-sym, Contains-permutation}
 use Rattle.spx_core.specs.declared.program.Program.{Program}
-use Rattle.spx_flow.specs.declared.derives.FlowFinding.{FlowFinding}
-use Rattle.spx_flow.specs.FlowFindings.{AreFindingsIn}
-use Rattle.spx_flow.proofs.FlowLists.{Among, among_contains, contains_among, none_among}
+use Rattle.spx_derives.specs.declared.finding.FlowFinding.{FlowFinding}
 use Rattle.spx_report.specs.declared.report.Finding.{Finding}
 use Rattle.spx_report.specs.FlowLines.{line_before, flow_line, AreInOrder, AreFlowLines}
-use Rattle.spx_report.specs.LineLists.{not_before, stands_at, AddsLine, AreLinesOf}
-use Rattle.spx_report.proofs.LineOrder.{line_before-irreflexive, line_before-transitive, line_before-total}
+use Rattle.spx_report.specs.LineLists.{line_cmp, AreFindingsIn, AreInOrderOf}
+use Rattle.spx_report.proofs.LineOrder.{line_cmp_total, cmp_before, lines_same, line_before-irreflexive, line_before-transitive}
+use Rattle.spx_report.proofs.Members.{Among, among_contains, contains_among, none_contained, contains_map, map_contains}
 
--- ---- positions
+-- ---- sorted lines
 
--- of two lines in order, the one in front comes before the other
-in_order_at : (lines : List Finding) → AreInOrder lines → (i j : ℕ) (d : Finding) → i < j → j < length lines → IsTrue (line_before (get_or lines i d) (get_or lines j d))
-in_order_at [] order i j d lt len = absurd (omega arith)
-in_order_at (line ∷ lines) order i zero d lt len = absurd (omega arith)
-in_order_at (line ∷ lines) order zero (suc j) d lt len = order.0 j d (omega arith)
-in_order_at (line ∷ lines) order (suc i) (suc j) d lt len = in_order_at lines order.1 i j d (omega arith) (omega arith)
-
-abbrev pub before_line : Finding → Finding → Bool
-before_line line other = line_before other line
-
-pub partitioned : (lines : List Finding) (line : Finding) → AreInOrder lines → IsPartitionedBy (before_line line) lines
-partitioned lines line order i j d le len is =
-    elim (cases_lt i j) [
-      | inl lt ↦ line_before-transitive (get_or lines i d) (get_or lines j d) line (in_order_at lines order i j d lt len) is
-      | inr ge ↦ let same : j ≡ i = omega arith in subst (λ k. line_before (get_or lines k d) line ≡ true) same is
-    ]
-
--- ---- a line is put among others
-
--- what follows a line that comes after this one comes after it
-behind_after : (lines : List Finding) (line : Finding) (i : ℕ) → AreInOrder lines → i < length lines → IsTrue (line_before line (get_or lines i line)) → All (λ other. IsTrue (line_before line other)) (drop i lines)
-behind_after [] line i order lt is = absurd (omega arith)
-behind_after (first ∷ lines) line zero order lt is =
-    All-cons (λ other. IsTrue (line_before line other)) first lines is (All-weaker (λ other. IsTrue (line_before first other)) (λ other. IsTrue (line_before line other)) (λ other h. line_before-transitive line first other is h) lines order.0)
-behind_after (first ∷ lines) line (suc i) order lt is = behind_after lines line i order.1 (omega arith) is
-
-put_in_order : (lines : List Finding) (line : Finding) (i : ℕ) → AreInOrder lines → AllWithin (λ other. line_before other line ≡ true) lines 0 i → All (λ other. IsTrue (line_before line other)) (drop i lines) → AreInOrder (insert lines i line)
-put_in_order lines line zero order front behind = (behind, order)
-put_in_order [] line (suc i) order front behind = (All-nil (λ other. IsTrue (line_before line other)), tt)
-put_in_order (first ∷ lines) line (suc i) order front behind = (
-  All-append (λ other. IsTrue (line_before first other)) (take i lines) (line ∷ drop i lines)
-      (All-take (λ other. IsTrue (line_before first other)) i lines order.0)
-      (All-cons (λ other. IsTrue (line_before first other)) line (drop i lines) (front zero first (omega arith) (omega arith)) (All-drop (λ other. IsTrue (line_before first other)) i lines order.0)),
-  put_in_order lines line i order.1 (λ k d low high. front (suc k) d (omega arith) (omega arith)) behind,
+in_order : (lines : List Finding) → IsStrictlySortedBy line_cmp lines → AreInOrder lines
+unfolding IsStrictlySortedBy
+in_order [] sorted = tt
+in_order (line ∷ lines) sorted = (
+  All-weaker (λ other. line_cmp line other ≡ Less) (λ other. IsTrue (line_before line other)) (λ other is. cmp_before line other is) lines (All-from_recursion (λ other. line_cmp line other ≡ Less) lines sorted.0),
+  in_order lines sorted.1,
 )
 
-members_put : (lines : List Finding) (line : Finding) (i : ℕ) (other : Finding) → Contains (insert lines i line) other ↔ (Contains lines other ⊎ (line ≡ other))
-members_put lines line i other = (
-  λ c. ⊎_elim (λ is. inr is) (λ in_old. inl (among_contains lines other in_old)) (contains_among (line ∷ lines) other (Contains-permutation (insert lines i line) (line ∷ lines) other (IsPermutation-sym (line ∷ lines) (insert lines i line) moved) c)),
-  λ c. Contains-permutation (line ∷ lines) (insert lines i line) other moved (among_contains (line ∷ lines) other (⊎_elim (λ in_old. inr (contains_among lines other in_old)) (λ is. inl is) c)),
-)
-  where
-    moved : IsPermutation (line ∷ lines) (insert lines i line)
-    moved = IsPermutation-insert lines i line
+equal_is : (o : Ordering) → is_eq o ≡ true → o ≡ Equal
+equal_is Less is = absurd (cc)
+equal_is Equal is = refl
+equal_is Greater is = absurd (cc)
 
-abbrev pub Parts : List Finding → Finding → ℕ → Type 0
-Parts lines line i = IsPartitionPoint (λ other. line_before other line ≡ true) (λ other. line_before other line ≡ false) lines i
+same_line : (a b : Finding) → eq_by_cmp line_cmp a b ≡ true → a ≡ b
+same_line a b is = lines_same a b (equal_is (line_cmp a b) is)
 
-pub adds_put : (lines : List Finding) (line : Finding) (i : ℕ) → i ≤ length lines → Parts lines line i → stands_at lines i line ≡ false → AddsLine line lines (insert lines i line)
-adds_put lines line i within parts not_there = record { order = λ order. put_in_order lines line i order parts.0 (behind order); members = members_put lines line i } where
-  behind : AreInOrder lines → All (λ other. IsTrue (line_before line other)) (drop i lines)
-  behind order =
-      elim (cases_lt i (length lines)) [
-        | inl lt ↦ behind_after lines line i order lt (not-false (line_before line (get_or lines i line)) (sym (ap (not_before line) (slice_get-get_or lines i line lt)) ∙ not_there))
-        | inr ge ↦ subst (All (λ other. IsTrue (line_before line other))) (sym (drop_all i lines ge)) (All-nil (λ other. IsTrue (line_before line other)))
-      ]
-
-pub adds_none : (lines : List Finding) (line : Finding) (i : ℕ) → i ≤ length lines → Parts lines line i → stands_at lines i line ≡ true → AddsLine line lines lines
-adds_none lines line i within parts there = record { order = λ order. order; members = λ other. (λ c. inl c, ⊎_elim (λ c. c) (λ is. subst (Contains lines) is contained)) } where
-  contained : Contains lines line
-  contained =
-      elim (cases_lt i (length lines)) [
-        | inl lt ↦
-            let found = get_or lines i line in
-            let not_before = not-true (line_before line found) (sym (ap (not_before line) (slice_get-get_or lines i line lt)) ∙ there) in
-            (i, lt, line_before-total found line (parts.1 i line (omega arith) lt) not_before)
-        | inr ge ↦ absurd (past (ap (not_before line) (slice_get_past lines i ge)))
-      ]
-    where
-      past : stands_at lines i line ≡ false → ⊥
-      past none = both_ways (stands_at lines i line) none there
+pub in_order_of : (old sorted : List Finding) → IsPermutation old sorted → IsSorted line_cmp sorted → AreInOrderOf old (dedup (eq_by_cmp line_cmp) sorted)
+in_order_of old sorted moved ascend = record {
+  order = in_order (dedup (eq_by_cmp line_cmp) sorted) (IsStrictlySortedBy-dedup line_cmp_total (λ x y. refl) sorted ascend);
+  members = λ line. (
+    λ c. Contains-permutation sorted old line (IsPermutation-sym old sorted moved) (Contains-from_dedup (eq_by_cmp line_cmp) sorted line c),
+    λ c. Contains-dedup (eq_by_cmp_equiv line_cmp_total) same_line sorted line (Contains-permutation old sorted line moved c),
+  );
+}
 
 -- ---- the lines of findings
 
-pub lines_more : (p : Program) (found : List FlowFinding) (i : ℕ) (d : FlowFinding) (old new : List Finding) → i < length found → AreLinesOf p (take i found) old → AddsLine (flow_line p (get_or found i d)) old new → AreLinesOf p (take (i + 1) found) new
-lines_more p found i d old new lt are added = subst (λ xs. AreLinesOf p xs new) (sym (take_at_read found i d lt).1) (record { order = added.order are.order; members = members }) where
-  members : (line : Finding) → Contains new line ↔ ((g : FlowFinding) × Contains (take i found ++ get_or found i d ∷ []) g × (flow_line p g ≡ line))
-  members line = (
-    λ c. ⊎_elim (λ before. let w = (are.members line).0 before in (w.0, Contains-append_left (take i found) (get_or found i d ∷ []) w.0 w.1, w.2)) (λ here. (get_or found i d, Contains-push (take i found) (get_or found i d), here)) ((added.members line).0 c),
-    λ w. (added.members line).1 (⊎_elim (λ before. inl ((are.members line).1 (w.0, before, w.2))) (λ same. inr (ap (flow_line p) same ∙ w.2)) (Contains-push_cases (take i found) (get_or found i d) w.0 w.1)),
-  )
+abbrev pub AreLinesOf : Program → List FlowFinding → List Finding → Type 0
+AreLinesOf p found lines = AreInOrderOf (map (flow_line p) found) lines
+
+pub are_lines : (p : Program) (found lent : List FlowFinding) (made lines : List Finding) → lent ≡ found → made ≡ map (flow_line p) lent → AreInOrderOf made lines → AreLinesOf p found lines
+are_lines p found lent made lines same is are = subst (λ old. AreInOrderOf old lines) (is ∙ ap (map (flow_line p)) same) are
+
+pub flow_lines_are : (p : Program) (found : List FlowFinding) (lines : List Finding) → AreFindingsIn p p.subs found → AreLinesOf p found lines → AreFlowLines p lines
+flow_lines_are p found lines findings are = record {
+  order = are.order;
+  exact = λ line. (
+    λ c. let w = contains_map (flow_line p) found line ((are.members line).0 c) in (w.0, (findings w.0).0 w.1, w.2),
+    λ w. (are.members line).1 (subst (Contains (map (flow_line p) found)) w.2 (map_contains (flow_line p) found w.0 ((findings w.0).1 w.1))),
+  );
+}
 
 pub no_lines : (p : Program) (found : List FlowFinding) (lines : List Finding) → AreLinesOf p found lines → (lines ≡ []) ↔ (found ≡ [])
 no_lines p found lines are = (
-  λ empty. none_among found (λ f in_found. contains_among [] (flow_line p f) (subst (λ ls. Contains ls (flow_line p f)) empty ((are.members (flow_line p f)).1 (f, among_contains found f in_found, refl)))),
-  λ empty. none_among lines (λ line in_lines. let w = (are.members line).0 (among_contains lines line in_lines) in contains_among [] w.0 (subst (λ fs. Contains fs w.0) empty w.1)),
+  λ empty. none_contained found (λ f c. contains_among [] (flow_line p f) (subst (λ ls. Contains ls (flow_line p f)) empty ((are.members (flow_line p f)).1 (map_contains (flow_line p) found f c)))),
+  λ empty. none_contained lines (λ line c. contains_among [] line (subst (λ fs. Contains (map (flow_line p) fs) line) empty ((are.members line).0 c))),
 )
-
-pub flow_lines_are : (p : Program) (found : List FlowFinding) (lines : List Finding) → AreFindingsIn p.subs found → AreLinesOf p found lines → AreFlowLines p lines
-flow_lines_are p found lines findings are = record {
-  order = are.order;
-  exact = λ line. (λ c. let w = (are.members line).0 c in (w.0, (findings w.0).0 w.1, w.2), λ w. (are.members line).1 (w.0, (findings w.0).1 w.1, w.2));
-}
 
 -- ---- one list
 

@@ -1,14 +1,17 @@
 -- What the verification conditions of a program come to.
-use Rattle.std.specs.Prelude.{ℕ, Bool, not, List, ◌++◌, length, map, flat_map, filter, count_by, codes}
-use Rattle.std.specs.List.{enumerate_from}
+use Rattle.std.specs.Prelude.{ℕ, Bool, false, not, List, [], ◌++◌, length, map, flat_map, filter, filter_map, count_by, Option, Some, None, option_map, slice_get, codes}
 use Rattle.spx_text.specs.declared.place.Place.{Place}
+use Rattle.spx_core.specs.declared.entity.SubId.{SubId}
 use Rattle.spx_core.specs.declared.program.Program.{Program}
+use Rattle.spx_core.specs.declared.subprogram.Sub.{Sub}
 use Rattle.spx_core.specs.declared.rule.RuleName.TheVariants.{V1}
+use Rattle.spx_core.specs.Bodies.{bodies_of}
 use Rattle.spx_term.specs.declared.condition.CondKind.{CondKind}
 use Rattle.spx_term.specs.declared.condition.CondKind.TheVariants.{Overflow, Range}
 use Rattle.spx_term.specs.declared.condition.Condition.{Condition}
 use Rattle.spx_term.specs.Goals.{goal_of}
 use Rattle.spx_term.specs.Plain.{closes}
+use Rattle.spx_meaning.specs.Limits.{has_large_condition}
 use Rattle.spx_meaning.specs.Paths.{conditions_of}
 use Rattle.spx_report.specs.declared.report.Finding.{Finding}
 use Rattle.spx_report.specs.declared.report.SubRow.{SubRow}
@@ -40,8 +43,22 @@ unproved_of conditions = map unproved (filter is_left conditions)
 unfoldable pub row_of : ℕ → List Condition → SubRow
 row_of n conditions = record { sub = record { 0 = n }; total = length conditions; simplified = count_by is_closed conditions; scripted = 0; left = count_by is_left conditions }
 
+-- the row of a body; there is none where no subprogram has this id
+abbrev pub row_at : Program → SubId → Option SubRow
+row_at p id = option_map (λ (sub : Sub). row_of id.0 (conditions_of sub)) (slice_get p.subs id.0)
+
 unfoldable pub findings_of : Program → Findings
 findings_of p = record {
-  lines = flat_map (λ sub. unproved_of (conditions_of sub)) p.subs;
-  subs = map (λ e. row_of e.0 (conditions_of e.1)) (enumerate_from 0 p.subs);
+  lines = flat_map (λ sub. unproved_of (conditions_of sub)) (bodies_of p);
+  subs = filter_map (row_at p) p.bodies;
 }
+
+-- ---- what one body adds to that: nothing where no subprogram has its id
+
+abbrev pub lines_at : Option Sub → List Finding
+lines_at (Some sub) = unproved_of (conditions_of sub)
+lines_at None = []
+
+abbrev pub is_large_at : Option Sub → Bool
+is_large_at (Some sub) = has_large_condition sub
+is_large_at None = false

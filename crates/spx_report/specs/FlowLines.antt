@@ -5,9 +5,10 @@ use Rattle.spx_core.specs.declared.entity.VarId.{VarId}
 use Rattle.spx_core.specs.declared.program.Var.{Var}
 use Rattle.spx_core.specs.declared.program.Program.{Program}
 use Rattle.spx_core.specs.declared.rule.RuleName.TheVariants.{F1, F2, F3, F4}
-use Rattle.spx_flow.specs.declared.derives.FlowFinding.{FlowFinding}
-use Rattle.spx_flow.specs.declared.derives.FlowFinding.TheVariants as finding
-use Rattle.spx_flow.specs.FlowFindings.{Finds}
+use Rattle.spx_core.specs.Marks.{same_place}
+use Rattle.spx_derives.specs.declared.finding.FlowFinding.{FlowFinding}
+use Rattle.spx_derives.specs.declared.finding.FlowFinding.TheVariants as finding
+use Rattle.spx_derives.specs.FlowFindings.{Finds}
 use Rattle.spx_report.specs.declared.report.Finding.{Finding}
 use Rattle.spx_report.specs.Report.{code}
 
@@ -41,9 +42,6 @@ text_before (x ∷ xs) (y ∷ ys) = nat_lt x y || (nat_eq x y && text_before xs 
 abbrev pub place_before : Place → Place → Bool
 place_before a b = nat_lt a.file b.file || (nat_eq a.file b.file && (nat_lt a.line b.line || (nat_eq a.line b.line && nat_lt a.column b.column)))
 
-abbrev pub same_place : Place → Place → Bool
-same_place a b = nat_eq a.file b.file && (nat_eq a.line b.line && nat_eq a.column b.column)
-
 abbrev pub same_text : List ℕ → List ℕ → Bool
 same_text [] [] = true
 same_text [] (y ∷ ys) = false
@@ -64,4 +62,4 @@ AreInOrder (line ∷ lines) = All (λ other. IsTrue (line_before line other)) li
 -- these are the lines on the flow of the program, each once, in order
 pub record AreFlowLines (p : Program) (lines : List Finding) : Type 0 where
   pub order : AreInOrder lines
-  pub exact : (line : Finding) → Contains lines line ↔ ((found : FlowFinding) × Any (λ sub. Finds sub found) p.subs × (flow_line p found ≡ line))
+  pub exact : (line : Finding) → Contains lines line ↔ ((found : FlowFinding) × Any (λ sub. Finds p sub found) p.subs × (flow_line p found ≡ line))

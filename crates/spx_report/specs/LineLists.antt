@@ -1,25 +1,33 @@
--- How the list of flow lines is made: lines are put, one by one, among lines in order.
-use Rattle.std.specs.Prelude.{◌≡◌, ◌↔◌, ◌⊎◌, ℕ, Bool, not, false, List, Option, Some, None, slice_get, Contains}
+-- How the list of flow lines is made: findings are gathered, and their lines are sorted.
+use Rattle.std.specs.Prelude.{◌↔◌, ℕ, List, Any, Contains}
+use Rattle.std.specs.declared.cmp.Ordering.{Ordering}
+use Rattle.std.specs.Ordering.{nat_cmp, ordering_then}
+use Rattle.std.specs.Cmp.Lexicographic.{slice_cmp}
+use Rattle.spx_text.specs.declared.place.Place.{Place}
 use Rattle.spx_core.specs.declared.program.Program.{Program}
-use Rattle.spx_flow.specs.declared.derives.FlowFinding.{FlowFinding}
+use Rattle.spx_core.specs.declared.subprogram.Sub.{Sub}
+use Rattle.spx_derives.specs.declared.finding.FlowFinding.{FlowFinding}
+use Rattle.spx_derives.specs.FlowFindings.{Finds}
 use Rattle.spx_report.specs.declared.report.Finding.{Finding}
-use Rattle.spx_report.specs.FlowLines.{flow_line, line_before, AreInOrder}
+use Rattle.spx_report.specs.Report.{code}
+use Rattle.spx_report.specs.FlowLines.{AreInOrder}
 
--- whether there is another line, which this one does not come before
-abbrev pub not_before : Finding → Option Finding → Bool
-not_before line (Some other) = not (line_before line other)
-not_before line None = false
+-- these are the findings of these subprograms of the program
+abbrev pub AreFindingsIn : Program → List Sub → List FlowFinding → Type 0
+AreFindingsIn p subs found = (f : FlowFinding) → Contains found f ↔ Any (λ sub. Finds p sub f) subs
 
--- whether there is a line at the position, which this one does not come before
-abbrev pub stands_at : List Finding → ℕ → Finding → Bool
-stands_at lines position line = not_before line (slice_get lines position)
+-- ---- the order of lines, as comparisons
 
--- the line is put among the others, and they stay in order
-pub record AddsLine (line : Finding) (old new : List Finding) : Type 0 where
-  pub order : AreInOrder old → AreInOrder new
-  pub members : (other : Finding) → Contains new other ↔ (Contains old other ⊎ (line ≡ other))
+abbrev pub place_cmp : Place → Place → Ordering
+place_cmp a b = ordering_then (ordering_then (nat_cmp a.file b.file) (nat_cmp a.line b.line)) (nat_cmp a.column b.column)
 
--- these are the lines of the findings, each once, in order
-pub record AreLinesOf (p : Program) (found : List FlowFinding) (lines : List Finding) : Type 0 where
-  pub order : AreInOrder lines
-  pub members : (line : Finding) → Contains lines line ↔ ((finding : FlowFinding) × Contains found finding × (flow_line p finding ≡ line))
+abbrev pub text_cmp : List ℕ → List ℕ → Ordering
+text_cmp = slice_cmp nat_cmp
+
+abbrev pub line_cmp : Finding → Finding → Ordering
+line_cmp a b = ordering_then (ordering_then (place_cmp a.place b.place) (text_cmp (code a.rule) (code b.rule))) (text_cmp a.text b.text)
+
+-- the new list has the lines of the old one, each once, in order
+pub record AreInOrderOf (old new : List Finding) : Type 0 where
+  pub order : AreInOrder new
+  pub members : (line : Finding) → Contains new line ↔ Contains old line

@@ -1,16 +1,23 @@
 // The lines of a report on flow.
-ghost use Rattle.std.specs.Prelude.{◌≡◌, ◌↔◌, ◌≤◌, ◌++◌, [], true, false, length, codes, IfOk, OnOk};
-ghost use Rattle.std.specs.List.Sorted.{IsPartitionPoint};
-ghost use Rattle.spx_core.specs.Flow.{HasNoFlowFinding};
+ghost use Rattle.std.specs.Prelude.{◌≡◌, ◌↔◌, ◌<◌, ◌++◌, [], Some, false, length, map, slice_get, codes, IfErr, IfOk};
+ghost use Rattle.spx_core.specs.declared.subprogram.Sub.{Sub};
+ghost use Rattle.spx_core.specs.Erased.{Visible};
+ghost use Rattle.spx_core.specs.FlowRules.{has_many_variables, is_wide, HasNoFlowFinding};
+ghost use Rattle.spx_derives.specs.FlowFindings.{AreFindingsOf};
 ghost use Rattle.spx_report.specs.FlowLines as spec;
-ghost use Rattle.spx_report.specs.LineLists.{stands_at, AddsLine, AreLinesOf};
+ghost use Rattle.spx_report.specs.LineLists.{line_cmp, place_cmp, AreFindingsIn, AreInOrderOf};
+ghost use Rattle.spx_report.specs.Limits.{IsFaultWhere};
+ghost use Rattle.spx_report.specs.declared.limit.LimitName.TheVariants.{Variables};
 
-use crate::report::{Finding, code};
-use spx_core::{Program, RuleName, VarId};
-use spx_flow::{FlowFinding, flow_findings};
+use crate::limit::{FindFault, LimitName};
+use crate::report::{Finding, Findings, code};
+use spx_core::{Program, RuleName, SubId, VarId};
+use spx_derives::{FlowFinding, compare};
+use spx_flow::{FlowFault, flow_of};
 use spx_text::{Place, Text};
 use sqlite_items::Items;
 use std::alloc::{AllocError, Global};
+use std::cmp::Ordering;
 
 /// The name of a variable, as it is declared.
 fn var_name(program: &Program, var: VarId) -> &[u8]
@@ -77,152 +84,89 @@ fn flow_line(alloc: Global, program: &Program, finding: FlowFinding) -> Result<F
     }
 }
 
-/// Whether a text comes before another, byte by byte.
-fn text_before(a: &[u8], b: &[u8]) -> bool
-    ensures { result ≡ spec.text_before a.now b.now }
+/// Compares places by file, line, column.
+fn compare_places(a: Place, b: Place) -> Ordering
+    ensures { result ≡ place_cmp a b }
 {
-    a < b
+    (a.file, a.line, a.column).cmp(&(b.file, b.line, b.column))
 }
 
-fn same_text(a: &[u8], b: &[u8]) -> bool
-    ensures { result ≡ spec.same_text a.now b.now }
+/// Compares lines by place, rule, text.
+fn compare_lines(a: &Finding, b: &Finding) -> Ordering
+    ensures { result ≡ line_cmp a.now b.now }
 {
-    a == b
+    compare_places(a.place, b.place)
+        .then_with(|| code(a.rule).cmp(code(b.rule)))
+        .then_with(|| a.text.as_bytes().cmp(b.text.as_bytes()))
 }
 
-/// Whether a place comes before another: by file, line, column.
-fn place_before(a: Place, b: Place) -> bool
-    ensures { result ≡ spec.place_before a b }
+/// Puts lines in order, and keeps each once.
+fn put_in_order(lines: &mut Vec<Finding>)
+    ensures { AreInOrderOf lines.old.items lines.new.items }
 {
-    a.file < b.file
-        || (a.file == b.file && (a.line < b.line || (a.line == b.line && a.column < b.column)))
+    lines.sort_unstable_by(|a, b| compare_lines(a, b));
+    lines.dedup_by(|a, b| compare_lines(a, b).is_eq());
 }
 
-fn same_place(a: Place, b: Place) -> bool
-    ensures { result ≡ spec.same_place a b }
-{
-    a.file == b.file && (a.line == b.line && a.column == b.column)
-}
-
-/// Whether a line comes before another: by place, rule, text.
-#[tactic(auto, unfolding(crate::specs::FlowLines::line_before))]
-fn line_before(a: &Finding, b: &Finding) -> bool
-    ensures { result ≡ spec.line_before a.now b.now }
-{
-    place_before(a.place, b.place)
-        || (same_place(a.place, b.place)
-            && (text_before(code(a.rule), code(b.rule))
-                || (same_text(code(a.rule), code(b.rule))
-                    && text_before(a.text.as_bytes(), b.text.as_bytes()))))
-}
-
-/// The position of the first line that does not come before this one.
-fn position_of(lines: &[Finding], line: &Finding) -> usize
-    requires { spec.AreInOrder lines.now }
-    ensures bound { result ≤ length lines.now }
-    ensures parts { IsPartitionPoint (λ other. spec.line_before other line.now ≡ true) (λ other. spec.line_before other line.now ≡ false) lines.now result }
-{
-    lines.partition_point(|other| line_before(other, line))
-}
-
-/// Whether there is a line at the position, which this one does not come before.
-fn stands_at(lines: &[Finding], position: usize, line: &Finding) -> bool
-    ensures { result ≡ stands_at lines.now position line.now }
-{
-    match lines.get(position) {
-        Some(other) => !line_before(line, other),
-        None => false,
-    }
-}
-
-/// Puts a line among lines that are in order, unless it is one of them.
-fn put_line(lines: &mut Vec<Finding>, line: Finding) -> Result<(), AllocError>
-    requires { spec.AreInOrder lines.old.items }
-    ensures { OnOk result (AddsLine line lines.old.items lines.new.items) }
-{
-    let position = position_of(lines.as_slice(), &line);
-    // Of the two none comes before the other, so they are equal.
-    if stands_at(lines.as_slice(), position, &line) {
-        return Ok(());
-    }
-    lines.insert(position, line)?;
-    Ok(())
-}
-
-/// The lines of findings, each once, in order.
+/// A line for each finding.
 fn lines_of(
     alloc: Global,
     program: &Program,
     found: &[FlowFinding],
 ) -> Result<Vec<Finding>, AllocError>
-    ensures { IfOk result (λ lines. AreLinesOf program.now found.now lines.items) }
+    ensures { IfOk result (λ lines. lines.items ≡ map (spec.flow_line program.now) found.now) }
 {
     let mut lines = Vec::new(alloc);
     for finding in found {
-        put_line(&mut lines, flow_line(alloc, program, *finding)?)?;
+        lines.push(flow_line(alloc, program, *finding)?)?;
     }
     Ok(lines)
 }
 
-/// The lines on the flow of a program, each once, in order.
-pub fn flow_lines(alloc: Global, program: &Program) -> Result<Items<Finding>, AllocError>
-    ensures exact { IfOk result (spec.AreFlowLines program.now) }
-    ensures none { IfOk result (λ lines. (lines ≡ []) ↔ HasNoFlowFinding program.now) }
+/// The findings on the flow of a subprogram.
+fn sub_findings(alloc: Global, program: &Program, id: SubId) -> Result<Vec<FlowFinding>, FindFault>
+    requires visible { Visible program.now }
+    requires id { id.0 < length program.now.subs }
+    ensures exact { (sub : Sub) → slice_get program.now.subs id.0 ≡ Some sub → IfOk result (λ found. AreFindingsOf program.now sub found.items) }
+    ensures narrow { (sub : Sub) → slice_get program.now.subs id.0 ≡ Some sub → IfOk result (λ _. is_wide sub ≡ false) }
+    ensures refused { (sub : Sub) → slice_get program.now.subs id.0 ≡ Some sub → IfErr result (IsFaultWhere Variables (is_wide sub)) }
 {
-    let found = flow_findings(alloc, program)?;
-    let lines = lines_of(alloc, program, found.as_slice())?;
-    Ok(Items::from_vec(lines))
+    match flow_of(alloc, program, id) {
+        Ok(flow) => Ok(compare(alloc, program, id, &flow)?),
+        Err(FlowFault::TooManyVariables(_)) => Err(FindFault::Limit(LimitName::Variables)),
+        Err(FlowFault::Memory) => Err(FindFault::Memory),
+    }
 }
 
-#[cfg(test)]
-mod tests {
-    use super::*;
-    use crate::report::refusal_text;
-    use spx_core::{INTEGER, Var, VarKind};
-    use std::test::Fail;
-
-    fn place(line: u32) -> Place {
-        Place {
-            file: 0,
-            line,
-            column: 1,
-        }
+/// The findings on the flow of all subprograms.
+fn all_findings(alloc: Global, program: &Program) -> Result<Vec<FlowFinding>, FindFault>
+    requires { Visible program.now }
+    ensures exact { IfOk result (λ found. AreFindingsIn program.now program.now.subs found.items) }
+    ensures narrow { IfOk result (λ _. has_many_variables program.now ≡ false) }
+    ensures refused { IfErr result (IsFaultWhere Variables (has_many_variables program.now)) }
+{
+    let mut all = Vec::new(alloc);
+    for position in 0..program.subs.len() {
+        let mut found = sub_findings(alloc, program, SubId(position))?;
+        all.append(&mut found)?;
     }
+    Ok(all)
+}
 
-    fn var(alloc: Global, name: &[u8]) -> Result<Var, AllocError> {
-        Ok(Var {
-            name: Text::new(alloc, name)?,
-            kind: VarKind::Local,
-            type_id: INTEGER.id,
-        })
-    }
-
-    fn program(alloc: Global) -> Result<Program, AllocError> {
-        let mut vars = Items::new(alloc);
-        vars.push(var(alloc, b"X")?)?;
-        vars.push(var(alloc, b"Y")?)?;
-        Ok(Program {
-            types: Items::new(alloc),
-            vars,
-            subs: Items::new(alloc),
-        })
-    }
-
-    #[test]
-    fn lines_stand_in_order_and_once(rt: HostRuntime) -> Result<(), Fail> {
-        let alloc = rt.alloc();
-        let found = [
-            FlowFinding::UnsetRead(place(2), VarId(0)),
-            FlowFinding::Missing(place(1), VarId(0), VarId(1)),
-            FlowFinding::UnsetRead(place(2), VarId(0)),
-            FlowFinding::Ineffective(place(2)),
-        ];
-        let lines = lines_of(alloc, &program(alloc)?, &found)?;
-        let files = vec![in alloc; String::from_str(alloc, "a.adb")?]?;
-        let text = refusal_text(alloc, files.as_slice(), lines.as_slice())?;
-        let wanted =
-            b"a.adb:1:1: F1 missing: Y from X\na.adb:2:1: F3 ineffective\na.adb:2:1: F4 unset: X\nrefused: 3\n";
-        assert_eq!(rt; text.as_slice(), wanted.as_slice());
-        Ok(())
-    }
+/// The lines on the flow of a program, each once, in order, where no subprogram has too many variables.
+pub fn flow_findings(alloc: Global, program: &Program) -> Result<Findings, FindFault>
+    requires { Visible program.now }
+    ensures exact { IfOk result (λ found. spec.AreFlowLines program.now found.lines) }
+    ensures rows { IfOk result (λ found. found.subs ≡ []) }
+    ensures none { IfOk result (λ found. (found.lines ≡ []) ↔ HasNoFlowFinding program.now) }
+    ensures narrow { IfOk result (λ _. has_many_variables program.now ≡ false) }
+    ensures refused { IfErr result (IsFaultWhere Variables (has_many_variables program.now)) }
+{
+    let found = all_findings(alloc, program)?;
+    let mut lines = lines_of(alloc, program, found.as_slice())?;
+    put_in_order(&mut lines);
+    Ok(Findings {
+        lines: Items::from_vec(lines),
+        subs: Items::new(alloc),
+    })
 }

@@ -8,7 +8,7 @@ mod refusals;
 mod report;
 mod tally;
 
-pub use flow::flow_lines;
+pub use flow::flow_findings;
 pub use limit::{FindFault, LimitName};
 pub use refusals::breach_finding;
 pub use report::{Finding, Findings, SubRow, refusal_text, report_text};

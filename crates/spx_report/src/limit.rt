@@ -1,4 +1,4 @@
-// Limits, and why a program has no findings on its conditions.
+// Limits, and why a program has no findings.
 ghost use Rattle.std.specs.Prelude.{◌≡◌};
 ghost use Rattle.spx_report.specs.Limits.{limit_text};
 
@@ -14,6 +14,8 @@ pub enum LimitName {
     Tokens,
     /// The levels of an expression.
     Nesting,
+    /// The variables of a subprogram.
+    Variables,
     /// The nodes of a verification condition.
     Nodes,
 }
@@ -27,12 +29,13 @@ impl LimitName {
             LimitName::FileSize => b"limit: file size, at most 4194304\n",
             LimitName::Tokens => b"limit: tokens, at most 1000000\n",
             LimitName::Nesting => b"limit: nesting, at most 200\n",
+            LimitName::Variables => b"limit: variables, at most 4096\n",
             LimitName::Nodes => b"limit: nodes, at most 1000000\n",
         }
     }
 }
 
-/// Why there are no findings on the conditions of a program.
+/// Why there are no findings on the flow of a program, or on its conditions.
 #[derive(Clone, Copy, Debug, PartialEq, Eq, Error)]
 pub enum FindFault {
     /// A counted quantity passes its greatest number.

@@ -1,11 +1,14 @@
 // What the verification conditions of a program come to.
-ghost use Rattle.std.specs.Prelude.{◌≡◌, ◌+◌, ◌-◌, ◌≤◌, ◌++◌, ◌∷◌, [], ◌↔◌, false, map, All, IfErr, IfOk, OnOk};
+ghost use Rattle.std.specs.Prelude.{◌≡◌, ◌+◌, ◌-◌, ◌≤◌, ◌++◌, ◌∷◌, [], ◌↔◌, false, map, slice_get, All, IfErr, IfOk, OnOk};
+ghost use Rattle.std.specs.List.{cons_option, list_any};
 ghost use Rattle.spx_arena.specs.Claims.{claims_in, IsWhole};
-ghost use Rattle.spx_meaning.specs.Limits.{has_large_condition, has_large_conditions};
+ghost use Rattle.spx_core.specs.Bodies.{bodies_of};
+ghost use Rattle.spx_meaning.specs.Limits.{has_large_condition};
 ghost use Rattle.spx_meaning.specs.Paths.{ArePlain, condition_name, conditions_of, numbered, tree_of};
 ghost use Rattle.spx_report.specs.Findings as spec;
 ghost use Rattle.spx_report.specs.LeftClaims.{left_or};
 ghost use Rattle.spx_report.specs.Limits.{IsFaultWhere};
+ghost use Rattle.spx_report.specs.declared.limit.LimitName.TheVariants.{Nodes};
 ghost use Rattle.spx_term.specs.Steps.{claims_of, closes_claim, tidy};
 
 use crate::limit::{FindFault, LimitName};
@@ -100,7 +103,7 @@ fn claims_of(alloc: Global, sub: &Sub) -> Result<SharedClaims, FindFault>
     ensures whole { IfOk result IsWhole }
     ensures claims { IfOk result (λ all. claims_in all ≡ map tidy (claims_of (tree_of sub.now))) }
     ensures few { OnOk result (has_large_condition sub.now ≡ false) }
-    ensures limit { IfErr result (IsFaultWhere (has_large_condition sub.now)) }
+    ensures limit { IfErr result (IsFaultWhere Nodes (has_large_condition sub.now)) }
 {
     match shared_conditions(alloc, sub) {
         Ok(claims) => Ok(claims),
@@ -114,7 +117,7 @@ fn add_sub(alloc: Global, id: SubId, sub: &Sub, found: &mut Findings) -> Result<
     ensures lines { OnOk result (found.new.lines ≡ found.old.lines ++ spec.unproved_of (conditions_of sub.now)) }
     ensures rows { OnOk result (found.new.subs ≡ found.old.subs ++ spec.row_of id.0 (conditions_of sub.now) ∷ []) }
     ensures few { OnOk result (has_large_condition sub.now ≡ false) }
-    ensures limit { IfErr result (IsFaultWhere (has_large_condition sub.now)) }
+    ensures limit { IfErr result (IsFaultWhere Nodes (has_large_condition sub.now)) }
 {
     let mut claims = claims_of(alloc, sub)?;
     let closed = closed_claims(alloc, &mut claims)?;
@@ -125,20 +128,38 @@ fn add_sub(alloc: Global, id: SubId, sub: &Sub, found: &mut Findings) -> Result<
     Ok(())
 }
 
-/// The conditions that are left, and a row for each subprogram, where no condition is too large.
+/// Adds the findings and the row of a body.
+fn add_body(
+    alloc: Global,
+    program: &Program,
+    id: SubId,
+    found: &mut Findings,
+) -> Result<(), FindFault>
+    ensures lines { OnOk result (found.new.lines ≡ found.old.lines ++ spec.lines_at (slice_get program.now.subs id.0)) }
+    ensures rows { OnOk result (found.new.subs ≡ found.old.subs ++ cons_option (spec.row_at program.now id) []) }
+    ensures few { OnOk result (spec.is_large_at (slice_get program.now.subs id.0) ≡ false) }
+    ensures limit { IfErr result (IsFaultWhere Nodes (spec.is_large_at (slice_get program.now.subs id.0))) }
+{
+    match program.subs.get(id.0) {
+        Some(sub) => add_sub(alloc, id, sub, found),
+        None => Ok(()),
+    }
+}
+
+/// The conditions that are left, and a row for each body, where no condition is too large.
 #[tactic(auto, unfolding(crate::specs::Findings::findings_of))]
 pub fn findings(alloc: Global, program: &Program) -> Result<Findings, FindFault>
     ensures exact { IfOk result (λ found. found ≡ spec.findings_of program.now) }
-    ensures none { IfOk result (λ found. (found.lines ≡ []) ↔ All (λ sub. ArePlain (conditions_of sub)) program.now.subs) }
-    ensures few { IfOk result (λ _. has_large_conditions program.now ≡ false) }
-    ensures limit { IfErr result (IsFaultWhere (has_large_conditions program.now)) }
+    ensures none { IfOk result (λ found. (found.lines ≡ []) ↔ All (λ sub. ArePlain (conditions_of sub)) (bodies_of program.now)) }
+    ensures few { IfOk result (λ _. list_any has_large_condition (bodies_of program.now) ≡ false) }
+    ensures limit { IfErr result (IsFaultWhere Nodes (list_any has_large_condition (bodies_of program.now))) }
 {
     let mut found = Findings {
         lines: Items::new(alloc),
         subs: Items::new(alloc),
     };
-    for (position, sub) in program.subs.as_slice().iter().enumerate() {
-        add_sub(alloc, SubId(position), sub, &mut found)?;
+    for id in program.bodies.as_slice() {
+        add_body(alloc, program, *id, &mut found)?;
     }
     Ok(found)
 }

@@ -1,59 +1,69 @@
-use Rattle.std.proofs.Common.{◌≡◌, ◌<◌, ◌≤◌, Bool, false, true, ◌||◌, List, [], length, take, get_or, sym, ap, ap₂, ◌∙◌, subst, arith}
-use Rattle.std.specs.Prelude.{◌↔◌}
+use Rattle.std.proofs.Common.{◌≡◌, ◌<◌, ◌≤◌, Bool, false, ◌||◌, List, [], length, take, get_or, sym, ap, ap₂, ◌∙◌, subst, arith}
+use Rattle.std.specs.Prelude.{◌↔◌, filter_map, slice_get}
 use Rattle.std.specs.List.{All, list_any}
 use Rattle.std.proofs.lemmas.List.{take_all}
 use Rattle.std.proofs.lemmas.List.Folds.{list_any_at, list_any_more}
 use Rattle.std.proofs.lemmas.Result.{err_from_is_err_and}
-use Rattle.spx_meaning.specs.Limits.{has_large_condition, has_large_conditions}
+use Rattle.spx_core.specs.Bodies.{bodies_of}
+use Rattle.spx_core.specs.Resolved.{sub_at}
+use Rattle.spx_core.specs.declared.entity.SubId.{SubId}
+use Rattle.spx_meaning.specs.Limits.{has_large_condition}
 use Rattle.spx_report.specs.declared.report.Finding.{Finding}
-use Rattle.spx_report.specs.declared.limit.FindFault.{FindFault}
-use Rattle.spx_report.specs.declared.limit.FindFault.TheVariants.{Limit, Memory}
-use Rattle.spx_report.specs.Limits.{IsFaultWhere}
-use Rattle.spx_report.proofs.FindingLaws.{lines_of, lines_more, rows_more, IsPlainSub, none_left}
+use Rattle.spx_report.specs.declared.limit.LimitName.TheVariants.{Nodes}
+use Rattle.spx_report.specs.Findings.{is_large_at, row_at}
+use Rattle.spx_report.proofs.FaultLaws.{fault_of_all}
+use Rattle.spx_report.proofs.FindingLaws.{findings_are, is_large_in, large_by_body, lines_by_body, lines_in, lines_more, rows_more, IsPlainSub, none_left}
 use Rattle.spx_report.proofs.tally.findings.Goals as goal
 
-pub loop-position-preserved : goal.loop-position-preserved
-loop-position-preserved c =
-    let subs = c.as_slice-sub-items.result.now in
-    let within : c.loop-position.position < length subs = omega arith in
-    let lines = lines_more subs c.loop-position.position c.sub-item.result within in
-    let rows = rows_more subs c.loop-position.position c.sub-item.result within in
-    let before : list_any has_large_condition (take c.loop-position.position subs) ≡ false = cc (c.loop-position.invariant.few) in
-    let here : has_large_condition (get_or subs c.loop-position.position c.sub-item.result) ≡ false = cc (c.in_ok-add_sub.ensures.few) in
-    let few = list_any_more has_large_condition subs c.loop-position.position c.sub-item.result within ∙ ap₂ (λ (a b : Bool). a || b) before here in
+pub loop-id-preserved : goal.loop-id-preserved
+loop-id-preserved c =
+    let p = c.args.program.now in
+    let ids = c.as_slice-id-items.result.now in
+    let within : c.loop-id.id-index < length ids = omega arith in
+    let lines = lines_more p ids c.loop-id.id-index (sub_at 0) within in
+    let rows = rows_more p ids c.loop-id.id-index (sub_at 0) within in
+    let large = λ (id : SubId). is_large_at (slice_get p.subs id.0) in
+    let before : is_large_in p (take c.loop-id.id-index ids) ≡ false = cc (c.loop-id.invariant.few) in
+    let here : is_large_at (slice_get p.subs (get_or ids c.loop-id.id-index (sub_at 0)).0) ≡ false = cc (c.in_ok-add_body.ensures.few) in
+    let few = list_any_more large ids c.loop-id.id-index (sub_at 0) within ∙ ap₂ (λ (a b : Bool). a || b) before here in
     record {
-      lines = cc (c.in_ok-add_sub.ensures.lines);
-      rows = cc (c.in_ok-add_sub.ensures.rows);
+      lines = cc (c.in_ok-add_body.ensures.lines);
+      rows = cc (c.in_ok-add_body.ensures.rows);
       few = cc (few);
     }
 
+pub returns-clause-exact : goal.returns-clause-exact
+returns-clause-exact c =
+    let p = c.args.program.now in
+    let lent : c.as_slice-id-items.result.now ≡ p.bodies = cc in
+    let walked : length p.bodies ≤ c.loop-id.id-index = omega (arith, ap length lent) in
+    let all = take_all c.loop-id.id-index p.bodies walked in
+    findings_are p c.loop-id.found (c.loop-id.invariant.lines ∙ ap (lines_in p) all) (c.loop-id.invariant.rows ∙ ap (filter_map (row_at p)) all)
+
 pub returns-clause-none : goal.returns-clause-none
 returns-clause-none c =
-    let subs = c.args.program.now.subs in
-    let lent : c.as_slice-sub-items.result.now ≡ subs = cc in
-    let walked : length subs ≤ c.loop-position.position = omega (arith, ap length lent) in
-    let all : lines_of subs ≡ c.loop-position.found.lines = sym (c.loop-position.invariant.lines ∙ ap lines_of (take_all c.loop-position.position subs walked)) in
-    subst (λ (lines : List Finding). (lines ≡ []) ↔ All IsPlainSub subs) all (none_left subs)
+    let p = c.args.program.now in
+    let lent : c.as_slice-id-items.result.now ≡ p.bodies = cc in
+    let walked : length p.bodies ≤ c.loop-id.id-index = omega (arith, ap length lent) in
+    let all : c.loop-id.found.lines ≡ lines_in p p.bodies = c.loop-id.invariant.lines ∙ ap (lines_in p) (take_all c.loop-id.id-index p.bodies walked) in
+    subst (λ (lines : List Finding). (lines ≡ []) ↔ All IsPlainSub (bodies_of p)) (sym (all ∙ lines_by_body p p.bodies)) (none_left (bodies_of p))
 
 pub returns-clause-few : goal.returns-clause-few
 returns-clause-few c =
-    let subs = c.args.program.now.subs in
-    let lent : c.as_slice-sub-items.result.now ≡ subs = cc in
-    let walked : length subs ≤ c.loop-position.position = omega (arith, ap length lent) in
-    sym (ap (list_any has_large_condition) (take_all c.loop-position.position subs walked)) ∙ c.loop-position.invariant.few
+    let p = c.args.program.now in
+    let lent : c.as_slice-id-items.result.now ≡ p.bodies = cc in
+    let walked : length p.bodies ≤ c.loop-id.id-index = omega (arith, ap length lent) in
+    sym (large_by_body p p.bodies) ∙ sym (ap (is_large_in p) (take_all c.loop-id.id-index p.bodies walked)) ∙ c.loop-id.invariant.few
 
--- what is too large in one place is too large in all
-fault_of_all : (part all : Bool) (fault : FindFault) → (part ≡ true → all ≡ true) → IsFaultWhere part fault → IsFaultWhere all fault
-fault_of_all part all (Limit name) more (is, large) = (is, more large)
-fault_of_all part all Memory more fault = tt
-
-pub returns-in_err-add_sub-clause-limit : goal.returns-in_err-add_sub-clause-limit
-returns-in_err-add_sub-clause-limit c =
-    let subs = c.as_slice-sub-items.result.now in
-    let lent : subs ≡ c.args.program.now.subs = cc in
-    let within : c.loop-position.position < length subs = omega arith in
+pub returns-in_err-add_body-clause-limit : goal.returns-in_err-add_body-clause-limit
+returns-in_err-add_body-clause-limit c =
+    let p = c.args.program.now in
+    let ids = c.as_slice-id-items.result.now in
+    let lent : ids ≡ p.bodies = cc in
+    let within : c.loop-id.id-index < length ids = omega arith in
+    let large = λ (id : SubId). is_large_at (slice_get p.subs id.0) in
     let passed = err_from_is_err_and c.from_residual.result c.from_residual.ensures.1 in
-    let limit = fault_of_all (has_large_condition c.sub-item.result) (has_large_conditions c.args.program.now) c.in_err-add_sub.field-0.0
-    (λ large. ap (list_any has_large_condition) (sym lent) ∙ list_any_at has_large_condition subs c.loop-position.position c.sub-item.result within (sym (ap has_large_condition c.sub-item.is) ∙ large))
-    c.in_err-add_sub.ensures.limit in
+    let limit = fault_of_all Nodes (large (get_or ids c.loop-id.id-index (sub_at 0))) (list_any has_large_condition (bodies_of p)) c.in_err-add_body.field-0.0
+    (λ is. sym (large_by_body p p.bodies) ∙ ap (list_any large) (sym lent) ∙ list_any_at large ids c.loop-id.id-index (sub_at 0) within is)
+    c.in_err-add_body.ensures.limit in
     rw (passed.1, passed.2) limit
