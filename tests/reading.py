@@ -16,6 +16,7 @@ WIDE = 2**127
 MOST_BYTES = 4194304
 MOST_TOKENS = 1000000
 MOST_LEVELS = 200
+MOST_VARIABLES = 4096
 MOST_NODES = 1000000
 USAGE = ('usage: check [--proofs FILE] FILE... | conditions FILE... | '
          'run --entry NAME [--turns N] [--inputs FILE] FILE... | workload N\n')
@@ -63,6 +64,10 @@ class TooManyTokens(Exception):
 
 class TooNested(Exception):
     """The text goes on with more levels alone."""
+
+
+class TooManyVariables(Exception):
+    """A procedure has more formals and locals than it may have."""
 
 
 class TooManyNodes(Exception):
@@ -1308,6 +1313,8 @@ def program_of(text):
     procedures = resolved(Parser(tokens, scanner.place()).file())
     for procedure in procedures:
         require_rules(procedure)
+    if any(len(procedure.words()) > MOST_VARIABLES for procedure in procedures):
+        raise TooManyVariables
     findings = in_order(finding for procedure in procedures for finding in flow_findings(procedure))
     if findings:
         raise Refused(*findings)
@@ -1350,5 +1357,7 @@ def examine(name, text):
         return Answer(f'limit: tokens, at most {MOST_TOKENS}\n', 6)
     except TooNested:
         return Answer(f'limit: nesting, at most {MOST_LEVELS}\n', 6)
+    except TooManyVariables:
+        return Answer(f'limit: variables, at most {MOST_VARIABLES}\n', 6)
     except TooManyNodes:
         return Answer(f'limit: nodes, at most {MOST_NODES}\n', 6)

@@ -139,6 +139,11 @@ def too_large(name, text):
     return Case(name, encoded(text), 'limit: nodes, at most 1000000\n', 6)
 
 
+def too_many_variables(name, text):
+    """A procedure has more than 4096 variables, and no rule is broken."""
+    return Case(name, encoded(text), 'limit: variables, at most 4096\n', 6)
+
+
 def reported(name, text, *lines):
     """The whole report, line by line."""
     return Case(name, encoded(text), ''.join(line + '\n' for line in lines), 0 if lines[-1] == 'accepted' else 1)
@@ -2638,6 +2643,31 @@ def nodes_of_conditions():
                   longer('A : in Integer; X : in out Integer', '@X from X, A', *['X := X + X'] * 20), 'F2 unused: X from A')
 
 
+def many(count, *statements, formals=None, derives=None, name='Inc'):
+    """The text of a procedure with so many locals, L1, L2 and so on."""
+    declared = f'{", ".join(f"L{n}" for n in range(1, count + 1))} : Integer'
+    return longer(formals, derives, *statements or ['null'], declared=[declared], name=name)
+
+
+def numbers_of_variables():
+    """Procedures with 4096 and 4097 variables, and where the limit comes among the other answers."""
+    formals, relation = 'X : in out Integer', 'X from X'
+    yield accepted('locals_4096.adb', many(4096), 0)
+    yield too_many_variables('locals_4097.adb', many(4097))
+    yield accepted('formal_and_locals_4096.adb', many(4095, formals=formals, derives=relation), 0)
+    yield too_many_variables('formal_and_locals_4097.adb', many(4096, formals=formals, derives=relation))
+    yield accepted('last_of_4096_variables.adb', many(4095, 'L4095 := X', 'X := L4095', formals=formals, derives=relation))
+    yield refused('last_of_4096_variables_is_unset.adb', many(4095, 'X := @L4095', formals=formals, derives='@X from X'),
+                  'F2 unused: X from X', 'F4 unset: L4095')
+    yield too_many_variables('locals_4097_in_the_second.adb', procedure() + many(4097, name='Same'))
+    yield too_many_variables('flow_before_locals_4097.adb', procedure('1') + many(4097, name='Same'))
+    yield too_many_variables('locals_4097_before_flow.adb', many(4097, name='Same') + procedure('1'))
+    yield too_many_variables('flow_in_locals_4097.adb', many(4097, 'L1 := 1'))
+    yield refused('rule_after_locals_4097.adb', many(4097, name='Same') + at_derives(procedure(derives='X from X, X')), 'U7')
+    yield refused('name_after_locals_4097.adb', many(4097, name='Same') + procedure('@Y'), 'N1')
+    yield too_many_variables('twenty_doublings_and_locals_4097.adb', doublings(20) + many(4097, name='Same'))
+
+
 # ---------------------------------------------------------------- the table
 
 GROUPS = (form, relations, simplifier, numbers, places, words, layout, comments, marks, other_bytes, tokens, grammar,
@@ -2646,7 +2676,7 @@ GROUPS = (form, relations, simplifier, numbers, places, words, layout, comments,
           signs_and_types, signs_and_syntax, levels_of_parentheses, mixed_levels, limit_or_breach, examples, documented,
           programs_of_one_sum, programs_with_pre, programs_of_several_sums, programs_with_locals, breaches_in_order,
           breaches_in_expressions, rules_in_order, procedures_in_order, headings_in_order,
-          flow_findings_in_order, nodes_of_conditions)
+          flow_findings_in_order, nodes_of_conditions, numbers_of_variables)
 CASES = tuple(case for group in GROUPS for case in group())
 
 
