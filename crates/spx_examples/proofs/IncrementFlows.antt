@@ -1,5 +1,5 @@
 -- The procedure `Inc` flows as it declares.
-use Rattle.std.proofs.Common.{◌≡◌, ◌↔◌, inl, inr, ℕ, zero, suc, ◌<◌, false, ◌||◌, List, [], ◌∷◌, ◌++◌, pos, refl, sym, ap, ap₂, subst, ◌∙◌, arith}
+use Rattle.std.proofs.Common.{◌≡◌, ◌↔◌, inl, inr, ⊎_elim, ℕ, zero, suc, ◌<◌, false, ◌||◌, List, [], ◌∷◌, ◌++◌, pos, refl, sym, ap, ap₂, subst, ◌∙◌, arith}
 use Rattle.std.specs.Prelude.{IsTrue, Option, Some, ◌&&◌, ◌==◌}
 use Rattle.std.specs.List.{filter_map, slice_index_or}
 use Rattle.std.proofs.lemmas.List.Elements.{All-cons, All-nil}
@@ -15,7 +15,7 @@ use Rattle.spx_core.specs.Reads.{names_step, names_read}
 use Rattle.spx_core.specs.Dependency.{imports, exports, derives}
 use Rattle.spx_core.specs.Effects.{Read, assign, next, nothing, read_of}
 use Rattle.spx_core.specs.Flow.{MayFlow}
-use Rattle.spx_core.specs.Marks.{Occurs, marked}
+use Rattle.spx_core.specs.Marks.{Lambda, Occurs, marked}
 use Rattle.spx_core.specs.Ways.{Goes, Reaches}
 use Rattle.spx_core.specs.FlowRules.{body_effect, mark, Missing, Unused, Ineffective, MayBeUnset, read, left, HasNoFinding, HasNoFlowFinding}
 use Rattle.spx_core.proofs.Callers.Expressions.{fold-Name, fold-Number, fold-Infix}
@@ -63,6 +63,16 @@ x_flows = (x, inl (refl, refl), refl)
 -- a mark on the assignment comes to X
 mark_flows : MayFlow (marked (place 6 4) (mark increment) inc_effect) (mark increment) x
 mark_flows = (x, inl (refl, refl), refl)
+
+x_is_read : (u : VarId) → Lambda inc_effect u (place 6 4) ↔ (x ≡ u)
+x_is_read u = (
+  λ h. ⊎_elim (λ here. if_x (λ b. b || false) refl u here.2) (λ later. absurd later.2) h,
+  λ e. subst (λ v. Lambda inc_effect v (place 6 4)) e (inl (refl, refl, refl)),
+)
+
+-- what comes to the assignment is X alone
+pub x_comes : (u : VarId) → Lambda (body_effect inc) u (place 6 4) ↔ (x ≡ u)
+x_comes u = subst (λ e. Lambda e u (place 6 4) ↔ (x ≡ u)) (sym effect_is) (x_is_read u)
 
 only_occurrence : (at : Place) → Occurs inc_effect at → place 6 4 ≡ at
 only_occurrence at (inl here) = here.1

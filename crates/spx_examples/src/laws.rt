@@ -4,7 +4,7 @@ ghost use Rattle.spx_core.specs.Erased.{Visible};
 ghost use Rattle.spx_core.specs.declared.entity.VarId.{VarId};
 ghost use Rattle.spx_core.specs.Flow.{MayFlow};
 ghost use Rattle.spx_core.specs.FlowRules.{HasNoFlowFinding, body_effect, mark};
-ghost use Rattle.spx_core.specs.Marks.{marked};
+ghost use Rattle.spx_core.specs.Marks.{Lambda, marked};
 ghost use Rattle.spx_core.specs.Ways.{Goes};
 ghost use Rattle.spx_core.specs.Obeyed.{Obeys};
 ghost use Rattle.spx_core.specs.Statements.{Typed};
@@ -28,10 +28,12 @@ pub fn increment_is_clean()
     resolution();
 }
 
-/// Its body sets X, and reads X for that: a mark on the assignment comes to X, and the one way through the body sets X.
-#[tactic(auto, using(crate::proofs::IncrementFlows::effect_is, crate::proofs::IncrementFlows::mark_arrives, crate::proofs::IncrementFlows::one_way))]
+/// Its body sets X, and reads X for that: X alone comes to the assignment, a mark on it comes to X, and the one way
+/// through the body sets X.
+#[tactic(auto, using(crate::proofs::IncrementFlows::effect_is, crate::proofs::IncrementFlows::x_comes, crate::proofs::IncrementFlows::mark_arrives, crate::proofs::IncrementFlows::one_way))]
 pub fn increment_flows()
     ensures body { body_effect inc ≡ inc_effect }
+    ensures x_comes { (u : VarId) → Lambda (body_effect inc) u (place 6 4) ↔ (x ≡ u) }
     ensures mark_arrives { MayFlow (marked (place 6 4) (mark increment) (body_effect inc)) (mark increment) x }
     ensures one_way { (way : List VarId) → Goes (body_effect inc) way ↔ (way ≡ x ∷ []) }
 {}
