@@ -13,7 +13,8 @@ use Rattle.spx_parse_body.specs.declared.cursor.Stop.{Stop}
 use Rattle.spx_parse_body.specs.declared.cursor.Stop.TheVariants as stop
 use Rattle.spx_parse_body.specs.Answers.{Fails}
 use Rattle.spx_parse_body.specs.Reading.{Outcome, Reader, and_then, ◌>>=◌, pure, peek, expect_place, deeper, turn, loop}
-use Rattle.spx_parse_body.specs.Expressions.{joined, adding, step_by, sum_step, continued, below, at_layer}
+use Rattle.spx_parse_body.specs.Expressions.{joined, adding, step_by, sum_step, continued, below, at_layer, expression, expression_below}
+use Rattle.spx_parse_body.specs.Statements.{stmts_below, stmts}
 use Rattle.spx_parse_body.proofs.Callers.Loops.{and_then_same, loop_is}
 use Rattle.spx_parse_body.proofs.Callers.ExpressionsGood.{below_good, sum_shrinks}
 
@@ -21,6 +22,15 @@ pub below_is : (marked : Bool) (levels : ℕ) (layer : Layer) (fs : List Form) �
 unfolding below at_layer
 below_is marked zero layer fs h = absurd (omega arith)
 below_is marked (suc n) layer fs h = let e : suc n - 1 ≡ n = omega arith in sym (ap (λ (k : ℕ). at_layer marked k layer fs) e)
+
+pub expression_below_is : (marked : Bool) (levels : ℕ) (fs : List Form) → 0 < levels → expression_below marked levels fs ≡ expression marked (levels - 1) fs
+unfolding expression expression_below
+expression_below_is marked levels fs h = ap (λ (o : Outcome Tall). and_then o (λ t. pure t.expr)) (below_is marked levels layer.Relation fs h)
+
+pub stmts_below_is : (levels : ℕ) (fs : List Form) → 0 < levels → stmts_below levels fs ≡ stmts (levels - 1) fs
+unfolding stmts_below stmts
+stmts_below_is zero fs h = absurd (omega arith)
+stmts_below_is (suc n) fs h = let e : suc n - 1 ≡ n = omega arith in sym (ap (λ (j : ℕ). stmts j fs) e)
 
 pub and_then_assoc : {A B C : Type 0} (r : Outcome A) (f : A → Reader B) (g : B → Reader C) → and_then (and_then r f) g ≡ and_then r (λ x us. and_then (f x us) g)
 and_then_assoc (Ok x) f g = refl

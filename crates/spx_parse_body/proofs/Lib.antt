@@ -1,5 +1,7 @@
 pub mod Callers
 pub mod Scans
 pub mod Grows
+mod BodyExact
+mod Indexed
 mod Taking
 pub mod Levels

@@ -159,3 +159,7 @@ at_layer marked levels layer = read marked (below marked levels) levels layer
 -- expression
 unfoldable pub expression : Bool → ℕ → Reader Expr
 expression marked levels = at_layer marked levels layer.Relation >>= λ t. pure t.expr
+
+-- expression one level down
+unfoldable pub expression_below : Bool → ℕ → Reader Expr
+expression_below marked levels = below marked levels layer.Relation >>= λ t. pure t.expr

@@ -1,13 +1,15 @@
 -- Reading statements (Ada 95 RM 5).
-use Rattle.std.specs.Prelude.{ℕ, Bool, true, false, List, [], ◌∷◌, Option, Some}
+use Rattle.std.specs.Prelude.{ℕ, zero, suc, Bool, true, false, List, [], ◌∷◌, Option, Some}
 use Rattle.spx_tree.specs.declared.token.Kind.{Kind}
 use Rattle.spx_tree.specs.declared.token.Kind.TheVariants as k
+use Rattle.spx_text.specs.declared.place.Place.{Place}
+use Rattle.spx_tree.specs.declared.statement.Arm.{Arm}
 use Rattle.spx_tree.specs.declared.statement.Stmt.{Stmt}
-use Rattle.spx_tree.specs.declared.statement.Stmt.TheVariants.{Null, Assignment}
+use Rattle.spx_tree.specs.declared.statement.Stmt.TheVariants.{Null, Assignment, If}
 use Rattle.spx_tree.specs.Form.{Form}
 use Rattle.spx_tree.specs.Written.{program}
-use Rattle.spx_parse_body.specs.Reading.{Reader, ◌>>=◌, ◌>>◌, pure, refuse, peek, expect, expect_place, more_items}
-use Rattle.spx_parse_body.specs.Expressions.{name, expression}
+use Rattle.spx_parse_body.specs.Reading.{Reader, ◌>>=◌, ◌>>◌, pure, refuse, too_deep, peek, sees, expect, expect_place, if_seen, deeper, more_items}
+use Rattle.spx_parse_body.specs.Expressions.{name, expression, expression_below}
 
 -- "null" ";"
 unfoldable pub null_statement : Reader Stmt
@@ -16,37 +18,82 @@ null_statement = do
   expect program k.Semicolon
   pure (Null place)
 
--- name ":=" expression ";"
-unfoldable pub assignment : ℕ → Reader Stmt
-assignment levels = do
-  target ← name program
-  expect program k.Assignment
-  value ← expression program levels
-  expect program k.Semicolon
-  pure (Assignment target value)
-
-abbrev pub stmt_by : ℕ → Option Kind → Reader Stmt
-stmt_by levels (Some k.Null) = null_statement
-stmt_by levels (Some k.Identifier) = assignment levels
-stmt_by levels _ = refuse
-
--- "null" ";" | name ":=" expression ";"
-unfoldable pub stmt : ℕ → Reader Stmt
-stmt levels = λ fs. stmt_by levels (peek program fs) fs
-
 -- a statement starts with a form of this kind
 abbrev pub starts_stmt : Option Kind → Bool
 starts_stmt (Some k.Null) = true
 starts_stmt (Some k.Identifier) = true
+starts_stmt (Some k.If) = true
 starts_stmt _ = false
 
 -- a statement comes next
 abbrev pub sees_stmt : List Form → Bool
 sees_stmt fs = starts_stmt (peek program fs)
 
-unfoldable pub more_stmts : ℕ → List Stmt → Reader (List Stmt)
-more_stmts levels found = more_items sees_stmt (stmt levels) found
+-- What reads statements one level down is a parameter, and so is the number of levels that are left.
+module _ (inner : Reader (List Stmt)) (levels : ℕ) where
+  -- name ":=" expression ";"
+  unfoldable pub assignment : Reader Stmt
+  assignment = do
+    target ← name program
+    expect program k.Assignment
+    value ← expression program levels
+    expect program k.Semicolon
+    pure (Assignment target value)
 
--- statement {statement}
+  -- an arm after its word: expression "then" statements
+  unfoldable pub arm : Place → Reader Arm
+  arm place = do
+    condition ← expression_below program levels
+    expect program k.Then
+    body ← inner
+    pure (record { place = place; condition = condition; body = body })
+
+  -- "elsif" arm
+  unfoldable pub elsif_arm : Reader Arm
+  elsif_arm = expect_place program k.Elsif >>= arm
+
+  -- {"elsif" arm}
+  unfoldable pub elsif_arms : List Arm → Reader (List Arm)
+  elsif_arms found = more_items (sees program k.Elsif) elsif_arm found
+
+  -- "else" statements
+  unfoldable pub else_part : Reader (List Stmt)
+  else_part = expect program k.Else >> inner
+
+  -- "if" arm {"elsif" arm} ["else" statements] "end" "if" ";"
+  unfoldable pub if_statement : Reader Stmt
+  if_statement = deeper levels 0 (do
+    place ← expect_place program k.If
+    first ← arm place
+    arms ← elsif_arms (first ∷ [])
+    otherwise ← if_seen program k.Else else_part
+    end ← expect_place program k.End
+    word ← expect_place program k.If
+    expect program k.Semicolon
+    pure (If arms otherwise (record { end = end; word = word })))
+
+  abbrev pub stmt_by : Option Kind → Reader Stmt
+  stmt_by (Some k.Null) = null_statement
+  stmt_by (Some k.Identifier) = assignment
+  stmt_by (Some k.If) = if_statement
+  stmt_by _ = refuse
+
+  -- null statement | assignment | if statement
+  unfoldable pub stmt : Reader Stmt
+  stmt = λ fs. stmt_by (peek program fs) fs
+
+  unfoldable pub more_stmts : List Stmt → Reader (List Stmt)
+  more_stmts found = more_items sees_stmt stmt found
+
+  -- statement {statement}
+  unfoldable pub some_stmts : Reader (List Stmt)
+  some_stmts = stmt >>= λ x. more_stmts (x ∷ [])
+
+-- statements one level down
+unfoldable pub stmts_below : ℕ → Reader (List Stmt)
+stmts_below zero = too_deep
+stmts_below (suc levels) = some_stmts (stmts_below levels) levels
+
+-- statements within so many levels
 unfoldable pub stmts : ℕ → Reader (List Stmt)
-stmts levels = stmt levels >>= λ x. more_stmts levels (x ∷ [])
+stmts levels = some_stmts (stmts_below levels) levels

@@ -1,11 +1,15 @@
 // From tokens to statements (Ada 95 RM 5).
-ghost use Rattle.std.specs.Prelude.{◌≡◌};
+ghost use Rattle.std.specs.Prelude.{◌≡◌, ◌<◌, ◌∷◌, []};
+ghost use Rattle.spx_tree.specs.Written.{program};
+ghost use Rattle.spx_tree.specs.declared.token.Kind.TheVariants as k;
+ghost use Rattle.spx_parse_body.specs.Reading as reading;
 ghost use Rattle.spx_parse_body.specs.Statements as read;
 ghost use Rattle.spx_parse_body.specs.Answers.{Reads};
 
 use crate::cursor::{Cursor, PROGRAM, Stop};
 use crate::expressions::{expression, name};
-use spx_tree::{Kind, Stmt};
+use spx_text::Place;
+use spx_tree::{Arm, Closing, Kind, Stmt};
 use sqlite_items::Items;
 use std::alloc::Global;
 
@@ -22,7 +26,7 @@ fn null_statement(cursor: &mut Cursor<'_>) -> Result<Stmt, Stop>
 // assignment = name ":=" expression ";"
 #[tactic(auto, unfolding(crate::specs::Statements::assignment))]
 fn assignment(alloc: Global, cursor: &mut Cursor<'_>, levels: u32) -> Result<Stmt, Stop>
-    ensures { Reads (read.assignment levels cursor.old) result cursor.new }
+    ensures { Reads (read.assignment (read.stmts_below levels) levels cursor.old) result cursor.new }
 {
     let target = name(alloc, cursor, PROGRAM)?;
     cursor.expect(PROGRAM, Kind::Assignment)?;
@@ -31,14 +35,111 @@ fn assignment(alloc: Global, cursor: &mut Cursor<'_>, levels: u32) -> Result<Stm
     Ok(Stmt::Assignment(target, value))
 }
 
-// stmt = null_statement | assignment
+// arm = expression "then" stmts
+#[cycle(stmts)]
+#[tactic(auto, using(crate::proofs::Levels::expression_below_is, crate::proofs::Levels::stmts_below_is), unfolding(crate::specs::Statements::arm))]
+fn arm(alloc: Global, cursor: &mut Cursor<'_>, levels: u32, place: Place) -> Result<Arm, Stop>
+    requires { 0 < levels }
+    ensures { Reads (read.arm (read.stmts_below levels) levels place cursor.old) result cursor.new }
+{
+    let condition = expression(alloc, cursor, levels - 1, PROGRAM)?;
+    cursor.expect(PROGRAM, Kind::Then)?;
+    let body = stmts(alloc, cursor, levels - 1)?;
+    Ok(Arm {
+        place,
+        condition,
+        body,
+    })
+}
+
+// elsif_arm = "elsif" arm
+#[cycle(stmts)]
+#[tactic(auto, unfolding(crate::specs::Statements::elsif_arm))]
+fn elsif_arm(alloc: Global, cursor: &mut Cursor<'_>, levels: u32) -> Result<Arm, Stop>
+    requires { 0 < levels }
+    ensures { Reads (read.elsif_arm (read.stmts_below levels) levels cursor.old) result cursor.new }
+{
+    let place = cursor.expect_place(PROGRAM, Kind::Elsif)?;
+    arm(alloc, cursor, levels, place)
+}
+
+// elsif_arms = {elsif_arm}
+#[cycle(stmts)]
+#[tactic(auto, using(crate::proofs::Callers::Turns::elsif_arms_is))]
+fn elsif_arms(
+    alloc: Global,
+    cursor: &mut Cursor<'_>,
+    levels: u32,
+    first: Arm,
+) -> Result<Items<Arm>, Stop>
+    requires { 0 < levels }
+    ensures { Reads (read.elsif_arms (read.stmts_below levels) levels (first ∷ []) cursor.old) result cursor.new }
+{
+    let mut arms = Items::new(alloc);
+    arms.push(first)?;
+    'more: while cursor.sees(PROGRAM, Kind::Elsif) {
+        arms.push(elsif_arm(alloc, cursor, levels)?)?;
+    }
+    Ok(arms)
+}
+
+// else_part = "else" stmts
+#[cycle(stmts)]
+#[tactic(auto, using(crate::proofs::Levels::stmts_below_is), unfolding(crate::specs::Statements::else_part))]
+fn else_part(alloc: Global, cursor: &mut Cursor<'_>, levels: u32) -> Result<Items<Stmt>, Stop>
+    requires { 0 < levels }
+    ensures { Reads (read.else_part (read.stmts_below levels) levels cursor.old) result cursor.new }
+{
+    cursor.expect(PROGRAM, Kind::Else)?;
+    stmts(alloc, cursor, levels - 1)
+}
+
+// [else_part]
+#[cycle(stmts)]
+#[tactic(auto, unfolding(crate::specs::Reading::if_seen))]
+fn optional_else(
+    alloc: Global,
+    cursor: &mut Cursor<'_>,
+    levels: u32,
+) -> Result<Option<Items<Stmt>>, Stop>
+    requires { 0 < levels }
+    ensures { Reads (reading.if_seen program k.Else (read.else_part (read.stmts_below levels) levels) cursor.old) result cursor.new }
+{
+    if cursor.sees(PROGRAM, Kind::Else) {
+        return Ok(Some(else_part(alloc, cursor, levels)?));
+    }
+    Ok(None)
+}
+
+// if_statement = "if" arm {elsif_arm} [else_part] "end" "if" ";"
+#[cycle(stmts)]
+#[tactic(auto, unfolding(crate::specs::Statements::if_statement))]
+fn if_statement(alloc: Global, cursor: &mut Cursor<'_>, levels: u32) -> Result<Stmt, Stop>
+    ensures { Reads (read.if_statement (read.stmts_below levels) levels cursor.old) result cursor.new }
+{
+    if levels == 0 {
+        return Err(cursor.too_deep());
+    }
+    let place = cursor.expect_place(PROGRAM, Kind::If)?;
+    let first = arm(alloc, cursor, levels, place)?;
+    let arms = elsif_arms(alloc, cursor, levels, first)?;
+    let otherwise = optional_else(alloc, cursor, levels)?;
+    let end = cursor.expect_place(PROGRAM, Kind::End)?;
+    let word = cursor.expect_place(PROGRAM, Kind::If)?;
+    cursor.expect(PROGRAM, Kind::Semicolon)?;
+    Ok(Stmt::If(arms, otherwise, Closing { end, word }))
+}
+
+// stmt = null_statement | assignment | if_statement
+#[cycle(stmts)]
 #[tactic(auto, unfolding(crate::specs::Statements::stmt))]
 fn stmt(alloc: Global, cursor: &mut Cursor<'_>, levels: u32) -> Result<Stmt, Stop>
-    ensures { Reads (read.stmt levels cursor.old) result cursor.new }
+    ensures { Reads (read.stmt (read.stmts_below levels) levels cursor.old) result cursor.new }
 {
     match cursor.peek(PROGRAM) {
         Some(Kind::Null) => null_statement(cursor),
         Some(Kind::Identifier) => assignment(alloc, cursor, levels),
+        Some(Kind::If) => if_statement(alloc, cursor, levels),
         _ => Err(cursor.expected()),
     }
 }
@@ -48,13 +149,14 @@ fn sees_stmt(cursor: &Cursor<'_>) -> bool
     ensures { result ≡ read.sees_stmt cursor.now }
 {
     match cursor.peek(PROGRAM) {
-        Some(Kind::Null | Kind::Identifier) => true,
+        Some(Kind::Null | Kind::Identifier | Kind::If) => true,
         _ => false,
     }
 }
 
 /// Reads statements, one or more.
-#[tactic(auto, using(crate::proofs::Callers::Turns::more_stmts_is), unfolding(crate::specs::Statements::stmts))]
+#[cycle(stmts)]
+#[tactic(auto, using(crate::proofs::Callers::Turns::more_stmts_is), unfolding(crate::specs::Statements::stmts, crate::specs::Statements::some_stmts))]
 pub fn stmts(alloc: Global, cursor: &mut Cursor<'_>, levels: u32) -> Result<Items<Stmt>, Stop>
     ensures { Reads (read.stmts levels cursor.old) result cursor.new }
 {

@@ -243,7 +243,7 @@ module _ (levels : ℕ) (x : Subprogram) (zs : List Form) where
       reaches_bind _ (reaches_expect program k.Is a5) (λ t6 a6.
       reaches_bind _ (declarations_again x.declarations t6 _ f.declarations (λ e. cc) a6) (λ t7 a7.
       reaches_bind _ (reaches_expect program k.Begin a7) (λ t8 a8.
-      reaches_bind _ (stmts_again levels x.statements t8 from_end f.statements (record { no_null = λ e. cc; no_name = λ e. cc }) a8) (λ t9 a9.
+      reaches_bind _ (stmts_again levels x.statements t8 from_end f.statements refl a8) (λ t9 a9.
       reaches_bind _ (reaches_expect_place program k.End a9) (λ t10 a10.
       reaches_bind _ (end_name_option x.end_name t10 _ (λ e. cc) a10) (λ t11 a11.
       reaches_bind _ (reaches_expect program k.Semicolon a11) (λ t12 a12. reaches_pure a12))))))))))))

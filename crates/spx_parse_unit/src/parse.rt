@@ -1,43 +1,17 @@
 // The units of a file.
-ghost use Rattle.std.specs.Prelude.{◌≡◌, ◌≤◌, List, Result, length};
+ghost use Rattle.std.specs.Prelude.{List, Result, length};
 ghost use Rattle.spx_tree.specs.Form.{AreWithin};
-ghost use Rattle.spx_tree.specs.Goes.{place_with};
 ghost use Rattle.spx_tree.specs.Grammar.{IsFile};
 ghost use Rattle.spx_tree.specs.Written.{written};
 ghost use Rattle.spx_tree.specs.declared.subprogram.Unit.{Unit};
-ghost use Rattle.spx_parse_body.specs.Answers.{SaysAll, StopsWithin, IsUnlessMemory, fault_at};
+ghost use Rattle.spx_parse_body.specs.Answers.{SaysAll, IsUnlessMemory};
 
 use crate::subprograms::file;
 use spx_lexer::Tokens;
-use spx_parse_body::{Cursor, MOST_LEVELS, ParseFault, Stop};
-use spx_text::Place;
-use spx_tree::{Token, Unit};
+use spx_parse_body::{Cursor, MOST_LEVELS, ParseFault, fault_of, place_of};
+use spx_tree::Unit;
 use sqlite_items::Items;
 use std::alloc::Global;
-
-/// The place of the token with which so many are left.
-fn place_of(tokens: &[Token], left: usize, end: Place) -> Place
-    requires { left ≤ length tokens.now }
-    ensures { result ≡ place_with end tokens.now left }
-{
-    let (_, rest) = tokens.split_at(tokens.len() - left);
-    match rest {
-        [] => end,
-        [token, ..] => token.place,
-    }
-}
-
-/// The fault with its place.
-fn fault_of(tokens: &[Token], stop: Stop, end: Place) -> ParseFault
-    requires { StopsWithin (length tokens.now) stop }
-    ensures { result ≡ fault_at end tokens.now stop }
-{
-    match stop {
-        Stop::Expected(left) => ParseFault::Expected(place_of(tokens, left, end)),
-        Stop::TooDeep(left) => ParseFault::TooDeep(place_of(tokens, left, end)),
-        Stop::Memory => ParseFault::Memory,
-    }
-}
 
 /// Reads the units of a file.
 pub fn parse_units(alloc: Global, tokens: &Tokens<'_>) -> Result<Items<Unit>, ParseFault>

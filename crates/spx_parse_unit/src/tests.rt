@@ -54,6 +54,25 @@ fn statements(rt: HostRuntime) -> Result<(), Fail> {
         ("null X;", Err(ParseFault::Expected(at(6, 6)))),
         ("X := Y'Z'W;", Err(ParseFault::Expected(at(6, 9)))),
         ("X := 1;\n--# derives", Err(ParseFault::Expected(at(7, 5)))),
+        ("if X = Y then X := 1; end if;", Ok(1)),
+        (
+            "if X then null; elsif Y then null; null; elsif Z then null; else if X then null; end if; null; end if; null;",
+            Ok(1),
+        ),
+        ("if X then end if;", Err(ParseFault::Expected(at(6, 11)))),
+        ("if X then null; end;", Err(ParseFault::Expected(at(6, 20)))),
+        (
+            "elsif X then null; end if;",
+            Err(ParseFault::Expected(at(6, 1))),
+        ),
+        (
+            "if X then null; else end if;",
+            Err(ParseFault::Expected(at(6, 22))),
+        ),
+        (
+            "if X then null; else null; elsif Y then null; end if;",
+            Err(ParseFault::Expected(at(6, 28))),
+        ),
     ];
     for (statements, answer) in rows {
         let text = procedure(alloc, statements.as_bytes())?;
@@ -163,6 +182,19 @@ fn nested_in(alloc: Global, parentheses: u32) -> Result<Vec<u8>, AllocError> {
     procedure(alloc, text.as_slice())
 }
 
+// if X then if X then .. null; end if; end if; with so many statements, one inside another.
+fn conditionals(alloc: Global, count: u32) -> Result<Vec<u8>, AllocError> {
+    let mut text = Vec::new(alloc);
+    for _ in 0..count {
+        text.extend_from_slice(b"if X then ")?;
+    }
+    text.extend_from_slice(b"null;")?;
+    for _ in 0..count {
+        text.extend_from_slice(b" end if;")?;
+    }
+    procedure(alloc, text.as_slice())
+}
+
 #[test]
 fn levels(rt: HostRuntime) -> Result<(), Fail> {
     let alloc = rt.alloc();
@@ -179,6 +211,13 @@ fn levels(rt: HostRuntime) -> Result<(), Fail> {
     assert_eq!(rt;
         units_in(alloc, deeper.as_slice()),
         Err(ParseFault::TooDeep(at(6, 206)))
+    );
+    let inside = conditionals(alloc, MOST_LEVELS)?;
+    assert_eq!(rt; units_in(alloc, inside.as_slice()), Ok(1));
+    let further = conditionals(alloc, MOST_LEVELS + 1)?;
+    assert_eq!(rt;
+        units_in(alloc, further.as_slice()),
+        Err(ParseFault::TooDeep(at(6, 2001)))
     );
     Ok(())
 }

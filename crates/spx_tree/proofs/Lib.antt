@@ -6,4 +6,5 @@ pub mod Places
 mod Maximal
 mod SpelledLine
 pub mod MoreLevels
+pub mod WrittenLevels
 mod OneTree

@@ -1,13 +1,13 @@
 -- What is a text within so many levels is one within more.
-use Rattle.std.proofs.Common.{ℕ, ◌≤◌, List, [], ◌∷◌, Option, Some, None, arith}
+use Rattle.std.proofs.Common.{ℕ, zero, suc, ◌-◌, ◌≤◌, List, [], ◌∷◌, Option, Some, None, arith}
 use Rattle.spx_tree.specs.declared.expression.Layer.{Layer}
 use Rattle.spx_tree.specs.declared.expression.Expr.{Expr}
-use Rattle.spx_tree.specs.declared.statement.Stmt.{Stmt}
-use Rattle.spx_tree.specs.declared.statement.Stmt.TheVariants.{Null, Assignment}
+use Rattle.spx_tree.specs.declared.statement.Stmt.{Stmt, Stmt-F, out-Stmt}
+use Rattle.spx_tree.specs.declared.statement.Arm.{Arm, out-Arm}
 use Rattle.spx_tree.specs.declared.annotation.Precondition.{Precondition}
 use Rattle.spx_tree.specs.declared.subprogram.Unit.{Unit}
 use Rattle.spx_tree.specs.declared.subprogram.Unit.TheVariants as unit
-use Rattle.spx_tree.specs.Grammar.{Each, OneOrMore, OfLayer, IsStmt, IsPrecondition, IfThere, IsUnit, IsFile}
+use Rattle.spx_tree.specs.Grammar.{Each, OneOrMore, OfLayer, IsArm, IsFormed, Within, IsStmt, IsStmts, IsPrecondition, IfThere, IsUnit, IsFile}
 
 each_more : {A : Type 0} (P Q : A → Type 0) → ((x : A) → P x → Q x) → (xs : List A) → Each P xs → Each Q xs
 each_more P Q h [] f = tt
@@ -17,20 +17,42 @@ one_more : {A : Type 0} (P Q : A → Type 0) → ((x : A) → P x → Q x) → (
 one_more P Q h [] f = absurd f
 one_more P Q h (x ∷ xs) f = (h x f.0, each_more P Q h xs f.1)
 
-module _ (m n : ℕ) (le : m ≤ n) where
-  pub layer_more : (layer : Layer) (e : Expr) → OfLayer layer m e → OfLayer layer n e
-  layer_more layer e f = record { low = let low = f.low in omega arith; layered = f.layered; of_layer = f.of_layer }
+there_more : {A : Type 0} (P Q : A → Type 0) → ((x : A) → P x → Q x) → (o : Option A) → IfThere P o → IfThere Q o
+there_more P Q h None f = tt
+there_more P Q h (Some x) f = h x f
 
-  pub stmt_more : (x : Stmt) → IsStmt m x → IsStmt n x
-  stmt_more (Null place) f = tt
-  stmt_more (Assignment target e) f = layer_more _ e f
+pub layer_more : (m n : ℕ) → m ≤ n → (layer : Layer) (e : Expr) → OfLayer layer m e → OfLayer layer n e
+layer_more m n le layer e f = record { low = let low = f.low in omega arith; layered = f.layered; of_layer = f.of_layer }
+
+-- where the statements one level down are, so is one level
+module _ (m n : ℕ) (le : m ≤ n) (inner : (x : Stmt) → Within m x → Within n x) where
+  arm_more : (x : Arm) → IsArm m (Within m) (out-Arm x) → IsArm n (Within n) (out-Arm x)
+  arm_more x f = (layer_more (m - 1) (n - 1) (omega arith) _ (out-Arm x).condition f.0, one_more (Within m) (Within n) inner (out-Arm x).body f.1)
+
+  formed_more : (y : Stmt-F Stmt Arm) → IsFormed m (Within m) y → IsFormed n (Within n) y
+  formed_more (Stmt-F.Null place) f = tt
+  formed_more (Stmt-F.Assignment target e) f = layer_more m n le _ e f
+  formed_more (Stmt-F.If arms otherwise closing) f =
+      (let some = f.0 in omega arith, one_more (λ a. IsArm m (Within m) (out-Arm a)) (λ a. IsArm n (Within n) (out-Arm a)) arm_more arms f.1, there_more (OneOrMore (Within m)) (OneOrMore (Within n)) (one_more (Within m) (Within n) inner) otherwise f.2)
+
+within_more : (m n : ℕ) → m ≤ n → (x : Stmt) → Within m x → Within n x
+within_more zero n le x f = absurd f
+within_more (suc m) zero le x f = absurd (omega arith)
+within_more (suc m) (suc n) le x f = formed_more m n (omega arith) (within_more m n (omega arith)) (out-Stmt x) f
+
+module _ (m n : ℕ) (le : m ≤ n) where
+  stmt_more : (x : Stmt) → IsStmt m x → IsStmt n x
+  stmt_more x f = formed_more m n le (within_more m n le) (out-Stmt x) f
+
+  pub stmts_more : (xs : List Stmt) → IsStmts m xs → IsStmts n xs
+  stmts_more xs f = one_more (IsStmt m) (IsStmt n) stmt_more xs f
 
   pre_more : (p : Option Precondition) → IfThere (IsPrecondition m) p → IfThere (IsPrecondition n) p
   pre_more None f = tt
-  pre_more (Some p) f = layer_more _ p.condition f
+  pre_more (Some p) f = layer_more m n le _ p.condition f
 
   unit_more : (x : Unit) → IsUnit m x → IsUnit n x
-  unit_more (unit.Subprogram x) f = record { formal_part = f.formal_part; derives = f.derives; pre = pre_more x.pre f.pre; declarations = f.declarations; statements = one_more (IsStmt m) (IsStmt n) stmt_more x.statements f.statements }
+  unit_more (unit.Subprogram x) f = record { formal_part = f.formal_part; derives = f.derives; pre = pre_more x.pre f.pre; declarations = f.declarations; statements = stmts_more x.statements f.statements }
 
   pub file_more : (xs : List Unit) → IsFile m xs → IsFile n xs
   file_more xs f = each_more (IsUnit m) (IsUnit n) unit_more xs f

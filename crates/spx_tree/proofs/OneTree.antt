@@ -1,5 +1,5 @@
 -- Trees that are written with the same forms are the same: a law for each production, whatever stands behind that does not go on with it.
-use Rattle.std.proofs.Common.{◌≡◌, ◌⊎◌, inl, inr, ℕ, ◌+◌, ◌≤◌, ℤ, Bool, List, [], ◌∷◌, ◌++◌, Option, Some, None, refl, sym, ap, ap₂, subst, ◌∙◌, append_assoc, map, zero, suc, arith}
+use Rattle.std.proofs.Common.{◌≡◌, ◌⊎◌, inl, inr, ℕ, ◌+◌, ◌-◌, ◌≤◌, ℤ, Bool, true, false, List, [], ◌∷◌, ◌++◌, Option, Some, None, refl, sym, ap, ap₂, subst, ◌∙◌, append_assoc, map, zero, suc, arith}
 use Rattle.std.specs.Prelude.{⊤}
 use Rattle.std.proofs.lemmas.List.{append-nil}
 use Rattle.spx_text.specs.declared.place.Place.{Place}
@@ -18,8 +18,9 @@ use Rattle.spx_tree.specs.declared.expression.Expr.{Expr}
 use Rattle.spx_tree.specs.declared.expression.Expr.TheVariants as expr
 use Rattle.spx_tree.specs.declared.declaration.Decl.{Decl}
 use Rattle.spx_tree.specs.declared.declaration.Decl.TheVariants.{Variables}
-use Rattle.spx_tree.specs.declared.statement.Stmt.{Stmt}
-use Rattle.spx_tree.specs.declared.statement.Stmt.TheVariants.{Null, Assignment}
+use Rattle.spx_tree.specs.declared.statement.Closing.{Closing}
+use Rattle.spx_tree.specs.declared.statement.Stmt.{Stmt, Stmt-F, out-Stmt, roll-Stmt, roll-out-Stmt}
+use Rattle.spx_tree.specs.declared.statement.Arm.{Arm, Arm-F, out-Arm, roll-Arm, roll-out-Arm}
 use Rattle.spx_tree.specs.declared.annotation.Imports.{Imports}
 use Rattle.spx_tree.specs.declared.annotation.DerivesItem.{DerivesItem}
 use Rattle.spx_tree.specs.declared.annotation.Derives.{Derives}
@@ -32,9 +33,10 @@ use Rattle.spx_tree.specs.declared.subprogram.Subprogram.{Subprogram}
 use Rattle.spx_tree.specs.declared.subprogram.Unit.{Unit}
 use Rattle.spx_tree.specs.declared.subprogram.Unit.TheVariants as unit
 use Rattle.spx_tree.specs.Form.{Nothing, Where, Spelled, Valued, Form, bare, placed, named}
-use Rattle.spx_tree.specs.Written.{joined, behind, separated, optional, written_identifier, written_identifiers, written_name, written_names, written_expr, operator_kind, sign_kind, parenthesized, signed, operation, written_decl, written_decls, written_stmt, written_stmts, written_imports, written_item, written_derives, written_pre, written_mode, written_param, written_params, written_formal_part, written_subprogram, written_unit, written, program, annotation}
-use Rattle.spx_tree.specs.Grammar.{Each, OneOrMore, IfThere, IsIdentifiers, IsNames, height, rank, layer_of, layer_in, LeftFits, RightFits, Layered, OfLayer, IsExpr, IsDecl, IsStmt, IsItem, IsDerives, IsPrecondition, IsParam, IsFormalPart, IsSubprogram, IsUnit, IsFile}
+use Rattle.spx_tree.specs.Written.{joined, behind, separated, optional, written_identifier, written_identifiers, written_name, written_names, written_expr, operator_kind, sign_kind, parenthesized, signed, operation, written_decl, written_decls, elsif_arms, all_arms, written_stmt, written_arm, written_stmts, written_imports, written_item, written_derives, written_pre, written_mode, written_param, written_params, written_formal_part, written_subprogram, written_unit, written, program, annotation}
+use Rattle.spx_tree.specs.Grammar.{Each, OneOrMore, IfThere, IsIdentifiers, IsNames, height, rank, layer_of, layer_in, LeftFits, RightFits, Layered, OfLayer, IsExpr, IsDecl, IsArm, IsFormed, Within, IsStmt, IsItem, IsDerives, IsPrecondition, IsParam, IsFormalPart, IsSubprogram, IsUnit, IsFile}
 use Rattle.spx_tree.proofs.MoreLevels.{file_more}
+use Rattle.spx_tree.proofs.WrittenLevels.{written_level, written_arm_level, spelled_stmt, spelled_arm, elsif_joined}
 
 -- Lists of forms.
 
@@ -478,7 +480,29 @@ nested_once marked (suc levels) x y r s fx fy er es e =
 expr_once : (marked : Bool) (levels : ℕ) → Once (written_expr marked) (IsExpr levels) (Ends marked)
 expr_once marked levels x y r s fx fy er es e = layered_once marked levels (nested_once marked levels) x y r s fx.layered fy.layered fx.low fy.low er es e
 
--- Declarations and statements.
+-- Items one after another. What comes after an item is Free, and what comes after all is Over.
+
+module _ {A : Type 0} (spell : A → List Form) (fits : A → Type 0) (Free Over : List Form → Type 0) (once : Once spell fits Free) (free : (x : A) (fs : List Form) → fits x → Free (spell x ++ fs)) (apart : (x : A) (fs r : List Form) → fits x → Over r → r ≡ spell x ++ fs → ⊥) where
+  free_joined : (xs : List A) (r : List Form) → Each fits xs → Free r → Free (joined (map spell xs) ++ r)
+  free_joined [] r f fr = fr
+  free_joined (x ∷ xs) r f fr = subst Free (sym (append_assoc (spell x) (joined (map spell xs)) r)) (free x (joined (map spell xs) ++ r) f.0)
+
+  joined_once : (xs ys : List A) (r s : List Form) → Each fits xs → Each fits ys → Free r → Free s → Over r → Over s → joined (map spell xs) ++ r ≡ joined (map spell ys) ++ s → (xs ≡ ys) × (r ≡ s)
+  joined_once [] [] r s fx fy fr fs lr ls e = (refl, e)
+  joined_once [] (y ∷ ys) r s fx fy fr fs lr ls e = absurd (apart y (joined (map spell ys) ++ s) r fy.0 lr (e ∙ append_assoc (spell y) (joined (map spell ys)) s))
+  joined_once (x ∷ xs) [] r s fx fy fr fs lr ls e = absurd (apart x (joined (map spell xs) ++ r) s fx.0 ls (sym e ∙ append_assoc (spell x) (joined (map spell xs)) r))
+  joined_once (x ∷ xs) (y ∷ ys) r s fx fy fr fs lr ls e =
+      let one = once x y (joined (map spell xs) ++ r) (joined (map spell ys) ++ s) fx.0 fy.0 (free_joined xs r fx.1 fr) (free_joined ys s fy.1 fs) (regroup (spell x) _ r (spell y) _ s e) in
+      let rest = joined_once xs ys r s fx.1 fy.1 fr fs lr ls one.1 in
+      (ap₂ (λ (z : A) (zs : List A). z ∷ zs) one.0 rest.0, rest.1)
+
+-- items that begin with a form of their own
+module _ {A : Type 0} (spell : A → List Form) (fits : A → Type 0) (first : A → Form) (more : A → List Form) (begins : (x : A) → spell x ≡ first x ∷ more x) (once : Once spell fits (λ r. ⊤)) where
+  begun_once : (xs ys : List A) (r s : List Form) → Each fits xs → Each fits ys → ((x : A) → Lacks (first x) r) → ((x : A) → Lacks (first x) s) → joined (map spell xs) ++ r ≡ joined (map spell ys) ++ s → (xs ≡ ys) × (r ≡ s)
+  begun_once xs ys r s fx fy lr ls e =
+      joined_once spell fits (λ r. ⊤) (λ r. (x : A) → Lacks (first x) r) once (λ x fs f. tt) (λ x fs r f over is. over x (more x ++ fs) (is ∙ ap (λ (us : List Form). us ++ fs) (begins x))) xs ys r s fx fy tt tt lr ls e
+
+-- Declarations.
 
 decl_once : Once written_decl IsDecl (λ r. ⊤)
 decl_once (Variables xs t) (Variables ys t') r s fx fy u u' e =
@@ -486,14 +510,200 @@ decl_once (Variables xs t) (Variables ys t') r s fx fy u u' e =
     let type_name = name_once program t t' (bare program k.Semicolon ∷ r) (bare program k.Semicolon ∷ s) tt tt (other_kind (λ d. cc)) (other_kind (λ d. cc)) (regroup (written_name program t) _ r (written_name program t') _ s (tail_is names.1)) in
     (ap₂ (λ (ns : List Identifier) (n : Name). Variables ns n) names.0 type_name.0, tail_is type_name.1)
 
+-- Statements.
+
+-- the kind of the first form
+first_kind : List Form → Option Kind
+first_kind [] = None
+first_kind (f ∷ fs) = Some f.kind
+
+first_same : (f g : Form) (fs gs : List Form) → f ∷ fs ≡ g ∷ gs → f.kind ≡ g.kind
+first_same f g fs gs e = kind_is (head_is e)
+
+begins_stmt : Option Kind → Bool
+begins_stmt (Some k.Null) = true
+begins_stmt (Some k.Identifier) = true
+begins_stmt (Some k.If) = true
+begins_stmt _ = false
+
+-- no statement comes next
+abbrev NoStmt : List Form → Type 0
+NoStmt r = begins_stmt (first_kind r) ≡ false
+
+abbrev kind_in : Stmt-F Stmt Arm → Kind
+kind_in (Stmt-F.Null place) = k.Null
+kind_in (Stmt-F.Assignment target value) = k.Identifier
+kind_in (Stmt-F.If arms otherwise closing) = k.If
+
+arm_first : (x : Arm) (word : Kind) (fs : List Form) → first_kind (written_arm x word ++ fs) ≡ Some word
+unfolding first_kind
+arm_first x word fs = ap (λ (us : List Form). first_kind (us ++ fs)) (spelled_arm x word)
+
+-- a level begins with a form of its kind
+level_first : (levels : ℕ) (Inner : Stmt → Type 0) (y : Stmt-F Stmt Arm) (fs : List Form) → IsFormed levels Inner y → first_kind (written_level y ++ fs) ≡ Some (kind_in y)
+unfolding first_kind
+level_first levels Inner (Stmt-F.Null place) fs f = refl
+level_first levels Inner (Stmt-F.Assignment (Simple x) value) fs f = refl
+level_first levels Inner (Stmt-F.Assignment (Attribute x x') value) fs f = refl
+level_first levels Inner (Stmt-F.If [] otherwise closing) fs f = absurd f.1
+level_first levels Inner (Stmt-F.If (x ∷ xs) otherwise closing) fs f = ap first_kind (sides (written_arm x k.If) _ _ fs) ∙ arm_first x k.If _
+  where
+    sides : (a b c d : List Form) → ((a ++ b) ++ c) ++ d ≡ a ++ (b ++ (c ++ d))
+    sides a b c d = simp append_assoc
+
+kind_begins : (y : Stmt-F Stmt Arm) → begins_stmt (Some (kind_in y)) ≡ true
+unfolding begins_stmt
+kind_begins (Stmt-F.Null place) = refl
+kind_begins (Stmt-F.Assignment target value) = refl
+kind_begins (Stmt-F.If arms otherwise closing) = refl
+
+level_begins : (levels : ℕ) (Inner : Stmt → Type 0) (y : Stmt-F Stmt Arm) (fs : List Form) → IsFormed levels Inner y → begins_stmt (first_kind (written_level y ++ fs)) ≡ true
+level_begins levels Inner y fs f = ap begins_stmt (level_first levels Inner y fs f) ∙ kind_begins y
+
+stmt_apart : (levels : ℕ) (x : Stmt) (fs r : List Form) → IsStmt levels x → NoStmt r → r ≡ written_stmt x ++ fs → ⊥
+stmt_apart levels x fs r f none e =
+    let both : true ≡ false = sym (level_begins levels (Within levels) (out-Stmt x) fs f) ∙ ap (λ (us : List Form). begins_stmt (first_kind (us ++ fs))) (sym (spelled_stmt x)) ∙ ap (λ (us : List Form). begins_stmt (first_kind us)) (sym e) ∙ none in
+    absurd cc
+
+within_apart : (levels : ℕ) (x : Stmt) (fs r : List Form) → Within levels x → NoStmt r → r ≡ written_stmt x ++ fs → ⊥
+within_apart zero x fs r f none e = absurd f
+within_apart (suc levels) x fs r f none e = stmt_apart levels x fs r f none e
+
+each_of : {A : Type 0} (P : A → Type 0) (xs : List A) → OneOrMore P xs → Each P xs
+each_of P [] f = absurd f
+each_of P (x ∷ xs) f = f
+
+abbrev arm_made : Place → Expr → List Stmt → Arm-F Stmt Arm
+arm_made place condition body = record { place = place; condition = condition; body = body }
+
+-- neither a statement nor an arm comes next
+record NoArm (r : List Form) : Type 0 where
+  no_stmt : NoStmt r
+  no_arm : first_kind r ≡ Some k.Elsif → ⊥
+
+-- what comes after the arms, and after the else part
+abbrev from_end : Closing → List Form → List Form
+from_end closing r = placed program k.End closing.end ∷ placed program k.If closing.word ∷ bare program k.Semicolon ∷ r
+
+abbrev from_else : Option (List Stmt) → Closing → List Form → List Form
+from_else None closing r = from_end closing r
+from_else (Some xs) closing r = bare program k.Else ∷ (written_stmts xs ++ from_end closing r)
+
+-- the word "end" begins no statement
+end_closes : (place : Place) (r : List Form) → NoStmt (placed program k.End place ∷ r)
+unfolding first_kind begins_stmt
+end_closes place r = refl
+
+-- Where statements one level down are written once, so is one level.
+module _ (levels : ℕ) (within_once : Once written_stmt (Within levels) (λ r. ⊤)) where
+  inner_once : (xs ys : List Stmt) (r s : List Form) → OneOrMore (Within levels) xs → OneOrMore (Within levels) ys → NoStmt r → NoStmt s → written_stmts xs ++ r ≡ written_stmts ys ++ s → (xs ≡ ys) × (r ≡ s)
+  inner_once xs ys r s fx fy nr ns e =
+      joined_once written_stmt (Within levels) (λ r. ⊤) NoStmt within_once (λ x fs f. tt) (within_apart levels) xs ys r s (each_of (Within levels) xs fx) (each_of (Within levels) ys fy) tt tt nr ns e
+
+  arm_level_once : (word : Kind) (x y : Arm-F Stmt Arm) (r s : List Form) → IsArm levels (Within levels) x → IsArm levels (Within levels) y → NoStmt r → NoStmt s
+      → written_arm_level x word ++ r ≡ written_arm_level y word ++ s → (x ≡ y) × (r ≡ s)
+  arm_level_once word x y r s fx fy nr ns e =
+      let condition = expr_once program (levels - 1) x.condition y.condition (bare program k.Then ∷ (written_stmts x.body ++ r)) (bare program k.Then ∷ (written_stmts y.body ++ s)) fx.0 fy.0 (bare_ends program k.Then _ (λ d. cc)) (bare_ends program k.Then _ (λ d. cc)) (regroup (written_expr program x.condition) _ r (written_expr program y.condition) _ s (tail_is e)) in
+      let body = inner_once x.body y.body r s fx.1 fy.1 nr ns (tail_is condition.1) in
+      let place : x.place ≡ y.place = where_is (kept_is (head_is e)) in
+      let same : arm_made x.place x.condition x.body ≡ arm_made y.place y.condition y.body = ap₂ (λ (p : Place) (c : Expr). arm_made p c x.body) place condition.0 ∙ ap (λ (b : List Stmt). arm_made y.place y.condition b) body.0 in
+      (same, body.1)
+
+  abbrev FitArm : Arm → Type 0
+  FitArm x = IsArm levels (Within levels) (out-Arm x)
+
+  arm_once : (word : Kind) → Once (λ x. written_arm x word) FitArm NoStmt
+  arm_once word x y r s fx fy nr ns e =
+      let both = arm_level_once word (out-Arm x) (out-Arm y) r s fx fy nr ns (ap (λ (fs : List Form). fs ++ r) (sym (spelled_arm x word)) ∙ e ∙ ap (λ (fs : List Form). fs ++ s) (spelled_arm y word)) in
+      (sym (roll-out-Arm x) ∙ ap roll-Arm both.0 ∙ roll-out-Arm y, both.1)
+
+  elsif_free : (x : Arm) (fs : List Form) → FitArm x → NoStmt (written_arm x k.Elsif ++ fs)
+  unfolding begins_stmt
+  elsif_free x fs f = ap begins_stmt (arm_first x k.Elsif fs)
+
+  elsif_apart : (x : Arm) (fs r : List Form) → FitArm x → NoArm r → r ≡ written_arm x k.Elsif ++ fs → ⊥
+  elsif_apart x fs r f none e = none.no_arm (ap first_kind e ∙ arm_first x k.Elsif fs)
+
+  elsifs_free : (xs : List Arm) (r : List Form) → Each FitArm xs → NoStmt r → NoStmt (elsif_arms (map written_arm xs) ++ r)
+  elsifs_free xs r f none = subst (λ (fs : List Form). NoStmt (fs ++ r)) (sym (elsif_joined xs)) (free_joined (λ a. written_arm a k.Elsif) FitArm NoStmt NoArm (arm_once k.Elsif) elsif_free elsif_apart xs r f none)
+
+  elsifs_once : (xs ys : List Arm) (r s : List Form) → Each FitArm xs → Each FitArm ys → NoArm r → NoArm s → elsif_arms (map written_arm xs) ++ r ≡ elsif_arms (map written_arm ys) ++ s → (xs ≡ ys) × (r ≡ s)
+  elsifs_once xs ys r s fx fy nr ns e =
+      joined_once (λ a. written_arm a k.Elsif) FitArm NoStmt NoArm (arm_once k.Elsif) elsif_free elsif_apart xs ys r s fx fy nr.no_stmt ns.no_stmt nr ns
+      (ap (λ (fs : List Form). fs ++ r) (sym (elsif_joined xs)) ∙ e ∙ ap (λ (fs : List Form). fs ++ s) (elsif_joined ys))
+
+  arms_once : (xs ys : List Arm) (r s : List Form) → OneOrMore FitArm xs → OneOrMore FitArm ys → NoArm r → NoArm s → all_arms (map written_arm xs) ++ r ≡ all_arms (map written_arm ys) ++ s → (xs ≡ ys) × (r ≡ s)
+  arms_once [] ys r s fx fy nr ns e = absurd fx
+  arms_once (x ∷ xs) [] r s fx fy nr ns e = absurd fy
+  arms_once (x ∷ xs) (y ∷ ys) r s fx fy nr ns e =
+      let one = arm_once k.If x y (elsif_arms (map written_arm xs) ++ r) (elsif_arms (map written_arm ys) ++ s) fx.0 fy.0 (elsifs_free xs r fx.1 nr.no_stmt) (elsifs_free ys s fy.1 ns.no_stmt) (regroup (written_arm x k.If) _ r (written_arm y k.If) _ s e) in
+      let more = elsifs_once xs ys r s fx.1 fy.1 nr ns one.1 in
+      (ap₂ (λ (z : Arm) (zs : List Arm). z ∷ zs) one.0 more.0, more.1)
+
+  else_once : (a b : Option (List Stmt)) (c d : Closing) (r s : List Form) → IfThere (OneOrMore (Within levels)) a → IfThere (OneOrMore (Within levels)) b → from_else a c r ≡ from_else b d s → (a ≡ b) × (from_end c r ≡ from_end d s)
+  else_once None None c d r s fa fb e = (refl, e)
+  else_once None (Some ys) c d r s fa fb e = let kinds : k.End ≡ k.Else = kind_is (head_is e) in absurd cc
+  else_once (Some xs) None c d r s fa fb e = let kinds : k.Else ≡ k.End = kind_is (head_is e) in absurd cc
+  else_once (Some xs) (Some ys) c d r s fa fb e =
+      let both = inner_once xs ys (from_end c r) (from_end d s) fa fb (end_closes c.end _) (end_closes d.end _) (tail_is e) in
+      (ap (λ (zs : List Stmt). Some zs) both.0, both.1)
+
+  none_after : (a : Option (List Stmt)) (c : Closing) (r : List Form) → NoArm (from_else a c r)
+  unfolding first_kind begins_stmt
+  none_after None c r = record { no_stmt = refl; no_arm = λ e. cc }
+  none_after (Some xs) c r = record { no_stmt = refl; no_arm = λ e. cc }
+
+  if_once : (xs ys : List Arm) (a b : Option (List Stmt)) (c d : Closing) (r s : List Form) → IsFormed levels (Within levels) (Stmt-F.If xs a c) → IsFormed levels (Within levels) (Stmt-F.If ys b d)
+      → written_level (Stmt-F.If xs a c) ++ r ≡ written_level (Stmt-F.If ys b d) ++ s → (Stmt-F.If xs a c ≡ Stmt-F.If ys b d) × (r ≡ s)
+  if_once xs ys a b c d r s fx fy e =
+      let arms = arms_once xs ys (from_else a c r) (from_else b d s) fx.1 fy.1 (none_after a c r) (none_after b d s) (sym (if_flat xs a c r) ∙ e ∙ if_flat ys b d s) in
+      let otherwise = else_once a b c d r s fx.2 fy.2 arms.1 in
+      let end : c.end ≡ d.end = where_is (kept_is (head_is otherwise.1)) in
+      let word : c.word ≡ d.word = where_is (kept_is (head_is (tail_is otherwise.1))) in
+      let closing : c ≡ d = ap₂ (λ (p q : Place). record { end = p; word = q }) end word in
+      (ap₂ (λ (zs : List Arm) (o : Option (List Stmt)). Stmt-F.If zs o c) arms.0 otherwise.0 ∙ ap (λ (z : Closing). Stmt-F.If ys b z) closing, tail_is (tail_is (tail_is otherwise.1)))
+    where
+      if_flat : (xs : List Arm) (a : Option (List Stmt)) (c : Closing) (r : List Form) → written_level (Stmt-F.If xs a c) ++ r ≡ all_arms (map written_arm xs) ++ from_else a c r
+      if_flat xs None c r = simp append_assoc
+      if_flat xs (Some ys) c r = simp append_assoc
+
+  same_kind : (x y : Stmt-F Stmt Arm) (r s : List Form) → IsFormed levels (Within levels) x → IsFormed levels (Within levels) y → written_level x ++ r ≡ written_level y ++ s → kind_in x ≡ kind_in y
+  same_kind x y r s fx fy e = let both : Some (kind_in x) ≡ Some (kind_in y) = sym (level_first levels (Within levels) x r fx) ∙ ap first_kind e ∙ level_first levels (Within levels) y s fy in cc
+
+  assignment_once : (x y : Name) (v w : Expr) (r s : List Form) → IsExpr levels v → IsExpr levels w → written_level (Stmt-F.Assignment x v) ++ r ≡ written_level (Stmt-F.Assignment y w) ++ s → (x ≡ y) × (v ≡ w) × (r ≡ s)
+  assignment_once x y v w r s fx fy e =
+      let target = name_once program x y (bare program k.Assignment ∷ ((written_expr program v ++ bare program k.Semicolon ∷ []) ++ r)) (bare program k.Assignment ∷ ((written_expr program w ++ bare program k.Semicolon ∷ []) ++ s)) tt tt (other_kind (λ d. cc)) (other_kind (λ d. cc)) (regroup (written_name program x) _ r (written_name program y) _ s e) in
+      let value = expr_once program levels v w (bare program k.Semicolon ∷ r) (bare program k.Semicolon ∷ s) fx fy (bare_ends program k.Semicolon r (λ d. cc)) (bare_ends program k.Semicolon s (λ d. cc)) (regroup (written_expr program v) _ r (written_expr program w) _ s (tail_is target.1)) in
+      (target.0, value.0, tail_is value.1)
+
+  level_once : (x y : Stmt-F Stmt Arm) (r s : List Form) → IsFormed levels (Within levels) x → IsFormed levels (Within levels) y → written_level x ++ r ≡ written_level y ++ s → kind_in x ≡ kind_in y → (x ≡ y) × (r ≡ s)
+  level_once (Stmt-F.Null p) (Stmt-F.Null q) r s fx fy e is = (ap (λ (a : Place). Stmt-F.Null a) (where_is (kept_is (head_is e))), tail_is (tail_is e))
+  level_once (Stmt-F.Null p) (Stmt-F.Assignment y w) r s fx fy e is = absurd cc
+  level_once (Stmt-F.Null p) (Stmt-F.If ys b d) r s fx fy e is = absurd cc
+  level_once (Stmt-F.Assignment x v) (Stmt-F.Null q) r s fx fy e is = absurd cc
+  level_once (Stmt-F.Assignment x v) (Stmt-F.Assignment y w) r s fx fy e is =
+      let parts = assignment_once x y v w r s fx fy e in (ap₂ (λ (n : Name) (z : Expr). Stmt-F.Assignment n z) parts.0 parts.1, parts.2)
+  level_once (Stmt-F.Assignment x v) (Stmt-F.If ys b d) r s fx fy e is = absurd cc
+  level_once (Stmt-F.If xs a c) (Stmt-F.Null q) r s fx fy e is = absurd cc
+  level_once (Stmt-F.If xs a c) (Stmt-F.Assignment y w) r s fx fy e is = absurd cc
+  level_once (Stmt-F.If xs a c) (Stmt-F.If ys b d) r s fx fy e is = if_once xs ys a b c d r s fx fy e
+
+  formed_once : Once written_stmt (λ x. IsFormed levels (Within levels) (out-Stmt x)) (λ r. ⊤)
+  formed_once x y r s fx fy u u' e =
+      let levels_are = ap (λ (fs : List Form). fs ++ r) (sym (spelled_stmt x)) ∙ e ∙ ap (λ (fs : List Form). fs ++ s) (spelled_stmt y) in
+      let both = level_once (out-Stmt x) (out-Stmt y) r s fx fy levels_are (same_kind (out-Stmt x) (out-Stmt y) r s fx fy levels_are) in
+      (sym (roll-out-Stmt x) ∙ ap roll-Stmt both.0 ∙ roll-out-Stmt y, both.1)
+
+within_once : (levels : ℕ) → Once written_stmt (Within levels) (λ r. ⊤)
+within_once zero x y r s fx fy u u' e = absurd fx
+within_once (suc levels) x y r s fx fy u u' e = formed_once levels (within_once levels) x y r s fx fy tt tt e
+
 stmt_once : (levels : ℕ) → Once written_stmt (IsStmt levels) (λ r. ⊤)
-stmt_once levels (Null p) (Null q) r s fx fy u u' e = (ap (λ (a : Place). Null a) (where_is (kept_is (head_is e))), tail_is (tail_is e))
-stmt_once levels (Null p) (Assignment y w) r s fx fy u u' e = absurd (not_placed (name_first y) p (name_kept_more program y _ s (sym e)))
-stmt_once levels (Assignment x v) (Null q) r s fx fy u u' e = absurd (not_placed (name_first x) q (name_kept_more program x _ r e))
-stmt_once levels (Assignment x v) (Assignment y w) r s fx fy u u' e =
-    let target = name_once program x y (bare program k.Assignment ∷ ((written_expr program v ++ bare program k.Semicolon ∷ []) ++ r)) (bare program k.Assignment ∷ ((written_expr program w ++ bare program k.Semicolon ∷ []) ++ s)) tt tt (other_kind (λ d. cc)) (other_kind (λ d. cc)) (regroup (written_name program x) _ r (written_name program y) _ s e) in
-    let value = expr_once program levels v w (bare program k.Semicolon ∷ r) (bare program k.Semicolon ∷ s) fx fy (bare_ends program k.Semicolon r (λ d. cc)) (bare_ends program k.Semicolon s (λ d. cc)) (regroup (written_expr program v) _ r (written_expr program w) _ s (tail_is target.1)) in
-    (ap₂ (λ (n : Name) (z : Expr). Assignment n z) target.0 value.0, tail_is value.1)
+stmt_once levels x y r s fx fy u u' e = formed_once levels (within_once levels) x y r s fx fy tt tt e
+
+statements_once : (levels : ℕ) (xs ys : List Stmt) (r s : List Form) → OneOrMore (IsStmt levels) xs → OneOrMore (IsStmt levels) ys → NoStmt r → NoStmt s → written_stmts xs ++ r ≡ written_stmts ys ++ s → (xs ≡ ys) × (r ≡ s)
+statements_once levels xs ys r s fx fy nr ns e =
+    joined_once written_stmt (IsStmt levels) (λ r. ⊤) NoStmt (stmt_once levels) (λ x fs f. tt) (stmt_apart levels) xs ys r s (each_of (IsStmt levels) xs fx) (each_of (IsStmt levels) ys fy) tt tt nr ns e
 
 -- Annotations.
 
@@ -615,17 +825,6 @@ formal_part_once x y r s fx fy u u' e =
     let params = separated_once (bare program k.Semicolon) written_param IsParam (Lacks (bare program k.Apostrophe)) param_once (λ us. other_kind (λ d. cc)) x.params y.params (bare program k.RightParenthesis ∷ r) (bare program k.RightParenthesis ∷ s) fx fy (other_kind (λ d. cc)) (other_kind (λ d. cc)) (other_kind (λ d. cc)) (other_kind (λ d. cc)) (regroup (written_params x.params) _ r (written_params y.params) _ s (tail_is e)) in
     (ap₂ (λ (p : Place) (ps : List Param). record { place = p; params = ps }) (where_is (kept_is (head_is e))) params.0, tail_is params.1)
 
--- items one after another, where what stands behind begins no item
-module _ {A : Type 0} (spell : A → List Form) (fits : A → Type 0) (first : A → Form) (more : A → List Form) (begins : (x : A) → spell x ≡ first x ∷ more x) (once : Once spell fits (λ r. ⊤)) where
-  joined_once : (xs ys : List A) (r s : List Form) → Each fits xs → Each fits ys → ((x : A) → Lacks (first x) r) → ((x : A) → Lacks (first x) s) → joined (map spell xs) ++ r ≡ joined (map spell ys) ++ s → (xs ≡ ys) × (r ≡ s)
-  joined_once [] [] r s fx fy lr ls e = (refl, e)
-  joined_once [] (y ∷ ys) r s fx fy lr ls e = absurd (lr y ((more y ++ joined (map spell ys)) ++ s) (e ∙ ap (λ (us : List Form). (us ++ joined (map spell ys)) ++ s) (begins y)))
-  joined_once (x ∷ xs) [] r s fx fy lr ls e = absurd (ls x ((more x ++ joined (map spell xs)) ++ r) (sym e ∙ ap (λ (us : List Form). (us ++ joined (map spell xs)) ++ r) (begins x)))
-  joined_once (x ∷ xs) (y ∷ ys) r s fx fy lr ls e =
-      let one = once x y (joined (map spell xs) ++ r) (joined (map spell ys) ++ s) fx.0 fy.0 tt tt (regroup (spell x) _ r (spell y) _ s e) in
-      let rest = joined_once xs ys r s fx.1 fy.1 lr ls one.1 in
-      (ap₂ (λ (z : A) (zs : List A). z ∷ zs) one.0 rest.0, rest.1)
-
 -- what a declaration begins with, and the forms behind it
 decl_first : Decl → Form
 decl_first (Variables [] t) = bare program k.Colon
@@ -647,44 +846,17 @@ begin_closes r (Variables [] t) = other_kind (λ d. cc)
 begin_closes r (Variables (x ∷ xs) t) = other_kind (λ d. cc)
 
 declarations_once : (xs ys : List Decl) (r s : List Form) → Each IsDecl xs → Each IsDecl ys → ((x : Decl) → Lacks (decl_first x) r) → ((x : Decl) → Lacks (decl_first x) s) → written_decls xs ++ r ≡ written_decls ys ++ s → (xs ≡ ys) × (r ≡ s)
-declarations_once xs ys r s fx fy lr ls e = joined_once written_decl IsDecl decl_first decl_more decl_begins decl_once xs ys r s fx fy lr ls e
-
--- what a statement begins with, and the forms behind it
-stmt_first : Stmt → Form
-stmt_first (Null place) = placed program k.Null place
-stmt_first (Assignment target value) = named program (name_first target)
-
-stmt_more : Stmt → List Form
-stmt_more (Null place) = bare program k.Semicolon ∷ []
-stmt_more (Assignment target value) = name_more program target ++ bare program k.Assignment ∷ (written_expr program value ++ bare program k.Semicolon ∷ [])
-
-stmt_begins : (x : Stmt) → written_stmt x ≡ stmt_first x ∷ stmt_more x
-unfolding stmt_first stmt_more
-stmt_begins (Null place) = refl
-stmt_begins (Assignment target value) = name_begins program target _
-
-each_of : {A : Type 0} (P : A → Type 0) (xs : List A) → OneOrMore P xs → Each P xs
-each_of P [] f = absurd f
-each_of P (x ∷ xs) f = f
-
--- the word "end" begins no statement
-end_closes : (place : Place) (r : List Form) (x : Stmt) → Lacks (stmt_first x) (placed program k.End place ∷ r)
-unfolding stmt_first
-end_closes place r (Null at) = other_kind (λ d. cc)
-end_closes place r (Assignment target value) = other_kind (λ d. cc)
-
-statements_once : (levels : ℕ) (xs ys : List Stmt) (r s : List Form) → OneOrMore (IsStmt levels) xs → OneOrMore (IsStmt levels) ys → ((x : Stmt) → Lacks (stmt_first x) r) → ((x : Stmt) → Lacks (stmt_first x) s) → written_stmts xs ++ r ≡ written_stmts ys ++ s → (xs ≡ ys) × (r ≡ s)
-statements_once levels xs ys r s fx fy lr ls e = joined_once written_stmt (IsStmt levels) stmt_first stmt_more stmt_begins (stmt_once levels) xs ys r s (each_of (IsStmt levels) xs fx) (each_of (IsStmt levels) ys fy) lr ls e
+declarations_once xs ys r s fx fy lr ls e = begun_once written_decl IsDecl decl_first decl_more decl_begins decl_once xs ys r s fx fy lr ls e
 
 -- what stands behind each part of a subprogram
 abbrev from_semicolon : List Form → List Form
 from_semicolon r = bare program k.Semicolon ∷ r
 
-abbrev from_end : Subprogram → List Form → List Form
-from_end x r = placed program k.End x.end ∷ (optional (written_identifier program) x.end_name ++ from_semicolon r)
+abbrev from_last : Subprogram → List Form → List Form
+from_last x r = placed program k.End x.end ∷ (optional (written_identifier program) x.end_name ++ from_semicolon r)
 
 abbrev from_begin : Subprogram → List Form → List Form
-from_begin x r = bare program k.Begin ∷ (written_stmts x.statements ++ from_end x r)
+from_begin x r = bare program k.Begin ∷ (written_stmts x.statements ++ from_last x r)
 
 abbrev from_is : Subprogram → List Form → List Form
 from_is x r = bare program k.Is ∷ (written_decls x.declarations ++ from_begin x r)
@@ -765,5 +937,5 @@ nothing_more f fs e = cc
 -- Files that are written with the same forms are the same.
 pub one_tree : (m n : ℕ) (a b : List Unit) → IsFile m a → IsFile n b → written a ≡ written b → a ≡ b
 one_tree m n a b fa fb e =
-    (joined_once written_unit (IsUnit (m + n)) unit_first unit_rest unit_begins (unit_once (m + n)) a b [] [] (file_more m (m + n) (omega arith) a fa) (file_more n (m + n) (omega arith) b fb) (λ x. nothing_more (unit_first x)) (λ x. nothing_more (unit_first x))
+    (begun_once written_unit (IsUnit (m + n)) unit_first unit_rest unit_begins (unit_once (m + n)) a b [] [] (file_more m (m + n) (omega arith) a fa) (file_more n (m + n) (omega arith) b fb) (λ x. nothing_more (unit_first x)) (λ x. nothing_more (unit_first x))
     (append-nil (written a) ∙ e ∙ sym (append-nil (written b)))).0

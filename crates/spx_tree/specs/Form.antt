@@ -46,6 +46,8 @@ keeps k.Derives = ItsPlace
 keeps k.Pre = ItsPlace
 keeps k.Null = ItsPlace
 keeps k.End = ItsPlace
+keeps k.If = ItsPlace
+keeps k.Elsif = ItsPlace
 keeps _ = KindAlone
 
 -- the bytes of a token

@@ -1,5 +1,5 @@
 -- Which trees are texts of the grammar, within so many levels.
-use Rattle.std.specs.Prelude.{⊤, ℕ, ◌+◌, ◌≤◌, max, List, [], ◌∷◌, Option, Some, None}
+use Rattle.std.specs.Prelude.{⊤, ℕ, zero, suc, ◌+◌, ◌-◌, ◌≤◌, ◌<◌, max, List, [], ◌∷◌, Option, Some, None}
 use Rattle.spx_tree.specs.declared.expression.Identifier.{Identifier}
 use Rattle.spx_tree.specs.declared.expression.InfixOp.{InfixOp}
 use Rattle.spx_tree.specs.declared.expression.InfixOp.TheVariants as op
@@ -10,8 +10,8 @@ use Rattle.spx_tree.specs.declared.expression.Expr.{Expr}
 use Rattle.spx_tree.specs.declared.expression.Expr.TheVariants as expr
 use Rattle.spx_tree.specs.declared.declaration.Decl.{Decl}
 use Rattle.spx_tree.specs.declared.declaration.Decl.TheVariants.{Variables}
-use Rattle.spx_tree.specs.declared.statement.Stmt.{Stmt}
-use Rattle.spx_tree.specs.declared.statement.Stmt.TheVariants.{Null, Assignment}
+use Rattle.spx_tree.specs.declared.statement.Stmt.{Stmt, Stmt-F, out-Stmt}
+use Rattle.spx_tree.specs.declared.statement.Arm.{Arm, Arm-F, out-Arm}
 use Rattle.spx_tree.specs.declared.annotation.DerivesItem.{DerivesItem}
 use Rattle.spx_tree.specs.declared.annotation.Derives.{Derives}
 use Rattle.spx_tree.specs.declared.annotation.Precondition.{Precondition}
@@ -116,10 +116,28 @@ IsDecl (Variables names type_name) = IsIdentifiers names
 
 -- Statements (Ada 95 RM 5).
 
--- "null" ";" (Ada 95 RM 5.1) | name ":=" expression ";" (5.2)
+-- an arm whose condition and statements are one level down
+abbrev pub IsArm : ℕ → (Stmt → Type 0) → Arm-F Stmt Arm → Type 0
+IsArm levels Inner arm = IsExpr (levels - 1) arm.condition × OneOrMore Inner arm.body
+
+-- one level: "null" ";" (Ada 95 RM 5.1) | name ":=" expression ";" (5.2) | "if" arm {"elsif" arm} ["else" statements] "end" "if" ";" (5.3)
+abbrev pub IsFormed : ℕ → (Stmt → Type 0) → Stmt-F Stmt Arm → Type 0
+IsFormed levels Inner (Stmt-F.Null place) = ⊤
+IsFormed levels Inner (Stmt-F.Assignment target value) = IsExpr levels value
+IsFormed levels Inner (Stmt-F.If arms otherwise closing) = (0 < levels) × OneOrMore (λ arm. IsArm levels Inner (out-Arm arm)) arms × IfThere (OneOrMore Inner) otherwise
+
+-- a statement one level below a place where so many levels are left
+abbrev pub Within : ℕ → Stmt → Type 0
+Within zero x = ⊥
+Within (suc levels) x = IsFormed levels (Within levels) (out-Stmt x)
+
+-- a statement within so many levels: an "if" opens one
 abbrev pub IsStmt : ℕ → Stmt → Type 0
-IsStmt levels (Null place) = ⊤
-IsStmt levels (Assignment target value) = IsExpr levels value
+IsStmt levels x = IsFormed levels (Within levels) (out-Stmt x)
+
+-- statement {statement}
+abbrev pub IsStmts : ℕ → List Stmt → Type 0
+IsStmts levels stmts = OneOrMore (IsStmt levels) stmts
 
 -- Annotations (Barnes, High Integrity Software).
 
@@ -151,7 +169,7 @@ pub record IsSubprogram (levels : ℕ) (sub : Subprogram) : Type 0 where
   pub derives : IfThere IsDerives sub.derives
   pub pre : IfThere (IsPrecondition levels) sub.pre
   pub declarations : Each IsDecl sub.declarations
-  pub statements : OneOrMore (IsStmt levels) sub.statements
+  pub statements : IsStmts levels sub.statements
 
 -- a subprogram (Ada 95 RM 10.1.1)
 abbrev pub IsUnit : ℕ → Unit → Type 0

@@ -15,8 +15,8 @@ use Rattle.spx_tree.specs.declared.expression.Expr.TheVariants as expr
 use Rattle.spx_tree.specs.declared.expression.Expr.TheVariants.{Parenthesized', Prefix', Infix'}
 use Rattle.spx_tree.specs.declared.declaration.Decl.{Decl}
 use Rattle.spx_tree.specs.declared.declaration.Decl.TheVariants.{Variables}
-use Rattle.spx_tree.specs.declared.statement.Stmt.{Stmt}
-use Rattle.spx_tree.specs.declared.statement.Stmt.TheVariants.{Null, Assignment}
+use Rattle.spx_tree.specs.declared.statement.Stmt.{Stmt, Stmt-F, fold-Stmt}
+use Rattle.spx_tree.specs.declared.statement.Arm.{Arm, Arm-F, fold-Arm}
 use Rattle.spx_tree.specs.declared.annotation.DerivesItem.{DerivesItem}
 use Rattle.spx_tree.specs.declared.annotation.Derives.{Derives}
 use Rattle.spx_tree.specs.declared.annotation.Precondition.{Precondition}
@@ -125,10 +125,38 @@ written_decls decls = joined (map written_decl decls)
 
 -- Statements (Ada 95 RM 5).
 
--- "null" ";" | name ":=" expression ";"
+-- an arm, by its word "if" or "elsif": word expression "then" statements
+abbrev pub arm_step : Arm-F (List Form) (Kind → List Form) → Kind → List Form
+arm_step arm word = placed program word arm.place ∷ (written_expr program arm.condition ++ bare program k.Then ∷ joined arm.body)
+
+-- {"elsif" arm}
+abbrev pub elsif_arms : List (Kind → List Form) → List Form
+elsif_arms [] = []
+elsif_arms (arm ∷ arms) = arm k.Elsif ++ elsif_arms arms
+
+-- "if" arm {"elsif" arm}
+abbrev pub all_arms : List (Kind → List Form) → List Form
+all_arms [] = []
+all_arms (arm ∷ arms) = arm k.If ++ elsif_arms arms
+
+-- ["else" statements]
+abbrev pub else_part : Option (List (List Form)) → List Form
+else_part None = []
+else_part (Some stmts) = bare program k.Else ∷ joined stmts
+
+-- one level, whose parts are written: "null" ";" | name ":=" expression ";" | "if" arm {"elsif" arm} ["else" statements] "end" "if" ";"
+abbrev pub stmt_step : Stmt-F (List Form) (Kind → List Form) → List Form
+stmt_step (Stmt-F.Null place) = placed program k.Null place ∷ bare program k.Semicolon ∷ []
+stmt_step (Stmt-F.Assignment target value) = written_name program target ++ bare program k.Assignment ∷ (written_expr program value ++ bare program k.Semicolon ∷ [])
+stmt_step (Stmt-F.If arms otherwise closing) = all_arms arms ++ (else_part otherwise ++ placed program k.End closing.end ∷ placed program k.If closing.word ∷ bare program k.Semicolon ∷ [])
+
+-- statement
 abbrev pub written_stmt : Stmt → List Form
-written_stmt (Null place) = placed program k.Null place ∷ bare program k.Semicolon ∷ []
-written_stmt (Assignment target value) = written_name program target ++ bare program k.Assignment ∷ (written_expr program value ++ bare program k.Semicolon ∷ [])
+written_stmt = fold-Stmt (List Form) (Kind → List Form) stmt_step arm_step
+
+-- an arm, by its word
+abbrev pub written_arm : Arm → Kind → List Form
+written_arm = fold-Arm (List Form) (Kind → List Form) stmt_step arm_step
 
 -- statement {statement}
 abbrev pub written_stmts : List Stmt → List Form

@@ -16,7 +16,7 @@ pub use annotation::{Derives, DerivesItem, Imports, Precondition};
 pub use declaration::Decl;
 pub use expression::{Expr, Identifier, InfixOp, Layer, Name, PrefixOp, copy_identifiers};
 pub use laws::{a_line_is_spelled, a_line_is_stopped, one_spelling, one_stop, one_tree};
-pub use statement::Stmt;
+pub use statement::{Arm, Closing, Stmt};
 pub use subprogram::{FormalPart, Param, Subprogram, Unit, WrittenMode};
 pub use token::{ANNOTATION_WORDS, Kind, RESERVED_WORDS, Token};
 
@@ -110,10 +110,36 @@ mod tests {
         Ok(decls)
     }
 
+    fn assignments(alloc: Global) -> Result<Items<Stmt>, AllocError> {
+        let mut one = Items::new(alloc);
+        one.push(Stmt::Assignment(name(alloc, "X")?, Expr::Number(7, at(9))))?;
+        Ok(one)
+    }
+
+    fn arm(alloc: Global, column: u32) -> Result<Arm, AllocError> {
+        Ok(Arm {
+            place: at(column),
+            condition: condition(alloc)?,
+            body: assignments(alloc)?,
+        })
+    }
+
+    // if -(X) < Integer'Last then X := 7; elsif -(X) < Integer'Last then X := 7; else X := 7; end if;
+    fn conditional(alloc: Global) -> Result<Stmt, AllocError> {
+        let mut arms = Items::new(alloc);
+        arms.push(arm(alloc, 10)?)?;
+        arms.push(arm(alloc, 11)?)?;
+        let closing = Closing {
+            end: at(12),
+            word: at(13),
+        };
+        Ok(Stmt::If(arms, Some(assignments(alloc)?), closing))
+    }
+
     fn statements(alloc: Global) -> Result<Items<Stmt>, AllocError> {
-        let mut statements = Items::new(alloc);
-        statements.push(Stmt::Assignment(name(alloc, "X")?, Expr::Number(7, at(9))))?;
+        let mut statements = assignments(alloc)?;
         statements.push(Stmt::Null(at(12)))?;
+        statements.push(conditional(alloc)?)?;
         Ok(statements)
     }
 
@@ -143,7 +169,7 @@ mod tests {
         assert!(rt; copied.derives.is_some());
         assert!(rt; copied.pre.is_some());
         assert_eq!(rt; copied.declarations.len(), 1);
-        assert_eq!(rt; copied.statements.len(), 2);
+        assert_eq!(rt; copied.statements.len(), 3);
         assert!(rt; copied.end_name.is_some());
         assert_eq!(rt; copied.end, at(3));
         Ok(())

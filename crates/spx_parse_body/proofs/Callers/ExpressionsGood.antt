@@ -21,7 +21,7 @@ use Rattle.spx_tree.specs.Written.{sign_kind, operator_kind, written_name, writt
 use Rattle.spx_tree.specs.Grammar.{height, layer_of, layer_in, rank, LeftFits, RightFits, Layered, IsExpr}
 use Rattle.spx_parse_body.specs.declared.expressions.Tall.{Tall}
 use Rattle.spx_parse_body.specs.Reading.{Reader, ◌>>=◌, pure, refuse, peek}
-use Rattle.spx_parse_body.specs.Expressions.{leaf, enclosed, prefixed, joined, sign_of, adding, relational, name_by, name, literal, in_parentheses, primary_by, primary, behind_sign, first_by, first, step_by, sum_step, continued, sum, relation_by, relation, read, below, at_layer, expression}
+use Rattle.spx_parse_body.specs.Expressions.{leaf, enclosed, prefixed, joined, sign_of, adding, relational, name_by, name, literal, in_parentheses, primary_by, primary, behind_sign, first_by, first, step_by, sum_step, continued, sum, relation_by, relation, read, below, at_layer, expression, expression_below}
 use Rattle.spx_parse_body.proofs.Callers.Lawful.{Ends, Any, Sees, Always, ends_here}
 use Rattle.spx_parse_body.proofs.Callers.Loops.{Shrinks}
 use Rattle.spx_parse_body.proofs.Callers.Good.{Good, no_level, Turn, Case, absent, present, good_bind, good_pure, good_refuse, good_given, good_fewer, good_weaken, good_expect, good_identifier, good_choose, good_option, good_loop, shrinks, Starts, starts_bind, starts_expect, starts_identifier, starts_number, starts_open}
@@ -292,8 +292,15 @@ at_layer_good : (marked : Bool) (levels : ℕ) (layer : Layer) → Good ⊤ ⊤ 
 unfolding at_layer
 at_layer_good marked levels layer = read_good marked (below marked levels) (below marked (suc levels)) levels (below_good marked levels) layer
 
+expression_is : (levels : ℕ) (m : Tall) → IsTall levels layer.Relation m → IsExpr levels m.expr
+expression_is levels m f = record { low = let a = f.low in let b = f.measured in omega arith; layered = f.layered; of_layer = f.of_layer }
+
 pub expression_good : {L P : Type 0} (marked : Bool) (levels : ℕ) → Good L P (written_expr marked) (IsExpr levels) [] Any (expression marked levels) (expression marked (suc levels))
 unfolding expression
 expression_good marked levels =
-    good_bind (good_given (λ l. tt) (λ l w. tt) (at_layer_good marked levels layer.Relation)) (λ m.
-    good_pure m.expr (λ l w. refl) (λ l w. record { low = let a = w.1.low in let b = w.1.measured in omega arith; layered = w.1.layered; of_layer = w.1.of_layer }))
+    good_bind (good_given (λ l. tt) (λ l w. tt) (at_layer_good marked levels layer.Relation)) (λ m. good_pure m.expr (λ l w. refl) (λ l w. expression_is levels m w.1))
+
+pub expression_below_good : {P : Type 0} (marked : Bool) (levels : ℕ) → Good (0 < levels) P (written_expr marked) (IsExpr (levels - 1)) [] Any (expression_below marked levels) (expression_below marked (suc levels))
+unfolding expression_below
+expression_below_good marked levels =
+    good_bind (good_given (λ l. l) (λ l w. tt) (below_good marked levels layer.Relation)) (λ m. good_pure m.expr (λ l w. refl) (λ l w. expression_is (levels - 1) m w.1))

@@ -21,7 +21,7 @@ use Rattle.spx_tree.specs.Written.{parenthesized, signed, operation, sign_kind, 
 use Rattle.spx_tree.specs.Grammar.{height, layer_of, layer_in, rank, LeftFits, RightFits, Layered, IsExpr}
 use Rattle.spx_parse_body.specs.declared.expressions.Tall.{Tall}
 use Rattle.spx_parse_body.specs.Reading.{Outcome, Reader, and_then, peek}
-use Rattle.spx_parse_body.specs.Expressions.{sign_of, adding, relational, name_by, name, literal, in_parentheses, primary_by, primary, behind_sign, first_by, first, joined_by, step_by, sum_step, continued, sum, relation_by, relation, read, below, at_layer, expression}
+use Rattle.spx_parse_body.specs.Expressions.{sign_of, adding, relational, name_by, name, literal, in_parentheses, primary_by, primary, behind_sign, first_by, first, joined_by, step_by, sum_step, continued, sum, relation_by, relation, read, below, at_layer, expression, expression_below}
 use Rattle.spx_parse_body.proofs.Callers.Loops.{Shrinks}
 use Rattle.spx_parse_body.proofs.Callers.Reaches.{Reaches, reaches_bind, reaches_pure, reaches_choose, reaches_deeper, reaches_expect, reaches_expect_place, reaches_identifier, reaches_number, peek_front, loop_turn, loop_over}
 use Rattle.spx_parse_body.proofs.Callers.ExpressionsGood.{below_good, sum_shrinks}
@@ -282,7 +282,16 @@ pub expression_again : (marked : Bool) (levels : ℕ) (x : Expr) (fs zs : List F
 unfolding expression
 expression_again marked levels x fs zs fit free e = reaches_bind _ (at_layer_again marked levels layer.Relation x fs zs fit.low fit.layered fit.of_layer free e) (λ us a. reaches_pure a)
 
+pub expression_below_again : (marked : Bool) (levels : ℕ) → 0 < levels → (x : Expr) (fs zs : List Form) → IsExpr (levels - 1) x → Free layer.Relation (peek marked zs) → fs ≡ written_expr marked x ++ zs → Reaches (expression_below marked levels) fs x zs
+unfolding expression_below
+expression_below_again marked levels some x fs zs fit free e = reaches_bind _ (below_again marked levels some layer.Relation x fs zs fit.low fit.layered fit.of_layer free e) (λ us a. reaches_pure a)
+
 -- no expression goes on with a semicolon
 pub semicolon_free : (marked : Bool) (zs : List Form) → Free layer.Relation (peek marked (bare marked k.Semicolon ∷ zs))
 semicolon_free true zs = (λ e. cc, refl, refl)
 semicolon_free false zs = (λ e. cc, refl, refl)
+
+-- nor with the word "then"
+pub then_free : (marked : Bool) (zs : List Form) → Free layer.Relation (peek marked (bare marked k.Then ∷ zs))
+then_free true zs = (λ e. cc, refl, refl)
+then_free false zs = (λ e. cc, refl, refl)

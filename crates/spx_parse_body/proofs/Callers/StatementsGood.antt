@@ -1,60 +1,173 @@
 -- The readers of statements keep the laws of readers.
 use Rattle.std.specs.Prelude.{⊤}
-use Rattle.std.proofs.Common.{◌≡◌, ℕ, suc, true, List, [], Option, Some, refl, append_assoc}
+use Rattle.std.proofs.Common.{◌≡◌, ℕ, zero, suc, ◌<◌, true, List, [], ◌∷◌, ◌++◌, map, Option, Some, None, refl, sym, ap, subst, ◌∙◌, append_assoc, arith}
+use Rattle.std.proofs.lemmas.List.{append-nil}
+use Rattle.spx_text.specs.declared.place.Place.{Place}
 use Rattle.spx_tree.specs.declared.token.Kind.{Kind}
 use Rattle.spx_tree.specs.declared.token.Kind.TheVariants as k
-use Rattle.spx_tree.specs.declared.statement.Stmt.TheVariants.{Null, Assignment}
-use Rattle.spx_tree.specs.Form.{Form}
-use Rattle.spx_tree.specs.Written.{program, written_stmt, written_stmts}
-use Rattle.spx_tree.specs.Grammar.{OneOrMore, IsStmt}
-use Rattle.spx_parse_body.specs.Reading.{peek, item_step}
-use Rattle.spx_parse_body.specs.Statements.{null_statement, assignment, stmt_by, stmt, starts_stmt, sees_stmt, more_stmts, stmts}
+use Rattle.spx_tree.specs.declared.expression.Expr.{Expr}
+use Rattle.spx_tree.specs.declared.statement.Closing.{Closing}
+use Rattle.spx_tree.specs.declared.statement.Arm.{Arm, out-Arm}
+use Rattle.spx_tree.specs.declared.statement.Stmt.{Stmt, Stmt-F, out-Stmt}
+use Rattle.spx_tree.specs.declared.statement.Stmt.TheVariants.{Null, Assignment, If, outs-Null, outs-Assignment, outs-If}
+use Rattle.spx_tree.specs.Form.{Form, bare, placed}
+use Rattle.spx_tree.specs.Written.{program, optional, elsif_arms, all_arms, written_stmt, written_arm, written_stmts}
+use Rattle.spx_tree.specs.Grammar.{OneOrMore, IsArm, IsFormed, Within, IsStmt}
+use Rattle.spx_tree.proofs.WrittenLevels.{written_level, spelled_stmt, spelled_arm, elsif_joined}
+use Rattle.spx_parse_body.specs.Reading.{Reader, peek, sees, refuse, item_step}
+use Rattle.spx_parse_body.specs.Statements as read
+use Rattle.spx_parse_body.specs.Statements.{null_statement, assignment, arm, elsif_arm, if_statement, stmt_by, stmt, starts_stmt, sees_stmt, more_stmts, some_stmts, stmts_below, stmts}
 use Rattle.spx_parse_body.proofs.Callers.Loops.{Shrinks}
 use Rattle.spx_parse_body.proofs.Callers.Lawful.{Ends, Any, Sees}
-use Rattle.spx_parse_body.proofs.Callers.Good.{Good, Starts, good_bind, good_pure, good_refuse, good_expect, good_choose, starts_bind, starts_choose, starts_place}
-use Rattle.spx_parse_body.proofs.Callers.Separated.{good_some_items, items_shrinks}
-use Rattle.spx_parse_body.proofs.Callers.ExpressionsGood.{name_starts, expression_good}
+use Rattle.spx_parse_body.proofs.Callers.Good.{Good, Starts, Adds, no_level, good_bind, good_then, good_as, good_before, good_given, good_more, good_pure, good_refuse, good_expect, good_expect_place, good_choose, list_shrinks, starts_bind, starts_choose, starts_expect, starts_open, starts_place}
+use Rattle.spx_parse_body.proofs.Callers.Separated.{all_added, good_if_seen, good_some_items, items_shrinks, joined_added, sees_kind}
+use Rattle.spx_parse_body.proofs.Callers.ExpressionsGood.{name_starts, expression_good, expression_below_good}
+
+-- ---- what is written and asked, by the last level
+
+-- a statement whose last level is this
+pub spelled_as : (x : Stmt) (y : Stmt-F Stmt Arm) → out-Stmt x ≡ y → written_stmt x ≡ written_level y
+spelled_as x y e = spelled_stmt x ∙ ap written_level e
+
+fits_as : (levels : ℕ) (x : Stmt) (y : Stmt-F Stmt Arm) → out-Stmt x ≡ y → IsFormed levels (Within levels) y → IsStmt levels x
+fits_as levels x y e f = subst (IsFormed levels (Within levels)) (sym e) f
+
+-- statements one level down
+abbrev pub IsInner : ℕ → List Stmt → Type 0
+IsInner levels xs = OneOrMore (Within levels) xs
+
+-- an arm of a statement within so many levels
+abbrev pub FitsArm : ℕ → Arm → Type 0
+FitsArm levels x = IsArm levels (Within levels) (out-Arm x)
+
+abbrev pub made_arm : Place → Expr → List Stmt → Arm
+made_arm place condition body = record { place = place; condition = condition; body = body }
+
+-- arms, the first of which is after the word "if"
+abbrev pub written_arms : List Arm → List Form
+written_arms xs = all_arms (map written_arm xs)
+
+-- statements after the word "else"
+abbrev pub written_else : List Stmt → List Form
+written_else xs = bare program k.Else ∷ written_stmts xs
+
+elsif_added : (xs : List Arm) (x : Arm) → elsif_arms (map written_arm xs) ++ written_arm x k.Elsif ≡ elsif_arms (map written_arm (xs ++ x ∷ []))
+elsif_added xs x =
+    ap (λ (fs : List Form). fs ++ written_arm x k.Elsif) (elsif_joined xs) ∙ joined_added (λ a. written_arm a k.Elsif) xs x ∙ sym (elsif_joined (xs ++ x ∷ []))
+
+arms_adds : (levels : ℕ) → Adds (λ x. written_arm x k.Elsif) (FitsArm levels) written_arms (OneOrMore (FitsArm levels))
+arms_adds levels [] x f g = absurd f
+arms_adds levels (y ∷ ys) x f g =
+    (append_assoc (written_arm y k.If) (elsif_arms (map written_arm ys)) (written_arm x k.Elsif) ∙ ap (λ (fs : List Form). written_arm y k.If ++ fs) (elsif_added ys x), (f.0, all_added (FitsArm levels) ys x f.1 g))
+
+-- ---- readers
 
 null_starts : {L P : Type 0} {on : List Form → Type 0} (levels : ℕ) → ((fs : List Form) → on fs → peek program fs ≡ Some k.Null) → Starts L P written_stmt (IsStmt levels) [] on null_statement null_statement
 unfolding null_statement
 null_starts levels here =
     starts_bind (starts_place program k.Null here refl) (λ place.
     good_bind (good_expect program k.Semicolon) (λ u.
-    good_pure (Null place) (λ l w. refl) (λ l w. tt)))
-
-assignment_starts : {L P : Type 0} {on : List Form → Type 0} (levels : ℕ) → ((fs : List Form) → on fs → peek program fs ≡ Some k.Identifier) → Starts L P written_stmt (IsStmt levels) [] on (assignment levels) (assignment (suc levels))
-unfolding assignment
-assignment_starts levels here =
-    starts_bind (name_starts program here) (λ target.
-    good_bind (good_expect program k.Assignment) (λ u.
-    good_bind (expression_good program levels) (λ value.
-    good_bind (good_expect program k.Semicolon) (λ v.
-    good_pure (Assignment target value) (λ l w. simp append_assoc) (λ l w. w.0.1)))))
+    good_pure (Null place) (λ l w. sym (spelled_as (Null place) _ (outs-Null place))) (λ l w. fits_as levels (Null place) _ (outs-Null place) tt)))
 
 stmt_ends : (levels : ℕ) → Ends written_stmt (IsStmt levels) []
 stmt_ends levels = ((null_starts {L = ⊤} {P = ⊤} {on = λ fs. peek program fs ≡ Some k.Null} levels (λ fs here. here)).good.law tt tt).ends
 
-stmt_case : {L P : Type 0} (levels : ℕ) (kind : Option Kind) → Good L P written_stmt (IsStmt levels) [] (Sees (peek program) kind) (stmt_by levels kind) (stmt_by (suc levels) kind)
-stmt_case levels (Some k.Null) = (null_starts levels (λ fs here. here)).good
-stmt_case levels (Some k.Identifier) = (assignment_starts levels (λ fs here. here)).good
-stmt_case levels _ = good_refuse (λ l w. stmt_ends levels)
+-- What reads statements one level down, at a number of levels and at the next.
+module _ (inner inner' : Reader (List Stmt)) (levels : ℕ) (good : Good (0 < levels) ⊤ written_stmts (IsInner levels) [] Any inner inner') where
+  assignment_starts : {L P : Type 0} {on : List Form → Type 0} → ((fs : List Form) → on fs → peek program fs ≡ Some k.Identifier) → Starts L P written_stmt (IsStmt levels) [] on (assignment inner levels) (assignment inner' (suc levels))
+  unfolding assignment
+  assignment_starts here =
+      starts_bind (name_starts program here) (λ target.
+      good_bind (good_expect program k.Assignment) (λ u.
+      good_bind (expression_good program levels) (λ value.
+      good_bind (good_expect program k.Semicolon) (λ v.
+      good_pure (Assignment target value) (λ l w. let e = spelled_as (Assignment target value) _ (outs-Assignment target value) in simp (append_assoc, e)) (λ l w. fits_as levels (Assignment target value) _ (outs-Assignment target value) w.0.1)))))
 
-stmt_good : {L P : Type 0} (levels : ℕ) → Good L P written_stmt (IsStmt levels) [] Any (stmt levels) (stmt (suc levels))
-unfolding stmt
-stmt_good levels = good_choose (peek program) (λ t xs ys. refl) (stmt_by levels) (stmt_by (suc levels)) refl refl (stmt_case levels)
+  -- an arm after its word
+  arm_good : {P : Type 0} (word : Kind) (place : Place) → Good (0 < levels) P (λ x. written_arm x word) (FitsArm levels) (placed program word place ∷ []) Any (arm inner levels place) (arm inner' (suc levels) place)
+  unfolding arm
+  arm_good word place =
+      good_bind (expression_below_good program levels) (λ condition.
+      good_bind (good_expect program k.Then) (λ u.
+      good_bind (good_given (λ l. l) (λ l w. tt) good) (λ body.
+      good_pure (made_arm place condition body) (λ l w. let e = spelled_arm (made_arm place condition body) word in simp (append_assoc, e)) (λ l w. (w.0.0.1, w.1)))))
 
-begun_case : {L P : Type 0} (levels : ℕ) (kind : Option Kind) → starts_stmt kind ≡ true → Starts L P written_stmt (IsStmt levels) [] (Sees (peek program) kind) (stmt_by levels kind) (stmt_by (suc levels) kind)
-begun_case levels (Some k.Null) e = null_starts levels (λ fs here. here)
-begun_case levels (Some k.Identifier) e = assignment_starts levels (λ fs here. here)
-begun_case levels _ e = absurd cc
+  elsif_starts : {P : Type 0} → Starts (0 < levels) P (λ x. written_arm x k.Elsif) (FitsArm levels) [] (Sees (sees program k.Elsif) true) (elsif_arm inner levels) (elsif_arm inner' (suc levels))
+  unfolding elsif_arm
+  elsif_starts = starts_bind (starts_place program k.Elsif (sees_kind program k.Elsif) refl) (λ place. arm_good k.Elsif place)
 
-stmt_begins : {L P : Type 0} (levels : ℕ) → Starts L P written_stmt (IsStmt levels) [] (Sees sees_stmt true) (stmt levels) (stmt (suc levels))
-unfolding stmt
-stmt_begins levels = starts_choose (peek program) (λ t xs ys. refl) (stmt_by levels) (stmt_by (suc levels)) (stmt_good levels) (λ fs here. begun_case levels (peek program fs) here)
+  pub elsif_shrinks : 0 < levels → Shrinks (sees program k.Elsif) (item_step (elsif_arm inner levels))
+  elsif_shrinks some = list_shrinks (0 < levels) ⊤ (λ x. written_arm x k.Elsif) (FitsArm levels) written_arms (OneOrMore (FitsArm levels)) (arms_adds levels) (sees program k.Elsif) (λ t xs ys. refl) refl elsif_starts some
 
-pub stmts_shrinks : (levels : ℕ) → Shrinks sees_stmt (item_step (stmt levels))
-stmts_shrinks levels = items_shrinks written_stmt (IsStmt levels) sees_stmt (λ t xs ys. refl) refl {L = ⊤} (stmt_begins levels) tt
+  arms_good : {P : Type 0} (first : Arm) → Good (0 < levels) (P × FitsArm levels first) written_arms (OneOrMore (FitsArm levels)) (written_arm first k.If) Any (read.elsif_arms inner levels (first ∷ [])) (read.elsif_arms inner' (suc levels) (first ∷ []))
+  unfolding read.elsif_arms
+  arms_good {P} first =
+      good_before (append-nil (written_arm first k.If))
+      (good_given (λ l. l) (λ l w. (w.0, (w.1, tt)))
+      (good_more (0 < levels) P (λ x. written_arm x k.Elsif) (FitsArm levels) written_arms (OneOrMore (FitsArm levels)) (arms_adds levels) (sees program k.Elsif) (λ t xs ys. refl) refl elsif_starts (first ∷ [])))
+
+  else_starts : {P : Type 0} → Starts (0 < levels) P written_else (IsInner levels) [] (Sees (sees program k.Else) true) (read.else_part inner levels) (read.else_part inner' (suc levels))
+  unfolding read.else_part
+  else_starts = starts_bind (starts_expect program k.Else (sees_kind program k.Else) refl) (λ u. good_as (λ l w x f. (refl, f)) (good_given (λ l. l) (λ l w. tt) good))
+
+  if_text : (arms : List Arm) (otherwise : Option (List Stmt)) (closing : Closing)
+      → (((written_arms arms ++ optional written_else otherwise) ++ placed program k.End closing.end ∷ []) ++ placed program k.If closing.word ∷ []) ++ bare program k.Semicolon ∷ [] ≡ written_stmt (If arms otherwise closing)
+  if_text arms None closing = let e = spelled_as (If arms None closing) _ (outs-If arms None closing) in simp (append_assoc, e)
+  if_text arms (Some xs) closing = let e = spelled_as (If arms (Some xs) closing) _ (outs-If arms (Some xs) closing) in simp (append_assoc, e)
+
+  if_starts : {L P : Type 0} {on : List Form → Type 0} → ((fs : List Form) → on fs → peek program fs ≡ Some k.If) → Starts L P written_stmt (IsStmt levels) [] on (if_statement inner levels) (if_statement inner' (suc levels))
+  unfolding if_statement
+  if_starts here =
+      starts_open program k.If here levels 0 refl (λ w. omega arith) (λ w. stmt_ends levels) (λ place.
+      good_then (arm_good k.If place) (λ first.
+      good_then (arms_good first) (λ arms.
+      good_bind (good_if_seen written_else (IsInner levels) program k.Else else_starts) (λ otherwise.
+      good_bind (good_expect_place program k.End) (λ end.
+      good_bind (good_expect_place program k.If) (λ word.
+      good_bind (good_expect program k.Semicolon) (λ u.
+      good_pure (If arms otherwise (record { end = end; word = word })) (λ l w. if_text arms otherwise (record { end = end; word = word }))
+      (λ l w. fits_as levels (If arms otherwise (record { end = end; word = word })) _ (outs-If arms otherwise (record { end = end; word = word })) (l, w.0.0.0.0.1, w.0.0.0.1)))))))))
+
+  stmt_case : {L P : Type 0} (kind : Option Kind) → Good L P written_stmt (IsStmt levels) [] (Sees (peek program) kind) (stmt_by inner levels kind) (stmt_by inner' (suc levels) kind)
+  stmt_case (Some k.Null) = (null_starts levels (λ fs here. here)).good
+  stmt_case (Some k.Identifier) = (assignment_starts (λ fs here. here)).good
+  stmt_case (Some k.If) = (if_starts (λ fs here. here)).good
+  stmt_case _ = good_refuse (λ l w. stmt_ends levels)
+
+  stmt_good : {L P : Type 0} → Good L P written_stmt (IsStmt levels) [] Any (stmt inner levels) (stmt inner' (suc levels))
+  unfolding stmt
+  stmt_good = good_choose (peek program) (λ t xs ys. refl) (stmt_by inner levels) (stmt_by inner' (suc levels)) refl refl stmt_case
+
+  begun_case : {L P : Type 0} (kind : Option Kind) → starts_stmt kind ≡ true → Starts L P written_stmt (IsStmt levels) [] (Sees (peek program) kind) (stmt_by inner levels kind) (stmt_by inner' (suc levels) kind)
+  begun_case (Some k.Null) e = null_starts levels (λ fs here. here)
+  begun_case (Some k.Identifier) e = assignment_starts (λ fs here. here)
+  begun_case (Some k.If) e = if_starts (λ fs here. here)
+  begun_case _ e = absurd cc
+
+  stmt_begins : {L P : Type 0} → Starts L P written_stmt (IsStmt levels) [] (Sees sees_stmt true) (stmt inner levels) (stmt inner' (suc levels))
+  unfolding stmt
+  stmt_begins = starts_choose (peek program) (λ t xs ys. refl) (stmt_by inner levels) (stmt_by inner' (suc levels)) stmt_good (λ fs here. begun_case (peek program fs) here)
+
+  pub stmt_shrinks : Shrinks sees_stmt (item_step (stmt inner levels))
+  stmt_shrinks = items_shrinks written_stmt (IsStmt levels) sees_stmt (λ t xs ys. refl) refl {L = ⊤} stmt_begins tt
+
+  some_stmts_good : {L P : Type 0} → Good L P written_stmts (OneOrMore (IsStmt levels)) [] Any (some_stmts inner levels) (some_stmts inner' (suc levels))
+  unfolding some_stmts more_stmts
+  some_stmts_good = good_some_items written_stmt (IsStmt levels) sees_stmt (λ t xs ys. refl) refl stmt_begins stmt_good
+
+-- ---- level by level
+
+pub stmts_below_good : (levels : ℕ) → Good (0 < levels) ⊤ written_stmts (IsInner levels) [] Any (stmts_below levels) (stmts_below (suc levels))
+unfolding stmts_below
+stmts_below_good zero = record { law = λ l w. absurd (omega arith); scans = λ l. absurd (omega arith); scans' = (some_stmts_good (stmts_below zero) refuse 0 no_level {L = ⊤} {P = ⊤}).scans tt; grows = λ l w. absurd (omega arith) }
+stmts_below_good (suc n) = some_stmts_good (stmts_below n) (stmts_below (suc n)) n (stmts_below_good n)
+
+pub arms_shrinks : (levels : ℕ) → 0 < levels → Shrinks (sees program k.Elsif) (item_step (elsif_arm (stmts_below levels) levels))
+arms_shrinks levels some = elsif_shrinks (stmts_below levels) (stmts_below (suc levels)) levels (stmts_below_good levels) some
+
+pub stmts_shrinks : (levels : ℕ) → Shrinks sees_stmt (item_step (stmt (stmts_below levels) levels))
+stmts_shrinks levels = stmt_shrinks (stmts_below levels) (stmts_below (suc levels)) levels (stmts_below_good levels)
 
 pub stmts_good : {L P : Type 0} (levels : ℕ) → Good L P written_stmts (OneOrMore (IsStmt levels)) [] Any (stmts levels) (stmts (suc levels))
-unfolding stmts more_stmts
-stmts_good levels = good_some_items written_stmt (IsStmt levels) sees_stmt (λ t xs ys. refl) refl (stmt_begins levels) (stmt_good levels)
+unfolding stmts
+stmts_good levels = some_stmts_good (stmts_below levels) (stmts_below (suc levels)) levels (stmts_below_good levels)

@@ -2,13 +2,16 @@
 use Rattle.std.specs.Prelude.{⊤}
 use Rattle.std.proofs.Common.{◌≡◌, ℕ, ◌<◌, Bool, true, false, List, [], ◌∷◌, ◌++◌, length, Ok, refl, ap, ◌∙◌}
 use Rattle.spx_tree.specs.declared.token.Kind.{Kind}
+use Rattle.spx_tree.specs.declared.token.Kind.TheVariants as k
+use Rattle.spx_tree.specs.declared.statement.Arm.{Arm}
 use Rattle.spx_tree.specs.declared.statement.Stmt.{Stmt}
+use Rattle.spx_tree.specs.Written.{program}
 use Rattle.spx_tree.specs.Form.{Form}
 use Rattle.spx_parse_body.specs.Reading.{Outcome, Reader, and_then, ◌>>=◌, ◌>>◌, pure, sees, expect, turn, loop, item_step}
-use Rattle.spx_parse_body.specs.Statements.{sees_stmt, stmt, more_stmts}
+use Rattle.spx_parse_body.specs.Statements.{elsif_arm, elsif_arms, sees_stmt, stmt, more_stmts, stmts_below}
 use Rattle.spx_parse_body.proofs.Callers.Loops.{Shrinks, loop_is}
 use Rattle.spx_parse_body.proofs.Levels.{and_then_assoc}
-use Rattle.spx_parse_body.proofs.Callers.StatementsGood.{stmts_shrinks}
+use Rattle.spx_parse_body.proofs.Callers.StatementsGood.{arms_shrinks, stmts_shrinks}
 
 -- one turn of a list, as the code takes it
 abbrev pub items_by : {A : Type 0} → Reader A → (List A → Reader (List A)) → List A → Bool → Reader (List A)
@@ -31,9 +34,14 @@ pub next_is : {A : Type 0} (marked : Bool) (kind : Kind) (reads : Reader A) (go_
 next_is marked kind reads go_on found false fs = refl
 next_is marked kind reads go_on found true fs = and_then_assoc (expect marked kind fs) (λ u. reads) (λ x. go_on (found ++ x ∷ []))
 
-pub more_stmts_is : (levels : ℕ) (found : List Stmt) (fs : List Form) → more_stmts levels found fs ≡ items_by (stmt levels) (more_stmts levels) found (sees_stmt fs) fs
+pub more_stmts_is : (levels : ℕ) (found : List Stmt) (fs : List Form) → more_stmts (stmts_below levels) levels found fs ≡ items_by (stmt (stmts_below levels) levels) (more_stmts (stmts_below levels) levels) found (sees_stmt fs) fs
 unfolding more_stmts
-more_stmts_is levels found fs = items_is sees_stmt (stmt levels) (stmts_shrinks levels) found fs
+more_stmts_is levels found fs = items_is sees_stmt (stmt (stmts_below levels) levels) (stmts_shrinks levels) found fs
+
+pub elsif_arms_is : (levels : ℕ) (found : List Arm) (fs : List Form) → 0 < levels
+    → elsif_arms (stmts_below levels) levels found fs ≡ items_by (elsif_arm (stmts_below levels) levels) (elsif_arms (stmts_below levels) levels) found (sees program k.Elsif fs) fs
+unfolding elsif_arms
+elsif_arms_is levels found fs some = items_is (sees program k.Elsif) (elsif_arm (stmts_below levels) levels) (arms_shrinks levels some) found fs
 
 -- ---- an item takes a form
 

@@ -1,0 +1,39 @@
+use Rattle.std.proofs.Common.{◌≡◌, ◌*◌, ◌+◌, [], ◌∷◌, length}
+use Rattle.spx_parse_body.specs.Statements.{elsif_arms, more_stmts, stmts, stmts_below}
+use Rattle.spx_parse_body.proofs.statements.+stmts.Given as goal
+
+abbrev pub decreases-stmts : goal.decreases-stmts
+decreases-stmts l = 6 * l.levels + 5
+
+abbrev pub decreases-stmt : goal.decreases-stmt
+decreases-stmt l = 6 * l.levels + 4
+
+abbrev pub decreases-if_statement : goal.decreases-if_statement
+decreases-if_statement l = 6 * l.levels + 3
+
+abbrev pub decreases-elsif_arms : goal.decreases-elsif_arms
+decreases-elsif_arms l = 6 * l.levels + 2
+
+abbrev pub decreases-elsif_arm : goal.decreases-elsif_arm
+decreases-elsif_arm l = 6 * l.levels + 1
+
+abbrev pub decreases-arm : goal.decreases-arm
+decreases-arm l = 6 * l.levels
+
+abbrev pub decreases-optional_else : goal.decreases-optional_else
+decreases-optional_else l = 6 * l.levels + 1
+
+abbrev pub decreases-else_part : goal.decreases-else_part
+decreases-else_part l = 6 * l.levels
+
+abbrev pub invariant-elsif_arms-more : goal.invariant-elsif_arms-more
+invariant-elsif_arms-more l = elsif_arms (stmts_below l.levels) l.levels (l.fn.first ∷ []) l.fn.cursor ≡ elsif_arms (stmts_below l.levels) l.levels l.arms l.cursor
+
+abbrev pub decreases-elsif_arms-more : goal.decreases-elsif_arms-more
+decreases-elsif_arms-more l = length l.cursor
+
+abbrev pub invariant-stmts-more : goal.invariant-stmts-more
+invariant-stmts-more l = stmts l.levels l.fn.cursor ≡ more_stmts (stmts_below l.levels) l.levels l.stmts l.cursor
+
+abbrev pub decreases-stmts-more : goal.decreases-stmts-more
+decreases-stmts-more l = length l.cursor
