@@ -8,8 +8,9 @@ use Rattle.spx_tree.specs.declared.expression.Expr.{Expr, Expr-F, roll-Expr, map
 use Rattle.spx_tree.specs.declared.expression.Expr.TheVariants as expr
 use Rattle.spx_tree.specs.declared.declaration.Decl.{Decl}
 use Rattle.spx_tree.specs.declared.declaration.Decl.TheVariants as decl
-use Rattle.spx_tree.specs.declared.statement.Stmt.{Stmt}
+use Rattle.spx_tree.specs.declared.statement.Stmt.{Stmt, Stmt-F, map-Stmt, roll-Stmt, ind-Stmt, fold-roll-Stmt}
 use Rattle.spx_tree.specs.declared.statement.Stmt.TheVariants as stmt
+use Rattle.spx_tree.specs.declared.statement.Arm.{Arm, Arm-F, map-Arm, roll-Arm, fold-roll-Arm}
 use Rattle.spx_tree.specs.declared.annotation.DerivesItem.{DerivesItem}
 use Rattle.spx_tree.specs.declared.annotation.Derives.{Derives}
 use Rattle.spx_tree.specs.declared.annotation.Precondition.{Precondition}
@@ -20,15 +21,17 @@ use Rattle.spx_tree.specs.declared.subprogram.Unit.{Unit}
 use Rattle.spx_tree.specs.declared.subprogram.Unit.TheVariants as unit
 use Rattle.spx_core.specs.declared.entity.Object.{Object}
 use Rattle.spx_core.specs.declared.expression.CoreExpr.{CoreExpr, CoreExpr-F, roll-CoreExpr, map-CoreExpr, fold-roll-CoreExpr}
+use Rattle.spx_core.specs.declared.statement.CoreStmt.{CoreStmt, CoreStmt-F, map-CoreStmt, roll-CoreStmt, fold-roll-CoreStmt}
+use Rattle.spx_core.specs.declared.statement.CoreArm.{CoreArm, fold-roll-CoreArm}
 use Rattle.spx_core.specs.declared.program.Program.{Program}
 use Rattle.spx_core.specs.Regions.{Region, Regions, hidden}
-use Rattle.spx_core.specs.Erased.{Visible, erased, erased_decl, erased_defining, erased_derives, erased_expr, erased_formal_part, erased_item, erased_param, erased_pre, erased_reference, erased_step, erased_stmt, erased_sub, unit_of}
+use Rattle.spx_core.specs.Erased.{Visible, erased, erased_arm, erased_arm_step, erased_decl, erased_defining, erased_derives, erased_expr, erased_formal_part, erased_item, erased_param, erased_pre, erased_reference, erased_step, erased_stmt, erased_stmt_step, erased_sub, unit_of}
 use Rattle.spx_core.specs.Judged.{breach_in}
 use Rattle.spx_core.specs.Statements.{Typed, first_name_breach, judged_program}
 use Rattle.spx_core.proofs.Callers.Bodies.{all_are_units}
 use Rattle.spx_core.proofs.Judgements.{unbroken}
 use Rattle.spx_core.specs.Resolved as resolved
-use Rattle.spx_core.specs.Resolved.{around_body, around_formals, declared_by, declaring, declaring_all, defining, defining_all, formal_names, local_names, own_vars, resolved_decl, resolved_decls, resolved_derives, resolved_expr, resolved_formal_part, resolved_item, resolved_name, resolved_param, resolved_params, resolved_pre, resolved_reference, resolved_stmt, resolved_sub, resolved_subs, unit_name, variable_at}
+use Rattle.spx_core.specs.Resolved.{around_body, around_formals, declared_by, declaring, declaring_all, defining, defining_all, formal_names, local_names, own_vars, resolved_arm, resolved_decl, resolved_decls, resolved_derives, resolved_expr, resolved_formal_part, resolved_item, resolved_name, resolved_param, resolved_params, resolved_pre, resolved_reference, resolved_stmt, resolved_sub, resolved_subs, unit_name, variable_at}
 
 -- ---- names and expressions
 
@@ -79,10 +82,53 @@ kept_names region object position (name ∷ names) =
 
 -- ---- statements and annotations
 
+-- parts of which each is kept
+all_kept : {T C : Type 0} (back : C → T) (core : T → C) (ts : List ((t : T) × (back (core t) ≡ t))) → map back (map core (map (λ t. t.0) ts)) ≡ map (λ t. t.0) ts
+all_kept back core [] = refl
+all_kept {T} back core (t ∷ ts) = ap₂ (λ (x : T) (xs : List T). x ∷ xs) t.1 (all_kept back core ts)
+
+erased_stmt_at : (y : CoreStmt-F CoreStmt CoreArm) → erased_stmt (roll-CoreStmt y) ≡ erased_stmt_step (map-CoreStmt CoreStmt CoreArm Stmt Arm erased_stmt erased_arm y)
+erased_stmt_at y = fold-roll-CoreStmt Stmt Arm erased_stmt_step erased_arm_step y
+
 module _ (regions : Regions) where
-  kept_stmt : (s : Stmt) → erased_stmt (resolved_stmt regions s) ≡ s
-  kept_stmt (stmt.Null place) = refl
-  kept_stmt (stmt.Assignment target value) = ap₂ stmt.Assignment (kept_reference regions target) (kept_expr regions value)
+  abbrev KeptStmt : Stmt → Type 0
+  KeptStmt s = erased_stmt (resolved_stmt regions s) ≡ s
+
+  abbrev KeptArm : Arm → Type 0
+  KeptArm a = erased_arm (resolved_arm regions a) ≡ a
+
+  abbrev ShownStmt : Type 0
+  ShownStmt = (s : Stmt) × KeptStmt s
+
+  abbrev ShownArm : Type 0
+  ShownArm = (a : Arm) × KeptArm a
+
+  abbrev bare_stmt : Stmt-F ShownStmt ShownArm → Stmt-F Stmt Arm
+  bare_stmt y = map-Stmt ShownStmt ShownArm Stmt Arm (λ e. e.0) (λ e. e.0) y
+
+  stmt_at_layer : (y : Stmt-F ShownStmt ShownArm) → erased_stmt (resolved.stmt_step regions (map-Stmt Stmt Arm CoreStmt CoreArm (resolved_stmt regions) (resolved_arm regions) (bare_stmt y))) ≡ roll-Stmt (bare_stmt y)
+  unfolding roll-Stmt roll-CoreStmt roll
+  stmt_at_layer (Stmt-F.Null place) = erased_stmt_at (CoreStmt-F.Null place)
+  stmt_at_layer (Stmt-F.Assignment target value) =
+      erased_stmt_at (CoreStmt-F.Assignment (resolved_reference regions target) (resolved_expr regions value)) ∙ ap₂ stmt.Assignment (kept_reference regions target) (kept_expr regions value)
+  stmt_at_layer (Stmt-F.If arms None closing) =
+      erased_stmt_at (CoreStmt-F.If (map (resolved_arm regions) (map (λ a. a.0) arms)) None closing)
+      ∙ ap (λ (a : List Arm). stmt.If a None closing) (all_kept erased_arm (resolved_arm regions) arms)
+  stmt_at_layer (Stmt-F.If arms (Some stmts) closing) =
+      erased_stmt_at (CoreStmt-F.If (map (resolved_arm regions) (map (λ a. a.0) arms)) (Some (map (resolved_stmt regions) (map (λ s. s.0) stmts))) closing)
+      ∙ ap₂ (λ (a : List Arm) (o : List Stmt). stmt.If a (Some o) closing) (all_kept erased_arm (resolved_arm regions) arms) (all_kept erased_stmt (resolved_stmt regions) stmts)
+
+  stmt_layer : (y : Stmt-F ShownStmt ShownArm) → KeptStmt (roll-Stmt (bare_stmt y))
+  stmt_layer y = ap erased_stmt (fold-roll-Stmt CoreStmt CoreArm (resolved.stmt_step regions) (resolved.arm_step regions) (bare_stmt y)) ∙ stmt_at_layer y
+
+  arm_layer : (y : Arm-F ShownStmt ShownArm) → KeptArm (roll-Arm (map-Arm ShownStmt ShownArm Stmt Arm (λ e. e.0) (λ e. e.0) y))
+  arm_layer y =
+      ap erased_arm (fold-roll-Arm CoreStmt CoreArm (resolved.stmt_step regions) (resolved.arm_step regions) _)
+      ∙ fold-roll-CoreArm Stmt Arm erased_stmt_step erased_arm_step _
+      ∙ ap₂ (λ (c : Expr) (ss : List Stmt). record { place = y.place; condition = c; body = ss }) (kept_expr regions y.condition) (all_kept erased_stmt (resolved_stmt regions) y.body)
+
+  kept_stmt : (s : Stmt) → KeptStmt s
+  kept_stmt = ind-Stmt KeptStmt KeptArm (λ x y is. subst (λ z. KeptStmt (roll-Stmt z)) is (stmt_layer y)) (λ x y is. subst (λ z. KeptArm (roll-Arm z)) is (arm_layer y))
 
   kept_item : (item : DerivesItem) → erased_item (resolved_item regions item) ≡ item
   kept_item item =

@@ -10,8 +10,6 @@ use Rattle.spx_core.specs.declared.entity.Mode.TheVariants.{In, Out, InOut}
 use Rattle.spx_core.specs.declared.name.CoreName.{CoreName}
 use Rattle.spx_core.specs.declared.name.Reference.{Reference}
 use Rattle.spx_core.specs.declared.dependency.CoreDerivesItem.{CoreDerivesItem}
-use Rattle.spx_core.specs.declared.statement.CoreStmt.{CoreStmt}
-use Rattle.spx_core.specs.declared.statement.CoreStmt.TheVariants.{Null, Assignment}
 use Rattle.spx_core.specs.declared.subprogram.CorePrecondition.{CorePrecondition}
 use Rattle.spx_core.specs.declared.subprogram.Sub.{Sub}
 use Rattle.spx_core.specs.declared.program.Program.{Program}
@@ -20,25 +18,31 @@ use Rattle.spx_core.specs.Reads.{names_read}
 use Rattle.spx_core.specs.Uses.{denotes, mentions, uses, variable_of}
 use Rattle.spx_core.specs.Dependency.{exports, imports, relation}
 use Rattle.spx_core.specs.DerivesItems.{has_export, has_import}
+use Rattle.spx_core.specs.Commands.{Command, Skip, Set, Then, Choose, commands}
 use Rattle.spx_core.specs.Effects.{effect, sets}
 use Rattle.spx_core.specs.Formals.{formals, is_formal, mode_of}
 use Rattle.spx_core.specs.Judged.{each, if_there}
-use Rattle.spx_core.specs.Obeyed.{Obeys, export_agrees, exports_once, import_agrees, is_imported, is_exported, is_listed, is_right_relation, may_be_assigned, mode_named, names_formals, obeyed_export, obeyed_import, obeyed_item, obeyed_pre, obeyed_relation, obeyed_stmt, obeyed_sub, pairs_once, place_or, reads_import, variable_is}
+use Rattle.spx_core.specs.Obeyed.{Obeys, export_agrees, exports_once, import_agrees, is_imported, is_exported, is_listed, is_right_relation, may_be_assigned, mode_named, names_formals, obeyed_export, obeyed_import, obeyed_item, obeyed_pre, obeyed_relation, obeyed_command, obeyed_sub, pairs_once, place_or, reads_import, variable_is}
 use Rattle.spx_core.specs.Rules.{ObeysRules, agrees}
-use Rattle.spx_core.specs.Scopes.{HasItsMode, HaveTheirModes, Scoped, TargetHasItsMode}
+use Rattle.spx_core.specs.Scopes.{HasItsMode, HaveTheirModes, Scoped, TargetsHaveTheirModes}
 use Rattle.spx_core.specs.Erased.{Visible}
 use Rattle.spx_core.proofs.Judgements.{bound, each_passes, kept, passes_at}
 use Rattle.spx_core.proofs.Callers.ListTests.{all_pass, found, passes}
 use Rattle.spx_core.proofs.Callers.Pairs.{exports_are, imports_are}
-use Rattle.spx_core.proofs.Callers.FlowLaws.{sets_any}
 use Rattle.spx_core.proofs.Scopes.{all_scoped}
 use Rattle.spx_core.proofs.Callers.Variables.{same_is, same_var}
 
 -- ---- U2
 
-no_input : (p : Program) (v : VarId) (s : CoreStmt) → TargetHasItsMode p s → obeyed_stmt s ≡ Ok tt → sets v (effect s) ≡ true → mode_of v p ≢ Some In
-no_input p v (Null place) its h set is = absurd (cc)
-no_input p v (Assignment target value) its h set is =
+no_input : (p : Program) (v : VarId) (c : Command) → TargetsHaveTheirModes p c → obeyed_command c ≡ Ok tt → sets v (effect c) ≡ true → mode_of v p ≢ Some In
+no_input p v Skip its h set is = absurd (cc)
+no_input p v (Then a b) its h set is =
+    let parts = bound (obeyed_command a) (λ _. obeyed_command b) tt h in
+    ⊎_elim (λ first. no_input p v a its.0 parts.1 first is) (λ second. no_input p v b its.1 parts.2 second is) (or_cases (sets v (effect a)) (sets v (effect b)) set)
+no_input p v (Choose place condition a b) its h set is =
+    let parts = bound (obeyed_command a) (λ _. obeyed_command b) tt h in
+    ⊎_elim (λ first. no_input p v a its.0 parts.1 first is) (λ second. no_input p v b its.1 parts.2 second is) (or_cases (sets v (effect a)) (sets v (effect b)) set)
+no_input p v (Set target value) its h set is =
     let e = sym (kept U2 target.root.name.place (may_be_assigned (mode_named target.root)) h) ∙ ap may_be_assigned (its v set ∙ is) in
     absurd (cc)
 
@@ -123,9 +127,7 @@ rules_of p sub scoped ok =
     let pairs = and_parts (list_all pairs_once (relation sub)) _ once.1 in
     let rest = and_parts (list_all (is_listed sub) (formals sub)) (list_all (names_formals sub) (relation sub)) pairs.1 in
     record {
-      targets = λ v set.
-          let s = found (λ s. sets v (effect s)) sub.statements (sym (sets_any v sub.statements) ∙ set) in
-          no_input p v s.0 (All-contains (TargetHasItsMode p) sub.statements s.0 scoped.target_modes s.1) (passes_at obeyed_stmt sub.statements c.2 s.0 s.1) s.2;
+      targets = λ v set is. no_input p v (commands sub.statements) scoped.target_modes c.2 set is;
       exports_are_named_once = once.0;
       pairs_are_named_once = pairs.0;
       formals_are_listed = rest.0;

@@ -1,14 +1,16 @@
 -- The names of a subprogram denote the variables that it declares.
 use Rattle.std.proofs.Common.{◌≡◌, ℕ, ◌+◌, Bool, true, false, ◌||◌, List, [], ◌∷◌, ◌++◌, length, map, Option, Some, None, option_map, is_some, refl, sym, ap, ap₂, subst, ◌∙◌, ⊎_elim, append_assoc, length-append}
-use Rattle.std.specs.Prelude.{All, ◌&&◌, option_and_then, slice_get}
+use denote.Hole.Carrier.{roll}
+use Rattle.std.specs.Prelude.{⊤, All, ◌&&◌, option_and_then, slice_get}
 use Rattle.std.specs.List.{AllByRecursion, flat_map, list_any}
 use Rattle.std.proofs.lemmas.Bool.{and_parts, false_from_ne_true, or_cases, or_left, or_right}
 use Rattle.std.proofs.lemmas.List.{length-map, map-append}
 use Rattle.std.proofs.Common.{get_or}
 use Rattle.std.proofs.lemmas.List.Elements.{All-from_recursion, All-map}
 use Rattle.spx_tree.specs.declared.expression.Name.{Name}
-use Rattle.spx_tree.specs.declared.statement.Stmt.{Stmt}
-use Rattle.spx_tree.specs.declared.statement.Stmt.TheVariants as stmt
+use Rattle.spx_tree.specs.declared.expression.Expr.{Expr}
+use Rattle.spx_tree.specs.declared.statement.Stmt.{Stmt, Stmt-F, map-Stmt, roll-Stmt, ind-Stmt, fold-roll-Stmt}
+use Rattle.spx_tree.specs.declared.statement.Arm.{Arm, Arm-F, map-Arm, roll-Arm, fold-roll-Arm}
 use Rattle.spx_tree.specs.declared.annotation.DerivesItem.{DerivesItem}
 use Rattle.spx_tree.specs.declared.annotation.Derives.{Derives}
 use Rattle.spx_tree.specs.declared.subprogram.Subprogram.{Subprogram}
@@ -20,23 +22,30 @@ use Rattle.spx_core.specs.declared.entity.VarKind.{VarKind}
 use Rattle.spx_core.specs.declared.entity.VarKind.TheVariants.{Formal, Local}
 use Rattle.spx_core.specs.declared.entity.Object.{Object}
 use Rattle.spx_core.specs.declared.name.Defining.{Defining}
+use Rattle.spx_core.specs.declared.name.Reference.{Reference}
+use Rattle.spx_core.specs.declared.expression.CoreExpr.{CoreExpr}
+use Rattle.spx_core.specs.declared.statement.CoreStmt.{CoreStmt, CoreStmt-F, map-CoreStmt, roll-CoreStmt, fold-roll-CoreStmt}
+use Rattle.spx_core.specs.declared.statement.CoreArm.{CoreArm, fold-roll-CoreArm}
 use Rattle.spx_core.specs.declared.dependency.CoreDerivesItem.{CoreDerivesItem}
 use Rattle.spx_core.specs.declared.program.Var.{Var}
 use Rattle.spx_core.specs.declared.program.Program.{Program}
 use Rattle.spx_core.specs.declared.subprogram.Sub.{Sub}
-use Rattle.spx_core.specs.Uses.{mentions}
+use Rattle.spx_core.specs.Commands.{Command, Skip, Set, Then, Choose, arm_before, arms_before, chain, command, commands}
+use Rattle.spx_core.specs.Commands as commands_of
+use Rattle.spx_core.specs.Uses.{denotes, mentions, uses}
 use Rattle.spx_core.specs.Dependency.{items_of}
 use Rattle.spx_core.specs.DerivesItems.{has_export, has_import}
 use Rattle.spx_core.specs.Formals.{is_formal, is_local, mode_in, mode_of, stands_in}
-use Rattle.spx_core.specs.Effects.{effect, sets, reads}
+use Rattle.spx_core.specs.Effects.{effect, is_read, reads, reads_of, sets}
 use Rattle.spx_core.specs.Obeyed.{mode_denoted}
 use Rattle.spx_core.specs.Regions.{Region, Regions}
-use Rattle.spx_core.specs.Resolved.{around_body, declaring, declaring_all, formal_names, local_names, own_vars, resolved, resolved_derives, resolved_item, resolved_expr, resolved_reference, resolved_stmt, resolved_sub, resolved_subs, unit_name, var_of}
+use Rattle.spx_core.specs.Resolved.{around_body, declaring, declaring_all, formal_names, local_names, own_vars, resolved_derives, resolved_item, resolved_expr, resolved_arm, resolved_reference, resolved_stmt, resolved_sub, resolved_subs, unit_name, var_of}
+use Rattle.spx_core.specs.Resolved as resolved
 use Rattle.spx_core.specs.Erased.{Visible, erased}
-use Rattle.spx_core.specs.Scopes.{HasItsMode, HaveTheirModes, Scoped, TargetHasItsMode, kind_of}
+use Rattle.spx_core.specs.Scopes.{HasItsMode, HaveTheirModes, Scoped, TargetsHaveTheirModes, kind_of}
 use Rattle.spx_core.proofs.Callers.Pairs.{exports_are, imports_are}
 use Rattle.spx_core.proofs.Callers.ListTests.{each_append, some_mapped}
-use Rattle.spx_core.proofs.Callers.FlowLaws.{reads_any, reads_uses, sets_any}
+use Rattle.spx_core.proofs.Callers.FlowLaws.{reads_uses}
 use Rattle.spx_core.proofs.RegionLaws.{AllHold, HoldsIn, inside_holds, mentioned_variable, reference_variable, used_variable}
 use Rattle.spx_core.proofs.Consecutive.{Consecutive, positions_differ, IsFormalKind, IsLocalKind, at_position, decls_consecutive, first_positions, formals_consecutive, is_at, last_positions, rows}
 
@@ -50,6 +59,70 @@ mode_is p v kind is = mode_in_row kind (slice_get p.vars v.0) is
 
 -- ---- names of annotations and of statements
 
+abbrev IsTargetIn : Regions → Reference → Type 0
+IsTargetIn regions target = (name : Name) × (target ≡ resolved_reference regions name)
+
+abbrev IsValueIn : Regions → CoreExpr → Type 0
+IsValueIn regions value = (e : Expr) × (value ≡ resolved_expr regions e)
+
+-- the targets and the expressions of a command are what names and expressions are in these regions
+abbrev Resolves : Regions → Command → Type 0
+Resolves regions Skip = ⊤
+Resolves regions (Set target value) = IsTargetIn regions target × IsValueIn regions value
+Resolves regions (Then a b) = Resolves regions a × Resolves regions b
+Resolves regions (Choose place condition a b) = IsValueIn regions condition × Resolves regions a × Resolves regions b
+
+-- a statement at one layer
+command_at : (y : CoreStmt-F CoreStmt CoreArm) → command (roll-CoreStmt y) ≡ commands_of.stmt_step (map-CoreStmt CoreStmt CoreArm Command (Command → Command) command arm_before y)
+command_at y = fold-roll-CoreStmt Command (Command → Command) commands_of.stmt_step commands_of.arm_step y
+
+module _ (regions : Regions) where
+  abbrev StmtResolves : Stmt → Type 0
+  StmtResolves s = Resolves regions (command (resolved_stmt regions s))
+
+  abbrev ArmResolves : Arm → Type 0
+  ArmResolves a = (otherwise : Command) → Resolves regions otherwise → Resolves regions (arm_before (resolved_arm regions a) otherwise)
+
+  abbrev StmtShown : Type 0
+  StmtShown = (s : Stmt) × StmtResolves s
+
+  abbrev ArmShown : Type 0
+  ArmShown = (a : Arm) × ArmResolves a
+
+  chain_resolves : (stmts : List StmtShown) → Resolves regions (chain (map command (map (resolved_stmt regions) (map (λ s. s.0) stmts))))
+  chain_resolves [] = tt
+  chain_resolves (s ∷ stmts) = (s.1, chain_resolves stmts)
+
+  arms_resolve : (otherwise : Command) → Resolves regions otherwise → (arms : List ArmShown) → Resolves regions (arms_before otherwise (map arm_before (map (resolved_arm regions) (map (λ a. a.0) arms))))
+  arms_resolve otherwise known [] = known
+  arms_resolve otherwise known (a ∷ arms) = a.1 _ (arms_resolve otherwise known arms)
+
+  stmt_at_layer : (y : Stmt-F StmtShown ArmShown) → Resolves regions (command (resolved.stmt_step regions (map-Stmt Stmt Arm CoreStmt CoreArm (resolved_stmt regions) (resolved_arm regions) (map-Stmt StmtShown ArmShown Stmt Arm (λ e. e.0) (λ e. e.0) y))))
+  unfolding roll-CoreStmt roll
+  stmt_at_layer (Stmt-F.Null place) = subst (Resolves regions) (sym (command_at (CoreStmt-F.Null place))) tt
+  stmt_at_layer (Stmt-F.Assignment target value) =
+      subst (Resolves regions) (sym (command_at (CoreStmt-F.Assignment (resolved_reference regions target) (resolved_expr regions value)))) ((target, refl), (value, refl))
+  stmt_at_layer (Stmt-F.If arms None closing) =
+      subst (Resolves regions) (sym (command_at (CoreStmt-F.If (map (resolved_arm regions) (map (λ a. a.0) arms)) None closing))) (arms_resolve Skip tt arms)
+  stmt_at_layer (Stmt-F.If arms (Some stmts) closing) =
+      subst (Resolves regions) (sym (command_at (CoreStmt-F.If (map (resolved_arm regions) (map (λ a. a.0) arms)) (Some (map (resolved_stmt regions) (map (λ s. s.0) stmts))) closing)))
+      (arms_resolve _ (chain_resolves stmts) arms)
+
+  stmt_layer : (y : Stmt-F StmtShown ArmShown) → StmtResolves (roll-Stmt (map-Stmt StmtShown ArmShown Stmt Arm (λ e. e.0) (λ e. e.0) y))
+  stmt_layer y = subst (λ s. Resolves regions (command s)) (sym (fold-roll-Stmt CoreStmt CoreArm (resolved.stmt_step regions) (resolved.arm_step regions) _)) (stmt_at_layer y)
+
+  arm_layer : (y : Arm-F StmtShown ArmShown) → ArmResolves (roll-Arm (map-Arm StmtShown ArmShown Stmt Arm (λ e. e.0) (λ e. e.0) y))
+  arm_layer y otherwise known =
+      subst (λ a. Resolves regions (arm_before a otherwise)) (sym (fold-roll-Arm CoreStmt CoreArm (resolved.stmt_step regions) (resolved.arm_step regions) _))
+      (subst (λ f. Resolves regions (f otherwise)) (sym (fold-roll-CoreArm Command (Command → Command) commands_of.stmt_step commands_of.arm_step _)) ((y.condition, refl), chain_resolves y.body, known))
+
+  stmt_resolves : (s : Stmt) → StmtResolves s
+  stmt_resolves = ind-Stmt StmtResolves ArmResolves (λ x y is. subst (λ z. StmtResolves (roll-Stmt z)) is (stmt_layer y)) (λ x y is. subst (λ z. ArmResolves (roll-Arm z)) is (arm_layer y))
+
+stmts_resolve : (regions : Regions) (stmts : List Stmt) → Resolves regions (commands (map (resolved_stmt regions) stmts))
+stmts_resolve regions [] = tt
+stmts_resolve regions (s ∷ stmts) = (stmt_resolves regions s, stmts_resolve regions stmts)
+
 module _ (P : VarId → Object → Type 0) (regions : Regions) (all : AllByRecursion (HoldsIn P) regions) (v : VarId) where
   imported_variable : (item : DerivesItem) → has_import v (resolved_item regions item) ≡ true → (object : Object) × P v object
   imported_variable item h =
@@ -61,13 +134,24 @@ module _ (P : VarId → Object → Type 0) (regions : Regions) (all : AllByRecur
   in_relation test known None h = absurd cc
   in_relation test known (Some derives) h = let one = some_mapped test (resolved_item regions) derives.items h in known one.0 one.1
 
-  assigned_variable : (s : Stmt) → sets v (effect (resolved_stmt regions s)) ≡ true → (object : Object) × P v object
-  assigned_variable (stmt.Null place) h = absurd cc
-  assigned_variable (stmt.Assignment target value) h = let known = reference_variable P regions all v target h in (known.0, known.2)
+  value_variable : (value : CoreExpr) → IsValueIn regions value → is_read v (reads_of value) ≡ true → (object : Object) × P v object
+  value_variable value written h = used_variable P regions all v written.0 (ap (uses v) (sym written.1) ∙ sym (reads_uses v value) ∙ h)
 
-  read_variable : (s : Stmt) → reads v (effect (resolved_stmt regions s)) ≡ true → (object : Object) × P v object
-  read_variable (stmt.Null place) h = absurd cc
-  read_variable (stmt.Assignment target value) h = used_variable P regions all v value (sym (reads_uses v (resolved_expr regions value)) ∙ h)
+  assigned_variable : (c : Command) → Resolves regions c → sets v (effect c) ≡ true → (object : Object) × P v object
+  assigned_variable Skip written h = absurd cc
+  assigned_variable (Set target value) written h =
+      let known = reference_variable P regions all v written.0.0 (ap (λ (name : Reference). denotes v name.root) (sym written.0.1) ∙ h) in (known.0, known.2)
+  assigned_variable (Then a b) written h = ⊎_elim (assigned_variable a written.0) (assigned_variable b written.1) (or_cases (sets v (effect a)) (sets v (effect b)) h)
+  assigned_variable (Choose place condition a b) written h = ⊎_elim (assigned_variable a written.1) (assigned_variable b written.2) (or_cases (sets v (effect a)) (sets v (effect b)) h)
+
+  read_variable : (c : Command) → Resolves regions c → reads v (effect c) ≡ true → (object : Object) × P v object
+  read_variable Skip written h = absurd cc
+  read_variable (Set target value) written h = value_variable value written.1 h
+  read_variable (Then a b) written h = ⊎_elim (read_variable a written.0) (read_variable b written.1) (or_cases (reads v (effect a)) (reads v (effect b)) h)
+  read_variable (Choose place condition a b) written h =
+      ⊎_elim (value_variable condition written.0)
+      (λ arms. ⊎_elim (read_variable a written.1) (read_variable b written.2) (or_cases (reads v (effect a)) (reads v (effect b)) arms))
+      (or_cases (is_read v (reads_of condition)) (reads v (effect a) || reads v (effect b)) h)
 
 module _ (p : Program) (P : VarId → Object → Type 0) (row : (v : VarId) (object : Object) → P v object → kind_of p v ≡ Some object.kind) (regions : Regions) (all : AllByRecursion (HoldsIn P) regions) where
   has_its_mode : (name : Name) → HasItsMode p (resolved_reference regions name)
@@ -83,9 +167,11 @@ module _ (p : Program) (P : VarId → Object → Type 0) (row : (v : VarId) (obj
   relation_has_modes (Some derives) =
       All-map (HaveTheirModes p) (resolved_item regions) derives.items (λ k d less. let item = get_or derives.items k d in (have_their_modes item.exports, have_their_modes item.imports.names))
 
-  target_has_mode : (s : Stmt) → TargetHasItsMode p (resolved_stmt regions s)
-  target_has_mode (stmt.Null place) = tt
-  target_has_mode (stmt.Assignment target value) = has_its_mode target
+  targets_have_modes : (c : Command) → Resolves regions c → TargetsHaveTheirModes p c
+  targets_have_modes Skip written = tt
+  targets_have_modes (Set target value) written = subst (HasItsMode p) (sym written.0.1) (has_its_mode written.0.0)
+  targets_have_modes (Then a b) written = (targets_have_modes a written.0, targets_have_modes b written.1)
+  targets_have_modes (Choose place condition a b) written = (targets_have_modes a written.1, targets_have_modes b written.2)
 
 -- ---- subprograms
 
@@ -166,8 +252,8 @@ module _ (p : Program) where
 
       scoped_sub : Scoped p sub
       scoped_sub = record {
-        targets = λ v h. let one = some_mapped (λ t. sets v (effect t)) (resolved_stmt body) s.statements (sym (sets_any v sub.statements) ∙ h) in (assigned_variable Own body in_body v one.0 one.1).1.0;
-        read = λ v h. let one = some_mapped (λ t. reads v (effect t)) (resolved_stmt body) s.statements (sym (reads_any v sub.statements) ∙ h) in (read_variable Own body in_body v one.0 one.1).1.0;
+        targets = λ v h. (assigned_variable Own body in_body v (commands sub.statements) (stmts_resolve body s.statements) h).1.0;
+        read = λ v h. (read_variable Own body in_body v (commands sub.statements) (stmts_resolve body s.statements) h).1.0;
         exported = λ v h. (in_relation FormalRow annotations in_annotations v (has_export v) (λ item. mentioned_variable FormalRow annotations in_annotations v item.exports) s.derives (sym (exports_are v sub) ∙ h)).1.0;
         imported = λ v h. (in_relation FormalRow annotations in_annotations v (has_import v) (imported_variable FormalRow annotations in_annotations v) s.derives (sym (imports_are v sub) ∙ h)).1.0;
         formal_kinds = formal_kind;
@@ -175,7 +261,7 @@ module _ (p : Program) where
         once = positions_differ first (its_formals ++ its_locals);
         apart = no_local;
         relation_modes = relation_has_modes p FormalRow (λ v object h. h.1) annotations in_annotations s.derives;
-        target_modes = All-map (TargetHasItsMode p) (resolved_stmt body) s.statements (λ k d less. target_has_mode p Own (λ v object h. h.1) body in_body _);
+        target_modes = targets_have_modes p Own (λ v object h. h.1) body in_body (commands sub.statements) (stmts_resolve body s.statements);
       }
 
   -- ---- programs
@@ -195,4 +281,4 @@ module _ (p : Program) where
 pub all_scoped : (p : Program) → Visible p → All (Scoped p) p.subs
 all_scoped p is =
     subst (λ q. All (Scoped q) q.subs) (sym is)
-    (All-from_recursion (Scoped (resolved (erased p))) (resolved (erased p)).subs (scoped_subs (resolved (erased p)) [] 0 0 [] (erased p) refl refl))
+    (All-from_recursion (Scoped (resolved.resolved (erased p))) (resolved.resolved (erased p)).subs (scoped_subs (resolved.resolved (erased p)) [] 0 0 [] (erased p) refl refl))

@@ -1,12 +1,12 @@
--- What statements do to variables, as flow sees it: a list is a chain of its statements, and an expression is what it reads.
-use Rattle.std.specs.Prelude.{Bool, false, ◌||◌, ◌==◌, List, [], ◌∷◌, map, Option, option_map}
+-- What commands do to variables, as flow sees it: an expression is what it reads.
+use Rattle.std.specs.Prelude.{Bool, false, ◌||◌, ◌==◌, List, Option, option_map}
 use Rattle.std.specs.List.{filter_map, list_any}
 use Rattle.spx_text.specs.declared.place.Place.{Place}
 use Rattle.spx_core.specs.declared.entity.VarId.{VarId}
 use Rattle.spx_core.specs.declared.name.CoreName.{CoreName}
 use Rattle.spx_core.specs.declared.expression.CoreExpr.{CoreExpr}
 use Rattle.spx_core.specs.declared.statement.CoreStmt.{CoreStmt}
-use Rattle.spx_core.specs.declared.statement.CoreStmt.TheVariants.{Null, Assignment}
+use Rattle.spx_core.specs.Commands.{Command, Skip, Set, Then, Choose, commands}
 use Rattle.spx_core.specs.Uses.{is_same, variable_of}
 use Rattle.spx_core.specs.Reads.{names_read}
 
@@ -33,17 +33,17 @@ pub data Effect : Type 0 where
   -- the target, what the right side reads, and the place at which a finding on the statement stands
   assign : Option VarId → List Read → Place → Effect
   next : Effect → Effect → Effect
+  -- what the condition reads, the two arms, and the place at which a finding on the condition stands
+  choose : List Read → Effect → Effect → Place → Effect
 
-abbrev pub chain : List Effect → Effect
-chain [] = nothing
-chain (first ∷ rest) = next first (chain rest)
-
-abbrev pub effect : CoreStmt → Effect
-effect (Null place) = nothing
-effect (Assignment target value) = assign (variable_of target.root.entity) (reads_of value) target.root.name.place
+abbrev pub effect : Command → Effect
+effect Skip = nothing
+effect (Set target value) = assign (variable_of target.root.entity) (reads_of value) target.root.name.place
+effect (Then a b) = next (effect a) (effect b)
+effect (Choose place condition a b) = choose (reads_of condition) (effect a) (effect b) place
 
 abbrev pub effects : List CoreStmt → Effect
-effects stmts = chain (map effect stmts)
+effects stmts = effect (commands stmts)
 
 -- ---- what they set and read
 
@@ -51,11 +51,13 @@ abbrev pub sets : VarId → Effect → Bool
 sets v nothing = false
 sets v (assign target reads place) = is_same v target
 sets v (next a b) = sets v a || sets v b
+sets v (choose tests a b place) = sets v a || sets v b
 
 abbrev pub reads : VarId → Effect → Bool
 reads v nothing = false
 reads v (assign target values place) = is_read v values
 reads v (next a b) = reads v a || reads v b
+reads v (choose tests a b place) = is_read v tests || (reads v a || reads v b)
 
 -- one of the statements sets the variable
 abbrev pub defines : VarId → List CoreStmt → Bool

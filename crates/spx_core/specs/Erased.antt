@@ -9,6 +9,7 @@ use Rattle.spx_tree.specs.declared.declaration.Decl.{Decl}
 use Rattle.spx_tree.specs.declared.declaration.Decl.TheVariants as decl
 use Rattle.spx_tree.specs.declared.statement.Stmt.{Stmt}
 use Rattle.spx_tree.specs.declared.statement.Stmt.TheVariants as stmt
+use Rattle.spx_tree.specs.declared.statement.Arm.{Arm}
 use Rattle.spx_tree.specs.declared.annotation.DerivesItem.{DerivesItem}
 use Rattle.spx_tree.specs.declared.annotation.Derives.{Derives}
 use Rattle.spx_tree.specs.declared.annotation.Precondition.{Precondition}
@@ -22,8 +23,8 @@ use Rattle.spx_core.specs.declared.name.Step.{Step}
 use Rattle.spx_core.specs.declared.name.Step.TheVariants as step
 use Rattle.spx_core.specs.declared.name.Reference.{Reference}
 use Rattle.spx_core.specs.declared.expression.CoreExpr.{CoreExpr, CoreExpr-F, fold-CoreExpr}
-use Rattle.spx_core.specs.declared.statement.CoreStmt.{CoreStmt}
-use Rattle.spx_core.specs.declared.statement.CoreStmt.TheVariants.{Null, Assignment}
+use Rattle.spx_core.specs.declared.statement.CoreStmt.{CoreStmt, CoreStmt-F, fold-CoreStmt}
+use Rattle.spx_core.specs.declared.statement.CoreArm.{CoreArm, CoreArm-F, fold-CoreArm}
 use Rattle.spx_core.specs.declared.statement.CoreDecl.{CoreDecl}
 use Rattle.spx_core.specs.declared.statement.CoreDecl.TheVariants.{Variables}
 use Rattle.spx_core.specs.declared.dependency.CoreDerivesItem.{CoreDerivesItem}
@@ -63,9 +64,19 @@ erased_step (CoreExpr-F.Infix op place left right) = expr.Infix op place left ri
 abbrev pub erased_expr : CoreExpr → Expr
 erased_expr = fold-CoreExpr Expr erased_step
 
+abbrev pub erased_arm_step : CoreArm-F Stmt Arm → Arm
+erased_arm_step arm = record { place = arm.place; condition = erased_expr arm.condition; body = arm.body }
+
+abbrev pub erased_stmt_step : CoreStmt-F Stmt Arm → Stmt
+erased_stmt_step (CoreStmt-F.Null place) = stmt.Null place
+erased_stmt_step (CoreStmt-F.Assignment target value) = stmt.Assignment (erased_reference target) (erased_expr value)
+erased_stmt_step (CoreStmt-F.If arms otherwise closing) = stmt.If arms otherwise closing
+
 abbrev pub erased_stmt : CoreStmt → Stmt
-erased_stmt (Null place) = stmt.Null place
-erased_stmt (Assignment target expr) = stmt.Assignment (erased_reference target) (erased_expr expr)
+erased_stmt = fold-CoreStmt Stmt Arm erased_stmt_step erased_arm_step
+
+abbrev pub erased_arm : CoreArm → Arm
+erased_arm = fold-CoreArm Stmt Arm erased_stmt_step erased_arm_step
 
 abbrev pub erased_decl : CoreDecl → Decl
 erased_decl (Variables names type_name) = decl.Variables (map erased_defining names) (erased_reference type_name)

@@ -1,14 +1,13 @@
 -- Where the body of a subprogram and the dependency relation that it declares disagree (Bergeretti and Carré, TOPLAS 1985).
-use Rattle.std.specs.Prelude.{◌≡◌, ◌↔◌, Bool, false, ◌||◌, nat_lt, length, IsTrue, List, ◌∷◌, ◌++◌, All}
+use Rattle.std.specs.Prelude.{◌≡◌, ◌↔◌, Bool, false, ◌||◌, nat_lt, length, IsTrue, All}
 use Rattle.std.specs.List.{list_any}
 use Rattle.spx_text.specs.declared.place.Place.{Place}
 use Rattle.spx_core.specs.declared.entity.VarId.{VarId}
 use Rattle.spx_core.specs.declared.program.Program.{Program}
 use Rattle.spx_core.specs.declared.subprogram.Sub.{Sub}
-use Rattle.spx_core.specs.declared.statement.CoreStmt.{CoreStmt}
 use Rattle.spx_core.specs.Dependency.{exports, imports, derives}
 use Rattle.spx_core.specs.Formals.{is_formal}
-use Rattle.spx_core.specs.Effects.{Effect, effect, effects, defines, reads}
+use Rattle.spx_core.specs.Effects.{Effect, effects, defines}
 use Rattle.spx_core.specs.Flow.{MayFlow}
 use Rattle.spx_core.specs.Marks.{Mu, Occurs, marked}
 use Rattle.spx_core.specs.Ways.{Free, Goes, Reaches}
@@ -63,9 +62,6 @@ has_many_variables p = list_any is_wide p.subs
 abbrev pub MarkReaches : Program → Sub → Type 0
 MarkReaches p sub = (place : Place) (w : VarId) → IsTrue (exports w sub) → MayFlow (marked place (mark p) (body_effect sub)) (mark p) w ↔ Mu (body_effect sub) place w
 
--- where there is no finding, what a statement reads has been set before it, and so have the exports at the end
-abbrev pub ReadsAreSet : Type 0
-ReadsAreSet = (p : Program) (sub : Sub) → HasNoFinding p sub → (before : List CoreStmt) (stmt : CoreStmt) (after : List CoreStmt) (v : VarId) → sub.statements ≡ before ++ stmt ∷ after → IsTrue (reads v (effect stmt)) → IsTrue (imports v sub || defines v before)
-
+-- where there is no finding, the exports have been set at the end
 abbrev pub ExportsAreSet : Type 0
 ExportsAreSet = (p : Program) (sub : Sub) → HasNoFinding p sub → (v : VarId) → IsTrue (exports v sub) → IsTrue (imports v sub || defines v sub.statements)

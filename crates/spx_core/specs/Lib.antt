@@ -5,6 +5,7 @@ pub mod Uses
 pub mod Dependency
 pub mod DerivesItems
 pub mod Formals
+pub mod Commands
 pub mod Effects
 pub mod Flow
 pub mod Marks

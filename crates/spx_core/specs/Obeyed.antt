@@ -9,8 +9,6 @@ use Rattle.spx_core.specs.declared.entity.Entity.{Entity}
 use Rattle.spx_core.specs.declared.entity.Entity.TheVariants as entity
 use Rattle.spx_core.specs.declared.name.CoreName.{CoreName}
 use Rattle.spx_core.specs.declared.name.Reference.{Reference}
-use Rattle.spx_core.specs.declared.statement.CoreStmt.{CoreStmt}
-use Rattle.spx_core.specs.declared.statement.CoreStmt.TheVariants.{Null, Assignment}
 use Rattle.spx_core.specs.declared.dependency.CoreDerivesItem.{CoreDerivesItem}
 use Rattle.spx_core.specs.declared.dependency.CoreDerives.{CoreDerives}
 use Rattle.spx_core.specs.declared.subprogram.CorePrecondition.{CorePrecondition}
@@ -18,6 +16,7 @@ use Rattle.spx_core.specs.declared.subprogram.Sub.{Sub}
 use Rattle.spx_core.specs.declared.program.Program.{Program}
 use Rattle.spx_core.specs.declared.rule.RuleName.TheVariants.{U2, U7, U8, U11}
 use Rattle.spx_core.specs.declared.rule.Breach.{Breach}
+use Rattle.spx_core.specs.Commands.{Command, Skip, Set, Then, Choose, commands}
 use Rattle.spx_core.specs.Reads.{names_read}
 use Rattle.spx_core.specs.Uses.{mentions, variable_of}
 use Rattle.spx_core.specs.Dependency.{relation, exports, imports}
@@ -128,9 +127,11 @@ abbrev pub may_be_assigned : Option Mode → Bool
 may_be_assigned (Some In) = false
 may_be_assigned _ = true
 
-abbrev pub obeyed_stmt : CoreStmt → Judged ⊤
-obeyed_stmt (Null place) = Ok tt
-obeyed_stmt (Assignment target value) = keeps U2 target.root.name.place (may_be_assigned (mode_named target.root))
+abbrev pub obeyed_command : Command → Judged ⊤
+obeyed_command Skip = Ok tt
+obeyed_command (Set target value) = keeps U2 target.root.name.place (may_be_assigned (mode_named target.root))
+obeyed_command (Then a b) = obeyed_command a >>= λ _. obeyed_command b
+obeyed_command (Choose place condition a b) = obeyed_command a >>= λ _. obeyed_command b
 
 -- ---- programs
 
@@ -139,7 +140,7 @@ obeyed_sub sub = do
   _ ← obeyed_relation sub
   _ ← each (obeyed_item sub) (relation sub)
   _ ← if_there (obeyed_pre sub) sub.pre
-  each obeyed_stmt sub.statements
+  obeyed_command (commands sub.statements)
 
 abbrev pub obeyed : Program → Judged ⊤
 obeyed program = each obeyed_sub program.subs

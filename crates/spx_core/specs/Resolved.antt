@@ -8,8 +8,8 @@ use Rattle.spx_tree.specs.declared.expression.Name.TheVariants.{Simple, Attribut
 use Rattle.spx_tree.specs.declared.expression.Expr.{Expr, Expr-F, fold-Expr}
 use Rattle.spx_tree.specs.declared.declaration.Decl.{Decl}
 use Rattle.spx_tree.specs.declared.declaration.Decl.TheVariants as written_decl
-use Rattle.spx_tree.specs.declared.statement.Stmt.{Stmt}
-use Rattle.spx_tree.specs.declared.statement.Stmt.TheVariants as written_stmt
+use Rattle.spx_tree.specs.declared.statement.Stmt.{Stmt, Stmt-F, fold-Stmt}
+use Rattle.spx_tree.specs.declared.statement.Arm.{Arm, Arm-F, fold-Arm}
 use Rattle.spx_tree.specs.declared.annotation.DerivesItem.{DerivesItem}
 use Rattle.spx_tree.specs.declared.annotation.Derives.{Derives}
 use Rattle.spx_tree.specs.declared.annotation.Precondition.{Precondition}
@@ -38,6 +38,7 @@ use Rattle.spx_core.specs.declared.name.Reference.{Reference}
 use Rattle.spx_core.specs.declared.expression.CoreExpr.{CoreExpr}
 use Rattle.spx_core.specs.declared.expression.CoreExpr.TheVariants as expr
 use Rattle.spx_core.specs.declared.statement.CoreStmt.{CoreStmt}
+use Rattle.spx_core.specs.declared.statement.CoreArm.{CoreArm}
 use Rattle.spx_core.specs.declared.statement.CoreStmt.TheVariants as stmt
 use Rattle.spx_core.specs.declared.statement.CoreDecl.{CoreDecl}
 use Rattle.spx_core.specs.declared.statement.CoreDecl.TheVariants as decl
@@ -81,9 +82,20 @@ resolved_expr regions = fold-Expr CoreExpr (expr_step regions)
 
 -- ---- statements and annotations
 
+-- one level, whose parts are resolved
+abbrev pub arm_step : Regions → Arm-F CoreStmt CoreArm → CoreArm
+arm_step regions arm = record { place = arm.place; condition = resolved_expr regions arm.condition; body = arm.body }
+
+abbrev pub stmt_step : Regions → Stmt-F CoreStmt CoreArm → CoreStmt
+stmt_step regions (Stmt-F.Null place) = stmt.Null place
+stmt_step regions (Stmt-F.Assignment target value) = stmt.Assignment (resolved_reference regions target) (resolved_expr regions value)
+stmt_step regions (Stmt-F.If arms otherwise closing) = stmt.If arms otherwise closing
+
 abbrev pub resolved_stmt : Regions → Stmt → CoreStmt
-resolved_stmt regions (written_stmt.Null place) = stmt.Null place
-resolved_stmt regions (written_stmt.Assignment target value) = stmt.Assignment (resolved_reference regions target) (resolved_expr regions value)
+resolved_stmt regions = fold-Stmt CoreStmt CoreArm (stmt_step regions) (arm_step regions)
+
+abbrev pub resolved_arm : Regions → Arm → CoreArm
+resolved_arm regions = fold-Arm CoreStmt CoreArm (stmt_step regions) (arm_step regions)
 
 abbrev pub resolved_item : Regions → DerivesItem → CoreDerivesItem
 resolved_item regions item =

@@ -7,12 +7,11 @@ use Rattle.spx_core.specs.declared.entity.VarKind.{VarKind}
 use Rattle.spx_core.specs.declared.entity.VarKind.TheVariants.{Formal, Local}
 use Rattle.spx_core.specs.declared.entity.Mode.{Mode}
 use Rattle.spx_core.specs.declared.name.Reference.{Reference}
-use Rattle.spx_core.specs.declared.statement.CoreStmt.{CoreStmt}
-use Rattle.spx_core.specs.declared.statement.CoreStmt.TheVariants.{Null, Assignment}
 use Rattle.spx_core.specs.declared.dependency.CoreDerivesItem.{CoreDerivesItem}
 use Rattle.spx_core.specs.declared.program.Var.{Var}
 use Rattle.spx_core.specs.declared.program.Program.{Program}
 use Rattle.spx_core.specs.declared.subprogram.Sub.{Sub}
+use Rattle.spx_core.specs.Commands.{Command, Skip, Set, Then, Choose, commands}
 use Rattle.spx_core.specs.Uses.{denotes}
 use Rattle.spx_core.specs.Dependency.{exports, imports, relation}
 use Rattle.spx_core.specs.Formals.{is_formal, is_local, mode_of}
@@ -30,9 +29,12 @@ HasItsMode p name = (v : VarId) → denotes v name.root ≡ true → mode_named 
 abbrev pub HaveTheirModes : Program → CoreDerivesItem → Type 0
 HaveTheirModes p item = All (HasItsMode p) item.exports × All (HasItsMode p) item.imports
 
-abbrev pub TargetHasItsMode : Program → CoreStmt → Type 0
-TargetHasItsMode p (Null place) = ⊤
-TargetHasItsMode p (Assignment target value) = HasItsMode p target
+-- each target has the mode with which its variable is declared
+abbrev pub TargetsHaveTheirModes : Program → Command → Type 0
+TargetsHaveTheirModes p Skip = ⊤
+TargetsHaveTheirModes p (Set target value) = HasItsMode p target
+TargetsHaveTheirModes p (Then a b) = TargetsHaveTheirModes p a × TargetsHaveTheirModes p b
+TargetsHaveTheirModes p (Choose place condition a b) = TargetsHaveTheirModes p a × TargetsHaveTheirModes p b
 
 pub record Scoped (p : Program) (sub : Sub) : Type 0 where
   pub targets : (v : VarId) → defines v sub.statements ≡ true → (is_formal v sub || is_local v sub) ≡ true
@@ -44,4 +46,4 @@ pub record Scoped (p : Program) (sub : Sub) : Type 0 where
   pub once : IsDistinct (λ (v : VarId) (w : VarId). w.0 == v.0) sub.vars
   pub apart : (v : VarId) → is_formal v sub ≡ true → is_local v sub ≡ false
   pub relation_modes : All (HaveTheirModes p) (relation sub)
-  pub target_modes : All (TargetHasItsMode p) sub.statements
+  pub target_modes : TargetsHaveTheirModes p (commands sub.statements)

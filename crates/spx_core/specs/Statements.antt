@@ -5,8 +5,6 @@ use Rattle.spx_tree.specs.declared.expression.Identifier.{Identifier}
 use Rattle.spx_core.specs.declared.name.Defining.{Defining}
 use Rattle.spx_core.specs.declared.name.Reference.{Reference}
 use Rattle.spx_core.specs.declared.expression.CoreExpr.{CoreExpr}
-use Rattle.spx_core.specs.declared.statement.CoreStmt.{CoreStmt}
-use Rattle.spx_core.specs.declared.statement.CoreStmt.TheVariants.{Null, Assignment}
 use Rattle.spx_core.specs.declared.statement.CoreDecl.{CoreDecl}
 use Rattle.spx_core.specs.declared.statement.CoreDecl.TheVariants.{Variables}
 use Rattle.spx_core.specs.declared.dependency.CoreDerivesItem.{CoreDerivesItem}
@@ -16,6 +14,7 @@ use Rattle.spx_core.specs.declared.subprogram.Sub.{Sub}
 use Rattle.spx_core.specs.declared.program.Program.{Program}
 use Rattle.spx_core.specs.declared.rule.Breach.{Breach}
 use Rattle.spx_core.specs.declared.rule.RuleName.TheVariants.{N2, N5}
+use Rattle.spx_core.specs.Commands.{Command, Skip, Set, Then, Choose, commands}
 use Rattle.spx_core.specs.Dependency.{relation}
 use Rattle.spx_core.specs.Judged.{Judged, ◌>>=◌, breach_in, condition, each, if_there, judged, keeps, operand_of, referred_object, referred_type}
 use Rattle.spx_core.specs.Resolved.{params_of, resolved}
@@ -44,10 +43,14 @@ judged_variable reference = referred_object reference >>= λ _. Ok tt
 abbrev pub judged_item : CoreDerivesItem → Judged ⊤
 judged_item item = each judged_variable item.exports >>= λ _. each judged_variable item.imports
 
-abbrev pub judged_pre : CorePrecondition → Judged ⊤
-judged_pre pre = judged pre.condition >>= λ t. condition t
+-- a truth value is needed
+abbrev pub test : CoreExpr → Judged ⊤
+test e = judged e >>= λ t. condition t
 
--- ---- statements (Ada 95 RM 5.2)
+abbrev pub judged_pre : CorePrecondition → Judged ⊤
+judged_pre pre = test pre.condition
+
+-- ---- statements (Ada 95 RM 5.2, 5.3)
 
 abbrev pub assignment : Reference → CoreExpr → Judged ⊤
 assignment target value = do
@@ -55,9 +58,14 @@ assignment target value = do
   v ← judged value
   operand_of object.subtype v
 
-abbrev pub judged_stmt : CoreStmt → Judged ⊤
-judged_stmt (Null place) = Ok tt
-judged_stmt (Assignment target value) = assignment target value
+abbrev pub judged_command : Command → Judged ⊤
+judged_command Skip = Ok tt
+judged_command (Set target value) = assignment target value
+judged_command (Then a b) = judged_command a >>= λ _. judged_command b
+judged_command (Choose place condition a b) = do
+  _ ← test condition
+  _ ← judged_command a
+  judged_command b
 
 -- ---- subprograms and programs (Ada 95 RM 6.3, 10.1)
 
@@ -71,7 +79,7 @@ judged_sub sub = do
   _ ← each judged_item (relation sub)
   _ ← if_there judged_pre sub.pre
   _ ← each judged_decl sub.declarations
-  _ ← each judged_stmt sub.statements
+  _ ← judged_command (commands sub.statements)
   if_there (judged_end sub.name) sub.end_name
 
 abbrev pub judged_name : Sub → Judged ⊤

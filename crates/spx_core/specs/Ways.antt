@@ -4,7 +4,7 @@ use Rattle.std.specs.Option.{option_to_list}
 use Rattle.spx_text.specs.declared.place.Place.{Place}
 use Rattle.spx_core.specs.declared.entity.VarId.{VarId}
 use Rattle.spx_core.specs.Formals.{stands_in}
-use Rattle.spx_core.specs.Effects.{Effect, nothing, assign, next}
+use Rattle.spx_core.specs.Effects.{Effect, nothing, assign, next, choose}
 
 abbrev pub Ways : Type 1
 Ways = List VarId → Type 0
@@ -18,12 +18,14 @@ abbrev pub Goes : Effect → Ways
 Goes nothing way = way ≡ []
 Goes (assign target reads place) way = way ≡ option_to_list target
 Goes (next a b) way = Follow (Goes a) (Goes b) way
+Goes (choose tests a b place) way = Goes a way ⊎ Goes b way
 
 -- a way to a read of v at the place p
 abbrev pub Reaches : Effect → Place → VarId → Ways
 Reaches nothing p v way = ⊥
 Reaches (assign target reads place) p v way = Contains reads (p, v) × (way ≡ [])
 Reaches (next a b) p v way = Reaches a p v way ⊎ Follow (Goes a) (Reaches b p v) way
+Reaches (choose tests a b place) p v way = (Contains tests (p, v) × (way ≡ [])) ⊎ (Reaches a p v way ⊎ Reaches b p v way)
 
 -- one of the ways does not set v
 abbrev pub Free : Ways → VarId → Type 0

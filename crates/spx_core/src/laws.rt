@@ -14,7 +14,7 @@ ghost use Rattle.spx_core.specs.Obeyed.{Obeys, first_rule_breach};
 ghost use Rattle.spx_core.specs.Rules.{ObeysRules};
 ghost use Rattle.spx_core.specs.Flow.{FlowsCompose, FlowsKeep};
 ghost use Rattle.spx_core.specs.Marks.{MarkLaw};
-ghost use Rattle.spx_core.specs.FlowRules.{ExportsAreSet, MarkReaches, ReadsAreSet};
+ghost use Rattle.spx_core.specs.FlowRules.{ExportsAreSet, MarkReaches};
 
 /// Resolution adds to units what their names denote, and nothing else.
 #[tactic(auto, using(crate::proofs::Erasure::keeps_units, crate::proofs::Erasure::visible))]
@@ -72,9 +72,7 @@ pub fn marks()
     ensures reaches { (p : Program) → Visible p → All (MarkReaches p) p.subs }
 {}
 
-/// Where a subprogram has no flow finding, what a statement reads has been set before it, and so have the exports at the
-/// end.
-pub fn variables_are_set()
-    ensures reads { ReadsAreSet }
-    ensures exports { ExportsAreSet }
+/// Where a subprogram has no flow finding, its exports are set at the end.
+pub fn exports_are_set()
+    ensures { ExportsAreSet }
 {}

@@ -27,6 +27,6 @@ pub use expression::CoreExpr;
 pub use name::{CoreName, Defining, Reference, Step, mentions};
 pub use program::{CoreUnit, Program, TypeRow, Var};
 pub use rule::{Breach, ExprType, RuleName, Typing};
-pub use statement::{CoreDecl, CoreStmt};
+pub use statement::{CoreArm, CoreDecl, CoreStmt};
 pub use subprogram::{CoreFormalPart, CoreParam, CorePrecondition, Sub};
 pub use vars::VarSet;

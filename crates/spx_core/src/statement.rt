@@ -2,6 +2,7 @@
 
 use crate::{CoreExpr, Defining, Reference};
 use spx_text::Place;
+use spx_tree::Closing;
 use sqlite_items::Items;
 
 /// A declaration in the declarative part of a body.
@@ -12,10 +13,22 @@ pub enum CoreDecl {
 }
 
 /// A statement whose names stand with what they denote.
+#[cycle(core_statement)]
 #[derive(Debug, Drop)]
 pub enum CoreStmt {
     /// At the word `null`.
     Null(Place),
     /// The target and the right side.
     Assignment(Reference, CoreExpr),
+    /// The arms, one or more, the statements after `else`, and the closing words (Ada 95 RM 5.3).
+    If(Items<CoreArm>, Option<Items<CoreStmt>>, Closing),
+}
+
+/// A condition and the statements after `then`, at the word `if` or `elsif`.
+#[cycle(core_statement)]
+#[derive(Debug, Drop)]
+pub struct CoreArm {
+    pub place: Place,
+    pub condition: CoreExpr,
+    pub body: Items<CoreStmt>,
 }

@@ -1,28 +1,17 @@
 // Statements and annotations.
 ghost use Rattle.std.specs.Prelude.{◌≡◌, IfOk, map, option_map};
-ghost use Rattle.spx_core.specs.Resolved.{resolved_derives, resolved_item, resolved_pre, resolved_stmt};
+ghost use Rattle.spx_core.specs.Resolved.{resolved_arm, resolved_derives, resolved_item, resolved_pre, resolved_stmt};
 ghost use Rattle.spx_scope.specs.Seen.{seen};
 
 use crate::expression::{resolve_expr, resolve_reference, resolve_references};
-use spx_core::{CoreDerives, CoreDerivesItem, CorePrecondition, CoreStmt};
+use spx_core::{CoreArm, CoreDerives, CoreDerivesItem, CorePrecondition, CoreStmt};
 use spx_scope::Scope;
-use spx_tree::{Derives, DerivesItem, Precondition, Stmt};
+use spx_tree::{Arm, Derives, DerivesItem, Precondition, Stmt};
 use sqlite_items::Items;
 use std::alloc::{AllocError, Global};
 
-fn resolve_stmt(alloc: Global, stmt: &Stmt, scope: &Scope<'_>) -> Result<CoreStmt, AllocError>
-    ensures { IfOk result (λ r. r ≡ resolved_stmt (seen scope.now) stmt.now) }
-{
-    match stmt {
-        Stmt::Null(place) => Ok(CoreStmt::Null(*place)),
-        Stmt::Assignment(target, value) => {
-            let target = resolve_reference(alloc, target, scope)?;
-            Ok(CoreStmt::Assignment(target, resolve_expr(alloc, value, scope)?))
-        }
-    }
-}
-
 /// Statements.
+#[cycle(resolve_stmt)]
 pub fn resolve_stmts(
     alloc: Global,
     stmts: &[Stmt],
@@ -35,6 +24,50 @@ pub fn resolve_stmts(
         resolved.push(resolve_stmt(alloc, stmt, scope)?)?;
     }
     Ok(resolved)
+}
+
+#[cycle(resolve_stmt)]
+fn resolve_arms(
+    alloc: Global,
+    arms: &[Arm],
+    scope: &Scope<'_>,
+) -> Result<Items<CoreArm>, AllocError>
+    ensures { IfOk result (λ r. r ≡ map (resolved_arm (seen scope.now)) arms.now) }
+{
+    let mut resolved = Items::new(alloc);
+    for arm in arms {
+        let place = arm.place;
+        let condition = resolve_expr(alloc, &arm.condition, scope)?;
+        let body = resolve_stmts(alloc, arm.body.as_slice(), scope)?;
+        resolved.push(CoreArm {
+            place,
+            condition,
+            body,
+        })?;
+    }
+    Ok(resolved)
+}
+
+#[cycle(resolve_stmt)]
+fn resolve_stmt(alloc: Global, stmt: &Stmt, scope: &Scope<'_>) -> Result<CoreStmt, AllocError>
+    ensures { IfOk result (λ r. r ≡ resolved_stmt (seen scope.now) stmt.now) }
+{
+    match stmt {
+        Stmt::Null(place) => Ok(CoreStmt::Null(*place)),
+        Stmt::Assignment(target, value) => {
+            let target = resolve_reference(alloc, target, scope)?;
+            Ok(CoreStmt::Assignment(target, resolve_expr(alloc, value, scope)?))
+        }
+        Stmt::If(arms, None, closing) => {
+            let arms = resolve_arms(alloc, arms.as_slice(), scope)?;
+            Ok(CoreStmt::If(arms, None, *closing))
+        }
+        Stmt::If(arms, Some(stmts), closing) => {
+            let arms = resolve_arms(alloc, arms.as_slice(), scope)?;
+            let stmts = resolve_stmts(alloc, stmts.as_slice(), scope)?;
+            Ok(CoreStmt::If(arms, Some(stmts), *closing))
+        }
+    }
 }
 
 fn resolve_item(

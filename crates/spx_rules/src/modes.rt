@@ -1,13 +1,15 @@
 // U8, U2: the mode of a formal agrees with the relation, and no formal of mode `in` is assigned.
 ghost use Rattle.std.specs.Prelude.{◌≡◌};
+ghost use Rattle.spx_core.specs.Commands.{command, commands};
 ghost use Rattle.spx_core.specs.Formals.{mode_in};
 ghost use Rattle.spx_core.specs.Judged.{each};
 ghost use Rattle.spx_core.specs.Obeyed as rules;
+ghost use Rattle.spx_types.specs.Arms.{FoundInArms};
 
 use crate::tables::Tables;
 use spx_core::{
-    Breach, CoreDerivesItem, CoreName, CoreStmt, Entity, Mode, Reference, RuleName, VarKind,
-    variable_of,
+    Breach, CoreArm, CoreDerivesItem, CoreName, CoreStmt, Entity, Mode, Reference, RuleName,
+    VarKind, variable_of,
 };
 use spx_types::keeps;
 
@@ -123,15 +125,42 @@ fn may_be_assigned(mode: Option<Mode>) -> bool
     !matches!(mode, Some(Mode::In))
 }
 
-/// An assignment to a formal of mode `in`.
-pub fn obey_stmt(stmt: &CoreStmt) -> Result<(), Breach>
-    ensures { result ≡ rules.obeyed_stmt stmt.now }
+/// The first assignment to a formal of mode `in` among statements.
+#[cycle(obey_stmt)]
+pub fn obey_stmts(stmts: &[CoreStmt]) -> Result<(), Breach>
+    ensures { result ≡ rules.obeyed_command (commands stmts.now) }
+{
+    for stmt in stmts {
+        obey_stmt(stmt)?;
+    }
+    Ok(())
+}
+
+/// The first such assignment in arms, whatever stands after them.
+#[cycle(obey_stmt)]
+fn obey_arms(arms: &[CoreArm]) -> Result<(), Breach>
+    ensures { FoundInArms rules.obeyed_command arms.now result }
+{
+    for arm in arms {
+        obey_stmts(arm.body.as_slice())?;
+    }
+    Ok(())
+}
+
+#[cycle(obey_stmt)]
+fn obey_stmt(stmt: &CoreStmt) -> Result<(), Breach>
+    ensures { result ≡ rules.obeyed_command (command stmt.now) }
 {
     match stmt {
         CoreStmt::Null(_) => Ok(()),
         CoreStmt::Assignment(target, _) => {
             let assigned = may_be_assigned(mode_named(&target.root));
             keeps(RuleName::U2, target.root.name.place, assigned)
+        }
+        CoreStmt::If(arms, None, _) => obey_arms(arms.as_slice()),
+        CoreStmt::If(arms, Some(stmts), _) => {
+            obey_arms(arms.as_slice())?;
+            obey_stmts(stmts.as_slice())
         }
     }
 }

@@ -4,10 +4,10 @@ ghost use Rattle.spx_core.specs.Judged.{breach_in, each, if_there};
 ghost use Rattle.spx_core.specs.Obeyed as rules;
 ghost use Rattle.spx_core.specs.Reads.{names_read};
 
-use crate::modes::{is_imported, obey_item, obey_stmt};
+use crate::modes::{is_imported, obey_item, obey_stmts};
 use crate::relation::{is_right_relation, obey_relation};
 use crate::tables::Tables;
-use spx_core::{Breach, CoreDerivesItem, CoreExpr, CoreStmt, Program, RuleName, Sub};
+use spx_core::{Breach, CoreDerivesItem, CoreExpr, Program, RuleName, Sub};
 use spx_types::keeps;
 use std::alloc::{AllocError, Global};
 
@@ -44,15 +44,6 @@ fn obey_items(tables: &Tables, items: &[CoreDerivesItem]) -> Result<(), Breach>
 {
     for item in items {
         obey_item(tables, item)?;
-    }
-    Ok(())
-}
-
-fn obey_stmts(stmts: &[CoreStmt]) -> Result<(), Breach>
-    ensures { result ≡ each rules.obeyed_stmt stmts.now }
-{
-    for stmt in stmts {
-        obey_stmt(stmt)?;
     }
     Ok(())
 }

@@ -22,11 +22,12 @@ impl<'a> Model for Tables<'a> {
     ghost use Rattle.std.specs.Coded.{codes};
     ghost use Rattle.spx_core.specs.declared.subprogram.Sub.{Sub};
     ghost use Rattle.spx_core.specs.contracts.expression.CoreExpr as expression;
+    ghost use Rattle.spx_core.specs.contracts.statement.CoreStmt as statement;
     ghost use Rattle.spx_rules.specs.SetsOfSub.{AreSetsOf};
 
     ghost Value = { Sub };
 
-    ghost coded = { Prim.hlevel (codes, expression.the_row.coded) };
+    ghost coded = { Prim.hlevel (codes, expression.the_row.coded, statement.the_row.coded) };
 
     ghost view = { λ t. t.sub.now };
 

@@ -5,10 +5,12 @@ ghost use Rattle.spx_core.specs.Resolved.{params_of};
 ghost use Rattle.spx_core.specs.Statements as rules;
 
 use crate::expression::keeps;
-use crate::statement::{declared_once, judge_decl, judge_item, judge_param, judge_pre, judge_stmt};
+use crate::statement::{
+    declared_once, judge_decl, judge_item, judge_param, judge_pre, judge_stmts,
+};
 use spx_core::{
-    Breach, CoreDecl, CoreDerivesItem, CoreFormalPart, CoreParam, CorePrecondition, CoreStmt,
-    Defining, Program, RuleName, Sub,
+    Breach, CoreDecl, CoreDerivesItem, CoreFormalPart, CoreParam, CorePrecondition, Defining,
+    Program, RuleName, Sub,
 };
 use spx_tree::Identifier;
 
@@ -53,15 +55,6 @@ fn judge_decls(decls: &[CoreDecl]) -> Result<(), Breach>
 {
     for decl in decls {
         judge_decl(decl)?;
-    }
-    Ok(())
-}
-
-fn judge_stmts(stmts: &[CoreStmt]) -> Result<(), Breach>
-    ensures { result ≡ each rules.judged_stmt stmts.now }
-{
-    for stmt in stmts {
-        judge_stmt(stmt)?;
     }
     Ok(())
 }

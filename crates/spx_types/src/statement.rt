@@ -1,12 +1,15 @@
-// The rules on declarations, annotations and statements (Ada 95 RM 3.3, 5.2, 8.3).
+// The rules on declarations, annotations and statements (Ada 95 RM 3.3, 5.2, 5.3, 8.3).
 ghost use Rattle.std.specs.Prelude.{◌≡◌};
+ghost use Rattle.spx_core.specs.declared.statement.CoreArm.{out-CoreArm};
+ghost use Rattle.spx_core.specs.Commands.{command, commands};
 ghost use Rattle.spx_core.specs.Judged.{each};
 ghost use Rattle.spx_core.specs.Statements as rules;
+ghost use Rattle.spx_types.specs.Arms.{FoundInArms};
 
 use crate::expression::{condition, judge, keeps, operand_of, referred_object, referred_type};
 use spx_core::{
-    Breach, CoreDecl, CoreDerivesItem, CoreExpr, CoreParam, CorePrecondition, CoreStmt, Defining,
-    Reference, RuleName,
+    Breach, CoreArm, CoreDecl, CoreDerivesItem, CoreExpr, CoreParam, CorePrecondition, CoreStmt,
+    Defining, Reference, RuleName,
 };
 
 /// The name may not be declared before.
@@ -74,11 +77,18 @@ pub fn judge_item(item: &CoreDerivesItem) -> Result<(), Breach>
     judge_variables(item.imports.as_slice())
 }
 
+/// A truth value is needed.
+fn test(expr: &CoreExpr) -> Result<(), Breach>
+    ensures { result ≡ rules.test expr.now }
+{
+    condition(judge(expr)?)
+}
+
 /// The first broken rule in a precondition.
 pub fn judge_pre(pre: &CorePrecondition) -> Result<(), Breach>
     ensures { result ≡ rules.judged_pre pre.now }
 {
-    condition(judge(&pre.condition)?)
+    test(&pre.condition)
 }
 
 fn assignment(target: &Reference, value: &CoreExpr) -> Result<(), Breach>
@@ -88,12 +98,47 @@ fn assignment(target: &Reference, value: &CoreExpr) -> Result<(), Breach>
     operand_of(object.subtype, judge(value)?)
 }
 
-/// The first broken rule in a statement.
-pub fn judge_stmt(stmt: &CoreStmt) -> Result<(), Breach>
-    ensures { result ≡ rules.judged_stmt stmt.now }
+/// The first broken rule in statements.
+#[cycle(judge_stmt)]
+pub fn judge_stmts(stmts: &[CoreStmt]) -> Result<(), Breach>
+    ensures { result ≡ rules.judged_command (commands stmts.now) }
+{
+    for stmt in stmts {
+        judge_stmt(stmt)?;
+    }
+    Ok(())
+}
+
+/// The first broken rule in arms, whatever stands after them.
+#[cycle(judge_stmt)]
+fn judge_arms(arms: &[CoreArm]) -> Result<(), Breach>
+    ensures { FoundInArms rules.judged_command arms.now result }
+{
+    for arm in arms {
+        test(&arm.condition)?;
+        judge_body(arm)?;
+    }
+    Ok(())
+}
+
+#[cycle(judge_stmt)]
+fn judge_body(arm: &CoreArm) -> Result<(), Breach>
+    ensures { result ≡ rules.judged_command (commands (out-CoreArm arm.now).body) }
+{
+    judge_stmts(arm.body.as_slice())
+}
+
+#[cycle(judge_stmt)]
+fn judge_stmt(stmt: &CoreStmt) -> Result<(), Breach>
+    ensures { result ≡ rules.judged_command (command stmt.now) }
 {
     match stmt {
         CoreStmt::Null(_) => Ok(()),
         CoreStmt::Assignment(target, value) => assignment(target, value),
+        CoreStmt::If(arms, None, _) => judge_arms(arms.as_slice()),
+        CoreStmt::If(arms, Some(stmts), _) => {
+            judge_arms(arms.as_slice())?;
+            judge_stmts(stmts.as_slice())
+        }
     }
 }

@@ -10,15 +10,15 @@ use Rattle.spx_core.specs.declared.entity.VarId.{VarId}
 use Rattle.spx_core.specs.declared.name.CoreName.{CoreName}
 use Rattle.spx_core.specs.declared.expression.CoreExpr.{CoreExpr}
 use Rattle.spx_core.specs.declared.statement.CoreStmt.{CoreStmt}
-use Rattle.spx_core.specs.declared.statement.CoreStmt.TheVariants.{Null, Assignment}
+use Rattle.spx_core.specs.Commands.{command}
 use Rattle.spx_core.specs.Uses.{denotes, is_same, uses, variable_of}
 use Rattle.spx_core.specs.Reads.{names_read}
 use Rattle.spx_core.specs.Formals.{stands_in}
 use Rattle.spx_core.specs.Dependency.{imports}
-use Rattle.spx_core.specs.Effects.{Effect, Read, nothing, assign, next, effect, effects, sets, reads, is_read, read_of, reads_of, defines}
+use Rattle.spx_core.specs.Effects.{Effect, Read, nothing, assign, next, choose, effect, effects, sets, reads, is_read, read_of, reads_of, defines}
 use Rattle.spx_core.specs.Flow.{MayFlow, FlowsCompose, FlowsKeep}
-use Rattle.spx_core.specs.Ways.{Free, Goes, Reaches}
-use Rattle.spx_core.specs.FlowRules.{read, left, ReadsAreSet, ExportsAreSet}
+use Rattle.spx_core.specs.Ways.{Free, Goes}
+use Rattle.spx_core.specs.FlowRules.{left, ExportsAreSet}
 use Rattle.spx_core.proofs.Callers.ListTests.{found}
 use Rattle.spx_core.proofs.Callers.Variables.{same_var}
 
@@ -38,13 +38,13 @@ reads_uses v e = read_names v (names_read e)
 
 -- ---- lists of statements
 
-pub sets_any : (v : VarId) (stmts : List CoreStmt) → defines v stmts ≡ list_any (λ s. sets v (effect s)) stmts
+pub sets_any : (v : VarId) (stmts : List CoreStmt) → defines v stmts ≡ list_any (λ s. sets v (effect (command s))) stmts
 sets_any v [] = refl
-sets_any v (s ∷ stmts) = ap (λ b. sets v (effect s) || b) (sets_any v stmts)
+sets_any v (s ∷ stmts) = ap (λ b. sets v (effect (command s)) || b) (sets_any v stmts)
 
-pub reads_any : (v : VarId) (stmts : List CoreStmt) → reads v (effects stmts) ≡ list_any (λ s. reads v (effect s)) stmts
+pub reads_any : (v : VarId) (stmts : List CoreStmt) → reads v (effects stmts) ≡ list_any (λ s. reads v (effect (command s))) stmts
 reads_any v [] = refl
-reads_any v (s ∷ stmts) = ap (λ b. reads v (effect s) || b) (reads_any v stmts)
+reads_any v (s ∷ stmts) = ap (λ b. reads v (effect (command s)) || b) (reads_any v stmts)
 
 pub composes : FlowsCompose
 composes [] back u w = (λ h. (u, refl, h), λ h. subst (λ x. MayFlow (effects back) x w) (sym h.1) h.2)
@@ -64,8 +64,13 @@ keeps (next a b) u w none =
       λ h. let last = (keeps b h.0 w parts.1).0 h.2 in (keeps a u w parts.0).0 (subst (λ x. MayFlow a u x) last h.1),
       λ e. (w, (keeps a u w parts.0).1 e, (keeps b w w parts.1).1 refl),
     )
+keeps (choose tests a b place) u w none =
+    let parts = or_parts (sets w a) (sets w b) none in (
+      λ h. ⊎_elim (λ first. (keeps a u w parts.0).0 first) (λ more. ⊎_elim (λ second. (keeps b u w parts.1).0 second) (λ tested. absurd (both_ways (sets w a || sets w b) none tested.0)) more) h,
+      λ e. inl ((keeps a u w parts.0).1 e),
+    )
 
--- what is not read flows to itself alone
+-- what is not read flows to itself only
 pub unread : (e : Effect) (u w : VarId) → reads u e ≡ false → MayFlow e u w → u ≡ w
 unread nothing u w none flow = flow
 unread (assign target values place) u w none flow = ⊎_elim (λ p. absurd (both_ways (is_read u values) none p.1)) (λ p. p.1) flow
@@ -73,10 +78,15 @@ unread (next a b) u w none flow =
     let parts = or_parts (reads u a) (reads u b) none in
     let here : u ≡ flow.0 = unread a u flow.0 parts.0 flow.1 in
     unread b u w parts.1 (subst (λ v. MayFlow b v w) (sym here) flow.2)
+unread (choose tests a b place) u w none flow =
+    let parts = or_parts (is_read u tests) (reads u a || reads u b) none in
+    let arms = or_parts (reads u a) (reads u b) parts.1 in
+    ⊎_elim (λ first. unread a u w arms.0 first) (λ more. ⊎_elim (λ second. unread b u w arms.1 second) (λ tested. absurd (both_ways (is_read u tests) parts.0 tested.1)) more) flow
 
 -- ---- ways
 
-without : (v : VarId) (front back : List VarId) → stands_in v front ≡ false → stands_in v back ≡ false → stands_in v (front ++ back) ≡ false
+-- a way of two parts without the variable
+pub without : (v : VarId) (front back : List VarId) → stands_in v front ≡ false → stands_in v back ≡ false → stands_in v (front ++ back) ≡ false
 without v front back f b = list_any-append (λ (w : VarId). w.0 == v.0) front back ∙ ap₂ ◌||◌ f b
 
 without_target : (v : VarId) (target : Option VarId) → is_same v target ≡ false → stands_in v (option_to_list target) ≡ false
@@ -92,21 +102,9 @@ goes_free (next a b) v none =
     let first = goes_free a v parts.0 in
     let second = goes_free b v parts.1 in
     (first.0 ++ second.0, (first.0, second.0, refl, first.1, second.1), without v first.0 second.0 first.2 second.2)
-
-reaches_after : (place : Place) (v : VarId) (before rest : List CoreStmt) → defines v before ≡ false → Free (Reaches (effects rest) place v) v → Free (Reaches (effects (before ++ rest)) place v) v
-reaches_after place v [] rest none way = way
-reaches_after place v (s ∷ before) rest none way =
-    let parts = or_parts (sets v (effect s)) (defines v before) none in
-    let first = goes_free (effect s) v parts.0 in
-    let second = reaches_after place v before rest parts.1 way in
-    (first.0 ++ second.0, inr (first.0, second.0, refl, first.1, second.1), without v first.0 second.0 first.2 second.2)
-
-reaches_here : (stmt : CoreStmt) (v : VarId) → reads v (effect stmt) ≡ true → (place : Place) × Reaches (effect stmt) place v []
-reaches_here (Null place) v is = absurd cc
-reaches_here (Assignment target value) v is =
-    let one = found (λ (r : Read). r.1.0 == v.0) (reads_of value) is in
-    let same : one.0.1 ≡ v = same_var one.0.1 v (eqb-true one.0.1.0 v.0 one.2) in
-    (one.0.0, (subst (λ w. Contains (reads_of value) (one.0.0, w)) same one.1, refl))
+goes_free (choose tests a b place) v none =
+    let first = goes_free a v (or_parts (sets v a) (sets v b) none).0 in
+    (first.0, inl first.1, first.2)
 
 -- ---- what is set
 
@@ -115,14 +113,6 @@ set_where : (imported defined : Bool) → ¬ ((imported ≡ false) × (defined �
 set_where true defined none = refl
 set_where false true none = refl
 set_where false false none = absurd (none (refl, refl))
-
-pub reads_are_set : ReadsAreSet
-reads_are_set p sub none before stmt after v parts is =
-    set_where (imports v sub) (defines v before)
-    (λ unset.
-    let here = reaches_here stmt v is in
-    let way = reaches_after here.0 v before (stmt ∷ after) unset.1 ([], inl here.1, refl) in
-    none.none_unset here.0 v (read unset.0 (subst (λ stmts. Free (Reaches (effects stmts) here.0 v) v) (sym parts) way)))
 
 pub exports_are_set : ExportsAreSet
 exports_are_set p sub none v exported =

@@ -1,5 +1,5 @@
 -- Laws of marks.
-use Rattle.std.proofs.Common.{◌≡◌, ◌↔◌, ◌⊎◌, Bool, true, false, ◌||◌, List, [], ◌∷◌, length, Option, Some, None, refl, sym, ap, ◌∙◌, subst, inl, inr, ⊎_elim}
+use Rattle.std.proofs.Common.{◌≡◌, ◌↔◌, ◌⊎◌, Bool, true, false, ◌||◌, List, [], ◌∷◌, length, Option, Some, None, refl, sym, ap, ap₂, ◌∙◌, subst, inl, inr, ⊎_elim}
 use Rattle.std.specs.Prelude.{◌&&◌, ◌==◌, if◌then◌else◌, option_map, slice_get}
 use Rattle.std.proofs.lemmas.Bool.{and_parts, both_ways, eqb-true, eq-eqb, or_cases, or_left, or_parts, or_right, false_from_ne_true}
 use Rattle.spx_text.specs.declared.place.Place.{Place}
@@ -10,7 +10,7 @@ use Rattle.spx_core.specs.declared.program.Program.{Program}
 use Rattle.spx_core.specs.declared.subprogram.Sub.{Sub}
 use Rattle.spx_core.specs.Formals.{is_formal, is_local}
 use Rattle.spx_core.specs.Dependency.{exports}
-use Rattle.spx_core.specs.Effects.{Effect, Read, nothing, assign, next, sets, reads, is_read}
+use Rattle.spx_core.specs.Effects.{Effect, Read, nothing, assign, next, choose, sets, reads, is_read}
 use Rattle.spx_core.specs.Flow.{MayFlow}
 use Rattle.spx_core.specs.Marks.{MarkLaw, Mu, marked, same_place, with_mark}
 use Rattle.spx_core.specs.FlowRules.{MarkReaches, body_effect, mark}
@@ -55,6 +55,13 @@ module _ (p : Place) (m : VarId) where
         λ h. ⊎_elim (λ there. there) (λ e. absurd (both_ways (same_place place p) is (ap (same_place place) (sym e.1) ∙ same_place_itself place))) h,
       )
 
+  -- a mark changes nothing of what is set
+  sets_marked : (w : VarId) (e : Effect) → sets w (marked p m e) ≡ sets w e
+  sets_marked w nothing = refl
+  sets_marked w (assign target values place) = refl
+  sets_marked w (next a b) = ap₂ ◌||◌ (sets_marked w a) (sets_marked w b)
+  sets_marked w (choose tests a b place) = ap₂ ◌||◌ (sets_marked w a) (sets_marked w b)
+
   law : (e : Effect) → sets m e ≡ false → (u w : VarId) → MayFlow (marked p m e) u w ↔ (MayFlow e u w ⊎ ((m ≡ u) × Mu e p w))
   law nothing none u w = (λ h. inl h, λ h. ⊎_elim (λ e. e) (λ e. absurd e.1) h)
   law (assign target values place) none u w = (
@@ -72,6 +79,27 @@ module _ (p : Place) (m : VarId) where
             (λ k. ⊎_elim
             (λ q. (q.0, (law a parts.0 u q.0).1 (inr (k.0, q.1)), (law b parts.1 q.0 w).1 (inl q.2)))
             (λ q. (m, (law a parts.0 u m).1 (inl ((keeps a u m parts.0).1 (sym k.0))), (law b parts.1 m w).1 (inr (refl, q))))
+            k.1)
+            h,
+      )
+  law (choose tests a b place) none u w =
+      let parts = or_parts (sets m a) (sets m b) none in
+      let same : (sets w (marked p m a) || sets w (marked p m b)) ≡ (sets w a || sets w b) = ap₂ ◌||◌ (sets_marked w a) (sets_marked w b) in (
+        λ h. ⊎_elim
+            (λ first. ⊎_elim (λ r. inl (inl r)) (λ k. inr (k.0, inr (inl k.1))) ((law a parts.0 u w).0 first))
+            (λ more. ⊎_elim
+            (λ second. ⊎_elim (λ r. inl (inr (inl r))) (λ k. inr (k.0, inr (inr k.1))) ((law b parts.1 u w).0 second))
+            (λ tested. ⊎_elim (λ r. inl (inr (inr (sym same ∙ tested.0, r)))) (λ k. inr (k.0, inl (k.1, sym same ∙ tested.0))) ((reads_mark place tests u).0 tested.1))
+            more)
+            h,
+        λ h. ⊎_elim
+            (λ q. ⊎_elim
+            (λ first. inl ((law a parts.0 u w).1 (inl first)))
+            (λ more. ⊎_elim (λ second. inr (inl ((law b parts.1 u w).1 (inl second)))) (λ tested. inr (inr (same ∙ tested.0, (reads_mark place tests u).1 (inl tested.1)))) more)
+            q)
+            (λ k. ⊎_elim
+            (λ q. inr (inr (same ∙ q.1, (reads_mark place tests u).1 (inr (k.0, q.0)))))
+            (λ more. ⊎_elim (λ first. inl ((law a parts.0 u w).1 (inr (k.0, first)))) (λ second. inr (inl ((law b parts.1 u w).1 (inr (k.0, second))))) more)
             k.1)
             h,
       )

@@ -1,0 +1,11 @@
+use Rattle.std.proofs.Common.{◌≡◌, drop, map}
+use Rattle.spx_core.specs.Commands.{Command, arm_before, arms_before, commands}
+use Rattle.spx_core.specs.Obeyed.{obeyed_command}
+use Rattle.spx_rules.proofs.modes.+obey_stmt.Given as goal
+
+abbrev pub invariant-obey_stmts-loop-stmt : goal.invariant-obey_stmts-loop-stmt
+invariant-obey_stmts-loop-stmt l = obeyed_command (commands l.stmts) ≡ obeyed_command (commands (drop l.stmt-index l.stmts))
+
+abbrev pub invariant-obey_arms-loop-arm : goal.invariant-obey_arms-loop-arm
+invariant-obey_arms-loop-arm l =
+    (otherwise : Command) → obeyed_command (arms_before otherwise (map arm_before l.arms)) ≡ obeyed_command (arms_before otherwise (map arm_before (drop l.arm-index l.arms)))
