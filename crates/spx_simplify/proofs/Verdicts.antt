@@ -66,6 +66,7 @@ module _ (trees hyps : List Term) (k : Known) (knows : Knows trees hyps k) (goal
     other_is signs.LessOrEqual p q i j other = refl
     other_is signs.Greater p q i j other = refl
     other_is signs.GreaterOrEqual p q i j other = refl
+    other_is signs.Implies p q i j other = refl
 
     pub plain_both : (op : TermOp) (a b : Term) → tree_at trees goal ≡ Infix op a b → op ≡ signs.And → (is_plain hyps a && is_plain hyps b) ≡ is_plain hyps (tree_at trees goal)
     plain_both op a b is e = and_is op (is_plain hyps a) (is_plain hyps b) (interval hyps a) (interval hyps b) e ∙ plain_infix op a b is

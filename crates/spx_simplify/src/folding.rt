@@ -2,13 +2,16 @@
 ghost use Rattle.std.specs.Prelude.{◌≡◌, ◌<◌, length, IfOk, OnOk};
 ghost use Rattle.spx_term.specs.declared.term.Term.TheVariants as term;
 ghost use Rattle.spx_term.specs.Equality.{same_term};
+ghost use Rattle.spx_term.specs.Negation.{form_of, negated};
 ghost use Rattle.spx_term.specs.Folding.{literal_of, term_of, prefixed, simplified, folded};
 ghost use Rattle.spx_arena.specs.Sharing.{tree_at, Grows};
 ghost use Rattle.spx_simplify.specs.Folds.{AreFolds, id_at};
 ghost use Rattle.spx_arena.specs.Sharing.{Adds};
 
 use spx_arena::{Node, TermId, Terms};
-use spx_term::{Simplification, TermOp, TermPrefix, Value, compute_prefix, simpler_form};
+use spx_term::{
+    Simplification, TermForm, TermOp, TermPrefix, Value, compute_prefix, opposite, simpler_form,
+};
 use sqlite_items::Items;
 use std::alloc::{AllocError, Global};
 
@@ -34,18 +37,55 @@ fn is_same(terms: &Terms, left: TermId, right: TermId) -> bool
     left.0 == right.0
 }
 
+/// The form of a term.
+#[tactic(auto, using(spx_term::proofs::NegationLaws::forms))]
+fn form_at(terms: &Terms, id: TermId) -> TermForm
+    requires { id.0 < length terms.now }
+    ensures { result ≡ form_of (tree_at terms.now id) }
+{
+    match terms.node(id) {
+        Node::Number(_) => TermForm::Number,
+        Node::Truth(_) => TermForm::Truth,
+        Node::Variable(name) => TermForm::Variable(name.sort),
+        Node::Prefix(op, _) => TermForm::Prefix(op),
+        Node::Infix(op, _, _) => TermForm::Infix(op),
+    }
+}
+
+/// The negation of a term that is folded and no literal.
+#[tactic(auto, using(spx_term::proofs::NegationLaws::negated_forms, crate::proofs::Folds::adds_laws))]
+fn negated(terms: &mut Terms, operand: TermId) -> Result<TermId, AllocError>
+    requires { operand.0 < length terms.old }
+    ensures { IfOk result (λ id. Adds terms.old terms.new id (negated (tree_at terms.old operand))) }
+{
+    match terms.node(operand) {
+        Node::Number(_) => terms.make(Node::Prefix(TermPrefix::Not, operand)),
+        Node::Truth(_) => terms.make(Node::Prefix(TermPrefix::Not, operand)),
+        Node::Variable(_) => terms.make(Node::Prefix(TermPrefix::Not, operand)),
+        Node::Prefix(op, inner) => match op {
+            TermPrefix::Not => Ok(inner),
+            TermPrefix::Minus => terms.make(Node::Prefix(TermPrefix::Not, operand)),
+        },
+        Node::Infix(op, left, right) => match opposite(op, form_at(terms, left)) {
+            Some(op) => terms.infix(op, left, right),
+            None => terms.make(Node::Prefix(TermPrefix::Not, operand)),
+        },
+    }
+}
+
 /// An operation on one operand, which is folded.
 #[tactic(auto, unfolding(spx_term::specs::Folding::prefixed), using(crate::proofs::Folds::adds_laws))]
 fn prefixed(terms: &mut Terms, op: TermPrefix, operand: TermId) -> Result<TermId, AllocError>
     requires { operand.0 < length terms.old }
     ensures { IfOk result (λ id. Adds terms.old terms.new id (prefixed op (tree_at terms.old operand))) }
 {
-    let Some(value) = literal_at(terms, operand) else {
-        return terms.make(Node::Prefix(op, operand));
-    };
-    match compute_prefix(op, value) {
-        Some(value) => terms.literal(value),
-        None => terms.make(Node::Prefix(op, operand)),
+    match (op, literal_at(terms, operand)) {
+        (_, Some(value)) => match compute_prefix(op, value) {
+            Some(value) => terms.literal(value),
+            None => terms.make(Node::Prefix(op, operand)),
+        },
+        (TermPrefix::Minus, None) => terms.make(Node::Prefix(op, operand)),
+        (TermPrefix::Not, None) => negated(terms, operand),
     }
 }
 
@@ -64,6 +104,7 @@ fn simplified(
         Simplification::Left => Ok(left),
         Simplification::Right => Ok(right),
         Simplification::Literal(value) => terms.literal(value),
+        Simplification::Negation => prefixed(terms, TermPrefix::Not, left),
         Simplification::OfItself(value) => {
             if is_same(terms, left, right) {
                 terms.make(Node::Truth(value))

@@ -33,6 +33,7 @@ pub fn structural_prefix(op: TermPrefix, operand: Interval) -> Interval
 {
     match op {
         TermPrefix::Minus => difference(point(0), operand),
+        TermPrefix::Not => UNBOUNDED,
     }
 }
 
@@ -118,7 +119,12 @@ pub fn mirrored(op: TermOp) -> TermOp
         TermOp::LessOrEqual => TermOp::GreaterOrEqual,
         TermOp::Greater => TermOp::Less,
         TermOp::GreaterOrEqual => TermOp::LessOrEqual,
-        TermOp::Add | TermOp::Subtract | TermOp::Equal | TermOp::NotEqual | TermOp::And => op,
+        TermOp::Add
+        | TermOp::Subtract
+        | TermOp::Equal
+        | TermOp::NotEqual
+        | TermOp::And
+        | TermOp::Implies => op,
     }
 }
 
@@ -145,7 +151,9 @@ pub fn numbers_to(op: TermOp, value: i128) -> Interval
             low: Some(value),
             high: None,
         },
-        TermOp::Add | TermOp::Subtract | TermOp::NotEqual | TermOp::And => UNBOUNDED,
+        TermOp::Add | TermOp::Subtract | TermOp::NotEqual | TermOp::And | TermOp::Implies => {
+            UNBOUNDED
+        }
     }
 }
 
@@ -165,7 +173,7 @@ pub fn settles(op: TermOp, left: Interval, right: Interval) -> bool
         TermOp::LessOrEqual => is_at_most(left.high, right.low),
         TermOp::Greater => is_below(right.high, left.low),
         TermOp::GreaterOrEqual => is_at_most(right.high, left.low),
-        TermOp::Add | TermOp::Subtract | TermOp::And => false,
+        TermOp::Add | TermOp::Subtract | TermOp::And | TermOp::Implies => false,
     }
 }
 

@@ -232,6 +232,31 @@ mod tests {
         Ok(())
     }
 
+    fn above_one(alloc: Global) -> Result<Term, AllocError> {
+        Term::infix(alloc, TermOp::Greater, variable(), Term::Number(1))
+    }
+
+    /// Whether `X < bound` closes under a hypothesis.
+    fn closes_below(alloc: Global, hyp: Term, bound: i128) -> Result<bool, AllocError> {
+        let mut hyps = Items::new(alloc);
+        hyps.push(hyp)?;
+        let goal = Term::infix(alloc, TermOp::Less, variable(), Term::Number(bound))?;
+        closes(alloc, &Sequent { hyps, goal })
+    }
+
+    #[test]
+    fn closes_by_a_negation(rt: HostRuntime) -> Result<(), Fail> {
+        let alloc = rt.alloc();
+        for (bound, closed) in [(2, true), (1, false)] {
+            let negation = Term::prefix(alloc, TermPrefix::Not, above_one(alloc)?)?;
+            assert_eq!(rt; closes_below(alloc, negation, bound)?, closed);
+            let above = above_one(alloc)?;
+            let implication = Term::infix(alloc, TermOp::Implies, above, Term::Truth(false))?;
+            assert_eq!(rt; closes_below(alloc, implication, bound)?, closed);
+        }
+        Ok(())
+    }
+
     /// `X + 1 + .. + 1`, with so many ones.
     fn sum_of_ones(alloc: Global, count: usize) -> Result<Term, AllocError> {
         let mut sum = variable();

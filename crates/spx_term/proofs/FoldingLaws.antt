@@ -13,16 +13,17 @@ use Rattle.spx_term.specs.declared.term.TermPrefix.{TermPrefix}
 use Rattle.spx_term.specs.declared.term.TermPrefix.TheVariants as sign
 use Rattle.spx_term.specs.declared.term.Term.{Term}
 use Rattle.spx_term.specs.declared.term.Term.TheVariants.{Number, Truth, Variable, Prefix, Infix}
-use Rattle.spx_term.specs.declared.folding.Simplification.{Simplification}
-use Rattle.spx_term.specs.declared.folding.Simplification.TheVariants.{Left, Right, Literal, OfItself, Operation}
+use Rattle.spx_term.specs.declared.folding.Simplification.TheVariants.{Left, Right, OfItself, Operation}
 use Rattle.spx_term.specs.declared.value.Value.{Value}
 use Rattle.spx_term.specs.declared.value.Value.TheVariants as value
 use Rattle.spx_term.specs.Equality.{same_term}
 use Rattle.spx_term.specs.Sorts.{integers, booleans, alike, sort_of_op, sort_of_prefix, one, both, sort_step, sort_of}
 use Rattle.spx_term.specs.Meaning.{as_number, same_value, value_of_op, value_of_prefix, Valuation, value_step, value_of, HasSort, Respects}
 use Rattle.spx_num.specs.Widths.{fits}
+use Rattle.spx_term.specs.Negation.{is_numeric, opposite, opposed, negated}
 use Rattle.spx_term.specs.Folding.{literal_of, term_of, fitting_value, literal_or, literal_if, simplified_to, after_literal, before_literal, of_itself, simpler_form, simplified, prefixed_by, prefixed, folded_step, folded, FoldKeepsSorts, FoldKeepsValues}
 use Rattle.spx_term.proofs.Equality.{same_term-Decides}
+use Rattle.spx_term.proofs.NegationLaws.{negated-Number, negated-Truth, negated-Variable, negated-Minus, negated-Not, negated-Infix, from_not, double_negation, opposite_sort, opposite_value, true_implies, false_implies, implies_true, implies_false}
 use Rattle.spx_term.proofs.Terms.{Cases, induct, fold-Number, fold-Truth, fold-Variable, fold-Prefix, fold-Infix}
 
 -- ---- what the sort of the whole says of the parts
@@ -83,11 +84,13 @@ op_has op.LessOrEqual x y m n s h = boolean_has _ s (from_integers Boolean m n s
 op_has op.Greater x y m n s h = boolean_has _ s (from_integers Boolean m n s h).2
 op_has op.GreaterOrEqual x y m n s h = boolean_has _ s (from_integers Boolean m n s h).2
 op_has op.And x y m n s h = boolean_has _ s (from_booleans Boolean m n s h).2
+op_has op.Implies x y m n s h = boolean_has _ s (from_booleans Boolean m n s h).2
 
 prefix_has : (o : TermPrefix) (x : Value) (m s : Sort) → sort_of_prefix o m ≡ Some s → HasSort s (value_of_prefix o x)
 unfolding sort_of_prefix value_of_prefix
 prefix_has sign.Minus x Integer s h = integer_has _ s (sym (some_is Integer s h))
 prefix_has sign.Minus x Boolean s h = absurd (cc)
+prefix_has sign.Not x m s h = boolean_has _ s (from_not m s h).1
 
 abbrev Sorted : Valuation → Term → Type 0
 Sorted v t = (s : Sort) → sort_of t ≡ Some s → HasSort s (value_of v t)
@@ -169,6 +172,7 @@ itself op.GreaterOrEqual b x m n s h gives = ((from_integers Boolean m n s gives
 itself op.Add b x m n s h gives = absurd (cc)
 itself op.Subtract b x m n s h gives = absurd (cc)
 itself op.And b x m n s h gives = absurd (cc)
+itself op.Implies b x m n s h gives = absurd (cc)
 
 literal_is : (t : Term) (x : Value) → literal_of t ≡ Some x → t ≡ term_of x
 literal_is (Number n) x h = let e : value.Number n ≡ x = cc in ap term_of e
@@ -218,6 +222,67 @@ module _ (v : Valuation) (respects : Respects v) where
   literal_keeps t s x (Some y) has good is = subst (λ y. Good v (term_of y) s x) (fitting_is x y is) (good_literal x s has)
   literal_keeps t s x None has good is = good
 
+  -- ---- negations
+
+  abbrev NegationKeeps : Term → Type 0
+  NegationKeeps t = (m s : Sort) → sort_of t ≡ Some m → sort_of_prefix sign.Not m ≡ Some s → Good v (negated t) s (value_of_prefix sign.Not (value_of v t))
+
+  good_form : (t u : Term) (s : Sort) (x : Value) → t ≡ u → Good v u s x → Good v t s x
+  good_form t u s x is good = record { sorted = ap sort_of is ∙ good.sorted; valued = ap (value_of v) is ∙ good.valued }
+
+  -- a negation that is left as it is
+  stays : (t : Term) → negated t ≡ Prefix sign.Not t → NegationKeeps t
+  stays t is m s sort gives = good_form (negated t) (Prefix sign.Not t) s _ is (prefix_alone sign.Not t m s sort gives)
+
+  prefix_negated : (o : TermPrefix) (a : Term) → NegationKeeps (Prefix o a)
+  prefix_negated sign.Minus a m s sort gives = stays (Prefix sign.Minus a) (negated-Minus a) m s sort gives
+  prefix_negated sign.Not a m s sort gives =
+      let part = one_sort (sort_of_prefix sign.Not) (sort_of a) m (sym (fold-Prefix sort_step sign.Not a) ∙ sort) in
+      let only : part.only ≡ Boolean = (from_not part.only m part.gives).0 in
+      good_form (negated (Prefix sign.Not a)) a s _ (negated-Not a)
+      (good_as a s part.only _ part.only_is (only ∙ sym (from_not m s gives).1)
+      (double_negation (value_of v a) (sorted_value v respects a Boolean (part.only_is ∙ ap Some only))
+      ∙ ap (value_of_prefix sign.Not) (sym (fold-Prefix (value_step v) sign.Not a))))
+
+  infix_negated_by : (o : TermOp) (a b : Term) (r : Option TermOp) → opposite o (is_numeric a) ≡ r → (m s : Sort) → sort_of (Infix o a b) ≡ Some m → sort_of_prefix sign.Not m ≡ Some s → Good v (opposed r a b (Infix o a b)) s (value_of_prefix sign.Not (value_of v (Infix o a b)))
+  infix_negated_by o a b None is m s sort gives = prefix_alone sign.Not (Infix o a b) m s sort gives
+  infix_negated_by o a b (Some p) is m s sort gives =
+      let parts = two_sorts (sort_of_op o) (sort_of a) (sort_of b) m (sym (fold-Infix sort_step o a b) ∙ sort) in
+      let sorts = from_not m s gives in
+      let made = left_alone p a b parts.first parts.second m parts.first_is parts.second_is (opposite_sort o (is_numeric a) parts.first parts.second m parts.gives p is) in
+      good_as (Infix p a b) s m _ made.sorted (sorts.0 ∙ sym sorts.1)
+      (made.valued ∙ opposite_value o (is_numeric a) (value_of v a) (value_of v b) p is
+      ∙ ap (value_of_prefix sign.Not) (sym (fold-Infix (value_step v) o a b)))
+
+  negation_cases : Cases NegationKeeps
+  negation_cases = record {
+    number = λ n. stays (Number n) (negated-Number n);
+    truth = λ b. stays (Truth b) (negated-Truth b);
+    variable = λ name. stays (Variable name) (negated-Variable name);
+    prefix = λ o a p. prefix_negated o a;
+    «infix» = λ o a b p q m s sort gives.
+        good_form (negated (Infix o a b)) (opposed (opposite o (is_numeric a)) a b (Infix o a b)) s _ (negated-Infix o a b)
+        (infix_negated_by o a b (opposite o (is_numeric a)) refl m s sort gives);
+  }
+
+  by_literal : (o : TermPrefix) (a : Term) (m s : Sort) (x : Option Value) → literal_of a ≡ x → sort_of a ≡ Some m → sort_of_prefix o m ≡ Some s → Good v (prefixed_by x o a) s (value_of_prefix o (value_of v a))
+  by_literal o a m s (Some x) e a_is gives =
+      literal_keeps (Prefix o a) s (value_of_prefix o (value_of v a)) (fitting_value (value_of_prefix o x))
+      (prefix_has o (value_of v a) m s gives) (prefix_alone o a m s a_is gives)
+      (ap fitting_value (ap (value_of_prefix o) (sym (literal_value a x e))))
+  by_literal sign.Minus a m s None e a_is gives = prefix_alone sign.Minus a m s a_is gives
+  by_literal sign.Not a m s None e a_is gives = induct NegationKeeps negation_cases a m s a_is gives
+
+  prefixed_keeps : (o : TermPrefix) (a : Term) (m s : Sort) → sort_of a ≡ Some m → sort_of_prefix o m ≡ Some s → Good v (prefixed o a) s (value_of_prefix o (value_of v a))
+  unfolding prefixed
+  prefixed_keeps o a m s a_is gives = by_literal o a m s (literal_of a) refl a_is gives
+
+  not_of : (s m : Sort) → m ≡ Boolean → s ≡ Boolean → sort_of_prefix sign.Not m ≡ Some s
+  unfolding sort_of_prefix
+  not_of s m p q = ap (sort_of_prefix sign.Not) p ∙ ap Some (sym q)
+
+  -- ---- operations
+
   literal_form : (o : TermOp) (a b : Term) (r : Option Value) (s : Sort) (x : Value) → Good v (literal_or (Infix o a b) r) s x → Good v (simplified_to (literal_if r) o a b) s x
   literal_form o a b (Some y) s x good = good
   literal_form o a b None s x good = good
@@ -239,6 +304,14 @@ module _ (v : Valuation) (respects : Respects v) where
       let sorts = from_booleans Boolean m n s gives in
       good_as (Truth false) s Boolean _ (fold-Truth sort_step false) (sym sorts.2)
       (fold-Truth (value_step v) false ∙ false_and (value_of v b) ∙ ap (λ x. value_of_op op.And x (value_of v b)) is)
+  after_keeps op.Implies (value.Truth true) a b m n s is a_is b_is gives =
+      let sorts = from_booleans Boolean m n s gives in
+      good_as b s n _ b_is (sorts.1 ∙ sym sorts.2)
+      (true_implies (value_of v b) (sorted_value v respects b Boolean (b_is ∙ ap Some sorts.1)) ∙ ap (λ x. value_of_op op.Implies x (value_of v b)) is)
+  after_keeps op.Implies (value.Truth false) a b m n s is a_is b_is gives =
+      let sorts = from_booleans Boolean m n s gives in
+      good_as (Truth true) s Boolean _ (fold-Truth sort_step true) (sym sorts.2)
+      (fold-Truth (value_step v) true ∙ false_implies (value_of v b) ∙ ap (λ x. value_of_op op.Implies x (value_of v b)) is)
   after_keeps o x a b m n s is a_is b_is gives = left_alone o a b m n s a_is b_is gives
 
   before_keeps : (o : TermOp) (y : Value) (a b : Term) (m n s : Sort) → y ≡ value_of v b → sort_of a ≡ Some m → sort_of b ≡ Some n → sort_of_op o m n ≡ Some s → Good v (simplified_to (before_literal o y) o a b) s (value_of_op o (value_of v a) (value_of v b))
@@ -265,6 +338,17 @@ module _ (v : Valuation) (respects : Respects v) where
       let sorts = from_booleans Boolean m n s gives in
       good_as (Truth false) s Boolean _ (fold-Truth sort_step false) (sym sorts.2)
       (fold-Truth (value_step v) false ∙ and_false (value_of v a) ∙ ap (λ y. value_of_op op.And (value_of v a) y) is)
+  before_keeps op.Implies (value.Truth true) a b m n s is a_is b_is gives =
+      let sorts = from_booleans Boolean m n s gives in
+      good_as (Truth true) s Boolean _ (fold-Truth sort_step true) (sym sorts.2)
+      (fold-Truth (value_step v) true ∙ implies_true (value_of v a) ∙ ap (λ y. value_of_op op.Implies (value_of v a) y) is)
+  before_keeps op.Implies (value.Truth false) a b m n s is a_is b_is gives =
+      let sorts = from_booleans Boolean m n s gives in
+      let made = prefixed_keeps sign.Not a m s a_is (not_of s m sorts.0 sorts.2) in
+      record {
+        sorted = made.sorted;
+        valued = made.valued ∙ implies_false (value_of v a) ∙ ap (λ y. value_of_op op.Implies (value_of v a) y) is;
+      }
   before_keeps o y a b m n s is a_is b_is gives = left_alone o a b m n s a_is b_is gives
 
   same_keeps : (o : TermOp) (known : Bool) (a b : Term) (m n s : Sort) → sort_of a ≡ Some m → sort_of b ≡ Some n → sort_of_op o m n ≡ Some s → of_itself o ≡ OfItself known → Good v (simplified_to (OfItself known) o a b) s (value_of_op o (value_of v a) (value_of v b))
@@ -286,6 +370,7 @@ module _ (v : Valuation) (respects : Respects v) where
   between_keeps op.Add a b m n s a_is b_is gives = left_alone op.Add a b m n s a_is b_is gives
   between_keeps op.Subtract a b m n s a_is b_is gives = left_alone op.Subtract a b m n s a_is b_is gives
   between_keeps op.And a b m n s a_is b_is gives = left_alone op.And a b m n s a_is b_is gives
+  between_keeps op.Implies a b m n s a_is b_is gives = left_alone op.Implies a b m n s a_is b_is gives
 
   by_literals : (o : TermOp) (a b : Term) (m n s : Sort) (x y : Option Value) → literal_of a ≡ x → literal_of b ≡ y → sort_of a ≡ Some m → sort_of b ≡ Some n → sort_of_op o m n ≡ Some s → Good v (simplified_to (simpler_form o x y) o a b) s (value_of_op o (value_of v a) (value_of v b))
   by_literals o a b m n s (Some x) (Some y) e f a_is b_is gives =
@@ -299,17 +384,6 @@ module _ (v : Valuation) (respects : Respects v) where
   simplified_keeps : (o : TermOp) (a b : Term) (m n s : Sort) → sort_of a ≡ Some m → sort_of b ≡ Some n → sort_of_op o m n ≡ Some s → Good v (simplified o a b) s (value_of_op o (value_of v a) (value_of v b))
   unfolding simplified
   simplified_keeps o a b m n s a_is b_is gives = by_literals o a b m n s (literal_of a) (literal_of b) refl refl a_is b_is gives
-
-  by_literal : (o : TermPrefix) (a : Term) (m s : Sort) (x : Option Value) → literal_of a ≡ x → sort_of a ≡ Some m → sort_of_prefix o m ≡ Some s → Good v (prefixed_by x o a) s (value_of_prefix o (value_of v a))
-  by_literal o a m s (Some x) e a_is gives =
-      literal_keeps (Prefix o a) s (value_of_prefix o (value_of v a)) (fitting_value (value_of_prefix o x))
-      (prefix_has o (value_of v a) m s gives) (prefix_alone o a m s a_is gives)
-      (ap fitting_value (ap (value_of_prefix o) (sym (literal_value a x e))))
-  by_literal o a m s None e a_is gives = prefix_alone o a m s a_is gives
-
-  prefixed_keeps : (o : TermPrefix) (a : Term) (m s : Sort) → sort_of a ≡ Some m → sort_of_prefix o m ≡ Some s → Good v (prefixed o a) s (value_of_prefix o (value_of v a))
-  unfolding prefixed
-  prefixed_keeps o a m s a_is gives = by_literal o a m s (literal_of a) refl a_is gives
 
   -- ---- every term
 

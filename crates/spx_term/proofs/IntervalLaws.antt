@@ -119,6 +119,7 @@ within_structural_prefix sign.Minus i x p =
       low = low_of_difference (Some (pos 0)) i.high (value.Number (pos 0)) x zero.low p.high;
       high = high_of_difference (Some (pos 0)) i.low (value.Number (pos 0)) x zero.high p.low;
     }
+within_structural_prefix sign.Not i x p = within_unbounded (value_of_prefix sign.Not x)
 
 -- ---- what a comparison with a literal says
 
@@ -164,6 +165,7 @@ within_mirrored op.NotEqual n (value.Number k) sort h = within_unbounded (value.
 within_mirrored op.Add n (value.Number k) sort h = within_unbounded (value.Number k)
 within_mirrored op.Subtract n (value.Number k) sort h = within_unbounded (value.Number k)
 within_mirrored op.And n (value.Number k) sort h = within_unbounded (value.Number k)
+within_mirrored op.Implies n (value.Number k) sort h = within_unbounded (value.Number k)
 within_mirrored _ n (value.Truth b) sort h = absurd sort
 
 -- ---- what a hypothesis says
@@ -181,6 +183,7 @@ left_of_number op.LessOrEqual Boolean s h = absurd (cc)
 left_of_number op.Greater Boolean s h = absurd (cc)
 left_of_number op.GreaterOrEqual Boolean s h = absurd (cc)
 left_of_number op.And Boolean s h = absurd (cc)
+left_of_number op.Implies Boolean s h = absurd (cc)
 
 right_of_number : (o : TermOp) (n s : Sort) → sort_of_op o Integer n ≡ Some s → n ≡ Integer
 unfolding sort_of_op
@@ -194,6 +197,7 @@ right_of_number op.LessOrEqual Boolean s h = absurd (cc)
 right_of_number op.Greater Boolean s h = absurd (cc)
 right_of_number op.GreaterOrEqual Boolean s h = absurd (cc)
 right_of_number op.And Boolean s h = absurd (cc)
+right_of_number op.Implies Boolean s h = absurd (cc)
 
 number_sort : (n : ℤ) (s : Sort) → sort_of (Number n) ≡ Some s → s ≡ Integer
 number_sort n s h = let e = sym (fold-Number sort_step n) ∙ h in cc

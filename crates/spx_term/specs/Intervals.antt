@@ -72,6 +72,7 @@ mirrored op.Subtract = op.Subtract
 mirrored op.Equal = op.Equal
 mirrored op.NotEqual = op.NotEqual
 mirrored op.And = op.And
+mirrored op.Implies = op.Implies
 
 -- the bounds that `a op b` sets to a term, where the term is a and b is a literal
 abbrev pub bounds_before : TermOp → Term → Term → Term → Interval
@@ -100,6 +101,7 @@ structural _ i j = unbounded
 -- the interval of an operation on a term of this interval; `-a` is as `0 - a`
 unfoldable pub structural_prefix : TermPrefix → Interval → Interval
 structural_prefix sign.Minus i = difference_of (point (pos 0)) i
+structural_prefix sign.Not i = unbounded
 
 -- the interval of a term
 unfoldable pub interval : List Term → Term → Interval

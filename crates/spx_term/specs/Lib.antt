@@ -1,10 +1,12 @@
 pub mod Equality
 pub mod Sorts
 pub mod Meaning
+pub mod Negation
 pub mod Folding
 pub mod Goals
 pub mod Shapes
 pub mod Intervals
 pub mod Plain
 pub mod Steps
+pub mod Paths
 pub mod Sizes

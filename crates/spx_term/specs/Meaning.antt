@@ -1,5 +1,5 @@
 -- What a term means, and which sequents are valid. Numbers have no bound.
-use Rattle.std.specs.Prelude.{◌≡◌, Bool, true, false, not, ◌&&◌, ℤ, pos, ◌+ℤ◌, ◌-ℤ◌, int_lt, int_le, List, All, if◌then◌else◌}
+use Rattle.std.specs.Prelude.{◌≡◌, Bool, true, false, not, ◌&&◌, ◌||◌, ℤ, pos, ◌+ℤ◌, ◌-ℤ◌, int_lt, int_le, List, All, if◌then◌else◌}
 use Rattle.std.specs.Ordering.{int_eq}
 use Rattle.spx_term.specs.declared.term.Sort.{Sort}
 use Rattle.spx_term.specs.declared.term.Sort.TheVariants.{Integer, Boolean}
@@ -40,10 +40,12 @@ value_of_op op.LessOrEqual a b = Truth (int_le (as_number a) (as_number b))
 value_of_op op.Greater a b = Truth (int_lt (as_number b) (as_number a))
 value_of_op op.GreaterOrEqual a b = Truth (int_le (as_number b) (as_number a))
 value_of_op op.And a b = Truth (as_truth a && as_truth b)
+value_of_op op.Implies a b = Truth (not (as_truth a) || as_truth b)
 
 -- the value of an operation on one value
 unfoldable pub value_of_prefix : TermPrefix → Value → Value
 value_of_prefix sign.Minus a = Number (pos 0 -ℤ as_number a)
+value_of_prefix sign.Not a = Truth (not (as_truth a))
 
 -- a value for each name
 abbrev pub Valuation : Type 0

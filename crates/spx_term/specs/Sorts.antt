@@ -35,11 +35,14 @@ sort_of_op op.LessOrEqual = integers Boolean
 sort_of_op op.Greater = integers Boolean
 sort_of_op op.GreaterOrEqual = integers Boolean
 sort_of_op op.And = booleans Boolean
+sort_of_op op.Implies = booleans Boolean
 
 -- the sort of an operation on one operand of this sort
 unfoldable pub sort_of_prefix : TermPrefix → Sort → Option Sort
 sort_of_prefix sign.Minus Integer = Some Integer
 sort_of_prefix sign.Minus Boolean = None
+sort_of_prefix sign.Not Boolean = Some Boolean
+sort_of_prefix sign.Not Integer = None
 
 -- a part that is not well sorted leaves the whole so
 abbrev pub one : (Sort → Option Sort) → Option Sort → Option Sort

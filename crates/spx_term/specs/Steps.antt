@@ -18,8 +18,12 @@ pub data Tree : Type 0 where
   Assume : Term → Tree → Tree
   -- a name stands for a new value
   Assign : Name → Term → Tree → Tree
+  -- a name stands for any value of its sort
+  Fresh : Name → Tree → Tree
   -- the goals are to be shown
   Prove : CondKind → Place → List Term → Tree → Tree
+  -- either goes on
+  Split : Tree → Tree → Tree
 
 abbrev pub assume_all : List Term → Tree → Tree
 assume_all [] rest = rest
@@ -67,7 +71,9 @@ abbrev pub claims_of : Tree → List Claim
 claims_of Cut = []
 claims_of (Assume t rest) = map (with_fact t) (claims_of rest)
 claims_of (Assign x t rest) = map (with_value x t) (claims_of rest)
+claims_of (Fresh x rest) = claims_of rest
 claims_of (Prove kind place goals rest) = record { kind = kind; place = place; hyps = []; goals = goals } ∷ claims_of rest
+claims_of (Split first second) = claims_of first ++ claims_of second
 
 -- a fact that is the same term as an earlier one is not added
 abbrev pub with_new : List Term → Term → List Term

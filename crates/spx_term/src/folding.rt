@@ -5,6 +5,7 @@ ghost use Rattle.spx_term.specs.declared.value.Value.TheVariants as value;
 ghost use Rattle.spx_term.specs.Meaning.{as_number, as_truth, value_of_prefix, value_of_op};
 ghost use Rattle.spx_term.specs.Folding.{literal_of, term_of, fitting_value, after_literal, before_literal, of_itself, simpler_form, prefixed, simplified, folded};
 
+use crate::negation::negate;
 use crate::{Term, TermOp, TermPrefix, Value, same};
 use spx_num::{Op, checked};
 use std::alloc::{AllocError, Global};
@@ -18,6 +19,8 @@ pub enum Simplification {
     Right,
     /// The literal of this value.
     Literal(Value),
+    /// The negation of its left operand.
+    Negation,
     /// This truth value where the operands are equal, and else the operation itself.
     OfItself(bool),
     /// The operation itself.
@@ -50,12 +53,13 @@ pub fn fold(alloc: Global, term: &Term) -> Result<Term, AllocError>
 fn simplify_prefix(alloc: Global, op: TermPrefix, operand: Term) -> Result<Term, AllocError>
     ensures { IfOk result (λ r. r ≡ prefixed op operand) }
 {
-    let Some(value) = literal_of(&operand) else {
-        return Term::prefix(alloc, op, operand);
-    };
-    match compute_prefix(op, value) {
-        Some(value) => Ok(term_of(value)),
-        None => Term::prefix(alloc, op, operand),
+    match (op, literal_of(&operand)) {
+        (_, Some(value)) => match compute_prefix(op, value) {
+            Some(value) => Ok(term_of(value)),
+            None => Term::prefix(alloc, op, operand),
+        },
+        (TermPrefix::Minus, None) => Term::prefix(alloc, op, operand),
+        (TermPrefix::Not, None) => negate(alloc, &operand),
     }
 }
 
@@ -68,6 +72,7 @@ fn simplify(alloc: Global, op: TermOp, left: Term, right: Term) -> Result<Term, 
         Simplification::Left => Ok(left),
         Simplification::Right => Ok(right),
         Simplification::Literal(value) => Ok(term_of(value)),
+        Simplification::Negation => simplify_prefix(alloc, TermPrefix::Not, left),
         Simplification::OfItself(value) if same(&left, &right) => Ok(Term::Truth(value)),
         Simplification::OfItself(_) | Simplification::Operation => {
             Term::infix(alloc, op, left, right)
@@ -127,6 +132,7 @@ fn compute(op: TermOp, a: Value, b: Value) -> Option<Value>
         TermOp::Greater => Some(Value::Truth(as_number(a) > as_number(b))),
         TermOp::GreaterOrEqual => Some(Value::Truth(as_number(a) >= as_number(b))),
         TermOp::And => Some(Value::Truth(as_truth(a) && as_truth(b))),
+        TermOp::Implies => Some(Value::Truth(!as_truth(a) || as_truth(b))),
     }
 }
 
@@ -137,6 +143,7 @@ pub fn compute_prefix(op: TermPrefix, a: Value) -> Option<Value>
 {
     match op {
         TermPrefix::Minus => exact(Op::Sub, 0, as_number(a)),
+        TermPrefix::Not => Some(Value::Truth(!as_truth(a))),
     }
 }
 
@@ -174,6 +181,8 @@ fn after_literal(op: TermOp, left: Value) -> Simplification
         (TermOp::Add, Value::Number(0)) => Simplification::Right,
         (TermOp::And, Value::Truth(true)) => Simplification::Right,
         (TermOp::And, Value::Truth(false)) => Simplification::Literal(Value::Truth(false)),
+        (TermOp::Implies, Value::Truth(true)) => Simplification::Right,
+        (TermOp::Implies, Value::Truth(false)) => Simplification::Literal(Value::Truth(true)),
         _ => Simplification::Operation,
     }
 }
@@ -187,6 +196,8 @@ fn before_literal(op: TermOp, right: Value) -> Simplification
         (TermOp::Add | TermOp::Subtract, Value::Number(0)) => Simplification::Left,
         (TermOp::And, Value::Truth(true)) => Simplification::Left,
         (TermOp::And, Value::Truth(false)) => Simplification::Literal(Value::Truth(false)),
+        (TermOp::Implies, Value::Truth(true)) => Simplification::Literal(Value::Truth(true)),
+        (TermOp::Implies, Value::Truth(false)) => Simplification::Negation,
         _ => Simplification::Operation,
     }
 }
@@ -201,7 +212,9 @@ fn of_itself(op: TermOp) -> Simplification
             Simplification::OfItself(true)
         }
         TermOp::NotEqual | TermOp::Less | TermOp::Greater => Simplification::OfItself(false),
-        TermOp::Add | TermOp::Subtract | TermOp::And => Simplification::Operation,
+        TermOp::Add | TermOp::Subtract | TermOp::And | TermOp::Implies => {
+            Simplification::Operation
+        }
     }
 }
 
@@ -284,6 +297,43 @@ mod tests {
             let operation = Term::infix(alloc, op, operand(left), operand(right))?;
             let folded = fold(alloc, &operation)?;
             assert!(rt; is_wanted(&folded, &operation, wanted), "{operation:?}");
+        }
+        Ok(())
+    }
+
+    /// P, or a literal.
+    fn condition(literal: Option<bool>) -> Term {
+        match literal {
+            Some(value) => Term::Truth(value),
+            None => Term::Variable(Name {
+                symbol: Symbol::Now(1),
+                sort: Sort::Boolean,
+            }),
+        }
+    }
+
+    #[test]
+    fn folds_an_implication(rt: HostRuntime) -> Result<(), Fail> {
+        let alloc = rt.alloc();
+        for (left, right, wanted) in [
+            (Some(true), None, condition(None)),
+            (Some(false), None, condition(Some(true))),
+            (None, Some(true), condition(Some(true))),
+            (
+                None,
+                Some(false),
+                Term::prefix(alloc, TermPrefix::Not, condition(None))?,
+            ),
+            (Some(true), Some(false), condition(Some(false))),
+            (Some(false), Some(false), condition(Some(true))),
+            (
+                None,
+                None,
+                Term::infix(alloc, TermOp::Implies, condition(None), condition(None))?,
+            ),
+        ] {
+            let operation = Term::infix(alloc, TermOp::Implies, condition(left), condition(right))?;
+            assert!(rt; same(&fold(alloc, &operation)?, &wanted), "{operation:?}");
         }
         Ok(())
     }

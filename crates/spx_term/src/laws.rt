@@ -1,6 +1,7 @@
 //! Laws of the definitions, each as the contract of a function that does nothing.
 ghost use Rattle.spx_term.specs.Folding.{FoldKeepsSorts, FoldKeepsValues};
 ghost use Rattle.spx_term.specs.Goals.{GoalHolds};
+ghost use Rattle.spx_term.specs.Paths.{ClaimsOfPaths};
 ghost use Rattle.spx_term.specs.Plain.{PlainIsValid};
 
 /// Folding leaves a well-sorted term its sort.
@@ -21,4 +22,9 @@ pub fn goal_holds()
 /// A plain sequent is valid.
 pub fn plain_is_valid()
     ensures { PlainIsValid }
+{}
+
+/// A tree asks for what its paths ask for, and for nothing else.
+pub fn claims_of_paths()
+    ensures { ClaimsOfPaths }
 {}

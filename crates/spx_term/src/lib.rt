@@ -8,11 +8,15 @@ mod condition;
 mod folding;
 mod interval;
 pub mod laws;
+mod negation;
+mod path;
 mod term;
 mod value;
 
 pub use condition::{CondKind, Condition, MOST_NODES, Sequent};
 pub use folding::{Simplification, compute_prefix, fold, simpler_form};
 pub use interval::Interval;
+pub use negation::{TermForm, opposite};
+pub use path::PathStep;
 pub use term::{Name, Sort, Symbol, Term, TermOp, TermPrefix, copy_all, same};
 pub use value::Value;
