@@ -11,6 +11,7 @@ use Rattle.spx_term.specs.declared.value.Value.TheVariants as value
 use Rattle.spx_term.specs.Meaning.{as_truth}
 use Rattle.spx_meaning.specs.Literals.{literal_in}
 use Rattle.spx_meaning.specs.Stores.{Store, look, type_of, first_value}
+use Rattle.spx_meaning.specs.Frames.{Frame}
 use Rattle.spx_meaning.specs.Evaluation.{applied_sign, applied}
 
 -- an unset variable counts as the first value of its type
@@ -32,19 +33,19 @@ abbrev pub value_or_zero : Option Value → Value
 value_or_zero (Some x) = x
 value_or_zero None = value.Number (pos 0)
 
--- one level, whose parts have these values; `entry` is the store on entry to the body
-abbrev pub meant_step : Program → Store → Store → CoreExpr-F Value → Value
-meant_step p entry s (CoreExpr-F.Number n place) = value.Number n
-meant_step p entry s (CoreExpr-F.Name name) = reading_of p s (variable_of name.entity)
-meant_step p entry s (CoreExpr-F.Attribute prefix designator) = value_or_zero (literal_in (attribute prefix designator))
-meant_step p entry s (CoreExpr-F.Parenthesized place a) = a
-meant_step p entry s (CoreExpr-F.Prefix op place a) = applied_sign op a
-meant_step p entry s (CoreExpr-F.Infix op place a b) = applied op a b
+-- one level, whose parts have these values
+abbrev pub meant_step : Frame → Store → CoreExpr-F Value → Value
+meant_step f s (CoreExpr-F.Number n place) = value.Number n
+meant_step f s (CoreExpr-F.Name name) = reading_of f.program s (variable_of name.entity)
+meant_step f s (CoreExpr-F.Attribute prefix designator) = value_or_zero (literal_in (attribute prefix designator))
+meant_step f s (CoreExpr-F.Parenthesized place a) = a
+meant_step f s (CoreExpr-F.Prefix op place a) = applied_sign op a
+meant_step f s (CoreExpr-F.Infix op place a b) = applied op a b
 
 -- the value of an expression in an annotation
-abbrev pub meant : Program → Store → Store → CoreExpr → Value
-meant p entry s = fold-CoreExpr Value (meant_step p entry s)
+abbrev pub meant : Frame → Store → CoreExpr → Value
+meant f s = fold-CoreExpr Value (meant_step f s)
 
 -- whether an annotation is true
-abbrev pub truth : Program → Store → Store → CoreExpr → Bool
-truth p entry s annotation = as_truth (meant p entry s annotation)
+abbrev pub truth : Frame → Store → CoreExpr → Bool
+truth f s annotation = as_truth (meant f s annotation)

@@ -1,5 +1,5 @@
 -- The value of an expression in code, or the first check that fails.
-use Rattle.std.specs.Prelude.{◌≡◌, refl, ℤ, pos, if◌then◌else◌, Option, Some, None}
+use Rattle.std.specs.Prelude.{◌≡◌, refl, ℕ, ℤ, pos, if◌then◌else◌, Option, Some, None}
 use denote.Hole.Carrier.{hidden}
 use Rattle.spx_text.specs.declared.place.Place.{Place}
 use Rattle.spx_tree.specs.declared.expression.Identifier.{Identifier}
@@ -25,16 +25,19 @@ use Rattle.spx_meaning.specs.declared.bad.BadKind.{BadKind}
 use Rattle.spx_meaning.specs.declared.bad.BadKind.TheVariants.{Overflow, Unset}
 use Rattle.spx_meaning.specs.Literals.{literal}
 use Rattle.spx_meaning.specs.Stores.{Store, look, is_in}
+use Rattle.spx_meaning.specs.Frames.{Frame}
 
--- what an evaluation gives
+-- what an evaluation gives: a value, a check that fails, or nothing within its bound
 pub data Answer : Type 0 where
   Gives : Value → Answer
   Fails : BadKind → Place → Answer
+  Waits : Answer
 
 -- goes on with the value, where there is one
 abbrev pub with_value : Answer → (Value → Answer) → Answer
 with_value (Gives x) go = go x
 with_value (Fails kind place) go = Fails kind place
+with_value Waits go = Waits
 
 -- the operator of terms that has this operator's meaning
 abbrev pub term_op : InfixOp → TermOp
@@ -86,41 +89,43 @@ abbrev pub static_or : Option Value → Answer → Answer
 static_or (Some x) answer = Gives x
 static_or None answer = answer
 
--- The value of an expression, evaluated from left to right; the first operand without a value decides.
+-- The value of an expression within a bound, evaluated from left to right; the first operand without a value decides.
 -- A static expression stands for its exact value and brings no check: a static rule has seen to that value
 -- (Ada 95 RM 4.9). An attribute without a value counts as 0.
-unfoldable pub eval : Store → CoreExpr → Answer
-eval s (Number n place) = Gives (value.Number n)
-eval s (Name name) = read s name.name.place (variable_of name.entity)
-eval s (Attribute prefix designator) = static_or (literal (Attribute prefix designator)) (Gives (value.Number (pos 0)))
-eval s (parenthesized_of place a) = eval s a
-eval s (prefix_of op place a) = static_or (literal (Prefix op place a)) (with_value (eval s a) (λ x. signed op place x))
-eval s (infix_of op place a b) =
-    static_or (literal (Infix op place a b)) (with_value (eval s a) (λ x. with_value (eval s b) (λ y. checked op place (applied op x y))))
+unfoldable pub eval : Frame → ℕ → Store → CoreExpr → Answer
+eval f n s (Number m place) = Gives (value.Number m)
+eval f n s (Name name) = read s name.name.place (variable_of name.entity)
+eval f n s (Attribute prefix designator) = static_or (literal (Attribute prefix designator)) (Gives (value.Number (pos 0)))
+eval f n s (parenthesized_of place a) = eval f n s a
+eval f n s (prefix_of op place a) = static_or (literal (Prefix op place a)) (with_value (eval f n s a) (λ x. signed op place x))
+eval f n s (infix_of op place a b) =
+    static_or (literal (Infix op place a b)) (with_value (eval f n s a) (λ x. with_value (eval f n s b) (λ y. checked op place (applied op x y))))
 
-pub eval-Number : (s : Store) (n : ℤ) (place : Place) → eval s (Number n place) ≡ Gives (value.Number n)
-unfolding eval
-eval-Number s n place = refl
+module _ (f : Frame) (n : ℕ) (s : Store) where
+  pub eval-Number : (m : ℤ) (place : Place) → eval f n s (Number m place) ≡ Gives (value.Number m)
+  unfolding eval
+  eval-Number m place = refl
 
-pub eval-Name : (s : Store) (name : CoreName) → eval s (Name name) ≡ read s name.name.place (variable_of name.entity)
-unfolding eval
-eval-Name s name = refl
+  pub eval-Name : (name : CoreName) → eval f n s (Name name) ≡ read s name.name.place (variable_of name.entity)
+  unfolding eval
+  eval-Name name = refl
 
-pub eval-Attribute : (s : Store) (prefix : CoreName) (designator : Identifier) → eval s (Attribute prefix designator) ≡ static_or (literal (Attribute prefix designator)) (Gives (value.Number (pos 0)))
-unfolding eval
-eval-Attribute s prefix designator = refl
+  pub eval-Attribute : (prefix : CoreName) (designator : Identifier) → eval f n s (Attribute prefix designator) ≡ static_or (literal (Attribute prefix designator)) (Gives (value.Number (pos 0)))
+  unfolding eval
+  eval-Attribute prefix designator = refl
 
-pub eval-Parenthesized : (s : Store) (place : Place) (a : CoreExpr) → eval s (Parenthesized place a) ≡ eval s a
-unfolding eval hidden-the_row-CoreExpr-0 hidden
-eval-Parenthesized s place a = refl
+  pub eval-Parenthesized : (place : Place) (a : CoreExpr) → eval f n s (Parenthesized place a) ≡ eval f n s a
+  unfolding eval hidden-the_row-CoreExpr-0 hidden
+  eval-Parenthesized place a = refl
 
-pub eval-Prefix : (s : Store) (op : PrefixOp) (place : Place) (a : CoreExpr) → eval s (Prefix op place a) ≡ static_or (literal (Prefix op place a)) (with_value (eval s a) (λ x. signed op place x))
-unfolding eval hidden-the_row-CoreExpr-0 hidden
-eval-Prefix s op place a = refl
+  pub eval-Prefix : (op : PrefixOp) (place : Place) (a : CoreExpr) → eval f n s (Prefix op place a) ≡ static_or (literal (Prefix op place a)) (with_value (eval f n s a) (λ x. signed op place x))
+  unfolding eval hidden-the_row-CoreExpr-0 hidden
+  eval-Prefix op place a = refl
 
-pub eval-Infix : (s : Store) (op : InfixOp) (place : Place) (a b : CoreExpr) → eval s (Infix op place a b) ≡ static_or (literal (Infix op place a b)) (with_value (eval s a) (λ x. with_value (eval s b) (λ y. checked op place (applied op x y))))
-unfolding eval hidden-the_row-CoreExpr-0 hidden
-eval-Infix s op place a b = refl
+  pub eval-Infix : (op : InfixOp) (place : Place) (a b : CoreExpr)
+      → eval f n s (Infix op place a b) ≡ static_or (literal (Infix op place a b)) (with_value (eval f n s a) (λ x. with_value (eval f n s b) (λ y. checked op place (applied op x y))))
+  unfolding eval hidden-the_row-CoreExpr-0 hidden
+  eval-Infix op place a b = refl
 
 -- evaluation at each form of an expression
 pub ruleset eval_forms = (eval-Number, eval-Name, eval-Attribute, eval-Parenthesized, eval-Prefix, eval-Infix)

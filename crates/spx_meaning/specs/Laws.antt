@@ -1,14 +1,15 @@
 -- What holds of the runs of an accepted program.
-use Rattle.std.specs.Prelude.{◌≡◌, ◌≢◌, ℕ, ◌≤◌, false, IsTrue, IsSome, IfSome, List, All}
+use Rattle.std.specs.Prelude.{◌≡◌, ◌≢◌, ℕ, ◌≤◌, false, IsTrue, IsSome, IfSome, All}
 use Rattle.spx_text.specs.declared.place.Place.{Place}
 use Rattle.spx_core.specs.declared.entity.VarId.{VarId}
 use Rattle.spx_core.specs.declared.program.Program.{Program}
 use Rattle.spx_core.specs.declared.subprogram.Sub.{Sub}
-use Rattle.spx_core.specs.declared.statement.CoreStmt.{CoreStmt}
+use Rattle.spx_core.specs.Commands.{Command}
 use Rattle.spx_core.specs.Formals.{is_local}
 use Rattle.spx_core.specs.Dependency.{derives, exports, imports}
 use Rattle.spx_meaning.specs.declared.bad.BadKind.{BadKind}
 use Rattle.spx_meaning.specs.Stores.{Store, look, type_of, is_in}
+use Rattle.spx_meaning.specs.Frames.{Frame, around}
 use Rattle.spx_meaning.specs.Runs.{Outcome, Ended, Bad, Later, run, pre_holds, entry_of, call}
 
 -- a result other than Later is the same at every greater bound
@@ -16,14 +17,14 @@ abbrev pub IsSettled : (ℕ → Outcome) → Type 0
 IsSettled at_bound = (n m : ℕ) → n ≤ m → at_bound n ≢ Later → at_bound m ≡ at_bound n
 
 abbrev pub RunsAreSettled : Type 0
-RunsAreSettled = (p : Program) (s : Store) (stmts : List CoreStmt) → IsSettled (λ n. run p n s stmts)
+RunsAreSettled = (f : Frame) (s : Store) (c : Command) → IsSettled (λ n. run f n s c)
 
 abbrev pub CallsAreSettled : Type 0
 CallsAreSettled = (p : Program) (sub : Sub) (s : Store) → IsSettled (λ n. call p n sub s)
 
 -- a store from which a subprogram may be called
 pub record Start (p : Program) (sub : Sub) (s : Store) : Type 0 where
-  pub precondition : IsTrue (pre_holds p sub.pre s)
+  pub precondition : IsTrue (pre_holds (around p sub s) sub.pre s)
   pub imports_set : (v : VarId) → IsTrue (imports v sub) → IsSome (look s v)
   pub in_types : (v : VarId) → IfSome (look s v) (λ x. IsTrue (is_in (type_of p v) x))
 

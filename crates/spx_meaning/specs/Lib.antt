@@ -1,9 +1,7 @@
 pub mod Stores
+pub mod Frames
 pub mod Literals
 pub mod Evaluation
 pub mod Annotations
 pub mod Runs
-pub mod Paths
 pub mod Laws
-pub mod Fit
-pub mod Limits

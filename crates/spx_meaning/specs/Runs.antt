@@ -1,4 +1,4 @@
--- What statements and calls do to a store, within a bound.
+-- What statements and calls do to a store, within a bound (Ada 95 RM 5.2, 5.3, 6.4).
 use Rattle.std.specs.Prelude.{ℕ, Bool, true, false, not, ◌||◌, if◌then◌else◌, List, [], ◌∷◌, is_some, Option, Some, None}
 use Rattle.std.specs.List.{list_all}
 use Rattle.spx_text.specs.declared.place.Place.{Place}
@@ -10,8 +10,7 @@ use Rattle.spx_core.specs.declared.program.Program.{Program}
 use Rattle.spx_core.specs.declared.entity.Mode.TheVariants as mode
 use Rattle.spx_core.specs.declared.subprogram.CorePrecondition.{CorePrecondition}
 use Rattle.spx_core.specs.declared.subprogram.Sub.{Sub}
-use Rattle.spx_core.specs.declared.statement.CoreStmt.{CoreStmt}
-use Rattle.spx_core.specs.declared.statement.CoreStmt.TheVariants.{Null, Assignment}
+use Rattle.spx_core.specs.Commands.{Command, Skip, Set, Then, Choose, commands}
 use Rattle.spx_core.specs.Formals.{formals}
 use Rattle.spx_core.specs.Places.{place_of}
 use Rattle.spx_core.specs.Uses.{variable_of}
@@ -20,18 +19,22 @@ use Rattle.spx_term.specs.declared.value.Value.{Value}
 use Rattle.spx_meaning.specs.declared.bad.BadKind.{BadKind}
 use Rattle.spx_meaning.specs.declared.bad.BadKind.TheVariants.{Pre, Range, Unset}
 use Rattle.spx_meaning.specs.Stores.{Store, look, put, declared, type_of, is_in}
-use Rattle.spx_meaning.specs.Evaluation.{Answer, Gives, Fails, eval}
+use Rattle.spx_term.specs.Meaning.{as_truth}
+use Rattle.spx_meaning.specs.Frames.{Frame, around}
+use Rattle.spx_meaning.specs.Evaluation.{Answer, Gives, Fails, Waits, eval}
 use Rattle.spx_meaning.specs.Annotations.{truth}
 
--- how a run ends: at its end, at a check that fails, or not within its bound
+-- how a run ends: at its end, by an exit from the loop around it, at a check that fails, or not within its bound
 pub data Outcome : Type 0 where
   Ended : Store → Outcome
+  Left : Store → Outcome
   Bad : BadKind → Place → Outcome
   Later : Outcome
 
 -- what follows a run that has ended
 abbrev pub then_do : Outcome → (Store → Outcome) → Outcome
 then_do (Ended s) go = go s
+then_do (Left s) go = Left s
 then_do (Bad kind place) go = Bad kind place
 then_do Later go = Later
 
@@ -39,6 +42,7 @@ then_do Later go = Later
 abbrev pub use_value : Answer → (Value → Outcome) → Outcome
 use_value (Gives x) go = go x
 use_value (Fails kind place) go = Bad kind place
+use_value Waits go = Later
 
 -- a test that fails is bad
 abbrev pub demand : Bool → BadKind → Place → Store → Outcome
@@ -50,15 +54,12 @@ abbrev pub assign : Program → Place → Option VarId → Store → Value → O
 assign p place (Some v) s x = demand (is_in (type_of p v) x) Range place (put s v (Some x))
 assign p place None s x = Ended s
 
--- a statement
-abbrev pub run_one : Program → ℕ → Store → CoreStmt → Outcome
-run_one p n s (Null place) = Ended s
-run_one p n s (Assignment target e) = use_value (eval s e) (assign p (place_of e) (variable_of target.root.entity) s)
-
--- statements, one after another; the bound is handed down to each
-abbrev pub run : Program → ℕ → Store → List CoreStmt → Outcome
-run p n s [] = Ended s
-run p n s (stmt ∷ rest) = then_do (run_one p n s stmt) (λ t. run p n t rest)
+-- A command; the bound is handed down to each part.
+abbrev pub run : Frame → ℕ → Store → Command → Outcome
+run f n s Skip = Ended s
+run f n s (Set target e) = use_value (eval f n s e) (assign f.program (place_of e) (variable_of target.root.entity) s)
+run f n s (Then a b) = then_do (run f n s a) (λ t. run f n t b)
+run f n s (Choose place condition a b) = use_value (eval f n s condition) (λ x. if as_truth x then run f n s a else run f n s b)
 
 -- `out` formals and locals
 abbrev pub is_unset_kind : VarKind → Bool
@@ -85,22 +86,26 @@ abbrev pub entry_of : Program → Sub → Store → Store
 entry_of p sub s = cleared p s sub.vars
 
 -- whether a precondition is true; none is true
-abbrev pub pre_holds : Program → Option CorePrecondition → Store → Bool
-pre_holds p (Some pre) s = truth p s s pre.condition
-pre_holds p None s = true
+abbrev pub pre_holds : Frame → Option CorePrecondition → Store → Bool
+pre_holds f (Some pre) s = truth f s pre.condition
+pre_holds f None s = true
 
 -- the precondition, looked at on entry
-abbrev pub demand_pre : Program → Option CorePrecondition → Store → Outcome
-demand_pre p (Some pre) s = demand (truth p s s pre.condition) Pre pre.place s
-demand_pre p None s = Ended s
+abbrev pub demand_pre : Frame → Option CorePrecondition → Store → Outcome
+demand_pre f (Some pre) s = demand (truth f s pre.condition) Pre pre.place s
+demand_pre f None s = Ended s
 
 -- whether each export is set
 abbrev pub exports_set : Sub → Store → Bool
 exports_set sub s = list_all (λ v. not (exports v sub) || is_some (look s v)) (formals sub)
 
--- a call: `out` formals and locals start unset, the precondition is looked at, the body is run, each export must be set at its end
+-- the body, from the store with which it begins: the precondition is looked at, the statements are run, and each export must be set at the end
+abbrev pub run_body : Frame → ℕ → Outcome
+run_body f n =
+    then_do (demand_pre f f.sub.pre f.entry) (λ entry.
+    then_do (run f n entry (commands f.sub.statements)) (λ t.
+    demand (exports_set f.sub t) Unset f.sub.end t))
+
+-- a call: `out` formals and locals start unset
 abbrev pub call : Program → ℕ → Sub → Store → Outcome
-call p n sub s =
-    then_do (demand_pre p sub.pre (entry_of p sub s)) (λ entry.
-    then_do (run p n entry sub.statements) (λ t.
-    demand (exports_set sub t) Unset sub.end t))
+call p n sub s = run_body (around p sub (entry_of p sub s)) n

@@ -1,13 +1,13 @@
 -- The value of an expression depends on the variables that it uses.
-use Rattle.std.proofs.Common.{◌≡◌, true, Option, Some, None, refl, sym, ap, ap₂, ◌∙◌}
+use Rattle.std.proofs.Common.{◌≡◌, ℕ, true, Option, Some, None, refl, sym, ap, ap₂, ◌∙◌}
 use Rattle.std.proofs.lemmas.Bool.{eq-eqb}
 use Rattle.spx_text.specs.declared.place.Place.{Place}
 use Rattle.spx_core.specs.declared.entity.VarId.{VarId}
-use Rattle.spx_core.specs.declared.program.Program.{Program}
 use Rattle.spx_core.specs.declared.expression.CoreExpr.{CoreExpr}
 use Rattle.spx_core.specs.declared.expression.CoreExpr.TheVariants.{Prefix, Infix}
 use Rattle.spx_core.specs.Uses.{is_same, uses, variable_of}
 use Rattle.spx_meaning.specs.Stores.{Store, look, type_of}
+use Rattle.spx_meaning.specs.Frames.{Frame}
 use Rattle.spx_meaning.specs.Literals.{literal}
 use Rattle.spx_meaning.specs.Evaluation.{with_value, applied, applied_sign, checked, signed, read, read_at, static_or, eval, eval-Number, eval-Name, eval-Attribute, eval-Parenthesized, eval-Prefix, eval-Infix}
 use Rattle.spx_meaning.specs.Annotations.{reading_of, seen, meant, meant_step}
@@ -18,9 +18,9 @@ use Rattle.spx_core.proofs.Callers.Expressions.{Cases, induct, fold-Number, fold
 abbrev pub AgreeOnUses : CoreExpr → Store → Store → Type 0
 AgreeOnUses e s t = (v : VarId) → uses v e ≡ true → look s v ≡ look t v
 
-module _ (s t : Store) where
+module _ (f g : Frame) (n m : ℕ) (s t : Store) where
   abbrev Same : CoreExpr → Type 0
-  Same e = AgreeOnUses e s t → eval s e ≡ eval t e
+  Same e = AgreeOnUses e s t → eval f n s e ≡ eval g m t e
 
   read_same : (place : Place) (o : Option VarId) → ((v : VarId) → is_same v o ≡ true → look s v ≡ look t v) → read s place o ≡ read t place o
   read_same place (Some v) agree = ap (read_at place) (agree v (eq-eqb v.0 v.0 refl))
@@ -28,52 +28,53 @@ module _ (s t : Store) where
 
   same_cases : Cases Same
   same_cases = record {
-    number = λ n place agree. eval-Number s n place ∙ sym (eval-Number t n place);
-    name = λ name agree. eval-Name s name ∙ read_same name.name.place (variable_of name.entity) (λ v h. agree v (uses-Name v name ∙ h)) ∙ sym (eval-Name t name);
-    attribute = λ prefix designator agree. eval-Attribute s prefix designator ∙ sym (eval-Attribute t prefix designator);
+    number = λ k place agree. eval-Number f n s k place ∙ sym (eval-Number g m t k place);
+    name = λ name agree. eval-Name f n s name ∙ read_same name.name.place (variable_of name.entity) (λ v h. agree v (uses-Name v name ∙ h)) ∙ sym (eval-Name g m t name);
+    attribute = λ prefix designator agree. eval-Attribute f n s prefix designator ∙ sym (eval-Attribute g m t prefix designator);
     parenthesized = λ place a p agree.
-        eval-Parenthesized s place a ∙ p (λ v h. agree v (uses-Parenthesized v place a ∙ h)) ∙ sym (eval-Parenthesized t place a);
+        eval-Parenthesized f n s place a ∙ p (λ v h. agree v (uses-Parenthesized v place a ∙ h)) ∙ sym (eval-Parenthesized g m t place a);
     prefix = λ op place a p agree.
-        eval-Prefix s op place a
+        eval-Prefix f n s op place a
         ∙ ap (λ x. static_or (literal (Prefix op place a)) (with_value x (λ u. signed op place u))) (p (λ v h. agree v (uses-Prefix v op place a ∙ h)))
-        ∙ sym (eval-Prefix t op place a);
+        ∙ sym (eval-Prefix g m t op place a);
     «infix» = λ op place a b p q agree.
-        eval-Infix s op place a b
+        eval-Infix f n s op place a b
         ∙ ap₂ (λ x y. static_or (literal (Infix op place a b)) (with_value x (λ u. with_value y (λ w. checked op place (applied op u w)))))
         (p (λ v h. agree v (uses_left v op place a b h))) (q (λ v h. agree v (uses_right v op place a b h)))
-        ∙ sym (eval-Infix t op place a b);
+        ∙ sym (eval-Infix g m t op place a b);
   }
 
+  -- it does not depend on what surrounds it either
   pub eval_same : (e : CoreExpr) → Same e
   eval_same = induct Same same_cases
 
 -- what an annotation means depends on the variables that it uses
-module _ (p : Program) (s t : Store) where
+module _ (f g : Frame) (one : f.program ≡ g.program) (s t : Store) where
   abbrev MeansSame : CoreExpr → Type 0
-  MeansSame e = AgreeOnUses e s t → meant p s s e ≡ meant p t t e
+  MeansSame e = AgreeOnUses e s t → meant f s e ≡ meant g t e
 
-  reading_same : (o : Option VarId) → ((v : VarId) → is_same v o ≡ true → look s v ≡ look t v) → reading_of p s o ≡ reading_of p t o
-  reading_same (Some v) agree = ap (seen (type_of p v)) (agree v (eq-eqb v.0 v.0 refl))
+  reading_same : (o : Option VarId) → ((v : VarId) → is_same v o ≡ true → look s v ≡ look t v) → reading_of f.program s o ≡ reading_of g.program t o
+  reading_same (Some v) agree = ap₂ (λ p u. seen (type_of p v) u) one (agree v (eq-eqb v.0 v.0 refl))
   reading_same None agree = refl
 
   means_cases : Cases MeansSame
   means_cases = record {
-    number = λ n place agree. fold-Number (meant_step p s s) n place ∙ sym (fold-Number (meant_step p t t) n place);
+    number = λ n place agree. fold-Number (meant_step f s) n place ∙ sym (fold-Number (meant_step g t) n place);
     name = λ name agree.
-        fold-Name (meant_step p s s) name ∙ reading_same (variable_of name.entity) (λ v h. agree v (uses-Name v name ∙ h)) ∙ sym (fold-Name (meant_step p t t) name);
-    attribute = λ prefix designator agree. fold-Attribute (meant_step p s s) prefix designator ∙ sym (fold-Attribute (meant_step p t t) prefix designator);
-    parenthesized = λ place a f agree.
-        fold-Parenthesized (meant_step p s s) place a
-        ∙ f (λ v h. agree v (uses-Parenthesized v place a ∙ h))
-        ∙ sym (fold-Parenthesized (meant_step p t t) place a);
-    prefix = λ op place a f agree.
-        fold-Prefix (meant_step p s s) op place a
-        ∙ ap (applied_sign op) (f (λ v h. agree v (uses-Prefix v op place a ∙ h)))
-        ∙ sym (fold-Prefix (meant_step p t t) op place a);
-    «infix» = λ op place a b f g agree.
-        fold-Infix (meant_step p s s) op place a b
-        ∙ ap₂ (applied op) (f (λ v h. agree v (uses_left v op place a b h))) (g (λ v h. agree v (uses_right v op place a b h)))
-        ∙ sym (fold-Infix (meant_step p t t) op place a b);
+        fold-Name (meant_step f s) name ∙ reading_same (variable_of name.entity) (λ v h. agree v (uses-Name v name ∙ h)) ∙ sym (fold-Name (meant_step g t) name);
+    attribute = λ prefix designator agree. fold-Attribute (meant_step f s) prefix designator ∙ sym (fold-Attribute (meant_step g t) prefix designator);
+    parenthesized = λ place a p agree.
+        fold-Parenthesized (meant_step f s) place a
+        ∙ p (λ v h. agree v (uses-Parenthesized v place a ∙ h))
+        ∙ sym (fold-Parenthesized (meant_step g t) place a);
+    prefix = λ op place a p agree.
+        fold-Prefix (meant_step f s) op place a
+        ∙ ap (applied_sign op) (p (λ v h. agree v (uses-Prefix v op place a ∙ h)))
+        ∙ sym (fold-Prefix (meant_step g t) op place a);
+    «infix» = λ op place a b p q agree.
+        fold-Infix (meant_step f s) op place a b
+        ∙ ap₂ (applied op) (p (λ v h. agree v (uses_left v op place a b h))) (q (λ v h. agree v (uses_right v op place a b h)))
+        ∙ sym (fold-Infix (meant_step g t) op place a b);
   }
 
   pub meant_same : (e : CoreExpr) → MeansSame e

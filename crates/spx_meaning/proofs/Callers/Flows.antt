@@ -1,61 +1,137 @@
--- What a variable is after two runs of statements is decided by what flows to it.
-use Rattle.std.proofs.Common.{◌≡◌, ℕ, Bool, true, false, List, [], ◌∷◌, Some, refl, sym, ap, ◌∙◌, inl, inr}
+-- What a variable is after two runs of a command is decided by what flows to it.
+use Rattle.std.proofs.Common.{◌≡◌, ℕ, Bool, true, false, ◌||◌, Some, refl, sym, ap, ◌∙◌, subst, inl, inr}
+use Rattle.std.specs.Prelude.{⊤, if◌then◌else◌}
 use Rattle.std.proofs.lemmas.Bool.{or_parts}
+use Rattle.spx_text.specs.declared.place.Place.{Place}
 use Rattle.spx_core.specs.declared.entity.VarId.{VarId}
-use Rattle.spx_core.specs.declared.program.Program.{Program}
-use Rattle.spx_core.specs.declared.statement.CoreStmt.{CoreStmt}
-use Rattle.spx_core.specs.declared.statement.CoreStmt.TheVariants.{Null, Assignment}
+use Rattle.spx_core.specs.declared.name.Reference.{Reference}
+use Rattle.spx_core.specs.declared.expression.CoreExpr.{CoreExpr}
+use Rattle.spx_core.specs.Commands.{Command, Skip, Set, Then, Choose}
 use Rattle.spx_core.specs.Uses.{denotes}
-use Rattle.spx_core.specs.Effects.{effect, effects, sets, defines}
+use Rattle.spx_core.specs.Effects.{effect, sets}
 use Rattle.spx_core.specs.Flow.{MayFlow}
+use Rattle.spx_term.specs.Meaning.{as_truth}
 use Rattle.spx_meaning.specs.Stores.{Store, look}
-use Rattle.spx_meaning.specs.Runs.{Ended, run_one, run}
+use Rattle.spx_meaning.specs.Frames.{Frame}
+use Rattle.spx_meaning.specs.Evaluation.{eval}
+use Rattle.spx_meaning.specs.Runs.{Outcome, Ended, Left, Bad, Later, then_do, use_value, run}
 use Rattle.spx_meaning.specs.Laws.{Agree}
-use Rattle.spx_core.proofs.Callers.FlowLaws.{reads_uses}
+use Rattle.spx_core.proofs.Callers.FlowLaws.{keeps, reads_uses}
 use Rattle.spx_meaning.proofs.Callers.Evaluation.{eval_same}
-use Rattle.spx_meaning.proofs.Callers.Runs.{same_store, same_gift, then_ended, Assigns, assignment}
+use Rattle.spx_meaning.proofs.Callers.Runs.{same_store, same_gift, then_ended, use_ended, Assigns, assignment}
 
--- ---- a variable that no statement sets keeps its value
+-- ---- a variable that no part of a command sets keeps its value
 
-pub kept_one : (p : Program) (n : ℕ) (s s' : Store) (stmt : CoreStmt) (v : VarId) → run_one p n s stmt ≡ Ended s' → sets v (effect stmt) ≡ false → look s' v ≡ look s v
-kept_one p n s s' (Null place) v ended h = ap (λ x. look x v) (sym (same_store s s' ended))
-kept_one p n s s' (Assignment target e) v ended h = let a : Assigns target e s s' = assignment p n s s' target e ended in a.kept v h
+-- what holds where either arm has ended holds where the chosen one has
+either_arm : (b : Bool) (o o' : Outcome) (t : Store) (P : Type 0) → (o ≡ Ended t → P) → (o' ≡ Ended t → P) → (if b then o else o') ≡ Ended t → P
+either_arm true o o' t P first second ended = first ended
+either_arm false o o' t P first second ended = second ended
 
-pub kept : (p : Program) (n : ℕ) (s s' : Store) (stmts : List CoreStmt) (v : VarId) → run p n s stmts ≡ Ended s' → defines v stmts ≡ false → look s' v ≡ look s v
-kept p n s s' [] v ended h = ap (λ x. look x v) (sym (same_store s s' ended))
-kept p n s s' (stmt ∷ rest) v ended h =
+pub kept : (f : Frame) (n : ℕ) (s s' : Store) (c : Command) (v : VarId) → run f n s c ≡ Ended s' → sets v (effect c) ≡ false → look s' v ≡ look s v
+kept f n s s' Skip v ended h = ap (λ x. look x v) (sym (same_store s s' ended))
+kept f n s s' (Set target e) v ended h = let a : Assigns f n target e s s' = assignment f n s s' target e ended in a.kept v h
+kept f n s s' (Then a b) v ended h =
     let first = then_ended _ _ s' ended in
-    let unset = or_parts (sets v (effect stmt)) (defines v rest) h in
-    kept p n first.0 s' rest v first.2 unset.1 ∙ kept_one p n s first.0 stmt v first.1 unset.0
+    let unset = or_parts (sets v (effect a)) (sets v (effect b)) h in
+    kept f n first.0 s' b v first.2 unset.1 ∙ kept f n s first.0 a v first.1 unset.0
+kept f n s s' (Choose place condition a b) v ended h =
+    let used = use_ended (eval f n s condition) (λ x. if as_truth x then run f n s a else run f n s b) s' ended in
+    let unset = or_parts (sets v (effect a)) (sets v (effect b)) h in
+    either_arm (as_truth used.0) (run f n s a) (run f n s b) s' (look s' v ≡ look s v) (λ e. kept f n s s' a v e unset.0) (λ e. kept f n s s' b v e unset.1) used.2
 
--- ---- two runs
+-- ---- pairs of runs
 
 -- each variable's values in the two stores after them are decided by what flows to it from the two before
 abbrev pub Determined : (VarId → VarId → Type 0) → (s t s' t' : Store) → Type 0
 Determined R s t s' t' = (w : VarId) → Agree (λ u. R u w) s t → look s' w ≡ look t' w
 
-determined_one : (p : Program) (n m : ℕ) (s t s' t' : Store) (stmt : CoreStmt) → run_one p n s stmt ≡ Ended s' → run_one p m t stmt ≡ Ended t' → Determined (MayFlow (effect stmt)) s t s' t'
-determined_one p n m s t s' t' (Null place) ended ended' w agree =
-    ap (λ x. look x w) (sym (same_store s s' ended)) ∙ agree w refl ∙ ap (λ x. look x w) (same_store t t' ended')
-determined_one p n m s t s' t' (Assignment target e) ended ended' w agree = by_target (denotes w target.root) refl
-  where
-    a : Assigns target e s s'
-    a = assignment p n s s' target e ended
+-- where both runs have ended, the values after them are so decided
+abbrev pub Pair : (VarId → VarId → Type 0) → (s t : Store) → Outcome → Outcome → Type 0
+Pair R s t (Ended s') (Ended t') = Determined R s t s' t'
+Pair R s t (Ended s') (Left t') = ⊤
+Pair R s t (Ended s') (Bad kind place) = ⊤
+Pair R s t (Ended s') Later = ⊤
+Pair R s t (Left s') o = ⊤
+Pair R s t (Bad kind place) o = ⊤
+Pair R s t Later o = ⊤
 
-    b : Assigns target e t t'
-    b = assignment p m t t' target e ended'
+pair_of : (R : VarId → VarId → Type 0) (s t : Store) (o o' : Outcome) → ((s' t' : Store) → o ≡ Ended s' → o' ≡ Ended t' → Determined R s t s' t') → Pair R s t o o'
+pair_of R s t (Ended s') (Ended t') h = h s' t' refl refl
+pair_of R s t (Ended s') (Left t') h = tt
+pair_of R s t (Ended s') (Bad kind place) h = tt
+pair_of R s t (Ended s') Later h = tt
+pair_of R s t (Left s') o h = tt
+pair_of R s t (Bad kind place) o h = tt
+pair_of R s t Later o h = tt
 
-    by_target : (d : Bool) → denotes w target.root ≡ d → look s' w ≡ look t' w
-    by_target true d =
-        let same : a.value ≡ b.value = same_gift a.value b.value (sym a.gives ∙ eval_same s t e (λ u h. agree u (inl (d, reads_uses u e ∙ h))) ∙ b.gives) in
-        a.given w d ∙ ap Some same ∙ sym (b.given w d)
-    by_target false d = a.kept w d ∙ agree w (inr (d, refl)) ∙ sym (b.kept w d)
+-- one after the other
+pair_composed : (R Q : VarId → VarId → Type 0) (s t s' t' : Store) (o o' : Outcome) → Determined R s t s' t' → Pair Q s' t' o o' → Pair (λ u w. (v : VarId) × R u v × Q v w) s t o o'
+pair_composed R Q s t s' t' (Ended x) (Ended y) first second = λ w agree. second w (λ v after. first v (λ u here. agree u (v, here, after)))
+pair_composed R Q s t s' t' (Ended x) (Left y) first second = tt
+pair_composed R Q s t s' t' (Ended x) (Bad kind place) first second = tt
+pair_composed R Q s t s' t' (Ended x) Later first second = tt
+pair_composed R Q s t s' t' (Left x) o first second = tt
+pair_composed R Q s t s' t' (Bad kind place) o first second = tt
+pair_composed R Q s t s' t' Later o first second = tt
 
-pub determined : (p : Program) (n m : ℕ) (s t s' t' : Store) (stmts : List CoreStmt) → run p n s stmts ≡ Ended s' → run p m t stmts ≡ Ended t' → Determined (MayFlow (effects stmts)) s t s' t'
-determined p n m s t s' t' [] ended ended' w agree =
-    ap (λ x. look x w) (sym (same_store s s' ended)) ∙ agree w refl ∙ ap (λ x. look x w) (same_store t t' ended')
-determined p n m s t s' t' (stmt ∷ rest) ended ended' w agree =
-    let a = then_ended _ _ s' ended in
-    let b = then_ended _ _ t' ended' in
-    determined p n m a.0 b.0 s' t' rest a.2 b.2 w
-    (λ v after. determined_one p n m s t a.0 b.0 stmt a.1 b.1 v (λ u here. agree u (v, here, after)))
+pair_then : (R Q : VarId → VarId → Type 0) (s t : Store) (o o' : Outcome) (go go' : Store → Outcome) → Pair R s t o o' → ((s' t' : Store) → Pair Q s' t' (go s') (go' t'))
+    → Pair (λ u w. (v : VarId) × R u v × Q v w) s t (then_do o go) (then_do o' go')
+pair_then R Q s t (Ended s') (Ended t') go go' first second = pair_composed R Q s t s' t' (go s') (go' t') first (second s' t')
+pair_then R Q s t (Ended s') (Left t') go go' first second = pair_of _ s t (go s') (Left t') (λ x y e d. absurd (cc))
+pair_then R Q s t (Ended s') (Bad kind place) go go' first second = pair_of _ s t (go s') (Bad kind place) (λ x y e d. absurd (cc))
+pair_then R Q s t (Ended s') Later go go' first second = pair_of _ s t (go s') Later (λ x y e d. absurd (cc))
+pair_then R Q s t (Left s') o go go' first second = tt
+pair_then R Q s t (Bad kind place) o go go' first second = tt
+pair_then R Q s t Later o go go' first second = tt
+
+-- ---- two runs
+
+-- what a pair says where both have ended
+pub pair_ended : (R : VarId → VarId → Type 0) (s t s' t' : Store) (o o' : Outcome) → Pair R s t o o' → o ≡ Ended s' → o' ≡ Ended t' → Determined R s t s' t'
+pair_ended R s t s' t' o o' pair ended ended' = subst (λ z. Pair R s t (Ended s') z) ended' (subst (λ z. Pair R s t z o') ended pair)
+
+module _ (f g : Frame) (n m : ℕ) where
+  pair_set : (s t : Store) (target : Reference) (e : CoreExpr) → Pair (MayFlow (effect (Set target e))) s t (run f n s (Set target e)) (run g m t (Set target e))
+  pair_set s t target e = pair_of _ s t (run f n s (Set target e)) (run g m t (Set target e)) determined
+    where
+      by_target : (s' t' : Store) → Assigns f n target e s s' → Assigns g m target e t t' → (w : VarId) → Agree (λ u. MayFlow (effect (Set target e)) u w) s t → (d : Bool) → denotes w target.root ≡ d → look s' w ≡ look t' w
+      by_target s' t' a b w agree true d =
+          let same : a.value ≡ b.value = same_gift a.value b.value (sym a.gives ∙ eval_same f g n m s t e (λ u h. agree u (inl (d, reads_uses u e ∙ h))) ∙ b.gives) in
+          a.given w d ∙ ap Some same ∙ sym (b.given w d)
+      by_target s' t' a b w agree false d = a.kept w d ∙ agree w (inr (d, refl)) ∙ sym (b.kept w d)
+
+      determined : (s' t' : Store) → run f n s (Set target e) ≡ Ended s' → run g m t (Set target e) ≡ Ended t' → Determined (MayFlow (effect (Set target e))) s t s' t'
+      determined s' t' ended ended' w agree = by_target s' t' (assignment f n s s' target e ended) (assignment g m t t' target e ended') w agree (denotes w target.root) refl
+
+  module _ (s t : Store) (place : Place) (condition : CoreExpr) (a b : Command) (first : Pair (MayFlow (effect a)) s t (run f n s a) (run g m t a)) (second : Pair (MayFlow (effect b)) s t (run f n s b) (run g m t b)) where
+    abbrev choice : Command
+    choice = Choose place condition a b
+
+    -- where both choose one arm, its flows decide
+    one_arm : (s' t' : Store) (w : VarId) → Agree (λ u. MayFlow (effect choice) u w) s t → (c : Bool) → (if c then run f n s a else run f n s b) ≡ Ended s' → (if c then run g m t a else run g m t b) ≡ Ended t' → look s' w ≡ look t' w
+    one_arm s' t' w agree true ended ended' = pair_ended (MayFlow (effect a)) s t s' t' (run f n s a) (run g m t a) first ended ended' w (λ u flow. agree u (inl flow))
+    one_arm s' t' w agree false ended ended' = pair_ended (MayFlow (effect b)) s t s' t' (run f n s b) (run g m t b) second ended ended' w (λ u flow. agree u (inr (inl flow)))
+
+    -- what an arm sets comes from the condition, and what no arm sets is kept
+    by_set : (s' t' : Store) → run f n s choice ≡ Ended s' → run g m t choice ≡ Ended t' → (w : VarId) → Agree (λ u. MayFlow (effect choice) u w) s t → (d : Bool) → (sets w (effect a) || sets w (effect b)) ≡ d → look s' w ≡ look t' w
+    by_set s' t' ended ended' w agree true is =
+        let x = use_ended (eval f n s condition) (λ z. if as_truth z then run f n s a else run f n s b) s' ended in
+        let y = use_ended (eval g m t condition) (λ z. if as_truth z then run g m t a else run g m t b) t' ended' in
+        let same : y.0 ≡ x.0 = same_gift y.0 x.0 (sym y.1 ∙ sym (eval_same f g n m s t condition (λ u h. agree u (inr (inr (is, reads_uses u condition ∙ h))))) ∙ x.1) in
+        one_arm s' t' w agree (as_truth x.0) x.2 (subst (λ z. (if as_truth z then run g m t a else run g m t b) ≡ Ended t') same y.2)
+    by_set s' t' ended ended' w agree false is =
+        let itself : MayFlow (effect a) w w = (keeps (effect a) w w (or_parts (sets w (effect a)) (sets w (effect b)) is).0).1 refl in
+        kept f n s s' choice w ended is ∙ agree w (inl itself) ∙ sym (kept g m t t' choice w ended' is)
+
+    pair_choose : Pair (MayFlow (effect choice)) s t (run f n s choice) (run g m t choice)
+    pair_choose = pair_of _ s t (run f n s choice) (run g m t choice) (λ s' t' ended ended' w agree. by_set s' t' ended ended' w agree (sets w (effect a) || sets w (effect b)) refl)
+
+  -- the flows of a command decide any two runs of it
+  pub pairs : (s t : Store) (c : Command) → Pair (MayFlow (effect c)) s t (run f n s c) (run g m t c)
+  pairs s t Skip = λ w agree. agree w refl
+  pairs s t (Set target e) = pair_set s t target e
+  pairs s t (Then a b) = pair_then (MayFlow (effect a)) (MayFlow (effect b)) s t (run f n s a) (run g m t a) (λ x. run f n x b) (λ y. run g m y b) (pairs s t a) (λ s' t'. pairs s' t' b)
+  pairs s t (Choose place condition a b) = pair_choose s t place condition a b (pairs s t a) (pairs s t b)
+
+pub determined : (f g : Frame) (n m : ℕ) (s t s' t' : Store) (c : Command) → run f n s c ≡ Ended s' → run g m t c ≡ Ended t' → Determined (MayFlow (effect c)) s t s' t'
+determined f g n m s t s' t' c ended ended' = pair_ended (MayFlow (effect c)) s t s' t' (run f n s c) (run g m t c) (pairs f g n m s t c) ended ended'

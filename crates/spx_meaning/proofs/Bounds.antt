@@ -1,0 +1,67 @@
+-- A result other than Later is the same at every greater bound.
+use Rattle.std.proofs.Common.{◌≡◌, ◌≢◌, ℕ, ◌≤◌, Bool, true, false, refl, sym, ap, ap₂, ◌∙◌}
+use Rattle.std.specs.Prelude.{if◌then◌else◌}
+use Rattle.spx_core.specs.declared.program.Program.{Program}
+use Rattle.spx_core.specs.declared.expression.CoreExpr.{CoreExpr}
+use Rattle.spx_core.specs.declared.subprogram.Sub.{Sub}
+use Rattle.spx_core.specs.Commands.{Command, Skip, Set, Then, Choose, commands}
+use Rattle.spx_core.specs.Places.{place_of}
+use Rattle.spx_core.specs.Uses.{variable_of}
+use Rattle.spx_term.specs.declared.value.Value.{Value}
+use Rattle.spx_term.specs.Meaning.{as_truth}
+use Rattle.spx_meaning.specs.declared.bad.BadKind.TheVariants.{Unset}
+use Rattle.spx_meaning.specs.Stores.{Store}
+use Rattle.spx_meaning.specs.Frames.{Frame, around}
+use Rattle.spx_meaning.specs.Evaluation.{Answer, Gives, Fails, Waits, eval}
+use Rattle.spx_meaning.specs.Runs.{Outcome, Ended, Left, Bad, Later, then_do, use_value, assign, demand, demand_pre, entry_of, exports_set, run, run_body}
+use Rattle.spx_meaning.specs.Laws.{CallsAreSettled, IsSettled, RunsAreSettled}
+use Rattle.spx_meaning.proofs.Callers.Evaluation.{eval_same}
+
+-- an outcome other than Later is kept
+abbrev Kept : Outcome → Outcome → Type 0
+Kept o o' = o ≢ Later → o' ≡ o
+
+kept_then : (o o' : Outcome) (go go' : Store → Outcome) → Kept o o' → ((t : Store) → Kept (go t) (go' t)) → Kept (then_do o go) (then_do o' go')
+kept_then (Ended t) o' go go' first second there = ap (λ z. then_do z go') (first (λ e. absurd (cc))) ∙ second t there
+kept_then (Left t) o' go go' first second there = ap (λ z. then_do z go') (first (λ e. absurd (cc)))
+kept_then (Bad kind place) o' go go' first second there = ap (λ z. then_do z go') (first (λ e. absurd (cc)))
+kept_then Later o' go go' first second there = absurd (there refl)
+
+kept_use : (a : Answer) (go go' : Value → Outcome) → ((x : Value) → Kept (go x) (go' x)) → Kept (use_value a go) (use_value a go')
+kept_use (Gives x) go go' more there = more x there
+kept_use (Fails kind place) go go' more there = refl
+kept_use Waits go go' more there = refl
+
+kept_arm : (b : Bool) (o o' p p' : Outcome) → Kept o p → Kept o' p' → Kept (if b then o else o') (if b then p else p')
+kept_arm true o o' p p' first second = first
+kept_arm false o o' p p' first second = second
+
+-- an evaluation is the same at every bound
+eval_at : (f : Frame) (n m : ℕ) (s : Store) (e : CoreExpr) → eval f n s e ≡ eval f m s e
+eval_at f n m s e = eval_same f f n m s s e (λ v used. refl)
+
+kept_use_at : (a b : Answer) (go go' : Value → Outcome) → a ≡ b → ((x : Value) → Kept (go x) (go' x)) → Kept (use_value a go) (use_value b go')
+kept_use_at a b go go' same more there = ap (λ z. use_value z go') (sym same) ∙ kept_use a go go' more there
+
+pub runs_kept : (f : Frame) (n m : ℕ) → n ≤ m → (s : Store) (c : Command) → Kept (run f n s c) (run f m s c)
+runs_kept f n m less s Skip = λ there. refl
+runs_kept f n m less s (Set target e) = λ there.
+    ap (λ a. use_value a (assign f.program (place_of e) (variable_of target.root.entity) s)) (eval_at f m n s e)
+runs_kept f n m less s (Then a b) = kept_then (run f n s a) (run f m s a) (λ t. run f n t b) (λ t. run f m t b) (runs_kept f n m less s a) (λ t. runs_kept f n m less t b)
+runs_kept f n m less s (Choose place condition a b) =
+    kept_use_at (eval f n s condition) (eval f m s condition) (λ x. if as_truth x then run f n s a else run f n s b) (λ x. if as_truth x then run f m s a else run f m s b) (eval_at f n m s condition)
+    (λ x. kept_arm (as_truth x) (run f n s a) (run f n s b) (run f m s a) (run f m s b) (runs_kept f n m less s a) (runs_kept f n m less s b))
+
+pub runs_settled : RunsAreSettled
+runs_settled f s c n m less there = runs_kept f n m less s c there
+
+same : (o : Outcome) → Kept o o
+same o there = refl
+
+bodies_kept : (f : Frame) (n m : ℕ) → n ≤ m → Kept (run_body f n) (run_body f m)
+bodies_kept f n m less =
+    kept_then (demand_pre f f.sub.pre f.entry) (demand_pre f f.sub.pre f.entry) _ _ (same _)
+    (λ entry. kept_then (run f n entry (commands f.sub.statements)) (run f m entry (commands f.sub.statements)) _ _ (runs_kept f n m less entry (commands f.sub.statements)) (λ t. same _))
+
+pub calls_settled : CallsAreSettled
+calls_settled p sub s n m less there = bodies_kept (around p sub (entry_of p sub s)) n m less there

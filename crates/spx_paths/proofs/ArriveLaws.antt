@@ -1,0 +1,107 @@
+-- Walks along arms and lists of paths.
+use Rattle.std.proofs.Common.{◌≡◌, ◌+◌, ◌<◌, ℕ, List, [], ◌∷◌, ◌++◌, map, length, get_or, drop, add-one, drop-cons, refl, sym, subst, ap, ap₂, ◌∙◌}
+use Rattle.std.proofs.lemmas.List.{append-nil, append_assoc, map-id}
+use Rattle.std.proofs.lemmas.Option.{get_or_from_slice_get}
+use Rattle.std.specs.Prelude.{Some, None, slice_get}
+use Rattle.spx_core.specs.declared.program.Program.{Program}
+use Rattle.spx_core.specs.declared.statement.CoreArm.{CoreArm, out-CoreArm, fold_out-CoreArm}
+use Rattle.spx_core.specs.declared.statement.CoreStmt.{CoreStmt, fold_out-CoreStmt}
+use Rattle.spx_core.specs.declared.statement.CoreStmt.TheVariants.{outs-Null, outs-Assignment, outs-If}
+use Rattle.spx_core.specs.declared.statement.CoreStmt.TheVariants as stmt
+use Rattle.spx_core.specs.declared.expression.CoreExpr.{CoreExpr}
+use Rattle.spx_core.specs.declared.name.Reference.{Reference}
+use Rattle.spx_tree.specs.declared.statement.Closing.{Closing}
+use Rattle.spx_text.specs.declared.place.Place.{Place}
+use Rattle.spx_core.specs.declared.subprogram.Sub.{Sub}
+use Rattle.spx_core.specs.Commands.{Command, Set, Skip, command, commands}
+use Rattle.spx_term.specs.declared.path.PathStep.{PathStep}
+use Rattle.spx_term.specs.Paths.{branches}
+use Rattle.spx_term.specs.Steps.{Tree, Cut}
+use Rattle.spx_paths.specs.declared.path.Path.{Path}
+use Rattle.spx_paths.specs.Prefixes.{Arrive, ArriveArm, ArriveArms, ArriveBefore, ArriveEach, Splits, after, after_each, opening, with_arms, Walked}
+use Rattle.spx_paths.specs.Conditions.{paths}
+use Rattle.spx_paths.specs.Terms.{entry_term}
+use Rattle.spx_paths.specs.Walks.{ending, start_tree, walk}
+use Rattle.spx_paths.proofs.PrefixLaws.{each_more, each_one}
+
+-- a path that splits, and then goes through the body of the arm
+pub arm_arrives : (arm : CoreArm) (old new taken : List PathStep) (found : List Path) → Splits (out-CoreArm arm).condition old new taken → Arrive (commands (out-CoreArm arm).body) taken found → ArriveArm arm old new found
+arm_arrives arm old new taken found splits arrives = λ last p sub rest leave made.
+    rw fold_out-CoreArm
+    (splits (entry_term sub) (walk p sub (commands (out-CoreArm arm).body) rest leave made) (walk p sub last rest leave made)
+    ∙ ap (λ paths. paths ++ after new (walk p sub last rest leave made)) (arrives p sub rest leave made))
+
+-- one part after the other
+pub before_both : (whole part rest : Command → Command) (old middle new : List PathStep) (found more all : List Path) → ArriveBefore whole part old middle found → ArriveBefore part rest middle new more → all ≡ found ++ more
+    → ArriveBefore whole rest old new all
+before_both whole part rest old middle new found more all one two is = λ last p sub next leave made.
+    let tail = after new (walk p sub (rest last) next leave made) in
+    one last p sub next leave made
+    ∙ ap (λ paths. after_each found (next made) ++ paths) (two last p sub next leave made)
+    ∙ sym (append_assoc (after_each found (next made)) (after_each more (next made)) tail)
+    ∙ ap (λ paths. paths ++ tail) (sym (each_more found more (next made)) ∙ ap (λ paths. after_each paths (next made)) (sym is))
+
+-- arms, and then what is done where each condition is false
+pub if_arrives : (arms : List CoreArm) (last : Command) (old new : List PathStep) (found more all : List Path) → ArriveArms arms old new found → Arrive last new more → all ≡ found ++ more → Arrive (with_arms arms last) old all
+if_arrives arms last old new found more all one two is = λ p sub rest leave made.
+    one last p sub rest leave made
+    ∙ ap (λ paths. after_each found (rest made) ++ paths) (two p sub rest leave made)
+    ∙ sym (each_more found more (rest made))
+    ∙ ap (λ paths. after_each paths (rest made)) (sym is)
+
+-- one path more was walked
+pub each_arrive : (c : Command) (before : List Path) (path : Path) (found more all : List Path) → ArriveEach c before found → Arrive c path.steps more → all ≡ found ++ more → ArriveEach c (before ++ path ∷ []) all
+each_arrive c before path found more all one two is = λ p sub rest leave made.
+    each_more before (path ∷ []) (walk p sub c rest leave made)
+    ∙ ap₂ (λ (x y : List (List PathStep)). x ++ y) (one p sub rest leave made) (each_one path (walk p sub c rest leave made) ∙ two p sub rest leave made)
+    ∙ sym (each_more found more (rest made))
+    ∙ ap (λ paths. after_each paths (rest made)) (sym is)
+
+-- the elements from one on
+pub from_one : {A : Type 0} (xs : List A) (i : ℕ) (x : A) → i < length xs → x ≡ get_or xs i x → drop i xs ≡ x ∷ drop (i + 1) xs
+from_one xs i x below is = rw (add-one, drop-cons xs i x, sym is)
+
+-- one arm more was walked
+pub arms_more : (arms : List CoreArm) (i : ℕ) (arm : CoreArm) (old middle new : List PathStep) (found more all : List Path) → i < length arms → arm ≡ get_or arms i arm → ArriveBefore (with_arms arms) (with_arms (drop i arms)) old middle found
+    → ArriveArm arm middle new more → all ≡ found ++ more → ArriveBefore (with_arms arms) (with_arms (drop (i + 1) arms)) old new all
+arms_more arms i arm old middle new found more all below at one two is =
+    before_both (with_arms arms) (with_arms (drop i arms)) (with_arms (drop (i + 1) arms)) old middle new found more all one
+    (subst (λ part. ArriveBefore (with_arms part) (with_arms (drop (i + 1) arms)) middle new more) (sym (from_one arms i arm below at)) (λ last. two (with_arms (drop (i + 1) arms) last)))
+    is
+
+-- at the end of a body
+pub each_ended : (found : List Path) → after_each found Cut ≡ map (λ (path : Path). path.steps) found
+unfolding after_each after
+each_ended [] = refl
+each_ended (path ∷ found) = ap₂ (λ (x : List PathStep) (xs : List (List PathStep)). x ∷ xs) (append-nil path.steps) (each_ended found)
+
+pub all_paths : (tree : Tree) → after [] tree ≡ branches tree
+unfolding after
+all_paths tree = map-id (branches tree)
+
+-- from the start to the end of a body
+pub paths_are : (p : Program) (sub : Sub) (start : List PathStep) (found : List Path) → Walked [] start (opening sub) → Arrive (commands sub.statements) start found → map (λ (path : Path). path.steps) found ≡ paths p sub
+paths_are p sub start found opens arrives =
+    sym (each_ended found)
+    ∙ sym (arrives p sub ending ending 0)
+    ∙ sym (opens (walk p sub (commands sub.statements) ending ending 0))
+    ∙ all_paths (start_tree p sub)
+    ∙ sym (append-nil (branches (start_tree p sub)))
+
+-- the subprogram at a position
+pub the_sub : (subs list : List Sub) (i : ℕ) (first sub : Sub) → list ≡ subs → first ≡ get_or list i first → slice_get subs i ≡ Some sub → first ≡ sub
+the_sub subs list i first sub same is at = is ∙ ap (λ xs. get_or xs i first) same ∙ get_or_from_slice_get subs i sub first at
+
+-- ---- commands of statements
+
+pub null_is : (place : Place) → command (stmt.Null place) ≡ Skip
+null_is place = rw (fold_out-CoreStmt, outs-Null)
+
+pub assignment_is : (target : Reference) (value : CoreExpr) → command (stmt.Assignment target value) ≡ Set target value
+assignment_is target value = rw (fold_out-CoreStmt, outs-Assignment)
+
+pub if_alone_is : (arms : List CoreArm) (closing : Closing) → command (stmt.If arms None closing) ≡ with_arms arms Skip
+if_alone_is arms closing = rw (fold_out-CoreStmt, outs-If)
+
+pub if_else_is : (arms : List CoreArm) (stmts : List CoreStmt) (closing : Closing) → command (stmt.If arms (Some stmts) closing) ≡ with_arms arms (commands stmts)
+if_else_is arms stmts closing = rw (fold_out-CoreStmt, outs-If)

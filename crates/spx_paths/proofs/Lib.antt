@@ -1,0 +1,4 @@
+pub mod CountLaws
+pub mod ClaimLaws
+pub mod PrefixLaws
+pub mod ArriveLaws

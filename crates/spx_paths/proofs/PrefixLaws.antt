@@ -1,0 +1,58 @@
+-- One more step on a path.
+use Rattle.std.proofs.Common.{◌≡◌, List, [], ◌∷◌, ◌++◌, map, refl, ap, ap₂, sym}
+use Rattle.std.proofs.lemmas.List.{append-nil, append_assoc, map-append}
+use Rattle.std.proofs.lemmas.Grind.{flat_map-append}
+use Rattle.spx_text.specs.declared.place.Place.{Place}
+use Rattle.spx_term.specs.declared.condition.CondKind.{CondKind}
+use Rattle.spx_term.specs.declared.path.PathStep.{PathStep}
+use Rattle.spx_term.specs.declared.path.PathStep.TheVariants as step
+use Rattle.spx_term.specs.declared.term.Name.{Name}
+use Rattle.spx_term.specs.declared.term.Term.{Term}
+use Rattle.spx_term.specs.Paths.{branches}
+use Rattle.spx_term.specs.Steps.{Tree, Assume, Assign, Prove, Split, assume_all}
+use Rattle.spx_paths.specs.declared.path.Path.{Path}
+use Rattle.spx_paths.specs.Prefixes.{after, after_each}
+
+one_more : (steps : List PathStep) (s : PathStep) (paths : List (List PathStep)) → map (λ more. steps ++ more) (map (λ path. s ∷ path) paths) ≡ map (λ more. (steps ++ s ∷ []) ++ more) paths
+one_more steps s [] = refl
+one_more steps s (path ∷ paths) = ap₂ (λ (x : List PathStep) (xs : List (List PathStep)). x ∷ xs) (sym (append_assoc steps (s ∷ []) path)) (one_more steps s paths)
+
+pub after_assume : (steps : List PathStep) (t : Term) (rest : Tree) → after steps (Assume t rest) ≡ after (steps ++ step.Assume t ∷ []) rest
+unfolding after
+after_assume steps t rest = one_more steps (step.Assume t) (branches rest)
+
+pub after_assign : (steps : List PathStep) (x : Name) (t : Term) (rest : Tree) → after steps (Assign x t rest) ≡ after (steps ++ step.Assign x t ∷ []) rest
+unfolding after
+after_assign steps x t rest = one_more steps (step.Assign x t) (branches rest)
+
+pub after_prove : (steps : List PathStep) (kind : CondKind) (place : Place) (goals : List Term) (rest : Tree) → after steps (Prove kind place goals rest) ≡ after (steps ++ step.Prove kind place goals ∷ []) rest
+unfolding after
+after_prove steps kind place goals rest = one_more steps (step.Prove kind place goals) (branches rest)
+
+pub after_split : (steps : List PathStep) (first second : Tree) → after steps (Split first second) ≡ after steps first ++ after steps second
+unfolding after
+after_split steps first second = map-append (λ more. steps ++ more) (branches first) (branches second)
+
+pub ruleset step_laws = (after_assume, after_assign, after_prove, after_split)
+
+-- ---- several paths
+
+pub each_none : (tree : Tree) → after_each [] tree ≡ []
+unfolding after_each
+each_none tree = refl
+
+pub each_one : (path : Path) (tree : Tree) → after_each (path ∷ []) tree ≡ after path.steps tree
+unfolding after_each
+each_one path tree = append-nil (after path.steps tree)
+
+pub each_more : (paths more : List Path) (tree : Tree) → after_each (paths ++ more) tree ≡ after_each paths tree ++ after_each more tree
+unfolding after_each
+each_more paths more tree = flat_map-append (λ (path : Path). after path.steps tree) paths more
+
+pub ruleset each_laws = (each_none, each_one, each_more, append-nil, append_assoc)
+
+-- ---- facts
+
+pub facts_more : (ts more : List Term) (rest : Tree) → assume_all (ts ++ more) rest ≡ assume_all ts (assume_all more rest)
+facts_more [] more rest = refl
+facts_more (t ∷ ts) more rest = ap (Assume t) (facts_more ts more rest)

@@ -1,0 +1,103 @@
+-- From expressions to terms. One translator serves code and annotations.
+use Rattle.std.specs.Prelude.{◌≡◌, refl, ℤ, pos, Bool, not, ◌&&◌, if◌then◌else◌, Option, Some, None}
+use denote.Hole.Carrier.{hidden}
+use Rattle.spx_text.specs.declared.place.Place.{Place}
+use Rattle.spx_tree.specs.declared.expression.Identifier.{Identifier}
+use Rattle.spx_tree.specs.declared.expression.InfixOp.{InfixOp}
+use Rattle.spx_tree.specs.declared.expression.PrefixOp.{PrefixOp}
+use Rattle.spx_tree.specs.declared.expression.PrefixOp.TheVariants as prefix
+use Rattle.spx_core.specs.declared.entity.VarId.{VarId}
+use Rattle.spx_core.specs.declared.name.CoreName.{CoreName}
+use Rattle.spx_core.specs.declared.expression.CoreExpr.{CoreExpr}
+use Rattle.spx_core.specs.declared.expression.CoreExpr.TheBlock.{hidden-the_row-CoreExpr-0}
+use Rattle.spx_core.specs.declared.expression.CoreExpr.TheVariants as expr
+use Rattle.spx_core.specs.declared.subprogram.Sub.{Sub}
+use Rattle.spx_core.specs.Dependency.{exports, imports}
+use Rattle.spx_core.specs.Shapes.{infix_of, parenthesized_of, prefix_of}
+use Rattle.spx_core.specs.Uses.{variable_of}
+use Rattle.spx_term.specs.declared.term.Sort.TheVariants.{Integer}
+use Rattle.spx_term.specs.declared.term.Symbol.TheVariants as symbol
+use Rattle.spx_term.specs.declared.term.Name.{Name}
+use Rattle.spx_term.specs.declared.term.TermPrefix.TheVariants.{Minus}
+use Rattle.spx_term.specs.declared.term.Term.{Term}
+use Rattle.spx_term.specs.declared.term.Term.TheVariants as term
+use Rattle.spx_term.specs.declared.value.Value.{Value}
+use Rattle.spx_term.specs.Folding.{term_of as static_term}
+use Rattle.spx_meaning.specs.Evaluation.{term_op}
+use Rattle.spx_meaning.specs.Literals.{literal}
+
+-- ---- names
+
+-- the value of a variable now, and on entry
+abbrev pub now : VarId → Name
+now v = record { symbol = symbol.Now v.0; sort = Integer }
+
+abbrev pub entry : VarId → Name
+entry v = record { symbol = symbol.Entry v.0; sort = Integer }
+
+abbrev pub now_term : VarId → Term
+now_term v = term.Variable (now v)
+
+-- an import that is no export has its entry value always
+abbrev pub entry_term : Sub → VarId → Term
+entry_term sub v = if imports v sub && not (exports v sub) then now_term v else term.Variable (entry v)
+
+-- ---- expressions
+
+-- the term after a sign
+abbrev pub signed_term : PrefixOp → Term → Term
+signed_term prefix.Plus t = t
+signed_term prefix.Minus t = term.Prefix Minus t
+
+-- what denotes no variable counts as 0
+abbrev pub named : (VarId → Term) → Option VarId → Term
+named present (Some v) = present v
+named present None = term.Number (pos 0)
+
+-- a static expression stands as its literal
+abbrev pub literal_or : Option Value → Term → Term
+literal_or (Some x) t = static_term x
+literal_or None t = t
+
+-- The term of an expression, where variables have these terms for their present values and for their values on entry. No form of an
+-- expression reads an entry value yet.
+unfoldable pub term_with : (present entered : VarId → Term) → CoreExpr → Term
+term_with present entered (parenthesized_of place a) = term_with present entered a
+term_with present entered (prefix_of op place a) = literal_or (literal (prefix_of op place a)) (signed_term op (term_with present entered a))
+term_with present entered (infix_of op place a b) =
+    literal_or (literal (infix_of op place a b)) (term.Infix (term_op op) (term_with present entered a) (term_with present entered b))
+term_with present entered (expr.Number n place) = term.Number n
+term_with present entered (expr.Name name) = named present (variable_of name.entity)
+term_with present entered (expr.Attribute prefix designator) = literal_or (literal (expr.Attribute prefix designator)) (term.Number (pos 0))
+
+module _ (present entered : VarId → Term) where
+  pub term_with-Parenthesized : (place : Place) (a : CoreExpr) → term_with present entered (expr.Parenthesized place a) ≡ term_with present entered a
+  unfolding term_with hidden-the_row-CoreExpr-0 hidden
+  term_with-Parenthesized place a = refl
+
+  pub term_with-Prefix : (op : PrefixOp) (place : Place) (a : CoreExpr) → term_with present entered (expr.Prefix op place a) ≡ literal_or (literal (expr.Prefix op place a)) (signed_term op (term_with present entered a))
+  unfolding term_with hidden-the_row-CoreExpr-0 hidden
+  term_with-Prefix op place a = refl
+
+  pub term_with-Infix : (op : InfixOp) (place : Place) (a b : CoreExpr)
+      → term_with present entered (expr.Infix op place a b) ≡ literal_or (literal (expr.Infix op place a b)) (term.Infix (term_op op) (term_with present entered a) (term_with present entered b))
+  unfolding term_with hidden-the_row-CoreExpr-0 hidden
+  term_with-Infix op place a b = refl
+
+  pub term_with-Number : (n : ℤ) (place : Place) → term_with present entered (expr.Number n place) ≡ term.Number n
+  unfolding term_with
+  term_with-Number n place = refl
+
+  pub term_with-Name : (name : CoreName) → term_with present entered (expr.Name name) ≡ named present (variable_of name.entity)
+  unfolding term_with
+  term_with-Name name = refl
+
+  pub term_with-Attribute : (prefix : CoreName) (designator : Identifier) → term_with present entered (expr.Attribute prefix designator) ≡ literal_or (literal (expr.Attribute prefix designator)) (term.Number (pos 0))
+  unfolding term_with
+  term_with-Attribute prefix designator = refl
+
+pub ruleset term_forms = (term_with-Parenthesized, term_with-Prefix, term_with-Infix, term_with-Number, term_with-Name, term_with-Attribute)
+
+-- the term over the names of the present values, with these for the values on entry
+abbrev pub term_of : (VarId → Term) → CoreExpr → Term
+term_of entered e = term_with now_term entered e

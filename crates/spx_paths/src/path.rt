@@ -1,0 +1,59 @@
+// The paths of a body, from its start to each end.
+ghost use Rattle.std.specs.Prelude.{◌≡◌, ◌<◌, false, Some, length, map, slice_get, IfErr, IfOk, OnOk};
+ghost use Rattle.spx_core.specs.declared.program.Program.{Program};
+ghost use Rattle.spx_core.specs.declared.subprogram.Sub.{Sub};
+ghost use Rattle.spx_paths.specs.Conditions.{paths};
+ghost use Rattle.spx_paths.specs.Limits.{IsPathFaultOf, has_many_paths};
+
+use crate::count::has_many_paths;
+use crate::start::start;
+use crate::walk::walk_stmts;
+use crate::{MOST_PATHS, PathFault};
+use spx_core::{Program, Sub, SubId};
+use spx_term::PathStep;
+use sqlite_items::Items;
+use std::alloc::{AllocError, Global};
+
+/// A path from one cut to the next.
+#[derive(Debug, Drop)]
+pub struct Path {
+    pub steps: Items<PathStep>,
+}
+
+impl Path {
+    /// An equal path.
+    pub(crate) fn copy(&self, alloc: Global) -> Result<Path, AllocError>
+        ensures { IfOk result (λ path. path.steps ≡ self.now.steps) }
+    {
+        let mut steps = Items::new(alloc);
+        for step in self.steps.as_slice() {
+            steps.push(step.copy(alloc)?)?;
+        }
+        Ok(Path { steps })
+    }
+}
+
+/// The paths of a body. They are counted before a step is made.
+fn body_paths(alloc: Global, sub: &Sub) -> Result<Items<Path>, PathFault>
+    ensures exact { (p : Program) → IfOk result (λ all. map (λ path. path.steps) all ≡ paths p sub.now) }
+    ensures few { OnOk result (has_many_paths sub.now ≡ false) }
+    ensures refused { IfErr result (IsPathFaultOf sub.now) }
+{
+    if has_many_paths(sub) {
+        return Err(PathFault::TooManyPaths(MOST_PATHS + 1));
+    }
+    let start = start(alloc, sub)?;
+    let found = walk_stmts(alloc, sub.statements.as_slice(), start)?;
+    Ok(Items::from_vec(found))
+}
+
+/// The paths from cut to cut of a subprogram, in the order of the text.
+pub fn paths(alloc: Global, program: &Program, id: SubId) -> Result<Items<Path>, PathFault>
+    requires { id.0 < length program.now.subs }
+    ensures exact { (sub : Sub) → slice_get program.now.subs id.0 ≡ Some sub → IfOk result (λ all. map (λ path. path.steps) all ≡ paths program.now sub) }
+    ensures few { (sub : Sub) → slice_get program.now.subs id.0 ≡ Some sub → OnOk result (has_many_paths sub ≡ false) }
+    ensures refused { (sub : Sub) → slice_get program.now.subs id.0 ≡ Some sub → IfErr result (IsPathFaultOf sub) }
+{
+    let sub = &program.subs.as_slice()[id.0];
+    body_paths(alloc, sub)
+}
