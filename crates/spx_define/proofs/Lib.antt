@@ -1,5 +1,6 @@
 mod Elements
 mod WayLaws
 mod FoundLaws
+mod CommandForms
 mod PassLaws
 mod UnsetReads

@@ -1,46 +1,107 @@
 -- Laws of a pass forward.
-use Rattle.std.proofs.Common.{◌≡◌, ℕ, Bool, true, false, ◌||◌, List, Option, refl, sym, ap, ap₂, ◌∙◌, inl, inr, ⊎_elim}
+use Rattle.std.proofs.Common.{◌≡◌, ℕ, Bool, true, false, ◌||◌, List, [], Option, refl, sym, ◌∙◌, inl, inr, ⊎_elim}
+use Rattle.std.specs.Prelude.{◌⊎◌, ◌&&◌}
 use Rattle.std.proofs.lemmas.Bool.{or_parts}
 use Rattle.spx_text.specs.declared.place.Place.{Place}
 use Rattle.spx_core.specs.declared.entity.VarId.{VarId}
-use Rattle.spx_core.specs.Effects.{Effect, Read, nothing, assign, next, sets}
+use Rattle.spx_core.specs.Effects.{Effect, Read, nothing, assign, next, choose}
 use Rattle.spx_core.specs.Uses.{is_same}
 use Rattle.spx_core.specs.VarSets.{holds}
+use Rattle.spx_core.specs.Ways.{Goes}
+use Rattle.spx_core.proofs.Callers.FlowLaws.{goes_free}
 use Rattle.spx_define.specs.Passes.{Finds, Passes}
-use Rattle.spx_define.proofs.WayLaws.{reads_at_once, reads_next}
+use Rattle.spx_define.proofs.WayLaws.{free_follow, goes_chosen, reads_at_once, reads_chosen, reads_next, target_unset}
 
-pub passes_nothing : (set : List ℕ) (found : List Read) → Passes nothing set set found found
-passes_nothing set found = record { set = λ v. refl; found = λ place v. (λ h. inl h, λ h. ⊎_elim (λ old. old) (λ k. absurd k.1.1) h) }
+-- where nothing is done, the set has the same variables
+pub passes_nothing : (old_set new_set : List ℕ) (found : List Read) → ((v : VarId) → holds new_set v ≡ holds old_set v) → Passes nothing old_set new_set found found
+passes_nothing old_set new_set found same = record {
+  set = λ v. (λ h. (sym (same v) ∙ h, ([], refl, refl)), λ h. same v ∙ h.0);
+  found = λ place v. (λ h. inl h, λ h. ⊎_elim (λ old. old) (λ k. absurd k.1.1) h);
+}
+
+-- a pass may begin with a copy
+pub passes_copied : (e : Effect) (old_set copy new_set : List ℕ) (old new : List Read) → ((v : VarId) → holds copy v ≡ holds old_set v) → Passes e copy new_set old new → Passes e old_set new_set old new
+passes_copied e old_set copy new_set old new same pass = record {
+  set = λ v. (λ h. let k = (pass.set v).0 h in (sym (same v) ∙ k.0, k.1), λ h. (pass.set v).1 (same v ∙ h.0, h.1));
+  found = λ place v. (
+    λ h. ⊎_elim (λ o. inl o) (λ k. inr (sym (same v) ∙ k.0, k.1)) ((pass.found place v).0 h),
+    λ h. (pass.found place v).1 (⊎_elim (λ o. inl o) (λ k. inr (same v ∙ k.0, k.1)) h),
+  );
+}
 
 pub passes_assign : (target : Option VarId) (reads : List Read) (at : Place) (old_set new_set : List ℕ) (old new : List Read)
     → ((v : VarId) → holds new_set v ≡ (is_same v target || holds old_set v)) → Finds old_set reads old new → Passes (assign target reads at) old_set new_set old new
 passes_assign target reads at old_set new_set old new set f = record {
-  set = set;
+  set = λ v. (
+    λ h. let parts = or_parts (is_same v target) (holds old_set v) (sym (set v) ∙ h) in (parts.1, goes_free (assign target reads at) v parts.0),
+    λ h. set v ∙ either_false (is_same v target) (holds old_set v) (target_unset v target reads at h.1) h.0,
+  );
   found = λ place v. let once = reads_at_once place v target reads at in (
     λ h. ⊎_elim (λ o. inl o) (λ k. inr (k.0, once.1 k.1)) ((f.exact place v).0 h),
     λ h. (f.exact place v).1 (⊎_elim (λ o. inl o) (λ k. inr (k.0, once.0 k.1)) h),
   );
 }
-
-or_turn : (a b s : Bool) → (b || (a || s)) ≡ ((a || b) || s)
-or_turn true true s = refl
-or_turn true false s = refl
-or_turn false true s = refl
-or_turn false false s = refl
+  where
+    either_false : (x y : Bool) → x ≡ false → y ≡ false → (x || y) ≡ false
+    either_false true y h k = h
+    either_false false y h k = k
 
 pub passes_next : (a b : Effect) (set mid_set new_set : List ℕ) (old mid new : List Read) → Passes a set mid_set old mid → Passes b mid_set new_set mid new → Passes (next a b) set new_set old new
 passes_next a b set mid_set new_set old mid new f s = record {
-  set = λ v. s.set v ∙ ap (λ x. sets v b || x) (f.set v) ∙ or_turn (sets v a) (sets v b) (holds set v);
+  set = λ v. let ways = free_follow (Goes a) (Goes b) v in (
+    λ h. let last = (s.set v).0 h in let first = (f.set v).0 last.0 in (first.0, ways.1 (first.1, last.1)),
+    λ h. let parts = ways.0 h.1 in (s.set v).1 ((f.set v).1 (h.0, parts.0), parts.1),
+  );
   found = λ place v. let ways = reads_next place v a b in (
     λ h. ⊎_elim
         (λ m. ⊎_elim (λ o. inl o) (λ k. inr (k.0, ways.1 (inl k.1))) ((f.found place v).0 m))
-        (λ k. let parts = or_parts (sets v a) (holds set v) (sym (f.set v) ∙ k.0) in inr (parts.1, ways.1 (inr (parts.0, k.1))))
+        (λ k. let first = (f.set v).0 k.0 in inr (first.0, ways.1 (inr (first.1, k.1))))
         ((s.found place v).0 h),
     λ h. ⊎_elim
         (λ o. (s.found place v).1 (inl ((f.found place v).1 (inl o))))
         (λ k. ⊎_elim
         (λ here. (s.found place v).1 (inl ((f.found place v).1 (inr (k.0, here)))))
-        (λ later. (s.found place v).1 (inr (f.set v ∙ ap₂ ◌||◌ later.0 k.0, later.1)))
+        (λ later. (s.found place v).1 (inr ((f.set v).1 (k.0, later.0), later.1)))
+        (ways.0 k.1))
+        h,
+  );
+}
+
+one_false : (x y : Bool) → (x && y) ≡ false → (x ≡ false) ⊎ (y ≡ false)
+one_false true y h = inr h
+one_false false y h = inl refl
+
+both_false : (x y : Bool) → (x ≡ false) ⊎ (y ≡ false) → (x && y) ≡ false
+both_false true y h = ⊎_elim (λ x_is. absurd cc) (λ y_is. y_is) h
+both_false false y h = refl
+
+-- the second arm, then the condition, then the first arm: after them is set what is set at the end of both
+pub passes_choose : (tests : List Read) (a b : Effect) (at : Place) (set ends end new_ends : List ℕ) (start old mid new : List Read)
+    → Passes b set ends start old → Finds set tests old mid → Passes a set end mid new → ((v : VarId) → holds new_ends v ≡ (holds ends v && holds end v)) → Passes (choose tests a b at) set new_ends start new
+passes_choose tests a b at set ends end new_ends start old mid new second f first common = record {
+  set = λ v. let ways = goes_chosen tests a b at v in (
+    λ h. ⊎_elim
+        (λ is. let k = (second.set v).0 is in (k.0, ways.1 (inr k.1)))
+        (λ is. let k = (first.set v).0 is in (k.0, ways.1 (inl k.1)))
+        (one_false (holds ends v) (holds end v) (sym (common v) ∙ h)),
+    λ h. common v ∙ both_false (holds ends v) (holds end v) (⊎_elim (λ k. inr ((first.set v).1 (h.0, k))) (λ k. inl ((second.set v).1 (h.0, k))) (ways.0 h.1)),
+  );
+  found = λ place v. let ways = reads_chosen place v tests a b at in (
+    λ h. ⊎_elim
+        (λ m. ⊎_elim
+        (λ o. ⊎_elim (λ s. inl s) (λ k. inr (k.0, ways.1 (inr (inr k.1)))) ((second.found place v).0 o))
+        (λ k. inr (k.0, ways.1 (inl k.1)))
+        ((f.exact place v).0 m))
+        (λ k. inr (k.0, ways.1 (inr (inl k.1))))
+        ((first.found place v).0 h),
+    λ h. ⊎_elim
+        (λ s. (first.found place v).1 (inl ((f.exact place v).1 (inl ((second.found place v).1 (inl s))))))
+        (λ k. ⊎_elim
+        (λ here. (first.found place v).1 (inl ((f.exact place v).1 (inr (k.0, here)))))
+        (λ arms. ⊎_elim
+        (λ one. (first.found place v).1 (inr (k.0, one)))
+        (λ two. (first.found place v).1 (inl ((f.exact place v).1 (inl ((second.found place v).1 (inr (k.0, two)))))))
+        arms)
         (ways.0 k.1))
         h,
   );

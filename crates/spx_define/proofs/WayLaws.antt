@@ -8,9 +8,8 @@ use Rattle.spx_text.specs.declared.place.Place.{Place}
 use Rattle.spx_core.specs.declared.entity.VarId.{VarId}
 use Rattle.spx_core.specs.Formals.{stands_in}
 use Rattle.spx_core.specs.Uses.{is_same}
-use Rattle.spx_core.specs.Effects.{Effect, Read, nothing, assign, next, sets}
+use Rattle.spx_core.specs.Effects.{Effect, Read, assign, next, choose}
 use Rattle.spx_core.specs.Ways.{Ways, Follow, Free, Goes, Reaches}
-use Rattle.spx_core.proofs.Callers.FlowLaws.{goes_free}
 
 stands_in_both : (v : VarId) (front back : List VarId) → stands_in v (front ++ back) ≡ (stands_in v front || stands_in v back)
 stands_in_both v front back = list_any-append (λ (w : VarId). w.0 == v.0) front back
@@ -24,30 +23,38 @@ free_follow A B v = (
   λ h. (h.0.0 ++ h.1.0, (h.0.0, h.1.0, refl, h.0.1, h.1.1), stands_in_both v h.0.0 h.1.0 ∙ ap₂ ◌||◌ h.0.2 h.1.2),
 )
 
-target_unset : (v : VarId) (target : Option VarId) → stands_in v (option_to_list target) ≡ false → is_same v target ≡ false
-target_unset v (Some w) none = (or_parts (w.0 == v.0) false none).0
-target_unset v None none = refl
+-- a way over an assignment that does not set v
+pub target_unset : (v : VarId) (target : Option VarId) (reads : List Read) (at : Place) → Free (Goes (assign target reads at)) v → is_same v target ≡ false
+target_unset v target reads at free = apart target (subst (λ w. stands_in v w ≡ false) free.1 free.2)
+  where
+    apart : (o : Option VarId) → stands_in v (option_to_list o) ≡ false → is_same v o ≡ false
+    apart (Some w) none = (or_parts (w.0 == v.0) false none).0
+    apart None none = refl
 
--- what some way on does not set is not set
-pub free_unset : (e : Effect) (v : VarId) → Free (Goes e) v → sets v e ≡ false
-free_unset nothing v free = refl
-free_unset (assign target reads place) v free = target_unset v target (subst (λ w. stands_in v w ≡ false) free.1 free.2)
-free_unset (next a b) v free =
-    let parts = (free_follow (Goes a) (Goes b) v).0 free in
-    ap₂ ◌||◌ (free_unset a v parts.0) (free_unset b v parts.1)
+pub goes_chosen : (tests : List Read) (a b : Effect) (at : Place) (v : VarId) → Free (Goes (choose tests a b at)) v ↔ (Free (Goes a) v ⊎ Free (Goes b) v)
+goes_chosen tests a b at v = (
+  λ h. ⊎_elim (λ one. inl (h.0, one, h.2)) (λ two. inr (h.0, two, h.2)) h.1,
+  λ h. ⊎_elim (λ one. (one.0, inl one.1, one.2)) (λ two. (two.0, inr two.1, two.2)) h,
+)
 
 module _ (place : Place) (v : VarId) where
   pub reads_at_once : (target : Option VarId) (reads : List Read) (at : Place) → Free (Reaches (assign target reads at) place v) v ↔ Contains reads (place, v)
   reads_at_once target reads at = (λ h. h.1.0, λ is. ([], (is, refl), refl))
 
-  pub reads_next : (a b : Effect) → Free (Reaches (next a b) place v) v ↔ (Free (Reaches a place v) v ⊎ ((sets v a ≡ false) × Free (Reaches b place v) v))
+  pub reads_next : (a b : Effect) → Free (Reaches (next a b) place v) v ↔ (Free (Reaches a place v) v ⊎ (Free (Goes a) v × Free (Reaches b place v) v))
   reads_next a b = (
-    λ h. ⊎_elim
-        (λ here. inl (h.0, here, h.2))
-        (λ later. let parts = (free_follow (Goes a) (Reaches b place v) v).0 (h.0, later, h.2) in inr (free_unset a v parts.0, parts.1))
-        h.1,
+    λ h. ⊎_elim (λ here. inl (h.0, here, h.2)) (λ later. inr ((free_follow (Goes a) (Reaches b place v) v).0 (h.0, later, h.2))) h.1,
     λ h. ⊎_elim
         (λ here. (here.0, inl here.1, here.2))
-        (λ later. let way = (free_follow (Goes a) (Reaches b place v) v).1 (goes_free a v later.0, later.1) in (way.0, inr way.1, way.2))
+        (λ later. let way = (free_follow (Goes a) (Reaches b place v) v).1 later in (way.0, inr way.1, way.2))
+        h,
+  )
+
+  pub reads_chosen : (tests : List Read) (a b : Effect) (at : Place) → Free (Reaches (choose tests a b at) place v) v ↔ (Contains tests (place, v) ⊎ (Free (Reaches a place v) v ⊎ Free (Reaches b place v) v))
+  reads_chosen tests a b at = (
+    λ h. ⊎_elim (λ here. inl here.0) (λ arms. inr (⊎_elim (λ one. inl (h.0, one, h.2)) (λ two. inr (h.0, two, h.2)) arms)) h.1,
+    λ h. ⊎_elim
+        (λ here. ([], inl (here, refl), refl))
+        (λ arms. ⊎_elim (λ one. (one.0, inr (inl one.1), one.2)) (λ two. (two.0, inr (inr two.1), two.2)) arms)
         h,
   )

@@ -4,6 +4,7 @@
 //! once, in one pass forward over the body.
 #![tactic(auto)]
 
+mod assigned;
 mod define;
 
 pub use define::unset_reads;

@@ -1,26 +1,25 @@
 -- The backward pass.
-use Rattle.std.proofs.Common.{◌≡◌, ◌≢◌, ◌↔◌, ◌⊎◌, ℕ, ◌-◌, ◌<◌, Bool, true, false, Bor, List, map, reverse, get_or, arith, [], ◌∷◌, ◌++◌, length, Option, Some, None, refl, sym, ap, ◌∙◌, subst, inl, inr, ⊎_elim}
-use Rattle.std.specs.Prelude.{◌==◌, Contains, IsTrue}
+use Rattle.std.proofs.Common.{◌≡◌, ◌≢◌, ◌↔◌, ◌⊎◌, ℕ, ◌<◌, Bool, true, false, List, [], ◌∷◌, ◌++◌, length, Option, Some, None, All, refl, sym, ap, ◌∙◌, subst, inl, inr, ⊎_elim}
+use Rattle.std.specs.Prelude.{◌==◌, ◌||◌, Contains, IsTrue}
 use Rattle.std.specs.List.{IsDistinct}
 use Rattle.std.specs.Option.{option_and_then}
 use Rattle.std.proofs.lemmas.Bool.{or_left, or_right}
-use Rattle.std.proofs.lemmas.List.{get_or-reverse, length-reverse, map-append, reverse-append}
-use Rattle.std.proofs.lemmas.List.Elements.{All-nil, All-push}
+use Rattle.std.proofs.lemmas.List.Elements.{All-push}
 use Rattle.std.proofs.lemmas.Option.{slice_get_within}
 use Rattle.spx_text.specs.declared.place.Place.{Place}
 use Rattle.spx_core.specs.declared.entity.VarId.{VarId}
-use Rattle.spx_core.specs.declared.statement.CoreStmt.{CoreStmt}
-use Rattle.spx_core.specs.Effects.{Effect, Read, nothing, assign, next, effect, effects, is_read, sets}
+use Rattle.spx_core.specs.Effects.{Effect, Read, nothing, assign, next, choose, is_read, sets}
 use Rattle.spx_core.specs.Flow.{MayFlow}
 use Rattle.spx_core.specs.Marks.{Mu, Occurs}
 use Rattle.spx_core.specs.VarSets.{place_in_set}
-use Rattle.spx_rows.specs.Relations.{Matrix, Has, Holds}
+use Rattle.spx_rows.specs.Relations.{Matrix, Has, Holds, Of}
 use Rattle.spx_flow.specs.declared.flow.Occurrence.{Occurrence}
 use Rattle.spx_flow.specs.Positions.{Covers, Leads, Stands}
 use Rattle.spx_flow.specs.Flows.{AreRows, Relates}
 use Rattle.spx_flow.specs.BackwardSteps.{LeadOn, StepsBack}
 use Rattle.spx_core.proofs.Callers.FlowLaws.{keeps}
 use Rattle.spx_core.proofs.Callers.Variables.{same_itself}
+use Rattle.spx_flow.proofs.BranchLaws.{leads_same, rows_led}
 use Rattle.spx_flow.proofs.Occurrences.{lists_push, none_listed, none_related, relates_push}
 use Rattle.spx_flow.proofs.PositionLaws.{differ_at, held_stands, led_stands, one_place, one_var, other_at, place_stands, target_at, target_placed}
 
@@ -101,19 +100,93 @@ steps_placed set (Some v) values place to old new before o from covers rows is f
     steps_assign set covers.once v to (place_stands set v to (sym is)) values place old new before o from exact spread row.1 here size rows (row.0 ∙ fits)
 steps_placed set None values place to old new before o from covers rows is fits size exact spread row here = absurd cc
 
--- ---- all statements
+-- ---- copies
 
-pub lead_on_start : (set : List ℕ) (rho : Matrix) → IsDistinct ◌==◌ set → length rho ≡ length set → ((a b : ℕ) → Holds rho a b ↔ ((a < length set) × (a ≡ b))) → LeadOn set nothing rho []
-lead_on_start set rho once size pairs = record {
-  size = size;
-  rho = λ a b x y at_x at_y. (
-    λ h. one_var set b x y (subst (λ k. Stands set k x) ((pairs a b).0 h).1 at_x) at_y,
-    λ e. (pairs a b).1 (slice_get_within set a x.0 at_x, one_place set a b x once at_x (subst (Stands set b) (sym e) at_y)),
+-- a pass may begin with a copy
+pub steps_copied : (set : List ℕ) (e : Effect) (rho copy new : Matrix) (before after : List Occurrence) → length copy ≡ length rho → ((a b : ℕ) → Holds copy a b ↔ Holds rho a b) → StepsBack set e copy new before after →
+    StepsBack set e rho new before after
+steps_copied set e rho copy new before after size same step = record {
+  size = step.size ∙ size;
+  rho = λ a b x at. let k = leads_same set (MayFlow e x) copy rho same b in (λ h. k.0 ((step.rho a b x at).0 h), λ h. (step.rho a b x at).1 (k.1 h));
+  mu_rows = step.mu_rows;
+  mu = λ p b. let k = leads_same set (Mu e p) copy rho same b in (
+    λ h. ⊎_elim (λ q. inl q) (λ q. inr (k.0 q)) ((step.mu p b).0 h),
+    λ h. (step.mu p b).1 (⊎_elim (λ q. inl q) (λ q. inr (k.1 q)) h),
   );
-  mu_rows = All-nil (λ (q : Occurrence). length q.vars ≡ length set);
-  mu = λ p b y at. (λ h. none_related p b h, λ h. absurd h);
-  occurrences = λ p. (λ h. none_listed p h, λ h. absurd h);
+  occurrences = step.occurrences;
 }
+
+-- ---- the condition of an arm
+
+-- `rest` is what is done where the condition is false; the condition reads the variables at `from`, and the arms set those at `to`
+module _ (set : List ℕ) (tests : List Read) (a b : Effect) (place : Place) (rho starts begin joined new : Matrix) (start mid after : List Occurrence) (from to : List ℕ) (o : Occurrence) (rest : StepsBack set b rho starts start mid)
+    (first : StepsBack set a rho begin mid after) (union : (p q : ℕ) → Holds joined p q ↔ (Holds starts p q ⊎ Holds begin p q)) (added : (p q : ℕ) → Holds new p q ↔ (Holds joined p q ⊎ (Contains from p × Of to rho q)))
+    (exact : (j : ℕ) (x : VarId) → Stands set j x → Contains from j ↔ IsTrue (is_read x tests)) (within : All (λ j. j < length set) to)
+    (targets : (j : ℕ) (x : VarId) → Stands set j x → Contains to j ↔ IsTrue (sets x a || sets x b)) (here : o.place ≡ place) (row : (q : ℕ) → Has o.vars q ↔ Of to rho q) where
+  rows_set : (q : ℕ) → Of to rho q ↔ Leads set (λ w. IsTrue (sets w a || sets w b)) rho q
+  rows_set = rows_led set (λ w. IsTrue (sets w a || sets w b)) to within targets rho
+
+  rho_chosen : (p q : ℕ) (x : VarId) → Stands set p x → Holds new p q ↔ Leads set (MayFlow (choose tests a b place) x) rho q
+  rho_chosen p q x at = (
+    λ h. ⊎_elim
+        (λ arms. ⊎_elim
+        (λ two. let k = (rest.rho p q x at).0 two in (k.0, k.1, k.2, inr (inl k.3), k.4))
+        (λ one. let k = (first.rho p q x at).0 one in (k.0, k.1, k.2, inl k.3, k.4))
+        ((union p q).0 arms))
+        (λ tested. let k = (rows_set q).0 tested.1 in (k.0, k.1, k.2, inr (inr (k.3, (exact p x at).0 tested.0)), k.4))
+        ((added p q).0 h),
+    λ h. (added p q).1 (⊎_elim
+        (λ one. inl ((union p q).1 (inr ((first.rho p q x at).1 (h.0, h.1, h.2, one, h.4)))))
+        (λ more. ⊎_elim
+        (λ two. inl ((union p q).1 (inl ((rest.rho p q x at).1 (h.0, h.1, h.2, two, h.4)))))
+        (λ tested. inr ((exact p x at).1 tested.1, (rows_set q).1 (h.0, h.1, h.2, tested.0, h.4)))
+        more)
+        h.3),
+  )
+
+  mu_chosen : (p : Place) (q : ℕ) → Relates (after ++ o ∷ []) p q ↔ (Relates start p q ⊎ Leads set (Mu (choose tests a b place) p) rho q)
+  mu_chosen p q = (
+    λ h. ⊎_elim
+        (λ arms. ⊎_elim
+        (λ others. ⊎_elim (λ old. inl old) (λ k. inr (k.0, k.1, k.2, inr (inr k.3), k.4)) ((rest.mu p q).0 others))
+        (λ k. inr (k.0, k.1, k.2, inr (inl k.3), k.4))
+        ((first.mu p q).0 arms))
+        (λ tested. let k = (rows_set q).0 ((row q).0 tested.1) in inr (k.0, k.1, k.2, inl (sym here ∙ tested.0, k.3), k.4))
+        ((relates_push after o p q).0 h),
+    λ h. (relates_push after o p q).1 (⊎_elim
+        (λ old. inl ((first.mu p q).1 (inl ((rest.mu p q).1 (inl old)))))
+        (λ k. ⊎_elim
+        (λ tested. inr (here ∙ tested.0, (row q).1 ((rows_set q).1 (k.0, k.1, k.2, tested.1, k.4))))
+        (λ arms. ⊎_elim
+        (λ one. inl ((first.mu p q).1 (inr (k.0, k.1, k.2, one, k.4))))
+        (λ two. inl ((first.mu p q).1 (inl ((rest.mu p q).1 (inr (k.0, k.1, k.2, two, k.4))))))
+        arms)
+        k.3)
+        h),
+  )
+
+  pub steps_choose : length new ≡ length rho → length o.vars ≡ length set → StepsBack set (choose tests a b place) rho new start (after ++ o ∷ [])
+  steps_choose size long = record {
+    size = size;
+    rho = rho_chosen;
+    mu_rows = All-push (λ (q : Occurrence). length q.vars ≡ length set) after o first.mu_rows long;
+    mu = mu_chosen;
+    occurrences = λ p. (
+      λ h. ⊎_elim
+          (λ arms. ⊎_elim (λ others. ⊎_elim (λ old. inl old) (λ two. inr (inr (inr two))) ((rest.occurrences p).0 others)) (λ one. inr (inr (inl one))) ((first.occurrences p).0 arms))
+          (λ tested. inr (inl (sym here ∙ tested)))
+          ((lists_push after o p).0 h),
+      λ h. (lists_push after o p).1 (⊎_elim
+          (λ old. inl ((first.occurrences p).1 (inl ((rest.occurrences p).1 (inl old)))))
+          (λ k. ⊎_elim
+          (λ tested. inr (here ∙ tested))
+          (λ arms. ⊎_elim (λ one. inl ((first.occurrences p).1 (inr one))) (λ two. inl ((first.occurrences p).1 (inl ((rest.occurrences p).1 (inr two))))) arms)
+          k)
+          h),
+    );
+  }
+
+-- ---- statements one after another
 
 -- a value of a variable that is set leads to one that is set
 sets_on : (a b : Effect) (v w : VarId) → sets v a ≡ true → MayFlow b v w → (is : Bool) → sets w b ≡ is → sets w (next a b) ≡ true
@@ -126,41 +199,67 @@ mu_sets nothing p w h = absurd h
 mu_sets (assign target values place) p w h = h.1
 mu_sets (next a b) p w h =
     ⊎_elim (λ (q : (v : VarId) × Mu a p v × MayFlow b v w). sets_on a b q.0 w (mu_sets a p q.0 q.1) q.2 (sets w b) refl) (λ later. or_right (sets w a) (sets w b) (mu_sets b p w later)) h
+mu_sets (choose tests a b place) p w h =
+    ⊎_elim (λ tested. tested.1) (λ arms. ⊎_elim (λ one. or_left (sets w a) (sets w b) (mu_sets a p w one)) (λ two. or_right (sets w a) (sets w b) (mu_sets b p w two)) arms) h
 
-pub lead_on_step : (set : List ℕ) (e d : Effect) (old new : Matrix) (before after : List Occurrence) → Covers set e → LeadOn set d old before → StepsBack set e old new before after → LeadOn set (next e d) new after
-lead_on_step set e d old new before after covers led step = record {
-  size = step.size ∙ led.size;
-  rho = λ a b x y at_x at_y. (
-    λ h. let q = (step.rho a b x at_x).0 h in (q.1, q.3, (led.rho q.0 b q.1 y q.2 at_y).0 q.4),
+-- one statement more is before the others
+pub steps_next : (set : List ℕ) (e d : Effect) (old mid new : Matrix) (start before after : List Occurrence) → Covers set e → StepsBack set d old mid start before → StepsBack set e mid new before after → StepsBack set (next e d) old new start after
+steps_next set e d old mid new start before after covers others step = record {
+  size = step.size ∙ others.size;
+  rho = λ a b x at. (
+    λ h. let k = (step.rho a b x at).0 h in let l = (others.rho k.0 b k.1 k.2).0 k.4 in (l.0, l.1, l.2, (k.1, k.3, l.3), l.4),
     λ h.
-        let k = led_stands set e covers a x h.0 at_x h.1 in
-        (step.rho a b x at_x).1 (k.0, h.0, k.1, h.1, (led.rho k.0 b h.0 y k.1 at_y).1 h.2),
+        let v = h.3.0 in
+        let k = led_stands set e covers a x v at h.3.1 in
+        (step.rho a b x at).1 (k.0, v, k.1, h.3.1, (others.rho k.0 b v k.1).1 (h.0, h.1, h.2, h.3.2, h.4)),
   );
   mu_rows = step.mu_rows;
-  mu = λ p b y at. (
-    λ h. ⊎_elim (λ q. inr ((led.mu p b y at).0 q)) (λ q. inl (q.1, q.3, (led.rho q.0 b q.1 y q.2 at).0 q.4)) ((step.mu p b).0 h),
+  mu = λ p b. (
+    λ h. ⊎_elim
+        (λ q. ⊎_elim (λ old. inl old) (λ k. inr (k.0, k.1, k.2, inr k.3, k.4)) ((others.mu p b).0 q))
+        (λ k. let l = (others.rho k.0 b k.1 k.2).0 k.4 in inr (l.0, l.1, l.2, inl (k.1, k.3, l.3), l.4))
+        ((step.mu p b).0 h),
     λ h. (step.mu p b).1
         (⊎_elim
-        (λ q.
-        let k = held_stands set q.0 (covers.targets q.0 (mu_sets e p q.0 q.1)) in
-        inr (k.0, q.0, k.1, q.1, (led.rho k.0 b q.0 y k.1 at).1 q.2))
-        (λ q. inl ((led.mu p b y at).1 q))
+        (λ old. inl ((others.mu p b).1 (inl old)))
+        (λ k. ⊎_elim
+        (λ here.
+        let v = here.0 in
+        let at = held_stands set v (covers.targets v (mu_sets e p v here.1)) in
+        inr (at.0, v, at.1, here.1, (others.rho at.0 b v at.1).1 (k.0, k.1, k.2, here.2, k.4)))
+        (λ later. inl ((others.mu p b).1 (inr (k.0, k.1, k.2, later, k.4))))
+        k.3)
         h),
   );
   occurrences = λ p. (
-    λ h. ⊎_elim (λ q. inr ((led.occurrences p).0 q)) (λ q. inl q) ((step.occurrences p).0 h),
-    λ h. (step.occurrences p).1 (⊎_elim (λ q. inr q) (λ q. inl ((led.occurrences p).1 q)) h),
+    λ h. ⊎_elim (λ q. ⊎_elim (λ old. inl old) (λ later. inr (inr later)) ((others.occurrences p).0 q)) (λ here. inr (inl here)) ((step.occurrences p).0 h),
+    λ h. (step.occurrences p).1
+        (⊎_elim (λ old. inl ((others.occurrences p).1 (inl old))) (λ k. ⊎_elim (λ here. inr here) (λ later. inl ((others.occurrences p).1 (inr later))) k) h),
   );
 }
 
--- ---- statements from the last to the first
+-- ---- to the end
 
--- one statement more has been gone over
-pub effects_more : (done : List (Bor CoreStmt)) (s : Bor CoreStmt) → next (effect s.now) (effects (reverse (map (λ t. t.now) done))) ≡ effects (reverse (map (λ t. t.now) (done ++ s ∷ [])))
-effects_more done s = ap effects (sym (ap reverse (map-append (λ t. t.now) done (s ∷ [])) ∙ reverse-append (map (λ t. t.now) done) (s.now ∷ [])))
+pub to_end : (set : List ℕ) (e : Effect) (rho new : Matrix) (marks : List Occurrence) → length rho ≡ length set → ((a b : ℕ) → Holds rho a b ↔ ((a < length set) × (a ≡ b))) → StepsBack set e rho new [] marks → LeadOn set e new marks
+to_end set e rho new marks size pairs step = record {
+  size = step.size ∙ size;
+  rho = λ a b x y at_x at_y. (
+    λ h. let k = (step.rho a b x at_x).0 h in subst (MayFlow e x) (last k.0 b k.1 y k.2 at_y k.4) k.3,
+    λ h. (step.rho a b x at_x).1 (b, y, at_y, h, itself b y at_y),
+  );
+  mu_rows = step.mu_rows;
+  mu = λ p b y at. (
+    λ h. ⊎_elim (λ old. absurd (none_related p b old)) (λ k. subst (Mu e p) (last k.0 b k.1 y k.2 at k.4) k.3) ((step.mu p b).0 h),
+    λ h. (step.mu p b).1 (inr (b, y, at, h, itself b y at)),
+  );
+  occurrences = λ p. (
+    λ h. ⊎_elim (λ old. absurd (none_listed p old)) (λ q. q) ((step.occurrences p).0 h),
+    λ h. (step.occurrences p).1 (inr h),
+  );
+}
+  where
+    last : (c b : ℕ) (z y : VarId) → Stands set c z → Stands set b y → Holds rho c b → z ≡ y
+    last c b z y at_z at_y h = one_var set b z y (subst (λ k. Stands set k z) ((pairs c b).0 h).1 at_z) at_y
 
--- a statement of the reversed list is one of the list
-pub of_reversed : (stmts : List CoreStmt) (k : ℕ) (s : CoreStmt) → (k < length (reverse stmts)) × (s ≡ get_or (reverse stmts) k s) → Contains stmts s
-of_reversed stmts k s at =
-    let less : k < length stmts = subst (λ n. k < n) (length-reverse stmts) at.0 in
-    (length stmts - 1 - k, omega (arith, less), sym (get_or-reverse stmts k s less) ∙ sym at.1)
+    itself : (b : ℕ) (y : VarId) → Stands set b y → Holds rho b b
+    itself b y at = (pairs b b).1 (slice_get_within set b y.0 at, refl)

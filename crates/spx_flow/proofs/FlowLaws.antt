@@ -1,8 +1,7 @@
 -- The flow of a subprogram by its variables' positions.
-use Rattle.std.proofs.Common.{◌≡◌, ◌↔◌, ℕ, false, ◌||◌, List, [], ◌∷◌, length, get_or, Some, refl, sym, ap, ap₂, ◌∙◌, subst, inl, inr}
+use Rattle.std.proofs.Common.{◌≡◌, ◌↔◌, ℕ, false, ◌||◌, List, [], ◌∷◌, length, get_or, Some, refl, sym, ap, ap₂, ◌∙◌, subst}
 use Rattle.std.specs.Prelude.{◌==◌, slice_get, option_map}
 use Rattle.std.specs.List.{AllByRecursion, IsDistinct}
-use Rattle.std.proofs.lemmas.Bool.{both_ways, cases_Bool, eqb-true, eq-eqb, ne_eqb}
 use Rattle.std.proofs.lemmas.List.{length-map, take-append-drop}
 use Rattle.std.proofs.lemmas.List.Folds.{list_any-append}
 use Rattle.std.proofs.lemmas.Option.{get_or_from_slice_get, slice_get-map}
@@ -20,15 +19,9 @@ use Rattle.spx_flow.specs.declared.flow.Flow.{Flow}
 use Rattle.spx_flow.specs.Positions.{Covers, Stands}
 use Rattle.spx_flow.specs.Flows.{AreRows, IsAt, IsFlow, Relates}
 use Rattle.spx_flow.specs.BackwardSteps.{LeadOn}
+use Rattle.spx_flow.proofs.PositionLaws.{turned}
 
 -- ---- the variables of a subprogram cover its body
-
-turned : (a b : ℕ) → (a == b) ≡ (b == a)
-turned a b =
-    elim (cases_Bool (a == b)) [
-      | inl same ↦ same ∙ sym (eq-eqb b a (sym (eqb-true a b same)))
-      | inr differ ↦ differ ∙ sym (ne_eqb b a (λ e. both_ways (a == b) differ (eq-eqb a b (sym e))))
-    ]
 
 held : (v : VarId) (vars : List VarId) → holds (positions_of vars) v ≡ stands_in v vars
 held v [] = refl

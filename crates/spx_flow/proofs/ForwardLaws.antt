@@ -1,14 +1,13 @@
 -- The forward pass.
 use Rattle.std.proofs.Common.{◌≡◌, ◌≢◌, ◌↔◌, ◌⊎◌, ℕ, ◌<◌, false, List, [], ◌∷◌, ◌++◌, length, Option, Some, None, All, refl, sym, ◌∙◌, subst, inl, inr, ⊎_elim}
-use Rattle.std.specs.Prelude.{◌==◌, Contains, IsTrue}
+use Rattle.std.specs.Prelude.{◌==◌, ◌||◌, Contains, IsTrue}
 use Rattle.std.specs.List.{IsDistinct}
 use Rattle.std.specs.Option.{option_and_then}
-use Rattle.std.proofs.lemmas.List.Elements.{All-contains, All-nil, All-push}
+use Rattle.std.proofs.lemmas.List.Elements.{All-push}
 use Rattle.std.proofs.lemmas.Option.{slice_get_within}
 use Rattle.spx_text.specs.declared.place.Place.{Place}
 use Rattle.spx_core.specs.declared.entity.VarId.{VarId}
-use Rattle.spx_core.specs.declared.statement.CoreStmt.{CoreStmt}
-use Rattle.spx_core.specs.Effects.{Effect, Read, nothing, assign, effect, effects, is_read, sets}
+use Rattle.spx_core.specs.Effects.{Effect, Read, nothing, assign, next, choose, is_read, sets}
 use Rattle.spx_core.specs.Flow.{MayFlow}
 use Rattle.spx_core.specs.VarSets.{place_in_set}
 use Rattle.spx_core.specs.Marks.{Lambda}
@@ -19,8 +18,9 @@ use Rattle.spx_flow.specs.declared.flow.Occurrence.{Occurrence}
 use Rattle.spx_flow.specs.Positions.{Covers, Leads, Stands}
 use Rattle.spx_flow.specs.Flows.{AreRows, Relates}
 use Rattle.spx_flow.specs.ForwardSteps.{StepsForward}
+use Rattle.spx_flow.proofs.BranchLaws.{leads_same, rows_led}
 use Rattle.spx_flow.proofs.Occurrences.{none_related, relates_push}
-use Rattle.spx_flow.proofs.PositionLaws.{at_target, differ_at, led_stands, one_place, one_var, other_at, place_stands, stands_within, target_at, target_placed}
+use Rattle.spx_flow.proofs.PositionLaws.{at_target, differ_at, led_stands, one_place, one_var, other_at, place_stands, target_at, target_placed}
 
 -- ---- one statement
 
@@ -51,14 +51,8 @@ idle_target set values place state list once rows = idle set (assign None values
 module _ (set : List ℕ) (once : IsDistinct ◌==◌ set) (v : VarId) (k : ℕ) (at : Stands set k v) (values : List Read) (place : Place) (from : List ℕ) (within : All (λ j. j < length set) from)
     (exact : (j : ℕ) (x : VarId) → Stands set j x → Contains from j ↔ IsTrue (is_read x values)) (old new : Matrix)
     (pairs : (a b : ℕ) → Holds new a b ↔ (((k ≡ a) × Of from old b) ⊎ ((k ≢ a) × Holds old a b))) where
-  -- the rows at `from` are those of the variables that are read
   rows_read : (a : ℕ) → Of from old a ↔ Leads set (λ z. IsTrue (is_read z values)) old a
-  rows_read a = (
-    λ h.
-        let one = stands_within set h.0 (All-contains (λ j. j < length set) from h.0 within h.1) in
-        (h.0, one.0, one.1, (exact h.0 one.0 one.1).0 h.1, h.2),
-    λ h. (h.0, (exact h.0 h.1 h.2).1 h.3, h.4),
-  )
+  rows_read = rows_led set (λ z. IsTrue (is_read z values)) from within exact old
 
   -- the target's row
   target_row : (a : ℕ) → Holds new k a ↔ Leads set (λ z. IsTrue (is_read z values)) old a
@@ -110,51 +104,137 @@ steps_placed set (Some v) values place k from old new list o covers rows is fits
     steps_assign set covers.once v k (place_stands set v k (sym is)) values place from within exact old new pairs list o here row.1 size rows (row.0 ∙ size ∙ fits)
 steps_placed set None values place k from old new list o covers rows is fits size within exact pairs row here = absurd cc
 
+-- ---- copies
+
+-- a pass may begin with a copy
+pub steps_copied : (set : List ℕ) (e : Effect) (state copy new : Matrix) (before after : List Occurrence) → length copy ≡ length state → ((a b : ℕ) → Holds copy a b ↔ Holds state a b) → StepsForward set e copy new before after →
+    StepsForward set e state new before after
+steps_copied set e state copy new before after size same step = record {
+  size = step.size ∙ size;
+  state = λ b a y at. let k = leads_same set (λ z. MayFlow e z y) copy state same a in (λ h. k.0 ((step.state b a y at).0 h), λ h. (step.state b a y at).1 (k.1 h));
+  lambda_rows = step.lambda_rows;
+  lambda = λ p a. let k = leads_same set (λ z. Lambda e z p) copy state same a in (
+    λ h. ⊎_elim (λ q. inl q) (λ q. inr (k.0 q)) ((step.lambda p a).0 h),
+    λ h. (step.lambda p a).1 (⊎_elim (λ q. inl q) (λ q. inr (k.1 q)) h),
+  );
+}
+
+-- ---- the condition of an arm
+
+-- `rest` is what is done where the condition is false; the condition reads the rows at `from`, and the arms set the variables at `to`
+module _ (set : List ℕ) (tests : List Read) (a b : Effect) (place : Place) (state ends end joined new : Matrix) (start mid after : List Occurrence) (from to : List ℕ) (o : Occurrence) (rest : StepsForward set b state ends start mid)
+    (first : StepsForward set a state end mid after) (union : (p q : ℕ) → Holds joined p q ↔ (Holds ends p q ⊎ Holds end p q)) (added : (p q : ℕ) → Holds new p q ↔ (Holds joined p q ⊎ (Contains to p × Of from state q)))
+    (within : All (λ j. j < length set) from) (exact : (j : ℕ) (x : VarId) → Stands set j x → Contains from j ↔ IsTrue (is_read x tests))
+    (targets : (j : ℕ) (x : VarId) → Stands set j x → Contains to j ↔ IsTrue (sets x a || sets x b)) (here : o.place ≡ place) (row : (q : ℕ) → Has o.vars q ↔ Of from state q) where
+  rows_tested : (q : ℕ) → Of from state q ↔ Leads set (λ z. IsTrue (is_read z tests)) state q
+  rows_tested = rows_led set (λ z. IsTrue (is_read z tests)) from within exact state
+
+  state_chosen : (p q : ℕ) (y : VarId) → Stands set p y → Holds new p q ↔ Leads set (λ z. MayFlow (choose tests a b place) z y) state q
+  state_chosen p q y at = (
+    λ h. ⊎_elim
+        (λ arms. ⊎_elim
+        (λ two. let k = (rest.state p q y at).0 two in (k.0, k.1, k.2, inr (inl k.3), k.4))
+        (λ one. let k = (first.state p q y at).0 one in (k.0, k.1, k.2, inl k.3, k.4))
+        ((union p q).0 arms))
+        (λ tested. let k = (rows_tested q).0 tested.1 in (k.0, k.1, k.2, inr (inr ((targets p y at).0 tested.0, k.3)), k.4))
+        ((added p q).0 h),
+    λ h. (added p q).1 (⊎_elim
+        (λ one. inl ((union p q).1 (inr ((first.state p q y at).1 (h.0, h.1, h.2, one, h.4)))))
+        (λ more. ⊎_elim
+        (λ two. inl ((union p q).1 (inl ((rest.state p q y at).1 (h.0, h.1, h.2, two, h.4)))))
+        (λ tested. inr ((targets p y at).1 tested.0, (rows_tested q).1 (h.0, h.1, h.2, tested.1, h.4)))
+        more)
+        h.3),
+  )
+
+  listed_chosen : (p : Place) (q : ℕ) → Relates (after ++ o ∷ []) p q ↔ (Relates start p q ⊎ Leads set (λ z. Lambda (choose tests a b place) z p) state q)
+  listed_chosen p q = (
+    λ h. ⊎_elim
+        (λ arms. ⊎_elim
+        (λ others. ⊎_elim (λ old. inl old) (λ k. inr (k.0, k.1, k.2, inr (inr k.3), k.4)) ((rest.lambda p q).0 others))
+        (λ k. inr (k.0, k.1, k.2, inr (inl k.3), k.4))
+        ((first.lambda p q).0 arms))
+        (λ tested. let k = (rows_tested q).0 ((row q).0 tested.1) in inr (k.0, k.1, k.2, inl (sym here ∙ tested.0, k.3), k.4))
+        ((relates_push after o p q).0 h),
+    λ h. (relates_push after o p q).1 (⊎_elim
+        (λ old. inl ((first.lambda p q).1 (inl ((rest.lambda p q).1 (inl old)))))
+        (λ k. ⊎_elim
+        (λ tested. inr (here ∙ tested.0, (row q).1 ((rows_tested q).1 (k.0, k.1, k.2, tested.1, k.4))))
+        (λ arms. ⊎_elim
+        (λ one. inl ((first.lambda p q).1 (inr (k.0, k.1, k.2, one, k.4))))
+        (λ two. inl ((first.lambda p q).1 (inl ((rest.lambda p q).1 (inr (k.0, k.1, k.2, two, k.4))))))
+        arms)
+        k.3)
+        h),
+  )
+
+  pub steps_choose : length new ≡ length state → length o.vars ≡ length set → StepsForward set (choose tests a b place) state new start (after ++ o ∷ [])
+  steps_choose size long = record {
+    size = size;
+    state = state_chosen;
+    lambda_rows = All-push (λ (q : Occurrence). length q.vars ≡ length set) after o first.lambda_rows long;
+    lambda = listed_chosen;
+  }
+
 -- ---- statements one after another
 
--- what is listed, and what the rest will list, make the whole
-pub record Led (set : List ℕ) (all rest : List CoreStmt) (state : Matrix) (list : List Occurrence) : Type 0 where
+pub steps_next : (set : List ℕ) (a b : Effect) (old mid new : Matrix) (start before after : List Occurrence) → Covers set a → StepsForward set a old mid start before → StepsForward set b mid new before after → StepsForward set (next a b) old new start after
+steps_next set a b old mid new start before after covers first second = record {
+  size = second.size ∙ first.size;
+  state = λ p q y at. (
+    λ h. let k = (second.state p q y at).0 h in let l = (first.state k.0 q k.1 k.2).0 k.4 in (l.0, l.1, l.2, (k.1, l.3, k.3), l.4),
+    λ h.
+        let v = h.3.0 in
+        let k = led_stands set a covers h.0 h.1 v h.2 h.3.1 in
+        (second.state p q y at).1 (k.0, v, k.1, h.3.2, (first.state k.0 q v k.1).1 (h.0, h.1, h.2, h.3.1, h.4)),
+  );
+  lambda_rows = second.lambda_rows;
+  lambda = λ p q. (
+    λ h. ⊎_elim
+        (λ listed. ⊎_elim (λ old. inl old) (λ k. inr (k.0, k.1, k.2, inl k.3, k.4)) ((first.lambda p q).0 listed))
+        (λ k. let l = (first.state k.0 q k.1 k.2).0 k.4 in inr (l.0, l.1, l.2, inr (k.1, l.3, k.3), l.4))
+        ((second.lambda p q).0 h),
+    λ h. ⊎_elim
+        (λ old. (second.lambda p q).1 (inl ((first.lambda p q).1 (inl old))))
+        (λ k. ⊎_elim
+        (λ here. (second.lambda p q).1 (inl ((first.lambda p q).1 (inr (k.0, k.1, k.2, here, k.4)))))
+        (λ later.
+        let v = later.0 in
+        let at = led_stands set a covers k.0 k.1 v k.2 later.1 in
+        (second.lambda p q).1 (inr (at.0, v, at.1, later.2, (first.state at.0 q v at.1).1 (k.0, k.1, k.2, later.1, k.4))))
+        k.3)
+        h,
+  );
+}
+
+-- what is left to go over, from here, makes the whole from the start
+pub record Led (set : List ℕ) (all left : Effect) (start state : Matrix) (before list : List Occurrence) : Type 0 where
   pub size : length state ≡ length set
   pub rows : AreRows (length set) list
-  pub lambda : (p : Place) (a : ℕ) (x : VarId) → Stands set a x → (Relates list p a ⊎ Leads set (λ z. Lambda (effects rest) z p) state a) ↔ Lambda (effects all) x p
+  pub rest : (new : Matrix) (after : List Occurrence) → StepsForward set left state new list after → StepsForward set all start new before after
 
-pub led_start : (set : List ℕ) (all : List CoreStmt) (state : Matrix) → length state ≡ length set → ((a b : ℕ) → Holds state a b ↔ ((a < length set) × (a ≡ b))) → Led set all all state []
-led_start set all state size pairs = record {
-  size = size;
-  rows = All-nil (λ (o : Occurrence). length o.vars ≡ length set);
-  lambda = λ p a x stands. (
-    λ h. ⊎_elim
-        (λ old. absurd (none_related p a old))
-        (λ q. subst (λ u. Lambda (effects all) u p) (one_var set a q.1 x (subst (λ k. Stands set k q.1) ((pairs q.0 a).0 q.4).1 q.2) stands) q.3)
-        h,
-    λ h. inr (a, x, stands, h, (pairs a a).1 (slice_get_within set a x.0 stands, refl)),
-  );
-}
+pub led_start : (set : List ℕ) (all : Effect) (start : Matrix) (before : List Occurrence) → length start ≡ length set → AreRows (length set) before → Led set all all start start before before
+led_start set all start before size rows = record { size = size; rows = rows; rest = λ new after steps. steps }
 
-pub led_next : (set : List ℕ) (all rest : List CoreStmt) (s : CoreStmt) (old new : Matrix) (before after : List Occurrence) → Covers set (effect s) → Led set all (s ∷ rest) old before → StepsForward set (effect s) old new before after →
-    Led set all rest new after
-led_next set all rest s old new before after covers led step = record {
+pub led_next : (set : List ℕ) (all one left : Effect) (start old new : Matrix) (before list after : List Occurrence) → Covers set one → Led set all (next one left) start old before list → StepsForward set one old new list after →
+    Led set all left start new before after
+led_next set all one left start old new before list after covers led step = record {
   size = step.size ∙ led.size;
   rows = step.lambda_rows;
-  lambda = λ p a x stands. (
-    λ h. (led.lambda p a x stands).0 (⊎_elim
-        (λ listed. ⊎_elim (λ q. inl q) (λ q. inr (q.0, q.1, q.2, inl q.3, q.4)) ((step.lambda p a).0 listed))
-        (λ later. let q = (step.state later.0 a later.1 later.2).0 later.4 in inr (q.0, q.1, q.2, inr (later.1, q.3, later.3), q.4))
-        h),
-    λ h. ⊎_elim
-        (λ listed. inl ((step.lambda p a).1 (inl listed)))
-        (λ q. ⊎_elim
-        (λ here. inl ((step.lambda p a).1 (inr (q.0, q.1, q.2, here, q.4))))
-        (λ later.
-        let at = led_stands set (effect s) covers q.0 q.1 later.0 q.2 later.1 in
-        inr (at.0, later.0, at.1, later.2, (step.state at.0 a later.0 at.1).1 (q.0, q.1, q.2, later.1, q.4)))
-        q.3)
-        ((led.lambda p a x stands).1 h),
-  );
+  rest = λ last end steps. led.rest last end (steps_next set one left old new last list after end covers step steps);
 }
 
-pub led_end : (set : List ℕ) (all : List CoreStmt) (state : Matrix) (list : List Occurrence) → Led set all [] state list → (p : Place) (a : ℕ) (x : VarId) → Stands set a x → Relates list p a ↔ Lambda (effects all) x p
-led_end set all state list led p a x stands = (
-  λ h. (led.lambda p a x stands).0 (inl h),
-  λ h. ⊎_elim (λ q. q) (λ later. absurd later.3) ((led.lambda p a x stands).1 h),
+pub led_end : (set : List ℕ) (all : Effect) (start state : Matrix) (before list : List Occurrence) → IsDistinct ◌==◌ set → Led set all nothing start state before list → StepsForward set all start state before list
+led_end set all start state before list once led = led.rest state list (idle_null set state list once led.rows)
+
+-- ---- from the start
+
+pub from_start : (set : List ℕ) (e : Effect) (state new : Matrix) (list : List Occurrence) → ((a b : ℕ) → Holds state a b ↔ ((a < length set) × (a ≡ b))) → StepsForward set e state new [] list →
+    (p : Place) (a : ℕ) (x : VarId) → Stands set a x → Relates list p a ↔ Lambda e x p
+from_start set e state new list pairs step p a x stands = (
+  λ h. ⊎_elim
+      (λ old. absurd (none_related p a old))
+      (λ q. subst (λ u. Lambda e u p) (one_var set a q.1 x (subst (λ k. Stands set k q.1) ((pairs q.0 a).0 q.4).1 q.2) stands) q.3)
+      ((step.lambda p a).0 h),
+  λ h. (step.lambda p a).1 (inr (a, x, stands, h, (pairs a a).1 (slice_get_within set a x.0 stands, refl))),
 )

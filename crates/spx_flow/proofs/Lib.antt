@@ -1,4 +1,8 @@
+mod CommandForms
+mod TargetLaws
+mod CoversLaws
 mod PositionLaws
+mod BranchLaws
 mod Occurrences
 mod BackwardLaws
 mod ForwardLaws

@@ -1,9 +1,10 @@
 -- Variables by their position in a set.
-use Rattle.std.proofs.Common.{◌≡◌, ◌≢◌, ◌↔◌, ℕ, ℤ, ◌<◌, Bool, true, false, ◌||◌, cond, ltb, eqb, List, [], ◌∷◌, ◌++◌, length, get_or, Option, Some, None, refl, sym, ap, ap₂, ◌∙◌, subst, inl, inr, append_assoc, arith}
+use Rattle.std.proofs.Common.{◌≡◌, ◌≢◌, ◌↔◌, ℕ, ℤ, ◌<◌, Bool, true, false, ◌||◌, cond, ltb, eqb, List, [], ◌∷◌, ◌++◌, ◌+◌, take, length, get_or, Option, Some, None, refl, sym, ap, ap₂, ◌∙◌, subst, inl, inr, append_assoc, arith}
 use Rattle.std.specs.Prelude.{◌==◌, Contains, All}
 use Rattle.std.specs.Option.{option_and_then}
 use Rattle.std.specs.List.{IsDistinct, cons_option, filter_map, list_any, position_or_len}
 use Rattle.std.proofs.lemmas.Bool.{both_ways, cases_Bool, eq-eqb, eqb-true, lt-ltb, ne_eqb}
+use Rattle.std.proofs.lemmas.List.{take_more}
 use Rattle.std.proofs.lemmas.Option.{get_or_from_slice_get, slice_get-get_or, slice_get_within}
 use Rattle.std.proofs.lemmas.List.Elements.{All-cons, All-nil, filter_map-append}
 use Rattle.std.proofs.lemmas.List.Quantifiers.{position-Some}
@@ -21,9 +22,11 @@ use Rattle.spx_core.specs.declared.expression.CoreExpr.TheVariants.{Number, Name
 use Rattle.spx_core.specs.Uses.{denotes, is_same, variable_of}
 use Rattle.spx_core.specs.Reads.{names_read, names_step}
 use Rattle.spx_core.specs.Effects.{Effect, effect, effects, is_read, reads, reads_of, sets}
+use Rattle.spx_core.specs.Commands.{command}
 use Rattle.spx_core.specs.Flow.{MayFlow}
 use Rattle.spx_core.specs.VarSets.{holds, place_in_set}
 use Rattle.spx_flow.specs.Positions.{Covers, Stands, position_named, positions_read}
+use Rattle.spx_flow.specs.Targets.{positions_in}
 use Rattle.spx_core.proofs.Callers.Expressions.{fold-Number, fold-Name, fold-Attribute, fold-Parenthesized, fold-Prefix, fold-Infix}
 use Rattle.spx_core.proofs.Callers.FlowLaws.{keeps, reads_any, reads_uses, sets_any}
 use Rattle.spx_core.proofs.Callers.ListTests.{found, passes}
@@ -85,6 +88,13 @@ place_of_standing set v k once stands =
 
 -- ---- the positions of names
 
+pub turned : (a b : ℕ) → (a == b) ≡ (b == a)
+turned a b =
+    elim (cases_Bool (a == b)) [
+      | inl same ↦ same ∙ sym (eq-eqb b a (sym (eqb-true a b same)))
+      | inr differ ↦ differ ∙ sym (ne_eqb b a (λ e. both_ways (a == b) differ (eq-eqb a b (sym e))))
+    ]
+
 some_is : {j k : ℕ} → Some j ≡ Some k → j ≡ k
 some_is e = cc
 
@@ -123,6 +133,19 @@ module _ (set : List ℕ) (once : IsDistinct ◌==◌ set) (k : ℕ) (v : VarId)
         subst (Contains (positions_read set e)) (eqb-true one.0 k one.2) one.1,
   )
 
+  -- the variables with these numbers
+  numbered : (numbers : List ℕ) → list_any (λ j. j == k) (positions_in set numbers) ≡ holds numbers v
+  numbered [] = refl
+  numbered (n ∷ numbers) =
+      let w : VarId = record { 0 = n } in
+      is_place w (place_in_set set w) refl (positions_in set numbers) ∙ ap₂ ◌||◌ (turned n v.0) (numbered numbers)
+
+  pub numbers_at : (numbers : List ℕ) → Contains (positions_in set numbers) k ↔ (holds numbers v ≡ true)
+  numbers_at numbers = (
+    λ c. sym (numbered numbers) ∙ passes (λ j. j == k) (positions_in set numbers) k c (eq-eqb k k refl),
+    λ h. let one = found (λ j. j == k) (positions_in set numbers) (numbered numbers ∙ h) in subst (Contains (positions_in set numbers)) (eqb-true one.0 k one.2) one.1,
+  )
+
 -- ---- they are within the set
 
 within_first : (set : List ℕ) (o : Option VarId) (rest : List ℕ) → All (λ k. k < length set) rest → All (λ k. k < length set) (cons_option (option_and_then (place_in_set set) o) rest)
@@ -140,6 +163,13 @@ within_names set (name ∷ names) = within_first set (variable_of name.entity) (
 pub read_within : (set : List ℕ) (e : CoreExpr) → All (λ k. k < length set) (positions_read set e)
 read_within set e = within_names set (names_read e)
 
+pub numbers_within : (set : List ℕ) (numbers : List ℕ) → All (λ k. k < length set) (positions_in set numbers)
+numbers_within set [] = All-nil (λ k. k < length set)
+numbers_within set (n ∷ numbers) = within_first set (Some (record { 0 = n })) (positions_in set numbers) (numbers_within set numbers)
+
+pub positions_more : (set numbers : List ℕ) (i : ℕ) → i < length numbers → positions_in set (take (i + 1) numbers) ≡ positions_in set (take i numbers) ++ positions_in set (get_or numbers i 0 ∷ [])
+positions_more set numbers i less = ap (positions_in set) (take_more numbers i 0 less) ∙ filter_map-append _ (take i numbers) (get_or numbers i 0 ∷ [])
+
 -- ---- sets that cover statements
 
 -- a variable stands at one position
@@ -153,11 +183,11 @@ held_stands set v is =
     (one.1.0, slice_get-get_or set one.1.0 one.0 one.1.1 ∙ ap Some (one.1.2 ∙ sym (eqb-true v.0 one.0 one.2)))
 
 -- what covers statements covers each of them
-pub covers_one : (set : List ℕ) (stmts : List CoreStmt) (s : CoreStmt) → Covers set (effects stmts) → Contains stmts s → Covers set (effect s)
+pub covers_one : (set : List ℕ) (stmts : List CoreStmt) (s : CoreStmt) → Covers set (effects stmts) → Contains stmts s → Covers set (effect (command s))
 covers_one set stmts s covers is = record {
   once = covers.once;
-  targets = λ v h. covers.targets v (sets_any v stmts ∙ passes (λ t. sets v (effect t)) stmts s is h);
-  read = λ v h. covers.read v (reads_any v stmts ∙ passes (λ t. reads v (effect t)) stmts s is h);
+  targets = λ v h. covers.targets v (sets_any v stmts ∙ passes (λ t. sets v (effect (command t))) stmts s is h);
+  read = λ v h. covers.read v (reads_any v stmts ∙ passes (λ t. reads v (effect (command t))) stmts s is h);
 }
 
 -- a variable that is set has a position

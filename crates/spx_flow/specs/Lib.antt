@@ -2,3 +2,5 @@ pub mod Positions
 pub mod Flows
 pub mod BackwardSteps
 pub mod ForwardSteps
+pub mod Targets
+pub mod Branches

@@ -1,10 +1,10 @@
 // The flow of a subprogram.
-ghost use Rattle.std.specs.Prelude.{◌≡◌, ◌==◌, ◌||◌, ◌<◌, ◌≤◌, Some, false, length, slice_get, IfErr, IfOk, OnOk};
+ghost use Rattle.std.specs.Prelude.{◌≡◌, ◌==◌, ◌<◌, ◌≤◌, Some, false, length, slice_get, IfErr, IfOk};
 ghost use Rattle.std.specs.List.{IsDistinct};
 ghost use Rattle.spx_core.specs.declared.entity.VarId.{VarId};
 ghost use Rattle.spx_core.specs.declared.subprogram.Sub.{Sub};
 ghost use Rattle.spx_core.specs.Erased.{Visible};
-ghost use Rattle.spx_core.specs.Effects.{defines, effect, sets};
+ghost use Rattle.spx_core.specs.Effects.{defines};
 ghost use Rattle.spx_core.specs.VarSets.{holds, positions_of};
 ghost use Rattle.spx_core.specs.FlowRules.{body_effect, is_wide};
 ghost use Rattle.spx_flow.specs.Positions.{Covers};
@@ -13,8 +13,10 @@ ghost use Rattle.spx_flow.specs.Flows.{IsFaultOf, IsFlow};
 use crate::backward::backward;
 use crate::fault::{FlowFault, MOST_VARIABLES};
 use crate::forward::forward;
+use crate::targets::add_all_targets;
+use indexmap::IndexSet;
 use spx_core::laws::names_are_scoped;
-use spx_core::{CoreStmt, Program, Sub, SubId, VarSet, variable_of};
+use spx_core::{CoreStmt, Program, Sub, SubId, VarId, VarSet};
 use spx_rows::{Relation, Row};
 use spx_text::Place;
 use sqlite_items::Items;
@@ -41,29 +43,15 @@ pub struct Flow {
     pub defines: VarSet,
 }
 
-/// Adds the variable that the statement sets, if it sets one.
-fn insert_target(set: &mut VarSet, stmt: &CoreStmt) -> Result<(), AllocError>
-    ensures { OnOk result ((v : VarId) → holds set.new v ≡ (sets v (effect stmt.now) || holds set.old v)) }
-{
-    match stmt {
-        CoreStmt::Null(_) => Ok(()),
-        CoreStmt::Assignment(target, _) => match variable_of(target.root.entity) {
-            Some(var) => {
-                set.insert(var)?;
-                Ok(())
-            }
-            None => Ok(()),
-        },
-    }
-}
-
 /// The variables that the statements set.
 fn defined(alloc: Global, stmts: &[CoreStmt]) -> Result<VarSet, AllocError>
     ensures { IfOk result (λ set. (v : VarId) → holds set v ≡ defines v stmts.now) }
 {
+    let mut targets = IndexSet::new(alloc);
+    add_all_targets(stmts, &mut targets)?;
     let mut set = VarSet::new(alloc);
-    for stmt in stmts {
-        insert_target(&mut set, stmt)?;
+    for number in targets.as_slice() {
+        set.insert(VarId(*number))?;
     }
     Ok(set)
 }

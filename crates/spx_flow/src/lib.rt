@@ -1,9 +1,10 @@
 //! Information flow of subprograms (Bergeretti and Carré, TOPLAS 1985).
 //!
 //! A layer above may rely on this: `flow_of` answers the flow of a body exactly as `spx_core` defines it (`IsFlow`), with
-//! variables by their position in the subprogram's list and occurrences by their place, in two passes over the body. A
-//! statement costs a union of rows for each variable that it reads. It refuses a subprogram exactly where that has more
-//! than `MOST_VARIABLES` variables, or where memory runs out.
+//! variables by their position in the subprogram's list and occurrences by their place, in two passes over the body. An
+//! assignment costs a union of rows for each variable that it reads. An arm costs a copy and a union of relations, and a
+//! union of rows for each pair of a variable that its condition reads and one that it or an arm after it sets. It refuses a
+//! subprogram exactly where that has more than `MOST_VARIABLES` variables, or where memory runs out.
 #![tactic(auto)]
 
 mod backward;
@@ -11,6 +12,7 @@ mod fault;
 mod flow;
 mod forward;
 mod positions;
+mod targets;
 
 pub use fault::{FlowFault, MOST_VARIABLES};
 pub use flow::{Flow, Occurrence, flow_of};

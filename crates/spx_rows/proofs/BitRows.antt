@@ -68,7 +68,7 @@ gains_table n f g R same within a b = (
 )
 
 -- a bit of a disjunction
-bit_or_at : (x y i : ℕ) → (bit_at (bit_or x y) i ≡ 1) ↔ ((bit_at x i ≡ 1) ⊎ (bit_at y i ≡ 1))
+pub bit_or_at : (x y i : ℕ) → (bit_at (bit_or x y) i ≡ 1) ↔ ((bit_at x i ≡ 1) ⊎ (bit_at y i ≡ 1))
 bit_or_at x y i = let e = bit_at_or x y i in let a = bit_at-lt x i in let b = bit_at-lt y i in
     (λ h. ⊎_elim (λ p. inl p) (λ p. inr (let q : bit_at x i ≢ 1 = p in omega arith)) (cases_eq (bit_at x i) 1), λ h. ⊎_elim (λ p. omega arith) (λ p. omega arith) h)
 

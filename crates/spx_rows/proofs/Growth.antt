@@ -1,10 +1,10 @@
 -- Relations to which a loop adds pairs.
-use Rattle.std.proofs.Common.{◌≡◌, ◌≢◌, ap, ℕ, ◌<◌, ◌+◌, ◌⊎◌, ◌↔◌, inl, inr, List, length, get_or, refl, sym, ◌∙◌, subst, ⊎_elim, arith}
+use Rattle.std.proofs.Common.{◌≡◌, ◌≢◌, ap, ℕ, ◌<◌, ◌≤◌, ◌+◌, ◌⊎◌, ◌↔◌, inl, inr, Bool, List, length, get_or, refl, sym, ◌∙◌, subst, ⊎_elim, arith}
 use Rattle.std.specs.Prelude.{Contains}
 use Rattle.std.proofs.lemmas.Bool.{cases_eq}
 use Rattle.std.proofs.lemmas.List.{get_or_default}
 use Rattle.std.proofs.lemmas.List.Elements.{Contains-get_or}
-use Rattle.spx_rows.specs.Relations.{Rel, Matrix, Holds, Gains, Of}
+use Rattle.spx_rows.specs.Relations.{Rel, Matrix, Has, Holds, Gains, Of}
 
 -- a loop adds at each k the pairs of Q k
 pub record Grown (start now : Matrix) (i : ℕ) (Q : ℕ → Rel) : Type 0 where
@@ -65,4 +65,28 @@ gathered_all from to old now g a b = (
       (λ p. subst (λ y. Holds now y b) p.0 ((g.here b).1 (inr (p.1.1.0, p.1.1.1, subst (λ y. Holds old y b) (sym p.1.1.2 ∙ get_or_default from p.1.1.0 p.1.0 0 p.1.1.1) p.1.2))))
       (λ p. (g.kept a b p.0).1 p.1)
       h,
+)
+
+-- a single row has the rows before i
+pub record Unites (from : List ℕ) (m : Matrix) (row : List Bool) (i : ℕ) : Type 0 where
+  pub size : length row ≡ length m
+  pub here : (w : ℕ) → Has row w ↔ ((k : ℕ) × (k < i) × Holds m (get_or from k 0) w)
+
+pub unites_more : (from : List ℕ) (m : Matrix) (row next : List Bool) (i x : ℕ) → i < length from → x ≡ get_or from i x → Unites from m row i → length next ≡ length row → ((w : ℕ) → Has next w ↔ (Has row w ⊎ Holds m x w)) → Unites from m next (i + 1)
+unites_more from m row next i x lt at g e gains =
+    let is : x ≡ get_or from i 0 = at ∙ get_or_default from i x 0 lt in record {
+      size = e ∙ g.size;
+      here = λ w. (
+        λ h. ⊎_elim (λ p. let q = (g.here w).0 p in (q.0, omega (arith, q.1), q.2)) (λ p. (i, omega arith, subst (λ y. Holds m y w) is p)) ((gains w).0 h),
+        λ h. (gains w).1 (⊎_elim
+            (λ less. inl ((g.here w).1 (h.0, less, h.2)))
+            (λ same. inr (subst (λ y. Holds m y w) (ap (λ k. get_or from k 0) same ∙ sym is) h.2))
+            (below_or_at h.0 i h.1)),
+      );
+    }
+
+pub unites_all : (from : List ℕ) (m : Matrix) (row : List Bool) (i : ℕ) → length from ≤ i → i ≤ length from → Unites from m row i → (w : ℕ) → Has row w ↔ Of from m w
+unites_all from m row i past within g w = (
+  λ h. let q = (g.here w).0 h in let lt : q.0 < length from = omega (arith, q.1) in (get_or from q.0 0, Contains-get_or from q.0 0 lt, q.2),
+  λ h. (g.here w).1 (h.1.0, omega (arith, h.1.1), subst (λ y. Holds m y w) (sym h.1.2 ∙ get_or_default from h.1.0 h.0 0 h.1.1) h.2),
 )

@@ -6,8 +6,8 @@ use Rattle.std.proofs.lemmas.List.{get_or_default, get_or-take, get_or-drop}
 use Rattle.std.proofs.lemmas.List.FromFn.{length-map-range_with_len}
 use Rattle.std.proofs.lemmas.Nat.Bits.{bit_at_and, bit_at-lt, shr_and_one}
 use Rattle.spx_rows.specs.Relations.{Matrix, row_of, table, Has, Holds}
-use Rattle.spx_rows.specs.Bits.{width, bit}
-use Rattle.spx_rows.proofs.BitRows.{bits, has_row, holds_table, size_of, is_set, in_row, with_bit, bit_more, none_set}
+use Rattle.spx_rows.specs.Bits.{Changed, width, bit}
+use Rattle.spx_rows.proofs.BitRows.{bits, has_row, holds_table, size_of, is_set, in_row, with_bit, bit_more, bit_or_at, none_set}
 
 pub row_size : (n : ℕ) (f : ℕ → Bool) (row : List Bool) → row_of n f ≡ row → n ≡ length row
 row_size n f row e = sym (length-map-range_with_len f 0 n) ∙ ap length e
@@ -56,6 +56,39 @@ module _ (n : ℕ) (row : List Bool) (words : List ℕ) (is : row_of n (bit word
   pub add_at : (w x : ℕ) → w < length row → length words ≡ width n → x ≡ get_or words (w / 64) x →
       (b : ℕ) → Has (row_of n (bit (set words (w / 64) (bit_or x (1 * 2 ^ (w % 64) % 2 ^ 64))) 0)) b ↔ (Has row b ⊎ (w ≡ b))
   add_at w x wm len r = rw (here w x wm len r, ← is) (added n words w (below w wm) len)
+
+-- a row to which words are added
+words_gained : (n from : ℕ) (old new words : List ℕ) → Changed old new 0 (width n) (λ j x. bit_or x (get_or words (from + j) 0)) →
+    (b : ℕ) → Has (row_of n (bit new 0)) b ↔ (Has (row_of n (bit old 0)) b ⊎ ((b < n) × IsTrue (bit words from b)))
+words_gained n from old new words c b =
+    let e = bit_or_at (get_or old (b / 64) 0) (get_or words (from + b / 64) 0) (b % 64) in (
+      λ h. let p = (has_row n (bit new 0) b).0 h in ⊎_elim
+          (λ q. inl ((has_row n (bit old 0) b).1 (p.0, (set_first old b).1 q)))
+          (λ q. inr (p.0, (is_set words from b).1 q))
+          (e.0 (ap (λ x. bit_at x (b % 64)) (sym (here p.0)) ∙ (set_first new b).0 p.1)),
+      λ h. ⊎_elim
+          (λ q. let p = (has_row n (bit old 0) b).0 q in gained p.0 (e.1 (inl ((set_first old b).0 p.1))))
+          (λ p. gained p.0 (e.1 (inr ((is_set words from b).0 p.1))))
+          h,
+    )
+  where
+    here : b < n → get_or new (b / 64) 0 ≡ bit_or (get_or old (b / 64) 0) (get_or words (from + b / 64) 0)
+    here lt = c.done (b / 64) (b / 64) (omega arith) (in_row n b lt)
+
+    gained : b < n → bit_at (bit_or (get_or old (b / 64) 0) (get_or words (from + b / 64) 0)) (b % 64) ≡ 1 → Has (row_of n (bit new 0)) b
+    gained lt h = (has_row n (bit new 0) b).1 (lt, (set_first new b).1 (ap (λ x. bit_at x (b % 64)) (here lt) ∙ h))
+
+pub words_added : (n : ℕ) (row : List Bool) (old new words : List ℕ) (from count : ℕ) → row_of n (bit old 0) ≡ row → count ≡ width n → Changed old new 0 count (λ j x. bit_or x (get_or words (from + j) 0)) →
+    (b : ℕ) → Has (row_of n (bit new 0)) b ↔ (Has row b ⊎ ((b < length row) × IsTrue (bit words from b)))
+words_added n row old new words from count is wide c b =
+    rw (← row_size n (bit old 0) row is, ← is) (words_gained n from old new words (rw wide at c) b)
+
+-- a bit of a row of a relation
+pub row_bits : (n : ℕ) (m : Matrix) (words : List ℕ) → table n (bits n words) ≡ m → (u at w : ℕ) → u < length m → at ≡ u * width n → ((w < length m) × IsTrue (bit words at w)) ↔ Holds m u w
+row_bits n m words is u at w um e =
+    let size = size_of n (bits n words) m is in
+    let un : u < n = subst (λ k. u < k) (sym size) um in
+    rw (e, ← size, ← is) (λ h. (holds_table n (bits n words) u w).1 (un, h.0, h.1), λ h. let p = (holds_table n (bits n words) u w).0 h in (p.1, p.2))
 
 -- what is copied from a row of a relation
 pub copied : (n u row count : ℕ) (words new : List ℕ) → u < n → row ≡ u * width n → count ≡ width n → ((j : ℕ) → j < count → get_or new j 0 ≡ get_or words (row + j) 0) →

@@ -101,6 +101,28 @@ impl Relation {
         Ok(Row::from_words(self.size, words))
     }
 
+    /// Adds to a set the numbers that `u` stands with.
+    fn add_row_to(&self, u: usize, row: &mut Row)
+        requires u { u < length self.now }
+        requires size { length row.old ≡ length self.now }
+        ensures size { length row.new ≡ length row.old }
+        ensures numbers { (w : ℕ) → Has row.new w ↔ (Has row.old w ⊎ Holds self.now u w) }
+    {
+        row.add_words(&self.words, row_at(self.size, u));
+    }
+
+    /// The union of rows, as a set of its own.
+    pub fn union_of(&self, alloc: Global, from: &[usize]) -> Result<Row, AllocError>
+        requires { All (λ x. x < length self.now) from.now }
+        ensures { IfOk result (λ row. (length row ≡ length self.now) × ((w : ℕ) → Has row w ↔ Of from.now self.now w)) }
+    {
+        let mut row = Row::with_size(alloc, self.size())?;
+        for x in from {
+            self.add_row_to(*x, &mut row);
+        }
+        Ok(row)
+    }
+
     /// Adds a pair.
     pub fn add(&mut self, u: usize, w: usize)
         requires u { u < length self.old }
@@ -157,6 +179,19 @@ impl Relation {
     {
         for x in from {
             self.add_row_of(to, other, *x);
+        }
+    }
+
+    /// Adds rows of another relation to each of several rows.
+    pub fn add_rows_to(&mut self, to: &[usize], other: &Relation, from: &[usize])
+        requires to { All (λ x. x < length self.old) to.now }
+        requires from { All (λ x. x < length self.old) from.now }
+        requires size { length other.now ≡ length self.old }
+        ensures size { length self.new ≡ length self.old }
+        ensures pairs { Gains self.old self.new (λ a b. Contains to.now a × Of from.now other.now b) }
+    {
+        for x in to {
+            self.add_rows_of(*x, other, from);
         }
     }
 

@@ -1,12 +1,12 @@
 // Sets of numbers below a size.
 #![tactic(auto, using(crate::proofs::SingleRows::row_size))]
 
-ghost use Rattle.std.specs.Prelude.{◌≡◌, ℕ, ◌<◌, ◌≤◌, IfOk, IsTrue, length, ◌↔◌, ◌⊎◌};
+ghost use Rattle.std.specs.Prelude.{◌≡◌, ℕ, ◌+◌, ◌<◌, ◌≤◌, IfOk, IsTrue, length, ◌↔◌, ◌⊎◌};
 ghost use Rattle.std.specs.Int.{bit_at};
 ghost use Rattle.spx_rows.specs.Bits.{width, bit};
 ghost use Rattle.spx_rows.specs.Relations.{row_of, Has};
 
-use crate::words::width_of;
+use crate::words::{add_words_of, width_of};
 use std::alloc::{AllocError, Global};
 use std::marker::Model;
 
@@ -79,6 +79,15 @@ impl Row {
     {
         let at = w / 64;
         self.words[at] = self.words[at] | 1 << (w % 64);
+    }
+
+    /// Adds the numbers whose bits are set in the words from `from` on.
+    pub(crate) fn add_words(&mut self, words: &Vec<u64>, from: usize)
+        requires { from + width (length self.old) ≤ length words.now.items }
+        ensures size { length self.new ≡ length self.old }
+        ensures numbers { (b : ℕ) → Has self.new b ↔ (Has self.old b ⊎ ((b < length self.old) × IsTrue (bit words.now.items from b))) }
+    {
+        add_words_of(&mut self.words, 0, words, from, width_of(self.size));
     }
 
     /// Whether the two have a number in common.

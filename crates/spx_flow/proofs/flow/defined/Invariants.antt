@@ -4,5 +4,5 @@ use Rattle.spx_core.specs.Effects.{defines}
 use Rattle.spx_core.specs.VarSets.{holds}
 use Rattle.spx_flow.proofs.flow.defined.Given as goal
 
-abbrev pub invariant-loop-stmt : goal.invariant-loop-stmt
-invariant-loop-stmt l = (v : VarId) → (defines v (drop l.stmt-index l.stmts) || holds l.set v) ≡ defines v l.stmts
+abbrev pub invariant-loop-number : goal.invariant-loop-number
+invariant-loop-number l = (v : VarId) → (holds (drop l.number-index l.number-items) v || holds l.set v) ≡ defines v l.stmts

@@ -1,0 +1,65 @@
+-- What covers a statement covers its parts.
+use Rattle.std.proofs.Common.{◌≡◌, ℕ, false, ◌||◌, List, [], ◌∷◌, Option, Some, None, map, subst, sym, ⊎_elim}
+use Rattle.std.specs.Prelude.{All}
+use Rattle.std.proofs.lemmas.Bool.{or_left, or_right, or_cases}
+use Rattle.std.proofs.lemmas.List.Elements.{All-cons, All-nil}
+use Rattle.spx_text.specs.declared.place.Place.{Place}
+use Rattle.spx_tree.specs.declared.statement.Closing.{Closing}
+use Rattle.spx_core.specs.declared.statement.CoreStmt.{CoreStmt}
+use Rattle.spx_core.specs.declared.statement.CoreStmt.TheVariants.{If}
+use Rattle.spx_core.specs.declared.statement.CoreArm.{CoreArm, out-CoreArm}
+use Rattle.spx_core.specs.Commands.{Command, Skip, arm_before, arms_before, command, commands}
+use Rattle.spx_core.specs.Effects.{Effect, Read, choose, effect, effects, is_read, nothing, reads, reads_of, sets}
+use Rattle.spx_flow.specs.Positions.{Covers}
+use Rattle.spx_flow.proofs.CommandForms.{command-If, command-If-else, command_arm}
+
+module _ (set : List ℕ) where
+  first_covered : (tests : List Read) (a b : Effect) (place : Place) → Covers set (choose tests a b place) → Covers set a
+  first_covered tests a b place covers = record {
+    once = covers.once;
+    targets = λ v h. covers.targets v (or_left (sets v a) (sets v b) h);
+    read = λ v h. covers.read v (or_right (is_read v tests) (reads v a || reads v b) (or_left (reads v a) (reads v b) h));
+  }
+
+  second_covered : (tests : List Read) (a b : Effect) (place : Place) → Covers set (choose tests a b place) → Covers set b
+  second_covered tests a b place covers = record {
+    once = covers.once;
+    targets = λ v h. covers.targets v (or_right (sets v a) (sets v b) h);
+    read = λ v h. covers.read v (or_right (is_read v tests) (reads v a || reads v b) (or_right (reads v a) (reads v b) h));
+  }
+
+  only_first : (tests : List Read) (a b : Effect) (place : Place) → Covers set (choose tests a b place) → Covers set (choose tests a nothing place)
+  only_first tests a b place covers = record {
+    once = covers.once;
+    targets = λ v h. ⊎_elim (λ one. covers.targets v (or_left (sets v a) (sets v b) one)) (λ none. absurd cc) (or_cases (sets v a) false h);
+    read = λ v h. ⊎_elim
+        (λ tested. covers.read v (or_left (is_read v tests) (reads v a || reads v b) tested))
+        (λ more. ⊎_elim (λ one. covers.read v (or_right (is_read v tests) (reads v a || reads v b) (or_left (reads v a) (reads v b) one))) (λ none. absurd cc) (or_cases (reads v a) false more))
+        (or_cases (is_read v tests) (reads v a || false) h);
+  }
+
+  -- the statements of an arm
+  pub body_covered : (arm : CoreArm) → Covers set (effect (arm_before arm Skip)) → Covers set (effects (out-CoreArm arm).body)
+  body_covered arm covers =
+      let a = out-CoreArm arm in
+      first_covered (reads_of a.condition) (effects a.body) nothing a.place (subst (λ k. Covers set (effect k)) (command_arm arm Skip) covers)
+
+  -- each arm, and the statements after `else`
+  pub arms_covered : (otherwise : Command) (arms : List CoreArm) → Covers set (effect (arms_before otherwise (map arm_before arms))) →
+      All (λ (arm : CoreArm). Covers set (effect (arm_before arm Skip))) arms × Covers set (effect otherwise)
+  arms_covered otherwise [] covers = (All-nil (λ (arm : CoreArm). Covers set (effect (arm_before arm Skip))), covers)
+  arms_covered otherwise (arm ∷ arms) covers =
+      let a = out-CoreArm arm in
+      let rest = arms_before otherwise (map arm_before arms) in
+      let chosen = subst (λ k. Covers set (effect k)) (command_arm arm rest) covers in
+      let others = arms_covered otherwise arms (second_covered (reads_of a.condition) (effects a.body) (effect rest) a.place chosen) in
+      let first = subst (λ k. Covers set (effect k)) (sym (command_arm arm Skip)) (only_first (reads_of a.condition) (effects a.body) (effect rest) a.place chosen) in
+      (All-cons (λ (x : CoreArm). Covers set (effect (arm_before x Skip))) arm arms first others.0, others.1)
+
+  -- the parts of an `if`
+  pub if_covered : (s : CoreStmt) (arms : List CoreArm) (o : Option (List CoreStmt)) (closing : Closing) → s ≡ If arms o closing → o ≡ None → Covers set (effect (command s)) → All (λ (arm : CoreArm). Covers set (effect (arm_before arm Skip))) arms
+  if_covered s arms o closing is none covers = (arms_covered Skip arms (subst (λ k. Covers set (effect k)) (command-If s arms o closing is none) covers)).0
+
+  pub if_else_covered : (s : CoreStmt) (arms : List CoreArm) (o : Option (List CoreStmt)) (stmts : List CoreStmt) (closing : Closing) → s ≡ If arms o closing → o ≡ Some stmts → Covers set (effect (command s)) →
+      All (λ (arm : CoreArm). Covers set (effect (arm_before arm Skip))) arms × Covers set (effects stmts)
+  if_else_covered s arms o stmts closing is some covers = arms_covered (commands stmts) arms (subst (λ k. Covers set (effect k)) (command-If-else s arms o stmts closing is some) covers)

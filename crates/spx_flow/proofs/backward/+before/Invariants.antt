@@ -1,0 +1,15 @@
+use Rattle.std.proofs.Common.{drop, map}
+use Rattle.spx_core.specs.Commands.{arm_before, arms_before}
+use Rattle.spx_core.specs.Effects.{effects}
+use Rattle.spx_flow.specs.Branches.{Arms}
+use Rattle.spx_flow.specs.BackwardSteps.{StepsBack}
+use Rattle.spx_flow.proofs.backward.+before.Given as goal
+
+-- the statements from k on have been gone over
+abbrev pub invariant-before_all-loop-k : goal.invariant-before_all-loop-k
+invariant-before_all-loop-k l = StepsBack l.vars (effects (drop l.k l.stmts)) l.initial.rho l.rho l.initial.mu l.mu
+
+-- the arms from k on have been gone over
+abbrev pub invariant-before_arms-loop-k : goal.invariant-before_arms-loop-k
+invariant-before_arms-loop-k l =
+    Arms (λ e. StepsBack l.vars e l.rho) l.vars (λ otherwise. arms_before otherwise (map arm_before (drop l.k l.arms))) l.initial.starts l.starts l.initial.targets.keys l.targets.keys l.initial.mu l.mu

@@ -1,0 +1,12 @@
+use Rattle.std.proofs.Common.{◌≡◌, ◌||◌, drop}
+use Rattle.spx_core.specs.declared.entity.VarId.{VarId}
+use Rattle.spx_core.specs.Effects.{effects, sets}
+use Rattle.spx_core.specs.VarSets.{holds}
+use Rattle.spx_flow.specs.Targets.{arms_set}
+use Rattle.spx_flow.proofs.targets.+add_targets.Given as goal
+
+abbrev pub invariant-add_targets_of_arms-loop-arm : goal.invariant-add_targets_of_arms-loop-arm
+invariant-add_targets_of_arms-loop-arm l = (v : VarId) → (arms_set v (drop l.arm-index l.arms) || holds l.found.keys v) ≡ (arms_set v l.arms || holds l.initial.found.keys v)
+
+abbrev pub invariant-add_all_targets-loop-stmt : goal.invariant-add_all_targets-loop-stmt
+invariant-add_all_targets-loop-stmt l = (v : VarId) → (sets v (effects (drop l.stmt-index l.stmts)) || holds l.found.keys v) ≡ (sets v (effects l.stmts) || holds l.initial.found.keys v)

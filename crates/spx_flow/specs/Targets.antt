@@ -1,0 +1,19 @@
+-- The variables that arms set, and the positions of variables.
+use Rattle.std.specs.Prelude.{ℕ, ◌==◌, Bool, List, position}
+use Rattle.std.specs.List.{filter_map, list_any}
+use Rattle.spx_core.specs.declared.entity.VarId.{VarId}
+use Rattle.spx_core.specs.declared.statement.CoreArm.{CoreArm}
+use Rattle.spx_core.specs.Commands.{Skip, arm_before}
+use Rattle.spx_core.specs.Effects.{effect, sets}
+
+-- the arm sets the variable
+abbrev pub arm_sets : VarId → CoreArm → Bool
+arm_sets v arm = sets v (effect (arm_before arm Skip))
+
+-- one of the arms sets the variable
+abbrev pub arms_set : VarId → List CoreArm → Bool
+arms_set v arms = list_any (arm_sets v) arms
+
+-- the positions of these variables, of those that are in the set
+abbrev pub positions_in : List ℕ → List ℕ → List ℕ
+positions_in set numbers = filter_map (λ n. position (λ m. n == m) set) numbers

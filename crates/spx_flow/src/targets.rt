@@ -1,0 +1,103 @@
+// The variables that statements set.
+ghost use Rattle.std.specs.Prelude.{◌≡◌, ◌||◌, [], ◌∷◌, ◌++◌, IfOk, OnOk};
+ghost use Rattle.spx_core.specs.declared.entity.VarId.{VarId};
+ghost use Rattle.spx_core.specs.Commands.{command};
+ghost use Rattle.spx_core.specs.Effects.{effect, effects, sets};
+ghost use Rattle.spx_core.specs.Uses.{denotes};
+ghost use Rattle.spx_core.specs.VarSets.{holds};
+ghost use Rattle.spx_flow.specs.Targets.{arms_set, positions_in};
+
+use indexmap::IndexSet;
+use spx_core::{CoreArm, CoreStmt, Reference, VarId, VarSet, variable_of};
+use std::alloc::{AllocError, Global};
+
+/// Variables, each once, by their position in the program's list.
+pub(crate) type Targets = IndexSet<usize>;
+
+/// Adds the variable that the name denotes, if it denotes one.
+fn add_target(found: &mut Targets, target: &Reference) -> Result<(), AllocError>
+    ensures { OnOk result ((v : VarId) → holds found.new.keys v ≡ (denotes v target.now.root || holds found.old.keys v)) }
+{
+    match variable_of(target.root.entity) {
+        Some(var) => {
+            found.insert(var.0)?;
+            Ok(())
+        }
+        None => Ok(()),
+    }
+}
+
+/// Adds the variables that the statement sets.
+#[cycle(add_targets)]
+fn add_targets(stmt: &CoreStmt, found: &mut Targets) -> Result<(), AllocError>
+    ensures { OnOk result ((v : VarId) → holds found.new.keys v ≡ (sets v (effect (command stmt.now)) || holds found.old.keys v)) }
+{
+    match stmt {
+        CoreStmt::Null(_) => Ok(()),
+        CoreStmt::Assignment(target, _) => {
+            add_target(found, target)?;
+            Ok(())
+        }
+        CoreStmt::If(arms, otherwise, _) => match otherwise {
+            None => {
+                add_targets_of_arms(arms.as_slice(), found)?;
+                Ok(())
+            }
+            Some(stmts) => {
+                add_all_targets(stmts.as_slice(), found)?;
+                add_targets_of_arms(arms.as_slice(), found)?;
+                Ok(())
+            }
+        },
+    }
+}
+
+/// Adds the variables that the arms set.
+#[cycle(add_targets)]
+fn add_targets_of_arms(arms: &[CoreArm], found: &mut Targets) -> Result<(), AllocError>
+    ensures { OnOk result ((v : VarId) → holds found.new.keys v ≡ (arms_set v arms.now || holds found.old.keys v)) }
+{
+    for arm in arms {
+        add_all_targets(arm.body.as_slice(), found)?;
+    }
+    Ok(())
+}
+
+/// Adds the variables that the statements set.
+#[cycle(add_targets)]
+pub(crate) fn add_all_targets(stmts: &[CoreStmt], found: &mut Targets) -> Result<(), AllocError>
+    ensures { OnOk result ((v : VarId) → holds found.new.keys v ≡ (sets v (effects stmts.now) || holds found.old.keys v)) }
+{
+    for stmt in stmts {
+        add_targets(stmt, found)?;
+    }
+    Ok(())
+}
+
+/// Adds the position of the variable, if it is in the set.
+fn add_position(vars: &VarSet, var: VarId, found: &mut Vec<usize>) -> Result<(), AllocError>
+    ensures { OnOk result (found.new.items ≡ found.old.items ++ positions_in vars.now (var.0 ∷ [])) }
+{
+    match vars.position(var) {
+        Some(position) => {
+            found.push(position)?;
+            Ok(())
+        }
+        None => Ok(()),
+    }
+}
+
+/// The positions of those that are in the set.
+pub(crate) fn target_positions(
+    alloc: Global,
+    vars: &VarSet,
+    targets: &Targets,
+) -> Result<Vec<usize>, AllocError>
+    ensures { IfOk result (λ found. found.items ≡ positions_in vars.now targets.now.keys) }
+{
+    let mut found = Vec::new(alloc);
+    for number in targets.as_slice() {
+        add_position(vars, VarId(*number), &mut found)?;
+    }
+    Ok(found)
+}
