@@ -1,10 +1,11 @@
 -- The conditions made on the way are those taken back over the steps.
-use Rattle.std.proofs.Common.{◌≡◌, Bool, true, false, cond, List, [], ◌∷◌, map, fold, refl, sym, ap, ◌∙◌}
+use Rattle.std.proofs.Common.{◌≡◌, Bool, true, false, cond, List, [], ◌∷◌, ◌++◌, map, fold, refl, sym, ap, ◌∙◌}
+use Rattle.std.proofs.lemmas.List.{map-append}
 use Rattle.spx_term.specs.declared.term.Name.{Name}
 use Rattle.spx_term.specs.declared.term.Term.{Term}
 use Rattle.spx_term.specs.declared.term.Term.TheVariants.{Variable, Prefix, Infix}
 use Rattle.spx_term.proofs.Terms.{fold-Number, fold-Truth, fold-Variable, fold-Prefix, fold-Infix, induct}
-use Rattle.spx_term.specs.Steps.{Tree, Cut, Assume, Assign, Prove, same_name, substituted_step, substituted, Claim, with_fact, with_value, claims_of, with_new, without_doubles, tidy}
+use Rattle.spx_term.specs.Steps.{Tree, Cut, Assume, Assign, Fresh, Prove, Split, same_name, substituted_step, substituted, Claim, with_fact, with_value, claims_of, with_new, without_doubles, tidy}
 use Rattle.spx_vcg.specs.ConditionWalk.{State, applied, updated, forward}
 use Rattle.spx_vcg.proofs.ConditionTerms.{applied-Number, applied-Truth, applied-Variable, applied-Prefix, applied-Infix}
 
@@ -68,8 +69,11 @@ forward_is s facts (Assume u rest) =
 forward_is s facts (Assign x u rest) =
     forward_is (updated s x (applied s u)) facts rest
     ∙ sym (map_map (taken s facts) (with_value x u) (taken (updated s x (applied s u)) facts) (λ c. λ i. record { kind = c.kind; place = c.place; hyps = fold with_new facts (all_updated s x u c.hyps i); goals = all_updated s x u c.goals i }) (claims_of rest))
+forward_is s facts (Fresh x rest) = forward_is s facts rest
 forward_is s facts (Prove kind place goals rest) =
     ap (λ claims. record { kind = kind; place = place; hyps = facts; goals = map (applied s) goals } ∷ claims) (forward_is s facts rest)
+forward_is s facts (Split first second) =
+    (λ i. forward_is s facts first i ++ forward_is s facts second i) ∙ sym (map-append (taken s facts) (claims_of first) (claims_of second))
 
 pub forward_from_start : (tree : Tree) → forward Variable [] tree ≡ map tidy (claims_of tree)
 forward_from_start tree =

@@ -9,7 +9,7 @@ use Rattle.spx_term.specs.declared.term.Name.{Name}
 use Rattle.spx_term.specs.contracts.term.Name as name
 use Rattle.spx_term.proofs.Equality.{same_by-Decides}
 use Rattle.spx_term.specs.Steps.{same_name}
-use Rattle.spx_meaning.specs.Paths.{now}
+use Rattle.spx_paths.specs.Terms.{now}
 
 pub same_name-Decides : (x y : Name) → Decides (same_name x y) (x ≡ y)
 unfolding same_name

@@ -2,7 +2,7 @@
 use Rattle.std.proofs.Common.{◌≡◌, List, [], ◌∷◌, map, fold, refl}
 use Rattle.spx_term.specs.declared.term.Term.{Term}
 use Rattle.spx_term.specs.Steps.{Tree, assume_all, with_new}
-use Rattle.spx_meaning.specs.Paths.{in_integer}
+use Rattle.spx_paths.specs.Checks.{in_integer}
 use Rattle.spx_vcg.specs.ConditionWalk.{State, applied, forward}
 use Rattle.spx_vcg.proofs.ConditionTerms.{applied-Number, applied-Infix}
 

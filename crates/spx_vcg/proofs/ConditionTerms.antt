@@ -12,7 +12,8 @@ use Rattle.spx_term.specs.declared.term.Term.TheVariants.{Number, Truth, Variabl
 use Rattle.spx_term.specs.declared.value.Value.{Value}
 use Rattle.spx_term.specs.declared.value.Value.TheVariants as value
 use Rattle.spx_term.proofs.Terms.{fold-Number, fold-Truth, fold-Variable, fold-Prefix, fold-Infix}
-use Rattle.spx_meaning.specs.Paths.{static_term, signed_term}
+use Rattle.spx_term.specs.Folding.{term_of as static_term}
+use Rattle.spx_paths.specs.Terms.{signed_term}
 use Rattle.spx_vcg.specs.ConditionWalk.{State, applied_step, applied}
 
 pub applied-Number : (s : State) (n : ℤ) → applied s (Number n) ≡ Number n

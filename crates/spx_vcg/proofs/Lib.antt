@@ -6,3 +6,7 @@ pub mod SharedIds
 pub mod SharedTerms
 pub mod SharedSteps
 pub mod Sizes
+pub mod Subs
+pub mod BranchSteps
+pub mod Remaining
+pub mod Forms

@@ -18,8 +18,8 @@ use Rattle.spx_core.specs.Places.{place_of}
 use Rattle.spx_core.specs.Dependency.{exports}
 use Rattle.spx_core.specs.declared.subprogram.Sub.{Sub}
 use Rattle.spx_core.specs.declared.subprogram.CorePrecondition.{CorePrecondition}
-use Rattle.spx_core.specs.declared.statement.CoreStmt.{CoreStmt}
-use Rattle.spx_core.specs.declared.statement.CoreStmt.TheVariants.{Assignment}
+use Rattle.spx_core.specs.declared.program.Program.{Program}
+use Rattle.spx_core.specs.Commands.{Set, Skip, Then, commands}
 use Rattle.spx_core.specs.declared.name.CoreName.{CoreName}
 use Rattle.spx_core.specs.declared.name.Reference.{Reference}
 use Rattle.spx_core.specs.Formals.{formals}
@@ -41,7 +41,11 @@ use Rattle.spx_term.specs.declared.term.Sort.{Sort}
 use Rattle.spx_term.specs.declared.term.Sort.TheVariants.{Integer, Boolean}
 use Rattle.spx_meaning.specs.Evaluation.{term_op}
 use Rattle.spx_meaning.specs.Literals.{literal}
-use Rattle.spx_meaning.specs.Paths.{now, entry, entering, import_facts, pre_facts, first_facts, tree_of, walk, walks, in_integer, term_of, term_of-Infix, term_of-Prefix, assigned, checks, checks-Number, checks-Name, checks-Attribute, checks-Parenthesized, term_of-Parenthesized, checks-Infix, checks-Prefix, literal_or, static_term, signed_term, unless_static, operation_check, sign_check}
+use Rattle.spx_term.specs.Folding.{term_of as static_term}
+use Rattle.spx_paths.specs.Terms.{now, entry, now_term, entry_term, term_of, term_with-Infix, term_with-Prefix, term_with-Parenthesized, literal_or, signed_term}
+use Rattle.spx_paths.specs.Checks.{in_integer, checks, checks-Number, checks-Name, checks-Attribute, checks-Parenthesized, checks-Infix, checks-Prefix, unless_static, operation_check, sign_check}
+use Rattle.spx_paths.specs.Walks.{entering, import_facts, pre_facts, first_facts, start_tree, walk, ending, assigned}
+use Rattle.spx_paths.specs.Conditions.{body_claims}
 use Rattle.spx_arena.specs.declared.terms.TermId.{TermId}
 use Rattle.spx_arena.specs.declared.claims.SharedClaim.{SharedClaim}
 use Rattle.spx_arena.specs.Sharing.{tree_at, Grows, IsId, Distinct}
@@ -53,30 +57,32 @@ use Rattle.spx_vcg.specs.ConditionWalk.{State, applied, forward, updated}
 use Rattle.spx_vcg.specs.States.{Given, given, value_or, state_at, state_in, AreValues, IsSet}
 use Rattle.spx_arena.specs.Sharing.{Adds}
 use Rattle.spx_vcg.specs.Entering.{entered, known_of}
-use Rattle.spx_vcg.specs.WalkSteps.{id_eq, state, Longer, Stands, AddsFact, Whole, claims_from, Goes, Checks, Makes, Adding}
+use Rattle.spx_vcg.specs.WalkSteps.{id_eq, state, Longer, OnlyAdds, Stands, AddsFact, Whole, claims_from, Goes, Checks, Makes, Evaluates, Adding}
+use Rattle.spx_vcg.specs.PathWalk.{Passes, Comes}
 use Rattle.spx_vcg.proofs.ConditionTerms.{applied-Infix, applied-Variable, applied-static_term, applied-signed_term}
 use Rattle.spx_vcg.proofs.ConditionSteps.{forward-assume_all, applied-in_integer}
 use Rattle.spx_vcg.proofs.ConditionStates.{same_name-Decides, same_now}
 use Rattle.spx_vcg.proofs.SharedTerms.{infix_term, prefix_term}
 use Rattle.spx_arena.proofs.Growth.{grows_not, grows_twice}
 use Rattle.spx_arena.proofs.Ids.{wider_ids, wider_claims, claims_push, kept_ids, kept_hyps, kept_claims, wider_lists, list_more, ids_push}
-use Rattle.spx_vcg.proofs.SharedIds.{same_tests, inserted_trees, inserted_ids, state_kept}
+use Rattle.spx_vcg.proofs.SharedIds.{same_tests, inserted_trees, inserted_ids, inserted_extends, state_kept}
 
-abbrev pub checks_static : CoreExpr → Value → Type 0
-checks_static e s = ((rest : Tree) → checks e rest ≡ rest) × (term_of e ≡ static_term s)
+-- a static expression has no checks, and its value for its term
+abbrev pub checks_static : (VarId → Term) → CoreExpr → Value → Type 0
+checks_static entries e s = ((rest : Tree) → checks entries [] e rest ≡ rest) × (term_of entries e ≡ static_term s)
 
-pub static_infix : (e : CoreExpr) (op : InfixOp) (place : Place) (a b : CoreExpr) (s : Value) → e ≡ expr.Infix op place a b → Some s ≡ literal e → checks_static e s
-static_infix e op place a b s is some =
+pub static_infix : (entries : VarId → Term) (e : CoreExpr) (op : InfixOp) (place : Place) (a b : CoreExpr) (s : Value) → e ≡ expr.Infix op place a b → Some s ≡ literal e → checks_static entries e s
+static_infix entries e op place a b s is some =
     let static = sym (some ∙ ap literal is) in (
-      λ rest. ap (λ d. checks d rest) is ∙ checks-Infix op place a b rest ∙ ap (λ o. unless_static o rest (checks a (checks b (operation_check op place (term_of (expr.Infix op place a b)) rest)))) static,
-      ap term_of is ∙ term_of-Infix op place a b ∙ ap (λ o. literal_or o (Infix (term_op op) (term_of a) (term_of b))) static,
+      λ rest. ap (λ d. checks entries [] d rest) is ∙ checks-Infix entries [] op place a b rest ∙ ap (λ o. unless_static o rest (checks entries [] a (checks entries [] b (operation_check [] op place (term_of entries (expr.Infix op place a b)) rest)))) static,
+      ap (term_of entries) is ∙ term_with-Infix now_term entries op place a b ∙ ap (λ o. literal_or o (Infix (term_op op) (term_of entries a) (term_of entries b))) static,
     )
 
-pub static_prefix : (e : CoreExpr) (op : PrefixOp) (place : Place) (a : CoreExpr) (s : Value) → e ≡ expr.Prefix op place a → Some s ≡ literal e → checks_static e s
-static_prefix e op place a s is some =
+pub static_prefix : (entries : VarId → Term) (e : CoreExpr) (op : PrefixOp) (place : Place) (a : CoreExpr) (s : Value) → e ≡ expr.Prefix op place a → Some s ≡ literal e → checks_static entries e s
+static_prefix entries e op place a s is some =
     let static = sym (some ∙ ap literal is) in (
-      λ rest. ap (λ d. checks d rest) is ∙ checks-Prefix op place a rest ∙ ap (λ o. unless_static o rest (checks a (sign_check op place (term_of (expr.Prefix op place a)) rest))) static,
-      ap term_of is ∙ term_of-Prefix op place a ∙ ap (λ o. literal_or o (signed_term op (term_of a))) static,
+      λ rest. ap (λ d. checks entries [] d rest) is ∙ checks-Prefix entries [] op place a rest ∙ ap (λ o. unless_static o rest (checks entries [] a (sign_check [] op place (term_of entries (expr.Prefix op place a)) rest))) static,
+      ap (term_of entries) is ∙ term_with-Prefix now_term entries op place a ∙ ap (λ o. literal_or o (signed_term op (term_of entries a))) static,
     )
 
 -- ---- relations between walks
@@ -86,6 +92,12 @@ longer_not {A} {xs} {ys} e = record { more = []; is = e ∙ sym (append-nil xs) 
 pub longer_twice : {A : Type 0} {a b c : List A} → Longer a b → Longer b c → Longer a c
 longer_twice {A} {a} {b} {c} p q = record { more = p.more ++ q.more; is = q.is ∙ ap (λ xs. xs ++ q.more) p.is ∙ append_assoc a p.more q.more }
 
+pub adds_not : (w : Walk) → OnlyAdds w w
+adds_not w = record { grown = grows_not w.terms; keys = longer_not refl; lists = longer_not refl }
+
+pub adds_twice : {a b c : Walk} → OnlyAdds a b → OnlyAdds b c → OnlyAdds a c
+adds_twice p q = record { grown = grows_twice p.grown q.grown; keys = longer_twice p.keys q.keys; lists = longer_twice p.lists q.lists }
+
 pub wider_values : {m n : ℕ} {values : Given} → m ≤ n → AreValues m values → AreValues n values
 wider_values le are = record { ids = λ k id e. let w = are.ids k id e in omega arith }
 
@@ -93,17 +105,17 @@ pub state_same : {old new : Walk} {f : Tree → Tree} → Whole old → Checks o
 state_same {old} {new} whole c = ap (state_in new.terms) c.values ∙ state_kept c.grown old.values whole.values
 
 pub goes_twice : {a b c : Walk} {f g : Tree → Tree} → Goes a b f → Goes b c g → Goes a c (λ rest. f (g rest))
-goes_twice {a} {b} {c} {f} {g} p q = record { whole = q.whole; same = λ rest. p.same (g rest) ∙ q.same rest }
+goes_twice {a} {b} {c} {f} {g} p q = record { whole = q.whole; adds = adds_twice p.adds q.adds; same = λ rest. p.same (g rest) ∙ q.same rest }
 
 pub checks_twice : {a b c : Walk} {f g : Tree → Tree} → Checks a b f → Checks b c g → Checks a c (λ rest. f (g rest))
 checks_twice p q = record { goes = goes_twice p.goes q.goes; grown = grows_twice p.grown q.grown; values = q.values ∙ p.values }
 
 pub checks_along : {a b : Walk} {f g : Tree → Tree} → ((rest : Tree) → g rest ≡ f rest) → Checks a b f → Checks a b g
 checks_along {a} {b} {f} {g} e p =
-    record { goes = record { whole = p.goes.whole; same = λ rest. ap (claims_from a) (e rest) ∙ p.goes.same rest }; grown = p.grown; values = p.values }
+    record { goes = record { whole = p.goes.whole; adds = p.goes.adds; same = λ rest. ap (claims_from a) (e rest) ∙ p.goes.same rest }; grown = p.grown; values = p.values }
 
 pub checks_none : (w : Walk) → Whole w → Checks w w (λ rest. rest)
-checks_none w whole = record { goes = record { whole = whole; same = λ rest. refl }; grown = grows_not w.terms; values = refl }
+checks_none w whole = record { goes = record { whole = whole; adds = adds_not w; same = λ rest. refl }; grown = grows_not w.terms; values = refl }
 
 -- an id keeps its term
 pub id_kept : {old new : Walk} {f : Tree → Tree} {id : TermId} {t : Term} → IsId old.terms id t → Checks old new f → IsId new.terms id t
@@ -139,6 +151,7 @@ module _ (old new : Walk) (whole : Whole old) (g : Grows old.terms new.terms) (v
             stands = subst Stands (sym facts) whole.stands;
             claims = subst (λ (f : Facts). AreClaims (length new.terms) (length f.lists) new.claims) (sym facts) (subst (AreClaims (length new.terms) (length old.facts.lists)) (sym claims) (wider_claims old.claims m (omega arith) whole.claims));
           };
+          adds = record { grown = g; keys = longer_not (ap (λ (f : Facts). f.present.keys) facts); lists = longer_not (ap (λ (f : Facts). f.lists) facts) };
           same = same_claims_from;
         };
         grown = g;
@@ -255,6 +268,16 @@ module _ (old new : Walk) (value low high : TermId) (c : Assumes old new value l
   new_facts : AreIds (length new.terms) new.facts.present.keys
   new_facts = subst (AreIds (length new.terms)) (sym c.keys) two
 
+  adds : OnlyAdds old new
+  adds = record {
+    grown = c.grown;
+    keys =
+        let a = inserted_extends low keys in
+        let b = inserted_extends high (insert_key id_eq keys low) in
+        longer_twice a (record { more = b.more; is = c.keys ∙ b.is });
+    lists = c.lists;
+  }
+
   -- two facts
   module _ (claims : new.claims ≡ old.claims) where
     assume_steps : (rest : Tree) → claims_from old (assume_all (in_integer t) rest) ≡ claims_from new rest
@@ -269,6 +292,7 @@ module _ (old new : Walk) (value low high : TermId) (c : Assumes old new value l
     after_assume = record {
       goes = record {
         whole = record { values = new_values; facts = new_facts; lists = new_lists; stands = c.stands; claims = subst (λ cs. AreClaims (length new.terms) (length new.facts.lists) cs) (sym claims) wider_old_claims };
+        adds = adds;
         same = assume_steps;
       };
       grown = c.grown;
@@ -313,6 +337,7 @@ module _ (old new : Walk) (value low high : TermId) (c : Assumes old new value l
           stands = c.stands;
           claims = subst (λ cs. AreClaims (length new.terms) (length new.facts.lists) cs) (sym claims) (claims_push old.claims claim (length new.terms) (length new.facts.lists) wider_old_claims (let w = whole.stands.within in omega (arith, longer)) (c.low_is.within, (c.high_is.within, tt)));
         };
+        adds = adds;
         same = steps;
       };
       grown = c.grown;
@@ -320,13 +345,7 @@ module _ (old new : Walk) (value low high : TermId) (c : Assumes old new value l
     }
 
 -- ---- one fact
-module _ (old new : Walk) (fact : TermId) (t : Term) (whole : Whole old) (a : Adding old new fact) (within : fact.0 < length old.terms) (d : Distinct old.terms) (is : tree_at old.terms fact ≡ applied (state old) t) where
-  facts_with : trees_at new.terms new.facts.present.keys ≡ with_new (trees_at old.terms old.facts.present.keys) (applied (state old) t)
-  facts_with =
-      (λ i. trees_at (a.terms i) (a.facts.keys i))
-      ∙ inserted_trees old.terms d fact within old.facts.present.keys whole.facts
-      ∙ ap (with_new (trees_at old.terms old.facts.present.keys)) is
-
+module _ (old new : Walk) (fact : TermId) (whole : Whole old) (a : Adding old new fact) (within : fact.0 < length old.terms) where
   abbrev added : Longer old.facts.lists new.facts.lists
   added = a.facts.lists
 
@@ -338,11 +357,7 @@ module _ (old new : Walk) (fact : TermId) (t : Term) (whole : Whole old) (a : Ad
   state_with : state new ≡ state old
   state_with = λ i. state_in (a.terms i) (a.values i)
 
-  fact_steps : (rest : Tree) → claims_from old (Assume t rest) ≡ claims_from new rest
-  unfolding claims_from
-  fact_steps rest = λ i. sym claims_with i ++ forward (sym state_with i) (sym facts_with i) rest
-
-  fact_whole : Whole new
+  pub fact_whole : Whole new
   fact_whole =
       let n = length old.terms in
       let more : length old.facts.lists ≤ length new.facts.lists = omega (arith, ap length added.is, length-append old.facts.lists added.more) in
@@ -354,11 +369,26 @@ module _ (old new : Walk) (fact : TermId) (t : Term) (whole : Whole old) (a : Ad
         claims = subst (λ (ts : List Term). AreClaims (length ts) (length new.facts.lists) new.claims) (sym a.terms) (subst (AreClaims n (length new.facts.lists)) (sym a.claims) (wider_claims old.claims (omega arith) more whole.claims));
       }
 
-  pub after_fact : Goes old new (Assume t)
-  after_fact = record {
-    whole = fact_whole;
-    same = fact_steps;
+  pub fact_adds : OnlyAdds old new
+  fact_adds = record {
+    grown = subst (Grows old.terms) (sym a.terms) (grows_not old.terms);
+    keys = let e = inserted_extends fact old.facts.present.keys in record { more = e.more; is = a.facts.keys ∙ e.is };
+    lists = a.facts.lists;
   }
+
+  module _ (d : Distinct old.terms) (t : Term) (is : tree_at old.terms fact ≡ applied (state old) t) where
+    facts_with : trees_at new.terms new.facts.present.keys ≡ with_new (trees_at old.terms old.facts.present.keys) (applied (state old) t)
+    facts_with =
+        (λ i. trees_at (a.terms i) (a.facts.keys i))
+        ∙ inserted_trees old.terms d fact within old.facts.present.keys whole.facts
+        ∙ ap (with_new (trees_at old.terms old.facts.present.keys)) is
+
+    fact_steps : (rest : Tree) → claims_from old (Assume t rest) ≡ claims_from new rest
+    unfolding claims_from
+    fact_steps rest = λ i. sym claims_with i ++ forward (sym state_with i) (sym facts_with i) rest
+
+    pub after_fact : Goes old new (Assume t)
+    after_fact = record { whole = fact_whole; adds = fact_adds; same = fact_steps }
 
 -- ---- a value
 module _ (trees : List Term) (old new : Given) (v : VarId) (id : TermId) (set : IsSet old new v id) where
@@ -428,50 +458,51 @@ module _ (old new : Walk) (v : VarId) (id : TermId) (t : Term) (whole : Whole ol
       stands = subst Stands (sym facts) whole.stands;
       claims = subst (λ (ts : List Term). AreClaims (length ts) (length new.facts.lists) new.claims) (sym terms) (subst (λ (f : Facts). AreClaims (length old.terms) (length f.lists) new.claims) (sym facts) (subst (AreClaims (length old.terms) (length old.facts.lists)) (sym claims) whole.claims));
     };
+    adds = record { grown = subst (Grows old.terms) (sym terms) (grows_not old.terms); keys = longer_not (ap (λ (f : Facts). f.present.keys) facts); lists = longer_not (ap (λ (f : Facts). f.lists) facts) };
     same = assign_steps;
   }
 
 -- ---- operations
-pub after_infix : {w x y z : Walk} {i j id : TermId} (e : CoreExpr) (op : InfixOp) (place : Place) (a b : CoreExpr) → e ≡ expr.Infix op place a b → None ≡ literal e → Whole w
-    → Makes w x (checks a) i (term_of a) → Makes x y (checks b) j (term_of b)
-    → ((s t : Term) → tree_at y.terms i ≡ applied (state y) s → tree_at y.terms j ≡ applied (state y) t → Makes y z (operation_check op place (Infix (term_op op) s t)) id (Infix (term_op op) s t))
-    → Makes w z (checks e) id (term_of e)
-after_infix {w} {x} {y} {z} {i} {j} {id} e op place a b is none whole p q r =
+pub after_infix : {w x y z : Walk} {i j id : TermId} (entries : VarId → Term) (e : CoreExpr) (op : InfixOp) (place : Place) (a b : CoreExpr) → e ≡ expr.Infix op place a b → None ≡ literal e → Whole w
+    → Makes w x (checks entries [] a) i (term_of entries a) → Makes x y (checks entries [] b) j (term_of entries b)
+    → ((s t : Term) → tree_at y.terms i ≡ applied (state y) s → tree_at y.terms j ≡ applied (state y) t → Makes y z (operation_check [] op place (Infix (term_op op) s t)) id (Infix (term_op op) s t))
+    → Makes w z (checks entries [] e) id (term_of entries e)
+after_infix {w} {x} {y} {z} {i} {j} {id} entries e op place a b is none whole p q r =
     let sx = state_same whole p.checks in
     let sy = state_same p.checks.goes.whole q.checks in
-    let left = (id_kept p.made q.checks).tree ∙ ap (λ (u : State). applied u (term_of a)) (sym (sy ∙ sx)) in
-    let right = q.made.tree ∙ ap (λ (u : State). applied u (term_of b)) (sym sy) in
-    let m = r (term_of a) (term_of b) left right in
-    let t = Infix (term_op op) (term_of a) (term_of b) in
-    let te = infix_term e op place a b is none in
+    let left = (id_kept p.made q.checks).tree ∙ ap (λ (u : State). applied u (term_of entries a)) (sym (sy ∙ sx)) in
+    let right = q.made.tree ∙ ap (λ (u : State). applied u (term_of entries b)) (sym sy) in
+    let m = r (term_of entries a) (term_of entries b) left right in
+    let t = Infix (term_op op) (term_of entries a) (term_of entries b) in
+    let te = infix_term entries e op place a b is none in
     let static = sym (none ∙ ap literal is) in
-    let ce : (rest : Tree) → checks e rest ≡ checks a (checks b (operation_check op place t rest)) =
-    λ rest. ap (λ d. checks d rest) is ∙ checks-Infix op place a b rest ∙ ap (λ o. unless_static o rest (checks a (checks b (operation_check op place (term_of (expr.Infix op place a b)) rest)))) static ∙ ap (λ u. checks a (checks b (operation_check op place u rest))) (sym (ap term_of is) ∙ te) in
+    let ce : (rest : Tree) → checks entries [] e rest ≡ checks entries [] a (checks entries [] b (operation_check [] op place t rest)) =
+    λ rest. ap (λ d. checks entries [] d rest) is ∙ checks-Infix entries [] op place a b rest ∙ ap (λ o. unless_static o rest (checks entries [] a (checks entries [] b (operation_check [] op place (term_of entries (expr.Infix op place a b)) rest)))) static ∙ ap (λ u. checks entries [] a (checks entries [] b (operation_check [] op place u rest))) (sym (ap (term_of entries) is) ∙ te) in
     record {
       checks = checks_along ce (checks_twice p.checks (checks_twice q.checks m.checks));
       made = subst (IsId z.terms id) (ap (λ (u : State). applied u t) (sy ∙ sx) ∙ ap (applied (state w)) (sym te)) m.made;
     }
 
-pub after_sign : {w x y : Walk} {i id : TermId} (e : CoreExpr) (op : PrefixOp) (place : Place) (a : CoreExpr) → e ≡ expr.Prefix op place a → None ≡ literal e → Whole w
-    → Makes w x (checks a) i (term_of a)
-    → ((s : Term) → tree_at x.terms i ≡ applied (state x) s → Makes x y (sign_check op place (signed_term op s)) id (signed_term op s))
-    → Makes w y (checks e) id (term_of e)
-after_sign {w} {x} {y} {i} {id} e op place a is none whole p q =
+pub after_sign : {w x y : Walk} {i id : TermId} (entries : VarId → Term) (e : CoreExpr) (op : PrefixOp) (place : Place) (a : CoreExpr) → e ≡ expr.Prefix op place a → None ≡ literal e → Whole w
+    → Makes w x (checks entries [] a) i (term_of entries a)
+    → ((s : Term) → tree_at x.terms i ≡ applied (state x) s → Makes x y (sign_check [] op place (signed_term op s)) id (signed_term op s))
+    → Makes w y (checks entries [] e) id (term_of entries e)
+after_sign {w} {x} {y} {i} {id} entries e op place a is none whole p q =
     let sx = state_same whole p.checks in
-    let m = q (term_of a) (p.made.tree ∙ ap (λ (u : State). applied u (term_of a)) (sym sx)) in
-    let t = signed_term op (term_of a) in
-    let te = prefix_term e op place a is none in
+    let m = q (term_of entries a) (p.made.tree ∙ ap (λ (u : State). applied u (term_of entries a)) (sym sx)) in
+    let t = signed_term op (term_of entries a) in
+    let te = prefix_term entries e op place a is none in
     let static = sym (none ∙ ap literal is) in
-    let ce : (rest : Tree) → checks e rest ≡ checks a (sign_check op place t rest) =
-    λ rest. ap (λ d. checks d rest) is ∙ checks-Prefix op place a rest ∙ ap (λ o. unless_static o rest (checks a (sign_check op place (term_of (expr.Prefix op place a)) rest))) static ∙ ap (λ u. checks a (sign_check op place u rest)) (sym (ap term_of is) ∙ te) in
+    let ce : (rest : Tree) → checks entries [] e rest ≡ checks entries [] a (sign_check [] op place t rest) =
+    λ rest. ap (λ d. checks entries [] d rest) is ∙ checks-Prefix entries [] op place a rest ∙ ap (λ o. unless_static o rest (checks entries [] a (sign_check [] op place (term_of entries (expr.Prefix op place a)) rest))) static ∙ ap (λ u. checks entries [] a (sign_check [] op place u rest)) (sym (ap (term_of entries) is) ∙ te) in
     record {
       checks = checks_along ce (checks_twice p.checks m.checks);
       made = subst (IsId y.terms id) (ap (λ (u : State). applied u t) sx ∙ ap (applied (state w)) (sym te)) m.made;
     }
 
 -- a static expression
-pub after_static : {w x : Walk} {id : TermId} (e : CoreExpr) (s : Value) → Some s ≡ literal e → Whole w → Checks w x (λ rest. rest) → IsId x.terms id (static_term s) → checks_static e s → Makes w x (checks e) id (term_of e)
-after_static {w} {x} {id} e s is whole c i f =
+pub after_static : {w x : Walk} {id : TermId} (entries : VarId → Term) (e : CoreExpr) (s : Value) → Some s ≡ literal e → Whole w → Checks w x (λ rest. rest) → IsId x.terms id (static_term s) → checks_static entries e s → Makes w x (checks entries [] e) id (term_of entries e)
+after_static {w} {x} {id} entries e s is whole c i f =
     record { checks = checks_along f.0 c; made = subst (IsId x.terms id) (sym (applied-static_term (state w) s) ∙ ap (applied (state w)) (sym f.1)) i }
 
 -- ---- as the functions have it
@@ -504,11 +535,11 @@ op_adds {old} {new} {id} s op o x y a b p e f g =
 pub sign_adds : {old new : List Term} {id : TermId} (s : State) (op : PrefixOp) (x a : Term) → Adds old new id (signed_term op x) → x ≡ applied s a → Adds old new id (applied s (signed_term op a))
 sign_adds {old} {new} {id} s op x a p e = subst (Adds old new id) (ap (signed_term op) e ∙ sym (applied-signed_term s op a)) p
 
-pub op_checked : (op : InfixOp) (place : Place) (t : Term) → (op ≡ sign_op.Add) ⊎ (op ≡ sign_op.Subtract) → (rest : Tree) → operation_check op place t rest ≡ check Overflow place (in_integer t) rest
-op_checked op place t (inl e) rest = ap (λ o. operation_check o place t rest) e
-op_checked op place t (inr e) rest = ap (λ o. operation_check o place t rest) e
+pub op_checked : (op : InfixOp) (place : Place) (t : Term) → (op ≡ sign_op.Add) ⊎ (op ≡ sign_op.Subtract) → (rest : Tree) → operation_check [] op place t rest ≡ check Overflow place (in_integer t) rest
+op_checked op place t (inl e) rest = ap (λ o. operation_check [] o place t rest) e
+op_checked op place t (inr e) rest = ap (λ o. operation_check [] o place t rest) e
 
-pub op_free : (op : InfixOp) (place : Place) (t : Term) → (op ≡ sign_op.Add → ⊥) → (op ≡ sign_op.Subtract → ⊥) → (rest : Tree) → operation_check op place t rest ≡ rest
+pub op_free : (op : InfixOp) (place : Place) (t : Term) → (op ≡ sign_op.Add → ⊥) → (op ≡ sign_op.Subtract → ⊥) → (rest : Tree) → operation_check [] op place t rest ≡ rest
 op_free sign_op.Add place t p q rest = absurd (p refl)
 op_free sign_op.Subtract place t p q rest = absurd (q refl)
 op_free sign_op.Equal place t p q rest = refl
@@ -518,13 +549,13 @@ op_free sign_op.LessOrEqual place t p q rest = refl
 op_free sign_op.Greater place t p q rest = refl
 op_free sign_op.GreaterOrEqual place t p q rest = refl
 
-pub sign_checked : (op : PrefixOp) (place : Place) (t : Term) → op ≡ prefix.Minus → (rest : Tree) → sign_check op place t rest ≡ check Overflow place (in_integer t) rest
-sign_checked op place t e rest = ap (λ o. sign_check o place t rest) e
+pub sign_checked : (op : PrefixOp) (place : Place) (t : Term) → op ≡ prefix.Minus → (rest : Tree) → sign_check [] op place t rest ≡ check Overflow place (in_integer t) rest
+sign_checked op place t e rest = ap (λ o. sign_check [] o place t rest) e
 
-pub after_parens : {w x : Walk} {id : TermId} (e a : CoreExpr) (place : Place) → e ≡ expr.Parenthesized place a → Makes w x (checks a) id (term_of a) → Makes w x (checks e) id (term_of e)
-after_parens {w} {x} {id} e a place is m = record {
-  checks = checks_along (λ rest. ap (λ d. checks d rest) is ∙ checks-Parenthesized place a rest) m.checks;
-  made = subst (IsId x.terms id) (ap (applied (state w)) (sym (ap term_of is ∙ term_of-Parenthesized place a))) m.made;
+pub after_parens : {w x : Walk} {id : TermId} (entries : VarId → Term) (e a : CoreExpr) (place : Place) → e ≡ expr.Parenthesized place a → Makes w x (checks entries [] a) id (term_of entries a) → Makes w x (checks entries [] e) id (term_of entries e)
+after_parens {w} {x} {id} entries e a place is m = record {
+  checks = checks_along (λ rest. ap (λ d. checks entries [] d rest) is ∙ checks-Parenthesized entries [] place a rest) m.checks;
+  made = subst (IsId x.terms id) (ap (applied (state w)) (sym (ap (term_of entries) is ∙ term_with-Parenthesized now_term entries place a))) m.made;
 }
 
 pub assign_target : (old new : Walk) (target : Option VarId) (v : VarId) (id : TermId) (t : Term) → Whole old → new.terms ≡ old.terms → new.facts ≡ old.facts → new.claims ≡ old.claims → IsSet old.values new.values v id → id.0 < length old.terms
@@ -532,35 +563,46 @@ pub assign_target : (old new : Walk) (target : Option VarId) (v : VarId) (id : T
 assign_target old new target v id t whole terms facts claims set within is e =
     subst (λ d. Goes old new (assigned d t)) (sym e) (after_assign old new v id t whole terms facts claims set within is)
 
-pub leaf_number : (e : CoreExpr) (n : ℤ) (place : Place) → e ≡ expr.Number n place → (rest : Tree) → checks e rest ≡ rest
-leaf_number e n place is rest = ap (λ d. checks d rest) is ∙ checks-Number n place rest
+pub leaf_number : (entries : VarId → Term) (e : CoreExpr) (n : ℤ) (place : Place) → e ≡ expr.Number n place → (rest : Tree) → checks entries [] e rest ≡ rest
+leaf_number entries e n place is rest = ap (λ d. checks entries [] d rest) is ∙ checks-Number entries [] n place rest
 
-pub leaf_name : (e : CoreExpr) (name : CoreName) → e ≡ expr.Name name → (rest : Tree) → checks e rest ≡ rest
-leaf_name e name is rest = ap (λ d. checks d rest) is ∙ checks-Name name rest
+pub leaf_name : (entries : VarId → Term) (e : CoreExpr) (name : CoreName) → e ≡ expr.Name name → (rest : Tree) → checks entries [] e rest ≡ rest
+leaf_name entries e name is rest = ap (λ d. checks entries [] d rest) is ∙ checks-Name entries [] name rest
 
-pub leaf_attribute : (e : CoreExpr) (name : CoreName) (designator : Identifier) → e ≡ expr.Attribute name designator → (rest : Tree) → checks e rest ≡ rest
-leaf_attribute e name designator is rest = ap (λ d. checks d rest) is ∙ checks-Attribute name designator rest
+pub leaf_attribute : (entries : VarId → Term) (e : CoreExpr) (name : CoreName) (designator : Identifier) → e ≡ expr.Attribute name designator → (rest : Tree) → checks entries [] e rest ≡ rest
+leaf_attribute entries e name designator is rest = ap (λ d. checks entries [] d rest) is ∙ checks-Attribute entries [] name designator rest
+
+-- ---- expressions
+pub evaluates : {old new : Walk} {steps : (VarId → Term) → Tree → Tree} (e : CoreExpr) (id : TermId) → ((entries : VarId → Term) → Makes old new (steps entries) id (term_of entries e)) → Evaluates old new steps e id
+evaluates e id makes = record { whole = (makes now_term).checks.goes.whole; grown = (makes now_term).checks.grown; within = (makes now_term).made.within; makes = makes }
 
 -- ---- statements
-module _ {w x y : Walk} {id : TermId} (e : CoreExpr) (place : Place) (whole : Whole w) (m : Makes w x (checks e) id (term_of e))
+module _ {w x y : Walk} {id : TermId} (e : CoreExpr) (place : Place) (whole : Whole w) (m : Evaluates w x (λ entries. checks entries [] e) e id)
     (c : (t : Term) → tree_at x.terms id ≡ applied (state x) t → Checks x y (check Range place (in_integer t))) where
-  value_checked : Checks w y (λ rest. checks e (check Range place (in_integer (term_of e)) rest))
-  value_checked = checks_twice m.checks (c (term_of e) (m.made.tree ∙ ap (λ (u : State). applied u (term_of e)) (sym (state_same whole m.checks))))
+  range_checked : (entries : VarId → Term) → Checks x y (check Range place (in_integer (term_of entries e)))
+  range_checked entries = let v = m.makes entries in c (term_of entries e) (v.made.tree ∙ ap (λ (u : State). applied u (term_of entries e)) (sym (state_same whole v.checks)))
 
-  value_kept : IsId y.terms id (applied (state w) (term_of e))
-  value_kept = id_kept m.made (c (term_of e) (m.made.tree ∙ ap (λ (u : State). applied u (term_of e)) (sym (state_same whole m.checks))))
+  value_checked : (entries : VarId → Term) → Checks w y (λ rest. checks entries [] e (check Range place (in_integer (term_of entries e)) rest))
+  value_checked entries = checks_twice (m.makes entries).checks (range_checked entries)
+
+  value_kept : (entries : VarId → Term) → IsId y.terms id (applied (state w) (term_of entries e))
+  value_kept entries = id_kept (m.makes entries).made (range_checked entries)
 
   pub value_whole : Whole y
-  value_whole = value_checked.goes.whole
+  value_whole = (value_checked now_term).goes.whole
 
   pub value_within : id.0 < length y.terms
-  value_within = value_kept.within
+  value_within = (value_kept now_term).within
 
-  pub after_statement : {z : Walk} (s : CoreStmt) (target : Reference) → s ≡ Assignment target e → place ≡ place_of e → ((t : Term) → tree_at y.terms id ≡ applied (state y) t → Goes y z (assigned (variable_of target.root.entity) t)) → Goes w z (walk s)
-  after_statement {z} s target is at a =
-      subst (λ d. Goes w z (walk d)) (sym is)
-      (subst (λ p. Goes w z (λ rest. checks e (check Range p (in_integer (term_of e)) (assigned (variable_of target.root.entity) (term_of e) rest)))) at
-      (goes_twice value_checked.goes (a (term_of e) (value_kept.tree ∙ ap (λ (u : State). applied u (term_of e)) (sym (state_same whole value_checked))))))
+  pub after_assignment : {z : Walk} (target : Reference) → place ≡ place_of e → ((t : Term) → tree_at y.terms id ≡ applied (state y) t → Goes y z (assigned (variable_of target.root.entity) t))
+      → Passes w z (Set target e)
+  after_assignment {z} target at a =
+      let along : (entries : VarId → Term) → Goes w z (λ rest. checks entries [] e (check Range (place_of e) (in_integer (term_of entries e)) (assigned (variable_of target.root.entity) (term_of entries e) rest))) =
+      λ entries.
+      let t = term_of entries e in
+      subst (λ p. Goes w z (λ rest. checks entries [] e (check Range p (in_integer t) (assigned (variable_of target.root.entity) t rest)))) at
+      (goes_twice (value_checked entries).goes (a t ((value_kept entries).tree ∙ ap (λ (u : State). applied u t) (sym (state_same whole (value_checked entries)))))) in
+      record { whole = (along now_term).whole; adds = (along now_term).adds; goes = λ p sub. along (entry_term sub) }
 
 -- ---- the start
 pub after_enter : (old new : Walk) (v : VarId) (mid : List Term) (id : TermId) (b : Bool) → Whole old → Adds old.terms mid id (Variable (entry v)) → mid ≡ new.terms → new.facts ≡ old.facts → new.claims ≡ old.claims → IsSet old.values new.values v id
@@ -587,10 +629,12 @@ pub assume_all-append : (ts us : List Term) (rest : Tree) → assume_all (ts ++ 
 assume_all-append [] us rest = refl
 assume_all-append (t ∷ ts) us rest = ap (Assume t) (assume_all-append ts us rest)
 
-pub after_pre : {old mid new : Walk} {fact : TermId} (pre : Option CorePrecondition) (e : CoreExpr) → Whole old → Makes old mid (λ rest. rest) fact (term_of e) → Distinct mid.terms → Adding mid new fact → pre_facts pre ≡ term_of e ∷ [] → Goes old new (assume_all (pre_facts pre))
-after_pre {old} {mid} {new} {fact} pre e whole m d a is =
-    let t = term_of e in
-    let then = after_fact mid new fact t m.checks.goes.whole a m.made.within d (m.made.tree ∙ ap (λ (u : State). applied u t) (sym (state_same whole m.checks))) in
+pub after_pre : {old mid new : Walk} {fact : TermId} (sub : Sub) (pre : Option CorePrecondition) (e : CoreExpr) → Whole old → Evaluates old mid (λ entries rest. rest) e fact → Distinct mid.terms → Adding mid new fact → pre_facts sub pre ≡ term_of (entry_term sub) e ∷ []
+    → Goes old new (assume_all (pre_facts sub pre))
+after_pre {old} {mid} {new} {fact} sub pre e whole v d a is =
+    let t = term_of (entry_term sub) e in
+    let m = v.makes (entry_term sub) in
+    let then = after_fact mid new fact m.checks.goes.whole a m.made.within d t (m.made.tree ∙ ap (λ (u : State). applied u t) (sym (state_same whole m.checks))) in
     subst (λ ts. Goes old new (assume_all ts)) (sym is) (goes_twice m.checks.goes then)
 
 -- ---- the end
@@ -631,23 +675,24 @@ claims_start : (w : Walk) (tree : Tree) → Starts w → claims_from w tree ≡ 
 unfolding claims_from
 claims_start w tree s = λ i. claims_at w.terms (s.lists i) (s.claims i) ++ forward (((ap (state_in w.terms) s.values) ∙ (λ j x. unset w.terms x.symbol x.sort (Variable x) j)) i) (trees_at w.terms (s.keys i)) tree
 
-claims_end : (w : Walk) → claims_from w Cut ≡ claims_at w.terms w.facts.lists w.claims
+pub claims_end : (w : Walk) → claims_from w Cut ≡ claims_at w.terms w.facts.lists w.claims
 unfolding claims_from
 claims_end w = append-nil (claims_at w.terms w.facts.lists w.claims)
 
-pub all_claims : (a b c d e : Walk) (sub : Sub) → Starts a
-    → Goes a b (entering sub (formals sub)) → Goes b c (assume_all (flat_map (import_facts sub) (formals sub))) → Goes c d (assume_all (pre_facts sub.pre)) → Goes d e (walks sub.statements)
-    → claims_at e.terms e.facts.lists e.claims ≡ map tidy (claims_of (tree_of sub))
-all_claims a b c d e sub starts p q r s =
-    let body = walks sub.statements Cut in
+pub all_claims : (a b c d e : Walk) (p : Program) (sub : Sub) → Starts a
+    → Goes a b (entering sub (formals sub)) → Goes b c (assume_all (flat_map (import_facts sub) (formals sub))) → Goes c d (assume_all (pre_facts sub sub.pre)) → Comes d e (Then (commands sub.statements) Skip) Skip
+    → claims_at e.terms e.facts.lists e.claims ≡ map tidy (body_claims p sub)
+all_claims a b c d e p sub starts enter import require body =
+    let rest = walk p sub (commands sub.statements) ending ending 0 in
     sym (claims_end e)
-    ∙ sym (s.same Cut)
-    ∙ sym (r.same body)
-    ∙ sym (q.same (assume_all (pre_facts sub.pre) body))
-    ∙ ap (claims_from b) (sym (assume_all-append (flat_map (import_facts sub) (formals sub)) (pre_facts sub.pre) body))
-    ∙ sym (p.same (assume_all (first_facts sub) body))
-    ∙ claims_start a (tree_of sub) starts
-    ∙ forward_from_start (tree_of sub)
+    ∙ sym (body.same p sub 0)
+    ∙ sym (require.same rest)
+    ∙ sym (import.same (assume_all (pre_facts sub sub.pre) rest))
+    ∙ ap (claims_from b) (sym (assume_all-append (flat_map (import_facts sub) (formals sub)) (pre_facts sub sub.pre) rest))
+    ∙ sym (enter.same (assume_all (first_facts sub) rest))
+    ∙ claims_start a (start_tree p sub) starts
+    ∙ forward_from_start (start_tree p sub)
+    ∙ ap (map tidy) (sym (append-nil (claims_of (start_tree p sub))))
 
 pub import_step : (a b c : Walk) (sub : Sub) (vs : List VarId) (i : ℕ) (v d : VarId) → i < length vs → v ≡ get_or vs i d
     → ((rest : Tree) → claims_from a (assume_all (flat_map (import_facts sub) vs) rest) ≡ claims_from b (assume_all (flat_map (import_facts sub) (drop i vs)) rest))

@@ -6,32 +6,20 @@ use Rattle.spx_term.specs.declared.term.Term.{Term}
 use Rattle.spx_term.specs.declared.term.TermOp.{TermOp}
 use Rattle.spx_term.specs.declared.term.Term.TheVariants.{Variable, Infix}
 use Rattle.spx_core.specs.declared.entity.VarId.{VarId}
-use Rattle.spx_term.specs.declared.value.Value.{Value}
-use Rattle.spx_term.specs.declared.value.Value.TheVariants as value
-use Rattle.spx_term.specs.Folding.{term_of as literal_term}
 use Rattle.spx_meaning.specs.Evaluation.{term_op}
 use Rattle.spx_meaning.specs.Literals.{literal}
-use Rattle.spx_meaning.specs.Paths.{static_term, now, signed_term, literal_or, term_of, term_of-Infix, term_of-Prefix}
+use Rattle.spx_paths.specs.Terms.{now, now_term, signed_term, literal_or, term_of, term_with-Infix, term_with-Prefix}
 use Rattle.spx_text.specs.declared.place.Place.{Place}
 use Rattle.spx_core.specs.declared.expression.CoreExpr.{CoreExpr}
 use Rattle.spx_core.specs.declared.expression.CoreExpr.TheVariants as expr
 use Rattle.spx_arena.specs.declared.terms.TermId.{TermId}
 use Rattle.spx_arena.specs.Sharing.{tree_at, IsId}
 use Rattle.spx_vcg.specs.ConditionWalk.{State, applied}
-use Rattle.spx_vcg.specs.States.{Given, given, value_or, state_in, AreValues}
+use Rattle.spx_vcg.specs.States.{Given, given, value_or, state_in, AddsMeaning, AreValues}
 use Rattle.spx_arena.specs.Sharing.{Adds}
-use Rattle.spx_vcg.proofs.ConditionTerms.{applied-Infix, applied-signed_term}
+use Rattle.spx_vcg.proofs.ConditionTerms.{applied-Infix}
 use Rattle.spx_arena.proofs.Growth.{adds_along, grows_twice}
 use Rattle.spx_vcg.proofs.SharedIds.{state_kept}
-
--- a term with a sign
-pub adds_sign : {old mid new : List Term} {i id : TermId} (a : Term) {t : Term} (s : State) (op : PrefixOp)
-    → Adds old mid i (applied s a) → Adds mid new id (signed_term op (tree_at mid i)) → t ≡ signed_term op a → Adds old new id (applied s t)
-adds_sign {old} {mid} {new} {i} {id} a s op p q e =
-    record {
-      grown = grows_twice p.grown q.grown;
-      made = subst (IsId new id) (ap (signed_term op) p.made.tree ∙ sym (applied-signed_term s op a) ∙ ap (applied s) (sym e)) q.made;
-    }
 
 -- an operation
 pub adds_infix : {old mid late new : List Term} {i j id : TermId} (a b : Term) {t : Term} (values : Given) (op : TermOp) → AreValues (length old) values
@@ -48,13 +36,6 @@ adds_infix {old} {mid} {late} {new} {i} {j} {id} a b values op are p q r e =
 
 pub ruleset adds_laws = (adds_along)
 
--- the literal of a static value
-pub static_is : (v : Value) → literal_term v ≡ static_term v
-static_is (value.Number n) = refl
-static_is (value.Truth b) = refl
-
-pub ruleset literal_laws = (static_is, adds_along)
-
 -- ---- values
 pub value_found : (trees : List Term) (values : Given) (v : VarId) (id : TermId) → AreValues (length trees) values → given values v.0 ≡ Some id → Adds trees trees id (state_in trees values (now v))
 value_found trees values v id are is =
@@ -64,10 +45,20 @@ value_found trees values v id are is =
     }
 
 -- ---- terms of operations that are not static
-pub infix_term : (e : CoreExpr) (op : InfixOp) (place : Place) (a b : CoreExpr) → e ≡ expr.Infix op place a b → None ≡ literal e → term_of e ≡ Infix (term_op op) (term_of a) (term_of b)
-infix_term e op place a b is none =
-    ap term_of is ∙ term_of-Infix op place a b ∙ ap (λ o. literal_or o (Infix (term_op op) (term_of a) (term_of b))) (sym (none ∙ ap literal is))
+module _ (entries : VarId → Term) where
+  pub infix_term : (e : CoreExpr) (op : InfixOp) (place : Place) (a b : CoreExpr) → e ≡ expr.Infix op place a b → None ≡ literal e → term_of entries e ≡ Infix (term_op op) (term_of entries a) (term_of entries b)
+  infix_term e op place a b is none =
+      ap (term_of entries) is ∙ term_with-Infix now_term entries op place a b ∙ ap (λ o. literal_or o (Infix (term_op op) (term_of entries a) (term_of entries b))) (sym (none ∙ ap literal is))
 
-pub prefix_term : (e : CoreExpr) (op : PrefixOp) (place : Place) (a : CoreExpr) → e ≡ expr.Prefix op place a → None ≡ literal e → term_of e ≡ signed_term op (term_of a)
-prefix_term e op place a is none =
-    ap term_of is ∙ term_of-Prefix op place a ∙ ap (λ o. literal_or o (signed_term op (term_of a))) (sym (none ∙ ap literal is))
+  pub prefix_term : (e : CoreExpr) (op : PrefixOp) (place : Place) (a : CoreExpr) → e ≡ expr.Prefix op place a → None ≡ literal e → term_of entries e ≡ signed_term op (term_of entries a)
+  prefix_term e op place a is none =
+      ap (term_of entries) is ∙ term_with-Prefix now_term entries op place a ∙ ap (λ o. literal_or o (signed_term op (term_of entries a))) (sym (none ∙ ap literal is))
+
+-- ---- whatever the values on entry are
+pub adds_meaning : {old new : List Term} {id : TermId} (values : Given) (e : CoreExpr) → ((entries : VarId → Term) → Adds old new id (applied (state_in old values) (term_of entries e))) → AddsMeaning old new values e id
+adds_meaning values e adds = record { grown = (adds now_term).grown; within = (adds now_term).made.within; made = λ entries. (adds entries).made }
+
+pub meaning_adds : {old new : List Term} {id : TermId} {values : Given} {e : CoreExpr} → AddsMeaning old new values e id → (entries : VarId → Term) → Adds old new id (applied (state_in old values) (term_of entries e))
+meaning_adds m entries = record { grown = m.grown; made = m.made entries }
+
+pub ruleset meaning_laws = (adds_along, adds_meaning)

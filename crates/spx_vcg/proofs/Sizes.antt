@@ -7,10 +7,11 @@ use Rattle.std.specs.List.{enumerate_from, list_any}
 use Rattle.spx_term.specs.declared.condition.Condition.{Condition}
 use Rattle.spx_term.specs.declared.term.Term.{Term}
 use Rattle.spx_term.specs.Sizes.{size_of, sizes_of, has_too_many_nodes}
-use Rattle.spx_term.specs.Steps.{Claim, tidy, claims_of}
+use Rattle.spx_term.specs.Steps.{Claim, tidy}
 use Rattle.spx_core.specs.declared.subprogram.Sub.{Sub}
-use Rattle.spx_meaning.specs.Limits.{has_large_condition}
-use Rattle.spx_meaning.specs.Paths.{condition, numbered, tree_of, conditions_of}
+use Rattle.spx_core.specs.declared.program.Program.{Program}
+use Rattle.spx_paths.specs.Conditions.{body_claims, condition, numbered, conditions_of}
+use Rattle.spx_paths.specs.Limits.{has_large_condition}
 use Rattle.spx_arena.specs.declared.claims.SharedClaim.{SharedClaim}
 use Rattle.spx_arena.specs.declared.facts.FactsId.{FactsId}
 use Rattle.spx_arena.specs.declared.terms.TermId.{TermId}
@@ -67,13 +68,13 @@ large_numbered : (name : List ℕ) (n : ℕ) (cs : List Claim) → list_any has_
 large_numbered name n [] = refl
 large_numbered name n (c ∷ cs) = ap (λ b. is_large c || b) (large_numbered name (n + 1) cs)
 
-pub large_is : (sub : Sub) (cs : List Claim) → cs ≡ map tidy (claims_of (tree_of sub)) → list_any is_large cs ≡ has_large_condition sub
+pub large_is : (p : Program) (sub : Sub) (cs : List Claim) → cs ≡ map tidy (body_claims p sub) → list_any is_large cs ≡ has_large_condition p sub
 unfolding conditions_of
-large_is sub cs e = ap (list_any is_large) e ∙ sym (large_numbered sub.name.name.text 1 (map tidy (claims_of (tree_of sub))))
+large_is p sub cs e = ap (list_any is_large) e ∙ sym (large_numbered sub.name.name.text 1 (map tidy (body_claims p sub)))
 
-pub conditions_are : (sub : Sub) (cs : List Claim) → cs ≡ map tidy (claims_of (tree_of sub)) → numbered sub.name.name.text 1 cs ≡ conditions_of sub
+pub conditions_are : (p : Program) (sub : Sub) (cs : List Claim) → cs ≡ map tidy (body_claims p sub) → numbered sub.name.name.text 1 cs ≡ conditions_of p sub
 unfolding conditions_of
-conditions_are sub cs e = ap (numbered sub.name.name.text 1) e
+conditions_are p sub cs e = ap (numbered sub.name.name.text 1) e
 
 -- ---- numbers
 enumerate_from-push : {A : Type 0} (n : ℕ) (xs : List A) (x : A) → enumerate_from n (xs ++ x ∷ []) ≡ enumerate_from n xs ++ (n + length xs, x) ∷ []

@@ -4,7 +4,8 @@ use Rattle.spx_core.specs.declared.entity.VarId.{VarId}
 use Rattle.spx_term.specs.declared.term.Term.{Term}
 use Rattle.spx_term.specs.declared.term.Term.TheVariants.{Variable}
 use Rattle.spx_term.specs.Steps.{Tree, Assign}
-use Rattle.spx_meaning.specs.Paths.{now, entry, in_integer}
+use Rattle.spx_paths.specs.Checks.{in_integer}
+use Rattle.spx_paths.specs.Terms.{now, entry}
 
 -- an export stands for its entry value at the start
 abbrev pub entered : Bool → VarId → Tree → Tree

@@ -1,5 +1,9 @@
 -- Claims with too many nodes, and the sizes by which they are found.
-use Rattle.std.specs.Prelude.{◌≡◌, ◌<◌, ◌+◌, ℕ, Bool, true, ⊤, List, length, slice_index, nat_lt}
+use Rattle.std.specs.Prelude.{◌≡◌, ◌<◌, ◌+◌, ℕ, Bool, true, false, ⊤, List, length, slice_index, nat_lt}
+use Rattle.spx_core.specs.declared.program.Program.{Program}
+use Rattle.spx_core.specs.declared.subprogram.Sub.{Sub}
+use Rattle.spx_paths.specs.declared.fault.TheConstants.{MOST_PATHS}
+use Rattle.spx_paths.specs.Limits.{has_large_condition, has_many_paths}
 use Rattle.spx_term.specs.declared.condition.TheConstants.{MOST_NODES}
 use Rattle.spx_term.specs.declared.term.Term.{Term}
 use Rattle.spx_term.specs.Sizes.{sizes_of, claim_nodes}
@@ -10,16 +14,17 @@ use Rattle.spx_arena.specs.Claims.{trees_at}
 use Rattle.spx_arena.specs.Counts.{counted}
 use Rattle.spx_arena.specs.Facts.{facts_at}
 use Rattle.spx_vcg.specs.declared.fault.VcFault.{VcFault}
-use Rattle.spx_vcg.specs.declared.fault.VcFault.TheVariants.{TooManyNodes, Memory}
+use Rattle.spx_vcg.specs.declared.fault.VcFault.TheVariants.{TooManyPaths, TooManyNodes, Memory}
 
 -- whether a claim has too many nodes
 abbrev pub is_large : Claim → Bool
 is_large c = nat_lt MOST_NODES (claim_nodes c)
 
--- the fault is the number at which a count stops, and some condition is too large, as the test says; or else memory ran out
-abbrev pub IsFaultWhere : Bool → VcFault → Type 0
-IsFaultWhere is_too_large (TooManyNodes n) = (n ≡ MOST_NODES + 1) × (is_too_large ≡ true)
-IsFaultWhere is_too_large Memory = ⊤
+-- the fault is the number at which a count stops, and there are too many paths, or else some condition has too many nodes; or memory ran out
+abbrev pub IsFaultOf : Program → Sub → VcFault → Type 0
+IsFaultOf p sub (TooManyPaths n) = (n ≡ MOST_PATHS + 1) × (has_many_paths sub ≡ true)
+IsFaultOf p sub (TooManyNodes n) = (n ≡ MOST_NODES + 1) × (has_many_paths sub ≡ false) × (has_large_condition p sub ≡ true)
+IsFaultOf p sub Memory = ⊤
 
 -- the nodes of the first lists of facts, counted
 pub record AreSizes (n : ℕ) (trees : List Term) (lists : List (List TermId)) (sizes : List ℕ) : Type 0 where

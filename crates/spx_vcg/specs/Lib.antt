@@ -1,5 +1,7 @@
 pub mod ConditionWalk
 pub mod States
 pub mod WalkSteps
+pub mod PathWalk
+pub mod Following
 pub mod Largeness
 pub mod Entering

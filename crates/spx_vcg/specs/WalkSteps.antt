@@ -1,10 +1,13 @@
 -- What the walk has made, and what each of its steps adds.
 use Rattle.std.specs.Prelude.{◌≡◌, ℕ, ◌<◌, Bool, List, ◌++◌, length}
+use Rattle.spx_core.specs.declared.entity.VarId.{VarId}
+use Rattle.spx_core.specs.declared.expression.CoreExpr.{CoreExpr}
 use Rattle.spx_term.specs.declared.term.Term.{Term}
 use Rattle.spx_term.specs.Steps.{Tree, Claim}
 use Rattle.indexmap.specs.IndexSet.{insert_key}
 use Rattle.spx_arena.specs.contracts.terms.TermIdPartialEq.TheImpl as id_impl
 use Rattle.spx_arena.specs.declared.terms.TermId.{TermId}
+use Rattle.spx_paths.specs.Terms.{term_of}
 use Rattle.spx_arena.specs.Sharing.{Grows, IsId}
 use Rattle.spx_arena.specs.Facts.{facts_at}
 use Rattle.spx_arena.specs.Claims.{AreIds, AreLists, AreClaims, trees_at, claims_at}
@@ -42,9 +45,16 @@ pub record Longer {A : Type 0} (old new : List A) : Type 0 where
   pub more : List A
   pub is : new ≡ old ++ more
 
+-- terms, present facts and lists were only added
+pub record OnlyAdds (old new : Walk) : Type 0 where
+  pub grown : Grows old.terms new.terms
+  pub keys : Longer old.facts.present.keys new.facts.present.keys
+  pub lists : Longer old.facts.lists new.facts.lists
+
 -- the first walk has come to the second along these steps
 pub record Goes (old new : Walk) (steps : Tree → Tree) : Type 0 where
   pub whole : Whole new
+  pub adds : OnlyAdds old new
   pub same : (rest : Tree) → claims_from old (steps rest) ≡ claims_from new rest
 
 -- and no variable was given a value
@@ -57,6 +67,13 @@ pub record Checks (old new : Walk) (steps : Tree → Tree) : Type 0 where
 pub record Makes (old new : Walk) (steps : Tree → Tree) (id : TermId) (t : Term) : Type 0 where
   pub checks : Checks old new steps
   pub made : IsId new.terms id (applied (state old) t)
+
+-- The same for the term of an expression, whatever the terms of values on entry are: no form of an expression reads one yet.
+pub record Evaluates (old new : Walk) (steps : (VarId → Term) → Tree → Tree) (e : CoreExpr) (id : TermId) : Type 0 where
+  pub whole : Whole new
+  pub grown : Grows old.terms new.terms
+  pub within : id.0 < length new.terms
+  pub makes : (entries : VarId → Term) → Makes old new (steps entries) id (term_of entries e)
 
 -- a fact was added, or was there
 pub record AddsFact (old new : Facts) (fact : TermId) : Type 0 where

@@ -1,18 +1,20 @@
 // Terms of expressions, by ids.
 ghost use Rattle.std.specs.Prelude.{◌≡◌, ◌<◌, length, IfOk};
 ghost use Rattle.spx_term.specs.declared.term.Term.TheVariants as term;
+ghost use Rattle.spx_term.specs.declared.term.TermPrefix.TheVariants.{Not};
 ghost use Rattle.spx_core.specs.Uses.{variable_of};
 ghost use Rattle.spx_meaning.specs.Evaluation.{term_op};
-ghost use Rattle.spx_meaning.specs.Paths.{now, named, signed_term, term_of, static_term};
+ghost use Rattle.spx_term.specs.Folding.{term_of as static_term};
+ghost use Rattle.spx_paths.specs.Terms.{now, now_term, named, signed_term};
 ghost use Rattle.spx_arena.specs.Sharing.{tree_at};
 ghost use Rattle.spx_vcg.specs.ConditionWalk.{applied};
-ghost use Rattle.spx_vcg.specs.States.{state_in, AreValues};
+ghost use Rattle.spx_vcg.specs.States.{state_in, AddsMeaning, AreValues};
 ghost use Rattle.spx_arena.specs.Sharing.{Adds};
 
-use crate::literals::literal;
 use crate::values::Values;
 use spx_arena::{Node, TermId, Terms};
 use spx_core::{CoreExpr, Entity, INTEGER_FIRST, INTEGER_LAST, VarId, variable_of};
+use spx_paths::literal;
 use spx_term::{Name, Sort, Symbol, TermOp, TermPrefix, Value};
 use spx_tree::{InfixOp, PrefixOp};
 use std::alloc::AllocError;
@@ -43,7 +45,7 @@ pub fn variable_id(terms: &mut Terms, symbol: Symbol) -> Result<TermId, AllocErr
 }
 
 /// The id of the literal of a static expression.
-#[tactic(auto, using(crate::proofs::SharedTerms::literal_laws))]
+#[tactic(auto, using(crate::proofs::SharedTerms::adds_laws))]
 pub fn static_id(terms: &mut Terms, value: Value) -> Result<TermId, AllocError>
     ensures { IfOk result (λ id. Adds terms.old terms.new id (static_term value)) }
 {
@@ -69,7 +71,7 @@ pub fn name_id(
     entity: Option<Entity>,
 ) -> Result<TermId, AllocError>
     requires { AreValues (length terms.old) values.now }
-    ensures { IfOk result (λ id. Adds terms.old terms.new id (applied (state_in terms.old values.now) (named (variable_of entity)))) }
+    ensures { IfOk result (λ id. Adds terms.old terms.new id (applied (state_in terms.old values.now) (named now_term (variable_of entity)))) }
 {
     match variable_of(entity) {
         Some(var) => value_id(terms, values, var),
@@ -88,12 +90,20 @@ pub fn signed_id(terms: &mut Terms, op: PrefixOp, operand: TermId) -> Result<Ter
     }
 }
 
+/// The id of the negation of a condition.
+pub fn negated_id(terms: &mut Terms, condition: TermId) -> Result<TermId, AllocError>
+    requires { condition.0 < length terms.old }
+    ensures { IfOk result (λ id. Adds terms.old terms.new id (term.Prefix Not (tree_at terms.old condition))) }
+{
+    terms.make(Node::Prefix(TermPrefix::Not, condition))
+}
+
 /// The id of the term of an expression, where variables have these values. A static one stands as its value.
 #[cycle(term_id)]
-#[tactic(auto, using(crate::proofs::SharedTerms::adds_laws, spx_meaning::specs::Paths::term_forms, crate::proofs::ConditionTerms::applied_forms))]
+#[tactic(auto, using(crate::proofs::SharedTerms::meaning_laws, spx_paths::specs::Terms::term_forms, crate::proofs::ConditionTerms::applied_forms))]
 pub fn term_id(terms: &mut Terms, values: &Values, expr: &CoreExpr) -> Result<TermId, AllocError>
     requires { AreValues (length terms.old) values.now }
-    ensures { IfOk result (λ id. Adds terms.old terms.new id (applied (state_in terms.old values.now) (term_of expr.now))) }
+    ensures { IfOk result (AddsMeaning terms.old terms.new values.now expr.now) }
 {
     match expr {
         CoreExpr::Number(value, _) => terms.make(Node::Number(*value)),

@@ -1,5 +1,5 @@
 // The values that variables have, as ids of terms.
-ghost use Rattle.std.specs.Prelude.{◌≡◌, [], OnOk};
+ghost use Rattle.std.specs.Prelude.{◌≡◌, [], IfOk, OnOk};
 ghost use Rattle.spx_vcg.specs.States.{given, IsSet};
 
 use indexmap::IndexMap;
@@ -31,6 +31,15 @@ impl Values {
         Values {
             ids: IndexMap::new(alloc),
         }
+    }
+
+    /// The same values.
+    pub fn copy(&self) -> Result<Values, AllocError>
+        ensures { IfOk result (λ copy. copy ≡ self.now) }
+    {
+        Ok(Values {
+            ids: self.ids.clone()?,
+        })
     }
 
     /// The value that a variable was given last.

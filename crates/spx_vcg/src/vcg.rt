@@ -1,20 +1,24 @@
 // The verification conditions of a subprogram.
-ghost use Rattle.std.specs.Prelude.{◌≡◌, ◌<◌, ◌+◌, false, length, map, IfErr, IfOk, OnOk};
+ghost use Rattle.std.specs.Prelude.{◌≡◌, ◌<◌, ◌+◌, false, Some, length, map, slice_get, IfErr, IfOk, OnOk};
 ghost use Rattle.spx_term.specs.declared.condition.Condition.{Condition};
-ghost use Rattle.spx_term.specs.Steps.{claims_of, tidy};
+ghost use Rattle.spx_term.specs.Steps.{tidy};
 ghost use Rattle.spx_arena.specs.Claims.{AreIds, IsWhole, claim_at, claims_in, trees_at};
-ghost use Rattle.spx_meaning.specs.Limits.{has_large_condition};
-ghost use Rattle.spx_meaning.specs.Paths.{condition, condition_name, conditions_of, numbered, tree_of};
-ghost use Rattle.spx_vcg.specs.Largeness.{IsFaultWhere};
+ghost use Rattle.spx_core.specs.declared.program.Program.{Program};
+ghost use Rattle.spx_core.specs.declared.subprogram.Sub.{Sub};
+ghost use Rattle.spx_paths.specs.Conditions.{body_claims, condition, condition_name, conditions_of, numbered};
+ghost use Rattle.spx_paths.specs.Limits.{has_large_condition, has_many_paths};
+ghost use Rattle.spx_vcg.specs.Largeness.{IsFaultOf};
 
 use crate::VcFault;
+use crate::branches::Rest;
 use crate::limit::has_large_claim;
 use crate::values::Values;
 use crate::walk::{Facts, Walk};
 use indexmap::IndexSet;
 use spx_arena::{FactLists, SharedClaim, SharedClaims, TermId, Terms};
-use spx_core::Sub;
+use spx_core::{Program, Sub, SubId};
 use spx_num::decimal;
+use spx_paths::{MOST_PATHS, has_many_paths};
 use spx_term::{Condition, MOST_NODES, Term};
 use spx_text::Text;
 use sqlite_items::Items;
@@ -23,7 +27,7 @@ use std::alloc::{AllocError, Global};
 /// The conditions on shared terms, whatever their size.
 fn walked(alloc: Global, sub: &Sub) -> Result<SharedClaims, AllocError>
     ensures whole { IfOk result IsWhole }
-    ensures claims { IfOk result (λ all. claims_in all ≡ map tidy (claims_of (tree_of sub.now))) }
+    ensures claims { (p : Program) → IfOk result (λ all. claims_in all ≡ map tidy (body_claims p sub.now)) }
 {
     let lists = FactLists::new(alloc);
     let mut walk = Walk {
@@ -39,7 +43,7 @@ fn walked(alloc: Global, sub: &Sub) -> Result<SharedClaims, AllocError>
     walk.enter_all(alloc, sub)?;
     walk.assume_imports(alloc, sub)?;
     walk.assume_pre(sub)?;
-    walk.stmts(alloc, sub.statements.as_slice())?;
+    walk.path(alloc, sub.statements.as_slice(), &Rest::End)?;
     let Walk {
         terms,
         values: _,
@@ -54,19 +58,37 @@ fn walked(alloc: Global, sub: &Sub) -> Result<SharedClaims, AllocError>
     Ok(SharedClaims { terms, facts, list })
 }
 
-/// The verification conditions of a subprogram on shared terms, in the order in which they are named.
-pub fn shared_conditions(alloc: Global, sub: &Sub) -> Result<SharedClaims, VcFault>
+/// The conditions on shared terms, unless they pass a limit.
+fn conditions_within(alloc: Global, sub: &Sub) -> Result<SharedClaims, VcFault>
     ensures whole { IfOk result IsWhole }
-    ensures claims { IfOk result (λ all. claims_in all ≡ map tidy (claims_of (tree_of sub.now))) }
-    // The limit comes exactly where some condition has too many nodes.
-    ensures few { OnOk result (has_large_condition sub.now ≡ false) }
-    ensures refused { IfErr result (IsFaultWhere (has_large_condition sub.now)) }
+    ensures claims { (p : Program) → IfOk result (λ all. claims_in all ≡ map tidy (body_claims p sub.now)) }
+    ensures few { (p : Program) → OnOk result ((has_many_paths sub.now ≡ false) × (has_large_condition p sub.now ≡ false)) }
+    ensures refused { (p : Program) → IfErr result (IsFaultOf p sub.now) }
 {
+    if has_many_paths(sub) {
+        return Err(VcFault::TooManyPaths(MOST_PATHS + 1));
+    }
     let claims = walked(alloc, sub)?;
     if has_large_claim(alloc, &claims)? {
         return Err(VcFault::TooManyNodes(MOST_NODES + 1));
     }
     Ok(claims)
+}
+
+/// The verification conditions of a subprogram on shared terms, in the order in which they are named.
+pub fn shared_conditions(
+    alloc: Global,
+    program: &Program,
+    id: SubId,
+) -> Result<SharedClaims, VcFault>
+    requires { id.0 < length program.now.subs }
+    ensures whole { IfOk result IsWhole }
+    ensures claims { (sub : Sub) → slice_get program.now.subs id.0 ≡ Some sub → IfOk result (λ all. claims_in all ≡ map tidy (body_claims program.now sub)) }
+    // The limits come exactly where there are too many paths, or some condition has too many nodes.
+    ensures few { (sub : Sub) → slice_get program.now.subs id.0 ≡ Some sub → OnOk result ((has_many_paths sub ≡ false) × (has_large_condition program.now sub ≡ false)) }
+    ensures refused { (sub : Sub) → slice_get program.now.subs id.0 ≡ Some sub → IfErr result (IsFaultOf program.now sub) }
+{
+    conditions_within(alloc, &program.subs.as_slice()[id.0])
 }
 
 /// `SUB.N`, after so many conditions.
@@ -126,13 +148,23 @@ fn as_trees(alloc: Global, sub: &Sub, claims: &SharedClaims) -> Result<Items<Con
     Ok(all)
 }
 
-/// The verification conditions of a subprogram, in the order in which they are named.
-pub fn conditions(alloc: Global, sub: &Sub) -> Result<Items<Condition>, VcFault>
-    ensures exact { IfOk result (λ all. all ≡ conditions_of sub.now) }
-    // The limit comes exactly where some condition has too many nodes.
-    ensures few { OnOk result (has_large_condition sub.now ≡ false) }
-    ensures refused { IfErr result (IsFaultWhere (has_large_condition sub.now)) }
+/// The verification conditions of a subprogram as trees, unless they pass a limit.
+fn trees_within(alloc: Global, sub: &Sub) -> Result<Items<Condition>, VcFault>
+    ensures exact { (p : Program) → IfOk result (λ all. all ≡ conditions_of p sub.now) }
+    ensures few { (p : Program) → OnOk result ((has_many_paths sub.now ≡ false) × (has_large_condition p sub.now ≡ false)) }
+    ensures refused { (p : Program) → IfErr result (IsFaultOf p sub.now) }
 {
-    let claims = shared_conditions(alloc, sub)?;
+    let claims = conditions_within(alloc, sub)?;
     Ok(as_trees(alloc, sub, &claims)?)
+}
+
+/// The verification conditions of a subprogram, in the order in which they are named.
+pub fn conditions(alloc: Global, program: &Program, id: SubId) -> Result<Items<Condition>, VcFault>
+    requires { id.0 < length program.now.subs }
+    ensures exact { (sub : Sub) → slice_get program.now.subs id.0 ≡ Some sub → IfOk result (λ all. all ≡ conditions_of program.now sub) }
+    // The limits come exactly where there are too many paths, or some condition has too many nodes.
+    ensures few { (sub : Sub) → slice_get program.now.subs id.0 ≡ Some sub → OnOk result ((has_many_paths sub ≡ false) × (has_large_condition program.now sub ≡ false)) }
+    ensures refused { (sub : Sub) → slice_get program.now.subs id.0 ≡ Some sub → IfErr result (IsFaultOf program.now sub) }
+{
+    trees_within(alloc, &program.subs.as_slice()[id.0])
 }

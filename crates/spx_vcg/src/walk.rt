@@ -6,19 +6,24 @@ ghost use Rattle.spx_term.specs.Steps.{assume_all, check};
 ghost use Rattle.spx_core.specs.Formals.{formals};
 ghost use Rattle.spx_core.specs.Uses.{variable_of};
 ghost use Rattle.spx_meaning.specs.Evaluation.{term_op};
-ghost use Rattle.spx_meaning.specs.Paths.{assigned, signed_term, term_of, static_term, in_integer, operation_check, sign_check, checks, walk, walks, entering, import_facts, pre_facts};
+ghost use Rattle.spx_term.specs.Folding.{term_of as static_term};
+ghost use Rattle.spx_core.specs.Commands.{Set};
+ghost use Rattle.spx_paths.specs.Terms.{signed_term};
+ghost use Rattle.spx_paths.specs.Checks.{in_integer, operation_check, sign_check, checks};
+ghost use Rattle.spx_paths.specs.Walks.{assigned, entering, import_facts, pre_facts};
 ghost use Rattle.spx_core.specs.VarSets.{holds};
 ghost use Rattle.spx_vcg.specs.Entering.{entered, known_of};
 ghost use Rattle.spx_arena.specs.Sharing.{tree_at, IsId};
 ghost use Rattle.spx_vcg.specs.ConditionWalk.{applied};
-ghost use Rattle.spx_vcg.specs.WalkSteps.{state, Stands, AddsFact, Whole, Goes, Checks, Makes, Adding};
+ghost use Rattle.spx_vcg.specs.WalkSteps.{state, Stands, AddsFact, Whole, Goes, Checks, Makes, Evaluates, Adding};
+ghost use Rattle.spx_vcg.specs.PathWalk.{Passes};
 
 use crate::ids::{self, not_above, not_below, signed_id, term_op};
-use crate::literals::literal;
 use crate::values::Values;
 use indexmap::IndexSet;
 use spx_arena::{FactLists, FactsId, SharedClaim, TermId, Terms};
-use spx_core::{CoreExpr, CoreStmt, Entity, Sub, VarId, VarSet, variable_of};
+use spx_core::{CoreExpr, Entity, Reference, Sub, VarId, VarSet, variable_of};
+use spx_paths::literal;
 use spx_term::{CondKind, Symbol, Value};
 use spx_text::Place;
 use spx_tree::{InfixOp, PrefixOp};
@@ -61,7 +66,7 @@ impl Walk {
     /// The id of the term of an expression.
     fn term_id(&mut self, expr: &CoreExpr) -> Result<TermId, AllocError>
         requires { Whole self.old }
-        ensures { IfOk result (λ id. Makes self.old self.new (λ rest. rest) id (term_of expr.now)) }
+        ensures { IfOk result (Evaluates self.old self.new (λ entries rest. rest) expr.now) }
     {
         let id = ids::term_id(&mut self.terms, &self.values, expr)?;
         Ok(id)
@@ -77,7 +82,7 @@ impl Walk {
     }
 
     /// Adds a fact, if it is not there.
-    fn assume(&mut self, fact: TermId) -> Result<(), AllocError>
+    pub fn assume(&mut self, fact: TermId) -> Result<(), AllocError>
         requires { Stands self.old.facts }
         ensures { OnOk result (Adding self.old self.new fact) }
     {
@@ -152,7 +157,7 @@ impl Walk {
     ) -> Result<TermId, AllocError>
         requires whole { Whole self.old }
         requires within { (left.0 < length self.old.terms) × (right.0 < length self.old.terms) }
-        ensures { IfOk result (λ id. (a b : Term) → tree_at self.old.terms left ≡ applied (state self.old) a → tree_at self.old.terms right ≡ applied (state self.old) b → Makes self.old self.new (operation_check op place (term.Infix (term_op op) a b)) id (term.Infix (term_op op) a b)) }
+        ensures { IfOk result (λ id. (a b : Term) → tree_at self.old.terms left ≡ applied (state self.old) a → tree_at self.old.terms right ≡ applied (state self.old) b → Makes self.old self.new (operation_check [] op place (term.Infix (term_op op) a b)) id (term.Infix (term_op op) a b)) }
     {
         let value = self.terms.infix(term_op(op), left, right)?;
         match op {
@@ -174,7 +179,7 @@ impl Walk {
     ) -> Result<TermId, AllocError>
         requires whole { Whole self.old }
         requires within { operand.0 < length self.old.terms }
-        ensures { IfOk result (λ id. (a : Term) → tree_at self.old.terms operand ≡ applied (state self.old) a → Makes self.old self.new (sign_check op place (signed_term op a)) id (signed_term op a)) }
+        ensures { IfOk result (λ id. (a : Term) → tree_at self.old.terms operand ≡ applied (state self.old) a → Makes self.old self.new (sign_check [] op place (signed_term op a)) id (signed_term op a)) }
     {
         match op {
             PrefixOp::Plus => Ok(operand),
@@ -188,9 +193,9 @@ impl Walk {
 
     /// The checks of an expression, from left to right, and its term. A static one has no checks.
     #[cycle(checked_id)]
-    fn checked_id(&mut self, alloc: Global, expr: &CoreExpr) -> Result<TermId, AllocError>
+    pub fn checked_id(&mut self, alloc: Global, expr: &CoreExpr) -> Result<TermId, AllocError>
         requires { Whole self.old }
-        ensures { IfOk result (λ id. Makes self.old self.new (checks expr.now) id (term_of expr.now)) }
+        ensures { IfOk result (Evaluates self.old self.new (λ entries. checks entries [] expr.now) expr.now) }
     {
         match expr {
             CoreExpr::Number(_, _) => {
@@ -246,28 +251,19 @@ impl Walk {
         }
     }
 
-    fn stmt(&mut self, alloc: Global, stmt: &CoreStmt) -> Result<(), AllocError>
+    /// Gives a target the value of an expression, which lies in the type `Integer`.
+    pub fn assignment(
+        &mut self,
+        alloc: Global,
+        target: &Reference,
+        expr: &CoreExpr,
+    ) -> Result<(), AllocError>
         requires { Whole self.old }
-        ensures { OnOk result (Goes self.old self.new (walk stmt.now)) }
+        ensures { OnOk result (Passes self.old self.new (Set target.now expr.now)) }
     {
-        match stmt {
-            CoreStmt::Null(_) => Ok(()),
-            CoreStmt::Assignment(target, expr) => {
-                let value = self.checked_id(alloc, expr)?;
-                self.check(alloc, CondKind::Range, expr.place(), value)?;
-                self.assign(target.root.entity, value)?;
-                Ok(())
-            }
-        }
-    }
-
-    pub fn stmts(&mut self, alloc: Global, stmts: &[CoreStmt]) -> Result<(), AllocError>
-        requires { Whole self.old }
-        ensures { OnOk result (Goes self.old self.new (walks stmts.now)) }
-    {
-        for stmt in stmts {
-            self.stmt(alloc, stmt)?;
-        }
+        let value = self.checked_id(alloc, expr)?;
+        self.check(alloc, CondKind::Range, expr.place(), value)?;
+        self.assign(target.root.entity, value)?;
         Ok(())
     }
 
@@ -321,7 +317,7 @@ impl Walk {
 
     pub fn assume_pre(&mut self, sub: &Sub) -> Result<(), AllocError>
         requires { Whole self.old }
-        ensures { OnOk result (Goes self.old self.new (assume_all (pre_facts sub.now.pre))) }
+        ensures { OnOk result (Goes self.old self.new (assume_all (pre_facts sub.now sub.now.pre))) }
     {
         if let Some(pre) = &sub.pre {
             let fact = self.term_id(&pre.condition)?;

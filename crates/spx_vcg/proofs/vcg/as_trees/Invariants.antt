@@ -1,6 +1,6 @@
 use Rattle.std.proofs.Common.{◌≡◌, take}
 use Rattle.spx_arena.specs.Claims.{claims_in}
-use Rattle.spx_meaning.specs.Paths.{numbered}
+use Rattle.spx_paths.specs.Conditions.{numbered}
 use Rattle.spx_vcg.proofs.vcg.as_trees.Given as goal
 
 abbrev pub invariant-loop-at : goal.invariant-loop-at

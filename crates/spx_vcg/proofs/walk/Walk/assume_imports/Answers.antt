@@ -3,10 +3,10 @@ use Rattle.std.proofs.lemmas.List.{at_drop_all}
 use Rattle.spx_core.specs.declared.entity.VarId.{VarId}
 use Rattle.spx_core.specs.Formals.{formals}
 use Rattle.spx_term.specs.Steps.{assume_all}
-use Rattle.spx_meaning.specs.Paths.{import_facts}
+use Rattle.spx_paths.specs.Walks.{import_facts}
 use Rattle.spx_vcg.specs.Entering.{known_of}
 use Rattle.spx_vcg.specs.WalkSteps.{Goes, claims_from}
-use Rattle.spx_vcg.proofs.SharedSteps.{import_step}
+use Rattle.spx_vcg.proofs.SharedSteps.{adds_twice, import_step}
 use Rattle.spx_vcg.proofs.walk.Walk.assume_imports.Goals as goal
 
 pub loop-var-preserved : goal.loop-var-preserved
@@ -20,6 +20,7 @@ loop-var-preserved c =
     let step = subst (λ (b : Bool). Goes c.loop-var.self c.assume_import.new.self (assume_all (known_of b var))) (c.in_ok-imports.ensures var) c.in_ok-assume_import.ensures in
     record {
       whole = c.in_ok-assume_import.ensures.whole;
+      adds = adds_twice c.loop-var.invariant.adds c.in_ok-assume_import.ensures.adds;
       same = import_step c.args.self.now c.loop-var.self c.assume_import.new.self c.args.sub.now vars i var none within (ap (λ (vs : List VarId). get_or vs i none) c.formals-var-items.ensures) c.loop-var.invariant.same step;
     }
 
@@ -29,5 +30,6 @@ returns c =
     let end : length (formals sub) ≤ c.loop-var.var-index = omega (arith, ap length c.formals-var-items.ensures, c.loop-var-test.false) in
     record {
       whole = c.loop-var.invariant.whole;
+      adds = c.loop-var.invariant.adds;
       same = λ rest. c.loop-var.invariant.same rest ∙ at_drop_all (λ (vs : List VarId). claims_from c.loop-var.self (assume_all (flat_map (import_facts sub) vs) rest)) (formals sub) c.loop-var.var-index end;
     }

@@ -2,10 +2,10 @@ use Rattle.std.proofs.Common.{◌∙◌, ◌<◌, ◌≤◌, Bool, List, get_or,
 use Rattle.std.proofs.lemmas.List.{at_drop_all}
 use Rattle.spx_core.specs.declared.entity.VarId.{VarId}
 use Rattle.spx_core.specs.Formals.{formals}
-use Rattle.spx_meaning.specs.Paths.{entering}
+use Rattle.spx_paths.specs.Walks.{entering}
 use Rattle.spx_vcg.specs.Entering.{entered}
 use Rattle.spx_vcg.specs.WalkSteps.{Goes, claims_from}
-use Rattle.spx_vcg.proofs.SharedSteps.{enter_step}
+use Rattle.spx_vcg.proofs.SharedSteps.{adds_twice, enter_step}
 use Rattle.spx_vcg.proofs.walk.Walk.enter_all.Goals as goal
 
 pub loop-var-preserved : goal.loop-var-preserved
@@ -19,6 +19,7 @@ loop-var-preserved c =
     let step = subst (λ (b : Bool). Goes c.loop-var.self c.enter.new.self (entered b var)) (c.in_ok-exports.ensures var) c.in_ok-enter.ensures in
     record {
       whole = c.in_ok-enter.ensures.whole;
+      adds = adds_twice c.loop-var.invariant.adds c.in_ok-enter.ensures.adds;
       same = enter_step c.args.self.now c.loop-var.self c.enter.new.self c.args.sub.now vars i var none within (ap (λ (vs : List VarId). get_or vs i none) c.formals-var-items.ensures) c.loop-var.invariant.same step;
     }
 
@@ -28,5 +29,6 @@ returns c =
     let end : length (formals sub) ≤ c.loop-var.var-index = omega (arith, ap length c.formals-var-items.ensures, c.loop-var-test.false) in
     record {
       whole = c.loop-var.invariant.whole;
+      adds = c.loop-var.invariant.adds;
       same = λ rest. c.loop-var.invariant.same rest ∙ at_drop_all (λ (vs : List VarId). claims_from c.loop-var.self (entering sub vs rest)) (formals sub) c.loop-var.var-index end;
     }

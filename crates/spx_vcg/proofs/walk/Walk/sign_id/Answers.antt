@@ -1,6 +1,6 @@
 use Rattle.std.proofs.Common.{refl}
 use Rattle.spx_term.specs.declared.condition.CondKind.TheVariants.{Overflow}
-use Rattle.spx_meaning.specs.Paths.{signed_term}
+use Rattle.spx_paths.specs.Terms.{signed_term}
 use Rattle.spx_arena.specs.Sharing.{tree_at}
 use Rattle.spx_vcg.specs.WalkSteps.{state}
 use Rattle.spx_vcg.proofs.SharedSteps.{after_terms, makes_term, made_then, sign_adds, sign_checked}

@@ -1,5 +1,5 @@
 use Rattle.std.proofs.Common.{refl}
-use Rattle.spx_meaning.specs.Paths.{static_term}
+use Rattle.spx_term.specs.Folding.{term_of as static_term}
 use Rattle.spx_vcg.proofs.SharedSteps.{makes_static}
 use Rattle.spx_vcg.proofs.walk.Walk.static_id.Goals as goal
 

@@ -1,0 +1,175 @@
+// The walk through statements to the end of each path. What paths have in common is walked once.
+ghost use Rattle.std.specs.Prelude.{◌≡◌, ◌<◌, length, map, IfOk, OnOk};
+ghost use Rattle.spx_core.specs.Commands.{Skip, Then, arm_before, arms_before, commands};
+ghost use Rattle.spx_term.specs.declared.term.Term.{Term};
+ghost use Rattle.spx_arena.specs.Sharing.{tree_at};
+ghost use Rattle.spx_vcg.specs.ConditionWalk.{applied};
+ghost use Rattle.spx_vcg.specs.Following.{after, done_otherwise};
+ghost use Rattle.spx_vcg.specs.WalkSteps.{state, Whole, Goes};
+ghost use Rattle.spx_vcg.specs.PathWalk.{Comes, Marks, IsBack, Takes, negated, PassesArm};
+
+use crate::ids::negated_id;
+use crate::values::Values;
+use crate::walk::Walk;
+use spx_arena::{FactsId, TermId};
+use spx_core::{CoreArm, CoreStmt};
+use sqlite_items::Items;
+use std::alloc::{AllocError, Global};
+
+/// What is known before an arm, to come back to after it.
+#[derive(Drop)]
+pub struct Mark {
+    pub values: Values,
+    pub at: FactsId,
+    /// How many facts there are.
+    pub count: usize,
+}
+
+/// What follows some statements on the way to the end of the body: the statements after the one that they are part of, and
+/// what follows these.
+#[derive(Clone, Copy)]
+pub enum Rest<'a> {
+    End,
+    After(&'a [CoreStmt], &'a Rest<'a>),
+}
+
+impl<'a> Rest<'a> {
+    /// These statements, and what follows them.
+    #[tactic(auto, unfolding(crate::specs::Following::after))]
+    fn more(first: &'a [CoreStmt], rest: &'a Rest<'a>) -> Rest<'a>
+        ensures { after result ≡ Then (commands first.now) (after rest.now) }
+    {
+        Rest::After(first, rest)
+    }
+}
+
+/// What is done where no arm is taken.
+fn done_otherwise(otherwise: &Option<Items<CoreStmt>>) -> &[CoreStmt]
+    ensures { result.now ≡ done_otherwise otherwise.now }
+{
+    match otherwise {
+        Some(stmts) => stmts.as_slice(),
+        None => &[],
+    }
+}
+
+impl Walk {
+    /// The place to come back to.
+    fn mark(&self) -> Result<Mark, AllocError>
+        ensures { IfOk result (Marks self.now) }
+    {
+        Ok(Mark {
+            values: self.values.copy()?,
+            at: self.facts.at,
+            count: self.facts.present.len(),
+        })
+    }
+
+    /// Values and facts are again what they were. Terms, lists of facts and claims stay.
+    fn back_to(&mut self, mark: Mark)
+        ensures { IsBack self.old self.new mark }
+    {
+        self.facts.present.truncate(mark.count);
+        self.facts.at = mark.at;
+        self.values = mark.values;
+    }
+
+    /// An arm that is taken, and what follows it. Its condition is a fact in it, and no longer after it.
+    #[cycle(path)]
+    #[tactic(auto, using(crate::proofs::SharedSteps::fact_whole))]
+    fn taken(
+        &mut self,
+        alloc: Global,
+        condition: TermId,
+        body: &[CoreStmt],
+        rest: &Rest,
+    ) -> Result<(), AllocError>
+        requires whole { Whole self.old }
+        requires within { condition.0 < length self.old.terms }
+        ensures { OnOk result (Takes self.old self.new condition (Then (commands body.now) (after rest.now))) }
+    {
+        let mark = self.mark()?;
+        self.terms.distinct();
+        self.assume(condition)?;
+        self.path(alloc, body, rest)?;
+        self.back_to(mark);
+        Ok(())
+    }
+
+    /// An arm that is not taken: the negation of its condition is a fact from there on.
+    fn not_taken(&mut self, condition: TermId) -> Result<(), AllocError>
+        requires whole { Whole self.old }
+        requires within { condition.0 < length self.old.terms }
+        ensures { OnOk result ((t : Term) → tree_at self.old.terms condition ≡ applied (state self.old) t → Goes self.old self.new (negated t)) }
+    {
+        let negation = negated_id(&mut self.terms, condition)?;
+        self.terms.distinct();
+        self.assume(negation)?;
+        Ok(())
+    }
+
+    /// An arm and what follows it, and then what is known where it is not taken.
+    #[cycle(path)]
+    fn arm(&mut self, alloc: Global, arm: &CoreArm, rest: &Rest) -> Result<(), AllocError>
+        requires { Whole self.old }
+        ensures { OnOk result (PassesArm self.old self.new (arm_before arm.now) (after rest.now)) }
+    {
+        let condition = self.checked_id(alloc, &arm.condition)?;
+        self.taken(alloc, condition, arm.body.as_slice(), rest)?;
+        self.not_taken(condition)?;
+        Ok(())
+    }
+
+    /// Arms from the first on, then what stands after `else`, each with what follows.
+    #[cycle(path)]
+    fn arms(
+        &mut self,
+        alloc: Global,
+        arms: &[CoreArm],
+        otherwise: &[CoreStmt],
+        rest: &Rest,
+    ) -> Result<(), AllocError>
+        requires { Whole self.old }
+        ensures { OnOk result (Comes self.old self.new (Then (arms_before (commands otherwise.now) (map arm_before arms.now)) (after rest.now)) Skip) }
+    {
+        for arm in arms {
+            self.arm(alloc, arm, rest)?;
+        }
+        self.path(alloc, otherwise, rest)?;
+        Ok(())
+    }
+
+    /// Statements and what follows them, to the end of each path.
+    #[cycle(path)]
+    pub fn path(&mut self, alloc: Global, stmts: &[CoreStmt], rest: &Rest) -> Result<(), AllocError>
+        requires { Whole self.old }
+        ensures { OnOk result (Comes self.old self.new (Then (commands stmts.now) (after rest.now)) Skip) }
+    {
+        for (at, stmt) in stmts.iter().enumerate() {
+            match stmt {
+                CoreStmt::Null(_) => continue,
+                CoreStmt::Assignment(target, value) => {
+                    self.assignment(alloc, target, value)?;
+                    continue;
+                }
+                CoreStmt::If(arms, otherwise, _) => {
+                    let following = Rest::more(&stmts[at + 1..], &*rest);
+                    self.arms(
+                        alloc,
+                        arms.as_slice(),
+                        done_otherwise(otherwise),
+                        &following,
+                    )?;
+                    return Ok(());
+                }
+            }
+        }
+        match rest {
+            Rest::End => Ok(()),
+            Rest::After(stmts, rest) => {
+                self.path(alloc, &*stmts, &*rest)?;
+                Ok(())
+            }
+        }
+    }
+}
