@@ -5,8 +5,8 @@ use Rattle.spx_tree.specs.declared.subprogram.Unit.{Unit}
 use Rattle.spx_core.specs.declared.subprogram.Sub.{Sub}
 use Rattle.spx_core.specs.Resolved.{resolved}
 use Rattle.spx_core.specs.Erased.{Visible}
-use Rattle.spx_meaning.specs.Paths.{conditions_of, ArePlain}
-use Rattle.spx_meaning.specs.Fit.{Clean}
+use Rattle.spx_paths.specs.Conditions.{conditions_of, ArePlain}
+use Rattle.spx_paths.specs.Fit.{Clean}
 use Rattle.spx_examples.specs.Increment.{inc_units, inc, increment}
 use Rattle.spx_examples.proofs.IncrementNames.{increment_is_resolved}
 use Rattle.spx_examples.proofs.IncrementRules.{typed, obeys}
@@ -20,5 +20,5 @@ clean visible = record {
   typed = typed;
   obeys = obeys;
   flows = flows inc.pre;
-  conditions = All-cons (λ (sub : Sub). ArePlain (conditions_of sub)) inc [] plain (All-nil (λ (sub : Sub). ArePlain (conditions_of sub)));
+  conditions = All-cons (λ (sub : Sub). ArePlain (conditions_of increment sub)) inc [] plain (All-nil (λ (sub : Sub). ArePlain (conditions_of increment sub)));
 }

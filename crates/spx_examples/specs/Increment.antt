@@ -1,5 +1,5 @@
 -- The procedure of examples/inc.adb, as it is written and resolved, and its verification conditions.
-use Rattle.std.specs.Prelude.{ℕ, pos, false, List, [], ◌∷◌, Some, None, codes}
+use Rattle.std.specs.Prelude.{ℕ, ◌+◌, ℤ, pos, false, List, [], ◌∷◌, ◌++◌, Some, None, codes}
 use Rattle.spx_text.specs.declared.place.Place.{Place}
 use Rattle.spx_tree.specs.declared.expression.Identifier.{Identifier}
 use Rattle.spx_tree.specs.declared.expression.InfixOp.TheVariants as op
@@ -74,13 +74,13 @@ last_written = written_expr.Name (Attribute (word (codes "Integer") 3 13) (word 
 abbrev pub below_written : Expr
 below_written = written_expr.Infix op.Less (place 3 11) (written_expr.Name (x_written 3 9)) last_written
 
--- `X + 1`
-abbrev pub successor_written : Expr
-successor_written = written_expr.Infix op.Add (place 6 11) (written_expr.Name (x_written 6 9)) (written_expr.Number (pos 1) (place 6 13))
+-- `X + 1`, whose X is at this line and column
+abbrev pub successor_written : ℕ → ℕ → Expr
+successor_written line column = written_expr.Infix op.Add (place line (column + 2)) (written_expr.Name (x_written line column)) (written_expr.Number (pos 1) (place line (column + 4)))
 
 -- `X := X + 1`
 abbrev pub step_written : Stmt
-step_written = written_stmt.Assignment (x_written 6 4) successor_written
+step_written = written_stmt.Assignment (x_written 6 4) (successor_written 6 9)
 
 -- the procedure, with its annotations
 abbrev pub inc_written : Subprogram
@@ -150,13 +150,13 @@ integer_last = expr.Attribute (integer_at 3 13) (word (codes "Last") 3 21)
 abbrev pub below_last : CoreExpr
 below_last = expr.Infix op.Less (place 3 11) (expr.Name (x_at 3 9)) integer_last
 
--- `X + 1`
-abbrev pub successor : CoreExpr
-successor = expr.Infix op.Add (place 6 11) (expr.Name (x_at 6 9)) (expr.Number (pos 1) (place 6 13))
+-- `X + 1`, whose X is at this line and column
+abbrev pub successor : ℕ → ℕ → CoreExpr
+successor line column = expr.Infix op.Add (place line (column + 2)) (expr.Name (x_at line column)) (expr.Number (pos 1) (place line (column + 4)))
 
 -- `X := X + 1`
 abbrev pub step : CoreStmt
-step = stmt.Assignment (x_named 6 4) successor
+step = stmt.Assignment (x_named 6 4) (successor 6 9)
 
 -- the procedure, with its annotations
 abbrev pub inc : Sub
@@ -206,29 +206,29 @@ at_least_first t = term.Infix sign.GreaterOrEqual t (term.Number INTEGER_FIRST)
 abbrev pub at_most_last : Term → Term
 at_most_last t = term.Infix sign.LessOrEqual t (term.Number INTEGER_LAST)
 
--- `X~ < 2147483647`
-abbrev pub entry_below_last : Term
-entry_below_last = term.Infix sign.Less entry_x (term.Number INTEGER_LAST)
+-- `X~ < n`
+abbrev pub entry_below : ℤ → Term
+entry_below n = term.Infix sign.Less entry_x (term.Number n)
+
+-- what is known of X~ at the start
+abbrev pub known_entry : List Term
+known_entry = at_least_first entry_x ∷ at_most_last entry_x ∷ []
+
+-- and where it lies below n
+abbrev pub known_below : ℤ → List Term
+known_below n = known_entry ++ entry_below n ∷ []
+
+-- the sum lies in the type `Integer`
+abbrev pub sum_goals : List Term
+sum_goals = at_least_first next_x ∷ at_most_last next_x ∷ []
 
 -- the sum lies in the base range
 abbrev pub overflow_condition : Condition
-overflow_condition = record {
-  name = codes "Inc.1";
-  kind = Overflow;
-  place = place 6 11;
-  hyps = at_least_first entry_x ∷ at_most_last entry_x ∷ entry_below_last ∷ [];
-  goals = at_least_first next_x ∷ at_most_last next_x ∷ [];
-}
+overflow_condition = record { name = codes "Inc.1"; kind = Overflow; place = place 6 11; hyps = known_below INTEGER_LAST; goals = sum_goals }
 
 -- the sum lies in the type of X
 abbrev pub range_condition : Condition
-range_condition = record {
-  name = codes "Inc.2";
-  kind = Range;
-  place = place 6 11;
-  hyps = at_least_first entry_x ∷ at_most_last entry_x ∷ entry_below_last ∷ at_least_first next_x ∷ at_most_last next_x ∷ [];
-  goals = at_least_first next_x ∷ at_most_last next_x ∷ [];
-}
+range_condition = record { name = codes "Inc.2"; kind = Range; place = place 6 11; hyps = known_below INTEGER_LAST ++ sum_goals; goals = sum_goals }
 
 -- both, in the order of the body
 abbrev pub inc_conditions : List Condition

@@ -1,2 +1,5 @@
+pub mod Branches
 pub mod Increment
 pub mod Refused
+pub mod Next
+pub mod Flag

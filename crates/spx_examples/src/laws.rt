@@ -10,27 +10,26 @@ ghost use Rattle.spx_core.specs.Obeyed.{Obeys};
 ghost use Rattle.spx_core.specs.Statements.{Typed};
 ghost use Rattle.spx_term.specs.declared.value.Value.TheVariants as value;
 ghost use Rattle.spx_meaning.specs.declared.bad.BadKind.TheVariants.{Overflow};
-ghost use Rattle.spx_meaning.specs.Fit.{Clean, Fit};
+ghost use Rattle.spx_paths.specs.Fit.{Clean, Fit, IsValid};
 ghost use Rattle.spx_meaning.specs.Laws.{NeverBad, Start};
-ghost use Rattle.spx_meaning.specs.Paths.{conditions_of};
+ghost use Rattle.spx_paths.specs.Conditions.{conditions_of};
 ghost use Rattle.spx_meaning.specs.Runs.{Bad, Ended, call};
 ghost use Rattle.spx_examples.specs.Increment.{place, x, inc, inc_conditions, inc_effect, increment};
-ghost use Rattle.spx_examples.specs.Refused.{inc_without_pre, increment_without_pre, x_is_last};
+ghost use Rattle.spx_examples.specs.Refused.{inc_without_pre, increment_without_pre, x_is_last, overflow_without_pre, range_without_pre};
 
 use spx_core::laws::{names_are_scoped, resolution, rules_hold};
 
 /// The procedure of examples/inc.adb meets the premises of the laws, so they are not empty.
 pub fn increment_is_clean()
-    ensures conditions { conditions_of inc ≡ inc_conditions }
+    ensures conditions { conditions_of increment inc ≡ inc_conditions }
     ensures clean { Clean increment }
     ensures run { (n : ℕ) → call increment n inc (Some (value.Number (pos 41)) ∷ []) ≡ Ended (Some (value.Number (pos 42)) ∷ []) }
 {
     resolution();
 }
 
-/// Its body sets X, and reads X for that: X alone comes to the assignment, a mark on it comes to X, and the one way
+/// Its body sets X, and reads X for that: only X comes to the assignment, a mark on it comes to X, and the one way
 /// through the body sets X.
-#[tactic(auto, using(crate::proofs::IncrementFlows::effect_is, crate::proofs::IncrementFlows::x_comes, crate::proofs::IncrementFlows::mark_arrives, crate::proofs::IncrementFlows::one_way))]
 pub fn increment_flows()
     ensures body { body_effect inc ≡ inc_effect }
     ensures x_comes { (u : VarId) → Lambda (body_effect inc) u (place 6 4) ↔ (x ≡ u) }
@@ -60,3 +59,11 @@ pub fn a_run_without_proof_is_bad()
 {
     resolution();
 }
+
+/// Its condition on overflow is not valid: where X has the last value of its type, the sum lies past it. So the program is not fit
+/// to run. That X lies below a number, by a precondition or by the condition of a branch, is what makes this condition valid.
+pub fn a_sum_without_a_test_is_not_valid()
+    ensures conditions { conditions_of increment_without_pre inc_without_pre ≡ overflow_without_pre ∷ range_without_pre ∷ [] }
+    ensures not_valid { ¬ IsValid overflow_without_pre }
+    ensures unfit { ¬ Fit increment_without_pre }
+{}

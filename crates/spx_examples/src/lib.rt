@@ -3,4 +3,5 @@
 //! No other crate stands on this one.
 #![tactic(auto)]
 
+pub mod branch_laws;
 pub mod laws;

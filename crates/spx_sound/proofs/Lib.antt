@@ -1,8 +1,10 @@
 pub mod Typings
 pub mod NeverBadTrees
 pub mod SortedTerms
+pub mod NeverBadRuns
 pub mod NeverBadExpressions
 pub mod NeverBadAnnotations
 pub mod NeverBadBodies
+pub mod NeverUnset
 pub mod NeverBad
 pub mod CleanConditions

@@ -1,8 +1,9 @@
 -- No call of a program that is fit is bad.
-use Rattle.std.proofs.Common.{◌≡◌, ℕ, ℤ, pos, Bool, true, false, not, ◌&&◌, ◌||◌, if◌then◌else◌, List, [], ◌∷◌, get_or, Option, Some, None, refl, sym, ap, ap₂, ◌∙◌, subst, inl, inr}
-use Rattle.std.proofs.lemmas.Bool.{and_parts, both_ways, or_cases}
+use Rattle.std.proofs.Common.{◌≡◌, ℕ, ℤ, Bool, true, false, not, ◌&&◌, ◌||◌, if◌then◌else◌, List, [], ◌∷◌, get_or, Option, Some, None, refl, sym, ap, ap₂, ◌∙◌, subst}
+use Rattle.std.proofs.lemmas.Bool.{and_parts, both_ways}
 use Rattle.std.specs.Prelude.{⊤, All, IsSome, IfSome, is_some, IsTrue}
 use Rattle.std.specs.List.{flat_map, list_all}
+use Rattle.spx_core.specs.declared.entity.TheConstants.{INTEGER}
 use Rattle.spx_core.specs.declared.entity.VarId.{VarId}
 use Rattle.spx_core.specs.declared.entity.VarKind.TheVariants.{Formal}
 use Rattle.spx_core.specs.declared.program.Program.{Program}
@@ -10,10 +11,10 @@ use Rattle.spx_core.specs.declared.entity.Mode.{Mode}
 use Rattle.spx_core.specs.declared.entity.Mode.TheVariants as mode
 use Rattle.spx_core.specs.declared.subprogram.CorePrecondition.{CorePrecondition}
 use Rattle.spx_core.specs.declared.subprogram.Sub.{Sub}
+use Rattle.spx_core.specs.Commands.{commands}
 use Rattle.spx_core.specs.Dependency.{exports, imports}
 use Rattle.spx_core.specs.Formals.{formals, mode_of}
-use Rattle.spx_core.specs.Effects.{defines}
-use Rattle.spx_core.specs.FlowRules.{HasNoFinding}
+use Rattle.spx_core.specs.FlowRules.{HasNoFinding, body_effect, read, left}
 use Rattle.spx_core.specs.Rules.{ObeysRules}
 use Rattle.spx_core.specs.Scopes.{Scoped}
 use Rattle.spx_term.specs.declared.term.Sort.{Sort}
@@ -25,51 +26,51 @@ use Rattle.spx_term.specs.declared.term.Term.TheVariants.{Variable}
 use Rattle.spx_term.specs.declared.value.Value.{Value}
 use Rattle.spx_term.specs.declared.value.Value.TheVariants as value
 use Rattle.spx_term.specs.Meaning.{as_number, as_truth, Valuation, value_step, value_of, HasSort, Holds, Respects}
-use Rattle.spx_term.specs.Steps.{Tree, Cut, Assign, assume_all, same_name}
+use Rattle.spx_term.specs.Steps.{Tree, Assign, assume_all, same_name}
 use Rattle.spx_term.proofs.Terms.{fold-Variable}
-use Rattle.spx_core.specs.declared.entity.TheConstants.{INTEGER}
 use Rattle.spx_meaning.specs.declared.bad.BadKind.TheVariants.{Pre, Unset}
-use Rattle.spx_meaning.specs.Stores.{Store, at, look, type_of, is_in}
-use Rattle.spx_meaning.specs.Annotations.{meant}
-use Rattle.spx_meaning.specs.Runs.{Ended, then_do, demand, run, is_unset_kind, starts_unset, entry_of, pre_holds, demand_pre, exports_set, call}
-use Rattle.spx_meaning.specs.Paths.{now, entry, in_integer, entering, import_facts, pre_facts, first_facts, walks}
+use Rattle.spx_meaning.specs.Stores.{Store, look, type_of, is_in}
+use Rattle.spx_meaning.specs.Frames.{Frame, around}
+use Rattle.spx_meaning.specs.Annotations.{meant, reading, seen}
+use Rattle.spx_meaning.specs.Runs.{Outcome, Ended, then_do, demand, run, is_unset_kind, starts_unset, entry_of, pre_holds, demand_pre, exports_set, call}
 use Rattle.spx_meaning.specs.Laws.{Start, IsNeverBad, NeverBad}
-use Rattle.spx_meaning.specs.Fit.{HasValidConditions, Fit}
-use Rattle.spx_core.proofs.Callers.FlowLaws.{exports_are_set}
 use Rattle.spx_meaning.proofs.Callers.Entries.{cleared_keeps, cleared_part}
 use Rattle.spx_meaning.proofs.Callers.Evaluation.{meant_same}
 use Rattle.spx_meaning.proofs.Callers.IntegerTypes.{one_type}
 use Rattle.spx_meaning.proofs.Callers.Scopes.{mode_is, unset_is}
+use Rattle.spx_paths.specs.Terms.{now, entry, now_term, entry_term}
+use Rattle.spx_paths.specs.Checks.{in_integer}
+use Rattle.spx_paths.specs.Walks.{walk, entering, import_facts, pre_facts, first_facts, ending}
+use Rattle.spx_paths.specs.Fit.{HasValidConditions, Fit}
+use Rattle.spx_core.proofs.Callers.ListTests.{each_append}
 use Rattle.spx_sound.proofs.Typings.{TypedSub, typed_subs}
-use Rattle.spx_sound.proofs.NeverBadTrees.{AllHold, changed, Safe, each_append, each_flat_map, assumed, safe_sub}
-use Rattle.spx_sound.proofs.NeverBadExpressions.{type_facts, IsSet, AgreesWith}
+use Rattle.spx_sound.proofs.NeverBadTrees.{AllHold, changed, Safe, each_flat_map, assumed, safe_sub}
+use Rattle.spx_sound.proofs.NeverBadRuns.{Never, Good, good_then, good_demand, joined}
+use Rattle.spx_sound.proofs.NeverBadExpressions.{truth_from, type_facts, AgreesWith}
 use Rattle.spx_sound.proofs.NeverBadAnnotations.{means_its_term}
-use Rattle.spx_sound.proofs.NeverBadBodies.{same_name-Decides, AreIntegers, IsGood, good_then, SetAfter, body_good}
+use Rattle.spx_sound.proofs.NeverBadBodies.{same_name-Decides, AreIntegers, Fits, Reaches, walk_good}
+use Rattle.spx_sound.proofs.NeverUnset.{IsClear, Passes, never_unset}
 
 -- ---- the valuation of a store
 
-or_zero : Option Value → Value
-or_zero (Some w) = w
-or_zero None = value.Number (pos 0)
-
-abbrev symbol_value : Store → Symbol → Value
-symbol_value s (Now k) = or_zero (at s k)
-symbol_value s (Entry k) = or_zero (at s k)
+abbrev symbol_value : Program → Store → Symbol → Value
+symbol_value p s (Now k) = reading p s (record { 0 = k })
+symbol_value p s (Entry k) = reading p s (record { 0 = k })
 
 abbrev of_sort : Sort → Value → Value
 of_sort Integer w = value.Number (as_number w)
 of_sort Boolean w = value.Truth (as_truth w)
 
--- each name has the value that its variable has in the store
-abbrev valuation_of : Store → Valuation
-valuation_of s name = of_sort name.sort (symbol_value s name.symbol)
+-- each name has the value that its variable counts as in the store
+abbrev valuation_of : Program → Store → Valuation
+valuation_of p s name = of_sort name.sort (symbol_value p s name.symbol)
 
 has_sort : (of : Sort) (w : Value) → HasSort of (of_sort of w)
 has_sort Integer w = tt
 has_sort Boolean w = tt
 
-valuation_respects : (s : Store) → Respects (valuation_of s)
-valuation_respects s name = has_sort name.sort (symbol_value s name.symbol)
+valuation_respects : (p : Program) (s : Store) → Respects (valuation_of p s)
+valuation_respects p s name = has_sort name.sort (symbol_value p s name.symbol)
 
 abbrev IsInteger : Value → Type 0
 IsInteger w = (n : ℤ) × (w ≡ value.Number n) × (is_in INTEGER (value.Number n) ≡ true)
@@ -82,19 +83,16 @@ integer_is (value.Truth b) h = absurd (cc)
 abbrev HasIntegers : Store → Type 0
 HasIntegers s = (x : VarId) (w : Value) → look s x ≡ Some w → IsInteger w
 
-valuation_agrees : (s : Store) → HasIntegers s → AgreesWith s (valuation_of s)
-unfolding or_zero
-valuation_agrees s typed x w is =
-    let number = (typed x w is).1 in
-    ap (λ o. value.Number (as_number (or_zero o))) is ∙ ap (λ u. value.Number (as_number u)) number ∙ sym number
+valuation_agrees : (p : Program) (s : Store) → HasIntegers s → AgreesWith p s (valuation_of p s)
+valuation_agrees p s typed x = by_value (look s x) (typed x)
+  where
+    by_value : (o : Option Value) → ((w : Value) → o ≡ Some w → IsInteger w) → value.Number (as_number (seen (type_of p x) o)) ≡ seen (type_of p x) o
+    by_value (Some w) typed = let n = (typed w refl).1 in ap (λ u. value.Number (as_number u)) n ∙ sym n
+    by_value None typed = refl
 
 some_of : (o : Option Value) → IsSome o → (w : Value) × (o ≡ Some w)
 some_of (Some w) h = (w, refl)
 some_of None h = absurd (cc)
-
-as_truth_is : (w : Value) → as_truth w ≡ true → w ≡ value.Truth true
-as_truth_is (value.Number n) h = absurd (cc)
-as_truth_is (value.Truth b) h = ap value.Truth h
 
 -- ---- the start of a tree
 
@@ -106,13 +104,17 @@ unchanged v x w same = λ i y. by_name y (same_name x y) refl i
     by_name y true is = sym same ∙ ap v ((same_name-Decides x y).0 is)
     by_name y false is = refl
 
-entered : (sub : Sub) (s : Store) (vars : List VarId) (rest : Tree) → Safe (entering sub vars rest) (valuation_of s) → Safe rest (valuation_of s)
-entered sub s [] rest safe = safe
-entered sub s (x ∷ vars) rest safe = entered sub s vars rest (by_export (exports x sub) safe)
-  where
-    by_export : (b : Bool) → Safe (if b then Assign (now x) (Variable (entry x)) (entering sub vars rest) else entering sub vars rest) (valuation_of s) → Safe (entering sub vars rest) (valuation_of s)
-    by_export true safe = subst (Safe (entering sub vars rest)) (unchanged (valuation_of s) (now x) (value_of (valuation_of s) (Variable (entry x))) (sym (fold-Variable (value_step (valuation_of s)) (entry x)))) safe
-    by_export false safe = safe
+module _ (p : Program) (s : Store) where
+  abbrev the_valuation : Valuation
+  the_valuation = valuation_of p s
+
+  entered : (sub : Sub) (vars : List VarId) (rest : Tree) → Safe (entering sub vars rest) the_valuation → Safe rest the_valuation
+  entered sub [] rest safe = safe
+  entered sub (x ∷ vars) rest safe = entered sub vars rest (by_export (exports x sub) safe)
+    where
+      by_export : (b : Bool) → Safe (if b then Assign (now x) (Variable (entry x)) (entering sub vars rest) else entering sub vars rest) the_valuation → Safe (entering sub vars rest) the_valuation
+      by_export true safe = subst (Safe (entering sub vars rest)) (unchanged the_valuation (now x) (value_of the_valuation (Variable (entry x))) (sym (fold-Variable (value_step the_valuation) (entry x)))) safe
+      by_export false safe = safe
 
 -- ---- a call
 
@@ -132,10 +134,16 @@ module _ (p : Program) (integers : AreIntegers p) (sub : Sub) (scoped : Scoped p
     abbrev first : Store
     first = entry_of p sub s
 
+    abbrev frame : Frame
+    frame = around p sub first
+
+    abbrev first_valuation : Valuation
+    first_valuation = valuation_of p first
+
     kept_import : (x : VarId) → imports x sub ≡ true → look first x ≡ look s x
     kept_import x import = cleared_keeps p s sub.vars x (import_starts_set x import)
 
-    set_import : (x : VarId) → imports x sub ≡ true → IsSet first x
+    set_import : (x : VarId) → imports x sub ≡ true → (w : Value) × (look first x ≡ Some w)
     set_import x import =
         let set = some_of (look s x) (start.imports_set x import) in
         (set.0, kept_import x import ∙ set.1)
@@ -144,62 +152,100 @@ module _ (p : Program) (integers : AreIntegers p) (sub : Sub) (scoped : Scoped p
     typed_first x w is =
         integer_is w (ap (λ of. is_in of w) (sym (integers x)) ∙ subst (λ o. IfSome o (λ u. IsTrue (is_in (type_of p x) u))) (cleared_part p s sub.vars x w is) (start.in_types x))
 
-    pre_first : (pre : Option CorePrecondition) → sub.pre ≡ pre → pre_holds p pre s ≡ true → pre_holds p pre first ≡ true
+    first_agrees : AgreesWith p first first_valuation
+    first_agrees = valuation_agrees p first typed_first
+
+    first_fits : Fits p first first_valuation
+    first_fits = record { agrees = first_agrees; respects = valuation_respects p first }
+
+    pre_first : (pre : Option CorePrecondition) → sub.pre ≡ pre → pre_holds (around p sub s) pre s ≡ true → pre_holds frame pre first ≡ true
     pre_first None is h = refl
-    pre_first (Some pre) is h = ap as_truth (meant_same p first s pre.condition (λ x used. kept_import x (obeys.precondition pre x is used))) ∙ h
+    pre_first (Some pre) is h =
+        ap as_truth (meant_same frame (around p sub s) refl first s pre.condition (λ x used. kept_import x (obeys.precondition pre x is used))) ∙ h
+
+    -- ---- checks
 
     -- the facts at the start hold
-    import_holds : (x : VarId) → AllHold (valuation_of first) (import_facts sub x)
+    import_holds : (x : VarId) → AllHold first_valuation (import_facts sub x)
     import_holds x = by_import (imports x sub) refl
       where
-        by_import : (b : Bool) → imports x sub ≡ b → AllHold (valuation_of first) (if b then in_integer (Variable (now x)) else [])
+        by_import : (b : Bool) → imports x sub ≡ b → AllHold first_valuation (if b then in_integer (now_term x) else [])
         by_import true import =
             let set = set_import x import in
             let of = typed_first x set.0 set.1 in
-            type_facts (valuation_of first) (Variable (now x)) of.0
-            (fold-Variable (value_step (valuation_of first)) (now x) ∙ valuation_agrees first typed_first x set.0 set.1 ∙ of.1) of.2
+            type_facts first_valuation (now_term x) of.0
+            (fold-Variable (value_step first_valuation) (now x) ∙ first_agrees x ∙ ap (seen (type_of p x)) set.1 ∙ of.1) of.2
         by_import false is = tt
 
-    pre_holds_first : (pre : Option CorePrecondition) → sub.pre ≡ pre → pre_holds p pre first ≡ true → AllHold (valuation_of first) (pre_facts pre)
-    pre_holds_first None is h = tt
-    pre_holds_first (Some pre) is h =
-        let means = means_its_term p first (valuation_of first) (valuation_agrees first typed_first) pre.condition (λ x used. set_import x (obeys.precondition pre x is used)) in
-        (sym means ∙ as_truth_is (meant p first first pre.condition) h, tt)
+    pre_facts_hold : (pre : Option CorePrecondition) → pre_holds frame pre first ≡ true → AllHold first_valuation (pre_facts sub pre)
+    pre_facts_hold None h = tt
+    pre_facts_hold (Some pre) h =
+        (sym (means_its_term frame first first_valuation first_agrees (entry_term sub) pre.condition) ∙ truth_from (meant frame first pre.condition) h, tt)
 
-    body_safe : HasValidConditions sub → Safe (walks sub.statements Cut) (valuation_of first)
+    abbrev body_tree : Tree
+    body_tree = walk p sub (commands sub.statements) ending ending 0
+
+    body_safe : HasValidConditions p sub → Safe body_tree first_valuation
     body_safe valid =
-        let whole = entered sub first (formals sub) (assume_all (first_facts sub) (walks sub.statements Cut)) (safe_sub sub valid (valuation_of first) (valuation_respects first)) in
-        assumed (first_facts sub) (walks sub.statements Cut) (valuation_of first)
-        (each_append (λ t. Holds t (valuation_of first)) (flat_map (import_facts sub) (formals sub)) (pre_facts sub.pre) (each_flat_map (λ t. Holds t (valuation_of first)) (import_facts sub) import_holds (formals sub)) (pre_holds_first sub.pre refl (pre_first sub.pre refl start.precondition))) whole
+        let whole = entered p first sub (formals sub) (assume_all (first_facts sub) body_tree) (safe_sub p sub valid first_valuation (valuation_respects p first)).0 in
+        assumed (first_facts sub) body_tree first_valuation
+        (each_append (λ t. Holds t first_valuation) (flat_map (import_facts sub) (formals sub)) (pre_facts sub sub.pre)
+        (each_flat_map (λ t. Holds t first_valuation) (import_facts sub) import_holds (formals sub)) (pre_facts_hold sub.pre (pre_first sub.pre refl start.precondition))) whole
 
-    pre_good : (pre : Option CorePrecondition) → pre_holds p pre first ≡ true → demand_pre p pre first ≡ Ended first
+    -- ---- unset variables
+
+    -- what is unset on entry is no import
+    no_import : (x : VarId) → look first x ≡ None → imports x sub ≡ false
+    no_import x unset = by_import (imports x sub) refl
+      where
+        by_import : (b : Bool) → imports x sub ≡ b → imports x sub ≡ false
+        by_import true is = absurd (let set = (set_import x is).1 in cc)
+        by_import false is = is
+
+    first_clear : HasNoFinding p sub → IsClear (body_effect sub) first
+    first_clear flows place x unset way = flows.none_unset place x (read (no_import x unset) way)
+
+    -- at the end each export is set
+    export_set : HasNoFinding p sub → (t : Store) → Passes (body_effect sub) first t → (x : VarId) → exports x sub ≡ true → is_some (look t x) ≡ true
+    export_set flows t passes x export = by_value (look t x) refl
+      where
+        by_value : (o : Option Value) → look t x ≡ o → is_some o ≡ true
+        by_value (Some w) is = refl
+        by_value None is = let unset = passes x is in absurd (flows.none_unset sub.end x (left export (no_import x unset.0) unset.1))
+
+    exports_good : HasNoFinding p sub → (t : Store) → Passes (body_effect sub) first t → (vars : List VarId) → list_all (λ v. not (exports v sub) || is_some (look t v)) vars ≡ true
+    exports_good flows t passes [] = refl
+    exports_good flows t passes (x ∷ vars) = ap₂ ◌&&◌ (by_export (exports x sub) refl) (exports_good flows t passes vars)
+      where
+        by_export : (b : Bool) → exports x sub ≡ b → (not b || is_some (look t x)) ≡ true
+        by_export true is = export_set flows t passes x is
+        by_export false is = refl
+
+    -- ---- the body and the call
+
+    abbrev body_run : ℕ → Outcome
+    body_run n = run frame n first (commands sub.statements)
+
+    body_good : HasNoFinding p sub → TypedSub sub → HasValidConditions p sub → (n : ℕ) → Good Never (body_run n) (Passes (body_effect sub) first) (λ t. ⊤)
+    body_good flows typed valid n =
+        joined (body_run n) (Reaches p ending) (Passes (body_effect sub) first) (Reaches p ending) (λ t. ⊤)
+        (walk_good frame integers n (commands sub.statements) ending ending 0 first first_valuation typed.statements first_fits (body_safe valid))
+        (never_unset frame n first (commands sub.statements) (first_clear flows))
+
+    pre_good : (pre : Option CorePrecondition) → pre_holds frame pre first ≡ true → demand_pre frame pre first ≡ Ended first
     pre_good None h = refl
     pre_good (Some pre) h = ap (λ b. demand b Pre pre.place first) h
 
-    export_set : HasNoFinding p sub → (t : Store) → SetAfter sub sub.statements t → (x : VarId) → exports x sub ≡ true → IsSet t x
-    export_set flows t set x export = set x (or_cases (imports x sub) (defines x sub.statements) (exports_are_set p sub flows x export))
-
-    exports_good : HasNoFinding p sub → (t : Store) → SetAfter sub sub.statements t → (vars : List VarId) → list_all (λ v. not (exports v sub) || is_some (look t v)) vars ≡ true
-    exports_good flows t set [] = refl
-    exports_good flows t set (x ∷ vars) = ap₂ ◌&&◌ (by_export (exports x sub) refl) (exports_good flows t set vars)
-      where
-        by_export : (b : Bool) → exports x sub ≡ b → (not b || is_some (look t x)) ≡ true
-        by_export true is = ap is_some (export_set flows t set x is).1
-        by_export false is = refl
-
-    call_good : HasNoFinding p sub → TypedSub sub → HasValidConditions sub → (n : ℕ) → IsGood (call p n sub s) (λ t. ⊤)
+    call_good : HasNoFinding p sub → TypedSub sub → HasValidConditions p sub → (n : ℕ) → Good Never (call p n sub s) (λ t. ⊤) (λ t. ⊤)
     call_good flows typed valid n =
-        subst (λ o. IsGood (then_do o (λ e. then_do (run p n e sub.statements) (λ t. demand (exports_set sub t) Unset sub.end t))) (λ t. ⊤)) (sym (pre_good sub.pre (pre_first sub.pre refl start.precondition)))
-        (good_then (run p n first sub.statements) (λ t. demand (exports_set sub t) Unset sub.end t) (SetAfter sub sub.statements) (λ t. ⊤)
-        (body_good p integers sub flows n [] sub.statements first (valuation_of first) refl typed.statements (record { agrees = valuation_agrees first typed_first; respects = valuation_respects first }) set_first (body_safe valid))
-        (λ t set. subst (λ b. IsGood (demand b Unset sub.end t) (λ t. ⊤)) (sym (exports_good flows t set (formals sub))) tt))
-      where
-        set_first : SetAfter sub [] first
-        set_first x (inl import) = set_import x import
-        set_first x (inr defined) = absurd (cc)
+        let ending_of : Store → Outcome = λ t. demand (exports_set sub t) Unset sub.end t in
+        subst (λ o. Good Never (then_do o (λ e. then_do (run frame n e (commands sub.statements)) ending_of)) (λ t. ⊤) (λ t. ⊤)) (sym (pre_good sub.pre (pre_first sub.pre refl start.precondition)))
+        (good_then Never (body_run n) ending_of (Passes (body_effect sub) first) (λ t. ⊤) (λ t. ⊤) (body_good flows typed valid n)
+        (λ t passes. good_demand Never (exports_set sub t) Unset sub.end t (λ t. ⊤) (λ t. ⊤) tt
+        (λ unset. both_ways (exports_set sub t) unset (exports_good flows t passes (formals sub)))))
 
-  pub is_never_bad : HasNoFinding p sub → TypedSub sub → HasValidConditions sub → IsNeverBad p sub
-  is_never_bad flows typed valid n s start kind place bad = subst (λ o. IsGood o (λ t. ⊤)) bad (call_good s start flows typed valid n)
+  pub is_never_bad : HasNoFinding p sub → TypedSub sub → HasValidConditions p sub → IsNeverBad p sub
+  is_never_bad flows typed valid n s start kind place bad = subst (λ o. Good Never o (λ t. ⊤) (λ t. ⊤)) bad (call_good s start flows typed valid n)
 
 -- ---- programs
 

@@ -1,14 +1,12 @@
--- Where its variables are set, an annotation says what its term is worth.
+-- An annotation means what its term is worth.
 use Rattle.std.proofs.Common.{◌≡◌, ℤ, pos, Bool, true, false, if◌then◌else◌, Option, Some, None, Ok, Err, refl, sym, ap, ap₂, ◌∙◌, subst}
 use Rattle.std.specs.Prelude.{⊤, option_map}
 use Rattle.spx_num.specs.Widths.{fits, fitting}
-use Rattle.std.proofs.lemmas.Bool.{eq-eqb}
 use Rattle.spx_tree.specs.declared.expression.InfixOp.{InfixOp}
 use Rattle.spx_tree.specs.declared.expression.InfixOp.TheVariants as op
 use Rattle.spx_tree.specs.declared.expression.PrefixOp.{PrefixOp}
 use Rattle.spx_tree.specs.declared.expression.PrefixOp.TheVariants as prefix
 use Rattle.spx_core.specs.declared.entity.VarId.{VarId}
-use Rattle.spx_core.specs.declared.program.Program.{Program}
 use Rattle.spx_core.specs.declared.expression.CoreExpr.{CoreExpr}
 use Rattle.spx_core.specs.declared.expression.CoreExpr.TheVariants.{Attribute, Prefix, Infix}
 use Rattle.spx_core.specs.declared.rule.ExprType.{ExprType}
@@ -16,23 +14,23 @@ use Rattle.spx_core.specs.declared.rule.ExprType.TheVariants.{Boolean}
 use Rattle.spx_core.specs.declared.rule.Typing.{Typing}
 use Rattle.spx_core.specs.Judged.{Judged, expr_step, judged}
 use Rattle.spx_core.specs.Types.{is_number, met, operated, result_of, result_type, signed, signed_result, truth}
-use Rattle.spx_core.specs.Uses.{is_same, variable_of}
+use Rattle.spx_core.specs.Uses.{variable_of}
 use Rattle.spx_term.specs.declared.term.Term.{Term}
 use Rattle.spx_term.specs.declared.term.Term.TheVariants as term
 use Rattle.spx_term.specs.declared.value.Value.{Value}
 use Rattle.spx_term.specs.declared.value.Value.TheVariants as value
 use Rattle.spx_term.specs.Meaning.{value_of_prefix, value_of_op, Valuation, value_step, value_of}
 use Rattle.spx_term.proofs.Terms as terms
-use Rattle.spx_meaning.specs.Stores.{Store, type_of}
+use Rattle.spx_meaning.specs.Stores.{Store}
+use Rattle.spx_meaning.specs.Frames.{Frame}
 use Rattle.spx_meaning.specs.Literals.{literal, literal_in, value_of as value_in}
 use Rattle.spx_meaning.specs.Evaluation.{applied, applied_sign, term_op}
-use Rattle.spx_meaning.specs.Annotations.{meant, meant_step, reading_of, seen, value_or_zero}
-use Rattle.spx_meaning.specs.Paths.{literal_or, signed_term, term_of, term_of-Parenthesized, term_of-Prefix, term_of-Infix, term_of-Attribute}
+use Rattle.spx_meaning.specs.Annotations.{meant, meant_step, reading_of, value_or_zero}
+use Rattle.spx_paths.specs.Terms.{now_term, literal_or, signed_term, term_of, term_with-Parenthesized, term_with-Prefix, term_with-Infix, term_with-Attribute}
 use Rattle.spx_core.proofs.Callers.Expressions.{Cases, induct, fold-Number, fold-Name, fold-Attribute, fold-Parenthesized, fold-Prefix, fold-Infix}
-use Rattle.spx_core.proofs.Callers.ReadsLaws.{uses_left, uses_right, uses-Name, uses-Parenthesized, uses-Prefix}
 use Rattle.spx_sound.proofs.Typings as typed
 use Rattle.spx_sound.proofs.Typings.{AreNumbers}
-use Rattle.spx_sound.proofs.NeverBadExpressions.{static_term_value, signed_term_value, value-Number, named_value, value-Name, IsSet, AgreesWith, UsesSet}
+use Rattle.spx_sound.proofs.NeverBadExpressions.{static_term_value, signed_term_value, value-Number, named_value, value-Name, AgreesWith}
 
 -- ---- static values
 
@@ -79,24 +77,24 @@ operated_static o l r (Some m) (Some n) x y numbers p q =
 operated_static o l r (Some m) None x y numbers p q = tt
 operated_static o l r None b x y numbers p q = tt
 
-module _ (p : Program) (entry s : Store) where
+module _ (f : Frame) (s : Store) where
   abbrev MeansStatic : CoreExpr → Typing → Type 0
-  MeansStatic e t = IsStatic (meant p entry s e) t.of t.value
+  MeansStatic e t = IsStatic (meant f s e) t.of t.value
 
   static_cases : typed.Cases MeansStatic
   static_cases = record {
-    number = λ n place. fold-Number (meant_step p entry s) n place;
+    number = λ n place. fold-Number (meant_step f s) n place;
     name = λ name base. tt;
     attribute = λ prefix designator base n judges.
-        fold-Attribute (meant_step p entry s) prefix designator
+        fold-Attribute (meant_step f s) prefix designator
         ∙ ap (λ j. value_or_zero (literal_in j)) (sym (fold-Attribute expr_step prefix designator) ∙ judges);
-    parenthesized = λ place a o f. subst (λ w. IsStatic w o.of o.value) (sym (fold-Parenthesized (meant_step p entry s) place a)) f;
-    prefix = λ op place a o number judges f.
-        subst (λ w. IsStatic w o.of (signed_result op o.value)) (sym (fold-Prefix (meant_step p entry s) op place a))
-        (signed_static op o.of o.value (meant p entry s a) number f);
-    «infix» = λ op place a b l r numbers judges f g.
-        subst (λ w. IsStatic w (result_type op (met l.of r.of)) (result_of op l.value r.value)) (sym (fold-Infix (meant_step p entry s) op place a b))
-        (operated_static op l.of r.of l.value r.value (meant p entry s a) (meant p entry s b) numbers f g);
+    parenthesized = λ place a o g. subst (λ w. IsStatic w o.of o.value) (sym (fold-Parenthesized (meant_step f s) place a)) g;
+    prefix = λ op place a o number judges g.
+        subst (λ w. IsStatic w o.of (signed_result op o.value)) (sym (fold-Prefix (meant_step f s) op place a))
+        (signed_static op o.of o.value (meant f s a) number g);
+    «infix» = λ op place a b l r numbers judges g h.
+        subst (λ w. IsStatic w (result_type op (met l.of r.of)) (result_of op l.value r.value)) (sym (fold-Infix (meant_step f s) op place a b))
+        (operated_static op l.of r.of l.value r.value (meant f s a) (meant f s b) numbers g h);
   }
 
   -- a static expression means its value
@@ -105,56 +103,48 @@ module _ (p : Program) (entry s : Store) where
 
 -- ---- annotations
 
-module _ (p : Program) (s : Store) (v : Valuation) (agrees : AgreesWith s v) where
-  reading_good : (o : Option VarId) → ((x : VarId) → is_same x o ≡ true → IsSet s x) → reading_of p s o ≡ named_value v o
-  reading_good (Some x) set =
-      let found = set x (eq-eqb x.0 x.0 refl) in
-      ap (seen (type_of p x)) found.1 ∙ sym (agrees x found.0 found.1)
-  reading_good None set = refl
+module _ (f : Frame) (s : Store) (v : Valuation) (agrees : AgreesWith f.program s v) (entered : VarId → Term) where
+  reading_good : (o : Option VarId) → reading_of f.program s o ≡ named_value v o
+  reading_good (Some x) = sym (agrees x)
+  reading_good None = refl
 
   attribute_means : (l : Option Value) → value_or_zero l ≡ value_of v (literal_or l (term.Number (pos 0)))
   attribute_means (Some x) = sym (static_term_value v x)
   attribute_means None = sym (terms.fold-Number (value_step v) (pos 0))
 
+  abbrev MeansItsTerm : CoreExpr → Type 0
+  MeansItsTerm e = meant f s e ≡ value_of v (term_of entered e)
+
   -- a node that stands for its literal, or else for what it computes
-  means_or : (e : CoreExpr) (t : Term) → term_of e ≡ literal_or (literal e) t → meant p s s e ≡ value_of v t → meant p s s e ≡ value_of v (term_of e)
+  means_or : (e : CoreExpr) (t : Term) → term_of entered e ≡ literal_or (literal e) t → meant f s e ≡ value_of v t → MeansItsTerm e
   means_or e t is means = by_judgement (judged e) refl ∙ sym (ap (value_of v) is)
     where
-      by_value : (of : ExprType) (n : Option ℤ) → IsStatic (meant p s s e) of n → meant p s s e ≡ value_of v (literal_or (option_map (value_in of) n) t)
+      by_value : (of : ExprType) (n : Option ℤ) → IsStatic (meant f s e) of n → meant f s e ≡ value_of v (literal_or (option_map (value_in of) n) t)
       by_value of (Some n) static = static ∙ sym (static_term_value v (value_in of n))
       by_value of None static = means
 
-      by_judgement : (j : Judged Typing) → judged e ≡ j → meant p s s e ≡ value_of v (literal_or (literal_in j) t)
-      by_judgement (Ok u) typed = by_value u.of u.value (static_meant p s s e u typed)
+      by_judgement : (j : Judged Typing) → judged e ≡ j → meant f s e ≡ value_of v (literal_or (literal_in j) t)
+      by_judgement (Ok u) typed = by_value u.of u.value (static_meant f s e u typed)
       by_judgement (Err breach) typed = means
-
-  abbrev MeansItsTerm : CoreExpr → Type 0
-  MeansItsTerm e = UsesSet s e → meant p s s e ≡ value_of v (term_of e)
 
   means_cases : Cases MeansItsTerm
   means_cases = record {
-    number = λ n place set. fold-Number (meant_step p s s) n place ∙ sym (value-Number v n place);
-    name = λ name set.
-        fold-Name (meant_step p s s) name ∙ reading_good (variable_of name.entity) (λ x u. set x (uses-Name x name ∙ u)) ∙ sym (value-Name v name);
-    attribute = λ prefix designator set.
-        fold-Attribute (meant_step p s s) prefix designator
+    number = λ n place. fold-Number (meant_step f s) n place ∙ sym (value-Number v entered n place);
+    name = λ name. fold-Name (meant_step f s) name ∙ reading_good (variable_of name.entity) ∙ sym (value-Name v entered name);
+    attribute = λ prefix designator.
+        fold-Attribute (meant_step f s) prefix designator
         ∙ ap (λ j. value_or_zero (literal_in j)) (sym (fold-Attribute expr_step prefix designator))
         ∙ attribute_means (literal (Attribute prefix designator))
-        ∙ ap (value_of v) (sym (term_of-Attribute prefix designator));
-    parenthesized = λ place a f set.
-        fold-Parenthesized (meant_step p s s) place a
-        ∙ f (λ x u. set x (uses-Parenthesized x place a ∙ u))
-        ∙ ap (value_of v) (sym (term_of-Parenthesized place a));
-    prefix = λ o place a f set.
-        means_or (Prefix o place a) (signed_term o (term_of a)) (term_of-Prefix o place a)
-        (fold-Prefix (meant_step p s s) o place a ∙ ap (applied_sign o) (f (λ x u. set x (uses-Prefix x o place a ∙ u))) ∙ sym (signed_term_value v o (term_of a)));
-    «infix» = λ o place a b f g set.
-        means_or (Infix o place a b) (term.Infix (term_op o) (term_of a) (term_of b)) (term_of-Infix o place a b)
-        (fold-Infix (meant_step p s s) o place a b
-        ∙ ap₂ (applied o) (f (λ x u. set x (uses_left x o place a b u))) (g (λ x u. set x (uses_right x o place a b u)))
-        ∙ sym (terms.fold-Infix (value_step v) (term_op o) (term_of a) (term_of b)));
+        ∙ ap (value_of v) (sym (term_with-Attribute now_term entered prefix designator));
+    parenthesized = λ place a g. fold-Parenthesized (meant_step f s) place a ∙ g ∙ ap (value_of v) (sym (term_with-Parenthesized now_term entered place a));
+    prefix = λ o place a g.
+        means_or (Prefix o place a) (signed_term o (term_of entered a)) (term_with-Prefix now_term entered o place a)
+        (fold-Prefix (meant_step f s) o place a ∙ ap (applied_sign o) g ∙ sym (signed_term_value v o (term_of entered a)));
+    «infix» = λ o place a b g h.
+        means_or (Infix o place a b) (term.Infix (term_op o) (term_of entered a) (term_of entered b)) (term_with-Infix now_term entered o place a b)
+        (fold-Infix (meant_step f s) o place a b ∙ ap₂ (applied o) g h ∙ sym (terms.fold-Infix (value_step v) (term_op o) (term_of entered a) (term_of entered b)));
   }
 
-  -- an annotation whose variables are set means what its term is worth
+  -- an annotation means what its term is worth
   pub means_its_term : (e : CoreExpr) → MeansItsTerm e
   means_its_term = induct MeansItsTerm means_cases

@@ -1,47 +1,45 @@
--- A body whose tree is safe does not run into a check that fails.
-use Rattle.std.proofs.Common.{◌≡◌, ℕ, ℤ, Bool, true, false, ◌==◌, if◌then◌else◌, List, [], ◌∷◌, ◌++◌, Option, Some, None, Ok, refl, sym, ap, ◌∙◌, subst, inl, inr, Decides}
-use Rattle.std.specs.Prelude.{⊤, ◌⊎◌}
-use Rattle.std.specs.List.{AllByRecursion, list_any}
-use Rattle.std.proofs.lemmas.List.Folds.{list_any-append}
-use Rattle.std.proofs.lemmas.List.{append-nil, append_assoc}
-use Rattle.std.proofs.lemmas.Bool.{false_from_ne_true, or_cases}
+-- A command whose tree is safe runs into no check that fails, but for reads of unset variables.
+use Rattle.std.proofs.Common.{◌≡◌, ℕ, ℤ, Bool, true, false, not, ◌==◌, if◌then◌else◌, [], Option, Some, None, refl, sym, ap, ◌∙◌, subst, inl, inr, Decides}
+use Rattle.std.proofs.lemmas.Bool.{false_from_ne_true}
 use Rattle.std.proofs.lemmas.Bool.Decides.{eqb_tells}
 use Rattle.spx_text.specs.declared.place.Place.{Place}
 use Rattle.spx_core.specs.declared.entity.TheConstants.{INTEGER}
 use Rattle.spx_core.specs.declared.entity.VarId.{VarId}
 use Rattle.spx_core.specs.declared.name.Reference.{Reference}
 use Rattle.spx_core.specs.declared.program.Program.{Program}
-use Rattle.spx_core.specs.declared.subprogram.Sub.{Sub}
 use Rattle.spx_core.specs.declared.expression.CoreExpr.{CoreExpr}
-use Rattle.spx_core.specs.declared.statement.CoreStmt.{CoreStmt}
-use Rattle.spx_core.specs.declared.statement.CoreStmt.TheVariants.{Null, Assignment}
+use Rattle.spx_core.specs.Commands.{Command, Skip, Set, Then, Choose}
 use Rattle.spx_core.specs.Places.{place_of}
-use Rattle.spx_core.specs.Uses.{is_same, variable_of}
-use Rattle.spx_core.specs.Dependency.{imports}
-use Rattle.spx_core.specs.Effects.{effect, sets, reads, defines}
-use Rattle.spx_core.specs.FlowRules.{HasNoFinding}
-use Rattle.spx_core.specs.Statements.{judged_stmt}
+use Rattle.spx_core.specs.Uses.{variable_of}
 use Rattle.spx_term.specs.declared.condition.CondKind.TheVariants.{Range as RangeCheck}
 use Rattle.spx_term.specs.declared.term.Sort.TheVariants.{Integer}
 use Rattle.spx_term.specs.declared.term.Symbol.TheVariants as symbol
 use Rattle.spx_term.specs.declared.term.Name.{Name as Symbolic}
 use Rattle.spx_term.specs.declared.term.Term.{Term}
+use Rattle.spx_term.specs.declared.term.Term.TheVariants as term
+use Rattle.spx_term.specs.declared.term.TermPrefix.TheVariants.{Not}
 use Rattle.spx_term.specs.declared.value.Value.{Value}
 use Rattle.spx_term.specs.declared.value.Value.TheVariants as value
-use Rattle.spx_term.specs.Meaning.{HasSort, Respects, Valuation, value_of}
-use Rattle.spx_term.specs.Steps.{Tree, Cut, same_name, check}
+use Rattle.spx_term.specs.Meaning.{as_truth, value_of_prefix, HasSort, Respects, Valuation, value_step, value_of}
+use Rattle.spx_term.specs.Steps.{Tree, Assume, Split, same_name}
 use Rattle.spx_term.specs.contracts.term.Name as symbolic
 use Rattle.spx_term.proofs.Equality.{same_by-Decides}
+use Rattle.spx_term.proofs.Terms.{fold-Prefix}
 use Rattle.spx_meaning.specs.declared.bad.BadKind.TheVariants.{Range}
-use Rattle.spx_meaning.specs.Stores.{Store, look, put, type_of, is_in}
-use Rattle.spx_meaning.specs.Runs.{Outcome, Ended, Bad, Later, then_do, use_value, demand, assign, run_one, run}
-use Rattle.spx_meaning.specs.Paths.{now, term_of, in_integer, assigned, walk, walks}
-use Rattle.spx_core.proofs.Callers.FlowLaws.{reads_are_set, reads_uses, sets_any}
-use Rattle.spx_meaning.proofs.Callers.Stores.{look-put_same, look-put_other}
-use Rattle.spx_sound.proofs.Typings.{right_side}
+use Rattle.spx_meaning.specs.Stores.{Store, put, type_of, is_in}
+use Rattle.spx_meaning.specs.Frames.{Frame}
+use Rattle.spx_meaning.specs.Evaluation.{eval}
+use Rattle.spx_meaning.specs.Annotations.{reading, seen}
+use Rattle.spx_meaning.specs.Runs.{demand, assign, run}
+use Rattle.spx_meaning.proofs.Callers.Stores.{look-put_either}
+use Rattle.spx_paths.specs.Terms.{now, entry_term, term_of}
+use Rattle.spx_paths.specs.Checks.{check_integer, in_integer}
+use Rattle.spx_paths.specs.Walks.{assigned, walk}
+use Rattle.spx_sound.proofs.Typings.{IsTyped, right_side, both_typed, arms_typed}
 use Rattle.spx_sound.proofs.SortedTerms.{number_sorted, integer_value}
-use Rattle.spx_sound.proofs.NeverBadTrees.{changed, Safe, assumed}
-use Rattle.spx_sound.proofs.NeverBadExpressions.{in_type, IsSet, AgreesWith, UsesSet, eval_good}
+use Rattle.spx_sound.proofs.NeverBadTrees.{changed, Safe}
+use Rattle.spx_sound.proofs.NeverBadRuns.{IsUnset, Good, good_then, good_use, good_if}
+use Rattle.spx_sound.proofs.NeverBadExpressions.{truth_from, past_check, in_type, AgreesWith, eval_good}
 
 -- ---- names
 
@@ -59,122 +57,97 @@ same_now x y =
       | inr h ↦ false_from_ne_true (same_name (now x) (now y)) (λ e. h.1 (now_is x y ((same_name-Decides (now x) (now y)).0 e))) ∙ sym h.0
     ]
 
--- ---- statements
+-- ---- stores and valuations
 
 -- the valuation stands for the store
-pub record Fits (s : Store) (v : Valuation) : Type 0 where
-  pub agrees : AgreesWith s v
+pub record Fits (p : Program) (s : Store) (v : Valuation) : Type 0 where
+  pub agrees : AgreesWith p s v
   pub respects : Respects v
 
--- how a run that is not bad ends
-abbrev pub IsGood : Outcome → (Store → Type 0) → Type 0
-IsGood (Ended s) P = P s
-IsGood (Bad kind place) P = ⊥
-IsGood Later P = ⊤
+put_fits : (p : Program) (s : Store) (x : VarId) (w : Value) (v : Valuation) → HasSort Integer w → Fits p s v → Fits p (put s x (Some w)) (changed v (now x) w)
+put_fits p s x w v integer fits = record { agrees = agrees; respects = λ y. respects y (same_name (now x) y) refl }
+  where
+    agrees : (y : VarId) → changed v (now x) w (now y) ≡ reading p (put s x (Some w)) y
+    agrees y =
+        elim (look-put_either s x y (Some w)) [
+          | inl h ↦ ap (λ b. if b then w else v (now y)) (same_now x y ∙ h.0) ∙ ap (seen (type_of p y)) (sym h.1)
+          | inr h ↦ ap (λ b. if b then w else v (now y)) (same_now x y ∙ h.0) ∙ fits.agrees y ∙ ap (seen (type_of p y)) (sym h.1)
+        ]
 
-pub good_then : (o : Outcome) (go : Store → Outcome) (P Q : Store → Type 0) → IsGood o P → ((t : Store) → P t → IsGood (go t) Q) → IsGood (then_do o go) Q
-good_then (Ended s) go P Q h k = k s h
-good_then (Bad kind place) go P Q h k = absurd h
-good_then Later go P Q h k = tt
+    respects : (y : Symbolic) (b : Bool) → same_name (now x) y ≡ b → HasSort y.sort (if b then w else v y)
+    respects y true is = subst (λ (z : Symbolic). HasSort z.sort w) ((same_name-Decides (now x) y).0 is) integer
+    respects y false is = fits.respects y
 
--- after a statement that sets these variables, before the rest
-record After (targets : VarId → Bool) (rest : Tree) (s t : Store) : Type 0 where
-  valuation : Valuation
-  fits : Fits t valuation
-  safe : Safe rest valuation
-  given : (x : VarId) → targets x ≡ true → IsSet t x
-  kept : (x : VarId) → IsSet s x → IsSet t x
-
-module _ (s : Store) (x : VarId) (w : Value) where
-  -- what a variable holds after an assignment
-  put_cases : (y : VarId) → ((x.0 == y.0) ≡ true) × (look (put s x (Some w)) y ≡ Some w) ⊎ ((x.0 == y.0) ≡ false) × (look (put s x (Some w)) y ≡ look s y)
-  put_cases y =
-      elim (eqb_tells x.0 y.0) [
-        | inl h ↦ inl (h.0, ap (λ (k : ℕ). look (put s x (Some w)) (record { 0 = k })) (sym h.1) ∙ look-put_same s x (Some w))
-        | inr h ↦ inr (h.0, look-put_other s x y (Some w) h.1)
-      ]
-
-  put_set : (y : VarId) → IsSet s y → IsSet (put s x (Some w)) y
-  put_set y set = elim (put_cases y) [ inl h ↦ (w, h.1) | inr h ↦ (set.0, h.1 ∙ set.1) ]
-
-  some_is : (a b : Value) → ◌≡◌ {A = Option Value} (Some a) (Some b) → a ≡ b
-  some_is a b h = cc
-
-  put_fits : (v : Valuation) → HasSort Integer w → Fits s v → Fits (put s x (Some w)) (changed v (now x) w)
-  put_fits v integer fits = record { agrees = agrees; respects = λ y. respects y (same_name (now x) y) refl }
-    where
-      agrees : (y : VarId) (u : Value) → look (put s x (Some w)) y ≡ Some u → changed v (now x) w (now y) ≡ u
-      agrees y u is =
-          elim (put_cases y) [
-            | inl h ↦ ap (λ b. if b then w else v (now y)) (same_now x y ∙ h.0) ∙ some_is w u (sym h.1 ∙ is)
-            | inr h ↦ ap (λ b. if b then w else v (now y)) (same_now x y ∙ h.0) ∙ fits.agrees y u (sym h.1 ∙ is)
-          ]
-
-      respects : (y : Symbolic) (b : Bool) → same_name (now x) y ≡ b → HasSort y.sort (if b then w else v y)
-      respects y true is = subst (λ (z : Symbolic). HasSort z.sort w) ((same_name-Decides (now x) y).0 is) integer
-      respects y false is = fits.respects y
+-- a valuation that stands for the store, from which the steps that go on are safe
+pub record Reaches (p : Program) (rest : ℕ → Tree) (s : Store) : Type 0 where
+  pub valuation : Valuation
+  pub made : ℕ
+  pub fits : Fits p s valuation
+  pub safe : Safe (rest made) valuation
 
 -- every variable is of the type `Integer`
 abbrev pub AreIntegers : Program → Type 0
 AreIntegers p = (x : VarId) → type_of p x ≡ INTEGER
 
-module _ (p : Program) (integers : AreIntegers p) (s : Store) (v : Valuation) (fits : Fits s v) where
-  assign_good : (place : Place) (o : Option VarId) (t : Term) (n : ℤ) (rest : Tree) → value_of v t ≡ value.Number n → is_in INTEGER (value.Number n) ≡ true → Safe (assigned o t rest) v → IsGood (assign p place o s (value_of v t)) (After (λ x. is_same x o) rest s)
-  assign_good place (Some x) t n rest is within safe =
-      subst (λ b. IsGood (demand b Range place (put s x (Some w))) (After (λ y. is_same y (Some x)) rest s)) (sym in_type_of) (record {
-        valuation = changed v (now x) w;
-        fits = put_fits s x w v (subst (HasSort Integer) (sym is) tt) fits;
-        safe = safe;
-        given = λ y h. elim (put_cases s x w y) [ inl g ↦ (w, g.1) | inr g ↦ absurd (let a = g.0 in cc) ];
-        kept = put_set s x w;
-      })
-    where
-      w : Value
-      w = value_of v t
+-- ---- commands
 
-      in_type_of : is_in (type_of p x) w ≡ true
-      in_type_of = ap (λ of. is_in of w) (integers x) ∙ ap (is_in INTEGER) is ∙ within
-  assign_good place None t n rest is within safe = record { valuation = v; fits = fits; safe = safe; given = λ y h. absurd (cc); kept = λ y set. set }
+false_holds : (w : Value) → as_truth w ≡ false → value_of_prefix Not w ≡ value.Truth true
+unfolding value_of_prefix
+false_holds w h = ap (λ b. value.Truth (not b)) h
 
-  stmt_good : (n : ℕ) (target : Reference) (e : CoreExpr) (rest : Tree) → judged_stmt (Assignment target e) ≡ Ok tt → UsesSet s e → Safe (walk (Assignment target e) rest) v → IsGood (run_one p n s (Assignment target e)) (After (λ x. sets x (effect (Assignment target e))) rest s)
-  stmt_good n target e rest typed set safe =
-      let t = term_of e in
+module _ (f : Frame) (integers : AreIntegers f.program) (n : ℕ) where
+  abbrev the_term : CoreExpr → Term
+  the_term e = term_of (entry_term f.sub) e
+
+  -- where a command goes on, and where it leaves the loop around it, the steps there are safe
+  abbrev GoesOn : Command → Type 0
+  GoesOn c =
+      (rest leave : ℕ → Tree) (made : ℕ) (s : Store) (v : Valuation) → IsTyped c → Fits f.program s v → Safe (walk f.program f.sub c rest leave made) v
+      → Good IsUnset (run f n s c) (Reaches f.program rest) (Reaches f.program leave)
+
+  assign_good : (place : Place) (o : Option VarId) (t : Term) (m : ℤ) (rest leave : ℕ → Tree) (made : ℕ) (s : Store) (v : Valuation) → Fits f.program s v → value_of v t ≡ value.Number m → is_in INTEGER (value.Number m) ≡ true → Safe (assigned o t (rest made)) v
+      → Good IsUnset (assign f.program place o s (value_of v t)) (Reaches f.program rest) (Reaches f.program leave)
+  assign_good place (Some x) t m rest leave made s v fits is within safe =
+      let w = value_of v t in
+      let in_type_of : is_in (type_of f.program x) w ≡ true = ap (λ of. is_in of w) (integers x) ∙ ap (is_in INTEGER) is ∙ within in
+      subst (λ b. Good IsUnset (demand b Range place (put s x (Some w))) (Reaches f.program rest) (Reaches f.program leave)) (sym in_type_of)
+      (record { valuation = changed v (now x) w; made = made; fits = put_fits f.program s x w v (subst (HasSort Integer) (sym is) tt) fits; safe = safe })
+  assign_good place None t m rest leave made s v fits is within safe = record { valuation = v; made = made; fits = fits; safe = safe }
+
+  set_good : (target : Reference) (e : CoreExpr) → GoesOn (Set target e)
+  set_good target e rest leave made s v typed fits safe =
+      let t = the_term e in
       let o = variable_of target.root.entity in
-      let done = eval_good s v fits.agrees e set (check RangeCheck (place_of e) (in_integer t) (assigned o t rest)) safe in
+      let last = assigned o t (rest made) in
+      let after = check_integer [] RangeCheck (place_of e) t last in
       let right = right_side target e typed in
-      let number = integer_value v fits.respects t (number_sorted e right.0 right.1 right.2) in
-      subst (λ a. IsGood (use_value a (assign p (place_of e) o s)) (After (λ x. is_same x o) rest s)) (sym done.0)
-      (assign_good (place_of e) o t number.0 rest number.1 (in_type v t number.0 number.1 done.1.0) (assumed (in_integer t) (assigned o t rest) v done.1.0 done.1.1))
+      let number = integer_value v fits.respects t (number_sorted (entry_term f.sub) e right.0 right.1 right.2) in
+      good_use IsUnset (eval f n s e) (assign f.program (place_of e) o s) (value_of v t) (Safe after v) (Reaches f.program rest) (Reaches f.program leave)
+      (eval_good f n s v fits.agrees (entry_term f.sub) [] tt e after safe)
+      (λ more.
+      let past = past_check v [] RangeCheck (place_of e) (in_integer t) last tt more in
+      assign_good (place_of e) o t number.0 rest leave made s v fits number.1 (in_type v t number.0 number.1 past.0) past.1)
 
--- ---- bodies
+  choose_good : (place : Place) (e : CoreExpr) (a b : Command) → GoesOn a → GoesOn b → GoesOn (Choose place e a b)
+  choose_good place e a b first second rest leave made s v typed fits safe =
+      let t = the_term e in
+      let w = value_of v t in
+      let arms = Split (Assume t (walk f.program f.sub a rest leave made)) (Assume (term.Prefix Not t) (walk f.program f.sub b rest leave made)) in
+      let parts = arms_typed place e a b typed in
+      good_use IsUnset (eval f n s e) (λ x. if as_truth x then run f n s a else run f n s b) w (Safe arms v) (Reaches f.program rest) (Reaches f.program leave)
+      (eval_good f n s v fits.agrees (entry_term f.sub) [] tt e arms safe)
+      (λ more.
+      good_if IsUnset (as_truth w) (run f n s a) (run f n s b) (Reaches f.program rest) (Reaches f.program leave)
+      (λ is. first rest leave made s v parts.1 fits (more.0 (truth_from w is)))
+      (λ is. second rest leave made s v parts.2 fits (more.1 (fold-Prefix (value_step v) Not t ∙ false_holds w is))))
 
--- what is imported or set by these statements has a value
-abbrev pub SetAfter : Sub → List CoreStmt → Store → Type 0
-SetAfter sub before s = (x : VarId) → ((imports x sub ≡ true) ⊎ (defines x before ≡ true)) → IsSet s x
-
-module _ (p : Program) (integers : AreIntegers p) (sub : Sub) (flows : HasNoFinding p sub) where
-  -- what a statement reads is set
-  reads_set : (before : List CoreStmt) (stmt : CoreStmt) (after : List CoreStmt) (s : Store) → sub.statements ≡ before ++ stmt ∷ after → SetAfter sub before s → (x : VarId) → reads x (effect stmt) ≡ true → IsSet s x
-  reads_set before stmt after s split set x read =
-      set x (or_cases (imports x sub) (defines x before) (reads_are_set p sub flows before stmt after x split read))
-
-  more_set : (before : List CoreStmt) (stmt : CoreStmt) (s t : Store) → SetAfter sub before s → ((x : VarId) → sets x (effect stmt) ≡ true → IsSet t x) → ((x : VarId) → IsSet s x → IsSet t x) → SetAfter sub (before ++ stmt ∷ []) t
-  more_set before stmt s t set given kept x (inl import) = kept x (set x (inl import))
-  more_set before stmt s t set given kept x (inr defined) =
-      let sets_x = λ (one : CoreStmt). sets x (effect one) in
-      elim (or_cases (list_any sets_x before) (list_any sets_x (stmt ∷ [])) (sym (list_any-append sets_x before (stmt ∷ [])) ∙ sym (sets_any x (before ++ stmt ∷ [])) ∙ defined)) [
-        | inl earlier ↦ kept x (set x (inr (sets_any x before ∙ earlier)))
-        | inr here ↦ elim (or_cases (sets_x stmt) false here) [ inl is ↦ given x is | inr is ↦ absurd (cc) ]
-      ]
-
-  pub body_good : (n : ℕ) (before stmts : List CoreStmt) (s : Store) (v : Valuation) → sub.statements ≡ before ++ stmts → AllByRecursion (λ stmt. judged_stmt stmt ≡ Ok tt) stmts → Fits s v → SetAfter sub before s → Safe (walks stmts Cut) v → IsGood (run p n s stmts) (SetAfter sub sub.statements)
-  body_good n before [] s v split typed fits set safe = subst (λ stmts. SetAfter sub stmts s) (sym (split ∙ append-nil before)) set
-  body_good n before (Null place ∷ rest) s v split typed fits set safe =
-      body_good n (before ++ Null place ∷ []) rest s v (split ∙ sym (append_assoc before (Null place ∷ []) rest)) typed.1 fits
-      (more_set before (Null place) s s set (λ x h. absurd (cc)) (λ x h. h)) safe
-  body_good n before (Assignment target e ∷ rest) s v split typed fits set safe =
-      good_then (run_one p n s (Assignment target e)) (λ t. run p n t rest) (After (λ x. sets x (effect (Assignment target e))) (walks rest Cut) s) (SetAfter sub sub.statements)
-      (stmt_good p integers s v fits n target e (walks rest Cut) typed.0 (λ x used. reads_set before (Assignment target e) rest s split set x (reads_uses x e ∙ used)) safe)
-      (λ t after.
-      body_good n (before ++ Assignment target e ∷ []) rest t after.valuation (split ∙ sym (append_assoc before (Assignment target e ∷ []) rest)) typed.1 after.fits
-      (more_set before (Assignment target e) s t set after.given after.kept) after.safe)
+  pub walk_good : (c : Command) → GoesOn c
+  walk_good Skip rest leave made s v typed fits safe = record { valuation = v; made = made; fits = fits; safe = safe }
+  walk_good (Set target e) rest leave made s v typed fits safe = set_good target e rest leave made s v typed fits safe
+  walk_good (Then a b) rest leave made s v typed fits safe =
+      let parts = both_typed a b typed in
+      let back = walk f.program f.sub b rest leave in
+      good_then IsUnset (run f n s a) (λ t. run f n t b) (Reaches f.program back) (Reaches f.program rest) (Reaches f.program leave)
+      (walk_good a back leave made s v parts.0 fits safe)
+      (λ t there. walk_good b rest leave there.made t there.valuation parts.1 there.fits there.safe)
+  walk_good (Choose place e a b) rest leave made s v typed fits safe = choose_good place e a b (walk_good a) (walk_good b) rest leave made s v typed fits safe

@@ -3,6 +3,7 @@ use Rattle.std.proofs.Common.{◌≡◌, ℕ, ◌+◌, Bool, true, false, if◌t
 use Rattle.std.specs.Prelude.{⊤}
 use Rattle.std.specs.List.{AllByRecursion, flat_map}
 use Rattle.std.proofs.lemmas.List.Elements.{All-from_recursion, recursion_from_All}
+use Rattle.spx_core.proofs.Callers.ListTests.{each_append}
 use Rattle.spx_term.specs.declared.term.Name.{Name}
 use Rattle.spx_term.specs.declared.term.Term.{Term}
 use Rattle.spx_term.specs.declared.term.Term.TheVariants.{Variable}
@@ -10,12 +11,14 @@ use Rattle.spx_term.specs.declared.value.Value.{Value}
 use Rattle.spx_term.specs.Goals.{goal_of}
 use Rattle.spx_term.specs.Meaning.{value_of_prefix, value_of_op, Valuation, value_step, value_of, Holds, Respects, Valid}
 use Rattle.spx_term.specs.Plain.{is_among}
-use Rattle.spx_term.specs.Steps.{Tree, Cut, Assume, Assign, Prove, assume_all, same_name, substituted_step, substituted, Claim, with_fact, with_value, claims_of, with_new, without_doubles, tidy}
+use Rattle.spx_term.specs.Steps.{Tree, Cut, Assume, Assign, Fresh, Prove, Split, assume_all, same_name, substituted_step, substituted, Claim, with_fact, with_value, claims_of, with_new, without_doubles, tidy}
 use Rattle.spx_term.proofs.GoalLaws.{goal_holds}
 use Rattle.spx_term.proofs.Terms.{Cases, induct, fold-Number, fold-Truth, fold-Variable, fold-Prefix, fold-Infix}
 use Rattle.spx_core.specs.declared.subprogram.Sub.{Sub}
-use Rattle.spx_meaning.specs.Paths.{tree_of, numbered, conditions_of}
-use Rattle.spx_meaning.specs.Fit.{IsValid, HasValidConditions}
+use Rattle.spx_core.specs.declared.program.Program.{Program}
+use Rattle.spx_paths.specs.Walks.{trees_of}
+use Rattle.spx_paths.specs.Conditions.{body_claims, numbered, conditions_of}
+use Rattle.spx_paths.specs.Fit.{IsValid, HasValidConditions}
 
 abbrev pub AllHold : Valuation → List Term → Type 0
 AllHold v ts = AllByRecursion (λ t. Holds t v) ts
@@ -29,7 +32,9 @@ abbrev pub Safe : Tree → Valuation → Type 0
 Safe Cut v = ⊤
 Safe (Assume t rest) v = Holds t v → Safe rest v
 Safe (Assign x t rest) v = Safe rest (changed v x (value_of v t))
+Safe (Fresh x rest) v = Safe rest v
 Safe (Prove kind place goals rest) v = AllHold v goals × Safe rest v
+Safe (Split first second) v = Safe first v × Safe second v
 
 -- ---- substitution
 
@@ -90,31 +95,40 @@ met_after : (v : Valuation) (x : Name) (t : Term) (cs : List Claim) → AreMet v
 met_after v x t [] met = tt
 met_after v x t (c ∷ cs) met = (λ hyps. hold_after x t v c.goals (met.0 (hold_before x t v c.hyps hyps)), met_after v x t cs met.1)
 
+met_both : (v : Valuation) (cs ds : List Claim) → AreMet v (cs ++ ds) → AreMet v cs × AreMet v ds
+met_both v [] ds met = (tt, met)
+met_both v (c ∷ cs) ds met = let parts = met_both v cs ds met.1 in ((met.0, parts.0), parts.1)
+
 -- a tree whose claims are met is safe
 safe : (tree : Tree) (v : Valuation) → AreMet v (claims_of tree) → Safe tree v
 safe Cut v met = tt
 safe (Assume t rest) v met = λ h. safe rest v (met_under v t (claims_of rest) h met)
 safe (Assign x t rest) v met = safe rest (changed v x (value_of v t)) (met_after v x t (claims_of rest) met)
+safe (Fresh x rest) v met = safe rest v met
 safe (Prove kind place goals rest) v met = (met.0 tt, safe rest v met.1)
+safe (Split first second) v met = let parts = met_both v (claims_of first) (claims_of second) met in (safe first v parts.0, safe second v parts.1)
+
+abbrev pub AllSafe : Valuation → List Tree → Type 0
+AllSafe v trees = AllByRecursion (λ tree. Safe tree v) trees
+
+safe_trees : (trees : List Tree) (v : Valuation) → AreMet v (flat_map claims_of trees) → AllSafe v trees
+safe_trees [] v met = tt
+safe_trees (tree ∷ trees) v met = let parts = met_both v (claims_of tree) (flat_map claims_of trees) met in (safe tree v parts.0, safe_trees trees v parts.1)
 
 -- ---- conditions
 
 -- what holds of each term holds of those without doubles
 module _ (P : Term → Type 0) where
-  pub each_append : (ts us : List Term) → AllByRecursion P ts → AllByRecursion P us → AllByRecursion P (ts ++ us)
-  each_append [] us h k = k
-  each_append (t ∷ ts) us h k = (h.0, each_append ts us h.1 k)
-
   pub each_flat_map : {A : Type 0} (f : A → List Term) → ((x : A) → AllByRecursion P (f x)) → (xs : List A) → AllByRecursion P (flat_map f xs)
   each_flat_map f each [] = tt
-  each_flat_map f each (x ∷ xs) = each_append (f x) (flat_map f xs) (each x) (each_flat_map f each xs)
+  each_flat_map f each (x ∷ xs) = each_append P (f x) (flat_map f xs) (each x) (each_flat_map f each xs)
 
   each_with_new : (facts : List Term) (t : Term) → AllByRecursion P facts → P t → AllByRecursion P (with_new facts t)
   each_with_new facts t each h = by_test (is_among facts t)
     where
       by_test : (b : Bool) → AllByRecursion P (if b then facts else facts ++ t ∷ [])
       by_test true = each
-      by_test false = each_append facts (t ∷ []) each (h, tt)
+      by_test false = each_append P facts (t ∷ []) each (h, tt)
 
   pub each_without_doubles : (facts ts : List Term) → AllByRecursion P facts → AllByRecursion P ts → AllByRecursion P (fold with_new facts ts)
   each_without_doubles facts [] each h = each
@@ -129,11 +143,11 @@ met_by : (v : Valuation) → Respects v → (name : List ℕ) (n : ℕ) (cs : Li
 met_by v respects name n [] valid = tt
 met_by v respects name n (c ∷ cs) valid = (met_where_valid v respects c.hyps c.goals valid.0, met_by v respects name (n + 1) cs valid.1)
 
--- where its conditions are valid, the tree of a subprogram is safe at every valuation
-pub safe_sub : (sub : Sub) → HasValidConditions sub → (v : Valuation) → Respects v → Safe (tree_of sub) v
+-- where its conditions are valid, the trees of a subprogram are safe at every valuation
+pub safe_sub : (p : Program) (sub : Sub) → HasValidConditions p sub → (v : Valuation) → Respects v → AllSafe v (trees_of p sub)
 unfolding conditions_of
-safe_sub sub valid v respects =
-    safe (tree_of sub) v (met_by v respects sub.name.name.text 1 (claims_of (tree_of sub)) (recursion_from_All IsValid (conditions_of sub) valid))
+safe_sub p sub valid v respects =
+    safe_trees (trees_of p sub) v (met_by v respects sub.name.name.text 1 (body_claims p sub) (recursion_from_All IsValid (conditions_of p sub) valid))
 
 -- ---- what a safe tree says
 

@@ -27,7 +27,7 @@ use Rattle.spx_term.proofs.Terms.{fold-Number, fold-Truth, fold-Variable, fold-P
 use Rattle.spx_term.proofs.FoldingLaws.{sorted_value}
 use Rattle.spx_meaning.specs.Evaluation.{term_op}
 use Rattle.spx_meaning.specs.Literals.{literal, literal_in, value_of as value_in}
-use Rattle.spx_meaning.specs.Paths.{now, signed_term, named, literal_or, term_of, term_of-Parenthesized, term_of-Prefix, term_of-Infix, term_of-Number, term_of-Name, term_of-Attribute}
+use Rattle.spx_paths.specs.Terms.{now, now_term, signed_term, named, literal_or, term_of, term_with-Parenthesized, term_with-Prefix, term_with-Infix, term_with-Number, term_with-Name, term_with-Attribute}
 use Rattle.spx_sound.proofs.Typings.{joined, Cases, typed_induct}
 
 abbrev pub HasSortOf : Sort → Term → Type 0
@@ -64,41 +64,42 @@ operation_sorted o of a b number p q = fold-Infix sort_step (term_op o) a b ∙ 
     by_operator op.Subtract = ap Some (sym (number_sort of number))
     by_operator _ = refl
 
-named_sorted : (o : Option VarId) → HasSortOf Integer (named o)
+named_sorted : (o : Option VarId) → HasSortOf Integer (named now_term o)
 named_sorted (Some v) = fold-Variable sort_step (now v)
 named_sorted None = fold-Number sort_step (pos 0)
 
-abbrev IsSorted : CoreExpr → Typing → Type 0
-IsSorted e t = HasSortOf (sort_of_type t.of) (term_of e)
+module _ (entered : VarId → Term) where
+  abbrev IsSorted : CoreExpr → Typing → Type 0
+  IsSorted e t = HasSortOf (sort_of_type t.of) (term_of entered e)
 
--- a node that stands for its literal, or else for what it computes
-sorted_or : (e : CoreExpr) (a : Term) (t : Typing) → term_of e ≡ literal_or (literal e) a → judged e ≡ Ok t → HasSortOf (sort_of_type t.of) a → IsSorted e t
-sorted_or e a t is typed h = ap sort_of is ∙ ap (λ j. sort_of (literal_or (literal_in j) a)) typed ∙ literal_sorted t.of t.value a h
+  -- a node that stands for its literal, or else for what it computes
+  sorted_or : (e : CoreExpr) (a : Term) (t : Typing) → term_of entered e ≡ literal_or (literal e) a → judged e ≡ Ok t → HasSortOf (sort_of_type t.of) a → IsSorted e t
+  sorted_or e a t is typed h = ap sort_of is ∙ ap (λ j. sort_of (literal_or (literal_in j) a)) typed ∙ literal_sorted t.of t.value a h
 
-sorted_cases : Cases IsSorted
-sorted_cases = record {
-  number = λ n place. ap sort_of (term_of-Number n place) ∙ fold-Number sort_step n;
-  name = λ name base. ap sort_of (term_of-Name name) ∙ named_sorted (variable_of name.entity);
-  attribute = λ prefix designator base n typed.
-      sorted_or (Attribute prefix designator) (term.Number (pos 0)) (typing (type.Of base) (Some n) prefix.name.place) (term_of-Attribute prefix designator) typed
-      (fold-Number sort_step (pos 0));
-  parenthesized = λ place a o p. ap sort_of (term_of-Parenthesized place a) ∙ p;
-  prefix = λ op place a o number typed p.
-      let sort = ap Some (number_sort o.of number) in
-      sorted_or (Prefix op place a) (signed_term op (term_of a)) (typing o.of (signed_result op o.value) place) (term_of-Prefix op place a) typed
-      (signed_sorted op (term_of a) (p ∙ sort) ∙ sym sort);
-  «infix» = λ op place a b l r numbers typed p q.
-      sorted_or (Infix op place a b) (term.Infix (term_op op) (term_of a) (term_of b)) (joined op place l r) (term_of-Infix op place a b) typed
-      (operation_sorted op (met l.of r.of) (term_of a) (term_of b) numbers.2 (p ∙ ap Some (number_sort l.of numbers.0)) (q ∙ ap Some (number_sort r.of numbers.1)));
-}
+  sorted_cases : Cases IsSorted
+  sorted_cases = record {
+    number = λ n place. ap sort_of (term_with-Number now_term entered n place) ∙ fold-Number sort_step n;
+    name = λ name base. ap sort_of (term_with-Name now_term entered name) ∙ named_sorted (variable_of name.entity);
+    attribute = λ prefix designator base n typed.
+        sorted_or (Attribute prefix designator) (term.Number (pos 0)) (typing (type.Of base) (Some n) prefix.name.place) (term_with-Attribute now_term entered prefix designator) typed
+        (fold-Number sort_step (pos 0));
+    parenthesized = λ place a o p. ap sort_of (term_with-Parenthesized now_term entered place a) ∙ p;
+    prefix = λ op place a o number typed p.
+        let sort = ap Some (number_sort o.of number) in
+        sorted_or (Prefix op place a) (signed_term op (term_of entered a)) (typing o.of (signed_result op o.value) place) (term_with-Prefix now_term entered op place a) typed
+        (signed_sorted op (term_of entered a) (p ∙ sort) ∙ sym sort);
+    «infix» = λ op place a b l r numbers typed p q.
+        sorted_or (Infix op place a b) (term.Infix (term_op op) (term_of entered a) (term_of entered b)) (joined op place l r) (term_with-Infix now_term entered op place a b) typed
+        (operation_sorted op (met l.of r.of) (term_of entered a) (term_of entered b) numbers.2 (p ∙ ap Some (number_sort l.of numbers.0)) (q ∙ ap Some (number_sort r.of numbers.1)));
+  }
 
--- the term of an expression that breaks no rule has the sort of its type
-pub is_sorted : (e : CoreExpr) (t : Typing) → judged e ≡ Ok t → IsSorted e t
-is_sorted = typed_induct IsSorted sorted_cases
+  -- the term of an expression that breaks no rule has the sort of its type
+  pub is_sorted : (e : CoreExpr) (t : Typing) → judged e ≡ Ok t → IsSorted e t
+  is_sorted = typed_induct IsSorted sorted_cases
 
--- a number is an integer
-pub number_sorted : (e : CoreExpr) (t : Typing) → judged e ≡ Ok t → is_number t.of ≡ true → HasSortOf Integer (term_of e)
-number_sorted e t typed number = is_sorted e t typed ∙ ap Some (number_sort t.of number)
+  -- a number is an integer
+  pub number_sorted : (e : CoreExpr) (t : Typing) → judged e ≡ Ok t → is_number t.of ≡ true → HasSortOf Integer (term_of entered e)
+  number_sorted e t typed number = is_sorted e t typed ∙ ap Some (number_sort t.of number)
 
 integer_is : (w : Value) → HasSort Integer w → (n : ℤ) × (w ≡ value.Number n)
 integer_is (value.Number n) h = (n, refl)

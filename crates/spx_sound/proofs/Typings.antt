@@ -12,8 +12,6 @@ use Rattle.spx_core.specs.declared.name.CoreName.{CoreName}
 use Rattle.spx_core.specs.declared.name.Reference.{Reference}
 use Rattle.spx_core.specs.declared.expression.CoreExpr.{CoreExpr}
 use Rattle.spx_core.specs.declared.expression.CoreExpr.TheVariants.{Number, Name, Attribute, Parenthesized, Prefix, Infix}
-use Rattle.spx_core.specs.declared.statement.CoreStmt.TheVariants.{Assignment}
-use Rattle.spx_core.specs.declared.subprogram.CorePrecondition.{CorePrecondition}
 use Rattle.spx_core.specs.declared.subprogram.Sub.{Sub}
 use Rattle.spx_core.specs.declared.program.Program.{Program}
 use Rattle.spx_core.specs.declared.rule.ExprType.{ExprType}
@@ -21,9 +19,10 @@ use Rattle.spx_core.specs.declared.rule.ExprType.TheVariants.{Universal, Boolean
 use Rattle.spx_core.specs.declared.rule.RuleName.{RuleName}
 use Rattle.spx_core.specs.declared.rule.Typing.{Typing}
 use Rattle.spx_core.specs.Judged.{Judged, ◌>>=◌, keeps, each, if_there, typing, attribute_of, is_attribute, named_object, named_type, operand_of, referred_object, condition, sign, operation, expr_step, judged}
+use Rattle.spx_core.specs.Commands.{Command, Set, Then, Choose, commands}
 use Rattle.spx_core.specs.Dependency.{relation}
 use Rattle.spx_core.specs.Resolved.{params_of}
-use Rattle.spx_core.specs.Statements.{judged_param, judged_item, judged_pre, judged_decl, judged_stmt, judged_name, judged_sub, Typed}
+use Rattle.spx_core.specs.Statements.{judged_param, judged_item, judged_pre, judged_decl, judged_command, judged_name, judged_sub, test, Typed}
 use Rattle.spx_core.specs.Types.{both_held, is_held, is_of, is_boolean, is_number, lies_in, meet, met, result_of, result_type, signed_result}
 use Rattle.spx_core.proofs.Callers.Expressions as every
 use Rattle.spx_core.proofs.Callers.Expressions.{fold-Number, fold-Name, fold-Attribute, fold-Parenthesized, fold-Prefix, fold-Infix}
@@ -138,29 +137,42 @@ module _ (P : CoreExpr → Typing → Type 0) (c : Cases P) where
   pub typed_induct : (e : CoreExpr) → Shown e
   typed_induct = every.induct Shown shown_cases
 
--- ---- statements and subprograms
+-- ---- commands and subprograms
 
 -- the right side of an assignment is a number
-pub right_side : (target : Reference) (e : CoreExpr) → judged_stmt (Assignment target e) ≡ Ok tt → (t : Typing) × (judged e ≡ Ok t) × (is_number t.of ≡ true)
+pub right_side : (target : Reference) (e : CoreExpr) → judged_command (Set target e) ≡ Ok tt → (t : Typing) × (judged e ≡ Ok t) × (is_number t.of ≡ true)
 right_side target e h =
     let object = bound (referred_object target) _ tt h in
     let right = bound (judged e) (operand_of object.0.subtype) tt object.2 in
     (right.0, right.1, of_is_number object.0.subtype.base right.0.of (kept _ right.0.place (is_of object.0.subtype.base right.0.of) _ tt right.2).0)
 
--- a precondition is a truth value
-pub precondition : (pre : CorePrecondition) → judged_pre pre ≡ Ok tt → (t : Typing) × (judged pre.condition ≡ Ok t) × (t.of ≡ Boolean)
-precondition pre h =
-    let truth = bound (judged pre.condition) condition tt h in
+-- a test is a truth value
+pub tested : (e : CoreExpr) → test e ≡ Ok tt → (t : Typing) × (judged e ≡ Ok t) × (t.of ≡ Boolean)
+tested e h =
+    let truth = bound (judged e) condition tt h in
     (truth.0, truth.1, boolean truth.0.of (kept_last _ _ _ truth.2))
   where
     boolean : (of : ExprType) → is_boolean of ≡ true → of ≡ Boolean
     boolean Boolean h = refl
     boolean _ h = absurd (cc)
 
+abbrev pub IsTyped : Command → Type 0
+IsTyped c = judged_command c ≡ Ok tt
+
+-- so are the parts of a command
+pub both_typed : (a b : Command) → IsTyped (Then a b) → IsTyped a × IsTyped b
+both_typed a b h = let first = bound (judged_command a) (λ _. judged_command b) tt h in (first.1, first.2)
+
+pub arms_typed : (place : Place) (e : CoreExpr) (a b : Command) → IsTyped (Choose place e a b) → (test e ≡ Ok tt) × IsTyped a × IsTyped b
+arms_typed place e a b h =
+    let first = bound (test e) (λ _. judged_command a >>= λ _. judged_command b) tt h in
+    let arms = both_typed a b first.2 in
+    (first.1, arms.0, arms.1)
+
 -- the precondition and the statements of a subprogram break no rule
 pub record TypedSub (sub : Sub) : Type 0 where
   pub pre : if_there judged_pre sub.pre ≡ Ok tt
-  pub statements : AllByRecursion (λ stmt. judged_stmt stmt ≡ Ok tt) sub.statements
+  pub statements : IsTyped (commands sub.statements)
 
 typed_sub : (sub : Sub) → judged_sub sub ≡ Ok tt → TypedSub sub
 typed_sub sub h =
@@ -168,8 +180,7 @@ typed_sub sub h =
     let items = bound (each judged_item (relation sub)) _ tt params.2 in
     let pre = bound (if_there judged_pre sub.pre) _ tt items.2 in
     let declarations = bound (each judged_decl sub.declarations) _ tt pre.2 in
-    let statements = bound (each judged_stmt sub.statements) _ tt declarations.2 in
-    record { pre = pre.1; statements = each_is judged_stmt sub.statements statements.1 }
+    record { pre = pre.1; statements = (bound (judged_command (commands sub.statements)) _ tt declarations.2).1 }
 
 pub typed_subs : (p : Program) → Typed p → All TypedSub p.subs
 typed_subs p h =

@@ -1,5 +1,5 @@
 // What the verification conditions of a program say of its runs.
-ghost use Rattle.spx_meaning.specs.Fit.{Clean, Fit};
+ghost use Rattle.spx_paths.specs.Fit.{Clean, Fit};
 ghost use Rattle.spx_meaning.specs.Laws.{NeverBad};
 
 use spx_core::Program;

@@ -10,6 +10,7 @@ use Rattle.spx_core.specs.declared.entity.VarKind.TheVariants.{Formal}
 use Rattle.spx_core.specs.declared.entity.Mode.{Mode}
 use Rattle.spx_core.specs.declared.entity.Mode.TheVariants as mode
 use Rattle.spx_core.specs.declared.subprogram.Sub.{Sub}
+use Rattle.spx_core.specs.Commands.{commands}
 use Rattle.spx_core.specs.Dependency.{derives, exports, imports}
 use Rattle.spx_core.specs.Formals.{is_formal, is_local, mode_of}
 use Rattle.spx_core.specs.Effects.{defines, reads}
@@ -17,6 +18,7 @@ use Rattle.spx_core.specs.Flow.{MayFlow}
 use Rattle.spx_core.specs.FlowRules.{HasNoFinding, HasNoFlowFinding, body_effect}
 use Rattle.spx_core.specs.Rules.{ObeysRules}
 use Rattle.spx_meaning.specs.Stores.{Store, look}
+use Rattle.spx_meaning.specs.Frames.{around}
 use Rattle.spx_meaning.specs.Runs.{entry_of}
 use Rattle.spx_meaning.specs.Laws.{AreDerived, OthersAreKept, TwoRuns}
 use Rattle.spx_core.specs.Scopes.{Scoped}
@@ -54,7 +56,7 @@ module _ (p : Program) (sub : Sub) (scoped : Scoped p sub) where
 
   pub are_derived : HasNoFinding p sub → AreDerived p sub
   are_derived fits n m s t s' t' start start' ended ended' y export agree =
-      determined p n m (entry_of p sub s) (entry_of p sub t) s' t' sub.statements (call_ended p n sub s s' ended) (call_ended p m sub t t' ended') y
+      determined (around p sub (entry_of p sub s)) (around p sub (entry_of p sub t)) n m (entry_of p sub s) (entry_of p sub t) s' t' (commands sub.statements) (call_ended p n sub s s' ended) (call_ended p m sub t t' ended') y
       (λ u flow. begin_alike s t u (λ no_local. agree u (declared_flow fits u y export flow no_local)))
 
   -- what is neither an export nor a local is not set
@@ -75,7 +77,7 @@ module _ (p : Program) (sub : Sub) (scoped : Scoped p sub) where
 
   pub others_are_kept : ObeysRules p sub → OthersAreKept p sub
   others_are_kept obeys n s s' start ended v other no_local =
-      kept p n (entry_of p sub s) s' sub.statements v (call_ended p n sub s s' ended) (unset_others obeys v other no_local)
+      kept (around p sub (entry_of p sub s)) n (entry_of p sub s) s' (commands sub.statements) v (call_ended p n sub s s' ended) (unset_others obeys v other no_local)
 
 -- ---- programs
 

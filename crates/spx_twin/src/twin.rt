@@ -1,5 +1,5 @@
 // What the dependency relations of a program say of two of its runs.
-ghost use Rattle.spx_meaning.specs.Fit.{Fit};
+ghost use Rattle.spx_paths.specs.Fit.{Fit};
 ghost use Rattle.spx_meaning.specs.Laws.{TwoRuns};
 
 use spx_core::Program;

@@ -1,4 +1,4 @@
--- Which of the terms in the conditions of `Inc` are equal.
+-- Which of the terms in the conditions are equal.
 use Rattle.std.proofs.Common.{◌≡◌, ℤ, true, false, ◌||◌, List, ◌∷◌, refl, sym, ap, ap₂, ◌∙◌}
 use Rattle.std.proofs.lemmas.Bool.{false_from_ne_true, or_right}
 use Rattle.spx_term.specs.declared.term.Name.{Name}

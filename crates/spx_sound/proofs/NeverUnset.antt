@@ -1,0 +1,177 @@
+-- Where no way leads from an unset variable to a read of it, a command reads none.
+use Rattle.std.proofs.Common.{◌≡◌, ℕ, Bool, true, false, ◌||◌, ◌==◌, if◌then◌else◌, List, [], ◌++◌, pos, Option, Some, None, refl, sym, ◌∙◌, subst, inl, inr}
+use Rattle.std.specs.Prelude.{⊤, Contains}
+use Rattle.std.proofs.lemmas.Bool.{eq-eqb, eqb-true}
+use Rattle.spx_text.specs.declared.place.Place.{Place}
+use Rattle.spx_tree.specs.declared.expression.InfixOp.{InfixOp}
+use Rattle.spx_tree.specs.declared.expression.InfixOp.TheVariants as op
+use Rattle.spx_tree.specs.declared.expression.PrefixOp.{PrefixOp}
+use Rattle.spx_tree.specs.declared.expression.PrefixOp.TheVariants as prefix
+use Rattle.spx_core.specs.declared.entity.TheConstants.{INTEGER}
+use Rattle.spx_core.specs.declared.entity.VarId.{VarId}
+use Rattle.spx_core.specs.declared.name.Reference.{Reference}
+use Rattle.spx_core.specs.declared.expression.CoreExpr.{CoreExpr}
+use Rattle.spx_core.specs.declared.expression.CoreExpr.TheVariants.{Attribute, Prefix, Infix}
+use Rattle.spx_core.specs.Commands.{Command, Skip, Set, Then, Choose}
+use Rattle.spx_core.specs.Effects.{Effect, Read, assign as assigns, effect, reads_of}
+use Rattle.spx_core.specs.Formals.{stands_in}
+use Rattle.spx_core.specs.Places.{place_of}
+use Rattle.spx_core.specs.Uses.{is_same, uses, variable_of}
+use Rattle.spx_core.specs.Ways.{Free, Goes, Reaches}
+use Rattle.spx_core.proofs.Callers.Expressions.{Cases, induct}
+use Rattle.spx_core.proofs.Callers.FlowLaws.{goes_free, reads_uses, without}
+use Rattle.spx_core.proofs.Callers.ListTests.{found}
+use Rattle.spx_core.proofs.Callers.ReadsLaws.{uses_left, uses_right, uses-Name, uses-Parenthesized, uses-Prefix}
+use Rattle.spx_core.proofs.Callers.Variables.{same_var}
+use Rattle.spx_term.specs.declared.value.Value.{Value}
+use Rattle.spx_term.specs.declared.value.Value.TheVariants as value
+use Rattle.spx_term.specs.Meaning.{as_truth}
+use Rattle.spx_meaning.specs.declared.bad.BadKind.TheVariants.{Overflow, Range}
+use Rattle.spx_meaning.specs.Stores.{Store, look, put, type_of, is_in}
+use Rattle.spx_meaning.specs.Frames.{Frame}
+use Rattle.spx_meaning.specs.Literals.{literal}
+use Rattle.spx_meaning.specs.Evaluation.{Answer, Gives, Fails, with_value, applied, applied_sign, in_base, checked, signed, read, read_at, static_or, eval, eval-Number, eval-Name, eval-Attribute, eval-Parenthesized, eval-Prefix, eval-Infix}
+use Rattle.spx_meaning.specs.Runs.{assign, run}
+use Rattle.spx_meaning.proofs.Callers.Stores.{look-put_either}
+use Rattle.spx_sound.proofs.NeverBadRuns.{IsOther, HasGoodKind, kind_with, kind_use, Good, good_then, good_if, good_demand, good_weaker}
+
+-- ---- expressions
+
+-- what an expression uses is set
+abbrev UsesSet : Store → CoreExpr → Type 0
+UsesSet s e = (v : VarId) → uses v e ≡ true → look s v ≡ None → ⊥
+
+if_kind : (b : Bool) (x y : Answer) → HasGoodKind IsOther x → HasGoodKind IsOther y → HasGoodKind IsOther (if b then x else y)
+if_kind true x y h k = h
+if_kind false x y h k = k
+
+base_kind : (place : Place) (x : Value) → HasGoodKind IsOther (in_base place x)
+base_kind place x = if_kind (is_in INTEGER x) (Gives x) (Fails Overflow place) tt (λ e. cc)
+
+checked_kind : (o : InfixOp) (place : Place) (x : Value) → HasGoodKind IsOther (checked o place x)
+checked_kind op.Add place x = base_kind place x
+checked_kind op.Subtract place x = base_kind place x
+checked_kind _ place x = tt
+
+signed_kind : (o : PrefixOp) (place : Place) (x : Value) → HasGoodKind IsOther (signed o place x)
+signed_kind prefix.Plus place x = tt
+signed_kind prefix.Minus place x = base_kind place (applied_sign prefix.Minus x)
+
+static_kind : (l : Option Value) (answer : Answer) → HasGoodKind IsOther answer → HasGoodKind IsOther (static_or l answer)
+static_kind (Some x) answer h = tt
+static_kind None answer h = h
+
+module _ (f : Frame) (n : ℕ) (s : Store) where
+  read_kind : (place : Place) (o : Option VarId) → ((v : VarId) → is_same v o ≡ true → look s v ≡ None → ⊥) → HasGoodKind IsOther (read s place o)
+  read_kind place (Some v) set = by_value (look s v) (set v (eq-eqb v.0 v.0 refl))
+    where
+      by_value : (o : Option Value) → (o ≡ None → ⊥) → HasGoodKind IsOther (read_at place o)
+      by_value (Some x) h = tt
+      by_value None h = absurd (h refl)
+  read_kind place None set = tt
+
+  abbrev ReadsSet : CoreExpr → Type 0
+  ReadsSet e = UsesSet s e → HasGoodKind IsOther (eval f n s e)
+
+  kind_cases : Cases ReadsSet
+  kind_cases = record {
+    number = λ m place set. subst (HasGoodKind IsOther) (sym (eval-Number f n s m place)) tt;
+    name = λ name set.
+        subst (HasGoodKind IsOther) (sym (eval-Name f n s name)) (read_kind name.name.place (variable_of name.entity) (λ v h. set v (uses-Name v name ∙ h)));
+    attribute = λ prefix designator set.
+        subst (HasGoodKind IsOther) (sym (eval-Attribute f n s prefix designator)) (static_kind (literal (Attribute prefix designator)) (Gives (value.Number (pos 0))) tt);
+    parenthesized = λ place a p set.
+        subst (HasGoodKind IsOther) (sym (eval-Parenthesized f n s place a)) (p (λ v h. set v (uses-Parenthesized v place a ∙ h)));
+    prefix = λ o place a p set.
+        subst (HasGoodKind IsOther) (sym (eval-Prefix f n s o place a))
+        (static_kind (literal (Prefix o place a)) (with_value (eval f n s a) (λ x. signed o place x))
+        (kind_with IsOther (eval f n s a) (λ x. signed o place x) (p (λ v h. set v (uses-Prefix v o place a ∙ h))) (λ x. signed_kind o place x)));
+    «infix» = λ o place a b p q set.
+        let go : Value → Value → Answer = λ x y. checked o place (applied o x y) in
+        subst (HasGoodKind IsOther) (sym (eval-Infix f n s o place a b))
+        (static_kind (literal (Infix o place a b)) (with_value (eval f n s a) (λ x. with_value (eval f n s b) (go x)))
+        (kind_with IsOther (eval f n s a) (λ x. with_value (eval f n s b) (go x)) (p (λ v h. set v (uses_left v o place a b h)))
+        (λ x. kind_with IsOther (eval f n s b) (go x) (q (λ v h. set v (uses_right v o place a b h))) (λ y. checked_kind o place (applied o x y)))));
+  }
+
+  eval_kind : (e : CoreExpr) → ReadsSet e
+  eval_kind = induct ReadsSet kind_cases
+
+-- ---- ways
+
+-- a way, and then another
+follow : (v : VarId) (A B : List VarId → Type 0) → Free A v → Free B v → (way : List VarId) × ((front : List VarId) × (back : List VarId) × (way ≡ front ++ back) × A front × B back) × (stands_in v way ≡ false)
+follow v A B first second = (first.0 ++ second.0, (first.0, second.0, refl, first.1, second.1), without v first.0 second.0 first.2 second.2)
+
+-- no way without it leads from a variable that is unset to a read of it
+abbrev pub IsClear : Effect → Store → Type 0
+IsClear e s = (place : Place) (v : VarId) → look s v ≡ None → Free (Reaches e place v) v → ⊥
+
+-- what is unset after was so before, and some way goes on without it
+abbrev pub Passes : Effect → Store → Store → Type 0
+Passes e s t = (v : VarId) → look t v ≡ None → (look s v ≡ None) × Free (Goes e) v
+
+-- what an expression uses, it reads at some place
+read_place : (v : VarId) (e : CoreExpr) → uses v e ≡ true → (place : Place) × Contains (reads_of e) (place, v)
+read_place v e h =
+    let r = found (λ (r : Read). r.1.0 == v.0) (reads_of e) (reads_uses v e ∙ h) in
+    let one : r.0.1 ≡ v = same_var r.0.1 v (eqb-true r.0.1.0 v.0 r.2) in
+    (r.0.0, subst (λ (w : VarId). Contains (reads_of e) (r.0.0, w)) one r.1)
+
+-- ---- commands
+
+module _ (f : Frame) (n : ℕ) where
+  -- no read of an unset variable, and what is unset after has a way
+  abbrev Sets : Store → Command → Type 0
+  Sets s c = IsClear (effect c) s → Good IsOther (run f n s c) (Passes (effect c) s) (λ t. ⊤)
+
+  assign_passes : (s : Store) (place at : Place) (reads : List Read) (o : Option VarId) (x : Value) → Good IsOther (assign f.program place o s x) (Passes (assigns o reads at) s) (λ t. ⊤)
+  assign_passes s place at reads (Some w) x =
+      good_demand IsOther (is_in (type_of f.program w) x) Range place (put s w (Some x)) (Passes (assigns (Some w) reads at) s) (λ t. ⊤)
+      (λ v unset. elim (look-put_either s w v (Some x)) [ inl h ↦ absurd (let e = h.1 in cc) | inr h ↦ (sym h.1 ∙ unset, goes_free (assigns (Some w) reads at) v h.0) ])
+      (λ is e. cc)
+  assign_passes s place at reads None x = λ v unset. (unset, goes_free (assigns None reads at) v refl)
+
+  set_sets : (s : Store) (target : Reference) (e : CoreExpr) → Sets s (Set target e)
+  set_sets s target e clear =
+      kind_use IsOther (eval f n s e) (assign f.program (place_of e) (variable_of target.root.entity) s) (Passes (effect (Set target e)) s) (λ t. ⊤)
+      (eval_kind f n s e (λ v used unset. let r = read_place v e used in clear r.0 v unset ([], (r.1, refl), refl)))
+      (λ x. assign_passes s (place_of e) target.root.name.place (reads_of e) (variable_of target.root.entity) x)
+
+  then_sets : (s : Store) (a b : Command) → Sets s a → ((t : Store) → Sets t b) → Sets s (Then a b)
+  then_sets s a b first second clear =
+      good_then IsOther (run f n s a) (λ t. run f n t b) (Passes (effect a) s) (Passes (effect (Then a b)) s) (λ t. ⊤)
+      (first (λ place v unset way. clear place v unset (way.0, inl way.1, way.2)))
+      (λ t passes.
+      good_weaker IsOther (run f n t b) (Passes (effect b) t) (Passes (effect (Then a b)) s) (λ t. ⊤) (λ t. ⊤)
+      (second t (λ place v unset way.
+      let before = passes v unset in
+      let whole = follow v (Goes (effect a)) (Reaches (effect b) place v) before.1 way in
+      clear place v before.0 (whole.0, inr whole.1, whole.2)))
+      (λ u goes v unset.
+      let after = goes v unset in
+      let before = passes v after.0 in
+      (before.0, follow v (Goes (effect a)) (Goes (effect b)) before.1 after.1))
+      (λ u l. l))
+
+  choose_sets : (s : Store) (place : Place) (e : CoreExpr) (a b : Command) → Sets s a → Sets s b → Sets s (Choose place e a b)
+  choose_sets s place e a b first second clear =
+      let whole = effect (Choose place e a b) in
+      kind_use IsOther (eval f n s e) (λ x. if as_truth x then run f n s a else run f n s b) (Passes whole s) (λ t. ⊤)
+      (eval_kind f n s e (λ v used unset. let r = read_place v e used in clear r.0 v unset ([], inl (r.1, refl), refl)))
+      (λ x.
+      good_if IsOther (as_truth x) (run f n s a) (run f n s b) (Passes whole s) (λ t. ⊤)
+      (λ is.
+      good_weaker IsOther (run f n s a) (Passes (effect a) s) (Passes whole s) (λ t. ⊤) (λ t. ⊤)
+      (first (λ at v unset way. clear at v unset (way.0, inr (inl way.1), way.2)))
+      (λ t goes v unset. let g = goes v unset in (g.0, (g.1.0, inl g.1.1, g.1.2))) (λ t l. l))
+      (λ is.
+      good_weaker IsOther (run f n s b) (Passes (effect b) s) (Passes whole s) (λ t. ⊤) (λ t. ⊤)
+      (second (λ at v unset way. clear at v unset (way.0, inr (inr way.1), way.2)))
+      (λ t goes v unset. let g = goes v unset in (g.0, (g.1.0, inr g.1.1, g.1.2))) (λ t l. l)))
+
+  pub never_unset : (s : Store) (c : Command) → Sets s c
+  never_unset s Skip clear = λ v unset. (unset, ([], refl, refl))
+  never_unset s (Set target e) clear = set_sets s target e clear
+  never_unset s (Then a b) clear = then_sets s a b (never_unset s a) (λ t. never_unset t b) clear
+  never_unset s (Choose place e a b) clear = choose_sets s place e a b (never_unset s a) (never_unset s b) clear
