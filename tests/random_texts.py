@@ -6,9 +6,11 @@
 """
 
 import argparse
+import math
 import random
 import re
 import sys
+from dataclasses import dataclass
 
 from reading import ANNOTATION, RESERVED, examine
 from table import CASES, answer, can_stand, entry, longer
@@ -21,6 +23,10 @@ LOCALS = ((), (), ('T',), ('T',), ('T', 'U'), ('Last',))
 ODD_LOCALS = (('X',), ('Y', 'T'), ('T', 't'), ('Integer',), ('Dec', 'Inc'))
 MODES = ('in out ', 'out ', 'in ', '')
 NAMES = ('Inc', 'Dec', 'X', 'Y', 'Last')
+STATIC_CONDITIONS = ('1 < 2', '2 < 1', "Integer'First < 0", '0 = 1', '-1 >= 0', '2147483648 > 5')
+# A procedure of random parts mostly has no more paths than this, and no more levels of `if`.
+MOST_PATHS = 40
+MOST_NESTED = 3
 
 # A text as pieces: heads, comments, words and numbers, delimiters, line ends, separators, and other bytes.
 PIECE = re.compile(rb'--#|--[^\n]*|[A-Za-z_0-9]+|:=|/=|<=|>=|\*\*|\n|[ \t\r\v\f]+|.', re.DOTALL)
@@ -29,7 +35,8 @@ PIECES = tuple(piece.encode('ascii') for piece in (
     '*', '&', ',', ';', ':', ':=', 'in', 'out', 'from', 'derives', 'pre', '--#', '--', '\n', ' ', '\t', '\r', '=', '/=',
     '<', '<=', '>', '>=', 'end', 'is', 'begin', 'procedure', '(', ')', "'", '.', '..', '->', '~', '\n--# ', '_', '#',
     '; B : in Integer', '   X := X + 1;\n', ' + 1 - 1', 'null', '   null;\n', '   T : Integer;\n', 'T', '(X)', '-(',
-    '+(', "'First", '(X = X)'))
+    '+(', "'First", '(X = X)', 'if', 'then', 'elsif', 'else', 'end if', 'if X > 0 then', 'elsif X < 0 then', 'end if;',
+    '   if X > 0 then X := X - 1; end if;\n'))
 # Bytes that are apt to end a lexeme, a line or a text.
 EDGES = b'\0\t\n\v\f\r -#0A_\x80\xa0\xff'
 
@@ -52,6 +59,58 @@ def is_import(formal, sources):
 def is_name(piece):
     """Whether a piece is a word that is reserved nowhere."""
     return bool(NAME.fullmatch(piece)) and piece.decode('ascii').lower() not in RESERVED + ANNOTATION
+
+
+@dataclass
+class Branch:
+    """An `if`: its arms, each a condition and statements, and the statements after `else`, if it is there."""
+    arms: list
+    otherwise: list = None
+
+    def bodies(self):
+        """The statements of each arm, and those after `else`, which may be none."""
+        return [body for _, body in self.arms] + [self.otherwise or []]
+
+
+def assignments(statements):
+    """The targets and right sides of statements, also of those in arms."""
+    for statement in statements:
+        if isinstance(statement, Branch):
+            for body in statement.bodies():
+                yield from assignments(body)
+        else:
+            yield statement
+
+
+def paths(statements):
+    """How many ways lead through statements."""
+    return math.prod(sum(map(paths, statement.bodies())) for statement in statements if isinstance(statement, Branch))
+
+
+def levels(statements):
+    """How many `if`s are in one another."""
+    return max((1 + max(map(levels, statement.bodies())) for statement in statements if isinstance(statement, Branch)),
+               default=0)
+
+
+def sources_after(statements, sources):
+    """The formals that the value of each variable comes from after statements, where these are those before."""
+    for statement in statements:
+        if isinstance(statement, Branch):
+            conditions = set().union(*(sources_of(condition, sources) for condition, _ in statement.arms))
+            changed = {target for target, _ in assignments([statement])}
+            ends = [sources_after(body, sources) for body in statement.bodies()]
+            sources = {name: set().union(*(end[name] for end in ends)) | (conditions if name in changed else set())
+                       for name in sources}
+        else:
+            target, value = statement
+            sources = sources | {target: sources_of(value, sources)}
+    return sources
+
+
+def sources_of(value, sources):
+    """The formals that what is written comes from."""
+    return {source for name in sources if re.search(rf"(?<!')\b{name}\b", value) for source in sources[name]}
 
 
 class Writer:
@@ -82,14 +141,102 @@ class Writer:
         formals = self.random.choice(FORMALS) if self.random.random() < 0.96 else ()
         locals_ = self.random.choice(LOCALS if self.random.random() < 0.98 else ODD_LOCALS)
         statements = self.statements(formals, locals_)
+        if formals and self.random.random() < 0.55:
+            statements = self.branched(statements, formals, locals_)
         sources = self.sources(formals, locals_, statements)
         inputs = [formal for formal in formals if formal not in sources]
         if inputs and self.random.random() < 0.12:
-            statements.append((self.random.choice(inputs), self.right_side(formals, inputs[0])))
-        first = statements[0][1] if statements else self.value()
+            self.insert(statements, (self.random.choice(inputs), self.right_side(formals, inputs[0])))
+        first = next((value for _, value in assignments(statements)), None) or self.value()
         pre = self.precondition(formals, sources, first) if self.random.random() < 0.75 else None
-        return longer(self.params(formals, sources), self.items(formals, sources), *self.with_nulls(statements),
+        return longer(self.params(formals, sources), self.items(formals, sources), *self.spelled(statements),
                       pre=pre, declared=self.declarations(locals_), name=name)
+
+    def branched(self, statements, formals, locals_):
+        """The statements with some of them in arms, and some more; mostly such that what one arm sets, each sets."""
+        if self.random.random() < 0.01:
+            return self.many_paths(formals)
+        found = list(statements)
+        for _ in range(self.random.choice((1, 1, 1, 2, 2, 3))):
+            at = self.random.randrange(len(found) + 1)
+            after = min(len(found), at + self.random.choice((0, 1, 1, 2)))
+            made = self.branch(found[at:after], formals, locals_)
+            tried = found[:at] + [made] + found[after:]
+            if paths(tried) <= MOST_PATHS and levels(tried) <= MOST_NESTED:
+                found = tried
+        return found
+
+    def many_paths(self, formals):
+        """Some twelve `if`s in a row, which have 4096 paths."""
+        name = self.random.choice(formals)
+        return [Branch([(f'{self.random.choice(formals)} > 0', [(name, self.value())])])
+                for _ in range(self.random.randrange(11, 15))]
+
+    def branch(self, statements, formals, locals_):
+        """An `if` around the statements, which stand in one of its arms, or with other values in each."""
+        readable = formals + tuple(local for local in locals_ if self.random.random() < 0.3)
+        count = self.random.choices((1, 2, 3), (60, 30, 10))[0]
+        has_else = self.random.random() < 0.6
+        bodies = [[self.other(statement, readable) for statement in statements] if self.random.random() < 0.75 else
+                  self.some(formals, readable) for _ in range(count + has_else)]
+        bodies[self.random.randrange(len(bodies))] = list(statements) or self.some(formals, readable)
+        arms = [(self.condition(readable), body) for body in bodies[:count]]
+        return Branch(arms, bodies[count] if has_else else None)
+
+    def other(self, statement, readable):
+        """A statement that sets what this one sets, with another value."""
+        if isinstance(statement, Branch):
+            return statement
+        target, _ = statement
+        return (target, self.right_side(readable, target))
+
+    def some(self, formals, readable):
+        """No statement, or one that sets a formal."""
+        if self.random.random() < 0.4:
+            return []
+        target = self.random.choice(formals)
+        return [(target, self.right_side(readable, target))]
+
+    def condition(self, readable):
+        """A relation, mostly between a variable and a value; at times one that is static, and rarely none."""
+        kind = self.random.random()
+        if kind < 0.08:
+            return self.random.choice(STATIC_CONDITIONS)
+        left = self.random.choice(readable) if kind < 0.7 else self.sum(readable, self.random.choice(readable))
+        if kind > 0.98:
+            return left
+        relation = f' {self.random.choice(RELATIONS)} '
+        sides = [left, self.random.choice(readable + (self.value(),) * 5)]
+        if self.random.random() < 0.2:
+            sides.reverse()
+        return relation.join(sides)
+
+    def insert(self, statements, statement):
+        """Puts a statement somewhere, also into an arm."""
+        inner = [branch for branch in statements if isinstance(branch, Branch)]
+        if inner and self.random.random() < 0.6:
+            branch = self.random.choice(inner)
+            self.insert(self.random.choice([body for _, body in branch.arms] + [branch.otherwise or []]), statement)
+        else:
+            statements.insert(self.random.randrange(len(statements) + 1), statement)
+
+    def spelled(self, statements):
+        """Each statement as it is written, with `null` between them at times, and where there are none."""
+        found = [self.spelled_branch(statement) if isinstance(statement, Branch) else f'{statement[0]} := {statement[1]}'
+                 for statement in statements] or ['null']
+        while self.random.random() < 0.1:
+            found.insert(self.random.randrange(len(found) + 1), 'null')
+        return found
+
+    def spelled_branch(self, branch):
+        """An `if` in one line or in several."""
+        gap = self.random.choice((' ', ' ', '\n      '))
+        text = ''
+        for word, (condition, body) in zip(['if'] + ['elsif'] * len(branch.arms), branch.arms):
+            text += f'{word} {condition} then{gap}' + ''.join(f'{piece};{gap}' for piece in self.spelled(body))
+        if branch.otherwise is not None:
+            text += f'else{gap}' + ''.join(f'{piece};{gap}' for piece in self.spelled(branch.otherwise))
+        return text + 'end if'
 
     def declarations(self, locals_):
         """A declaration for each local, or one for all."""
@@ -111,13 +258,6 @@ class Writer:
             is_behind_local = found and found[-1][0] in locals_
             found.append((target, self.right_side(readable, found[-1][0] if is_behind_local else target)))
         return found
-
-    def with_nulls(self, statements):
-        """The statements, with `null` between them at times, and where there are none."""
-        spelled = [f'{target} := {value}' for target, value in statements] or ['null']
-        while self.random.random() < 0.1:
-            spelled.insert(self.random.randrange(len(spelled) + 1), 'null')
-        return spelled
 
     def right_side(self, variables, usual):
         """A sum that mostly begins with the usual variable, where it may be read; and rarely a comparison."""
@@ -168,11 +308,9 @@ class Writer:
 
     def sources(self, formals, locals_, statements):
         """The exports, which are the targets and some others, each with the formals that its last value comes from."""
-        found = {formal: {formal} for formal in formals} | {local: set() for local in locals_ if local not in formals}
-        for target, value in statements:
-            read = [name for name in found if re.search(rf"(?<!')\b{name}\b", value)]
-            found[target] = {source for name in read for source in found[name]}
-        targets = {target for target, _ in statements if target in formals}
+        start = {formal: {formal} for formal in formals} | {local: set() for local in locals_ if local not in formals}
+        found = sources_after(statements, start)
+        targets = {target for target, _ in assignments(statements) if target in formals}
         used = {source for target in targets for source in found[target]}
         return {formal: found[formal] for formal in formals
                 if formal in targets or formal not in used or self.random.random() < 0.3}

@@ -17,6 +17,7 @@ MOST_BYTES = 4194304
 MOST_TOKENS = 1000000
 MOST_LEVELS = 200
 MOST_VARIABLES = 4096
+MOST_PATHS = 4096
 MOST_NODES = 1000000
 USAGE = ('usage: check [--proofs FILE] FILE... | conditions FILE... | '
          'run --entry NAME [--turns N] [--inputs FILE] FILE... | workload N\n')
@@ -68,6 +69,10 @@ class TooNested(Exception):
 
 class TooManyVariables(Exception):
     """A procedure has more formals and locals than it may have."""
+
+
+class TooManyPaths(Exception):
+    """A procedure has more paths from its start to its end than it may have."""
 
 
 class TooManyNodes(Exception):
@@ -313,6 +318,25 @@ class Assignment:
 
 
 @dataclass(frozen=True)
+class Arm:
+    """`condition then statements`, after a word `if` or `elsif`, at which it stands."""
+    place: Place
+    condition: Expression
+    statements: list
+
+
+@dataclass(frozen=True)
+class If:
+    """Its arms from the first to the last, and the statements after `else`; no `else` is one without statements."""
+    arms: list
+    otherwise: list
+
+    def branches(self):
+        """The statements of each arm, and those after `else`."""
+        return [arm.statements for arm in self.arms] + [self.otherwise]
+
+
+@dataclass(frozen=True)
 class Param:
     """`names : mode type_mark`"""
     names: list
@@ -448,7 +472,7 @@ class Parser:
         self.take('is')
         declarations = self.declarations()
         self.take('begin')
-        statements = self.statements()
+        statements = self.statements(0)
         end = self.take('end').place
         end_name = self.identifier_if()
         self.take(';')
@@ -516,23 +540,43 @@ class Parser:
             self.take(';')
         return declarations
 
-    def statements(self):
-        """statement {statement}"""
-        statements = [self.statement()]
-        while self.next_is('null') or self.next_is('identifier'):
-            statements.append(self.statement())
+    def statements(self, above):
+        """statement {statement}, under so many levels"""
+        statements = [self.statement(above)]
+        while any(self.next_is(kind) for kind in ('null', 'identifier', 'if')):
+            statements.append(self.statement(above))
         return statements
 
-    def statement(self):
-        """"null" ";" | name ":=" expression ";" """
+    def statement(self, above):
+        """"null" ";" | name ":=" expression ";" | an `if`"""
         if self.take_if('null'):
             self.take(';')
             return Null()
+        word = self.opening(('if',), False, above + 1)
+        if word:
+            return self.branching(word, above + 1)
         target = self.name()
         self.take(':=')
-        value = self.expression(False, 0)
+        value = self.expression(False, above)
         self.take(';')
         return Assignment(target, value)
+
+    def branching(self, word, above):
+        """"if" arm {"elsif" arm} ["else" statement {statement}] "end" "if" ";" after the first word"""
+        arms = []
+        while word:
+            arms.append(self.arm(word.place, above))
+            word = self.take_if('elsif')
+        otherwise = self.statements(above) if self.take_if('else') else []
+        for kind in ('end', 'if', ';'):
+            self.take(kind)
+        return If(arms, otherwise)
+
+    def arm(self, place, above):
+        """expression "then" statement {statement}"""
+        condition = self.expression(False, above)
+        self.take('then')
+        return Arm(place, condition, self.statements(above))
 
     def expression(self, marked, above):
         """sum [("=" | "/=" | "<" | "<=" | ">" | ">=") sum], under so many levels"""
@@ -702,7 +746,7 @@ class Resolver:
         pre = self.tree.pre and self.condition(self.tree.pre)
         for declaration in self.tree.locals:
             self.declaration(declaration)
-        statements = [self.statement(statement) for statement in self.tree.statements]
+        statements = self.statements(self.tree.statements)
         self.end_name()
         return replace(self.tree, formals=self.formals, derives=derives, pre=pre, locals=self.locals,
                        statements=statements, spelled=self.spelled)
@@ -768,15 +812,26 @@ class Resolver:
         return Item(exports, item.star, imports)
 
     def condition(self, tree):
-        """N10: a precondition is Boolean."""
+        """N10: a precondition, and the condition of an `if`, is Boolean."""
         found = self.expression(tree)
         require('N10', found.place, type_of(found) == 'Boolean')
         return found
+
+    def statements(self, trees):
+        """Statements over what their names denote, in the order of the text."""
+        return [self.statement(tree) for tree in trees]
+
+    def arm(self, tree):
+        """The condition comes before the statements."""
+        condition = self.condition(tree.condition)
+        return Arm(tree.place, condition, self.statements(tree.statements))
 
     def statement(self, tree):
         """N10: a right side is no Boolean. N12: it lies in Integer where it is universal."""
         if isinstance(tree, Null):
             return tree
+        if isinstance(tree, If):
+            return If([self.arm(arm) for arm in tree.arms], self.statements(tree.otherwise))
         target, value = self.variable(tree.target), self.expression(tree.value)
         require('N10', value.place, type_of(value) != 'Boolean')
         require('N12', value.place, meets_integer(value))
@@ -823,8 +878,14 @@ def resolved(trees):
 # ---------------------------------------------------------------- the walk of rules on variables
 
 def assignments(statements):
-    """The statements that are no `null`, which has no part in what names denote."""
-    return [statement for statement in statements if isinstance(statement, Assignment)]
+    """All assignments in statements, also those in an `if`, in the order of the text."""
+    found = []
+    for statement in statements:
+        if isinstance(statement, Assignment):
+            found.append(statement)
+        elif isinstance(statement, If):
+            found += [inner for branch in statement.branches() for inner in assignments(branch)]
+    return found
 
 
 class Relation:
@@ -920,46 +981,93 @@ def reads(expression):
     return [name for part in parts_of(expression) for name in reads(part)]
 
 
-def flows_of(procedure, statements):
-    """The flows that lead through statements: to a target from what the right side reads, else from itself."""
-    flows = {(word, word) for word in procedure.words()}
-    for statement in assignments(statements):
-        target, read = statement.target.word, {name.word for name in reads(statement.value)}
-        kept = {(source, to) for source, to in flows if to != target}
-        flows = kept | {(source, target) for source, to in flows if to in read}
-    return flows
+def are_read(words, expression):
+    """Whether an expression reads one of these variables."""
+    return any(name.word in words for name in reads(expression))
+
+
+def choices(tree):
+    """What the condition of each arm chooses among: the targets in that arm, in the later ones and after `else`."""
+    found = []
+    for branch in reversed(tree.branches()):
+        targets = {assignment.target.word for assignment in assignments(branch)}
+        found.append(targets.union(*found[-1:]))
+    return found[:0:-1]
+
+
+def carried(statements, words):
+    """The variables to which flows lead through statements from these ones.
+
+    A target has what its right side reads, and nothing else. Of an `if` each branch may be run; and what a condition reads
+    comes to all that it chooses among.
+    """
+    for statement in statements:
+        if isinstance(statement, Assignment):
+            rest = words - {statement.target.word}
+            words = rest | {statement.target.word} if are_read(words, statement.value) else rest
+        elif isinstance(statement, If):
+            branches = [carried(branch, words) for branch in statement.branches()]
+            chosen = [choice for arm, choice in zip(statement.arms, choices(statement)) if are_read(words, arm.condition)]
+            words = set().union(*branches, *chosen)
+    return words
 
 
 def f1_f2(procedure, relation):
     """F1: each flow from a formal to an export is declared. F2: each declared flow is there."""
-    flows = flows_of(procedure, procedure.statements)
-    to_exports = {(source, to) for source, to in flows if source not in procedure.locals and to in relation.exported}
+    flows = {(formal.word, to) for formal in procedure.formals for to in carried(procedure.statements, {formal.word})}
+    to_exports = {(source, to) for source, to in flows if to in relation.exported}
     for rule, word, pairs in (('F1', 'missing', to_exports - relation.pairs), ('F2', 'unused', relation.pairs - flows)):
         for source, to in pairs:
             text = f'{word}: {procedure.spelled[to]} from {procedure.spelled[source]}'
             yield Finding(rule, relation.place(to), text)
 
 
-def f3(procedure, relation):
-    """F3: from each target there is a flow to an export through the statements after it."""
-    statements = assignments(procedure.statements)
+def occurrences(statements, after):
+    """Each right side and condition: its place, the variables that it gives a value, and the statements after that.
+
+    The last are those of the same list, and then these others.
+    """
     for at, statement in enumerate(statements):
-        target = statement.target
-        reached = {to for source, to in flows_of(procedure, statements[at + 1:]) if source == target.word}
-        if not reached & relation.exported:
-            yield finding('F3', target.place)
+        rest = statements[at + 1:] + after
+        if isinstance(statement, Assignment):
+            yield statement.target.place, {statement.target.word}, rest
+        elif isinstance(statement, If):
+            for arm, choice in zip(statement.arms, choices(statement)):
+                yield arm.place, choice, rest
+            for branch in statement.branches():
+                yield from occurrences(branch, rest)
+
+
+def f3(procedure, relation):
+    """F3: from what a right side or a condition gives a value, there is a flow to an export."""
+    for place, given, rest in occurrences(procedure.statements, []):
+        if not carried(rest, given) & relation.exported:
+            yield finding('F3', place)
 
 
 def f4(procedure, relation):
-    """F4: what is read is an import or assigned before it, and so is each export at the end."""
-    is_set = set(relation.imported)
-    for statement in assignments(procedure.statements):
-        for name in reads(statement.value):
-            if name.word not in is_set:
-                yield unset(procedure, name.word, name.place)
-        is_set.add(statement.target.word)
+    """F4: what is read is an import or assigned before it on each way, and so is each export at the end."""
+    unset_reads = []
+    is_set = set_after(procedure.statements, relation.imported, unset_reads)
+    for name in unset_reads:
+        yield unset(procedure, name.word, name.place)
     for export in relation.exported - is_set:
         yield unset(procedure, export, procedure.end)
+
+
+def set_after(statements, is_set, unset_reads):
+    """The variables that are set after statements, whatever way is taken; and reads of others are added to the list.
+
+    After an `if` those are set that each of its branches leaves set.
+    """
+    for statement in statements:
+        if isinstance(statement, Assignment):
+            unset_reads += [name for name in reads(statement.value) if name.word not in is_set]
+            is_set = is_set | {statement.target.word}
+        elif isinstance(statement, If):
+            unset_reads += [name for arm in statement.arms for name in reads(arm.condition) if name.word not in is_set]
+            is_set = set.intersection(*[set_after(branch, is_set, unset_reads) for branch in statement.branches()])
+    return is_set
 
 
 def unset(procedure, word, place):
@@ -1007,6 +1115,12 @@ class MinusTerm:
 
 
 @dataclass(frozen=True, eq=False)
+class NotTerm:
+    """`not operand`, over a term."""
+    operand: object
+
+
+@dataclass(frozen=True, eq=False)
 class InfixTerm:
     """`left operator right`, over terms."""
     operator: str
@@ -1015,7 +1129,7 @@ class InfixTerm:
 
 
 number, truth, entry = cache(NumberTerm), cache(TruthTerm), cache(EntryTerm)
-minus, infix = cache(MinusTerm), cache(InfixTerm)
+minus, negation, infix = cache(MinusTerm), cache(NotTerm), cache(InfixTerm)
 
 
 @dataclass(frozen=True)
@@ -1090,25 +1204,74 @@ def overflow_checks(expression):
 
 def checks_of(statement):
     """The checks of an assignment, each with the expression that it is on: `overflow`, and then `range`."""
-    return [('overflow', part) for part in overflow_checks(statement.value)] + [('range', statement.value)]
+    return overflows(statement.value) + [('range', statement.value)]
+
+
+def overflows(expression):
+    """The checks of an expression."""
+    return [('overflow', part) for part in overflow_checks(expression)]
+
+
+class Walk:
+    """Goes along all paths of a procedure, and collects what there is to show, once for all paths that begin alike."""
+
+    def __init__(self):
+        self.found = []
+
+    def show(self, checks, facts, values):
+        """A condition for each check. What was shown is a fact from there on."""
+        for kind, checked in checks:
+            goals = integer_facts(term_of(checked, values))
+            self.found.append(Condition(len(self.found) + 1, kind, checked.place, facts, goals))
+            facts = with_facts(facts, goals)
+        return facts
+
+    def go(self, statements, facts, values):
+        """Along statements to the end. A target stands for its term after its assignment."""
+        for at, statement in enumerate(statements):
+            if isinstance(statement, If):
+                self.part(statement, statements[at + 1:], facts, values)
+                return
+            if isinstance(statement, Assignment):
+                facts = self.show(checks_of(statement), facts, values)
+                values = {**values, statement.target.word: term_of(statement.value, values)}
+
+    def part(self, tree, rest, facts, values):
+        """Each branch, and after it the rest: an arm where its condition holds and those before it do not."""
+        for arm in tree.arms:
+            facts = self.show(overflows(arm.condition), facts, values)
+            condition = term_of(arm.condition, values)
+            self.go(arm.statements + rest, with_facts(facts, (condition,)), values)
+            facts = with_facts(facts, (negation(condition),))
+        self.go(tree.otherwise + rest, facts, values)
 
 
 def conditions_of(procedure):
-    """What was shown is a fact from there on, and a target stands for its term after its assignment."""
-    facts, values, found = first_facts(procedure), entry_values(procedure), []
-    for statement in assignments(procedure.statements):
-        for kind, checked in checks_of(statement):
-            goals = integer_facts(term_of(checked, values))
-            found.append(Condition(len(found) + 1, kind, checked.place, facts, goals))
-            facts = with_facts(facts, goals)
-        values[statement.target.word] = term_of(statement.value, values)
+    """What there is to show along the paths of a procedure, in the order of the walk."""
+    walk = Walk()
+    walk.go(procedure.statements, first_facts(procedure), entry_values(procedure))
+    return walk.found
+
+
+def paths_of(statements):
+    """The number of ways from the first of the statements to their end."""
+    found = 1
+    for statement in statements:
+        if isinstance(statement, If):
+            found *= sum(paths_of(branch) for branch in statement.branches())
     return found
+
+
+def require_few_paths(procedure):
+    """No procedure has more paths than one may have."""
+    if paths_of(procedure.statements) > MOST_PATHS:
+        raise TooManyPaths
 
 
 @cache
 def size_of(term):
     """The nodes of a term, where one that stands twice counts twice. Each term is counted once."""
-    if isinstance(term, MinusTerm):
+    if isinstance(term, (MinusTerm, NotTerm)):
         return size_of(term.operand) + 1
     if isinstance(term, InfixTerm):
         return size_of(term.left) + size_of(term.right) + 1
@@ -1128,6 +1291,7 @@ def require_few_nodes(conditions):
 
 # ---------------------------------------------------------------- simplifier
 
+OPPOSITE = {'=': '/=', '/=': '=', '<': '>=', '<=': '>', '>': '<=', '>=': '<'}
 MIRRORED = {'<': '>', '<=': '>=', '>': '<', '>=': '<='}
 
 
@@ -1136,6 +1300,8 @@ def folded(term):
     """Operations on literals are computed, neutral ones dropped, comparisons of a term with itself decided."""
     if isinstance(term, MinusTerm):
         return folded_minus(folded(term.operand))
+    if isinstance(term, NotTerm):
+        return folded_not(folded(term.operand))
     if not isinstance(term, InfixTerm):
         return term
     left, right = folded(term.left), folded(term.right)
@@ -1167,6 +1333,17 @@ def folded_minus(operand):
     """The literal of a minus before a literal, where it has at most 128 bits."""
     fitting = isinstance(operand, NumberTerm) and fits(-operand.value)
     return number(-operand.value) if fitting else minus(operand)
+
+
+def folded_not(operand):
+    """`not` of a literal is computed, of a comparison it is the opposite one, and of another `not` what that is of."""
+    if isinstance(operand, TruthTerm):
+        return truth(not operand.value)
+    if isinstance(operand, NotTerm):
+        return operand.operand
+    if isinstance(operand, InfixTerm) and operand.operator in OPPOSITE:
+        return infix(OPPOSITE[operand.operator], operand.left, operand.right)
+    return negation(operand)
 
 
 def folded_and(left, right):
@@ -1321,12 +1498,18 @@ def program_of(text):
     return procedures
 
 
+def within_limits(procedure):
+    """The conditions of a procedure that passes no limit on paths, and then none on nodes."""
+    require_few_paths(procedure)
+    conditions = conditions_of(procedure)
+    require_few_nodes(conditions)
+    return conditions
+
+
 def examined(name, procedures):
     """The findings on the conditions, in their order, and a line for each procedure."""
     findings, rows = [], []
-    made = [(procedure.name.text, conditions_of(procedure)) for procedure in procedures]
-    for _, conditions in made:
-        require_few_nodes(conditions)
+    made = [(procedure.name.text, within_limits(procedure)) for procedure in procedures]
     for title, conditions in made:
         left = [condition for condition in conditions if not closes(condition)]
         findings += [Finding('V1', condition.place, f'unproved: {title}.{condition.number} {condition.kind}')
@@ -1359,5 +1542,7 @@ def examine(name, text):
         return Answer(f'limit: nesting, at most {MOST_LEVELS}\n', 6)
     except TooManyVariables:
         return Answer(f'limit: variables, at most {MOST_VARIABLES}\n', 6)
+    except TooManyPaths:
+        return Answer(f'limit: paths, at most {MOST_PATHS}\n', 6)
     except TooManyNodes:
         return Answer(f'limit: nodes, at most {MOST_NODES}\n', 6)

@@ -144,6 +144,22 @@ def too_many_variables(name, text):
     return Case(name, encoded(text), 'limit: variables, at most 4096\n', 6)
 
 
+def too_many_paths(name, text):
+    """A procedure has more than 4096 paths, and there is no finding on flow."""
+    return Case(name, encoded(text), 'limit: paths, at most 4096\n', 6)
+
+
+def open_in_order(name, text, total, *left):
+    """So many conditions of Inc. Each that is left is an overflow condition, by its number and the `@` at which it stands.
+
+    The `@`s count from 1. One may stand for several conditions, and they need not be in order.
+    """
+    marks, spelled_out = marked_places(encoded(text))
+    lines = [f'{name}:{marks[mark - 1][0]}:{marks[mark - 1][1]}: V1 unproved: Inc.{number} overflow' for number, mark in left]
+    row = f'Inc: {total} conditions, {total - len(left)} simplified, 0 scripted, {len(left)} open'
+    return reported(name, spelled_out, *lines, row, f'refused: {len(left)}')
+
+
 def reported(name, text, *lines):
     """The whole report, line by line."""
     return Case(name, encoded(text), ''.join(line + '\n' for line in lines), 0 if lines[-1] == 'accepted' else 1)
@@ -397,7 +413,39 @@ SKIP_TOKENS = (
     ('last_semicolon_without_formals', ';', '.'),
 )
 
-TOKEN_LISTS = (TOKENS, LOCAL_TOKENS, ATTRIBUTE_TOKENS, SKIP_TOKENS)
+# A text with an `if` that has all its parts.
+IF_TOKENS = (
+    *plain('procedure Lim ( A : in Integer ; X : in out Integer ) \n--# derives X from X , A ; \n is \n begin \n'),
+    ('if', 'if', 'while'),
+    ('left_of_a_condition', 'A', 'null'),
+    ('relation_of_a_condition', '<', ':='),
+    ('right_of_a_condition', '0', 'not'),
+    ('then', 'then', 'is'),
+    ('target_in_an_arm', 'X', '1'),
+    ('becomes_in_an_arm', ':=', '='),
+    ('value_in_an_arm', '0', 'then'),
+    ('semicolon_in_an_arm', ';', ','),
+    ('elsif', 'elsif', 'when'),
+    ('left_of_a_second_condition', 'A', 'if'),
+    ('relation_of_a_second_condition', '>', '=>'),
+    ('right_of_a_second_condition', '100', 'elsif'),
+    ('second_then', 'then', ';'),
+    ('target_in_a_second_arm', 'X', 'end'),
+    ('becomes_in_a_second_arm', ':=', ':'),
+    ('value_in_a_second_arm', '100', 'else'),
+    ('semicolon_in_a_second_arm', ';', 'then'),
+    ('else', 'else', 'or'),
+    ('target_after_else', 'X', 'elsif'),
+    ('becomes_after_else', ':=', '<='),
+    ('value_after_else', 'X', 'end'),
+    ('semicolon_after_else', ';', 'end'),
+    ('end_of_an_if', 'end', 'begin'),
+    ('if_after_end', 'if', 'loop'),
+    ('semicolon_of_an_if', ';', '.'),
+    *plain('\n end Lim ;'),
+)
+
+TOKEN_LISTS = (TOKENS, LOCAL_TOKENS, ATTRIBUTE_TOKENS, SKIP_TOKENS, IF_TOKENS)
 
 # What a text is without a token: which token after it is unexpected, if not the next one; or a finding, and the token
 # at which it stands; or that it is accepted.
@@ -406,6 +454,8 @@ MISSING = {'in': ('U8', 'import'), 'out': ('U8', 'export'), 'import': ('U8', 'ex
            'left_operand': ('F2 unused: X from X', 'export'), 'end_name': accepted,
            'begin': 2, 'end': 2, 'parenthesis_in_pre': 3, 'closing_parenthesis_in_pre': 3, 'parenthesis': 2,
            'parenthesis_of_a_sum': 4, 'parenthesis_that_closes_a_sum': 3,
+           # the condition begins as a target does; two statements in a row; another `if`
+           'if': 2, 'elsif': 2, 'else': lambda name, text: accepted(name, text, 3, named='Lim'), 'end_of_an_if': 2,
            # see `missing_signs`
            'sign': None, 'sign_in_pre': None, 'first_held_operand': None}
 # What a text is with a token doubled: which token after the second one is unexpected, if not that one.
@@ -941,6 +991,7 @@ def tokens():
     yield accepted('form_with_locals.adb', spelled(LOCAL_TOKENS), 5, named='Neg')
     yield refused('form_with_attributes.adb', spelled(ATTRIBUTE_TOKENS).replace('in Integer', 'in @Integer'), 'N3')
     yield accepted('form_without_formals.adb', spelled(SKIP_TOKENS), 0, named='Skip')
+    yield accepted('form_with_if.adb', spelled(IF_TOKENS), 3, named='Lim')
     for listed in TOKEN_LISTS:
         for at, (label, token, other) in enumerate(listed):
             if label:
@@ -1006,7 +1057,7 @@ def grammar():
     yield accepted('null_statement.adb', COPY.replace('X := X', 'null'), 0)
     yield unexpected('empty_statement.adb', COPY.replace('X := X;', ';'), at=(5, 4))
     yield unexpected('call.adb', COPY.replace('X := X', 'Inc (X)'), at=(5, 8))
-    yield unexpected('if_statement.adb', COPY.replace('X := X;', 'if X > 0 then X := X; end if;'), at=(5, 4))
+    yield accepted('if_statement.adb', COPY.replace('X := X;', 'if X > 0 then X := X; end if;'), 1)
     yield accepted('local_variable.adb', COPY.replace('is\n', 'is\n   Y : Integer;\n'), 1)
     yield refused('attribute_for_a_target.adb', procedure('X', target="@Integer'Last"), 'N3')
     yield unexpected('two_targets.adb', procedure('A', formals='A, B', target='A, B', derives='A, B from *'), at=(5, 5))
@@ -2069,7 +2120,8 @@ def examples():
         for text, report in examples_in(folder):
             name = text.relative_to(TOP).as_posix()
             printed = report.read_text(encoding='utf-8')
-            yield Case(name, text.read_bytes(), printed, 0 if printed.endswith('accepted\n') else 1)
+            status = 6 if printed.startswith('limit: ') else 0 if printed.endswith('accepted\n') else 1
+            yield Case(name, text.read_bytes(), printed, status)
 
 
 def examples_in(folder):
@@ -2078,10 +2130,17 @@ def examples_in(folder):
 
 
 def documented():
-    """The worked example of docs/language.md with each of its changes, and another one of examples/."""
+    """The worked examples of docs/language.md with their changes, and another one of examples/."""
     yield accepted('ex.adb',
                    longer('X, Y : in out Integer', 'X from Y & Y from X', 'T := X', 'X := Y', 'Y := T', declared=T,
                           name='Exchange'), 3, named='Exchange')
+    limit = ('procedure Limit (A : in Integer; X : out Integer)\n--# derives @X from A;\nis\nbegin\n   if A < 0 then\n'
+             '      X := 0;\n   elsif A > 100 then\n      X := 100;\n   else\n      X := A;\n   end if;\nend Limit;\n')
+    yield accepted('limit.adb', limit.replace('@', ''), 3, named='Limit')
+    yield refused('limit_without_else.adb', at_end(limit.replace('   else\n      X := A;\n', '')),
+                  'F1 missing: X from X', 'F4 unset: X')
+    yield refused('limit_with_an_arm_that_does_nothing.adb', at_end(limit.replace('X := 100', 'null')),
+                  'F1 missing: X from X', 'F4 unset: X')
     yield bad_number('inc_with_a_bad_number.adb', procedure('X + 1_0', pre=BELOW), at=(6, 13))
     yield unexpected('inc_with_a_product.adb', procedure('X * 1', pre=BELOW), at=(6, 11))
     yield unexpected('inc_without_end.adb', INC.replace('end Inc;\n', ''), at=(7, 1))
@@ -2668,6 +2727,507 @@ def numbers_of_variables():
     yield too_many_variables('twenty_doublings_and_locals_4097.adb', doublings(20) + many(4097, name='Same'))
 
 
+# ---------------------------------------------------------------- branches
+
+AB_TO_X = 'A, B : in Integer; X : out Integer'
+ABC_TO_X = 'A, B, C : in Integer; X : out Integer'
+AB_AND_XY = 'A, B : in Integer; X, Y : in out Integer'
+X_AND_Y = 'X : in Integer; Y : in out Integer'
+
+# A condition that is false, so that after `else` a step stays in Integer: which fact that is, the relation, the same the other
+# way round, its right side, and the step.
+OPPOSITES = (
+    ('at_least_0', '<', '>', '0', '- 1'),
+    ('at_least_100', '<', '>', '100', '- 1'),
+    ('above_0', '<=', '>=', '0', '- 1'),
+    ('at_most_0', '>', '<', '0', '+ 1'),
+    ('at_most_100', '>', '<', '100', '+ 1'),
+    ('below_0', '>=', '<=', '0', '+ 1'),
+    ('last', '/=', '/=', LAST, '- 1'),
+    ('first', '/=', '/=', FIRST, '+ 1'),
+)
+
+
+def conditional(*statements, pre=None):
+    """The text of a procedure with a formal X that is imported and exported."""
+    return longer(X, 'X from X', *statements, pre=pre)
+
+
+def branches():
+    """Procedures with `if` that keep all rules and flow as they say: a condition for each check on each way to it."""
+    yield accepted('greater_of_two.adb', longer(AB_TO_X, 'X from A, B', 'if A > B then X := A; else X := B; end if'), 2)
+    yield accepted('limited_to_a_range.adb',
+                   longer(A_TO_X, 'X from A', 'if A < 0 then X := 0; elsif A > 100 then X := 100; else X := A; end if'), 3)
+    yield accepted('limited_to_a_range_of_formals.adb',
+                   longer('Low, High, A : in Integer; X : out Integer', 'X from Low, High, A',
+                          'if A < Low then X := Low; elsif A > High then X := High; else X := A; end if'), 3)
+    yield accepted('limited_by_an_if_after_else.adb',
+                   longer(A_TO_X, 'X from A',
+                          'if A < 0 then X := 0; else if A > 100 then X := 100; else X := A; end if; end if'), 3)
+    yield accepted('sign_of_a_number.adb',
+                   longer(A_TO_X, 'X from A', 'if A > 0 then X := 1; elsif A < 0 then X := -1; else X := 0; end if'), 3)
+    yield accepted('two_in_order.adb',
+                   longer('X, Y : in out Integer', 'X, Y from X, Y', 'if X > Y then T := X; X := Y; Y := T; end if',
+                          declared=T), 3)
+    # X := A; X := B; and X := C after each of two ways
+    yield accepted('greatest_of_three.adb',
+                   longer(ABC_TO_X, 'X from A, B, C', 'X := A', 'if B > X then X := B; end if',
+                          'if C > X then X := C; end if'), 4)
+    yield accepted('greatest_of_three_by_nested_ifs.adb',
+                   longer(ABC_TO_X, 'X from A, B, C',
+                          'if A > B then if A > C then X := A; else X := C; end if; '
+                          'elsif B > C then X := B; else X := C; end if'), 4)
+    yield accepted('counter_that_starts_again.adb',
+                   conditional("if X < Integer'Last then X := X + 1; else X := Integer'First; end if"), 3)
+    yield accepted('count_with_a_condition.adb', conditional('if X < 100 then X := X + 1; end if'))
+    yield unproved('count_without_a_condition.adb', conditional('X := X @+ 1'))
+    yield accepted('absolute_value.adb',
+                   longer(A_TO_X, 'X from A', 'if A < 0 then X := -A; else X := A; end if', pre="A > Integer'First"), 3)
+    yield examined('absolute_value_without_precondition.adb',
+                   longer(A_TO_X, 'X from A', 'if A < 0 then X := @-A; else X := A; end if'), ('Inc', 3, 1))
+    # Last - A; X := Last; A + B and X := A + B; X := 0. That A + B is at most Last is known of no variable.
+    yield examined('sum_that_stops_at_last.adb',
+                   longer(AB_TO_X, 'X from A, B',
+                          "if A > 0 then if B > Integer'Last - A then X := Integer'Last; else X := A @+ B; end if; "
+                          'else X := 0; end if'), ('Inc', 5, 3))
+    yield accepted('arms_with_null.adb', conditional('if X > 0 then null; X := X; null; else null; end if'), 1)
+    yield accepted('condition_in_parentheses.adb', conditional('if ((X < 100)) then X := X + 1; end if'))
+    yield accepted('words_of_an_if_in_other_cases.adb',
+                   longer(A_TO_X, 'X from A', 'IF A < 0 THEN X := 0; Elsif A > 9 Then X := 9; eLSE X := A; END iF'), 3)
+    yield accepted('if_on_several_lines.adb', conditional('if\n X\n<\n100 -- so far\nthen X := X + 1;\nend -- of\n\nif\n'))
+    yield examined('two_procedures_with_if.adb',
+                   conditional('if X < 100 then X := X + 1; end if')
+                   + longer(A_TO_X, 'X from A', 'if A < 0 then X := 0; else X := A @+ 1; end if', name='Dec'),
+                   ('Inc', 2), ('Dec', 3, 2))
+
+
+def facts_of_arms():
+    """A condition is a fact in its arm, and its opposite is one after it."""
+    yield accepted('bound_for_each_arm.adb', conditional('if X < 100 then X := X + 1; else X := X - 1; end if'), 4)
+    yield examined('no_bound_in_the_arm.adb',
+                   conditional('if X >= 0 then X := X @+ 1; else X := X + 1; end if'), ('Inc', 4, 1))
+    yield examined('no_bound_after_else.adb',
+                   conditional('if X < 0 then X := X + 1; else X := X @+ 1; end if'), ('Inc', 4, 3))
+    yield examined('no_bound_in_each_arm.adb',
+                   conditional('if X >= 0 then X := X @+ 1; else X := X @- 1; end if'), ('Inc', 4, 1, 3))
+    for label, relation, mirrored, value, step in OPPOSITES:
+        yield accepted(f'else_where_{label}.adb',
+                       conditional(f'if X {relation} {value} then null; else X := X {step}; end if'))
+        yield accepted(f'else_where_{label}_mirrored.adb',
+                       conditional(f'if {value} {mirrored} X then null; else X := X {step}; end if'))
+    yield examined('not_equal_is_no_bound_after_else.adb',
+                   conditional(f'if X = {LAST} then null; else X := X @+ 1; end if'), ('Inc', 2, 1))
+    yield accepted('equal_is_a_bound_in_the_arm.adb', conditional('if X = 5 then X := X + 1; end if'))
+    # X < 0, X in 0 .. 99, X >= 100
+    yield examined('elsif_has_the_opposite_of_the_first.adb',
+                   conditional('if X < 0 then X := X + 1; elsif X < 100 then X := X - 1; else X := X @+ 1; end if'),
+                   ('Inc', 6, 5))
+    yield accepted('else_has_the_opposites_of_all.adb',
+                   conditional('if X > 100 then X := 100; elsif X < -100 then X := 0; elsif X = 0 then null; '
+                               'else X := X + 1; X := X - 2; end if'), 6)
+    yield accepted('facts_of_an_arm_in_a_nested_one.adb',
+                   conditional('if X > 0 then if X < 100 then X := X + 1; X := X - 3; else X := X - 3; end if; end if'), 6)
+    # Y := 1, 1 + X, Y := 1 + X where X < 100; Y := 2, 2 + X, Y := 2 + X where X >= 100
+    yield examined('facts_of_an_arm_after_the_if.adb',
+                   longer('X : in Integer; Y : out Integer', 'Y from X', 'if X < 100 then Y := 1; else Y := 2; end if',
+                          'Y := Y @+ X'), ('Inc', 6, 5))
+
+
+def static_conditions():
+    """A static condition is a literal, and after a false fact everything is proved."""
+    yield accepted('arm_that_is_never_run.adb', conditional('if 1 > 2 then X := X + 1; end if'))
+    yield accepted('else_that_is_never_run.adb', conditional('if 1 < 2 then null; else X := X + 1; end if'))
+    yield examined('arm_that_is_always_run.adb', conditional('if 1 < 2 then X := X @+ 1; end if'), ('Inc', 2, 1))
+    yield examined('else_that_is_always_run.adb',
+                   conditional('if 2 < 1 then null; else X := X @+ 1; end if'), ('Inc', 2, 1))
+    yield accepted('arm_after_one_that_is_always_run.adb',
+                   conditional("if Integer'First < 0 then null; elsif X > 0 then X := X + 1; else X := X - 1; end if"), 4)
+    # X := 0, 0 + 1, X := 0 + 1 where the condition is true; X + 1 and X := X + 1 where it is false
+    yield examined('after_an_arm_that_is_never_run.adb',
+                   conditional('if 1 > 2 then X := 0; end if', 'X := X @+ 1'), ('Inc', 5, 4))
+    yield accepted('after_an_arm_that_is_always_run.adb', conditional('if 1 < 2 then X := 0; end if', 'X := X + 1'), 5)
+    yield accepted('arm_of_a_number_unequal_to_itself.adb', conditional('if X /= X then X := X + 1; end if'))
+    yield accepted('else_of_a_number_equal_to_itself.adb', conditional('if X = X then null; else X := X + 1; end if'))
+    yield accepted('wide_static_condition.adb', conditional(f'if {WIDEST} - 1 < 0 then X := X + 1; end if'))
+    yield refused('static_condition_out_of_range.adb', conditional("if Integer'Last @+ 1 > 0 then X := 0; end if"), 'N12')
+
+
+def checks_of_conditions():
+    """The checks of a condition come before it, and what they show is a fact after it too."""
+    yield examined('sum_in_a_condition.adb', conditional('if X @+ 1 > 0 then X := 0; end if'), ('Inc', 2, 1))
+    yield accepted('sum_in_a_condition_with_precondition.adb', conditional('if X + 1 > 0 then X := 0; end if', pre=BELOW))
+    yield accepted('sum_of_a_condition_again.adb',
+                   conditional('if X + 1 <= 100 then X := X + 1; else X := X + 1; end if', pre=BELOW), 5)
+    # the first condition is left, and what it was to show is known in each arm
+    yield examined('sum_of_a_condition_again_without_precondition.adb',
+                   conditional('if X @+ 1 <= 100 then X := X + 1; else X := X + 1; end if'), ('Inc', 5, 1))
+    yield examined('sign_in_a_condition.adb', conditional('if @-X > 5 then X := 0; end if'), ('Inc', 2, 1))
+    yield examined('several_sums_in_a_condition.adb',
+                   conditional('if X @+ 1 > (X @- 1) then X := 0; end if'), ('Inc', 3, 1, 2))
+    # X := 0 in the first arm; then X - 1 where X <= 0
+    yield examined('sum_in_the_condition_of_elsif.adb',
+                   conditional('if X > 0 then X := 0; elsif X @- 1 < 0 then X := 1; end if'), ('Inc', 3, 2))
+    yield accepted('sum_in_the_condition_of_elsif_that_is_bounded.adb',
+                   conditional('if X > 0 then X := 0; elsif X + 1 < 0 then X := 1; end if'), 3)
+    yield examined('sum_in_the_condition_of_a_nested_if.adb',
+                   conditional('if X > 0 then if X @+ 1 > 5 then X := 0; end if; elsif X + 1 > 0 then X := 1; end if'),
+                   ('Inc', 4, 1))
+
+
+def order_of_conditions():
+    """What follows an `if` is walked after each arm, the first arm first; and each check is one condition for what begins alike."""
+    # A > 0: X + 1, X := X + 1; A < 0 after that: X + 1 - 1, X := X + 1 - 1; A <= 0 and A < 0: X - 1, X := X - 1
+    yield open_in_order('two_ifs.adb',
+                        longer(A_AND_X, 'X from X, A', 'if A > 0 then X := X @+ 1; end if',
+                               'if A < 0 then X := X @- 1; end if'), 6, (1, 1), (5, 2))
+    # the last statement comes first, in the walk of the arm that does nothing
+    yield open_in_order('statement_after_an_if.adb',
+                        conditional('if X > 0 then null; else X := X @- 1; end if', 'X := X @+ 5'), 6, (1, 2), (3, 1))
+    yield open_in_order('statement_after_an_if_left_twice.adb',
+                        longer(A_AND_X, 'X from X, A', 'if A > 0 then null; else X := X @+ 1; end if', 'X := X @+ 5'),
+                        6, (1, 2), (3, 1), (5, 2))
+    yield open_in_order('statement_before_an_if_once.adb',
+                        longer(A_AND_X, 'X from X, A', 'X := X @+ 1', 'if A > 0 then X := X @+ 1; end if', 'X := X @- 5'),
+                        8, (1, 1), (3, 2), (5, 3), (7, 3))
+    yield open_in_order('condition_of_a_second_if.adb',
+                        longer(A_AND_X, 'X from X, A', 'if A > 0 then X := 1; end if', 'if X @+ 1 > A then X := 0; end if'),
+                        # X := 1, 1 + 1, X := 0; X + 1, X := 0
+                        5, (4, 1))
+    yield open_in_order('statement_after_three_arms.adb',
+                        longer(AB_AND_XY, 'X from X, A, B & Y from Y, X, A, B',
+                               'if A > 0 then null; elsif B > 0 then X := 0; else X := 5; end if', 'Y := Y @+ X'),
+                        # Y + X, Y := Y + X; X := 0, Y + 0, ..; X := 5, Y + 5, ..
+                        8, (1, 1), (7, 1))
+    yield open_in_order('statement_after_an_inner_if.adb',
+                        longer(A_AND_X, 'X from X, A',
+                               'if A > 0 then if A > 5 then X := 1; end if; X := X @+ 2; end if', 'X := X @- 3'),
+                        # X := 1, 1 + 2, .., 1 + 2 - 3, ..; X + 2, .., X + 2 - 3, ..; X - 3, ..
+                        11, (6, 1), (8, 2), (10, 2))
+
+
+def flow_of_branches():
+    """A condition comes to all that its arms set; without `else` what was there before comes too."""
+    yield refused('condition_that_is_not_declared.adb',
+                  longer(A_TO_XY, '@X from & Y from A', 'Y := A', 'if A > 0 then X := 1; else X := 0; end if'),
+                  'F1 missing: X from A')
+    yield refused('condition_of_elsif_that_is_not_declared.adb',
+                  longer('A, B : in Integer; X, Y : out Integer', '@X from A & Y from B', 'Y := B',
+                         'if A > 0 then X := 1; elsif B > 0 then X := 2; else X := 3; end if'), 'F1 missing: X from B')
+    yield refused('first_condition_comes_to_the_arm_of_elsif.adb',
+                  longer(AB_AND_XY, '@X from X, B & Y from Y, A',
+                         'if A > 0 then Y := 1; elsif B > 0 then X := 1; end if'), 'F1 missing: X from A')
+    yield accepted('condition_of_elsif_comes_to_no_arm_before_it.adb',
+                   longer(AB_AND_XY, 'X from X, A, B & Y from Y, A',
+                          'if A > 0 then Y := 1; elsif B > 0 then X := 1; end if'))
+    yield refused('condition_of_elsif_is_declared_for_an_arm_before_it.adb',
+                  longer(AB_AND_XY, 'X from X, A, B & @Y from Y, A, B',
+                         'if A > 0 then Y := 1; elsif B > 0 then X := 1; end if'), 'F2 unused: Y from B')
+    yield refused('condition_comes_to_nothing_after_the_if.adb',
+                  longer(A_TO_XY, 'X from A & @Y from A', 'if A > 0 then X := 1; else X := 2; end if', 'Y := 3'),
+                  'F2 unused: Y from A')
+    yield accepted('condition_comes_on_through_what_an_arm_sets.adb',
+                   longer(A_TO_X, 'X from A', 'T := 0', 'if A > 0 then T := 1; end if', 'X := T', declared=T), 4)
+    yield accepted('condition_of_an_outer_if_comes_to_an_inner_arm.adb',
+                   longer(AB_AND_XY, 'X from X, A, B & Y from Y',
+                          'if A > 0 then null; if B > 0 then X := 1; end if; null; end if'), 1)
+    yield refused('condition_of_an_inner_if_is_not_declared.adb',
+                  longer(AB_AND_XY, '@X from X, A & Y from Y, B', 'if B > 0 then Y := 1; end if',
+                         'if A > 0 then if B > 0 then X := 1; end if; end if'), 'F1 missing: X from B')
+    yield refused('static_condition_brings_no_flow.adb',
+                  longer(A_TO_X, '@X from A', 'if 1 < 2 then X := 1; else X := 0; end if'), 'F2 unused: X from A')
+    yield refused('value_kept_where_there_is_no_else.adb',
+                  longer(A_X_TO_Y, '@X from A & Y from X', 'Y := X', 'if A > 0 then X := 1; end if'),
+                  'F1 missing: X from X')
+    yield refused('value_not_kept_where_each_arm_sets_it.adb',
+                  longer(A_AND_X, '@X from A, X', 'if A > 0 then X := 1; else X := A; end if'), 'F2 unused: X from X')
+    yield accepted('value_kept_where_one_arm_does_nothing.adb',
+                   longer(A_AND_X, 'X from A, X', 'if A > 0 then X := 1; else null; end if'), 1)
+    yield refused('flow_of_each_arm.adb',
+                  longer('A, B, C : in Integer; X, Y : out Integer', '@X from A & Y from B, C', 'Y := B + C',
+                         'if 0 < 1 then X := A; else X := B; end if'), 'F1 missing: X from B')
+
+
+def ineffective_branches():
+    """A condition that decides nothing is ineffective, at its word; and so is a value that is lost in all arms."""
+    yield refused('condition_that_decides_nothing.adb',
+                  longer(A_TO_X, 'X from A', '@if A > 0 then null; end if', 'X := A'), 'F3')
+    yield refused('condition_of_elsif_that_decides_nothing.adb',
+                  longer(A_AND_X, 'X from X, A', 'if A > 0 then X := 1; @elsif A < 0 then null; end if'), 'F3')
+    yield refused('conditions_that_decide_nothing.adb',
+                  longer(A_AND_X, 'X from X, A',
+                         '@if A > 0 then null; @elsif A < 0 then null; @elsif A = 0 then null; else null; end if',
+                         'X := X - A'), 'F3', 'F3', 'F3')
+    yield accepted('condition_that_decides_only_by_elsif.adb',
+                   longer(A_AND_X, 'X from X, A', 'if A > 0 then null; elsif A < 0 then X := 1; end if'), 1)
+    yield accepted('condition_that_decides_only_by_else.adb',
+                   longer(A_AND_X, 'X from X, A', 'if A > 0 then null; else X := 1; end if'), 1)
+    yield refused('static_condition_that_decides_nothing.adb',
+                  longer(A_TO_X, 'X from A', '@if 1 < 2 then null; end if', 'X := A'), 'F3')
+    yield refused('condition_over_lost_values.adb',
+                  longer(A_TO_X, 'X from A', '@if A > 0 then @T := 1; end if', 'X := A', declared=T), 'F3', 'F3')
+    yield refused('condition_over_values_that_are_overwritten.adb',
+                  longer(A_TO_X, 'X from A', '@if A > 0 then @X := 1; else @X := 2; end if', 'X := A'), 'F3', 'F3', 'F3')
+    yield refused('inner_condition_that_decides_nothing.adb',
+                  longer(A_AND_X, 'X from X, A', 'if A > 0 then X := 1; @if A > 5 then null; end if; end if'), 'F3')
+    yield refused('conditions_of_nested_ifs_that_decide_nothing.adb',
+                  longer(A_TO_X, 'X from A', '@if A > 0 then @if A > 5 then null; end if; end if', 'X := A'), 'F3', 'F3')
+    yield refused('value_overwritten_in_both_arms.adb',
+                  longer(A_TO_X, 'X from A', '@X := 1', 'if A > 0 then X := 2; else X := A; end if'), 'F3')
+    yield refused('value_overwritten_in_three_arms.adb',
+                  longer(A_TO_X, 'X from A', '@X := 1',
+                         'if A > 0 then X := 2; elsif A < 0 then X := 3; else X := A; end if'), 'F3')
+    yield accepted('value_overwritten_in_one_arm.adb',
+                   longer(A_TO_X, 'X from A', 'X := 1', 'if A > 0 then X := A; end if'))
+    yield accepted('value_read_by_a_condition.adb',
+                   longer(A_TO_X, 'X from A', 'T := A', 'if T > 0 then X := 2; else X := 0; end if', declared=T), 3)
+    yield refused('value_read_by_a_condition_that_decides_nothing.adb',
+                  longer(A_TO_X, 'X from A', '@T := A', '@if T > 0 then null; end if', 'X := A', declared=T), 'F3', 'F3')
+    yield accepted('value_read_in_one_arm.adb',
+                   longer(A_TO_X, 'X from A', 'T := A', 'if A > 0 then X := T; else X := 0; end if', declared=T), 3)
+    yield refused('value_lost_inside_an_arm.adb',
+                  longer(A_AND_X, 'X from X, A', 'if A > 0 then @X := 1; X := A; end if'), 'F3')
+
+
+def unset_in_branches():
+    """After an `if` a variable is set where each way through it sets it."""
+    yield refused('export_set_in_one_arm.adb',
+                  at_end(longer(A_TO_X, '@X from A', 'if A > 0 then X := A; end if')),
+                  'F1 missing: X from X', 'F4 unset: X')
+    yield refused('export_set_in_all_arms_but_one.adb',
+                  at_end(longer(A_TO_X, '@X from A', 'if A > 9 then X := A; elsif A > 0 then null; else X := 0; end if')),
+                  'F1 missing: X from X', 'F4 unset: X')
+    yield refused('local_set_in_one_arm.adb',
+                  longer(A_TO_X, 'X from A', 'if A > 0 then T := A; end if', 'X := @T', declared=T), 'F4 unset: T')
+    yield refused('local_set_after_else_only.adb',
+                  longer(A_TO_X, 'X from A', 'if A > 0 then null; else T := A; end if', 'X := @T', declared=T), 'F4 unset: T')
+    yield accepted('local_set_in_both_arms.adb',
+                   longer(A_TO_X, 'X from A', 'if A > 0 then T := A; else T := 0; end if', 'X := T', declared=T), 4)
+    yield accepted('local_set_in_three_arms.adb',
+                   longer(A_TO_X, 'X from A', 'if A > 0 then T := 1; elsif A < 0 then T := 2; else T := A; end if', 'X := T',
+                          declared=T), 6)
+    yield refused('local_set_in_two_arms_without_else.adb',
+                  longer(A_TO_X, 'X from A', 'if A > 0 then T := 1; elsif A <= 0 then T := 2; end if', 'X := @T', declared=T),
+                  'F4 unset: T')
+    # the value of a condition does not count
+    yield refused('local_set_in_an_arm_that_is_always_run.adb',
+                  longer(A_TO_X, 'X from A', 'if 1 < 2 then T := A; end if', 'X := @T', declared=T), 'F4 unset: T')
+    yield refused('local_set_and_read_under_one_condition.adb',
+                  longer(A_TO_X, 'X from A', 'X := 0', 'if A > 0 then T := A; end if', 'if A > 0 then X := @T; end if',
+                         declared=T), 'F4 unset: T')
+    yield refused('local_set_in_an_inner_arm.adb',
+                  longer(A_TO_X, 'X from A', 'if A > 0 then if A > 5 then T := 1; end if; else T := A; end if', 'X := @T',
+                         declared=T), 'F4 unset: T')
+    yield accepted('local_set_and_read_in_an_arm.adb',
+                   longer(A_TO_X, 'X from A', 'if A > 0 then T := A; X := T; else X := 0; end if', declared=T), 3)
+    yield refused('local_set_in_an_arm_and_read_in_another.adb',
+                  longer(A_TO_X, 'X from A', 'if A > 0 then T := A; X := T; else X := @T; end if', declared=T), 'F4 unset: T')
+    yield refused('unset_in_a_condition.adb',
+                  longer(A_TO_X, 'X from A', 'if @T > 0 then X := A; else X := 0; end if', declared=T), 'F4 unset: T')
+    yield refused('unset_in_the_condition_of_elsif.adb',
+                  longer(A_TO_X, 'X from A', 'if A > 0 then T := 1; X := T; elsif A > @T then X := 1; else X := 0; end if',
+                         declared=T), 'F4 unset: T')
+    yield refused('unset_in_a_condition_and_in_each_arm.adb',
+                  longer(A_TO_X, 'X from A', 'if A > @T then X := @T; else X := @T + @T; end if', declared=T),
+                  *['F4 unset: T'] * 4)
+    yield refused('unset_and_ineffective_condition.adb',
+                  longer(A_TO_X, 'X from A', '@if @T > 0 then null; end if', 'X := A', declared=T), 'F3', 'F4 unset: T')
+
+
+def rules_of_branches():
+    """The rules on names, types and variables, in the order of the text."""
+    yield refused('undeclared_in_a_condition.adb', conditional('if @Z > 0 then Y := 1; end if'), 'N1')
+    yield refused('undeclared_in_an_arm.adb', conditional('if X > 0 then @Y := 1; elsif Z > 0 then null; end if'), 'N1')
+    yield refused('undeclared_in_the_condition_of_elsif.adb',
+                  conditional('if X > 0 then null; elsif X > @Z then Y := 0; else Y := 1; end if'), 'N1')
+    yield refused('undeclared_after_else.adb', conditional('if X > 0 then null; else X := @Y; end if', 'X := Z'), 'N1')
+    yield refused('undeclared_after_an_if.adb', conditional('if X > 0 then X := 1; end if', 'X := @Z'), 'N1')
+    yield refused('undeclared_before_an_if.adb', conditional('X := @Z', 'if X then X := 1; end if'), 'N1')
+    yield refused('procedure_in_a_condition.adb', conditional('if @Inc > 0 then X := 1; end if'), 'N3')
+    yield refused('condition_that_is_a_variable.adb', conditional('if @X then Y := 1; end if'), 'N10')
+    yield refused('condition_that_is_a_number.adb', conditional('if @1 then X := 1; end if'), 'N10')
+    yield refused('condition_that_is_an_attribute.adb', conditional("if @Integer'First then X := 1; end if"), 'N10')
+    yield refused('condition_that_is_a_sum.adb', conditional('if X @+ 1 then X := 1; end if'), 'N10')
+    yield refused('condition_that_is_a_sign.adb', conditional('if @-X then X := 1; end if'), 'N10')
+    yield refused('condition_that_is_a_variable_in_parentheses.adb', conditional('if @(X) then X := 1; end if'), 'N10')
+    yield refused('condition_of_elsif_that_is_a_variable.adb',
+                  conditional('if X > 0 then X := 1; elsif @X then Y := 1; end if'), 'N10')
+    yield refused('condition_that_compares_conditions.adb', conditional('if (X = 0) @= (X = 1) then X := 1; end if'), 'N10')
+    yield refused('wide_number_in_a_condition.adb', conditional('if X < @2147483648 then X := 1; end if'), 'N12')
+    yield refused('comparison_assigned_in_an_arm.adb', conditional('if X < 5 then X := X @< 5; end if'), 'N10')
+    yield refused('wide_number_assigned_after_else.adb',
+                  conditional('if X < 5 then X := 0; else X := @2147483648; end if'), 'N12')
+    yield refused('end_name_after_an_if.adb',
+                  conditional('if X < 5 then X := 0; end if').replace('end Inc', 'end @Dec'), 'N5')
+    yield refused('target_of_mode_in_in_an_arm.adb',
+                  longer(A_TO_X, 'X from A', 'if A > 0 then X := 1; @A := 2; else A := 3; end if'), 'U2')
+    yield refused('target_of_mode_in_in_the_arm_of_elsif.adb',
+                  longer(A_TO_X, 'X from A', 'if A > 0 then X := 1; elsif A < 0 then @A := 2; end if'), 'U2')
+    yield refused('target_of_mode_in_after_else.adb',
+                  longer(A_TO_X, 'X from A', 'if A > 0 then X := 1; else if A < 0 then null; else @A := 0; end if; end if',
+                         'A := 5'), 'U2')
+    yield refused('target_of_mode_in_before_an_if.adb',
+                  longer(A_TO_X, 'X from A', '@A := 5', 'if A > 0 then A := 1; end if'), 'U2')
+    yield refused('undeclared_after_a_target_of_mode_in.adb',
+                  longer(A_TO_X, 'X from A', 'if A > 0 then A := 1; X := 0; else X := @Y; end if'), 'N1')
+    yield refused('relation_before_a_target_in_an_arm.adb',
+                  at_derives(longer(A_TO_X, 'X from', 'if A > 0 then A := 1; end if')), 'U7')
+
+
+def syntax_of_branches():
+    """Texts near to an `if`. Its parts without a token, with one twice, and with another are among `tokens`."""
+    yield unexpected('arm_without_statements.adb', conditional('if X < 0 then @end if'))
+    yield unexpected('arm_without_statements_before_elsif.adb', conditional('if X < 0 then @elsif X > 1 then null; end if'))
+    yield unexpected('arm_without_statements_before_else.adb', conditional('if X < 0 then @else null; end if'))
+    yield unexpected('else_without_statements.adb', conditional('if X < 0 then null; else @end if'))
+    yield unexpected('two_else.adb', conditional('if X < 0 then null; else null; @else null; end if'))
+    yield unexpected('elsif_after_else.adb', conditional('if X < 0 then null; else null; @elsif X > 0 then null; end if'))
+    yield unexpected('elsif_without_if.adb', conditional('null', '@elsif X > 0 then null'))
+    yield unexpected('else_without_if.adb', conditional('null', '@else null'))
+    yield unexpected('end_if_without_if.adb', conditional('null', 'end @if'))
+    yield unexpected('elseif_in_one_word.adb', conditional('if X < 0 then null; elseif @X > 0 then null; end if'))
+    yield unexpected('endif_in_one_word.adb', conditional('if X < 0 then null; endif@'))
+    yield unexpected('else_if_with_one_end.adb',
+                     conditional('if X < 0 then null; else if X > 0 then null; end if').replace('end Inc', 'end @Inc'))
+    yield unexpected('if_without_end.adb', conditional('if X < 0 then null').replace('end Inc', 'end @Inc'))
+    yield unexpected('if_that_ends_with_a_name.adb', conditional('if X < 0 then null; end @Inc'))
+    yield unexpected('name_after_end_if.adb', conditional('if X < 0 then null; end if @X'))
+    yield unexpected('condition_with_two_relations.adb', conditional('if X < 0 @= 1 then null; end if'))
+    yield unexpected('condition_with_and.adb', conditional('if X < 0 @and X > -5 then null; end if'))
+    yield unexpected('condition_with_not.adb', conditional('if @not X < 0 then null; end if'))
+    yield unexpected('condition_with_a_semicolon.adb', conditional('if X < 0@; then null; end if'))
+    yield unexpected('assignment_for_a_condition.adb', conditional('if X @:= 0 then null; end if'))
+    yield unexpected('if_in_an_expression.adb', conditional('X := @if X < 0 then 1 else 2'))
+    yield unexpected('if_among_declarations.adb', INC.replace('is\n', 'is\n@if X < 0 then null; end if;\n'))
+    yield unexpected('if_for_a_local.adb', INC.replace('is\n', 'is\n@if : Integer;\n'))
+    yield unexpected('elsif_for_a_formal.adb', longer('@elsif : in out Integer', 'X from X', 'null'))
+    yield unexpected('marked_if.adb', conditional('null;\n--# @if X < 0\nthen null; end if'))
+    yield unexpected('marked_then.adb', conditional('if X < 0 --# @then\nnull; end if'))
+    yield unexpected('marked_condition.adb', conditional('if --# @X < 0\nthen null; end if'))
+    yield unexpected('marked_end_if.adb', conditional('if X < 0 then null; --# @end if'))
+    yield unexpected('pre_in_an_arm.adb', conditional('if X < 0 then\n--# @pre X < 0;\nnull; end if'))
+    yield unexpected('case_in_an_arm.adb', conditional('if X < 0 then @case X is when 1 => null; end case; end if'))
+
+
+def nested_ifs(count, condition='X > 0', innermost=None, statement='X := 0'):
+    """So many `if`s, each in the one before, with this condition; the innermost one may have another, and holds the statement."""
+    outer = f'if {condition} then ' * (count - 1)
+    return f'{outer}if {innermost or condition} then {statement}' + '; end if' * count
+
+
+def levels_of_branches():
+    """An `if` opens one level over its conditions and its statements; `elsif` and `else` open none."""
+    yield accepted('nested_ifs_199.adb', conditional(nested_ifs(199)), 1)
+    yield accepted('nested_ifs_199_and_a_sum.adb', conditional(nested_ifs(199, statement='X := X + 0')))
+    yield too_nested('nested_ifs_199_and_a_sum_of_two_levels.adb', conditional(nested_ifs(199, statement='X := X + 0 + 0')))
+    yield too_nested('nested_ifs_200_and_a_relation.adb', conditional(nested_ifs(200)))
+    yield refused('nested_ifs_200.adb', conditional('if @X then ' + nested_ifs(199, 'X') + '; end if'), 'N10')
+    yield refused('nested_ifs_200_and_one_relation_less.adb', conditional(nested_ifs(200, innermost='@X')), 'N10')
+    yield too_nested('nested_ifs_201.adb', conditional(nested_ifs(201, 'X')))
+    yield too_nested('nested_ifs_200_and_a_sum.adb', conditional(nested_ifs(200, 'X', statement='X := X + 0')))
+    yield too_nested('nested_ifs_200_and_parentheses.adb', conditional(nested_ifs(200, 'X', statement='X := (X)')))
+    yield too_nested('nested_ifs_200_and_parentheses_in_a_condition.adb', conditional(nested_ifs(200, 'X', '(X)')))
+    yield too_nested('nested_ifs_200_and_a_sign_in_a_condition.adb', conditional(nested_ifs(200, 'X', '-X')))
+    yield accepted('nested_ifs_in_elsif.adb',
+                   conditional('if X < 0 then null; elsif X > 9 then ' + nested_ifs(198) + '; end if'), 1)
+    yield accepted('nested_ifs_after_else.adb', conditional('if X < 0 then null; else ' + nested_ifs(198) + '; end if'), 1)
+    yield too_nested('nested_ifs_in_elsif_and_a_relation.adb',
+                     conditional('if X < 0 then null; elsif X > 9 then ' + nested_ifs(199) + '; end if'))
+    yield too_nested('relation_of_elsif_in_nested_ifs_200.adb',
+                     conditional(nested_ifs(200, 'X', statement='null; elsif X > 0 then null')))
+    yield accepted('else_if_199.adb', conditional('if X > 0 then X := 1; else ' * 199 + 'null' + '; end if' * 199), 199)
+    yield too_nested('else_if_200.adb', conditional('if X > 0 then X := 1; else ' * 200 + 'null' + '; end if' * 200))
+    yield accepted('elsif_300.adb', conditional('if X = 0 then null; ' + 'elsif X > 0 then X := 1; ' * 300 + 'end if'), 300)
+    yield accepted('ifs_in_a_row_do_not_nest.adb',
+                   conditional('if X > 0 then ' + 'if X > 0 then null; X := 1; end if; ' * 3 + 'end if'), 7)
+    # the `if` and the relation, and 198 levels in it
+    yield accepted('condition_of_199_levels.adb', conditional(f'if {"(" * 198}X{")" * 198} > 0 then X := 0; end if'), 1)
+    yield too_nested('condition_of_200_levels.adb', conditional(f'if {"(" * 199}X{")" * 199} > 0 then X := 0; end if'))
+    yield accepted('condition_with_a_sum_of_198_levels.adb', conditional(f'if X{" + 0" * 198} > 0 then X := 0; end if'), 199)
+    yield too_nested('condition_with_a_sum_of_199_levels.adb', conditional(f'if X{" + 0" * 199} > 0 then X := 0; end if'))
+    # whichever comes first in the text
+    yield unexpected('token_before_nested_ifs_201.adb', conditional('null; @else', nested_ifs(201, 'X')))
+    yield too_nested('nested_ifs_201_before_a_token.adb', conditional(nested_ifs(201, 'X'), 'else'))
+    yield unexpected('if_in_an_expression_in_nested_ifs_200.adb', conditional(nested_ifs(200, 'X', statement='X := @if X')))
+    yield bad_byte('bad_byte_after_nested_ifs_201.adb', conditional(nested_ifs(201, 'X'), '@?'))
+
+
+def ifs(count, condition='X > 0'):
+    """So many `if`s in a row, each with an arm that sets Y."""
+    return [f'if {condition} then Y := 1; end if'] * count
+
+
+def with_ifs(*statements, name='Inc'):
+    """The text of a procedure with an import X and an import and export Y, which comes from both."""
+    return longer(X_AND_Y, 'Y from Y, X', *statements, name=name)
+
+
+def numbers_of_paths():
+    """Procedures with 4096 paths and more, and where the limit comes among the other answers.
+
+    Of n `if`s in a row with one arm, which sets a variable, the last one is met on 2 ** (n - 1) ways, and all have 2 ** n - 1
+    conditions.
+    """
+    thirteen = with_ifs(*ifs(13), name='Same')
+    yield accepted('ifs_12.adb', with_ifs(*ifs(12)), 4095)
+    yield too_many_paths('ifs_13.adb', with_ifs(*ifs(13)))
+    yield too_many_paths('ifs_200.adb', with_ifs(*ifs(200)))
+    yield too_many_paths('static_ifs_13.adb', longer('Y : in out Integer', 'Y from Y', *ifs(13, '1 < 2')))
+    # 1023 conditions, and three after each of 1024 ways
+    four = 'if X > 5 then Y := 1; elsif X > 0 then Y := 2; elsif X < 0 then Y := 3; end if'
+    yield accepted('ifs_10_and_one_of_four_ways.adb', with_ifs(*ifs(10), four), 4095)
+    yield too_many_paths('ifs_11_and_one_of_four_ways.adb', with_ifs(*ifs(11), four))
+    yield accepted('one_of_four_ways_and_ifs_10.adb', with_ifs(four, *ifs(10)), 3 + 4 * 1023)
+    yield too_many_paths('ifs_11_and_one_of_three_ways.adb',
+                         with_ifs(*ifs(11), 'if X > 5 then Y := 1; elsif X > 0 then Y := 2; end if'))
+    # ways add up over the arms of an `if`
+    eleven, twelve = '; '.join(ifs(11)), '; '.join(ifs(12))
+    yield accepted('ifs_11_in_each_of_two_arms.adb',
+                   with_ifs(f'if X > 9 then {eleven}; else {eleven}; end if'), 2 * 2047)
+    yield too_many_paths('ifs_12_in_an_arm.adb', with_ifs(f'if X > 9 then {twelve}; end if'))
+    yield too_many_paths('ifs_12_after_else.adb', with_ifs(f'if X > 9 then null; else {twelve}; end if'))
+    yield accepted('nested_ifs_without_else_199.adb', with_ifs(nested_ifs(199, statement='Y := 1')), 1)
+    yield accepted('arms_500.adb', with_ifs('if X = 0 then Y := 0; ' + 'elsif X = 1 then Y := 1; ' * 499 + 'end if'), 500)
+    yield too_many_paths('arms_4096_without_else.adb',
+                         with_ifs('if X = 0 then Y := 0; ' + 'elsif X = 1 then Y := 1; ' * 4095 + 'end if'))
+    # after flow, and before all conditions; in the order of the procedures, and before the nodes of the same one
+    yield refused('flow_after_ifs_13.adb', with_ifs(*ifs(13), '@if X > 0 then null; end if'), 'F3')
+    yield refused('flow_in_a_procedure_after_ifs_13.adb',
+                  thirteen + at_derives(procedure('1')).replace('@derives X', 'derives @X'), 'F2 unused: X from X')
+    yield too_many_paths('unproved_before_ifs_13.adb', procedure('X + 1') + thirteen)
+    yield too_many_paths('ifs_13_before_unproved.adb', thirteen + procedure('X + 1'))
+    yield too_many_paths('ifs_13_before_twenty_doublings.adb', thirteen + doublings(20))
+    yield too_large('twenty_doublings_before_ifs_13.adb', doublings(20) + thirteen)
+    yield too_many_paths('twenty_doublings_and_ifs_13.adb', doublings(20, *['if X > 0 then X := 1; end if'] * 13))
+    yield too_large('twenty_doublings_and_ifs_12.adb', doublings(20, *['if X > 0 then X := 1; end if'] * 12))
+    yield too_many_variables('ifs_13_before_locals_4097.adb', thirteen + many(4097))
+    yield too_many_variables('locals_4097_before_ifs_13.adb', many(4097) + thirteen)
+
+
+def doublings_and_increments_in(before, pre):
+    """The procedure of `doublings_and_increments` with its statements in an `if`, after these words; an `@` at each operator."""
+    steps = {'d': 'X := X @+ X', 'i': 'X := X @+ 1'}
+    inner = '; '.join(steps[step] for step in 'ddiddddidddiddddddd')
+    return conditional(f'{before} {inner}; end if', pre=pre)
+
+
+def nodes_of_branches():
+    """Of how many nodes the conditions in an arm are: 999818, those of the precondition, and those of the new fact.
+
+    A fact that is the same term as an earlier one, as here on the type of X, adds nothing. `X >= 0` has three nodes, and
+    `not (X < 0)` has four. The sums are all left: nothing bounds them from above.
+    """
+    left = range(1, 39, 2)
+    minus, plus = '-X' + ' + X' * 87, 'X' + ' + X' * 88
+    for name, before, fitting, larger in (
+            ('known', "if X >= Integer'First then", minus + ' + X + X', plus + ' + X + X'),
+            ('new', 'if X >= 0 then', plus, minus + ' + X'),
+            ('opposite', 'if X < 0 then null; else', minus, plus)):
+        yield examined(f'{name}_condition_of_1000000_nodes.adb',
+                       doublings_and_increments_in(before, f'{fitting} = 0'), ('Inc', 38, *left))
+        yield too_large(f'{name}_condition_of_1000001_nodes.adb',
+                        doublings_and_increments_in(before, f'{larger} = 0').replace('@', ''))
+
+
 # ---------------------------------------------------------------- the table
 
 GROUPS = (form, relations, simplifier, numbers, places, words, layout, comments, marks, other_bytes, tokens, grammar,
@@ -2676,7 +3236,9 @@ GROUPS = (form, relations, simplifier, numbers, places, words, layout, comments,
           signs_and_types, signs_and_syntax, levels_of_parentheses, mixed_levels, limit_or_breach, examples, documented,
           programs_of_one_sum, programs_with_pre, programs_of_several_sums, programs_with_locals, breaches_in_order,
           breaches_in_expressions, rules_in_order, procedures_in_order, headings_in_order,
-          flow_findings_in_order, nodes_of_conditions, numbers_of_variables)
+          flow_findings_in_order, nodes_of_conditions, numbers_of_variables, branches, facts_of_arms, static_conditions,
+          checks_of_conditions, order_of_conditions, flow_of_branches, ineffective_branches, unset_in_branches,
+          rules_of_branches, syntax_of_branches, levels_of_branches, numbers_of_paths, nodes_of_branches)
 CASES = tuple(case for group in GROUPS for case in group())
 
 

@@ -16,8 +16,7 @@ use Rattle.spx_core.specs.Erased.{Visible, erased, unit_of}
 use Rattle.spx_core.specs.FlowRules.{HasNoFlowFinding, has_many_variables, is_wide}
 use Rattle.spx_core.specs.Obeyed.{Obeys}
 use Rattle.spx_core.proofs.Callers.Bodies.{bodies_are, erased_are}
-use Rattle.spx_meaning.specs.Fit.{Clean, Fit}
-use Rattle.spx_meaning.specs.Limits.{has_large_condition, has_large_conditions}
+use Rattle.spx_paths.specs.Fit.{Clean, Fit}
 use Rattle.spx_meaning.specs.Laws.{NeverBad, TwoRuns}
 use Rattle.spx_report.specs.declared.report.Finding.{Finding}
 use Rattle.spx_report.specs.declared.report.Findings.{Findings}
@@ -30,10 +29,10 @@ use Rattle.spx_examiner.specs.declared.reading.Reading.{Reading}
 use Rattle.spx_examiner.specs.declared.reading.Reading.TheVariants.{Units, Broken, TooManyTokens, TooNested}
 use Rattle.spx_examiner.specs.Words.{files_of, HasForm}
 use Rattle.spx_examiner.specs.Judgement.{status_of}
-use Rattle.spx_report.specs.Findings.{findings_of}
+use Rattle.spx_report.specs.Findings.{findings_of, first_limit, first_limit_in}
 use Rattle.spx_examiner.specs.Causes.{Tells, any_too_long, named}
 use Rattle.spx_examiner.specs.Reading.{IsRead, crowded, stopped, ended, nested, whole, stopped_at, expected_at}
-use Rattle.spx_examiner.specs.Outcome.{Is, IsText, IsSoundFrom, IsReportOn, IsReportOnUnits, IsReportOnReading, IsJudgement, no_form, of_files, IsAssured, AreAcceptable, AreClean, AreFit, AreRefusable, AreReliable, IsMadeFrom, IsPassed, variables, nodes, AreRefusals, IsReadTooFar, AreTooWide, AreTooLarge, OneOutcome, PassesLimit}
+use Rattle.spx_examiner.specs.Outcome.{Is, IsText, IsSoundFrom, IsReportOn, IsReportOnUnits, IsReportOnReading, IsJudgement, no_form, of_files, IsAssured, AreAcceptable, AreClean, AreFit, AreRefusable, AreReliable, IsMadeFrom, IsPassed, variables, conditions, AreRefusals, IsReadTooFar, AreTooWide, AreTooLarge, OneOutcome, PassesLimit}
 use Rattle.spx_report.proofs.FindingLaws.{lines_of, none_left}
 use Rattle.spx_examiner.specs.Laws.{Laws}
 use Rattle.spx_examiner.proofs.Refusals.{made_of_sound, no_sound, no_wide, one_made, one_refusal}
@@ -54,9 +53,9 @@ some_line : (lines : List Finding) → cond (eqb (length lines) 0) status.Accept
 some_line [] ne = absurd (ne refl)
 some_line (line ∷ lines) ne = grind (arith, common_steps, nat_tests)
 
-lines_are : (p : Program) → Visible p → (findings_of p).lines ≡ lines_of p.subs
+lines_are : (p : Program) → Visible p → (findings_of p).lines ≡ lines_of p p.subs
 unfolding findings_of
-lines_are p visible = ap lines_of (bodies_are p visible)
+lines_are p visible = ap (lines_of p) (bodies_are p visible)
 
 -- a sound program with no finding on its conditions is clean
 clean_program : (units : List Unit) (p : Program) (found : Findings) → IsSoundFrom units p → found ≡ findings_of p → found.lines ≡ [] → Clean p
@@ -65,7 +64,7 @@ clean_program units p found sound are none = record {
   typed = sound.typed;
   obeys = sound.obeys;
   flows = sound.flows;
-  conditions = (none_left p.subs).0 (sym (lines_are p sound.visible) ∙ ap (λ f. f.lines) (sym are) ∙ none);
+  conditions = (none_left p p.subs).0 (sym (lines_are p sound.visible) ∙ ap (λ f. f.lines) (sym are) ∙ none);
 }
 
 -- a program that a text spells is made from its units, and sound where it obeys the rules, is not too wide and has no flow finding
@@ -86,9 +85,12 @@ sound_from laws bytes units p text spelled obeys narrow flows = record {
   flows = flows;
 }
 
--- some condition of a program is too large, or none is
-not_both : (p q : Program) → p ≡ q → has_large_conditions p ≡ true → ¬ (has_large_conditions q ≡ false)
-not_both p q same large small = let e = ap has_large_conditions same in absurd (cc)
+-- the conditions of a program pass one first limit, or none
+one_first : (p q : Program) (a b : LimitName) → p ≡ q → first_limit p ≡ Some a → first_limit q ≡ Some b → a ≡ b
+one_first p q a b same passed other = let e = ap first_limit same in cc
+
+not_both : (p q : Program) (name : LimitName) → p ≡ q → first_limit p ≡ Some name → ¬ (first_limit q ≡ None)
+not_both p q name same passed none = let e = ap first_limit same in absurd (cc)
 
 -- the contents spell a program that passes a limit
 abbrev SpellTooMuch : List (List ℕ) → Type 0
@@ -126,7 +128,7 @@ assured_units bytes units (Examined p found) text e report assured =
 -- where units pass a limit, the text spells such a program
 passing_units : (bytes : List ℕ) (units : List Unit) (name : LimitName) → IsText 0 bytes units → IsPassed units name → SpellTooMuch (bytes ∷ [])
 passing_units bytes units _ text (variables p made obeys wide) = inl (p, spelled_by bytes units p text made, obeys, wide)
-passing_units bytes units _ text (nodes p sound large) = inr (p, spelled_by bytes units p text (made_of_sound units p sound), sound.obeys, sound.narrow, sound.flows, large)
+passing_units bytes units name text (conditions p sound passed) = inr (p, spelled_by bytes units p text (made_of_sound units p sound), sound.obeys, sound.narrow, sound.flows, name, passed)
 
 -- a program is not too wide where nothing that is spelled is
 not_wide : (contents : List (List ℕ)) (p : Program) → Is contents p → Obeys p → ¬ SpellTooMuch contents → has_many_variables p ≡ false
@@ -140,7 +142,7 @@ accepted_units laws bytes units (Refused lines) text report small (p, spelled, c
 accepted_units laws bytes units (Examined q found) text report small (p, spelled, clean) =
     let same : q ≡ p = only_program laws bytes p q spelled (spelled_by bytes units q text (made_of_sound units q report.0)) in
     let all = subst Clean (sym same) clean in
-    let none : found.lines ≡ [] = ap (λ f. f.lines) report.2 ∙ lines_are q report.0.visible ∙ (none_left q.subs).1 all.conditions in
+    let none : found.lines ≡ [] = ap (λ f. f.lines) report.2 ∙ lines_are q report.0.visible ∙ (none_left q q.subs).1 all.conditions in
     ap (λ (lines : List Finding). cond (eqb (length lines) 0) status.Accepted status.Refused) none
 
 refused_units : (bytes : List ℕ) (units : List Unit) (j : Judgement) → IsText 0 bytes units → IsReportOnUnits units j → ¬ SpellTooMuch (bytes ∷ []) → status_of j ≢ status.Accepted → status_of j ≡ status.Refused
@@ -160,12 +162,12 @@ passed_units laws bytes units Usage text report large = absurd report
 passed_units laws bytes units (Limit name) text report large = refl
 passed_units laws bytes units (Refused lines) text report (inl (p, spelled, obeys, wide)) =
     absurd (no_wide laws units lines p report (made_from laws bytes units p text spelled) obeys wide)
-passed_units laws bytes units (Refused lines) text report (inr (p, spelled, obeys, narrow, flows, large)) =
+passed_units laws bytes units (Refused lines) text report (inr (p, spelled, obeys, narrow, flows, name, passed)) =
     absurd (no_sound laws units lines p report (sound_from laws bytes units p text spelled obeys narrow flows))
 passed_units laws bytes units (Examined q found) text report (inl (p, spelled, obeys, wide)) =
     absurd (narrow_and_wide p q (only_program laws bytes q p (spelled_by bytes units q text (made_of_sound units q report.0)) spelled) wide report.0.narrow)
-passed_units laws bytes units (Examined q found) text report (inr (p, spelled, obeys, narrow, flows, large)) =
-    absurd (not_both p q (only_program laws bytes q p (spelled_by bytes units q text (made_of_sound units q report.0)) spelled) large report.1)
+passed_units laws bytes units (Examined q found) text report (inr (p, spelled, obeys, narrow, flows, name, passed)) =
+    absurd (not_both p q name (only_program laws bytes q p (spelled_by bytes units q text (made_of_sound units q report.0)) spelled) passed report.1)
 
 -- programs that are made from the same units are one
 one_sound : Laws → (units : List Unit) (p q : Program) → IsSoundFrom units p → IsSoundFrom units q → p ≡ q
@@ -174,17 +176,17 @@ one_sound laws units p q a b = laws.program p q a.visible b.visible (a.made ∙ 
 -- units pass one limit, and then they are neither refused nor examined
 one_limit : Laws → (units : List Unit) (a b : LimitName) → IsPassed units a → IsPassed units b → a ≡ b
 one_limit laws units _ _ (variables p made obeys wide) (variables q made' obeys' wide') = refl
-one_limit laws units _ _ (variables p made obeys wide) (nodes q sound large) = absurd (narrow_and_wide p q (one_made laws units p q made (made_of_sound units q sound)) wide sound.narrow)
-one_limit laws units _ _ (nodes p sound large) (variables q made obeys wide) = absurd (narrow_and_wide q p (one_made laws units q p made (made_of_sound units p sound)) wide sound.narrow)
-one_limit laws units _ _ (nodes p sound large) (nodes q sound' large') = refl
+one_limit laws units _ b (variables p made obeys wide) (conditions q sound passed) = absurd (narrow_and_wide p q (one_made laws units p q made (made_of_sound units q sound)) wide sound.narrow)
+one_limit laws units a _ (conditions p sound passed) (variables q made obeys wide) = absurd (narrow_and_wide q p (one_made laws units q p made (made_of_sound units p sound)) wide sound.narrow)
+one_limit laws units a b (conditions p sound passed) (conditions q sound' passed') = one_first p q a b (one_sound laws units p q sound sound') passed passed'
 
 not_refused : Laws → (units : List Unit) (name : LimitName) (lines : List Finding) → IsPassed units name → ¬ AreRefusals units lines
 not_refused laws units _ lines (variables p made obeys wide) refused = no_wide laws units lines p refused made obeys wide
-not_refused laws units _ lines (nodes p sound large) refused = no_sound laws units lines p refused sound
+not_refused laws units name lines (conditions p sound passed) refused = no_sound laws units lines p refused sound
 
-not_examined : Laws → (units : List Unit) (name : LimitName) (q : Program) → IsPassed units name → IsSoundFrom units q → ¬ (has_large_conditions q ≡ false)
+not_examined : Laws → (units : List Unit) (name : LimitName) (q : Program) → IsPassed units name → IsSoundFrom units q → ¬ (first_limit q ≡ None)
 not_examined laws units _ q (variables p made obeys wide) sound small = narrow_and_wide p q (one_made laws units p q made (made_of_sound units q sound)) wide sound.narrow
-not_examined laws units _ q (nodes p sound' large) sound small = not_both p q (one_sound laws units p q sound' sound) large small
+not_examined laws units name q (conditions p sound' passed) sound none = not_both p q name (one_sound laws units p q sound' sound) passed none
 
 one_of_units : Laws → (units : List Unit) (j k : Judgement) → IsReportOnUnits units j → IsReportOnUnits units k → j ≡ k
 one_of_units laws units Usage k a b = absurd a
@@ -319,10 +321,10 @@ AsMany words contents = length contents ≡ length (named words)
 pub as_many : (told : List ℕ → Option (List ℕ)) (words contents : List (List ℕ)) → Tells told (named words) contents → AsMany words contents
 as_many told words contents tells = tells_len told (named words) contents tells
 
--- without units there are no subprograms, and so no condition that is too large
-none_large : (subs : List Sub) → map unit_of subs ≡ [] → ¬ (list_any has_large_condition subs ≡ true)
-none_large [] none large = absurd (cc)
-none_large (sub ∷ subs) none large = absurd (cc)
+-- without units there are no subprograms, and so no limit of conditions that is passed
+none_large : (p : Program) (subs : List Sub) (name : LimitName) → map unit_of subs ≡ [] → ¬ (first_limit_in p subs ≡ Some name)
+none_large p [] name none passed = absurd (cc)
+none_large p (sub ∷ subs) name none passed = absurd (cc)
 
 -- nor one with too many variables
 none_wide : (subs : List Sub) → map unit_of subs ≡ [] → ¬ (list_any is_wide subs ≡ true)
@@ -334,7 +336,8 @@ no_contents : (contents : List (List ℕ)) → length contents ≡ 0 → ¬ Pass
 no_contents [] none (inl long) = absurd (cc)
 no_contents [] none (inr (inl deep)) = absurd deep
 no_contents [] none (inr (inr (inl wide))) = none_wide wide.0.subs (sym (erased_are wide.0 wide.1.visible) ∙ wide.1.texts) wide.3
-no_contents [] none (inr (inr (inr large))) = none_large large.0.subs (sym (erased_are large.0 large.1.visible) ∙ large.1.texts) large.5
+no_contents [] none (inr (inr (inr large))) =
+    none_large large.0 large.0.subs large.5 (sym (erased_are large.0 large.1.visible) ∙ large.1.texts) (ap (first_limit_in large.0) (sym (bodies_are large.0 large.1.visible)) ∙ large.6)
 no_contents (bytes ∷ rest) none passes = absurd (omega arith)
 
 none_named : (words contents : List (List ℕ)) → files_of words ≡ None → AsMany words contents → length contents ≡ 0

@@ -1,5 +1,5 @@
 -- What the program is to answer and to write, by its words and the contents of the files that they name.
-use Rattle.std.specs.Prelude.{◌≡◌, ◌≢◌, ◌⊎◌, ⊤, ℕ, ◌+◌, true, false, List, [], ◌∷◌, ◌++◌, Option, Some}
+use Rattle.std.specs.Prelude.{◌≡◌, ◌≢◌, ◌⊎◌, ⊤, ℕ, ◌+◌, true, false, List, [], ◌∷◌, ◌++◌, Option, Some, None}
 use Rattle.spx_tree.specs.declared.token.Token.{Token}
 use Rattle.spx_tree.specs.declared.subprogram.Unit.{Unit}
 use Rattle.spx_tree.specs.Spells.{Spells}
@@ -15,21 +15,20 @@ use Rattle.spx_core.specs.declared.rule.Breach.{Breach}
 use Rattle.spx_core.specs.Statements.{first_name_breach}
 use Rattle.spx_core.specs.Obeyed.{first_rule_breach}
 use Rattle.spx_core.specs.FlowRules.{HasNoFlowFinding, has_many_variables}
-use Rattle.spx_meaning.specs.Fit.{Clean, Fit}
-use Rattle.spx_meaning.specs.Limits.{has_large_conditions}
+use Rattle.spx_paths.specs.Fit.{Clean, Fit}
 use Rattle.spx_meaning.specs.Laws.{NeverBad, TwoRuns}
 use Rattle.spx_examiner.specs.declared.status.Status.{Status}
 use Rattle.spx_report.specs.declared.report.Finding.{Finding}
 use Rattle.spx_examiner.specs.declared.judgement.Judgement.{Judgement}
 use Rattle.spx_examiner.specs.declared.judgement.Judgement.TheVariants.{Usage, Limit, Refused, Examined}
 use Rattle.spx_report.specs.declared.limit.LimitName.{LimitName}
-use Rattle.spx_report.specs.declared.limit.LimitName.TheVariants.{FileSize, Tokens, Nesting, Variables, Nodes}
+use Rattle.spx_report.specs.declared.limit.LimitName.TheVariants.{FileSize, Tokens, Nesting, Variables}
 use Rattle.spx_examiner.specs.declared.reading.Reading.{Reading}
 use Rattle.spx_examiner.specs.declared.reading.Reading.TheVariants.{Units, Broken, TooManyTokens, TooNested}
 use Rattle.spx_examiner.specs.Reading.{IsRead}
 use Rattle.spx_examiner.specs.Words.{HasForm, HasNoForm, NamesFiles}
 use Rattle.spx_examiner.specs.Judgement.{status_of, text_of}
-use Rattle.spx_report.specs.Findings.{findings_of}
+use Rattle.spx_report.specs.Findings.{findings_of, first_limit}
 use Rattle.spx_report.specs.RuleTexts.{breach_finding}
 use Rattle.spx_report.specs.FlowLines.{AreFlowLines}
 use Rattle.spx_text.specs.Writes.{IsPart, after}
@@ -90,10 +89,10 @@ pub data AreRefusals (units : List Unit) (lines : List Finding) : Type 0 where
   of_flow : (p : Program) → IsMadeFrom units p → Obeys p → has_many_variables p ≡ false → AreFlowLines p lines → lines ≢ [] → AreRefusals units lines
 
 -- The first limit that a program made from the units passes, in the order of work: one that obeys the rules has a subprogram with too many
--- variables; or a sound one has a condition with too many nodes.
+-- variables; or the bodies of a sound one, in their order, have too many paths or a condition with too many nodes.
 pub data IsPassed (units : List Unit) : LimitName → Type 0 where
   variables : (p : Program) → IsMadeFrom units p → Obeys p → has_many_variables p ≡ true → IsPassed units Variables
-  nodes : (p : Program) → IsSoundFrom units p → has_large_conditions p ≡ true → IsPassed units Nodes
+  conditions : {name : LimitName} (p : Program) → IsSoundFrom units p → first_limit p ≡ Some name → IsPassed units name
 
 -- what there is to report on units: findings in place of conditions, a limit that is passed, or what the conditions of the sound program
 -- come to
@@ -101,7 +100,7 @@ abbrev pub IsReportOnUnits : List Unit → Judgement → Type 0
 IsReportOnUnits units Usage = ⊥
 IsReportOnUnits units (Limit name) = IsPassed units name
 IsReportOnUnits units (Refused lines) = AreRefusals units lines
-IsReportOnUnits units (Examined p found) = IsSoundFrom units p × (has_large_conditions p ≡ false) × (found ≡ findings_of p)
+IsReportOnUnits units (Examined p found) = IsSoundFrom units p × (first_limit p ≡ None) × (found ≡ findings_of p)
 
 -- on a text, by what lexis and syntax say of it
 abbrev pub IsReportOnReading : Reading → Judgement → Type 0
@@ -148,9 +147,9 @@ IsReadTooFar _ = ⊥
 abbrev pub AreTooWide : List (List ℕ) → Type 0
 AreTooWide contents = (p : Program) × Is contents p × Obeys p × (has_many_variables p ≡ true)
 
--- or one that obeys the rules, has no such subprogram and no flow finding, and has a condition with too many nodes
+-- or one that obeys the rules, has no such subprogram and no flow finding, and has a body with too many paths or a condition with too many nodes
 abbrev pub AreTooLarge : List (List ℕ) → Type 0
-AreTooLarge contents = (p : Program) × Is contents p × Obeys p × (has_many_variables p ≡ false) × HasNoFlowFinding p × (has_large_conditions p ≡ true)
+AreTooLarge contents = (p : Program) × Is contents p × Obeys p × (has_many_variables p ≡ false) × HasNoFlowFinding p × (name : LimitName) × (first_limit p ≡ Some name)
 
 abbrev pub PassesLimit : List (List ℕ) → Type 0
 PassesLimit contents = AreTooLong contents ⊎ (IsReadTooFar contents ⊎ (AreTooWide contents ⊎ AreTooLarge contents))

@@ -36,7 +36,7 @@ fn refused_by(alloc: Global, breach: Breach) -> Result<Judgement, AllocError>
     refused(alloc, breach_finding(alloc, breach)?)
 }
 
-/// What the conditions of a sound program come to, or that one has too many nodes.
+/// What the conditions of a sound program come to, or the limit that they pass.
 fn examined_conditions(alloc: Global, program: Program) -> Result<Judgement, AllocError>
     requires { IsSoundFrom (erased program) program }
     ensures report { IfOk result (IsReportOnUnits (erased program)) }

@@ -5,7 +5,7 @@ ghost use Rattle.spx_text.specs.Writes.{Rose};
 ghost use Rattle.spx_examiner.specs.Words.{HasNoForm};
 ghost use Rattle.spx_examiner.specs.Judgement.{status_of, text_of};
 ghost use Rattle.spx_examiner.specs.Causes.{Concludes, Exactly, IsCutShort, IsTaken, OneFailed, Tells, WhereTold, any_too_long, contents_of, named};
-ghost use Rattle.spx_meaning.specs.Fit.{Clean, Fit};
+ghost use Rattle.spx_paths.specs.Fit.{Clean, Fit};
 ghost use Rattle.spx_meaning.specs.Laws.{NeverBad, TwoRuns};
 ghost use Rattle.spx_examiner.specs.Outcome.{AreAcceptable, AreFit, AreRefusable, AreReliable, EndsAs, IsAssured, IsCutShortAs, IsJudgedOn, IsJudgement, IsReportOn, PassesLimit};
 

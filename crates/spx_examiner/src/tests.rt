@@ -1,7 +1,7 @@
 ghost use Rattle.std.specs.Prelude.{◌≤◌, length};
 
 use crate::{Status, examine};
-use spx_core::Program;
+use spx_core::{Program, SubId};
 use spx_lexer::lex;
 use spx_parse_unit::parse_units;
 use spx_resolve::resolve;
@@ -355,8 +355,8 @@ fn conditions_are_trees(rt: HostRuntime) -> Result<(), Fail> {
     ];
     for (text, wanted) in rows {
         let program = program_of(alloc, text).ok_or("no program")?;
-        let sub = program.subs.get(0).ok_or("no subprogram")?;
-        let all = conditions(alloc, sub)?;
+        assert!(rt; !program.subs.is_empty());
+        let all = conditions(alloc, &program, SubId(0))?;
         assert_eq!(rt; all.len(), wanted.len());
         for (condition, (name, hypotheses, closed)) in all.as_slice().iter().zip(wanted) {
             assert_eq!(rt; condition.name.as_bytes(), name.as_bytes());

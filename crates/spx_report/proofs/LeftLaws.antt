@@ -3,13 +3,14 @@ use Rattle.std.proofs.Common.{◌≡◌, ℕ, ◌+◌, ◌-◌, ◌<◌, ◌≤�
 use Rattle.std.specs.List.{enumerate_from}
 use Rattle.std.proofs.lemmas.List.{length-map, map-append, length-take, take_more}
 use Rattle.spx_core.specs.declared.entity.SubId.{SubId}
+use Rattle.spx_core.specs.declared.program.Program.{Program}
 use Rattle.spx_core.specs.declared.subprogram.Sub.{Sub}
 use Rattle.spx_term.specs.declared.condition.Condition.{Condition}
-use Rattle.spx_term.specs.Steps.{Claim, closes_claim, tidy, claims_of}
+use Rattle.spx_term.specs.Steps.{Claim, closes_claim, tidy}
 use Rattle.spx_arena.specs.declared.claims.SharedClaim.{SharedClaim}
 use Rattle.spx_arena.specs.declared.claims.SharedClaims.{SharedClaims}
 use Rattle.spx_arena.specs.Claims.{claim_at, claims_in}
-use Rattle.spx_meaning.specs.Paths.{condition_name, condition, numbered, conditions_of, tree_of}
+use Rattle.spx_paths.specs.Conditions.{body_claims, condition_name, condition, numbered, conditions_of}
 use Rattle.spx_report.specs.declared.report.Finding.{Finding}
 use Rattle.spx_report.specs.Findings.{is_left, unproved, unproved_named, unproved_of, row_of}
 use Rattle.spx_report.specs.LeftClaims.{left_or}
@@ -73,27 +74,27 @@ left_more name s closed i claim here d found new within is all one so_far more =
     ∙ sym (unproved_more (numbered name 1 (take i cs)) (condition name (i + 1) c))
     ∙ ap unproved_of (ap (λ k. numbered name 1 (take i cs) ++ condition name (k + 1) c ∷ []) (sym taken) ∙ sym (numbered_more name (take i cs) c) ∙ ap (λ x. numbered name 1 (take i cs ++ x ∷ [])) (sym at) ∙ ap (numbered name 1) (sym (take_more cs i c w)))
 
-pub conditions_are : (sub : Sub) (s : SharedClaims) → claims_in s ≡ map tidy (claims_of (tree_of sub)) → numbered sub.name.name.text 1 (claims_in s) ≡ conditions_of sub
+pub conditions_are : (p : Program) (sub : Sub) (s : SharedClaims) → claims_in s ≡ map tidy (body_claims p sub) → numbered sub.name.name.text 1 (claims_in s) ≡ conditions_of p sub
 unfolding conditions_of
-conditions_are sub s e = ap (numbered sub.name.name.text 1) e
+conditions_are p sub s e = ap (numbered sub.name.name.text 1) e
 
 length-enumerate : (n : ℕ) (cs : List Claim) → length (enumerate_from n cs) ≡ length cs
 length-enumerate n [] = refl
 length-enumerate n (c ∷ cs) = ap suc (length-enumerate (n + 1) cs)
 
-pub total_is : (sub : Sub) (s : SharedClaims) → claims_in s ≡ map tidy (claims_of (tree_of sub)) → length (conditions_of sub) ≡ length s.list
-total_is sub s e =
-    sym (ap length (conditions_are sub s e))
+pub total_is : (p : Program) (sub : Sub) (s : SharedClaims) → claims_in s ≡ map tidy (body_claims p sub) → length (conditions_of p sub) ≡ length s.list
+total_is p sub s e =
+    sym (ap length (conditions_are p sub s e))
     ∙ length-map (enumerate_from 1 (claims_in s)) (λ p. condition sub.name.name.text p.0 p.1)
     ∙ length-enumerate 1 (claims_in s)
     ∙ length-map s.list (claim_at s.terms s.facts)
 
-pub few_left : (sub : Sub) (s : SharedClaims) (left : List Finding) → claims_in s ≡ map tidy (claims_of (tree_of sub)) → left ≡ unproved_of (numbered sub.name.name.text 1 (claims_in s)) → length left ≤ length s.list
-few_left sub s left e f =
-    omega (arith, ap length (f ∙ ap unproved_of (conditions_are sub s e)), left_within (conditions_of sub), total_is sub s e)
+pub few_left : (p : Program) (sub : Sub) (s : SharedClaims) (left : List Finding) → claims_in s ≡ map tidy (body_claims p sub) → left ≡ unproved_of (numbered sub.name.name.text 1 (claims_in s)) → length left ≤ length s.list
+few_left p sub s left e f =
+    omega (arith, ap length (f ∙ ap unproved_of (conditions_are p sub s e)), left_within (conditions_of p sub), total_is p sub s e)
 
-pub row_is : (id : SubId) (sub : Sub) (s : SharedClaims) (left : List Finding) → claims_in s ≡ map tidy (claims_of (tree_of sub)) → left ≡ unproved_of (numbered sub.name.name.text 1 (claims_in s))
-    → row_of id.0 (conditions_of sub) ≡ record { sub = id; total = length s.list; simplified = length s.list - length left; scripted = 0; left = length left }
-row_is id sub s left e f =
-    row_of_counts id (conditions_of sub)
-    ∙ (λ t. record { sub = id; total = total_is sub s e t; simplified = total_is sub s e t - length (sym (f ∙ ap unproved_of (conditions_are sub s e)) t); scripted = 0; left = length (sym (f ∙ ap unproved_of (conditions_are sub s e)) t) })
+pub row_is : (p : Program) (id : SubId) (sub : Sub) (s : SharedClaims) (left : List Finding) → claims_in s ≡ map tidy (body_claims p sub) → left ≡ unproved_of (numbered sub.name.name.text 1 (claims_in s))
+    → row_of id.0 (conditions_of p sub) ≡ record { sub = id; total = length s.list; simplified = length s.list - length left; scripted = 0; left = length left }
+row_is p id sub s left e f =
+    row_of_counts id (conditions_of p sub)
+    ∙ (λ t. record { sub = id; total = total_is p sub s e t; simplified = total_is p sub s e t - length (sym (f ∙ ap unproved_of (conditions_are p sub s e)) t); scripted = 0; left = length (sym (f ∙ ap unproved_of (conditions_are p sub s e)) t) })

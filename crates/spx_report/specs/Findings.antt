@@ -1,5 +1,5 @@
 -- What the verification conditions of a program come to.
-use Rattle.std.specs.Prelude.{ℕ, Bool, false, not, List, [], ◌++◌, length, map, flat_map, filter, filter_map, count_by, Option, Some, None, option_map, slice_get, codes}
+use Rattle.std.specs.Prelude.{ℕ, Bool, not, if◌then◌else◌, List, [], ◌∷◌, ◌++◌, length, map, flat_map, filter, filter_map, count_by, Option, Some, None, option_map, slice_get, codes}
 use Rattle.spx_text.specs.declared.place.Place.{Place}
 use Rattle.spx_core.specs.declared.entity.SubId.{SubId}
 use Rattle.spx_core.specs.declared.program.Program.{Program}
@@ -11,8 +11,10 @@ use Rattle.spx_term.specs.declared.condition.CondKind.TheVariants.{Overflow, Ran
 use Rattle.spx_term.specs.declared.condition.Condition.{Condition}
 use Rattle.spx_term.specs.Goals.{goal_of}
 use Rattle.spx_term.specs.Plain.{closes}
-use Rattle.spx_meaning.specs.Limits.{has_large_condition}
-use Rattle.spx_meaning.specs.Paths.{conditions_of}
+use Rattle.spx_paths.specs.Limits.{has_large_condition, has_many_paths}
+use Rattle.spx_paths.specs.Conditions.{conditions_of}
+use Rattle.spx_report.specs.declared.limit.LimitName.{LimitName}
+use Rattle.spx_report.specs.declared.limit.LimitName.TheVariants.{Paths, Nodes}
 use Rattle.spx_report.specs.declared.report.Finding.{Finding}
 use Rattle.spx_report.specs.declared.report.SubRow.{SubRow}
 use Rattle.spx_report.specs.declared.report.Findings.{Findings}
@@ -45,20 +47,39 @@ row_of n conditions = record { sub = record { 0 = n }; total = length conditions
 
 -- the row of a body; there is none where no subprogram has this id
 abbrev pub row_at : Program → SubId → Option SubRow
-row_at p id = option_map (λ (sub : Sub). row_of id.0 (conditions_of sub)) (slice_get p.subs id.0)
+row_at p id = option_map (λ (sub : Sub). row_of id.0 (conditions_of p sub)) (slice_get p.subs id.0)
 
 unfoldable pub findings_of : Program → Findings
 findings_of p = record {
-  lines = flat_map (λ sub. unproved_of (conditions_of sub)) (bodies_of p);
+  lines = flat_map (λ sub. unproved_of (conditions_of p sub)) (bodies_of p);
   subs = filter_map (row_at p) p.bodies;
 }
 
+-- ---- limits
+
+-- the limit that the conditions of a subprogram pass, if they pass one: paths are counted before a condition is made
+abbrev pub limit_of : Program → Sub → Option LimitName
+limit_of p sub = if has_many_paths sub then Some Paths else (if has_large_condition p sub then Some Nodes else None)
+
+abbrev pub or_else : Option LimitName → Option LimitName → Option LimitName
+or_else (Some name) other = Some name
+or_else None other = other
+
+-- the limit of the first of these that passes one
+abbrev pub first_limit_in : Program → List Sub → Option LimitName
+first_limit_in p [] = None
+first_limit_in p (sub ∷ subs) = or_else (limit_of p sub) (first_limit_in p subs)
+
+-- the first limit that the conditions of a program pass, in the order of its bodies
+abbrev pub first_limit : Program → Option LimitName
+first_limit p = first_limit_in p (bodies_of p)
+
 -- ---- what one body adds to that: nothing where no subprogram has its id
 
-abbrev pub lines_at : Option Sub → List Finding
-lines_at (Some sub) = unproved_of (conditions_of sub)
-lines_at None = []
+abbrev pub lines_at : Program → Option Sub → List Finding
+lines_at p (Some sub) = unproved_of (conditions_of p sub)
+lines_at p None = []
 
-abbrev pub is_large_at : Option Sub → Bool
-is_large_at (Some sub) = has_large_condition sub
-is_large_at None = false
+abbrev pub limit_at : Program → Option Sub → Option LimitName
+limit_at p (Some sub) = limit_of p sub
+limit_at p None = None

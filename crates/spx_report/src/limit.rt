@@ -12,10 +12,12 @@ pub enum LimitName {
     FileSize,
     /// The tokens of a file.
     Tokens,
-    /// The levels of an expression.
+    /// The levels of expressions and statements.
     Nesting,
     /// The variables of a subprogram.
     Variables,
+    /// The paths of a subprogram, from cut to cut.
+    Paths,
     /// The nodes of a verification condition.
     Nodes,
 }
@@ -30,6 +32,7 @@ impl LimitName {
             LimitName::Tokens => b"limit: tokens, at most 1000000\n",
             LimitName::Nesting => b"limit: nesting, at most 200\n",
             LimitName::Variables => b"limit: variables, at most 4096\n",
+            LimitName::Paths => b"limit: paths, at most 4096\n",
             LimitName::Nodes => b"limit: nodes, at most 1000000\n",
         }
     }

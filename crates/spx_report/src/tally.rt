@@ -1,15 +1,14 @@
 // What the verification conditions of a program come to.
-ghost use Rattle.std.specs.Prelude.{◌≡◌, ◌+◌, ◌-◌, ◌≤◌, ◌++◌, ◌∷◌, [], ◌↔◌, false, map, slice_get, All, IfErr, IfOk, OnOk};
-ghost use Rattle.std.specs.List.{cons_option, list_any};
+ghost use Rattle.std.specs.Prelude.{◌≡◌, ◌+◌, ◌-◌, ◌<◌, ◌≤◌, ◌++◌, ◌∷◌, [], ◌↔◌, Some, None, length, map, slice_get, All, IfErr, IfOk, OnOk};
+ghost use Rattle.std.specs.List.{cons_option};
 ghost use Rattle.spx_arena.specs.Claims.{claims_in, IsWhole};
 ghost use Rattle.spx_core.specs.Bodies.{bodies_of};
-ghost use Rattle.spx_meaning.specs.Limits.{has_large_condition};
-ghost use Rattle.spx_meaning.specs.Paths.{ArePlain, condition_name, conditions_of, numbered, tree_of};
+ghost use Rattle.spx_core.specs.declared.subprogram.Sub.{Sub};
+ghost use Rattle.spx_paths.specs.Conditions.{ArePlain, body_claims, condition_name, conditions_of, numbered};
 ghost use Rattle.spx_report.specs.Findings as spec;
 ghost use Rattle.spx_report.specs.LeftClaims.{left_or};
-ghost use Rattle.spx_report.specs.Limits.{IsFaultWhere};
-ghost use Rattle.spx_report.specs.declared.limit.LimitName.TheVariants.{Nodes};
-ghost use Rattle.spx_term.specs.Steps.{claims_of, closes_claim, tidy};
+ghost use Rattle.spx_report.specs.Limits.{IsFaultOf};
+ghost use Rattle.spx_term.specs.Steps.{closes_claim, tidy};
 
 use crate::limit::{FindFault, LimitName};
 use crate::report::{Finding, Findings, SubRow};
@@ -98,28 +97,37 @@ fn row_of(id: SubId, total: usize, left: usize) -> SubRow
     }
 }
 
-/// The conditions of a subprogram, of which none is too large.
-fn claims_of(alloc: Global, sub: &Sub) -> Result<SharedClaims, FindFault>
+/// The conditions of a subprogram, where they pass no limit.
+fn claims_of(alloc: Global, program: &Program, id: SubId) -> Result<SharedClaims, FindFault>
+    requires { id.0 < length program.now.subs }
     ensures whole { IfOk result IsWhole }
-    ensures claims { IfOk result (λ all. claims_in all ≡ map tidy (claims_of (tree_of sub.now))) }
-    ensures few { OnOk result (has_large_condition sub.now ≡ false) }
-    ensures limit { IfErr result (IsFaultWhere Nodes (has_large_condition sub.now)) }
+    ensures claims { (sub : Sub) → slice_get program.now.subs id.0 ≡ Some sub → IfOk result (λ all. claims_in all ≡ map tidy (body_claims program.now sub)) }
+    ensures few { (sub : Sub) → slice_get program.now.subs id.0 ≡ Some sub → OnOk result (spec.limit_of program.now sub ≡ None) }
+    ensures limit { (sub : Sub) → slice_get program.now.subs id.0 ≡ Some sub → IfErr result (IsFaultOf (spec.limit_of program.now sub)) }
 {
-    match shared_conditions(alloc, sub) {
+    match shared_conditions(alloc, program, id) {
         Ok(claims) => Ok(claims),
+        Err(VcFault::TooManyPaths(_)) => Err(FindFault::Limit(LimitName::Paths)),
         Err(VcFault::TooManyNodes(_)) => Err(FindFault::Limit(LimitName::Nodes)),
         Err(VcFault::Memory) => Err(FindFault::Memory),
     }
 }
 
-/// Adds the findings and the row of a subprogram, of which no condition is too large.
-fn add_sub(alloc: Global, id: SubId, sub: &Sub, found: &mut Findings) -> Result<(), FindFault>
-    ensures lines { OnOk result (found.new.lines ≡ found.old.lines ++ spec.unproved_of (conditions_of sub.now)) }
-    ensures rows { OnOk result (found.new.subs ≡ found.old.subs ++ spec.row_of id.0 (conditions_of sub.now) ∷ []) }
-    ensures few { OnOk result (has_large_condition sub.now ≡ false) }
-    ensures limit { IfErr result (IsFaultWhere Nodes (has_large_condition sub.now)) }
+/// Adds the findings and the row of a subprogram, where its conditions pass no limit.
+fn add_sub(
+    alloc: Global,
+    program: &Program,
+    id: SubId,
+    sub: &Sub,
+    found: &mut Findings,
+) -> Result<(), FindFault>
+    requires { slice_get program.now.subs id.0 ≡ Some sub.now }
+    ensures lines { OnOk result (found.new.lines ≡ found.old.lines ++ spec.unproved_of (conditions_of program.now sub.now)) }
+    ensures rows { OnOk result (found.new.subs ≡ found.old.subs ++ spec.row_of id.0 (conditions_of program.now sub.now) ∷ []) }
+    ensures few { OnOk result (spec.limit_of program.now sub.now ≡ None) }
+    ensures limit { IfErr result (IsFaultOf (spec.limit_of program.now sub.now)) }
 {
-    let mut claims = claims_of(alloc, sub)?;
+    let mut claims = claims_of(alloc, program, id)?;
     let closed = closed_claims(alloc, &mut claims)?;
     let left = unproved_of(alloc, sub, &claims, closed.as_slice())?;
     let row = row_of(id, claims.list.len(), left.len());
@@ -135,24 +143,25 @@ fn add_body(
     id: SubId,
     found: &mut Findings,
 ) -> Result<(), FindFault>
-    ensures lines { OnOk result (found.new.lines ≡ found.old.lines ++ spec.lines_at (slice_get program.now.subs id.0)) }
+    ensures lines { OnOk result (found.new.lines ≡ found.old.lines ++ spec.lines_at program.now (slice_get program.now.subs id.0)) }
     ensures rows { OnOk result (found.new.subs ≡ found.old.subs ++ cons_option (spec.row_at program.now id) []) }
-    ensures few { OnOk result (spec.is_large_at (slice_get program.now.subs id.0) ≡ false) }
-    ensures limit { IfErr result (IsFaultWhere Nodes (spec.is_large_at (slice_get program.now.subs id.0))) }
+    ensures few { OnOk result (spec.limit_at program.now (slice_get program.now.subs id.0) ≡ None) }
+    ensures limit { IfErr result (IsFaultOf (spec.limit_at program.now (slice_get program.now.subs id.0))) }
 {
     match program.subs.get(id.0) {
-        Some(sub) => add_sub(alloc, id, sub, found),
+        Some(sub) => add_sub(alloc, program, id, sub, found),
         None => Ok(()),
     }
 }
 
-/// The conditions that are left, and a row for each body, where no condition is too large.
+/// The conditions that are left, and a row for each body, where no limit of conditions is passed.
 #[tactic(auto, unfolding(crate::specs::Findings::findings_of))]
 pub fn findings(alloc: Global, program: &Program) -> Result<Findings, FindFault>
     ensures exact { IfOk result (λ found. found ≡ spec.findings_of program.now) }
-    ensures none { IfOk result (λ found. (found.lines ≡ []) ↔ All (λ sub. ArePlain (conditions_of sub)) (bodies_of program.now)) }
-    ensures few { IfOk result (λ _. list_any has_large_condition (bodies_of program.now) ≡ false) }
-    ensures limit { IfErr result (IsFaultWhere Nodes (list_any has_large_condition (bodies_of program.now))) }
+    ensures none { IfOk result (λ found. (found.lines ≡ []) ↔ All (λ sub. ArePlain (conditions_of program.now sub)) (bodies_of program.now)) }
+    ensures few { OnOk result (spec.first_limit program.now ≡ None) }
+    // The limit is the first that is passed, in the order of the bodies.
+    ensures limit { IfErr result (IsFaultOf (spec.first_limit program.now)) }
 {
     let mut found = Findings {
         lines: Items::new(alloc),

@@ -1,18 +1,15 @@
-use Rattle.std.proofs.Common.{◌≡◌, ◌<◌, ◌≤◌, Bool, false, ◌||◌, List, [], length, take, get_or, sym, ap, ap₂, ◌∙◌, subst, arith}
+use Rattle.std.proofs.Common.{◌≡◌, ◌<◌, ◌≤◌, List, [], None, length, take, get_or, sym, ap, ◌∙◌, subst, arith}
 use Rattle.std.specs.Prelude.{◌↔◌, filter_map, slice_get}
-use Rattle.std.specs.List.{All, list_any}
+use Rattle.std.specs.List.{All}
 use Rattle.std.proofs.lemmas.List.{take_all}
-use Rattle.std.proofs.lemmas.List.Folds.{list_any_at, list_any_more}
 use Rattle.std.proofs.lemmas.Result.{err_from_is_err_and}
 use Rattle.spx_core.specs.Bodies.{bodies_of}
 use Rattle.spx_core.specs.Resolved.{sub_at}
 use Rattle.spx_core.specs.declared.entity.SubId.{SubId}
-use Rattle.spx_meaning.specs.Limits.{has_large_condition}
 use Rattle.spx_report.specs.declared.report.Finding.{Finding}
-use Rattle.spx_report.specs.declared.limit.LimitName.TheVariants.{Nodes}
-use Rattle.spx_report.specs.Findings.{is_large_at, row_at}
-use Rattle.spx_report.proofs.FaultLaws.{fault_of_all}
-use Rattle.spx_report.proofs.FindingLaws.{findings_are, is_large_in, large_by_body, lines_by_body, lines_in, lines_more, rows_more, IsPlainSub, none_left}
+use Rattle.spx_report.specs.Findings.{first_limit, limit_at, row_at}
+use Rattle.spx_report.proofs.FaultLaws.{first_fault}
+use Rattle.spx_report.proofs.FindingLaws.{findings_are, limit_by_body, limit_here, limit_in, limit_more, lines_by_body, lines_in, lines_more, rows_more, IsPlainSub, none_left}
 use Rattle.spx_report.proofs.tally.findings.Goals as goal
 
 pub loop-id-preserved : goal.loop-id-preserved
@@ -22,10 +19,9 @@ loop-id-preserved c =
     let within : c.loop-id.id-index < length ids = omega arith in
     let lines = lines_more p ids c.loop-id.id-index (sub_at 0) within in
     let rows = rows_more p ids c.loop-id.id-index (sub_at 0) within in
-    let large = λ (id : SubId). is_large_at (slice_get p.subs id.0) in
-    let before : is_large_in p (take c.loop-id.id-index ids) ≡ false = cc (c.loop-id.invariant.few) in
-    let here : is_large_at (slice_get p.subs (get_or ids c.loop-id.id-index (sub_at 0)).0) ≡ false = cc (c.in_ok-add_body.ensures.few) in
-    let few = list_any_more large ids c.loop-id.id-index (sub_at 0) within ∙ ap₂ (λ (a b : Bool). a || b) before here in
+    let before : limit_in p (take c.loop-id.id-index ids) ≡ None = cc (c.loop-id.invariant.few) in
+    let here : limit_at p (slice_get p.subs (get_or ids c.loop-id.id-index (sub_at 0)).0) ≡ None = cc (c.in_ok-add_body.ensures.few) in
+    let few = limit_more p ids c.loop-id.id-index (sub_at 0) within before ∙ here in
     record {
       lines = cc (c.in_ok-add_body.ensures.lines);
       rows = cc (c.in_ok-add_body.ensures.rows);
@@ -46,14 +42,14 @@ returns-clause-none c =
     let lent : c.as_slice-id-items.result.now ≡ p.bodies = cc in
     let walked : length p.bodies ≤ c.loop-id.id-index = omega (arith, ap length lent) in
     let all : c.loop-id.found.lines ≡ lines_in p p.bodies = c.loop-id.invariant.lines ∙ ap (lines_in p) (take_all c.loop-id.id-index p.bodies walked) in
-    subst (λ (lines : List Finding). (lines ≡ []) ↔ All IsPlainSub (bodies_of p)) (sym (all ∙ lines_by_body p p.bodies)) (none_left (bodies_of p))
+    subst (λ (lines : List Finding). (lines ≡ []) ↔ All (IsPlainSub p) (bodies_of p)) (sym (all ∙ lines_by_body p p.bodies)) (none_left p (bodies_of p))
 
 pub returns-clause-few : goal.returns-clause-few
 returns-clause-few c =
     let p = c.args.program.now in
     let lent : c.as_slice-id-items.result.now ≡ p.bodies = cc in
     let walked : length p.bodies ≤ c.loop-id.id-index = omega (arith, ap length lent) in
-    sym (large_by_body p p.bodies) ∙ sym (ap (is_large_in p) (take_all c.loop-id.id-index p.bodies walked)) ∙ c.loop-id.invariant.few
+    sym (limit_by_body p p.bodies) ∙ sym (ap (limit_in p) (take_all c.loop-id.id-index p.bodies walked)) ∙ c.loop-id.invariant.few
 
 pub returns-in_err-add_body-clause-limit : goal.returns-in_err-add_body-clause-limit
 returns-in_err-add_body-clause-limit c =
@@ -61,9 +57,9 @@ returns-in_err-add_body-clause-limit c =
     let ids = c.as_slice-id-items.result.now in
     let lent : ids ≡ p.bodies = cc in
     let within : c.loop-id.id-index < length ids = omega arith in
-    let large = λ (id : SubId). is_large_at (slice_get p.subs id.0) in
+    let before : limit_in p (take c.loop-id.id-index ids) ≡ None = cc (c.loop-id.invariant.few) in
     let passed = err_from_is_err_and c.from_residual.result c.from_residual.ensures.1 in
-    let limit = fault_of_all Nodes (large (get_or ids c.loop-id.id-index (sub_at 0))) (list_any has_large_condition (bodies_of p)) c.in_err-add_body.field-0.0
-    (λ is. sym (large_by_body p p.bodies) ∙ ap (list_any large) (sym lent) ∙ list_any_at large ids c.loop-id.id-index (sub_at 0) within is)
+    let limit = first_fault (limit_at p (slice_get p.subs (get_or ids c.loop-id.id-index (sub_at 0)).0)) (first_limit p) c.in_err-add_body.field-0.0
+    (λ name is. sym (limit_by_body p p.bodies) ∙ ap (limit_in p) (sym lent) ∙ limit_here p ids c.loop-id.id-index (sub_at 0) name within before is)
     c.in_err-add_body.ensures.limit in
     rw (passed.1, passed.2) limit
