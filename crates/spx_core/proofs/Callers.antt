@@ -7,3 +7,5 @@ pub mod Pairs
 pub mod FlowLaws
 pub mod MarkLaws
 pub mod Bodies
+pub mod Listings
+pub mod FlowDecisions

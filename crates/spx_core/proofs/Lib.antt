@@ -1,4 +1,5 @@
 pub mod Callers
+mod Elements
 mod Judgements
 mod Erasure
 mod TypedLaws
@@ -6,4 +7,6 @@ mod RegionLaws
 mod Consecutive
 mod Scopes
 mod RuleLaws
+mod RuleBreachLaws
 mod VarSetLaws
+mod NameBreachLaws

@@ -17,7 +17,7 @@ use Rattle.spx_core.specs.declared.rule.RuleName.TheVariants.{U2, U7, U8, U11}
 use Rattle.spx_core.specs.Reads.{names_read}
 use Rattle.spx_core.specs.Uses.{denotes, mentions, uses, variable_of}
 use Rattle.spx_core.specs.Dependency.{exports, imports, relation}
-use Rattle.spx_core.specs.DerivesItems.{has_export, has_import}
+use Rattle.spx_core.specs.Mirror.DerivesItems.{has_export, has_import}
 use Rattle.spx_core.specs.Commands.{Command, Skip, Set, Then, Choose, commands}
 use Rattle.spx_core.specs.Effects.{effect, sets}
 use Rattle.spx_core.specs.Formals.{formals, is_formal, mode_of}

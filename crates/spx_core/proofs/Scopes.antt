@@ -34,7 +34,7 @@ use Rattle.spx_core.specs.Commands.{Command, Skip, Set, Then, Choose, arm_before
 use Rattle.spx_core.specs.Commands as commands_of
 use Rattle.spx_core.specs.Uses.{denotes, mentions, uses}
 use Rattle.spx_core.specs.Dependency.{items_of}
-use Rattle.spx_core.specs.DerivesItems.{has_export, has_import}
+use Rattle.spx_core.specs.Mirror.DerivesItems.{has_export, has_import}
 use Rattle.spx_core.specs.Formals.{is_formal, is_local, mode_in, mode_of, stands_in}
 use Rattle.spx_core.specs.Effects.{effect, is_read, reads, reads_of, sets}
 use Rattle.spx_core.specs.Obeyed.{mode_denoted}

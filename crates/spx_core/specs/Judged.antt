@@ -151,11 +151,3 @@ expr_step (CoreExpr-F.Infix op place left right) = left >>= λ l. right >>= λ r
 
 abbrev pub judged : CoreExpr → Judged Typing
 judged = fold-CoreExpr (Judged Typing) expr_step
-
--- the value of a static expression
-abbrev pub value_in : Judged Typing → Option ℤ
-value_in (Ok t) = t.value
-value_in (Err breach) = None
-
-abbrev pub static_value : CoreExpr → Option ℤ
-static_value e = value_in (judged e)

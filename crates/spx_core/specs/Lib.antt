@@ -3,7 +3,6 @@ pub mod Places
 pub mod Reads
 pub mod Uses
 pub mod Dependency
-pub mod DerivesItems
 pub mod Formals
 pub mod Commands
 pub mod Effects
@@ -11,7 +10,6 @@ pub mod Flow
 pub mod Marks
 pub mod Ways
 pub mod FlowRules
-pub mod VarSets
 pub mod Regions
 pub mod Resolved
 pub mod Erased
@@ -20,6 +18,10 @@ pub mod Types
 pub mod Judged
 pub mod HasType
 pub mod Statements
+pub mod NameBreaches
+pub mod Contents
 pub mod Obeyed
 pub mod Rules
+pub mod RuleBreaches
 pub mod Scopes
+pub mod Mirror

@@ -1,9 +1,8 @@
 // Resolved expressions (Ada 95 RM 4.4).
 ghost use Rattle.std.specs.Prelude.{◌≡◌};
 ghost use Rattle.spx_core.specs.Places.{place_of};
-ghost use Rattle.spx_core.specs.Uses.{uses};
 
-use crate::{CoreName, VarId};
+use crate::CoreName;
 use spx_text::Place;
 use spx_tree::{Identifier, InfixOp, PrefixOp};
 use sqlite_items::Boxed;
@@ -33,22 +32,6 @@ impl CoreExpr {
             CoreExpr::Parenthesized(place, _) => *place,
             CoreExpr::Prefix(_, place, _) => *place,
             CoreExpr::Infix(_, place, _, _) => *place,
-        }
-    }
-
-    /// Whether the variable is read where the expression is evaluated.
-    #[cycle(uses)]
-    #[tactic(auto, using(crate::proofs::Callers::ReadsLaws::uses_forms))]
-    pub fn uses(&self, var: VarId) -> bool
-        ensures { result ≡ uses var self.now }
-    {
-        match self {
-            CoreExpr::Number(_, _) => false,
-            CoreExpr::Name(name) => name.denotes(var),
-            CoreExpr::Attribute(_, _) => false,
-            CoreExpr::Parenthesized(_, inner) => inner.get().uses(var),
-            CoreExpr::Prefix(_, _, operand) => operand.get().uses(var),
-            CoreExpr::Infix(_, _, left, right) => left.get().uses(var) || right.get().uses(var),
         }
     }
 }

@@ -1,16 +1,23 @@
 // Laws of the definitions, each as the contract of a function that does nothing.
-ghost use Rattle.std.specs.Prelude.{◌≡◌, ◌↔◌, All, List, None, Ok};
+ghost use Rattle.std.specs.Prelude.{◌≡◌, ◌↔◌, All, Any, List, Some, None, Ok, Err};
+ghost use Rattle.spx_text.specs.declared.place.Place.{Place};
 ghost use Rattle.spx_tree.specs.declared.subprogram.Unit.{Unit};
 ghost use Rattle.spx_core.specs.declared.expression.CoreExpr.{CoreExpr};
 ghost use Rattle.spx_core.specs.declared.program.Program.{Program};
+ghost use Rattle.spx_core.specs.declared.rule.Breach.{Breach};
+ghost use Rattle.spx_core.specs.declared.rule.RuleName.{RuleName};
+ghost use Rattle.spx_core.specs.declared.rule.RuleName.TheVariants.{U7};
 ghost use Rattle.spx_core.specs.declared.rule.Typing.{Typing};
+ghost use Rattle.spx_core.specs.declared.subprogram.Sub.{Sub};
 ghost use Rattle.spx_core.specs.Erased.{Visible, erased};
 ghost use Rattle.spx_core.specs.Resolved.{resolved};
 ghost use Rattle.spx_core.specs.Judged.{judged};
 ghost use Rattle.spx_core.specs.HasType.{HasType};
 ghost use Rattle.spx_core.specs.Statements.{Typed, first_name_breach};
 ghost use Rattle.spx_core.specs.Scopes.{Scoped};
-ghost use Rattle.spx_core.specs.Obeyed.{Obeys, first_rule_breach};
+ghost use Rattle.spx_core.specs.NameBreaches.{BreaksProgram};
+ghost use Rattle.spx_core.specs.Obeyed.{Obeys, first_rule_breach, obeyed_relation, place_or};
+ghost use Rattle.spx_core.specs.RuleBreaches.{BreaksRule, HasBadDerives};
 ghost use Rattle.spx_core.specs.Rules.{ObeysRules};
 ghost use Rattle.spx_core.specs.Flow.{FlowsCompose, FlowsKeep};
 ghost use Rattle.spx_core.specs.Marks.{MarkLaw};
@@ -36,6 +43,14 @@ pub fn name_breaches()
     ensures kept { (p : Program) → Visible p → Typed p → first_name_breach (erased p) ≡ None }
 {}
 
+/// What is reported of a rule on names or types is broken at that place by what that rule says, and where nothing is
+/// reported no rule is broken anywhere.
+#[tactic(auto, unfolding(crate::specs::Statements::first_name_breach))]
+pub fn each_name_rule()
+    ensures found { (units : List Unit) (b : Breach) → first_name_breach units ≡ Some b → BreaksProgram (resolved units) b.rule b.place }
+    ensures missed { (units : List Unit) → first_name_breach units ≡ None → (rule : RuleName) (place : Place) → ¬ BreaksProgram (resolved units) rule place }
+{}
+
 /// An expression is judged to be exactly what it has a derivation of.
 #[tactic(auto, using(crate::proofs::TypedLaws::sound, crate::proofs::TypedLaws::complete))]
 pub fn types_are_derived()
@@ -52,6 +67,15 @@ pub fn names_are_scoped()
 #[tactic(auto, unfolding(crate::specs::Obeyed::first_rule_breach))]
 pub fn rule_breaches()
     ensures { (p : Program) → (first_rule_breach p ≡ None) ↔ Obeys p }
+{}
+
+/// What is reported of a rule on variables is broken at that place by what that rule says, and where nothing is reported no
+/// rule is broken anywhere. The test of a whole relation is what a faulty one is.
+#[tactic(auto, unfolding(crate::specs::Obeyed::first_rule_breach))]
+pub fn each_rule()
+    ensures found { (p : Program) (b : Breach) → Visible p → first_rule_breach p ≡ Some b → Any (λ sub. BreaksRule p sub b.rule b.place) p.subs }
+    ensures missed { (p : Program) → Visible p → first_rule_breach p ≡ None → All (λ sub. (rule : RuleName) (place : Place) → ¬ BreaksRule p sub rule place) p.subs }
+    ensures derives { (sub : Sub) → (obeyed_relation sub ≡ Err (record { rule = U7; place = place_or sub.place sub.derives })) ↔ HasBadDerives sub }
 {}
 
 /// In a program that breaks no rule on variables, each subprogram is as the rules say.

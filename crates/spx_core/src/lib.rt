@@ -24,7 +24,7 @@ pub use entity::{
     VarId, VarKind, variable_of,
 };
 pub use expression::CoreExpr;
-pub use name::{CoreName, Defining, Reference, Step, mentions};
+pub use name::{CoreName, Defining, Reference, Step};
 pub use program::{CoreUnit, Program, TypeRow, Var};
 pub use rule::{Breach, ExprType, RuleName, Typing};
 pub use statement::{CoreArm, CoreDecl, CoreStmt};

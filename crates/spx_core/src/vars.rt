@@ -3,9 +3,9 @@ ghost use Rattle.std.specs.Prelude.{◌≡◌, ◌||◌, ◌==◌, false, [], �
 ghost use Rattle.spx_core.specs.declared.entity.VarId.{VarId};
 ghost use Rattle.spx_core.specs.Dependency.{exports, imports};
 ghost use Rattle.std.specs.List.{IsDistinct, list_any};
-ghost use Rattle.spx_core.specs.DerivesItems.{has_export, has_import};
+ghost use Rattle.spx_core.specs.Mirror.DerivesItems.{has_export, has_import};
 ghost use Rattle.spx_core.specs.Uses.{denotes, mentions};
-ghost use Rattle.spx_core.specs.VarSets.{holds, place_in_set, positions_of};
+ghost use Rattle.spx_core.specs.Mirror.VarSets.{holds, place_in_set, positions_of};
 
 use crate::{CoreDerivesItem, Reference, Sub, VarId, variable_of};
 use indexmap::IndexSet;

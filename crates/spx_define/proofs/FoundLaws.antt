@@ -17,8 +17,8 @@ use Rattle.spx_core.specs.declared.dependency.CoreDerivesItem.{CoreDerivesItem}
 use Rattle.spx_core.specs.Effects.{Read, read_of, reads_of}
 use Rattle.spx_core.specs.Reads.{names_read}
 use Rattle.spx_core.specs.Uses.{denotes, is_same, mentions, variable_of}
-use Rattle.spx_core.specs.DerivesItems.{has_export}
-use Rattle.spx_core.specs.VarSets.{holds}
+use Rattle.spx_core.specs.Mirror.DerivesItems.{has_export}
+use Rattle.spx_core.specs.Mirror.VarSets.{holds}
 use Rattle.spx_core.specs.Marks.{same_place}
 use Rattle.spx_core.proofs.Callers.Variables.{same_var}
 use Rattle.spx_core.proofs.Callers.MarkLaws.{same_place_is, same_place_itself}

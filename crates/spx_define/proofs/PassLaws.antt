@@ -6,7 +6,7 @@ use Rattle.spx_text.specs.declared.place.Place.{Place}
 use Rattle.spx_core.specs.declared.entity.VarId.{VarId}
 use Rattle.spx_core.specs.Effects.{Effect, Read, nothing, assign, next, choose}
 use Rattle.spx_core.specs.Uses.{is_same}
-use Rattle.spx_core.specs.VarSets.{holds}
+use Rattle.spx_core.specs.Mirror.VarSets.{holds}
 use Rattle.spx_core.specs.Ways.{Goes}
 use Rattle.spx_core.proofs.Callers.FlowLaws.{goes_free}
 use Rattle.spx_define.specs.Passes.{Finds, Passes}

@@ -8,7 +8,7 @@ use Rattle.spx_core.specs.declared.entity.VarId.{VarId}
 use Rattle.spx_core.specs.declared.subprogram.Sub.{Sub}
 use Rattle.spx_core.specs.Effects.{Read}
 use Rattle.spx_core.specs.Dependency.{imports, relation}
-use Rattle.spx_core.specs.VarSets.{holds}
+use Rattle.spx_core.specs.Mirror.VarSets.{holds}
 use Rattle.spx_core.specs.FlowRules.{MayBeUnset, body_effect, read, left}
 use Rattle.spx_core.proofs.Callers.Pairs.{exports_are}
 use Rattle.spx_define.specs.Passes.{Finds, Passes, exports_at}

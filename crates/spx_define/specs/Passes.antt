@@ -10,7 +10,7 @@ use Rattle.spx_core.specs.declared.dependency.CoreDerivesItem.{CoreDerivesItem}
 use Rattle.spx_core.specs.Commands.{Command}
 use Rattle.spx_core.specs.Effects.{Effect, Read, effect}
 use Rattle.spx_core.specs.Uses.{variable_of}
-use Rattle.spx_core.specs.VarSets.{holds}
+use Rattle.spx_core.specs.Mirror.VarSets.{holds}
 use Rattle.spx_core.specs.Ways.{Free, Goes, Reaches}
 
 -- beside what was found before, the reads of variables that are not in the set are found

@@ -1,7 +1,7 @@
 // Variables that are assigned to.
 ghost use Rattle.std.specs.Prelude.{◌≡◌, ◌&&◌, ◌||◌, ◌==◌, [], IfOk, OnOk};
 ghost use Rattle.spx_core.specs.declared.entity.VarId.{VarId};
-ghost use Rattle.spx_core.specs.VarSets.{holds};
+ghost use Rattle.spx_core.specs.Mirror.VarSets.{holds};
 
 use indexmap::IndexSet;
 use spx_core::VarId;

@@ -7,7 +7,7 @@ ghost use Rattle.spx_core.specs.declared.subprogram.Sub.{Sub};
 ghost use Rattle.spx_core.specs.Commands.{arm_before, arms_before, command};
 ghost use Rattle.spx_core.specs.Effects.{effect, effects, reads_of};
 ghost use Rattle.spx_core.specs.Uses.{denotes};
-ghost use Rattle.spx_core.specs.VarSets.{holds};
+ghost use Rattle.spx_core.specs.Mirror.VarSets.{holds};
 ghost use Rattle.spx_define.specs.Passes.{Finds, Passes, PassesBefore, exports_at, read_at, reads_at};
 ghost use Rattle.spx_define.specs.UnsetReads.{AreUnsetReads};
 

@@ -10,7 +10,7 @@ use Rattle.spx_core.specs.declared.dependency.CoreDerivesItem.{CoreDerivesItem}
 use Rattle.spx_core.specs.declared.subprogram.Sub.{Sub}
 use Rattle.spx_core.specs.Uses.{denotes, mentions}
 use Rattle.spx_core.specs.Dependency.{exports, relation}
-use Rattle.spx_core.specs.DerivesItems.{has_export}
+use Rattle.spx_core.specs.Mirror.DerivesItems.{has_export}
 use Rattle.spx_core.proofs.Callers.Pairs.{exports_are}
 use Rattle.spx_derives.specs.Places.{export_place, place_in_items, place_or}
 use Rattle.spx_derives.specs.Tables.{first_place, place_in_names}

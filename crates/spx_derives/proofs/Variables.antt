@@ -8,7 +8,7 @@ use Rattle.std.proofs.lemmas.List.{length-map}
 use Rattle.std.proofs.lemmas.Option.{slice_get_within}
 use Rattle.spx_core.specs.declared.entity.VarId.{VarId}
 use Rattle.spx_core.specs.Formals.{stands_in}
-use Rattle.spx_core.specs.VarSets.{place_in_set, positions_of}
+use Rattle.spx_core.specs.Mirror.VarSets.{place_in_set, positions_of}
 use Rattle.spx_core.proofs.Callers.Variables.{same_var}
 use Rattle.spx_derives.proofs.Elements.{just}
 use Rattle.spx_derives.proofs.DifferenceLaws.{Apart}

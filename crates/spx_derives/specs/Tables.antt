@@ -12,7 +12,7 @@ use Rattle.spx_core.specs.contracts.entity.VarIdPartialEq.TheImpl as var_impl
 use Rattle.spx_core.specs.declared.subprogram.Sub.{Sub}
 use Rattle.spx_core.specs.Dependency.{derives, relation}
 use Rattle.spx_core.specs.Uses.{denotes, mentions}
-use Rattle.spx_core.specs.VarSets.{place_in_set}
+use Rattle.spx_core.specs.Mirror.VarSets.{place_in_set}
 use Rattle.spx_core.specs.Effects.{Read}
 use Rattle.spx_rows.specs.Relations.{Matrix, Has}
 use Rattle.spx_flow.specs.declared.flow.Occurrence.{Occurrence}

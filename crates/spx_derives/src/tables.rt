@@ -3,9 +3,9 @@ ghost use Rattle.std.specs.Prelude.{◌≡◌, ◌≤◌, ◌&&◌, ◌==◌, �
 ghost use Rattle.std.specs.Option.{option_or};
 ghost use Rattle.indexmap.specs.IndexMap.{get};
 ghost use Rattle.spx_core.specs.declared.entity.VarId.{VarId};
-ghost use Rattle.spx_core.specs.DerivesItems.{has_pair};
+ghost use Rattle.spx_core.specs.Mirror.DerivesItems.{has_pair};
 ghost use Rattle.spx_core.specs.Uses.{mentions};
-ghost use Rattle.spx_core.specs.VarSets.{place_in_set};
+ghost use Rattle.spx_core.specs.Mirror.VarSets.{place_in_set};
 ghost use Rattle.std.specs.List.{IsDistinct, list_any};
 ghost use Rattle.spx_rows.specs.Relations.{Has};
 ghost use Rattle.spx_derives.specs.Tables.{AreTablesOf, Declares, first_place, is_pair_to, pair_in, place_in_names, place_of_name, same_var};

@@ -11,7 +11,7 @@ use Rattle.spx_core.specs.declared.entity.VarId.{VarId}
 use Rattle.spx_core.specs.Effects.{Effect, Read, nothing, assign, next, choose, is_read, sets}
 use Rattle.spx_core.specs.Flow.{MayFlow}
 use Rattle.spx_core.specs.Marks.{Mu, Occurs}
-use Rattle.spx_core.specs.VarSets.{place_in_set}
+use Rattle.spx_core.specs.Mirror.VarSets.{place_in_set}
 use Rattle.spx_rows.specs.Relations.{Matrix, Has, Holds, Of}
 use Rattle.spx_flow.specs.declared.flow.Occurrence.{Occurrence}
 use Rattle.spx_flow.specs.Positions.{Covers, Leads, Stands}

@@ -7,7 +7,7 @@ use Rattle.std.proofs.lemmas.List.Elements.{All-contains}
 use Rattle.spx_core.specs.declared.entity.VarId.{VarId}
 use Rattle.spx_core.specs.Commands.{Command}
 use Rattle.spx_core.specs.Effects.{Effect, sets}
-use Rattle.spx_core.specs.VarSets.{holds}
+use Rattle.spx_core.specs.Mirror.VarSets.{holds}
 use Rattle.spx_rows.specs.Relations.{Matrix, Holds, Of}
 use Rattle.spx_flow.specs.declared.flow.Occurrence.{Occurrence}
 use Rattle.spx_flow.specs.Branches.{Arms}

@@ -12,7 +12,7 @@ use Rattle.spx_core.specs.declared.subprogram.Sub.{Sub}
 use Rattle.spx_core.specs.Formals.{formals, is_formal, is_local, locals, stands_in}
 use Rattle.spx_core.specs.Effects.{defines}
 use Rattle.spx_core.specs.Marks.{Lambda}
-use Rattle.spx_core.specs.VarSets.{holds, positions_of}
+use Rattle.spx_core.specs.Mirror.VarSets.{holds, positions_of}
 use Rattle.spx_core.specs.FlowRules.{body_effect}
 use Rattle.spx_core.specs.Scopes.{Scoped}
 use Rattle.spx_flow.specs.declared.flow.Flow.{Flow}

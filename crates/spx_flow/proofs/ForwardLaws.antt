@@ -9,7 +9,7 @@ use Rattle.spx_text.specs.declared.place.Place.{Place}
 use Rattle.spx_core.specs.declared.entity.VarId.{VarId}
 use Rattle.spx_core.specs.Effects.{Effect, Read, nothing, assign, next, choose, is_read, sets}
 use Rattle.spx_core.specs.Flow.{MayFlow}
-use Rattle.spx_core.specs.VarSets.{place_in_set}
+use Rattle.spx_core.specs.Mirror.VarSets.{place_in_set}
 use Rattle.spx_core.specs.Marks.{Lambda}
 use Rattle.spx_core.proofs.Callers.FlowLaws.{keeps}
 use Rattle.spx_core.proofs.Callers.Variables.{same_itself}

@@ -24,7 +24,7 @@ use Rattle.spx_core.specs.Reads.{names_read, names_step}
 use Rattle.spx_core.specs.Effects.{Effect, effect, effects, is_read, reads, reads_of, sets}
 use Rattle.spx_core.specs.Commands.{command}
 use Rattle.spx_core.specs.Flow.{MayFlow}
-use Rattle.spx_core.specs.VarSets.{holds, place_in_set}
+use Rattle.spx_core.specs.Mirror.VarSets.{holds, place_in_set}
 use Rattle.spx_flow.specs.Positions.{Covers, Stands, position_named, positions_read}
 use Rattle.spx_flow.specs.Targets.{positions_in}
 use Rattle.spx_core.proofs.Callers.Expressions.{fold-Number, fold-Name, fold-Attribute, fold-Parenthesized, fold-Prefix, fold-Infix}

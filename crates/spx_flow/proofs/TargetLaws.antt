@@ -7,7 +7,7 @@ use Rattle.spx_core.specs.declared.statement.CoreStmt.TheVariants.{If}
 use Rattle.spx_core.specs.declared.statement.CoreArm.{CoreArm, out-CoreArm}
 use Rattle.spx_core.specs.Commands.{Command, Skip, arm_before, arms_before, command, commands}
 use Rattle.spx_core.specs.Effects.{effect, effects, sets}
-use Rattle.spx_core.specs.VarSets.{holds}
+use Rattle.spx_core.specs.Mirror.VarSets.{holds}
 use Rattle.spx_flow.specs.Targets.{arm_sets, arms_set}
 use Rattle.spx_flow.proofs.CommandForms.{command-If, command-If-else, command_arm}
 

@@ -3,7 +3,7 @@ use Rattle.std.specs.Prelude.{◌≡◌, ℕ, List, length}
 use Rattle.spx_core.specs.declared.entity.VarId.{VarId}
 use Rattle.spx_core.specs.Commands.{Command}
 use Rattle.spx_core.specs.Effects.{Effect, effect, sets}
-use Rattle.spx_core.specs.VarSets.{holds}
+use Rattle.spx_core.specs.Mirror.VarSets.{holds}
 use Rattle.spx_rows.specs.Relations.{Matrix}
 use Rattle.spx_flow.specs.declared.flow.Occurrence.{Occurrence}
 use Rattle.spx_flow.specs.Flows.{AreRows}

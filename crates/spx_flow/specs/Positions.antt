@@ -7,7 +7,7 @@ use Rattle.spx_core.specs.declared.name.CoreName.{CoreName}
 use Rattle.spx_core.specs.declared.expression.CoreExpr.{CoreExpr}
 use Rattle.spx_core.specs.Uses.{variable_of}
 use Rattle.spx_core.specs.Reads.{names_read}
-use Rattle.spx_core.specs.VarSets.{holds, place_in_set}
+use Rattle.spx_core.specs.Mirror.VarSets.{holds, place_in_set}
 use Rattle.spx_core.specs.Effects.{Effect, sets, reads}
 use Rattle.spx_rows.specs.Relations.{Matrix, Holds}
 

@@ -5,7 +5,7 @@ ghost use Rattle.spx_core.specs.declared.entity.VarId.{VarId};
 ghost use Rattle.spx_core.specs.declared.subprogram.Sub.{Sub};
 ghost use Rattle.spx_core.specs.Erased.{Visible};
 ghost use Rattle.spx_core.specs.Effects.{defines};
-ghost use Rattle.spx_core.specs.VarSets.{holds, positions_of};
+ghost use Rattle.spx_core.specs.Mirror.VarSets.{holds, positions_of};
 ghost use Rattle.spx_core.specs.FlowRules.{body_effect, is_wide};
 ghost use Rattle.spx_flow.specs.Positions.{Covers};
 ghost use Rattle.spx_flow.specs.Flows.{IsFaultOf, IsFlow};

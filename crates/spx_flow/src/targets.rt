@@ -4,7 +4,7 @@ ghost use Rattle.spx_core.specs.declared.entity.VarId.{VarId};
 ghost use Rattle.spx_core.specs.Commands.{command};
 ghost use Rattle.spx_core.specs.Effects.{effect, effects, sets};
 ghost use Rattle.spx_core.specs.Uses.{denotes};
-ghost use Rattle.spx_core.specs.VarSets.{holds};
+ghost use Rattle.spx_core.specs.Mirror.VarSets.{holds};
 ghost use Rattle.spx_flow.specs.Targets.{arms_set, positions_in};
 
 use indexmap::IndexSet;

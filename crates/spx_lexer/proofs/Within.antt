@@ -4,7 +4,8 @@ use Rattle.std.specs.List.{All}
 use Rattle.std.proofs.lemmas.List.Elements.{All-nil, All-cons, All-append}
 use Rattle.spx_tree.specs.declared.token.Token.{Token}
 use Rattle.spx_tree.specs.Places.{place_behind}
-use Rattle.spx_tree.specs.Spells.{Role, lexeme, Part, bytes_of, marked_behind, tokens_by, tokens_of, Spells, IsWithin}
+use Rattle.spx_tree.specs.Spells.{Role, lexeme, Part, bytes_of, marked_behind, tokens_by, tokens_of, Spells}
+use Rattle.spx_tree.specs.Mirror.{IsWithin}
 
 part_within : (file : ℕ) (front : List ℕ) (m : Bool) (role : Role) (bytes : List ℕ) (len : ℕ) → length front + length bytes ≤ len → All (IsWithin len) (tokens_by file front m role bytes)
 part_within file front m (lexeme what number) bytes len h =

@@ -3,7 +3,8 @@ use Rattle.std.proofs.Common.{◌≡◌, ℕ, ◌≤◌, Bool, true, false, cond
 use Rattle.std.proofs.lemmas.List.Elements.{All-rest}
 use Rattle.spx_tree.specs.declared.token.Kind.{Kind}
 use Rattle.spx_tree.specs.declared.token.Token.{Token}
-use Rattle.spx_tree.specs.Form.{Kept, Form, forms_of, keeps, kept_as, AreWithin}
+use Rattle.spx_tree.specs.Form.{Kept, Form, forms_of, keeps, kept_as}
+use Rattle.spx_tree.specs.Mirror.{AreWithin}
 use Rattle.spx_tree.specs.Goes.{Expected}
 use Rattle.spx_parse_body.specs.declared.cursor.Stop.{Stop}
 use Rattle.spx_parse_body.specs.declared.cursor.Stop.TheVariants as stop

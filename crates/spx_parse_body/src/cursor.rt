@@ -1,6 +1,7 @@
 // The tokens that are left, and the steps that take one of them.
 ghost use Rattle.std.specs.Prelude.{◌≡◌, ◌∷◌, ℕ, List, length, IfSome, is_some, true};
-ghost use Rattle.spx_tree.specs.Form.{AreWithin, forms_of, keeps, KindAlone, ItsPlace};
+ghost use Rattle.spx_tree.specs.Form.{forms_of, keeps, KindAlone, ItsPlace};
+ghost use Rattle.spx_tree.specs.Mirror.{AreWithin};
 ghost use Rattle.spx_parse_body.specs.Reading as read;
 ghost use Rattle.spx_parse_body.specs.Answers.{Reads};
 ghost use Rattle.spx_parse_body.specs.declared.cursor.Stop.TheVariants.{Memory};
@@ -43,7 +44,8 @@ pub struct Cursor<'a> {
 
 impl<'a> Model for Cursor<'a> {
     ghost use Rattle.std.specs.Prelude.{List, length};
-    ghost use Rattle.spx_tree.specs.Form.{Form, forms_of, AreWithin};
+    ghost use Rattle.spx_tree.specs.Form.{Form, forms_of};
+    ghost use Rattle.spx_tree.specs.Mirror.{AreWithin};
 
     ghost Value = { List Form };
 

@@ -1,6 +1,7 @@
 // Expressions and statements from a token on.
 ghost use Rattle.std.specs.Prelude.{◌≡◌, ◌≤◌, ℕ, List, Result, length, drop};
-ghost use Rattle.spx_tree.specs.Form.{AreWithin, forms_of};
+ghost use Rattle.spx_tree.specs.Form.{forms_of};
+ghost use Rattle.spx_tree.specs.Mirror.{AreWithin};
 ghost use Rattle.spx_tree.specs.Goes.{place_with};
 ghost use Rattle.spx_tree.specs.Grammar.{IsExpr, IsStmts};
 ghost use Rattle.spx_tree.specs.Written.{written_expr, written_stmts};

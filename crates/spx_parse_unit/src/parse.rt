@@ -1,6 +1,6 @@
 // The units of a file.
 ghost use Rattle.std.specs.Prelude.{List, Result, length};
-ghost use Rattle.spx_tree.specs.Form.{AreWithin};
+ghost use Rattle.spx_tree.specs.Mirror.{AreWithin};
 ghost use Rattle.spx_tree.specs.Grammar.{IsFile};
 ghost use Rattle.spx_tree.specs.Written.{written};
 ghost use Rattle.spx_tree.specs.declared.subprogram.Unit.{Unit};

@@ -6,7 +6,8 @@ use Rattle.spx_core.specs.declared.entity.SubId.{SubId}
 use Rattle.spx_core.specs.declared.program.Program.{Program}
 use Rattle.spx_core.specs.declared.subprogram.Sub.{Sub}
 use Rattle.spx_term.specs.declared.condition.Condition.{Condition}
-use Rattle.spx_term.specs.Steps.{Claim, closes_claim, tidy}
+use Rattle.spx_term.specs.Steps.{Claim, tidy}
+use Rattle.spx_simplify.specs.ClosedClaims.{closes_claim}
 use Rattle.spx_arena.specs.declared.claims.SharedClaim.{SharedClaim}
 use Rattle.spx_arena.specs.declared.claims.SharedClaims.{SharedClaims}
 use Rattle.spx_arena.specs.Claims.{claim_at, claims_in}

@@ -8,7 +8,8 @@ ghost use Rattle.spx_paths.specs.Conditions.{ArePlain, body_claims, condition_na
 ghost use Rattle.spx_report.specs.Findings as spec;
 ghost use Rattle.spx_report.specs.LeftClaims.{left_or};
 ghost use Rattle.spx_report.specs.Limits.{IsFaultOf};
-ghost use Rattle.spx_term.specs.Steps.{closes_claim, tidy};
+ghost use Rattle.spx_term.specs.Steps.{tidy};
+ghost use Rattle.spx_simplify.specs.ClosedClaims.{closes_claim};
 
 use crate::limit::{FindFault, LimitName};
 use crate::report::{Finding, Findings, SubRow};

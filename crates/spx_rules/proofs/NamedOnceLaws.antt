@@ -8,7 +8,7 @@ use Rattle.spx_core.specs.declared.name.Reference.{Reference}
 use Rattle.spx_core.specs.declared.dependency.CoreDerivesItem.{CoreDerivesItem}
 use Rattle.spx_core.specs.Uses.{denotes, is_same, mentions, variable_of}
 use Rattle.spx_core.specs.Obeyed.{exports_once, is_among, is_export_of, names_once, variable_is}
-use Rattle.spx_core.specs.VarSets.{holds}
+use Rattle.spx_core.specs.Mirror.VarSets.{holds}
 use Rattle.spx_rules.specs.NamedOnce.{all_new, exports_in, is_in}
 
 variable_alike : (p q : VarId → Bool) → ((v : VarId) → p v ≡ q v) → (o : Option VarId) → variable_is p o ≡ variable_is q o

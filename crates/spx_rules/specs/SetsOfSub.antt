@@ -4,7 +4,7 @@ use Rattle.spx_core.specs.declared.entity.VarId.{VarId}
 use Rattle.spx_core.specs.declared.subprogram.Sub.{Sub}
 use Rattle.spx_core.specs.Dependency as dependency
 use Rattle.spx_core.specs.Formals.{is_formal}
-use Rattle.spx_core.specs.VarSets.{holds}
+use Rattle.spx_core.specs.Mirror.VarSets.{holds}
 
 pub record AreSetsOf (sub : Sub) (exports imports formals : List ℕ) : Type 0 where
   pub exported : (v : VarId) → holds exports v ≡ dependency.exports v sub

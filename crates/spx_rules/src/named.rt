@@ -4,7 +4,7 @@ ghost use Rattle.std.specs.List.{list_any};
 ghost use Rattle.spx_core.specs.declared.entity.VarId.{VarId};
 ghost use Rattle.spx_core.specs.declared.name.Reference.{Reference};
 ghost use Rattle.spx_core.specs.Uses.{denotes, mentions};
-ghost use Rattle.spx_core.specs.VarSets.{holds};
+ghost use Rattle.spx_core.specs.Mirror.VarSets.{holds};
 ghost use Rattle.spx_rules.specs.NamedOnce as named;
 
 use spx_core::{Reference, VarSet, variable_of};

@@ -3,7 +3,7 @@ ghost use Rattle.std.specs.Prelude.{◌≡◌, IfOk};
 ghost use Rattle.spx_core.specs.declared.entity.VarId.{VarId};
 ghost use Rattle.spx_core.specs.Dependency.{exports, imports};
 ghost use Rattle.spx_core.specs.Formals.{is_formal, stands_in};
-ghost use Rattle.spx_core.specs.VarSets.{holds};
+ghost use Rattle.spx_core.specs.Mirror.VarSets.{holds};
 
 use spx_core::{Sub, VarId, VarSet};
 use std::alloc::{AllocError, Global};

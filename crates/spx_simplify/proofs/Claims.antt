@@ -7,7 +7,7 @@ use Rattle.spx_term.specs.declared.term.Term.TheVariants.{Truth, Infix}
 use Rattle.spx_term.specs.declared.term.TermOp.TheVariants as signs
 use Rattle.spx_term.specs.Goals.{goal_of}
 use Rattle.spx_term.specs.Plain.{closes, Plain}
-use Rattle.spx_term.specs.Steps.{closes_claim}
+use Rattle.spx_simplify.specs.ClosedClaims.{closes_claim}
 use Rattle.spx_arena.specs.declared.terms.TermId.{TermId}
 use Rattle.spx_arena.specs.declared.claims.SharedClaim.{SharedClaim}
 use Rattle.spx_arena.specs.declared.facts.FactsId.{FactsId}

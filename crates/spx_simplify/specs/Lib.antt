@@ -1,3 +1,4 @@
+pub mod ClosedClaims
 pub mod Folds
 pub mod Tables
 pub mod Verdicts

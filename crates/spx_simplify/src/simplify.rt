@@ -2,7 +2,7 @@
 ghost use Rattle.std.specs.Prelude.{◌≡◌, ◌<◌, ◌↔◌, List, [], ◌∷◌, length, map, IfOk, IsTrue, OnOk};
 ghost use Rattle.spx_term.specs.Goals.{goal_of};
 ghost use Rattle.spx_term.specs.Plain.{Plain};
-ghost use Rattle.spx_term.specs.Steps.{closes_claim};
+ghost use Rattle.spx_simplify.specs.ClosedClaims.{closes_claim};
 ghost use Rattle.spx_arena.specs.Sharing.{Grows};
 ghost use Rattle.spx_arena.specs.Claims.{AreIds, AreLists, trees_at, claims_in, IsWhole};
 ghost use Rattle.spx_arena.specs.Sharing.{Adds};

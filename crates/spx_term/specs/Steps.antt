@@ -7,8 +7,7 @@ use Rattle.spx_term.specs.declared.term.Term.{Term, Term-F, fold-Term}
 use Rattle.spx_term.specs.declared.term.Term.TheVariants.{Number, Truth, Variable, Prefix, Infix}
 use Rattle.spx_term.specs.contracts.term.Name as name
 use Rattle.spx_term.specs.Equality.{same_by}
-use Rattle.spx_term.specs.Goals.{goal_of}
-use Rattle.spx_term.specs.Plain.{is_among, closes}
+use Rattle.spx_term.specs.Plain.{is_among}
 
 -- the paths from one cut on; those with a common beginning share it
 pub data Tree : Type 0 where
@@ -55,10 +54,6 @@ pub record Claim : Type 0 where
   pub place : Place
   pub hyps : List Term
   pub goals : List Term
-
--- whether a claim needs no proof
-abbrev pub closes_claim : Claim → Bool
-closes_claim c = closes c.hyps (goal_of c.goals)
 
 abbrev pub with_fact : Term → Claim → Claim
 with_fact t c = record c { hyps = t ∷ c.hyps }

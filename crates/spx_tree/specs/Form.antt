@@ -1,7 +1,6 @@
 -- What of a token a tree keeps.
-use Rattle.std.specs.Prelude.{ℕ, ℤ, Bool, List, [], ◌∷◌, All, slice_range}
+use Rattle.std.specs.Prelude.{ℕ, ℤ, Bool, List, [], ◌∷◌, slice_range}
 use Rattle.spx_text.specs.declared.place.Place.{Place}
-use Rattle.spx_tree.specs.Spells.{IsWithin}
 use Rattle.spx_tree.specs.declared.token.Kind.{Kind}
 use Rattle.spx_tree.specs.declared.token.Kind.TheVariants as k
 use Rattle.spx_tree.specs.declared.token.Token.{Token}
@@ -69,10 +68,6 @@ form_of source t = record { kind = t.kind; marked = t.marked; kept = kept_as (ke
 abbrev pub forms_of : List ℕ → List Token → List Form
 forms_of source [] = []
 forms_of source (t ∷ ts) = form_of source t ∷ forms_of source ts
-
--- each token's bytes are among the first bytes of a text, so many
-abbrev pub AreWithin : ℕ → List Token → Type 0
-AreWithin n ts = All (IsWithin n) ts
 
 -- The forms that a tree is written with.
 

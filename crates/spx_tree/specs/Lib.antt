@@ -2,8 +2,8 @@ pub mod Lexemes
 pub mod Places
 pub mod Spells
 pub mod Stops
-pub mod Example
 pub mod Form
 pub mod Written
 pub mod Goes
 pub mod Grammar
+pub mod Mirror

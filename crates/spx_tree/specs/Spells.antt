@@ -1,5 +1,5 @@
 -- The tokens of a text: it is lexemes with gaps between them (Ada 95 RM 2.2).
-use Rattle.std.specs.Prelude.{◌≡◌, ◌≢◌, ℕ, ◌+◌, ◌≤◌, ◌^◌, Bool, true, false, IsTrue, IsFalse, List, [], ◌∷◌, ◌++◌, length, ℤ, pos, ◌<ℤ◌, codes, ◌==◌, ◌||◌}
+use Rattle.std.specs.Prelude.{◌≡◌, ◌≢◌, ℕ, ◌+◌, ◌^◌, Bool, true, false, IsTrue, IsFalse, List, [], ◌∷◌, ◌++◌, length, ℤ, pos, ◌<ℤ◌, codes, ◌==◌, ◌||◌}
 use Rattle.std.specs.List.{All}
 use Rattle.std.specs.Str.{byte}
 use Rattle.spx_tree.specs.declared.token.Kind.{Kind}
@@ -89,7 +89,3 @@ pub record Spells (file : ℕ) (bytes : List ℕ) (tokens : List Token) : Type 0
   pub whole : bytes_of parts ≡ bytes
   pub stand : AllStand false parts []
   pub are : tokens ≡ tokens_of file [] false parts
-
--- the bytes of a token are bytes of a text of this length
-abbrev pub IsWithin : ℕ → Token → Type 0
-IsWithin len token = (token.first ≤ token.after) × (token.after ≤ len)

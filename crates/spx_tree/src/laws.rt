@@ -1,23 +1,12 @@
 // Laws of the definitions, each as the contract of a function that does nothing.
 ghost use Rattle.std.specs.Prelude.{◌≡◌, ℕ, List};
 ghost use Rattle.spx_text.specs.declared.place.Place.{Place};
-ghost use Rattle.spx_tree.specs.Example.{line, line_tokens, stop, stopped_line};
 ghost use Rattle.spx_tree.specs.Grammar.{IsFile};
 ghost use Rattle.spx_tree.specs.Spells.{Spells};
-ghost use Rattle.spx_tree.specs.Stops.{Cause, StopsAt, bad_byte};
+ghost use Rattle.spx_tree.specs.Stops.{Cause, StopsAt};
 ghost use Rattle.spx_tree.specs.Written.{written};
 ghost use Rattle.spx_tree.specs.declared.subprogram.Unit.{Unit};
 ghost use Rattle.spx_tree.specs.declared.token.Token.{Token};
-
-/// An example of the definitions: the tokens of a line with an annotation.
-pub fn a_line_is_spelled()
-    ensures { Spells 0 line line_tokens }
-{}
-
-/// An example of the definitions: a line that is stopped.
-pub fn a_line_is_stopped()
-    ensures { StopsAt 0 stopped_line bad_byte stop }
-{}
 
 /// At most one list of tokens spells a text.
 pub fn one_spelling()

@@ -15,7 +15,7 @@ mod token;
 pub use annotation::{Derives, DerivesItem, Imports, Precondition};
 pub use declaration::Decl;
 pub use expression::{Expr, Identifier, InfixOp, Layer, Name, PrefixOp, copy_identifiers};
-pub use laws::{a_line_is_spelled, a_line_is_stopped, one_spelling, one_stop, one_tree};
+pub use laws::{one_spelling, one_stop, one_tree};
 pub use statement::{Arm, Closing, Stmt};
 pub use subprogram::{FormalPart, Param, Subprogram, Unit, WrittenMode};
 pub use token::{ANNOTATION_WORDS, Kind, RESERVED_WORDS, Token};

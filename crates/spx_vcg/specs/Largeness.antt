@@ -6,7 +6,7 @@ use Rattle.spx_paths.specs.declared.fault.TheConstants.{MOST_PATHS}
 use Rattle.spx_paths.specs.Limits.{has_large_condition, has_many_paths}
 use Rattle.spx_term.specs.declared.condition.TheConstants.{MOST_NODES}
 use Rattle.spx_term.specs.declared.term.Term.{Term}
-use Rattle.spx_term.specs.Sizes.{sizes_of, claim_nodes}
+use Rattle.spx_term.specs.Sizes.{sizes_of}
 use Rattle.spx_term.specs.Steps.{Claim}
 use Rattle.spx_arena.specs.declared.facts.FactsId.{FactsId}
 use Rattle.spx_arena.specs.declared.terms.TermId.{TermId}
@@ -15,6 +15,10 @@ use Rattle.spx_arena.specs.Counts.{counted}
 use Rattle.spx_arena.specs.Facts.{facts_at}
 use Rattle.spx_vcg.specs.declared.fault.VcFault.{VcFault}
 use Rattle.spx_vcg.specs.declared.fault.VcFault.TheVariants.{TooManyPaths, TooManyNodes, Memory}
+
+-- the nodes of a claim: those of its hypotheses and of its goals
+abbrev pub claim_nodes : Claim → ℕ
+claim_nodes c = sizes_of c.hyps + sizes_of c.goals
 
 -- whether a claim has too many nodes
 abbrev pub is_large : Claim → Bool

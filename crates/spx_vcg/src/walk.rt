@@ -11,7 +11,7 @@ ghost use Rattle.spx_core.specs.Commands.{Set};
 ghost use Rattle.spx_paths.specs.Terms.{signed_term};
 ghost use Rattle.spx_paths.specs.Checks.{in_integer, operation_check, sign_check, checks};
 ghost use Rattle.spx_paths.specs.Walks.{assigned, entering, import_facts, pre_facts};
-ghost use Rattle.spx_core.specs.VarSets.{holds};
+ghost use Rattle.spx_core.specs.Mirror.VarSets.{holds};
 ghost use Rattle.spx_vcg.specs.Entering.{entered, known_of};
 ghost use Rattle.spx_arena.specs.Sharing.{tree_at, IsId};
 ghost use Rattle.spx_vcg.specs.ConditionWalk.{applied};

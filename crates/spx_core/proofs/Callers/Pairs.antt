@@ -11,7 +11,7 @@ use Rattle.spx_core.specs.declared.dependency.CoreDerivesItem.{CoreDerivesItem}
 use Rattle.spx_core.specs.declared.subprogram.Sub.{Sub}
 use Rattle.spx_core.specs.Uses.{is_same, mentions, variable_of}
 use Rattle.spx_core.specs.Dependency.{Pair, derives, exports, imports, itself, or_nothing, pairs_of, pairs_to, relation, variables}
-use Rattle.spx_core.specs.DerivesItems.{has_export, has_import, has_pair}
+use Rattle.spx_core.specs.Mirror.DerivesItems.{has_export, has_import, has_pair}
 use Rattle.spx_core.specs.Formals.{stands_in}
 use Rattle.spx_core.proofs.Callers.ListTests.{any_flat_map}
 
@@ -19,7 +19,7 @@ any_map : {X Y : Type 0} (p : X → Bool) (f : Y → X) (ys : List Y) → list_a
 any_map p f [] = refl
 any_map p f (y ∷ ys) = ap (λ b. p (f y) || b) (any_map p f ys)
 
-any_alike : {X : Type 0} (p q : X → Bool) → ((x : X) → p x ≡ q x) → (xs : List X) → list_any p xs ≡ list_any q xs
+pub any_alike : {X : Type 0} (p q : X → Bool) → ((x : X) → p x ≡ q x) → (xs : List X) → list_any p xs ≡ list_any q xs
 any_alike p q same [] = refl
 any_alike p q same (x ∷ xs) = ap₂ ◌||◌ (same x) (any_alike p q same xs)
 

@@ -1,7 +1,7 @@
 use Rattle.std.proofs.Common.{◌≡◌, ◌&&◌, ◌||◌, ◌==◌, ℕ, Some, drop, length, is_some}
 use Rattle.spx_core.specs.declared.entity.VarId.{VarId}
 use Rattle.spx_core.specs.Uses.{mentions}
-use Rattle.spx_core.specs.VarSets.{place_in_set}
+use Rattle.spx_core.specs.Mirror.VarSets.{place_in_set}
 use Rattle.spx_derives.specs.Tables.{pair_in}
 use Rattle.spx_derives.proofs.tables.add_item.Given as goal
 

@@ -1,7 +1,7 @@
 use Rattle.std.proofs.Common.{◌∙◌, ◌||◌, ◌+◌, drop, sym, ap}
 use Rattle.std.specs.List.{list_any}
 use Rattle.std.proofs.lemmas.List.{drop_all}
-use Rattle.spx_core.specs.DerivesItems.{has_pair}
+use Rattle.spx_core.specs.Mirror.DerivesItems.{has_pair}
 use Rattle.spx_derives.specs.Tables.{pair_in}
 use Rattle.spx_derives.proofs.Steps.{any_more, item_step}
 use Rattle.spx_derives.proofs.tables.declared_pairs.Goals as goal

@@ -1,8 +1,8 @@
 use Rattle.std.proofs.Common.{◌≡◌, ◌||◌, ℕ, Some, drop, length}
 use Rattle.std.specs.List.{list_any}
 use Rattle.spx_core.specs.declared.entity.VarId.{VarId}
-use Rattle.spx_core.specs.DerivesItems.{has_pair}
-use Rattle.spx_core.specs.VarSets.{place_in_set}
+use Rattle.spx_core.specs.Mirror.DerivesItems.{has_pair}
+use Rattle.spx_core.specs.Mirror.VarSets.{place_in_set}
 use Rattle.spx_derives.specs.Tables.{pair_in}
 use Rattle.spx_derives.proofs.tables.declared_pairs.Given as goal
 

@@ -1,5 +1,5 @@
 use Rattle.std.proofs.Common.{◌∙◌, ap}
-use Rattle.spx_core.specs.VarSets.{positions_of}
+use Rattle.spx_core.specs.Mirror.VarSets.{positions_of}
 use Rattle.spx_flow.proofs.FlowLaws.{is_flow}
 use Rattle.spx_flow.proofs.flow.flow_in.Goals as goal
 

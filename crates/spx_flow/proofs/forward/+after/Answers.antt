@@ -8,7 +8,7 @@ use Rattle.spx_flow.specs.declared.flow.Occurrence.{Occurrence}
 use Rattle.spx_flow.specs.Flows.{AreRows}
 use Rattle.spx_core.specs.Commands.{Command, Skip, arm_before, arms_before, command, commands}
 use Rattle.spx_core.specs.Effects.{choose, effect, effects, nothing, reads_of, sets}
-use Rattle.spx_core.specs.VarSets.{holds}
+use Rattle.spx_core.specs.Mirror.VarSets.{holds}
 use Rattle.spx_flow.specs.Branches.{Arms}
 use Rattle.spx_flow.specs.Positions.{Covers}
 use Rattle.spx_flow.specs.ForwardSteps.{StepsForward}

@@ -1,6 +1,6 @@
 use Rattle.std.proofs.Common.{◌||◌, ap, ap₂, ◌∙◌, sym}
 use Rattle.spx_core.specs.Effects.{effects, sets}
-use Rattle.spx_core.specs.VarSets.{holds}
+use Rattle.spx_core.specs.Mirror.VarSets.{holds}
 use Rattle.spx_flow.specs.Targets.{arms_set}
 use Rattle.spx_flow.proofs.TargetLaws.{or_assoc, sets_if, sets_if_else}
 use Rattle.spx_flow.proofs.targets.+add_targets.Goals as goal

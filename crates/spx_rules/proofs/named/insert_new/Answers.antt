@@ -1,5 +1,5 @@
 use Rattle.std.proofs.Common.{◌+◌, ◌++◌, ◌∙◌, ap, drop, sym}
-use Rattle.spx_core.specs.VarSets.{holds}
+use Rattle.spx_core.specs.Mirror.VarSets.{holds}
 use Rattle.spx_rules.specs.NamedOnce.{all_new}
 use Rattle.spx_rules.proofs.NamedOnceLaws.{one_more}
 use Rattle.spx_rules.proofs.Elements.{left_of}

@@ -1,6 +1,6 @@
 use Rattle.std.proofs.Common.{◌≡◌, List, ◌++◌, drop}
 use Rattle.spx_core.specs.declared.name.Reference.{Reference}
-use Rattle.spx_core.specs.VarSets.{holds}
+use Rattle.spx_core.specs.Mirror.VarSets.{holds}
 use Rattle.spx_rules.specs.NamedOnce.{all_new}
 use Rattle.spx_rules.proofs.named.insert_new.Given as goal
 

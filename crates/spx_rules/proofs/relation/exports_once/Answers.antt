@@ -1,5 +1,5 @@
 use Rattle.std.proofs.Common.{◌∙◌, ap, sym}
-use Rattle.spx_core.specs.VarSets.{holds}
+use Rattle.spx_core.specs.Mirror.VarSets.{holds}
 use Rattle.spx_rules.specs.NamedOnce.{all_new, exports_in}
 use Rattle.spx_rules.proofs.NamedOnceLaws.{exports_new}
 use Rattle.spx_rules.proofs.relation.exports_once.Goals as goal

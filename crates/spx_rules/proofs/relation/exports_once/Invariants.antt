@@ -1,6 +1,6 @@
 use Rattle.std.proofs.Common.{◌≡◌, drop}
 use Rattle.spx_core.specs.Obeyed.{exports_once}
-use Rattle.spx_core.specs.VarSets.{holds}
+use Rattle.spx_core.specs.Mirror.VarSets.{holds}
 use Rattle.spx_rules.specs.NamedOnce.{all_new, exports_in}
 use Rattle.spx_rules.proofs.relation.exports_once.Given as goal
 

@@ -1,6 +1,6 @@
 use Rattle.std.proofs.Common.{[], ◌∙◌, ◌&&◌, Bool, true, false, ◌≡◌, refl, ap, sym}
 use Rattle.std.proofs.lemmas.List.{append-nil}
-use Rattle.spx_core.specs.VarSets.{holds}
+use Rattle.spx_core.specs.Mirror.VarSets.{holds}
 use Rattle.spx_rules.specs.NamedOnce.{all_new}
 use Rattle.spx_rules.proofs.NamedOnceLaws.{new_once}
 use Rattle.spx_rules.proofs.relation.names_once.Goals as goal

@@ -1,6 +1,6 @@
 use Rattle.std.proofs.Common.{List, length, map, sym, ◌∙◌, subst, ap}
 use Rattle.spx_arena.specs.declared.claims.SharedClaim.{SharedClaim}
-use Rattle.spx_term.specs.Steps.{closes_claim}
+use Rattle.spx_simplify.specs.ClosedClaims.{closes_claim}
 use Rattle.spx_simplify.specs.Questions.{AreQuestions, AreGoals, Asked, answer}
 use Rattle.spx_arena.proofs.Growth.{grows_twice}
 use Rattle.spx_arena.proofs.Ids.{wider_lists}

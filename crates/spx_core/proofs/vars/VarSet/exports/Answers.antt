@@ -1,6 +1,6 @@
 use Rattle.std.proofs.Common.{◌∙◌, sym, ap}
 use Rattle.std.specs.List.{list_any}
-use Rattle.spx_core.specs.DerivesItems.{has_export}
+use Rattle.spx_core.specs.Mirror.DerivesItems.{has_export}
 use Rattle.spx_core.proofs.Callers.Pairs.{exports_are}
 use Rattle.spx_core.proofs.vars.VarSet.exports.Goals as goal
 

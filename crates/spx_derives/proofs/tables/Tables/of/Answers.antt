@@ -2,8 +2,8 @@ use Rattle.std.proofs.Common.{◌≡◌, ◌==◌, ◌↔◌, ◌∙◌, ℕ, So
 use Rattle.std.specs.List.{IsDistinct, list_any}
 use Rattle.indexmap.specs.IndexMap.{get}
 use Rattle.spx_core.specs.declared.entity.VarId.{VarId}
-use Rattle.spx_core.specs.DerivesItems.{has_pair}
-use Rattle.spx_core.specs.VarSets.{place_in_set, positions_of}
+use Rattle.spx_core.specs.Mirror.DerivesItems.{has_pair}
+use Rattle.spx_core.specs.Mirror.VarSets.{place_in_set, positions_of}
 use Rattle.spx_core.proofs.Callers.Pairs.{derives_are}
 use Rattle.spx_rows.specs.Relations.{Has}
 use Rattle.spx_derives.specs.Tables.{first_place, same_var}

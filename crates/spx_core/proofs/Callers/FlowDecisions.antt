@@ -1,0 +1,174 @@
+-- What the flow rules find in a subprogram can be listed, from the definitions alone.
+use Rattle.std.proofs.Common.{◌≡◌, ◌↔◌, ◌⊎◌, Bool, true, false, ◌||◌, List, [], ◌++◌, Option, Some, None, refl, sym, ap, ◌∙◌, subst, inl, inr, ⊎_elim}
+use Rattle.std.specs.Prelude.{◌==◌, Contains}
+use Rattle.std.specs.Option.{option_to_list}
+use Rattle.std.proofs.lemmas.Bool.{and_parts, eqb-true, eq-eqb, or_cases, or_left, or_parts, or_right}
+use Rattle.std.proofs.lemmas.List.Folds.{list_any-append}
+use Rattle.spx_text.specs.declared.place.Place.{Place}
+use Rattle.spx_core.specs.declared.entity.VarId.{VarId}
+use Rattle.spx_core.specs.declared.program.Program.{Program}
+use Rattle.spx_core.specs.declared.subprogram.Sub.{Sub}
+use Rattle.spx_core.specs.Uses.{is_same}
+use Rattle.spx_core.specs.Dependency.{Pair, declared_pairs, derives, exports, imports}
+use Rattle.spx_core.specs.Formals.{formals, is_formal, stands_in}
+use Rattle.spx_core.specs.Effects.{Effect, Read, nothing, assign, next, choose, sets, is_read}
+use Rattle.spx_core.specs.Flow.{MayFlow}
+use Rattle.spx_core.specs.Marks.{Occurs, marked}
+use Rattle.spx_core.specs.Ways.{Ways, Follow, Free, Goes, Reaches}
+use Rattle.spx_core.specs.FlowRules.{Missing, Unused, Ineffective, MayBeUnset, body_effect, mark, read, left}
+use Rattle.spx_core.proofs.Callers.ListTests.{covers, found, passes}
+use Rattle.spx_core.proofs.Callers.Variables.{same_var}
+use Rattle.spx_core.proofs.Callers.FlowLaws.{without}
+use Rattle.spx_core.proofs.Callers.Listings.{Decided, Listing, after, both, decided_as, elements, every, is_false, is_true, joined, listed_or_not, listing_as, mapped, neither, no_listing, one_listing, one_of, pairs, those}
+
+-- ---- variables
+
+same_number : (v w : VarId) → ((v.0 == w.0) ≡ true) ↔ (v ≡ w)
+same_number v w = (λ h. same_var v w (eqb-true v.0 w.0 h), λ e. eq-eqb v.0 w.0 (ap (λ (x : VarId). x.0) e))
+
+same_or_not : (v w : VarId) → Decided (v ≡ w)
+same_or_not v w = decided_as (is_true (v.0 == w.0)) (same_number v w)
+
+-- the variable, where it is one
+variable : (o : Option VarId) → Listing (λ v. is_same v o ≡ true)
+variable (Some w) = listing_as (one_listing w) (λ v. ((same_number w v).1, (same_number w v).0))
+variable None = no_listing (λ v h. absurd cc)
+
+-- ---- flows
+
+either_test : (a b : Bool) → ((a ≡ true) ⊎ (b ≡ true)) ↔ ((a || b) ≡ true)
+either_test a b = (λ h. ⊎_elim (or_left a b) (or_right a b) h, or_cases a b)
+
+targets : (e : Effect) → Listing (λ v. sets v e ≡ true)
+targets nothing = no_listing (λ v h. absurd cc)
+targets (assign target reads place) = variable target
+targets (next a b) = listing_as (joined (targets a) (targets b)) (λ v. either_test (sets v a) (sets v b))
+targets (choose tests a b place) = listing_as (joined (targets a) (targets b)) (λ v. either_test (sets v a) (sets v b))
+
+flows_from : (u : VarId) (e : Effect) → Listing (λ w. MayFlow e u w)
+flows_from u nothing = one_listing u
+flows_from u (assign target reads place) =
+    joined (those (variable target) (λ w. is_true (is_read u reads)))
+    (listing_as (those (one_listing u) (λ w. is_false (is_same w target))) (λ w. (λ h. (h.1, h.0), λ h. (h.1, h.0))))
+flows_from u (next a b) = after (flows_from u a) (λ v. flows_from v b)
+flows_from u (choose tests a b place) =
+    joined (flows_from u a) (joined (flows_from u b) (those (targets (next a b)) (λ w. is_true (is_read u tests))))
+
+flows_or_not : (e : Effect) (u w : VarId) → Decided (MayFlow e u w)
+flows_or_not e u w = listed_or_not same_or_not (flows_from u e) w
+
+-- ---- ways
+
+stands_in_both : (v : VarId) (front back : List VarId) → stands_in v (front ++ back) ≡ (stands_in v front || stands_in v back)
+stands_in_both v front back = list_any-append (λ (w : VarId). w.0 == v.0) front back
+
+-- a way of two parts does not set the variable where neither part does
+free_follow : (A B : Ways) (v : VarId) → (Free A v × Free B v) ↔ Free (Follow A B) v
+free_follow A B v = (
+  λ h. (h.0.0 ++ h.1.0, (h.0.0, h.1.0, refl, h.0.1, h.1.1), without v h.0.0 h.1.0 h.0.2 h.1.2),
+  λ h.
+      let way = h.1 in
+      let parts = or_parts (stands_in v way.0) (stands_in v way.1) (sym (stands_in_both v way.0 way.1) ∙ subst (λ w. stands_in v w ≡ false) way.2 h.2) in
+      ((way.0, way.3, parts.0), (way.1, way.4, parts.1)),
+)
+
+free_either : (A B : Ways) (v : VarId) → (Free A v ⊎ Free B v) ↔ Free (λ way. A way ⊎ B way) v
+free_either A B v = (
+  λ h. ⊎_elim (λ one. (one.0, inl one.1, one.2)) (λ two. (two.0, inr two.1, two.2)) h,
+  λ h. ⊎_elim (λ one. inl (h.0, one, h.2)) (λ two. inr (h.0, two, h.2)) h.1,
+)
+
+free_at_once : (P : Type 0) (v : VarId) → P ↔ Free (λ way. P × (way ≡ [])) v
+free_at_once P v = (λ is. ([], (is, refl), refl), λ h. h.1.0)
+
+goes_or_not : (v : VarId) (e : Effect) → Decided (Free (Goes e) v)
+goes_or_not v nothing = inl ([], refl, refl)
+goes_or_not v (assign target reads place) =
+    let way = option_to_list target in
+    decided_as (is_false (stands_in v way)) (λ h. (way, refl, h), λ h. subst (λ w. stands_in v w ≡ false) h.1 h.2)
+goes_or_not v (next a b) = decided_as (both (goes_or_not v a) (goes_or_not v b)) (free_follow (Goes a) (Goes b) v)
+goes_or_not v (choose tests a b place) = decided_as (one_of (goes_or_not v a) (goes_or_not v b)) (free_either (Goes a) (Goes b) v)
+
+-- reads of variables before they are set
+abbrev EarlyIn : Effect → Read → Type 0
+EarlyIn e r = Free (Reaches e r.0 r.1) r.1
+
+early_reads : (e : Effect) → Listing (EarlyIn e)
+early_reads nothing = no_listing (λ r h. h.1)
+early_reads (assign target reads place) = listing_as (elements reads) (λ r. free_at_once (Contains reads r) r.1)
+early_reads (next a b) = listing_as (joined (early_reads a) (those (early_reads b) (λ r. goes_or_not r.1 a))) (λ r.
+    let later = free_follow (Goes a) (Reaches b r.0 r.1) r.1 in
+    let all = free_either (Reaches a r.0 r.1) (Follow (Goes a) (Reaches b r.0 r.1)) r.1 in (
+      λ h. all.0 (⊎_elim (λ one. inl one) (λ two. inr (later.0 (two.1, two.0))) h),
+      λ h. ⊎_elim (λ one. inl one) (λ two. let parts = later.1 two in inr (parts.1, parts.0)) (all.1 h),
+    ))
+early_reads (choose tests a b place) = listing_as (joined (elements tests) (joined (early_reads a) (early_reads b))) (λ r.
+    let here = free_at_once (Contains tests r) r.1 in
+    let arms = free_either (Reaches a r.0 r.1) (Reaches b r.0 r.1) r.1 in
+    let all = free_either (λ way. Contains tests r × (way ≡ [])) (λ way. Reaches a r.0 r.1 way ⊎ Reaches b r.0 r.1 way) r.1 in (
+      λ h. all.0 (⊎_elim (λ one. inl (here.0 one)) (λ more. inr (arms.0 more)) h),
+      λ h. ⊎_elim (λ one. inl (here.1 one)) (λ more. inr (arms.1 more)) (all.1 h),
+    ))
+
+-- ---- occurrences
+
+occurrences : (e : Effect) → Listing (Occurs e)
+occurrences nothing = no_listing (λ p h. h)
+occurrences (assign (Some v) reads place) = listing_as (one_listing place) (λ p. (λ e. (refl, e), λ h. h.1))
+occurrences (assign None reads place) = no_listing (λ p h. absurd cc)
+occurrences (next a b) = joined (occurrences a) (occurrences b)
+occurrences (choose tests a b place) = joined (one_listing place) (joined (occurrences a) (occurrences b))
+
+-- ---- subprograms
+
+module _ (sub : Sub) where
+  formals_listed : Listing (λ v. is_formal v sub ≡ true)
+  formals_listed = listing_as (elements (formals sub)) (λ v. (
+    λ is. passes (λ (w : VarId). w.0 == v.0) (formals sub) v is ((same_number v v).1 refl),
+    λ h. let w = found (λ (w : VarId). w.0 == v.0) (formals sub) h in subst (Contains (formals sub)) ((same_number w.0 v).0 w.2) w.1,
+  ))
+
+  exports_listed : Listing (λ v. exports v sub ≡ true)
+  exports_listed = listing_as (after (elements (declared_pairs sub)) (λ (pair : Pair). variable pair.to)) (λ v. (
+    λ h. passes (λ (pair : Pair). is_same v pair.to) (declared_pairs sub) h.0 h.1 h.2,
+    λ h. found (λ (pair : Pair). is_same v pair.to) (declared_pairs sub) h,
+  ))
+
+  -- what is declared to be derived is an export
+  derived_exported : (x y : VarId) → derives x y sub ≡ true → exports y sub ≡ true
+  derived_exported x y is = covers (λ (pair : Pair). _) (λ (pair : Pair). is_same y pair.to) (λ pair h. (and_parts (is_same y pair.to) (is_same x pair.from) h).0) (declared_pairs sub) is
+
+  pub missing_listed : Listing (λ (z : VarId × VarId). Missing sub z.0 z.1)
+  missing_listed =
+      listing_as (those (pairs formals_listed exports_listed) (λ z. both (flows_or_not (body_effect sub) z.0 z.1) (is_false (derives z.0 z.1 sub))))
+      (λ z. (λ h. (h.0.0, h.0.1, h.1.0, h.1.1), λ h. ((h.0, h.1), (h.2, h.3))))
+
+  pub unused_listed : Listing (λ (z : VarId × VarId). Unused sub z.0 z.1)
+  unused_listed =
+      listing_as (those (pairs formals_listed exports_listed) (λ z. both (is_true (derives z.0 z.1 sub)) (neither (flows_or_not (body_effect sub) z.0 z.1))))
+      (λ z. (λ h. (h.0.0, h.1.0, h.1.1), λ h. ((h.0, derived_exported z.0 z.1 h.1), (h.1, h.2))))
+
+  pub ineffective_listed : (p : Program) → Listing (Ineffective p sub)
+  ineffective_listed p =
+      those (occurrences (body_effect sub)) (λ place. every exports_listed (λ y. neither (flows_or_not (marked place (mark p) (body_effect sub)) (mark p) y)))
+
+  abbrev Unset : Read → Type 0
+  Unset r = MayBeUnset sub r.0 r.1
+
+  -- a read before it is set, or an export at the end
+  abbrev Cause : Read → Type 0
+  Cause r = (EarlyIn (body_effect sub) r × (imports r.1 sub ≡ false)) ⊎ ((v : VarId) × ((exports v sub ≡ true) × ((imports v sub ≡ false) × Free (Goes (body_effect sub)) v)) × ((sub.end, v) ≡ r))
+
+  cause : (place : Place) (v : VarId) → MayBeUnset sub place v → Cause (place, v)
+  cause place v (read none way) = inl (way, none)
+  cause place v (left exported none way) = inr (v, (exported, (none, way)), refl)
+
+  pub unset_listed : Listing Unset
+  unset_listed =
+      listing_as
+      (joined (those (early_reads (body_effect sub)) (λ r. is_false (imports r.1 sub)))
+      (mapped (λ v. (sub.end, v)) (those exports_listed (λ v. both (is_false (imports v sub)) (goes_or_not v (body_effect sub))))))
+      (λ r. (
+        λ h. ⊎_elim (λ one. read one.1 one.0) (λ last. subst Unset last.2 (left last.1.0 last.1.1.0 last.1.1.1)) h,
+        λ h. cause r.0 r.1 h,
+      ))

@@ -1,0 +1,120 @@
+-- What breaks each rule on names and types, and where: one case for each rule and each kind of part (Ada 95 RM 3.5, 4.1, 4.5, 4.9, 5.2, 5.3, 6.3, 8.3).
+-- Nothing here says in which order the parts are looked at.
+use Rattle.std.specs.Prelude.{◌≡◌, ◌&&◌, true, false, List, ◌++◌, Contains, Some, None}
+use Rattle.std.specs.Str.{str_eq_ignore_ascii_case}
+use Rattle.spx_text.specs.declared.place.Place.{Place}
+use Rattle.spx_tree.specs.declared.expression.Identifier.{Identifier}
+use Rattle.spx_tree.specs.declared.expression.InfixOp.{InfixOp}
+use Rattle.spx_tree.specs.declared.expression.PrefixOp.{PrefixOp}
+use Rattle.spx_core.specs.declared.entity.Entity.{Entity}
+use Rattle.spx_core.specs.declared.entity.Entity.TheVariants as entity
+use Rattle.spx_core.specs.declared.entity.Object.{Object}
+use Rattle.spx_core.specs.declared.entity.Subtype.{Subtype}
+use Rattle.spx_core.specs.declared.entity.VarId.{VarId}
+use Rattle.spx_core.specs.declared.name.CoreName.{CoreName}
+use Rattle.spx_core.specs.declared.name.Defining.{Defining}
+use Rattle.spx_core.specs.declared.name.Reference.{Reference}
+use Rattle.spx_core.specs.declared.name.Step.{Step}
+use Rattle.spx_core.specs.declared.expression.CoreExpr.{CoreExpr}
+use Rattle.spx_core.specs.declared.expression.CoreExpr.TheVariants as expr
+use Rattle.spx_core.specs.declared.statement.CoreDecl.TheVariants.{Variables}
+use Rattle.spx_core.specs.declared.dependency.CoreDerivesItem.{CoreDerivesItem}
+use Rattle.spx_core.specs.declared.subprogram.CoreParam.{CoreParam}
+use Rattle.spx_core.specs.declared.subprogram.CorePrecondition.{CorePrecondition}
+use Rattle.spx_core.specs.declared.subprogram.Sub.{Sub}
+use Rattle.spx_core.specs.declared.program.Program.{Program}
+use Rattle.spx_core.specs.declared.rule.RuleName.{RuleName}
+use Rattle.spx_core.specs.declared.rule.RuleName.TheVariants.{N1, N2, N3, N5, N10, N12}
+use Rattle.spx_core.specs.declared.rule.ExprType.TheVariants.{Of}
+use Rattle.spx_core.specs.declared.rule.Typing.{Typing}
+use Rattle.spx_core.specs.Commands.{Command, Set, Then, Choose, commands}
+use Rattle.spx_core.specs.Dependency.{relation}
+use Rattle.spx_core.specs.HasType.{HasType}
+use Rattle.spx_core.specs.Judged.{is_attribute}
+use Rattle.spx_core.specs.Resolved.{formal_names, local_names, params_of}
+use Rattle.spx_core.specs.Types.{both_held, is_boolean, is_held, is_number, is_of, lies_in, meet, met, result_of, result_type, signed_result}
+
+-- ---- names
+
+abbrev pub IsObject : Entity → Type 0
+IsObject e = (v : VarId) × (object : Object) × (e ≡ entity.Variable v object)
+
+abbrev pub IsType : Entity → Type 0
+IsType e = (subtype : Subtype) × (e ≡ entity.TypeName subtype)
+
+-- a name is needed that denotes something of this kind
+pub data BreaksName (IsNeeded : Entity → Type 0) (name : CoreName) : RuleName → Place → Type 0 where
+  -- no declaration of it is visible
+  undeclared : name.entity ≡ None → BreaksName IsNeeded name N1 name.name.place
+  -- it denotes something of another kind
+  of_another_kind : (other : Entity) → name.entity ≡ Some other → ¬ IsNeeded other → BreaksName IsNeeded name N3 name.name.place
+
+-- the same of a name with what follows its first identifier: with an attribute it denotes neither object nor type
+pub data BreaksReference (IsNeeded : Entity → Type 0) (reference : Reference) : RuleName → Place → Type 0 where
+  root : (rule : RuleName) (place : Place) → BreaksName IsNeeded reference.root rule place → BreaksReference IsNeeded reference rule place
+  not_whole : (step : Step) → Contains reference.way step → BreaksReference IsNeeded reference N3 reference.root.name.place
+
+-- ---- expressions
+
+pub data BreaksExpr : CoreExpr → RuleName → Place → Type 0 where
+  -- an object is needed
+  name : (name : CoreName) (rule : RuleName) (place : Place) → BreaksName IsObject name rule place → BreaksExpr (expr.Name name) rule place
+  -- a type is needed before the apostrophe, and `First` or `Last` after it
+  prefix : (prefix : CoreName) (designator : Identifier) (rule : RuleName) (place : Place) → BreaksName IsType prefix rule place → BreaksExpr (expr.Attribute prefix designator) rule place
+  no_attribute : (prefix : CoreName) (designator : Identifier) → is_attribute designator.text ≡ false → BreaksExpr (expr.Attribute prefix designator) N3 prefix.name.place
+  -- a part of it breaks a rule
+  inner : (at : Place) (a : CoreExpr) (rule : RuleName) (place : Place) → BreaksExpr a rule place → BreaksExpr (expr.Parenthesized at a) rule place
+  operand : (op : PrefixOp) (at : Place) (a : CoreExpr) (rule : RuleName) (place : Place) → BreaksExpr a rule place → BreaksExpr (expr.Prefix op at a) rule place
+  left : (op : InfixOp) (at : Place) (a b : CoreExpr) (rule : RuleName) (place : Place) → BreaksExpr a rule place → BreaksExpr (expr.Infix op at a b) rule place
+  right : (op : InfixOp) (at : Place) (a b : CoreExpr) (rule : RuleName) (place : Place) → BreaksExpr b rule place → BreaksExpr (expr.Infix op at a b) rule place
+  -- a sign is applied to what is no number, or gives a static value that lies outside the type, or in no 128 bits
+  sign_of_no_number : (op : PrefixOp) (at : Place) (a : CoreExpr) (o : Typing) → HasType a o → is_number o.of ≡ false → BreaksExpr (expr.Prefix op at a) N10 at
+  sign_out_of_range : (op : PrefixOp) (at : Place) (a : CoreExpr) (o : Typing) → HasType a o → (is_held o.value (signed_result op o.value) && lies_in o.of (signed_result op o.value)) ≡ false → BreaksExpr (expr.Prefix op at a) N12 at
+  -- two operands are not numbers of one type
+  no_common_type : (op : InfixOp) (at : Place) (a b : CoreExpr) (l r : Typing) → HasType a l → HasType b r → meet l.of r.of ≡ false → BreaksExpr (expr.Infix op at a b) N10 at
+  -- a universal operand lies outside the type that it meets
+  left_out_of_range : (op : InfixOp) (at : Place) (a b : CoreExpr) (l r : Typing) → HasType a l → HasType b r → lies_in (met l.of r.of) l.value ≡ false → BreaksExpr (expr.Infix op at a b) N12 l.place
+  right_out_of_range : (op : InfixOp) (at : Place) (a b : CoreExpr) (l r : Typing) → HasType a l → HasType b r → lies_in (met l.of r.of) r.value ≡ false → BreaksExpr (expr.Infix op at a b) N12 r.place
+  -- the static result lies outside its type, or in no 128 bits
+  result_out_of_range : (op : InfixOp) (at : Place) (a b : CoreExpr) (l r : Typing) → HasType a l → HasType b r
+      → (both_held l.value r.value (result_of op l.value r.value) && lies_in (result_type op (met l.of r.of)) (result_of op l.value r.value)) ≡ false → BreaksExpr (expr.Infix op at a b) N12 at
+
+-- an expression where a truth value is needed
+pub data BreaksCondition (e : CoreExpr) : RuleName → Place → Type 0 where
+  itself : (rule : RuleName) (place : Place) → BreaksExpr e rule place → BreaksCondition e rule place
+  no_truth : (t : Typing) → HasType e t → is_boolean t.of ≡ false → BreaksCondition e N10 t.place
+
+-- ---- statements
+
+pub data BreaksCommand : Command → RuleName → Place → Type 0 where
+  target : (target : Reference) (value : CoreExpr) (rule : RuleName) (place : Place) → BreaksReference IsObject target rule place → BreaksCommand (Set target value) rule place
+  value : (target : Reference) (value : CoreExpr) (rule : RuleName) (place : Place) → BreaksExpr value rule place → BreaksCommand (Set target value) rule place
+  -- the value is of another type, or static and outside the base type of the target
+  of_another_type : (target : Reference) (value : CoreExpr) (v : VarId) (object : Object) (t : Typing) → target.root.entity ≡ Some (entity.Variable v object) → HasType value t
+      → is_of object.subtype.base t.of ≡ false → BreaksCommand (Set target value) N10 t.place
+  out_of_range : (target : Reference) (value : CoreExpr) (v : VarId) (object : Object) (t : Typing) → target.root.entity ≡ Some (entity.Variable v object) → HasType value t
+      → lies_in (Of object.subtype.base) t.value ≡ false → BreaksCommand (Set target value) N12 t.place
+  -- a part of it breaks a rule
+  first : (a b : Command) (rule : RuleName) (place : Place) → BreaksCommand a rule place → BreaksCommand (Then a b) rule place
+  second : (a b : Command) (rule : RuleName) (place : Place) → BreaksCommand b rule place → BreaksCommand (Then a b) rule place
+  condition : (at : Place) (c : CoreExpr) (a b : Command) (rule : RuleName) (place : Place) → BreaksCondition c rule place → BreaksCommand (Choose at c a b) rule place
+  arm : (at : Place) (c : CoreExpr) (a b : Command) (rule : RuleName) (place : Place) → BreaksCommand a rule place → BreaksCommand (Choose at c a b) rule place
+  otherwise : (at : Place) (c : CoreExpr) (a b : Command) (rule : RuleName) (place : Place) → BreaksCommand b rule place → BreaksCommand (Choose at c a b) rule place
+
+-- ---- subprograms and programs
+
+pub data BreaksSub (sub : Sub) : RuleName → Place → Type 0 where
+  -- a formal or a local is declared before, in the same region or everywhere
+  declared_again : (d : Defining) → Contains (formal_names sub ++ local_names sub) d → d.again ≡ true → BreaksSub sub N2 d.name.place
+  param_type : (param : CoreParam) (rule : RuleName) (place : Place) → Contains (params_of sub.formal_part) param → BreaksReference IsType param.type_name rule place → BreaksSub sub rule place
+  local_type : (names : List Defining) (type_name : Reference) (rule : RuleName) (place : Place) → Contains sub.declarations (Variables names type_name) → BreaksReference IsType type_name rule place → BreaksSub sub rule place
+  exported : (item : CoreDerivesItem) (name : Reference) (rule : RuleName) (place : Place) → Contains (relation sub) item → Contains item.exports name → BreaksReference IsObject name rule place → BreaksSub sub rule place
+  imported : (item : CoreDerivesItem) (name : Reference) (rule : RuleName) (place : Place) → Contains (relation sub) item → Contains item.imports name → BreaksReference IsObject name rule place → BreaksSub sub rule place
+  precondition : (pre : CorePrecondition) (rule : RuleName) (place : Place) → sub.pre ≡ Some pre → BreaksCondition pre.condition rule place → BreaksSub sub rule place
+  statements : (rule : RuleName) (place : Place) → BreaksCommand (commands sub.statements) rule place → BreaksSub sub rule place
+  -- the name after `end` is another one
+  end_differs : (name : Identifier) → sub.end_name ≡ Some name → str_eq_ignore_ascii_case sub.name.name.text name.text ≡ false → BreaksSub sub N5 name.place
+
+pub data BreaksProgram (p : Program) : RuleName → Place → Type 0 where
+  unit_declared_again : (sub : Sub) → Contains p.subs sub → sub.name.again ≡ true → BreaksProgram p N2 sub.name.name.place
+  within : (sub : Sub) (rule : RuleName) (place : Place) → Contains p.subs sub → BreaksSub sub rule place → BreaksProgram p rule place
