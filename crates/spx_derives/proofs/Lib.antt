@@ -5,3 +5,4 @@ mod DifferenceLaws
 mod Variables
 mod ExportPlaces
 mod Findings
+mod SomeFindings

@@ -6,9 +6,11 @@
 mod derives;
 mod differences;
 mod finding;
+mod laws;
 mod occurrences;
 mod tables;
 mod unset;
 
 pub use derives::compare;
 pub use finding::FlowFinding;
+pub use laws::some_findings;

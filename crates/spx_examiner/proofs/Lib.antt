@@ -3,3 +3,4 @@ mod Endings
 mod Spelled
 mod Refusals
 mod Reliable
+mod SomeOutcome

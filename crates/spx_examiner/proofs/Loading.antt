@@ -1,51 +1,86 @@
 -- Contents that are loaded one after another.
-use Rattle.std.proofs.Common.{◌≡◌, ℕ, zero, suc, ◌+◌, ◌<◌, ◌≤◌, true, false, List, [], ◌∷◌, ◌++◌, length, take, get_or, Option, Some, IfSome, Vec, String, string_bytes, refl, ap, sym, subst, ◌∙◌, arith}
+use Rattle.std.proofs.Common.{◌≡◌, ℕ, zero, suc, ◌<◌, true, List, [], ◌∷◌, ◌++◌, length, map, take, get_or, replicate, Option, Some, None, IfSome, unwrap_or, nat_lt, Vec, String, string_bytes, refl, ap, ap₂, subst, ◌∙◌, arith}
 use Rattle.std.specs.Global.{Global}
 use Rattle.std.proofs.lemmas.Bool.Decides.{nat_tests}
-use Rattle.std.proofs.lemmas.List.{take_more, map-append}
-use Rattle.std.proofs.lemmas.List.Folds.{list_any-append}
-use Rattle.spx_text.specs.Loads.{names}
-use Rattle.spx_examiner.specs.Causes.{Tells, is_too_long, any_too_long}
-use Rattle.spx_examiner.specs.Causes.{contents_of}
+use Rattle.std.proofs.lemmas.List.{length-replicate}
+use Rattle.spx_text.specs.Loads.{names, Appends}
+use Rattle.spx_examiner.specs.Causes.{ForFiles, MayHold, Tells, contents_of, is_too_long, any_too_long, named}
 
-pub record TellsAt (told : List ℕ → Option (List ℕ)) (word : String Global) (contents : List (List ℕ)) (i : ℕ) : Type 0 where
-  pub within : i < length contents
-  pub told_here : told (string_bytes word) ≡ Some (get_or contents i [])
+-- ---- what files may hold
 
--- what the files give for one of the words
-pub tells_at : (told : List ℕ → Option (List ℕ)) (words : List (String Global)) (contents : List (List ℕ)) (i : ℕ) (d : String Global) → Tells told (names words) contents → i < length words → TellsAt told (get_or words i d) contents i
-tells_at told [] contents i d tells below = absurd (omega arith)
-tells_at told (word ∷ words) [] i d tells below = absurd (cc)
-tells_at told (word ∷ words) (content ∷ contents) zero d tells below = record { within = omega arith; told_here = cc }
-tells_at told (word ∷ words) (content ∷ contents) (suc i) d tells below =
-    let rest : Tells told (names words) contents = cc in
-    let at = tells_at told words contents i d rest (omega arith) in
-    record { within = omega (arith, at.within); told_here = at.told_here }
+-- there are as many contents as names
+pub holds_length : (told : List ℕ → Option (List ℕ)) (files contents : List (List ℕ)) → MayHold told files contents → length contents ≡ length files
+holds_length told [] contents holds = ap length holds
+holds_length told (file ∷ files) [] holds = absurd holds
+holds_length told (file ∷ files) (bytes ∷ contents) (here, rest) = ap suc (holds_length told files contents rest)
 
-pub tells_length : (told : List ℕ → Option (List ℕ)) (words : List (String Global)) (contents : List (List ℕ)) → Tells told (names words) contents → length contents ≡ length words
-tells_length told [] [] tells = refl
-tells_length told [] (content ∷ contents) tells = absurd (cc)
-tells_length told (word ∷ words) [] tells = absurd (cc)
-tells_length told (word ∷ words) (content ∷ contents) tells =
-    let rest : Tells told (names words) contents = cc in
-    ap suc (tells_length told words contents rest)
+given_are : (told : Option (List ℕ)) (bytes content : List ℕ) → told ≡ Some content → IfSome told (λ given. bytes ≡ given) → bytes ≡ content
+given_are told bytes content is holds = subst (λ o. IfSome o (λ given. bytes ≡ given)) is holds
 
-pub if_told : (told : Option (List ℕ)) (content : List ℕ) (P : List ℕ → Type 0) → told ≡ Some content → IfSome told P → P content
-if_told told content P is holds = subst (λ v. IfSome v P) is holds
+-- where the files give their bytes, they may hold nothing else
+pub told_are : (told : List ℕ → Option (List ℕ)) (files contents others : List (List ℕ)) → Tells told files contents → MayHold told files others → others ≡ contents
+told_are told [] [] others tells holds = holds
+told_are told [] (content ∷ contents) others tells holds = absurd (cc)
+told_are told (file ∷ files) [] others tells holds = absurd (cc)
+told_are told (file ∷ files) (content ∷ contents) [] tells holds = absurd holds
+told_are told (file ∷ files) (content ∷ contents) (bytes ∷ others) tells (here, rest) =
+    let first : told file ≡ Some content = cc in
+    let more : Tells told files contents = cc in
+    ap₂ (λ x xs. x ∷ xs) (given_are (told file) bytes content first here) (told_are told files contents others more rest)
 
-pub loaded_more : (all : List (Vec ℕ Global)) (bytes : Vec ℕ Global) (contents : List (List ℕ)) (i : ℕ) → contents_of all ≡ take i contents → i < length contents → bytes.items ≡ get_or contents i [] → contents_of (all ++ bytes ∷ []) ≡ take (i + 1) contents
-loaded_more all bytes contents i so_far below here =
-    map-append (λ (v : Vec ℕ Global). v.items) all (bytes ∷ [])
-    ∙ ap (λ (l : List (List ℕ)). l ++ bytes.items ∷ []) so_far
-    ∙ ap (λ (b : List ℕ). take i contents ++ b ∷ []) here
-    ∙ sym (take_more contents i [] below)
+-- what holds for some contents holds for those that the files give
+pub where_told : (told : List ℕ → Option (List ℕ)) (words contents : List (List ℕ)) (P : List (List ℕ) → Type 0) → ForFiles told words P → Tells told (named words) contents → P contents
+where_told told words contents P (others, holds, p) tells = subst P (told_are told (named words) contents others tells holds) p
 
-pub within_more : (contents : List (List ℕ)) (i : ℕ) → any_too_long (take i contents) ≡ false → i < length contents → length (get_or contents i []) ≤ 4194304 → any_too_long (take (i + 1) contents) ≡ false
-within_more contents i so_far below here = rw (take_more contents i [] below) (rw (list_any-append is_too_long) (grind (arith, nat_tests, so_far)))
+-- ---- loading
 
-pub too_long_at : (contents : List (List ℕ)) (i : ℕ) → i < length contents → 4194304 < length (get_or contents i []) → any_too_long contents ≡ true
-too_long_at [] i below long = absurd (omega arith)
-too_long_at (content ∷ contents) zero below long = grind (arith, nat_tests)
-too_long_at (content ∷ contents) (suc i) below long =
-    let rest = too_long_at contents i (omega arith) long in
+-- what is appended to nothing
+pub appended : (told : Option (List ℕ)) (most : ℕ) (old new : List ℕ) → old ≡ [] → IfSome told (Appends most old new) → IfSome told (λ given. new ≡ given)
+appended None most old new none all = _
+appended (Some given) most old new none all = all.behind ∙ ap (λ l. l ++ given) none
+
+-- the next file is loaded
+pub holds_more : (told : List ℕ → Option (List ℕ)) (words : List (String Global)) (all : List (Vec ℕ Global)) (bytes : Vec ℕ Global) (i : ℕ) (d : String Global) → MayHold told (names (take i words)) (contents_of all) → i < length words → IfSome (told (string_bytes (get_or words i d))) (λ given. bytes.items ≡ given) → MayHold told (names (take (suc i) words)) (contents_of (all ++ bytes ∷ []))
+holds_more told [] all bytes i d so_far below here = absurd (omega arith)
+holds_more told (word ∷ words) [] bytes zero d so_far below here = (here, refl)
+holds_more told (word ∷ words) (first ∷ all) bytes zero d so_far below here = absurd (cc)
+holds_more told (word ∷ words) [] bytes (suc i) d so_far below here = absurd so_far
+holds_more told (word ∷ words) (first ∷ all) bytes (suc i) d (now, rest) below here = (now, holds_more told words all bytes i d rest (omega arith) here)
+
+-- ---- a file that is too long
+
+-- contents of which nothing is said but where they are told: such bytes
+abbrev guessed : (List ℕ → Option (List ℕ)) → List ℕ → List (List ℕ) → List (List ℕ)
+guessed told bytes files = map (λ file. unwrap_or (told file) bytes) files
+
+guess_is : (told : Option (List ℕ)) (bytes : List ℕ) → IfSome told (λ given. unwrap_or told bytes ≡ given)
+guess_is None bytes = _
+guess_is (Some given) bytes = refl
+
+guess_holds : (told : List ℕ → Option (List ℕ)) (bytes : List ℕ) (files : List (List ℕ)) → MayHold told files (guessed told bytes files)
+guess_holds told bytes [] = refl
+guess_holds told bytes (file ∷ files) = (guess_is (told file) bytes, guess_holds told bytes files)
+
+guess_too_long : (told : Option (List ℕ)) (bytes : List ℕ) → is_too_long bytes ≡ true → IfSome told (λ given. 4194304 < length given) → is_too_long (unwrap_or told bytes) ≡ true
+guess_too_long None bytes long passes = long
+guess_too_long (Some given) bytes long passes = grind (arith, nat_tests)
+
+guesses_too_long : (told : List ℕ → Option (List ℕ)) (bytes : List ℕ) (words : List (String Global)) (i : ℕ) (d : String Global) → is_too_long bytes ≡ true → i < length words → IfSome (told (string_bytes (get_or words i d))) (λ given. 4194304 < length given) → any_too_long (guessed told bytes (names words)) ≡ true
+guesses_too_long told bytes [] i d long below passes = absurd (omega arith)
+guesses_too_long told bytes (word ∷ words) zero d long below passes = let here = guess_too_long (told (string_bytes word)) bytes long passes in rw here
+guesses_too_long told bytes (word ∷ words) (suc i) d long below passes =
+    let rest = guesses_too_long told bytes words i d long (omega arith) passes in
     grind (arith, nat_tests, rest)
+
+-- bytes of this number are too many, where it is too great
+too_many : (n : ℕ) → nat_lt 4194304 n ≡ true → is_too_long (replicate {A = ℕ} n 0) ≡ true
+too_many n great = ap (nat_lt 4194304) (length-replicate {A = ℕ} n 0) ∙ great
+
+-- some file is too long
+long_file : (bytes : List ℕ) × (is_too_long bytes ≡ true)
+long_file = (replicate 4194305 0, too_many 4194305 refl)
+
+-- where the load of one of them passes the limit, the files may hold contents that are too long
+pub too_long_at : (told : List ℕ → Option (List ℕ)) (words : List (String Global)) (i : ℕ) (d : String Global) → i < length words → IfSome (told (string_bytes (get_or words i d))) (λ given. 4194304 < length given) → (contents : List (List ℕ)) × MayHold told (names words) contents × (any_too_long contents ≡ true)
+too_long_at told words i d below passes =
+    (guessed told long_file.0 (names words), guess_holds told long_file.0 (names words), guesses_too_long told long_file.0 words i d long_file.1 below passes)

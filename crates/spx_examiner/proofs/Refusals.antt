@@ -14,7 +14,8 @@ use Rattle.spx_report.specs.declared.report.Finding.{Finding}
 use Rattle.spx_report.specs.RuleTexts.{breach_finding}
 use Rattle.spx_report.specs.FlowLines.{AreFlowLines}
 use Rattle.spx_examiner.specs.Laws.{Laws}
-use Rattle.spx_examiner.specs.Outcome.{IsMadeFrom, IsSoundFrom, AreRefusals, of_names, of_rules, of_flow}
+use Rattle.spx_examiner.specs.Outcome.{IsSoundFrom, AreRefusals, of_names, of_rules, of_flow}
+use Rattle.spx_core.specs.Contents.{IsMadeFrom}
 
 -- ---- programs that are made from units
 

@@ -32,7 +32,8 @@ use Rattle.spx_examiner.specs.Judgement.{status_of}
 use Rattle.spx_report.specs.Findings.{findings_of, first_limit, first_limit_in}
 use Rattle.spx_examiner.specs.Causes.{Tells, any_too_long, named}
 use Rattle.spx_examiner.specs.Reading.{IsRead, crowded, stopped, ended, nested, whole, stopped_at, expected_at}
-use Rattle.spx_examiner.specs.Outcome.{Is, IsText, IsSoundFrom, IsReportOn, IsReportOnUnits, IsReportOnReading, IsJudgement, no_form, of_files, IsAssured, AreAcceptable, AreClean, AreFit, AreRefusable, AreReliable, IsMadeFrom, IsPassed, variables, conditions, AreRefusals, IsReadTooFar, AreTooWide, AreTooLarge, OneOutcome, PassesLimit}
+use Rattle.spx_examiner.specs.Outcome.{IsSoundFrom, IsReportOn, IsReportOnUnits, IsReportOnReading, IsJudgement, no_form, of_files, IsAssured, AreAcceptable, AreClean, AreFit, AreRefusable, AreReliable, IsPassed, variables, conditions, AreRefusals, IsReadTooFar, AreTooWide, AreTooLarge, OneOutcome, PassesLimit}
+use Rattle.spx_core.specs.Contents.{Is, IsText, IsMadeFrom}
 use Rattle.spx_report.proofs.FindingLaws.{lines_of, none_left}
 use Rattle.spx_examiner.specs.Laws.{Laws}
 use Rattle.spx_examiner.proofs.Refusals.{made_of_sound, no_sound, no_wide, one_made, one_refusal}

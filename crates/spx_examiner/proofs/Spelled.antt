@@ -20,7 +20,7 @@ use Rattle.spx_report.specs.declared.report.Finding.{Finding}
 use Rattle.spx_examiner.specs.declared.reading.Reading.{Reading}
 use Rattle.spx_examiner.specs.declared.reading.Reading.TheVariants.{Units, Broken, TooManyTokens, TooNested}
 use Rattle.spx_examiner.specs.Reading.{stopped_at, expected_at, GoesNoFurther, AreTokens, IsRead, crowded, stopped, ended, nested, whole}
-use Rattle.spx_examiner.specs.Outcome.{Is, IsText, AreTexts, IsMadeFrom}
+use Rattle.spx_core.specs.Contents.{Is, IsText, AreTexts, IsMadeFrom}
 use Rattle.spx_examiner.specs.Laws.{Parsed, OneSpelling, OneStop, OneAnswer, OneTree}
 
 -- ---- texts

@@ -1,17 +1,20 @@
 -- What each answer comes from.
-use Rattle.std.specs.Prelude.{◌≡◌, ◌≢◌, ◌↔◌, true, ℕ, Bool, nat_lt, length, List, [], ◌∷◌, ◌++◌, map, Contains, Option, Some, unwrap_or, Vec}
+use Rattle.std.specs.Prelude.{◌≡◌, ◌≢◌, ◌↔◌, true, ℕ, Bool, nat_lt, length, List, [], ◌∷◌, ◌++◌, map, Contains, Option, Some, IfSome, unwrap_or, Vec}
 use Rattle.std.specs.Global.{Global}
 use Rattle.std.specs.List.{list_any}
-use Rattle.spx_text.specs.Writes.{after, IsPart}
 use Rattle.spx_examiner.specs.declared.status.Status.{Status}
 use Rattle.spx_examiner.specs.declared.status.Status.TheVariants.{ReadFault, WriteFault, NoMemory}
-use Rattle.spx_examiner.specs.declared.judgement.Judgement.{Judgement}
 use Rattle.spx_examiner.specs.Words.{files_of}
-use Rattle.spx_examiner.specs.Judgement.{status_of, text_of}
 
 -- the files give these contents for these names
 abbrev pub Tells : (List ℕ → Option (List ℕ)) → List (List ℕ) → List (List ℕ) → Type 0
 Tells told names contents = map told names ≡ map Some contents
+
+-- Files of these names may have these contents: there is one for each name, and it is what is told of its file, where that is told.
+abbrev pub MayHold : (List ℕ → Option (List ℕ)) → List (List ℕ) → List (List ℕ) → Type 0
+MayHold told [] contents = contents ≡ []
+MayHold told (name ∷ names) [] = ⊥
+MayHold told (name ∷ names) (bytes ∷ contents) = IfSome (told name) (λ given. bytes ≡ given) × MayHold told names contents
 
 -- a file has more bytes than it may have
 abbrev pub is_too_long : List ℕ → Bool
@@ -34,6 +37,10 @@ named words = unwrap_or (files_of words) []
 abbrev pub WhereTold : (List ℕ → Option (List ℕ)) → List (List ℕ) → (List (List ℕ) → Type 0) → Type 0
 WhereTold told words P = (contents : List (List ℕ)) → Tells told (named words) contents → P contents
 
+-- for some contents that the files may have which the words name
+abbrev pub ForFiles : (List ℕ → Option (List ℕ)) → List (List ℕ) → (List (List ℕ) → Type 0) → Type 0
+ForFiles told words P = (contents : List (List ℕ)) × MayHold told (named words) contents × P contents
+
 -- this answer is given exactly where its cause holds, faults and out of memory aside
 abbrev pub Exactly : Status → Type 0 → Status → Type 0
 Exactly answer cause status = Concludes status → (status ≡ answer) ↔ cause
@@ -45,14 +52,6 @@ AreTooLong contents = any_too_long contents ≡ true
 -- the load of one of these names failed, and no other
 abbrev pub OneFailed : List (List ℕ) → List (List ℕ) → List (List ℕ) → Type 0
 OneFailed names before now = (name : List ℕ) × Contains names name × (now ≡ before ++ name ∷ [])
-
--- the status is that of some judgement, and its text was taken
-abbrev pub IsTaken : List (List ℕ) → Status → Option (List ℕ) → Option (List ℕ) → Type 0
-IsTaken words status before now = (j : Judgement) × (status ≡ status_of j) × (now ≡ after before (text_of (named words) j))
-
--- a part of the text of some judgement was taken
-abbrev pub IsCutShort : List (List ℕ) → Option (List ℕ) → Option (List ℕ) → Type 0
-IsCutShort words before now = (j : Judgement) × IsPart before now (text_of (named words) j)
 
 abbrev pub contents_of : List (Vec ℕ Global) → List (List ℕ)
 contents_of loaded = map (λ bytes. bytes.items) loaded

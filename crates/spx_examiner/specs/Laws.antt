@@ -1,5 +1,5 @@
 -- The laws of the definitions below on which the answers rest.
-use Rattle.std.specs.Prelude.{◌≡◌, ℕ, List, Result, None}
+use Rattle.std.specs.Prelude.{◌≡◌, ◌⊎◌, ℕ, List, Result, None}
 use Rattle.spx_text.specs.declared.place.Place.{Place}
 use Rattle.spx_tree.specs.declared.token.Token.{Token}
 use Rattle.spx_tree.specs.declared.subprogram.Unit.{Unit}
@@ -9,6 +9,7 @@ use Rattle.spx_tree.specs.Form.{Form, forms_of}
 use Rattle.spx_tree.specs.Written.{written}
 use Rattle.spx_tree.specs.Grammar.{IsFile}
 use Rattle.spx_tree.specs.Goes.{Fault, Answers}
+use Rattle.spx_lexer.specs.Faults.{HasMoreTokens}
 use Rattle.spx_core.specs.declared.program.Program.{Program}
 use Rattle.spx_core.specs.Erased.{erased}
 use Rattle.spx_core.specs.Erased.{Visible}
@@ -66,3 +67,34 @@ pub record Laws : Type 0 where
   pub breach : NoBreach
   pub obeyed : NoRuleBreach
   pub lines : OneListOfLines
+
+-- ---- that there is something
+
+-- a text has tokens, or it is stopped, or it has too many tokens before that
+abbrev pub SomeSpelling : Type 0
+SomeSpelling = (file : ℕ) (bytes : List ℕ) →
+    ((tokens : List Token) × Spells file bytes tokens × (¬ HasMoreTokens 1000000 file bytes))
+    ⊎ (((cause : Cause) × (place : Place) × StopsAt file bytes cause place × (¬ HasMoreTokens 1000000 file bytes)) ⊎ HasMoreTokens 1000000 file bytes)
+
+-- tokens have an answer
+abbrev pub SomeAnswer : Type 0
+SomeAnswer = (source : List ℕ) (tokens : List Token) → (answer : Parsed) × Answers written IsFile 200 (forms_of source tokens) answer
+
+-- units that break no rule on names or types are a program
+abbrev pub SomeProgram : Type 0
+SomeProgram = (units : List Unit) → first_name_breach units ≡ None → (p : Program) × (erased p ≡ units) × Visible p × Typed p
+
+-- a program in which no rule on variables is broken first obeys them
+abbrev pub ObeysUnlessBroken : Type 0
+ObeysUnlessBroken = (p : Program) → first_rule_breach p ≡ None → Obeys p
+
+-- the flow of a program has a list of lines
+abbrev pub SomeListOfLines : Type 0
+SomeListOfLines = (p : Program) → (lines : List Finding) × AreFlowLines p lines
+
+pub record LawsOfExistence : Type 0 where
+  pub spelling : SomeSpelling
+  pub answer : SomeAnswer
+  pub program : SomeProgram
+  pub obeyed : ObeysUnlessBroken
+  pub lines : SomeListOfLines

@@ -1,19 +1,12 @@
 -- What the program is to answer and to write, by its words and the contents of the files that they name.
-use Rattle.std.specs.Prelude.{◌≡◌, ◌≢◌, ◌⊎◌, ⊤, ℕ, ◌+◌, true, false, List, [], ◌∷◌, ◌++◌, Option, Some, None}
-use Rattle.spx_tree.specs.declared.token.Token.{Token}
+use Rattle.std.specs.Prelude.{◌≡◌, ◌≢◌, ◌⊎◌, ⊤, ℕ, true, false, List, [], ◌∷◌, length, Option, Some, None}
 use Rattle.spx_tree.specs.declared.subprogram.Unit.{Unit}
-use Rattle.spx_tree.specs.Spells.{Spells}
-use Rattle.spx_tree.specs.Form.{forms_of}
-use Rattle.spx_tree.specs.Written.{written}
-use Rattle.spx_tree.specs.Grammar.{IsFile}
 use Rattle.spx_core.specs.declared.program.Program.{Program}
-use Rattle.spx_core.specs.Erased.{erased}
-use Rattle.spx_core.specs.Erased.{Visible}
-use Rattle.spx_core.specs.Statements.{Typed}
-use Rattle.spx_core.specs.Obeyed.{Obeys}
+use Rattle.spx_core.specs.Contents.{Is, IsMadeFrom}
+use Rattle.spx_core.specs.Erased.{Visible, erased}
+use Rattle.spx_core.specs.Statements.{Typed, first_name_breach}
 use Rattle.spx_core.specs.declared.rule.Breach.{Breach}
-use Rattle.spx_core.specs.Statements.{first_name_breach}
-use Rattle.spx_core.specs.Obeyed.{first_rule_breach}
+use Rattle.spx_core.specs.Obeyed.{Obeys, first_rule_breach}
 use Rattle.spx_core.specs.FlowRules.{HasNoFlowFinding, has_many_variables}
 use Rattle.spx_paths.specs.Fit.{Clean, Fit}
 use Rattle.spx_meaning.specs.Laws.{NeverBad, TwoRuns}
@@ -34,26 +27,7 @@ use Rattle.spx_report.specs.FlowLines.{AreFlowLines}
 use Rattle.spx_text.specs.Writes.{IsPart, after}
 use Rattle.spx_examiner.specs.Causes.{AreTooLong, any_too_long, named}
 
--- ---- which program the contents spell
-
--- the bytes of a file spell tokens with which these units are written
-pub record IsText (file : ℕ) (bytes : List ℕ) (units : List Unit) : Type 0 where
-  pub tokens : List Token
-  pub spelled : Spells file bytes tokens
-  pub levels : ℕ
-  pub grammatical : IsFile levels units
-  pub as_written : written units ≡ forms_of bytes tokens
-
--- the units, file by file, from this file on
-abbrev pub AreTexts : ℕ → List (List ℕ) → List Unit → Type 0
-AreTexts file [] units = units ≡ []
-AreTexts file (bytes ∷ more) units = (front : List Unit) × (behind : List Unit) × (units ≡ front ++ behind) × IsText file bytes front × AreTexts (file + 1) more behind
-
--- the contents spell this program: its units are the texts of the files, each name stands with what it denotes, and types fit
-pub record Is (contents : List (List ℕ)) (p : Program) : Type 0 where
-  pub texts : AreTexts 0 contents (erased p)
-  pub visible : Visible p
-  pub typed : Typed p
+-- ---- programs
 
 -- this program is made from the units; it obeys the rules, no subprogram has too many variables, and there is no flow finding
 pub record IsSoundFrom (units : List Unit) (p : Program) : Type 0 where
@@ -73,12 +47,6 @@ pub record IsReliable (contents : List (List ℕ)) (p : Program) : Type 0 where
   pub two_runs : TwoRuns p
 
 -- ---- judgements
-
--- this program is made from the units
-pub record IsMadeFrom (units : List Unit) (p : Program) : Type 0 where
-  pub made : erased p ≡ units
-  pub visible : Visible p
-  pub typed : Typed p
 
 -- The findings on units that make no sound program, in the order of work: the first breach of a rule on names or types; else the
 -- first one of a rule on variables; else, where no subprogram has too many variables, all that the bodies and their declared relations
@@ -135,6 +103,10 @@ IsCutShortAs words contents before now = (j : Judgement) × IsJudgement words co
 -- words and contents have at most one judgement
 abbrev pub OneOutcome : Type 0
 OneOutcome = (words contents : List (List ℕ)) (j k : Judgement) → IsJudgement words contents j → IsJudgement words contents k → j ≡ k
+
+-- and at least one, where there is a content for each file that the words name
+abbrev pub SomeOutcome : Type 0
+SomeOutcome = (words contents : List (List ℕ)) → length contents ≡ length (named words) → (j : Judgement) × IsJudgement words contents j
 
 -- ---- answers, by the words and the contents alone
 

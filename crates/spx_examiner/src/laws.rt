@@ -1,10 +1,11 @@
 //! What holds of the answers to words and contents.
-ghost use Rattle.spx_examiner.specs.Laws.{Laws};
-ghost use Rattle.spx_examiner.specs.Outcome.{OneOutcome};
+ghost use Rattle.spx_examiner.specs.Laws.{Laws, LawsOfExistence};
+ghost use Rattle.spx_examiner.specs.Outcome.{OneOutcome, SomeOutcome};
 
 use spx_core::laws::{name_breaches, one_program, rule_breaches};
-use spx_parse_unit::one_answer;
-use spx_report::laws::one_list_of_flow_lines;
+use spx_lexer::some_spelling;
+use spx_parse_unit::{one_answer, some_answer};
+use spx_report::laws::{one_list_of_flow_lines, some_list_of_flow_lines};
 use spx_tree::{one_spelling, one_stop, one_tree};
 
 /// The laws of the crates below.
@@ -19,6 +20,24 @@ pub(crate) fn laws_below()
     name_breaches();
     rule_breaches();
     one_list_of_flow_lines();
+}
+
+/// The laws of the crates below by which something is there.
+fn laws_of_existence()
+    ensures { LawsOfExistence }
+{
+    some_spelling();
+    some_answer();
+    name_breaches();
+    rule_breaches();
+    some_list_of_flow_lines();
+}
+
+/// Words, and contents of the files that they name, have a judgement.
+pub fn some_outcome()
+    ensures { SomeOutcome }
+{
+    laws_of_existence();
 }
 
 /// The words and what the files hold decide the status and the text.

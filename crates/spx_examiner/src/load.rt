@@ -1,8 +1,7 @@
 // The files, loaded in order up to the first refusal.
-ghost use Rattle.std.specs.Prelude.{◌≡◌, ℕ, List, IsErrOf, IfOk, length, false, true};
+ghost use Rattle.std.specs.Prelude.{◌≡◌, ℕ, List, IsErrOf, IfOk};
 ghost use Rattle.spx_text.specs.Loads.{names};
-ghost use Rattle.spx_examiner.specs.Causes.{Tells, any_too_long};
-ghost use Rattle.spx_examiner.specs.Causes.{OneFailed, contents_of};
+ghost use Rattle.spx_examiner.specs.Causes.{AreTooLong, MayHold, OneFailed, contents_of};
 
 use spx_text::{Files, LoadFault};
 use std::alloc::Global;
@@ -16,9 +15,10 @@ pub fn load_all<F: Files>(
     words: &[String],
     files: &mut F,
 ) -> Result<Vec<Vec<u8>>, LoadFault>
-    ensures loaded { (contents : List (List ℕ)) → Tells (F.told files.old) (names words.now) contents → IfOk result (λ all. contents_of all.items ≡ contents) }
-    ensures within { (contents : List (List ℕ)) → Tells (F.told files.old) (names words.now) contents → IfOk result (λ all. any_too_long contents ≡ false) }
-    ensures too_long { (contents : List (List ℕ)) → Tells (F.told files.old) (names words.now) contents → IsErrOf result LoadFault.TooLong → any_too_long contents ≡ true }
+    ensures loaded { IfOk result (λ all. MayHold (F.told files.old) (names words.now) (contents_of all.items)) }
+    ensures too_long { IsErrOf result LoadFault.TooLong → (contents : List (List ℕ)) × MayHold (F.told files.old) (names words.now) contents × AreTooLong contents }
+    // Nothing that is told is changed.
+    ensures told { (name : List ℕ) → F.told files.new name ≡ F.told files.old name }
     ensures failed { IsErrOf result LoadFault.Failed → OneFailed (names words.now) (F.failed files.old) (F.failed files.new) }
     ensures none_failed { (IsErrOf result LoadFault.Failed → ⊥) → F.failed files.new ≡ F.failed files.old }
 {

@@ -1,13 +1,13 @@
 // From units to what there is to report, phase by phase.
 ghost use Rattle.std.specs.Prelude.{◌≡◌, ◌≢◌, ◌≤◌, [], ◌∷◌, length, IfOk};
-ghost use Rattle.spx_core.specs.Erased.{erased};
-ghost use Rattle.spx_core.specs.Erased.{Visible};
+ghost use Rattle.spx_core.specs.Contents.{IsMadeFrom};
+ghost use Rattle.spx_core.specs.Erased.{Visible, erased};
 ghost use Rattle.spx_core.specs.Obeyed.{Obeys};
 ghost use Rattle.spx_core.specs.Statements.{Typed};
 ghost use Rattle.spx_report.specs.RuleTexts.{breach_finding};
 ghost use Rattle.spx_examiner.specs.declared.judgement.Judgement.TheVariants.{Refused};
 ghost use Rattle.spx_examiner.specs.Judgement.{status_of};
-ghost use Rattle.spx_examiner.specs.Outcome.{IsMadeFrom, IsReportOn, IsReportOnUnits, IsSoundFrom};
+ghost use Rattle.spx_examiner.specs.Outcome.{IsReportOn, IsReportOnUnits, IsSoundFrom};
 
 use crate::Status;
 use crate::judgement::Judgement;

@@ -1,13 +1,13 @@
 // The whole program.
-ghost use Rattle.std.specs.Prelude.{◌≡◌, ◌≢◌, ◌⊎◌, ◌↔◌, ℕ, List, length, false, None, IfOk, IsErrOf};
+ghost use Rattle.std.specs.Prelude.{◌≡◌, ◌≢◌, ◌⊎◌, ◌↔◌, ◌≤◌, ℕ, List, [], ◌∷◌, length, IfOk, IsErrOf};
 ghost use Rattle.spx_text.specs.Loads.{names};
 ghost use Rattle.spx_text.specs.Writes.{Rose};
 ghost use Rattle.spx_examiner.specs.Words.{HasNoForm};
 ghost use Rattle.spx_examiner.specs.Judgement.{status_of, text_of};
-ghost use Rattle.spx_examiner.specs.Causes.{Concludes, Exactly, IsCutShort, IsTaken, OneFailed, Tells, WhereTold, any_too_long, contents_of, named};
+ghost use Rattle.spx_examiner.specs.Causes.{Concludes, Exactly, ForFiles, MayHold, OneFailed, WhereTold, named};
 ghost use Rattle.spx_paths.specs.Fit.{Clean, Fit};
 ghost use Rattle.spx_meaning.specs.Laws.{NeverBad, TwoRuns};
-ghost use Rattle.spx_examiner.specs.Outcome.{AreAcceptable, AreFit, AreRefusable, AreReliable, EndsAs, IsAssured, IsCutShortAs, IsJudgedOn, IsJudgement, IsReportOn, PassesLimit};
+ghost use Rattle.spx_examiner.specs.Outcome.{AreAcceptable, AreFit, AreRefusable, AreReliable, EndsAs, IsAssured, IsCutShortAs, IsJudgedOn, IsJudgement, PassesLimit};
 
 use crate::Status;
 use crate::judgement::Judgement;
@@ -46,15 +46,15 @@ struct Report {
     text: Vec<u8>,
 }
 
-/// What there is to report on the loaded files.
-fn examined(alloc: Global, loaded: &[Vec<u8>]) -> Result<Judgement, AllocError>
-    ensures report { length loaded.now ≡ 1 → any_too_long (contents_of loaded.now) ≡ false → IfOk result (IsReportOn (contents_of loaded.now)) }
+/// What there is to report on the file with these bytes.
+fn examined(alloc: Global, bytes: &[u8]) -> Result<Judgement, AllocError>
+    ensures report { IfOk result (IsJudgedOn (bytes.now ∷ [])) }
     ensures named { IfOk result (λ judgement. status_of judgement ≢ Status.Usage) }
 {
-    match loaded {
-        [bytes] if bytes.len() <= MOST_BYTES => judge(alloc, bytes.as_slice()),
-        _ => Ok(Judgement::Limit(LimitName::FileSize)),
+    if bytes.len() > MOST_BYTES {
+        return Ok(Judgement::Limit(LimitName::FileSize));
     }
+    judge(alloc, bytes)
 }
 
 /// What there is to report on the file of this name.
@@ -62,12 +62,13 @@ fn examined(alloc: Global, loaded: &[Vec<u8>]) -> Result<Judgement, AllocError>
 fn judged<F: Files>(alloc: Global, named: &[String], files: &mut F) -> Result<Judgement, Stop>
     requires { length named.now ≡ 1 }
     ensures named { IfOk result (λ judgement. status_of judgement ≢ Status.Usage) }
-    ensures judged { (contents : List (List ℕ)) → Tells (F.told files.old) (names named.now) contents → IfOk result (IsJudgedOn contents) }
+    ensures judged { IfOk result (λ judgement. (contents : List (List ℕ)) × MayHold (F.told files.old) (names named.now) contents × IsJudgedOn contents judgement) }
+    ensures told { (name : List ℕ) → F.told files.new name ≡ F.told files.old name }
     ensures failed { IsErrOf result Stop.ReadFault → OneFailed (names named.now) (F.failed files.old) (F.failed files.new) }
     ensures none_failed { (IsErrOf result Stop.ReadFault → ⊥) → F.failed files.new ≡ F.failed files.old }
 {
     match load_all(alloc, named, files) {
-        Ok(loaded) => Ok(examined(alloc, loaded.as_slice())?),
+        Ok(loaded) => Ok(examined(alloc, loaded[0].as_slice())?),
         Err(LoadFault::TooLong) => Ok(Judgement::Limit(LimitName::FileSize)),
         Err(LoadFault::Failed) => Err(Stop::ReadFault),
         Err(LoadFault::Memory) => Err(Stop::NoMemory),
@@ -109,8 +110,8 @@ fn assure(judgement: &Judgement)
 fn prepare<F: Files>(alloc: Global, words: &[String], files: &mut F) -> Result<Report, Stop>
     ensures text { IfOk result (λ made. made.text.items ≡ text_of (named (names words.now)) made.judgement) }
     ensures usage { IfOk result (λ made. (status_of made.judgement ≡ Status.Usage) ↔ HasNoForm (names words.now)) }
-    ensures judged { WhereTold (F.told files.old) (names words.now) (λ contents.
-        IfOk result (λ made. IsJudgement (names words.now) contents made.judgement)) }
+    ensures judged { IfOk result (λ made. ForFiles (F.told files.old) (names words.now) (λ contents. IsJudgement (names words.now) contents made.judgement)) }
+    ensures told { (name : List ℕ) → F.told files.new name ≡ F.told files.old name }
     ensures failed { IsErrOf result Stop.ReadFault → OneFailed (named (names words.now)) (F.failed files.old) (F.failed files.new) }
     ensures none_failed { (IsErrOf result Stop.ReadFault → ⊥) → F.failed files.new ≡ F.failed files.old }
 {
@@ -132,16 +133,14 @@ pub fn examine<F: Files, S: Sink>(
     files: &mut F,
     sink: &mut S,
 ) -> Status
-    // The text of a judgement was written, and the status is that judgement's: `Refused` exactly where the report has
-    // findings.
-    ensures judged { Concludes result → IsTaken (names words.now) result (S.taken sink.old) (S.taken sink.new) }
-
-    // The judgement is that of the words and of what the files give.
-    ensures outcome { WhereTold (F.told files.old) (names words.now) (λ contents. Concludes result
-        → EndsAs (names words.now) contents result (S.taken sink.old) (S.taken sink.new)) }
+    // The report is that on the words and on contents that the files may have, which are what the files give where they give
+    // their bytes. Its text was written, and the status is its own: `Refused` exactly where it has findings.
+    ensures outcome { Concludes result → ForFiles (F.told files.old) (names words.now) (λ contents.
+        EndsAs (names words.now) contents result (S.taken sink.old) (S.taken sink.new)) }
 
     // The headline: where a program is accepted, the bytes spell exactly one program, and its runs may be relied on.
-    ensures headline { WhereTold (F.told files.old) (names words.now) (λ contents. result ≡ Status.Accepted → AreReliable contents) }
+    ensures headline { result ≡ Status.Accepted → ForFiles (F.told files.old) (names words.now) (λ contents.
+        EndsAs (names words.now) contents result (S.taken sink.old) (S.taken sink.new) × AreReliable contents) }
 
     // What is accepted is clean, and so fit to run.
     ensures clean { WhereTold (F.told files.old) (names words.now) (λ contents. result ≡ Status.Accepted → AreFit contents) }
@@ -162,13 +161,17 @@ pub fn examine<F: Files, S: Sink>(
     ensures read_fault { result ≡ Status.ReadFault → OneFailed (named (names words.now)) (F.failed files.old) (F.failed files.new) }
     ensures no_read_fault { result ≢ Status.ReadFault → F.failed files.new ≡ F.failed files.old }
 
-    // A write fault comes only where the sink counted one, and then a part of a judgement's text was taken.
+    // A write fault comes only where the sink counted one, and then a part of the report's text was taken.
     ensures write_fault { result ≡ Status.WriteFault → Rose (S.faults sink.old) (S.faults sink.new) }
-    ensures part { result ≡ Status.WriteFault → IsCutShort (names words.now) (S.taken sink.old) (S.taken sink.new) }
-    ensures part_told { WhereTold (F.told files.old) (names words.now) (λ contents. result ≡ Status.WriteFault
-        → IsCutShortAs (names words.now) contents (S.taken sink.old) (S.taken sink.new)) }
+    ensures part { result ≡ Status.WriteFault → ForFiles (F.told files.old) (names words.now) (λ contents.
+        IsCutShortAs (names words.now) contents (S.taken sink.old) (S.taken sink.new)) }
 
+    // No other answer comes with any text.
     ensures nothing { (result ≡ Status.ReadFault) ⊎ (result ≡ Status.NoMemory) → S.taken sink.new ≡ S.taken sink.old }
+
+    // The files give afterwards what they gave before, and the sink's count of faults never falls.
+    ensures told { (name : List ℕ) → F.told files.new name ≡ F.told files.old name }
+    ensures later { S.faults sink.old ≤ S.faults sink.new }
 {
     laws_below();
     let made = match prepare(alloc, words, files) {

@@ -1,6 +1,6 @@
 // From the bytes of a file to its units, or to what keeps it from having any.
 ghost use Rattle.std.specs.Prelude.{◌≡◌, ◌≤◌, length, IfOk};
-ghost use Rattle.spx_tree.specs.Form.{AreWithin};
+ghost use Rattle.spx_tree.specs.Mirror.{AreWithin};
 ghost use Rattle.spx_tree.specs.Places.{place_behind};
 ghost use Rattle.spx_examiner.specs.Reading.{AreTokens, IsRead, expected_at};
 ghost use Rattle.spx_examiner.specs.declared.reading.Reading.TheVariants.{Broken};

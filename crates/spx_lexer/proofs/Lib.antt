@@ -10,3 +10,4 @@ mod Finds
 mod Reading
 mod TokenCount
 mod Within
+mod SomeSpelling

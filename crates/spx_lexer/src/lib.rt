@@ -4,6 +4,8 @@
 //! A fault says where and why the text is stopped, that it has more than `MOST_TOKENS` tokens, or that memory ran out.
 #![tactic(auto)]
 
+mod laws;
 mod lexer;
 
+pub use laws::some_spelling;
 pub use lexer::{LexFault, MOST_TOKENS, Tokens, lex};

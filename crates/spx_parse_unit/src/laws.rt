@@ -13,3 +13,8 @@ pub fn one_answer()
     ensures { (source : List ℕ) (tokens : List Token) (a b : Result (List Unit × List Form) Fault)
         → Answers written IsFile 200 (forms_of source tokens) a → Answers written IsFile 200 (forms_of source tokens) b → a ≡ b }
 {}
+
+/// Tokens have an answer.
+pub fn some_answer()
+    ensures { (source : List ℕ) (tokens : List Token) → (answer : Result (List Unit × List Form) Fault) × Answers written IsFile 200 (forms_of source tokens) answer }
+{}

@@ -11,6 +11,6 @@ mod subprograms;
 #[cfg(test)]
 mod tests;
 
-pub use laws::one_answer;
+pub use laws::{one_answer, some_answer};
 pub use parse::parse_units;
 pub use spx_parse_body::{MOST_LEVELS, ParseFault};

@@ -8,3 +8,10 @@ ghost use Rattle.spx_report.specs.FlowLines.{AreFlowLines};
 pub fn one_list_of_flow_lines()
     ensures { (p : Program) (a b : List Finding) → AreFlowLines p a → AreFlowLines p b → a ≡ b }
 {}
+
+/// A program has a list of flow lines.
+pub fn some_list_of_flow_lines()
+    ensures { (p : Program) → (lines : List Finding) × AreFlowLines p lines }
+{
+    spx_derives::some_findings();
+}

@@ -2,7 +2,8 @@ use Rattle.std.proofs.Common.{refl, sym, subst, ◌∙◌}
 use Rattle.spx_core.specs.declared.program.Program.{Program}
 use Rattle.spx_core.specs.Erased.{Visible, erased}
 use Rattle.spx_core.specs.Statements.{Typed}
-use Rattle.spx_examiner.specs.Outcome.{IsMadeFrom, IsReportOnUnits, of_rules}
+use Rattle.spx_examiner.specs.Outcome.{IsReportOnUnits, of_rules}
+use Rattle.spx_core.specs.Contents.{IsMadeFrom}
 use Rattle.spx_examiner.proofs.Spelled.{if_ok}
 use Rattle.spx_examiner.proofs.phases.examined_program.Goals as goal
 
