@@ -36,7 +36,7 @@ use Rattle.spx_examples.proofs.Statements.{assignment_is, if_is, operating, and_
 abbrev branch_command : Command
 branch_command = Choose (place 5 4) positive (Then (Set (named (y_at 6 7)) one) Skip) Skip
 
-flag_command : commands (branch ∷ []) ≡ Then branch_command Skip
+pub flag_command : commands (branch ∷ []) ≡ Then branch_command Skip
 flag_command = if_is (place 5 4) positive (setting ∷ []) closing ∙ ap (λ body. Then (Choose (place 5 4) positive body Skip) Skip) (assignment_is (named (y_at 6 7)) one)
 
 judged_positive : judged positive ≡ Ok (typing Boolean None (place 5 9))
@@ -57,7 +57,7 @@ obeys = ap (λ body. and_no_more (obeyed_command body)) flag_command
 
 -- ---- flow
 
-names_read_are : names_read positive ≡ x_at 5 7 ∷ []
+pub names_read_are : names_read positive ≡ x_at 5 7 ∷ []
 names_read_are =
     fold-Infix names_step op.Greater (place 5 9) (Name (x_at 5 7)) (Number (pos 0) (place 5 11))
     ∙ ap₂ (λ (a b : List CoreName). a ++ b) (fold-Name names_step (x_at 5 7)) (fold-Number names_step (pos 0) (place 5 11))

@@ -35,7 +35,7 @@ body_runs f n s = ap (run f n s) inc_command ∙ ap (λ outcome. then_do outcome
 abbrev frame : ℤ → Frame
 frame m = around increment inc (x_is m)
 
-precondition_means : (m : ℤ) → meant (frame m) (x_is m) below_last ≡ value.Truth (int_lt m INTEGER_LAST)
+pub precondition_means : (m : ℤ) → meant (frame m) (x_is m) below_last ≡ value.Truth (int_lt m INTEGER_LAST)
 unfolding value_of_op
 precondition_means m =
     let step = meant_step (frame m) (x_is m) in
@@ -52,5 +52,5 @@ unfolding value_of_op
 increments n = ap (from_value (pos 41) n) (precondition_means (pos 41)) ∙ ap (to_end inc) (body_runs (frame (pos 41)) n (x_is (pos 41)))
 
 -- from the last value the precondition is false, which is bad at its word, before anything else
-refused : (n : ℕ) → call increment n inc (x_is INTEGER_LAST) ≡ Bad Pre (place 3 5)
+pub refused : (n : ℕ) → call increment n inc (x_is INTEGER_LAST) ≡ Bad Pre (place 3 5)
 refused n = ap (from_value INTEGER_LAST n) (precondition_means INTEGER_LAST)

@@ -23,7 +23,7 @@ use Rattle.spx_examples.specs.Increment.{place, word, x_written, successor_writt
 use Rattle.spx_examples.specs.Branches.{arm}
 
 module _ (around : Regions) where
-  resolved_assignment : (target : Name) (value : Expr) → resolved_stmt around (written_stmt.Assignment target value) ≡ stmt.Assignment (resolved_reference around target) (resolved_expr around value)
+  pub resolved_assignment : (target : Name) (value : Expr) → resolved_stmt around (written_stmt.Assignment target value) ≡ stmt.Assignment (resolved_reference around target) (resolved_expr around value)
   unfolding roll-Stmt roll
   resolved_assignment target value = fold-roll-Stmt CoreStmt CoreArm (stmt_step around) (arm_step around) (Stmt-F.Assignment target value)
 

@@ -13,7 +13,7 @@ use Rattle.spx_core.specs.declared.statement.CoreArm.{fold-roll-CoreArm}
 use Rattle.spx_core.specs.declared.rule.Typing.{Typing}
 use Rattle.spx_core.specs.declared.subprogram.Sub.{Sub}
 use Rattle.spx_core.specs.Judged.{Judged, ◌>>=◌, operation}
-use Rattle.spx_core.specs.Commands.{Command, Skip, Set, Then, Choose, arm_step, stmt_step, commands}
+use Rattle.spx_core.specs.Commands.{Command, Skip, Set, Then, Choose, arm_step, stmt_step, command, commands}
 use Rattle.spx_meaning.specs.declared.bad.BadKind.TheVariants.{Unset}
 use Rattle.spx_meaning.specs.Runs.{Outcome, then_do, demand, exports_set}
 use Rattle.spx_examples.specs.Branches.{arm}
@@ -23,9 +23,12 @@ unfolding roll-CoreStmt roll
 null_is at = ap (λ c. Then c Skip) (fold-roll-CoreStmt Command (Command → Command) stmt_step arm_step (CoreStmt-F.Null at))
 
 -- an assignment sets its target
-pub assignment_is : (target : Reference) (value : CoreExpr) → commands (stmt.Assignment target value ∷ []) ≡ Then (Set target value) Skip
+pub assignment_sets : (target : Reference) (value : CoreExpr) → command (stmt.Assignment target value) ≡ Set target value
 unfolding roll-CoreStmt roll
-assignment_is target value = ap (λ c. Then c Skip) (fold-roll-CoreStmt Command (Command → Command) stmt_step arm_step (CoreStmt-F.Assignment target value))
+assignment_sets target value = fold-roll-CoreStmt Command (Command → Command) stmt_step arm_step (CoreStmt-F.Assignment target value)
+
+pub assignment_is : (target : Reference) (value : CoreExpr) → commands (stmt.Assignment target value ∷ []) ≡ Then (Set target value) Skip
+assignment_is target value = ap (λ c. Then c Skip) (assignment_sets target value)
 
 -- an `if` of one arm and no `else` chooses between the arm and nothing
 pub if_is : (at : Place) (condition : CoreExpr) (body : List CoreStmt) (closing : Closing) → commands (stmt.If (arm at condition body ∷ []) None closing ∷ []) ≡ Then (Choose at condition (commands body) Skip) Skip

@@ -69,7 +69,7 @@ place_of_successor line column = ap place_in (outs-Infix op.Add (place line (col
 abbrev pub successor_of : Place → Answer → Answer
 successor_of at x = with_value x (λ y. checked op.Add at (applied op.Add y (value.Number (pos 1))))
 
-eval_successor : (f : Frame) (n : ℕ) (s : Store) (line column : ℕ) → eval f n s (successor line column) ≡ successor_of (place line (column + 2)) (read s (place line column) (Some x))
+pub eval_successor : (f : Frame) (n : ℕ) (s : Store) (line column : ℕ) → eval f n s (successor line column) ≡ successor_of (place line (column + 2)) (read s (place line column) (Some x))
 eval_successor f n s line column =
     eval-Infix f n s op.Add (place line (column + 2)) (Name (x_at line column)) (Number (pos 1) (place line (column + 4)))
     ∙ ap₂ (λ l b. static_or l (with_value (eval f n s (Name (x_at line column))) (λ y. with_value b (λ z. checked op.Add (place line (column + 2)) (applied op.Add y z))))) (successor_is_not line column) (eval-Number f n s (pos 1) (place line (column + 4)))

@@ -1,5 +1,15 @@
+pub mod Example
 pub mod Branches
 pub mod Increment
+pub mod IncrementText
+pub mod Stopped
 pub mod Refused
 pub mod Next
 pub mod Flag
+pub mod Variants
+pub mod Copy
+pub mod NameRules
+pub mod VariableRules
+pub mod Sequents
+pub mod Found
+pub mod Findings

@@ -4,4 +4,11 @@
 #![tactic(auto)]
 
 pub mod branch_laws;
+pub mod call_laws;
+pub mod flow_laws;
 pub mod laws;
+pub mod name_rule_laws;
+pub mod run_laws;
+pub mod sequent_laws;
+pub mod text_laws;
+pub mod variable_rule_laws;

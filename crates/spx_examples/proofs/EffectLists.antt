@@ -1,0 +1,128 @@
+-- What may flow and what may be unset, as lists.
+use Rattle.std.proofs.Common.{◌≡◌, ◌↔◌, ◌⊎◌, inl, inr, ⊎_elim, Bool, true, false, not, List, [], ◌∷◌, ◌++◌, Some, None, refl, sym, ap₂, subst, ◌∙◌}
+use Rattle.std.specs.Prelude.{IsTrue, ◌==◌, ◌||◌, ◌&&◌}
+use Rattle.std.specs.List.{flat_map}
+use Rattle.std.specs.Option.{option_to_list}
+use Rattle.std.proofs.lemmas.Bool.{or_parts}
+use Rattle.std.proofs.lemmas.List.Folds.{list_any-append}
+use Rattle.spx_text.specs.declared.place.Place.{Place}
+use Rattle.spx_core.specs.declared.entity.VarId.{VarId}
+use Rattle.spx_core.specs.Formals.{stands_in}
+use Rattle.spx_core.specs.Uses.{is_same}
+use Rattle.spx_core.specs.Effects.{Effect, Read, nothing, assign, next, choose, sets, is_read}
+use Rattle.spx_core.specs.Flow.{MayFlow}
+use Rattle.spx_core.specs.Marks.{Occurs}
+use Rattle.spx_core.specs.Ways.{Ways, Follow, Free, Goes, Reaches}
+use Rattle.spx_examples.proofs.Lists.{same, turned, chain, either, both, flipped, not_is, and_is, or_is, Among, only, those, of_single, of_both, of_only, of_one, of_each, of_those, contains_is, or_none, in_target, stands_any}
+
+-- ---- flow
+
+-- the variables that are read
+abbrev vars_of : List Read → List VarId
+vars_of reads = flat_map (λ (r : Read). r.1 ∷ []) reads
+
+vars_are : (u : VarId) (reads : List Read) → Among (vars_of reads) u ↔ IsTrue (is_read u reads)
+vars_are u reads = turned (stands_any u (λ (r : Read). r.1.0 == u.0) (λ (r : Read). r.1 ∷ []) (λ r. or_none (r.1.0 == u.0)) reads)
+
+-- the variables from which something may flow to w
+abbrev pub sources : Effect → VarId → List VarId
+sources nothing w = w ∷ []
+sources (assign target reads place) w = only (is_same w target) (vars_of reads) ++ only (not (is_same w target)) (w ∷ [])
+sources (next a b) w = flat_map (sources a) (sources b w)
+sources (choose tests a b place) w = sources a w ++ (sources b w ++ only (sets w a || sets w b) (vars_of tests))
+
+-- what is read comes there where a test holds
+comes_if : (b : Bool) (reads : List Read) (u : VarId) → Among (only b (vars_of reads)) u ↔ (IsTrue b × IsTrue (is_read u reads))
+comes_if b reads u = chain (of_only b (vars_of reads) u) (both same (vars_are u reads))
+
+pub sources_are : (e : Effect) (u w : VarId) → Among (sources e w) u ↔ MayFlow e u w
+sources_are nothing u w = chain (of_single w u) (flipped w u)
+sources_are (assign target reads place) u w =
+    let given = is_same w target in
+    chain (of_both (only given (vars_of reads)) (only (not given) (w ∷ [])) u)
+    (either (comes_if given reads u) (chain (of_one (not given) w u) (both (not_is given) (flipped w u))))
+sources_are (next a b) u w = chain (of_each (sources a) (sources b w) u) (
+  λ h. (h.0, (sources_are a u h.0).0 h.2, (sources_are b h.0 w).0 h.1),
+  λ h. (h.0, (sources_are b h.0 w).1 h.2, (sources_are a u h.0).1 h.1),
+)
+sources_are (choose tests a b place) u w =
+    let chosen = only (sets w a || sets w b) (vars_of tests) in
+    chain (of_both (sources a w) (sources b w ++ chosen) u)
+    (either (sources_are a u w) (chain (of_both (sources b w) chosen u) (either (sources_are b u w) (comes_if (sets w a || sets w b) tests u))))
+
+-- ---- occurrences
+
+-- the places of the occurrences
+abbrev pub occurrences : Effect → List Place
+occurrences nothing = []
+occurrences (assign (Some target) reads place) = place ∷ []
+occurrences (assign None reads place) = []
+occurrences (next a b) = occurrences a ++ occurrences b
+occurrences (choose tests a b place) = place ∷ (occurrences a ++ occurrences b)
+
+pub occurrences_are : (e : Effect) (at : Place) → Among (occurrences e) at ↔ Occurs e at
+occurrences_are nothing at = same
+occurrences_are (assign (Some target) reads place) at = chain (of_single place at) (λ e. (refl, e), λ h. h.1)
+occurrences_are (assign None reads place) at = (λ h. absurd h, λ h. absurd (let e = h.0 in cc))
+occurrences_are (next a b) at = chain (of_both (occurrences a) (occurrences b) at) (either (occurrences_are a at) (occurrences_are b at))
+occurrences_are (choose tests a b place) at = either same (chain (of_both (occurrences a) (occurrences b) at) (either (occurrences_are a at) (occurrences_are b at)))
+
+-- ---- ways that do not set v
+
+-- one way or the other
+free_either : (A B : Ways) (v : VarId) → Free (λ way. A way ⊎ B way) v ↔ (Free A v ⊎ Free B v)
+free_either A B v = (
+  λ h. ⊎_elim (λ one. inl (h.0, one, h.2)) (λ two. inr (h.0, two, h.2)) h.1,
+  λ h. ⊎_elim (λ one. (one.0, inl one.1, one.2)) (λ two. (two.0, inr two.1, two.2)) h,
+)
+
+-- one way after the other
+free_follow : (A B : Ways) (v : VarId) → Free (Follow A B) v ↔ (Free A v × Free B v)
+free_follow A B v =
+    let stands_in_both = λ (front back : List VarId). list_any-append (λ (w : VarId). w.0 == v.0) front back in (
+      λ h.
+          let way = h.1 in
+          let parts = or_parts (stands_in v way.0) (stands_in v way.1) (sym (stands_in_both way.0 way.1) ∙ subst (λ w. stands_in v w ≡ false) way.2 h.2) in
+          ((way.0, way.3, parts.0), (way.1, way.4, parts.1)),
+      λ h. (h.0.0 ++ h.1.0, (h.0.0, h.1.0, refl, h.0.1, h.1.1), stands_in_both h.0.0 h.1.0 ∙ ap₂ ◌||◌ h.0.2 h.1.2),
+    )
+
+-- a read at the start
+free_now : (reads : List Read) (at : Place) (v : VarId) → Among reads (at, v) ↔ Free (Reaches (assign None reads at) at v) v
+free_now reads at v = (λ h. ([], ((contains_is reads (at, v)).1 h, refl), refl), λ h. (contains_is reads (at, v)).0 h.1.0)
+
+-- some way does not set v
+abbrev pub skips : VarId → Effect → Bool
+skips v nothing = true
+skips v (assign target reads place) = not (is_same v target)
+skips v (next a b) = skips v a && skips v b
+skips v (choose tests a b place) = skips v a || skips v b
+
+pub skips_is : (v : VarId) (e : Effect) → IsTrue (skips v e) ↔ Free (Goes e) v
+skips_is v nothing = (λ h. ([], refl, refl), λ h. refl)
+skips_is v (assign target reads place) = chain (not_is (is_same v target)) (
+  λ h. (option_to_list target, refl, in_target v target ∙ h),
+  λ h. sym (in_target v target) ∙ subst (λ way. stands_in v way ≡ false) h.1 h.2,
+)
+skips_is v (next a b) = chain (and_is (skips v a) (skips v b)) (chain (both (skips_is v a) (skips_is v b)) (turned (free_follow (Goes a) (Goes b) v)))
+skips_is v (choose tests a b place) = chain (or_is (skips v a) (skips v b)) (chain (either (skips_is v a) (skips_is v b)) (turned (free_either (Goes a) (Goes b) v)))
+
+-- the reads to which some way leads that does not set what is read
+abbrev pub first_reads : Effect → List Read
+first_reads nothing = []
+first_reads (assign target reads place) = reads
+first_reads (next a b) = first_reads a ++ those (λ (r : Read). skips r.1 a) (first_reads b)
+first_reads (choose tests a b place) = tests ++ (first_reads a ++ first_reads b)
+
+pub first_reads_are : (e : Effect) (at : Place) (v : VarId) → Among (first_reads e) (at, v) ↔ Free (Reaches e at v) v
+first_reads_are nothing at v = (λ h. absurd h, λ h. absurd h.1)
+first_reads_are (assign target reads place) at v = free_now reads at v
+first_reads_are (next a b) at v =
+    let test = λ (r : Read). skips r.1 a in
+    let later = chain (of_those test (first_reads b) (at, v)) (chain (both (skips_is v a) (first_reads_are b at v)) (turned (free_follow (Goes a) (Reaches b at v) v))) in
+    chain (of_both (first_reads a) (those test (first_reads b)) (at, v))
+    (chain (either (first_reads_are a at v) later) (turned (free_either (Reaches a at v) (Follow (Goes a) (Reaches b at v)) v)))
+first_reads_are (choose tests a b place) at v =
+    let arms = chain (of_both (first_reads a) (first_reads b) (at, v)) (chain (either (first_reads_are a at v) (first_reads_are b at v)) (turned (free_either (Reaches a at v) (Reaches b at v) v))) in
+    chain (of_both tests (first_reads a ++ first_reads b) (at, v))
+    (chain (either (free_now tests at v) arms) (turned (free_either (Reaches (assign None tests at) at v) (λ way. Reaches a at v way ⊎ Reaches b at v way) v)))

@@ -1,0 +1,155 @@
+-- The first breach of a rule on names or types, in a file of which the first procedure has one statement.
+use Rattle.std.proofs.Common.{◌≡◌, ◌+◌, length, List, [], ◌∷◌, ◌++◌, Option, Some, None, map, option_map, refl, ap, ap₂, ◌∙◌}
+use Rattle.std.specs.Prelude.{⊤}
+use denote.Hole.Carrier.{roll, hidden}
+use Rattle.spx_text.specs.declared.place.Place.{Place}
+use Rattle.spx_tree.specs.declared.annotation.Precondition.{Precondition}
+use Rattle.spx_tree.specs.declared.expression.Name.{Name}
+use Rattle.spx_tree.specs.declared.expression.Name.TheVariants.{Simple, Attribute}
+use Rattle.spx_tree.specs.declared.expression.Expr.{Expr, Expr-F, roll-Expr, map-Expr, fold-roll-Expr}
+use Rattle.spx_tree.specs.declared.expression.Expr.TheBlock.{hidden-the_row-Expr-0}
+use Rattle.spx_tree.specs.declared.expression.Expr.TheVariants as written_expr
+use Rattle.spx_tree.specs.declared.statement.Closing.{Closing}
+use Rattle.spx_tree.specs.declared.statement.Stmt.{Stmt}
+use Rattle.spx_tree.specs.declared.statement.Stmt.TheVariants as written_stmt
+use Rattle.spx_tree.specs.declared.subprogram.Subprogram.{Subprogram}
+use Rattle.spx_tree.specs.declared.subprogram.Unit.{Unit}
+use Rattle.spx_tree.specs.declared.subprogram.Unit.TheVariants as unit
+use Rattle.spx_tree.specs.Written.{parenthesized, signed, operation}
+use Rattle.spx_core.specs.declared.expression.CoreExpr.{CoreExpr, CoreExpr-F}
+use Rattle.spx_core.specs.declared.rule.Breach.{Breach}
+use Rattle.spx_core.specs.declared.rule.Typing.{Typing}
+use Rattle.spx_core.specs.Commands.{commands}
+use Rattle.spx_core.specs.Dependency.{relation}
+use Rattle.spx_core.specs.declared.subprogram.Sub.{Sub}
+use Rattle.spx_core.specs.Judged.{Judged, ◌>>=◌, breach_in, condition, each, expr_step, if_there, judged, operand_of, referred_object}
+use Rattle.spx_core.specs.Regions.{Regions}
+use Rattle.spx_core.specs.Resolved.{around_body, declaring, declaring_all, formal_names, local_names, own_vars, params_of, resolved_expr, resolved_pre, resolved_reference, resolved_stmt, resolved_sub, resolved_subs, resolved_value, unit_name}
+use Rattle.spx_core.specs.Resolved as resolving
+use Rattle.spx_core.specs.Statements.{first_name_breach, judged_name, judged_command, judged_decl, judged_end, judged_item, judged_param, judged_pre, judged_sub}
+use Rattle.spx_core.proofs.Callers.Expressions.{fold-Number, fold-Name, fold-Attribute, fold-Parenthesized, fold-Prefix, fold-Infix}
+use Rattle.spx_examples.proofs.Statements.{assignment_is, if_is, and_no_more}
+use Rattle.spx_examples.proofs.Resolving.{resolved_assignment, resolved_if}
+
+-- `if test then body end if`
+abbrev if_written : Place → Expr → List Stmt → Closing → Stmt
+if_written at test body closing = written_stmt.If (record { place = at; condition = test; body = body } ∷ []) None closing
+
+-- ---- expressions
+
+-- what a name is judged to be, where a value is needed
+abbrev name_now : Regions → Name → Judged Typing
+name_now around (Simple name) = expr_step (CoreExpr-F.Name (resolving.resolved_name around name))
+name_now around (Attribute prefix designator) = expr_step (CoreExpr-F.Attribute (resolving.resolved_name around prefix) designator)
+
+-- what a written expression is judged to be: a fold that computes
+abbrev pub expr_now : Regions → Expr → Judged Typing
+expr_now around (written_expr.Number n place) = expr_step (CoreExpr-F.Number n place)
+expr_now around (written_expr.Name name) = name_now around name
+expr_now around (parenthesized place a) = expr_step (CoreExpr-F.Parenthesized place (expr_now around a))
+expr_now around (signed op place a) = expr_step (CoreExpr-F.Prefix op place (expr_now around a))
+expr_now around (operation op place a b) = expr_step (CoreExpr-F.Infix op place (expr_now around a) (expr_now around b))
+
+module _ (around : Regions) where
+  at_layer : (y : Expr-F Expr) → judged (resolved_expr around (roll-Expr y)) ≡ judged (resolving.expr_step around (map-Expr Expr CoreExpr (resolved_expr around) y))
+  at_layer y = ap judged (fold-roll-Expr CoreExpr (resolving.expr_step around) y)
+
+  judged_as : (name : Name) → judged (resolved_value around name) ≡ name_now around name
+  judged_as (Simple name) = fold-Name expr_step (resolving.resolved_name around name)
+  judged_as (Attribute prefix designator) = fold-Attribute expr_step (resolving.resolved_name around prefix) designator
+
+  pub judged_is : (e : Expr) → judged (resolved_expr around e) ≡ expr_now around e
+  unfolding roll-Expr roll hidden-the_row-Expr-0 hidden
+  judged_is (written_expr.Number n place) = at_layer (Expr-F.Number n place) ∙ fold-Number expr_step n place
+  judged_is (written_expr.Name name) = at_layer (Expr-F.Name name) ∙ judged_as name
+  judged_is (parenthesized place a) = at_layer (Expr-F.Parenthesized place a) ∙ fold-Parenthesized expr_step place (resolved_expr around a) ∙ ap (λ j. expr_step (CoreExpr-F.Parenthesized place j)) (judged_is a)
+  judged_is (signed op place a) = at_layer (Expr-F.Prefix op place a) ∙ fold-Prefix expr_step op place (resolved_expr around a) ∙ ap (λ j. expr_step (CoreExpr-F.Prefix op place j)) (judged_is a)
+  judged_is (operation op place a b) =
+      at_layer (Expr-F.Infix op place a b)
+      ∙ fold-Infix expr_step op place (resolved_expr around a) (resolved_expr around b)
+      ∙ ap₂ (λ j k. expr_step (CoreExpr-F.Infix op place j k)) (judged_is a) (judged_is b)
+
+  -- ---- annotations and statements
+
+  -- what a precondition is judged to be
+  abbrev pre_now : Precondition → Judged ⊤
+  pre_now pre = expr_now around pre.condition >>= λ t. condition t
+
+  pre_is : (pre : Option Precondition) → if_there judged_pre (option_map (resolved_pre around) pre) ≡ if_there pre_now pre
+  pre_is None = refl
+  pre_is (Some pre) = ap (λ j. j >>= λ t. condition t) (judged_is pre.condition)
+
+  -- what the assignment is judged to be
+  abbrev assignment_now : Name → Expr → Judged ⊤
+  assignment_now target value = do
+    object ← referred_object (resolved_reference around target)
+    v ← expr_now around value
+    operand_of object.subtype v
+
+  body_is : (target : Name) (value : Expr) → judged_command (commands (resolved_stmt around (written_stmt.Assignment target value) ∷ [])) ≡ and_no_more (assignment_now target value)
+  body_is target value =
+      ap (λ s. judged_command (commands (s ∷ []))) (resolved_assignment around target value)
+      ∙ ap judged_command (assignment_is (resolved_reference around target) (resolved_expr around value))
+      ∙ ap (λ j. and_no_more (referred_object (resolved_reference around target) >>= λ object. j >>= λ v. operand_of object.subtype v)) (judged_is value)
+
+  -- what the `if` of one arm is judged to be
+  abbrev if_now : Judged Typing → List Stmt → Judged ⊤
+  if_now test body = (test >>= λ t. condition t) >>= λ _. and_no_more (judged_command (commands (map (resolved_stmt around) body)))
+
+  if_body : (at : Place) (test : Expr) (body : List Stmt) (closing : Closing)
+      → judged_command (commands (resolved_stmt around (if_written at test body closing) ∷ [])) ≡ and_no_more (if_now (expr_now around test) body)
+  if_body at test body closing =
+      ap (λ s. judged_command (commands (s ∷ []))) (resolved_if around at test body closing)
+      ∙ ap judged_command (if_is at (resolved_expr around test) (map (resolved_stmt around) body) closing)
+      ∙ ap (λ j. and_no_more (if_now j body)) (judged_is test)
+
+-- ---- procedures
+
+-- the procedure, where its precondition and its body are judged to be this
+abbrev sub_with : Sub → Judged ⊤ → Judged ⊤ → Judged ⊤
+sub_with sub pre body = do
+  _ ← each judged_param (params_of sub.formal_part)
+  _ ← each judged_item (relation sub)
+  _ ← pre
+  _ ← each judged_decl sub.declarations
+  _ ← body
+  if_there (judged_end sub.name) sub.end_name
+
+-- around the annotations of a procedure, and around its statements
+abbrev annotated : Sub → Regions
+annotated sub = declaring_all [] (formal_names sub) ∷ around_body sub.name
+
+abbrev inside : Sub → Regions
+inside sub = declaring_all [] (formal_names sub ++ local_names sub) ∷ around_body sub.name
+
+module _ (s : Subprogram) (others : List Unit) where
+  -- the first procedure of a file, and the others after it
+  abbrev first : Sub
+  first = resolved_sub (unit_name [] 0 s) 0 s
+
+  abbrev next : List Sub
+  next = resolved_subs (declaring [] (unit_name [] 0 s)) (0 + 1) (0 + length (own_vars first)) others
+
+  -- the first breach in the file, where the first procedure is judged to be this
+  abbrev breach_with : Judged ⊤ → Option Breach
+  breach_with judgement = breach_in (each judged_name (first ∷ next) >>= λ _. (judgement >>= λ _. each judged_sub next))
+
+  -- where its body is judged to be this
+  abbrev first_with : Judged ⊤ → Judged ⊤
+  first_with body = sub_with first (if_there (pre_now (annotated first)) s.pre) body
+
+  module _ (statement : Stmt) (is : s.statements ≡ statement ∷ []) where
+    with_body : (body : Judged ⊤) → judged_command (commands (resolved_stmt (inside first) statement ∷ [])) ≡ body → first_name_breach (unit.Subprogram s ∷ others) ≡ breach_with (first_with body)
+    unfolding first_name_breach
+    with_body body body_is =
+        ap breach_with (ap₂ (sub_with first) (pre_is (annotated first) s.pre) (ap (λ ss. judged_command (commands (map (resolved_stmt (inside first)) ss))) is ∙ body_is))
+
+  -- where its one statement is an assignment
+  pub breach_is : (target : Name) (value : Expr) → s.statements ≡ written_stmt.Assignment target value ∷ []
+      → first_name_breach (unit.Subprogram s ∷ others) ≡ breach_with (first_with (and_no_more (assignment_now (inside first) target value)))
+  breach_is target value is = with_body (written_stmt.Assignment target value) is (and_no_more (assignment_now (inside first) target value)) (body_is (inside first) target value)
+
+  -- where it is an `if` of one arm
+  pub breach_of_if : (at : Place) (test : Expr) (body : List Stmt) (closing : Closing) → s.statements ≡ if_written at test body closing ∷ []
+      → first_name_breach (unit.Subprogram s ∷ others) ≡ breach_with (first_with (and_no_more (if_now (inside first) (expr_now (inside first) test) body)))
+  breach_of_if at test body closing is = with_body (if_written at test body closing) is (and_no_more (if_now (inside first) (expr_now (inside first) test) body)) (if_body (inside first) at test body closing)
