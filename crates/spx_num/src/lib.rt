@@ -1,13 +1,15 @@
 //! Exact numbers of up to 128 bits, and their decimal text.
 //!
 //! A layer above may rely on this: an answer is the exact value, and `TooWide` comes only where that value does not
-//! fit in 128 bits.
+//! fit in 128 bits. The caller tests first that a divisor is not 0, and that an exponent is not negative.
 #![tactic(auto)]
 
 mod arithmetic;
+mod laws;
 mod printing;
 
-pub use arithmetic::{Op, TooWide, checked};
+pub use arithmetic::{Op, TooWide, checked, modulo, power, quot, rem};
+pub use laws::{division_laws, modulus_laws, power_laws};
 pub use printing::decimal;
 
 #[cfg(test)]
@@ -29,6 +31,85 @@ mod tests {
         ];
         for (op, a, b, value) in rows {
             assert_eq!(rt; checked(op, a, b), value);
+        }
+    }
+
+    #[test]
+    fn quot_at_the_ends(rt: HostRuntime) {
+        let (first, last) = (i128::MIN, i128::MAX);
+        let rows = [
+            (first, -1, Err(TooWide)),
+            (first, 1, Ok(first)),
+            (last, -1, Ok(-last)),
+            (first, last, Ok(-1)),
+            (7, 3, Ok(2)),
+            (-7, 3, Ok(-2)),
+            (7, -3, Ok(-2)),
+            (-7, -3, Ok(2)),
+        ];
+        for (a, b, value) in rows {
+            if b != 0 {
+                assert_eq!(rt; quot(a, b), value);
+            }
+        }
+    }
+
+    #[test]
+    fn rem_at_the_ends(rt: HostRuntime) {
+        let (first, last) = (i128::MIN, i128::MAX);
+        let rows = [
+            (first, -1, 0),
+            (first, last, -1),
+            (7, 3, 1),
+            (-7, 3, -1),
+            (7, -3, 1),
+            (-7, -3, -1),
+        ];
+        for (a, b, value) in rows {
+            if b != 0 {
+                assert_eq!(rt; rem(a, b), Ok(value));
+            }
+        }
+    }
+
+    #[test]
+    fn modulo_at_the_ends(rt: HostRuntime) {
+        let (first, last) = (i128::MIN, i128::MAX);
+        let rows = [
+            (first, -1, 0),
+            (first, last, last - 1),
+            (last, first, -1),
+            (7, 3, 1),
+            (-7, 3, 2),
+            (7, -3, -2),
+            (-7, -3, -1),
+        ];
+        for (a, b, value) in rows {
+            if b != 0 {
+                assert_eq!(rt; modulo(a, b), Ok(value));
+            }
+        }
+    }
+
+    #[test]
+    fn power_at_the_ends(rt: HostRuntime) {
+        let big = 0x10_0000_0000_0000_0000_0000_0000;
+        let rows = [
+            (2, 126, Ok(0x4000_0000_0000_0000_0000_0000_0000_0000)),
+            (2, 127, Err(TooWide)),
+            (-2, 127, Ok(i128::MIN)),
+            (-2, 128, Err(TooWide)),
+            (3, big, Err(TooWide)),
+            (0, 0, Ok(1)),
+            (0, big, Ok(0)),
+            (1, big, Ok(1)),
+            (-1, big, Ok(1)),
+            (-1, big + 1, Ok(-1)),
+        ];
+        for (a, b, value) in rows {
+            if 0 <= b {
+                assert_eq!(rt; power(a, b), value);
+            }
         }
     }
 
