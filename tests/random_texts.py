@@ -31,7 +31,7 @@ MOST_NESTED = 3
 # A text as pieces: heads, comments, words and numbers, delimiters, line ends, separators, and other bytes.
 PIECE = re.compile(rb'--#|--[^\n]*|[A-Za-z_0-9]+|:=|/=|<=|>=|\*\*|\n|[ \t\r\v\f]+|.', re.DOTALL)
 PIECES = tuple(piece.encode('ascii') for piece in (
-    'X', 'A', 'B', 'Inc', 'Integer', "Integer'First", "Integer'Last", '0', '1', '2147483647', '2147483648', '+', '-',
+    'X', 'A', 'B', 'Inc', 'Integer', "Integer'First", "Integer'Last", '0', '1', '2147483647', '2147483648', '1_0', '16#F#', '2E3', '#', 'E', '+', '-',
     '*', '&', ',', ';', ':', ':=', 'in', 'out', 'from', 'derives', 'pre', '--#', '--', '\n', ' ', '\t', '\r', '=', '/=',
     '<', '<=', '>', '>=', 'end', 'is', 'begin', 'procedure', '(', ')', "'", '.', '..', '->', '~', '\n--# ', '_', '#',
     '; B : in Integer', '   X := X + 1;\n', ' + 1 - 1', 'null', '   null;\n', '   T : Integer;\n', 'T', '(X)', '-(',
@@ -49,6 +49,15 @@ STOPPED = re.compile(r':\d+: (?:L\d|P1) ')
 OF_THE_GRAMMAR = tuple(case for case in CASES if case.status < 2 and not STOPPED.search(case.report))
 EXAMINED = tuple(case.text for case in OF_THE_GRAMMAR if ' conditions, ' in case.report)
 BROKEN = tuple(case.text for case in OF_THE_GRAMMAR if ' conditions, ' not in case.report)
+
+
+def digits_of(value, base):
+    """The digits of a number in a base, in capitals."""
+    digits = ''
+    while value or not digits:
+        value, digit = divmod(value, base)
+        digits = '0123456789ABCDEF'[digit] + digits
+    return digits
 
 
 def is_import(formal, sources):
@@ -291,7 +300,25 @@ class Writer:
         kind = self.random.random()
         if kind < 0.03:
             return self.random.choice(ODD_VALUES)
-        return str(self.random.randrange(2**31)) if kind < 0.2 else self.random.choice(VALUES)
+        return self.number(self.random.randrange(2**31)) if kind < 0.2 else self.random.choice(VALUES)
+
+    def number(self, value):
+        """The number of this value: with underscores, in a base, with an exponent, or as its digits; at times spoiled."""
+        kind = self.random.random()
+        if kind < 0.4:
+            return str(value)
+        base = self.random.randrange(2, 17) if kind < 0.7 else 10
+        exponent = self.random.randrange(4) if self.random.random() < 0.4 else 0
+        digits = digits_of(value // base ** exponent, base)
+        places = [place for place in range(1, len(digits)) if self.random.random() < 0.15]
+        for place in reversed(places):
+            digits = digits[:place] + '_' + digits[place:]
+        scale = f'{self.random.choice("Ee")}{self.random.choice(("", "+"))}{exponent}' if exponent else ''
+        spelled = f'{base}#{digits}#{scale}' if base != 10 or kind > 0.95 else digits + scale
+        if self.random.random() < 0.04:
+            place = self.random.randrange(1, len(spelled) + 1)
+            spelled = spelled[:place] + self.random.choice('_#EG+.19') + spelled[place:]
+        return spelled
 
     def precondition(self, formals, sources, value):
         """A relation between an import, the first right side or a sum, and an operand, in either order."""

@@ -123,8 +123,28 @@ ANNOTATION_DELIMITERS = frozenset('~ [ ] -> <->'.split())
 SEPARATORS = re.compile(rb'[ \t\v\f\r]+')
 COMMENT = re.compile(rb'--[^\n]*')
 WORD = re.compile(rb'[A-Za-z](?:_?[A-Za-z0-9])*')
-NUMBER = re.compile(rb'[0-9]+')
-SPOILING = re.compile(rb'[A-Za-z_#]|\.[0-9]')
+NUMERAL = re.compile(rb'[0-9](?:_?[0-9])*')
+BASED_NUMERAL = re.compile(rb'#([0-9A-Za-z](?:_?[0-9A-Za-z])*)#')
+EXPONENT = re.compile(rb'[Ee]\+?([0-9](?:_?[0-9])*)')
+SPOILING = re.compile(rb'[A-Za-z0-9_#]|\.[0-9]')
+
+
+def value_in(base, digits):
+    """The value of digits with underscores between them. What has more than 128 digits is wider than all that counts."""
+    digits = digits.replace(b'_', b'').lstrip(b'0') or b'0'
+    return int(digits, base) if len(digits) <= 128 else WIDE
+
+
+def number_value(spelled):
+    """The value of a number: its digits, times its base as often as the exponent says."""
+    whole, mark, rest = spelled.upper().partition('#')
+    digits, _, exponent = rest.partition('#') if mark else ('', '', '')
+    if not mark:
+        whole, _, exponent = whole.partition('E')
+    base = value_in(10, whole.encode()) if mark else 10
+    mantissa = value_in(base, (digits if mark else whole).encode())
+    times = value_in(10, (exponent.lstrip('E+') or '0').encode())
+    return mantissa * base ** min(times, 128) if mantissa else 0
 
 
 @dataclass(frozen=True)
@@ -220,16 +240,25 @@ class Scanner:
         return word if reserved else 'identifier'
 
     def number(self):
-        """Digits alone, with nothing after them that Ada takes as part of a number, and below 2**127."""
-        found = NUMBER.match(self.text, self.at)
-        if not found:
+        """A numeral or one with its base, and an exponent; nothing after it that Ada takes as part of a number."""
+        whole = NUMERAL.match(self.text, self.at)
+        if not whole:
             return False
-        if SPOILING.match(self.text, found.end()):
+        based = self.based_numeral(value_in(10, whole.group()), whole.end())
+        exponent = EXPONENT.match(self.text, (based or whole).end())
+        end = (exponent or based or whole).end()
+        if SPOILING.match(self.text, end):
             self.stop('L2')
-        digits = found.group().lstrip(b'0') or b'0'
-        if len(digits) > len(str(WIDE)) or int(digits) >= WIDE:
+        if number_value(self.text[self.at:end].decode('ascii')) >= WIDE:
             self.stop('L3')
-        return self.keep('number', len(found.group()))
+        return self.keep('number', end - self.at)
+
+    def based_numeral(self, base, at):
+        """What follows the base of a number, if digits of it stand there between two `#`."""
+        found = BASED_NUMERAL.match(self.text, at)
+        if not found or not 2 <= base <= 16:
+            return None
+        return found if all(int(chr(digit), 36) < base for digit in found.group(1) if digit != ord('_')) else None
 
     def delimiter(self):
         """One to three bytes; some are delimiters in annotation text alone."""
@@ -609,7 +638,7 @@ class Parser:
             self.take(')', marked)
             return Parenthesized(parenthesis.place, inner, levels_of(inner) + 1)
         number = self.take_if('number', marked)
-        return Static(int(number.text.lstrip('0') or '0'), True, number.place) if number else self.name(marked)
+        return Static(number_value(number.text), True, number.place) if number else self.name(marked)
 
     def name_if(self, marked=False):
         """A name, if one comes next."""

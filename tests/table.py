@@ -673,17 +673,13 @@ def numbers():
     yield refused('widest_literal_assigned.adb', procedure('@' + WIDEST, **OUT), 'N12')
     yield refused('widest_literal_in_a_comparison_with_a_variable.adb', procedure(pre='X < @' + WIDEST), 'N12')
     yield accepted('widest_literal_behind_zeros.adb', procedure('1', pre='000' + WIDEST + ' = ' + WIDEST, **OUT), 1)
-    yield bad_number('number_with_underscore.adb', procedure('X + 1_000', pre='X < 0'), at=(6, 13))
-    yield bad_number('number_with_trailing_underscore.adb', procedure('X + 1_', pre='X < 0'), at=(6, 13))
-    yield bad_number('number_with_exponent.adb', procedure('X + 1E3', pre='X < 0'), at=(6, 13))
-    yield bad_number('number_with_base.adb', procedure('X + 16#F#', pre='X < 0'), at=(6, 13))
-    yield bad_number('number_with_a_hash.adb', procedure('X + 1#', pre='X < 0'), at=(6, 13))
+    yield from forms_of_numbers()
     yield bad_number('number_with_a_fraction.adb', procedure('X + 1.5', pre='X < 0'), at=(6, 13))
     yield unexpected('number_with_a_point.adb', procedure('X + 1.', pre='X < 0'), at=(6, 14))
     yield bad_number('number_and_letter.adb', procedure('X + 12X', pre='X < 0'), at=(6, 13))
     yield bad_number('number_and_word.adb', procedure('X + 1end', pre='X < 0'), at=(6, 13))
     yield unexpected('number_and_two_points.adb', procedure('1..2', **OUT), at=(5, 10))
-    yield bad_number('spoiled_number_in_a_precondition.adb', procedure(pre='X < 1_0'), at=(3, 13))
+    yield bad_number('spoiled_number_in_a_precondition.adb', procedure(pre='X < 1__0'), at=(3, 13))
     yield bad_number('number_and_mark.adb',
                      'procedure Inc (X : in out Integer)\n--# derives X from X; pre X < 1--# 0\n--# ;\nis\nbegin\n'
                      '   X := X + 1#;\nend Inc;\n', at=(6, 13))
@@ -694,6 +690,48 @@ def numbers():
     yield accepted('minus_sign.adb', procedure('-1', **OUT), 1)
     yield accepted('plus_sign.adb', procedure('+1', **OUT), 1)
     yield unexpected('minus_sign_behind_an_operator.adb', procedure('X + -1', pre=ABOVE), at=(6, 13))
+
+
+def forms_of_numbers():
+    """Underscores, bases and exponents: numbers that are equal, numbers at the ends of their range, and each way to spoil one."""
+    for label, number in (('an_underscore', '1_000'), ('underscores', '1_0_0_0'), ('an_exponent', '1E3'), ('a_small_exponent', '1e3'),
+                          ('a_signed_exponent', '1E+3'), ('an_exponent_with_zeros', '10E002'), ('an_exponent_with_an_underscore', '1000E0_0'),
+                          ('underscores_and_exponent', '1_0E2'), ('base_two', '2#1111_101_000#'), ('base_three', '3#1101001#'),
+                          ('base_eight', '8#1_750#'), ('base_ten', '10#1000#'), ('base_twelve', '12#6B4#'), ('base_sixteen', '16#3E8#'),
+                          ('small_digits', '16#3e8#'), ('a_base_with_an_underscore', '1_6#3E8#'), ('a_base_with_zeros', '0016#3E8#'),
+                          ('base_and_exponent', '16#3E_8#E0'), ('base_two_and_exponent', '2#1111101#E3'),
+                          ('base_and_signed_exponent', '10#1#e+3')):
+        yield accepted(f'number_with_{label}.adb', procedure(f'X + {number}', pre='X < 0'))
+        yield accepted(f'number_with_{label}_is_a_thousand.adb', procedure('1', pre=f'{number} = 1000', **OUT), 1)
+        yield refused(f'number_with_{label}_past_the_range.adb', procedure(f'2147482648 @+ {number}', **OUT), 'N12')
+        yield accepted(f'number_with_{label}_within_the_range.adb', procedure(f'2147482647 + {number}', **OUT), 1)
+    yield accepted('fifteen_sixteens.adb', procedure('1', pre='16#F#E1 = 240', **OUT), 1)
+    yield accepted('zero_to_any_exponent.adb', procedure('0E99999999999999999999999999999999999999999', **OUT), 1)
+    yield accepted('based_zero_to_any_exponent.adb', procedure('16#0_0#E999_999_999', **OUT), 1)
+    for base, digits in ((2, '1' * 127), (4, '1' + '3' * 63), (8, '1' + '7' * 42), (16, '7' + 'F' * 31)):
+        yield accepted(f'widest_literal_of_base_{base}.adb', procedure('1', pre=f'{base}#{digits}# = {WIDEST}', **OUT), 1)
+    for base, digits in ((2, '1' + '0' * 127), (4, '2' + '0' * 63), (8, '2' + '0' * 42), (16, '8' + '0' * 31)):
+        yield too_wide(f'past_the_widest_literal_of_base_{base}.adb', procedure(f'X + @{base}#{digits}#', pre='X < 0'))
+    yield accepted('widest_power_of_two.adb', procedure('1', pre='2#1#E126 > 1E37', **OUT), 1)
+    yield accepted('widest_power_of_ten.adb', procedure('1', pre='1E38 > 2#1#E126', **OUT), 1)
+    for label, number in (('two', '2#1#E127'), ('three', '3#1#E81'), ('ten', '1E39'), ('ten_from_two', '2E38'), ('sixteen', '16#1#E32'),
+                          ('ten_far', '1E999999999999999999999999999999999999999'), ('two_far', '2#1#E4294967296')):
+        yield too_wide(f'power_of_{label}_that_is_too_wide.adb', procedure(f'X + @{number}', pre='X < 0'))
+    for label, number in (('two_underscores', '1__0'), ('a_trailing_underscore', '1_'), ('an_underscore_before_a_letter', '1_E3'),
+                          ('an_empty_exponent', '1E'), ('a_negative_exponent', '1E-3'), ('a_sign_without_exponent', '1E+'),
+                          ('an_underscore_in_front_of_an_exponent', '1E_3'), ('a_trailing_underscore_in_an_exponent', '1E3_'),
+                          ('two_exponents', '1E3E3'), ('a_fraction_after_an_exponent', '1E3.5'), ('a_hash', '1#'), ('a_hash_at_its_end', '16#F'),
+                          ('no_digits', '16##'), ('a_digit_past_its_base', '2#2#'), ('a_letter_past_its_base', '16#G#'), ('base_zero', '0#0#'),
+                          ('base_one', '1#0#'), ('base_seventeen', '17#0#'), ('a_wide_base', '340282366920938463463374607431768211458#0#'),
+                          ('two_underscores_in_its_digits', '16#F__F#'), ('an_underscore_before_its_digits', '16#_F#'),
+                          ('an_underscore_after_its_digits', '16#F_#'), ('a_space_in_it', '16# F#'), ('a_digit_after_its_hash', '16#F#1'),
+                          ('a_letter_after_its_hash', '16#F#F'), ('another_hash', '16#F##'), ('an_exponent_without_digits', '16#F#E'),
+                          ('a_point_in_it', '16#F.F#'), ('a_fraction_after_it', '16#F#.5')):
+        yield bad_number(f'number_with_{label}.adb', procedure(f'X + {number}', pre='X < 0'), at=(6, 13))
+    yield bad_number('bad_number_past_the_widest_in_its_base.adb', procedure('X + @16#8' + '0' * 31 + '##', pre='X < 0'))
+    yield unexpected('numbers_with_bases_in_a_row.adb', procedure('16#F# @16#F#', **OUT))
+    yield bad_byte('underscore_before_a_number.adb', procedure('X + @_1', pre='X < 0'))
+    yield bad_byte('hash_before_a_number.adb', procedure('X + @#1#', pre='X < 0'))
 
 
 def places():
@@ -717,18 +755,18 @@ def places():
     yield unexpected('carriage_returns_in_front.adb', INC.replace('\n', '\r\n').replace('X +', 'X\r@*'))
     yield unexpected('lines_in_front.adb', '\n\v\n\f\n' + INC.replace('is\n', '@;\n'))
     yield bad_byte('bytes_in_front.adb', INC.replace('is\n', '-- é\nis -- é\n').replace('X +', 'X @é'))
-    yield bad_number('tabs_before_a_number.adb', INC.replace(' + 1', '\t+\t@1_0'))
+    yield bad_number('tabs_before_a_number.adb', INC.replace(' + 1', '\t+\t@1__0'))
     yield too_wide('carriage_return_before_a_number.adb', INC.replace(' + 1', ' +\r\n\r@' + TOO_WIDE))
     # two breaches
     yield unexpected('first_of_two_tokens.adb', INC.replace('is\n', '@;\n').replace('end', 'begin'))
     yield bad_byte('bad_byte_behind_another_token.adb', INC.replace('is\n', ';\n') + '@?')
-    yield bad_number('bad_number_behind_another_token.adb', INC.replace('procedure', 'function').replace('1', '@1E3'))
+    yield bad_number('bad_number_behind_another_token.adb', INC.replace('procedure', 'function').replace('1', '@1E'))
     yield too_wide('too_wide_number_behind_another_token.adb', procedure(f'* @{TOO_WIDE}'))
-    yield bad_byte('bad_byte_before_a_bad_number.adb', procedure('X @? 1_0'))
-    yield bad_number('bad_number_before_a_bad_byte.adb', procedure('X + @1_0 ?'))
-    yield bad_number('bad_number_before_one_that_is_too_wide.adb', procedure(f'@1_0 + {TOO_WIDE}'))
-    yield too_wide('too_wide_number_before_a_bad_one.adb', procedure(f'@{TOO_WIDE} + 1_0'))
-    yield bad_number('bad_number_that_is_too_wide.adb', procedure(f'X + @{TOO_WIDE}_0'))
+    yield bad_byte('bad_byte_before_a_bad_number.adb', procedure('X @? 1__0'))
+    yield bad_number('bad_number_before_a_bad_byte.adb', procedure('X + @1__0 ?'))
+    yield bad_number('bad_number_before_one_that_is_too_wide.adb', procedure(f'@1__0 + {TOO_WIDE}'))
+    yield too_wide('too_wide_number_before_a_bad_one.adb', procedure(f'@{TOO_WIDE} + 1__0'))
+    yield bad_number('bad_number_that_is_too_wide.adb', procedure(f'X + @{TOO_WIDE}_'))
     yield too_wide('too_wide_number_behind_zeros.adb', procedure(f'X + @000{TOO_WIDE}'))
     yield bad_byte('bad_byte_behind_a_breach_of_a_rule.adb', procedure('Y') + '@"')
     yield unexpected('token_behind_a_breach_of_a_rule.adb', procedure('Y') + '@;')
@@ -2141,7 +2179,7 @@ def documented():
                   'F1 missing: X from X', 'F4 unset: X')
     yield refused('limit_with_an_arm_that_does_nothing.adb', at_end(limit.replace('X := 100', 'null')),
                   'F1 missing: X from X', 'F4 unset: X')
-    yield bad_number('inc_with_a_bad_number.adb', procedure('X + 1_0', pre=BELOW), at=(6, 13))
+    yield bad_number('inc_with_a_bad_number.adb', procedure('X + 1_', pre=BELOW), at=(6, 13))
     yield unexpected('inc_with_a_product.adb', procedure('X * 1', pre=BELOW), at=(6, 11))
     yield unexpected('inc_without_end.adb', INC.replace('end Inc;\n', ''), at=(7, 1))
     yield refused('inc_with_an_undeclared_name.adb', procedure('@Y + 1', pre=BELOW), 'N1')

@@ -13,7 +13,7 @@ use Rattle.spx_tree.specs.Written.{written}
 use Rattle.spx_tree.specs.Grammar.{IsFile}
 use Rattle.spx_tree.specs.Goes as goes
 use Rattle.spx_tree.specs.Goes.{Fault, Expected, TooDeep, Begins, Ends, Answers, place_with}
-use Rattle.spx_lexer.specs.Faults.{HasMoreTokens}
+use Rattle.spx_tree.specs.Stops.{HasMoreTokens}
 use Rattle.spx_core.specs.declared.program.Program.{Program}
 use Rattle.spx_core.specs.Erased.{erased}
 use Rattle.spx_report.specs.declared.report.Finding.{Finding}

@@ -9,7 +9,7 @@ use Rattle.spx_tree.specs.Form.{Form, forms_of}
 use Rattle.spx_tree.specs.Written.{written}
 use Rattle.spx_tree.specs.Grammar.{IsFile}
 use Rattle.spx_tree.specs.Goes.{Fault, Answers}
-use Rattle.spx_lexer.specs.Faults.{HasMoreTokens}
+use Rattle.spx_tree.specs.Stops.{HasMoreTokens}
 use Rattle.spx_core.specs.declared.program.Program.{Program}
 use Rattle.spx_core.specs.Erased.{erased}
 use Rattle.spx_core.specs.Erased.{Visible}

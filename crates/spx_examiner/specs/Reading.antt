@@ -11,7 +11,7 @@ use Rattle.spx_tree.specs.Written.{written}
 use Rattle.spx_tree.specs.Grammar.{IsFile}
 use Rattle.spx_tree.specs.Goes as goes
 use Rattle.spx_tree.specs.Goes.{place_with}
-use Rattle.spx_lexer.specs.Faults.{HasMoreTokens}
+use Rattle.spx_tree.specs.Stops.{HasMoreTokens}
 use Rattle.spx_core.specs.declared.rule.RuleName.{RuleName}
 use Rattle.spx_core.specs.declared.rule.RuleName.TheVariants as rule
 use Rattle.spx_report.specs.declared.report.Finding.{Finding}

@@ -25,6 +25,7 @@ mod Flag
 mod Maximal
 mod SpelledLine
 mod Spelling
+mod NumberValues
 mod IncrementText
 mod Stopped
 mod TooDeep

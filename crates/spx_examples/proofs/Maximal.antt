@@ -3,13 +3,15 @@ use Rattle.std.proofs.Common.{◌≡◌, inl, inr, ℕ, Bool, true, false, List,
 use Rattle.std.specs.Prelude.{◌&&◌, ◌||◌, ◌==◌, not, codes}
 use Rattle.std.specs.List.{list_all}
 use Rattle.std.specs.Char.{is_ascii_digit, is_ascii_alphabetic, is_ascii_alphanumeric}
-use Rattle.std.specs.Str.Parse.{IsNumeral, AllDigits, digits_value}
-use Rattle.std.proofs.lemmas.Bool.{both_ways, not-true}
+use Rattle.std.proofs.lemmas.Bool.{and_parts, both_ways, not-true}
+use Rattle.std.proofs.lemmas.List.Folds.{list_all-append}
 use Rattle.spx_tree.specs.declared.token.Kind.{Kind}
 use Rattle.spx_tree.specs.declared.token.Kind.TheVariants as kind
-use Rattle.spx_tree.specs.Lexemes.{IsWordRest, IsBehindUnderscore, IsWord, kind_of_word, kind_of, delimiters, IsLexeme, word, numeral, delimiter, IsMaximal, begins_with_digit}
+use Rattle.spx_tree.specs.Lexemes.{IsWordRest, IsBehindUnderscore, IsWord, kind_of_word, kind_of, delimiters, IsLexeme, word, numeral, delimiter, IsMaximal}
+use Rattle.spx_tree.specs.Numbers.{IsNumber}
 use Rattle.spx_tree.specs.Spells.{Role, lexeme, BeginsWith, Stands}
-use Rattle.spx_tree.proofs.Shapes.{other, shape, shape_of, stands_shape, stands_some, begins_hyphen, kind_of_passes, letter_plain, digit_plain, letter_no_digit, numeral_digit, no_empty_delimiter, delimiter_mark}
+use Rattle.spx_tree.proofs.Numbers.{stops, is_number_byte, number_bytes, number_digit, no_empty_number}
+use Rattle.spx_tree.proofs.Shapes.{other, shape, shape_of, stands_shape, stands_some, begins_hyphen, kind_of_passes, letter_plain, digit_plain, letter_no_digit, no_empty_delimiter, delimiter_mark}
 
 head_is : (x y : ℕ) (xs ys : List ℕ) → x ∷ xs ≡ y ∷ ys → x ≡ y
 head_is x y xs ys e = cc
@@ -47,22 +49,24 @@ word_maximal : (m : Bool) (bytes rest : List ℕ) → IsWord bytes → continues
 word_maximal m [] rest w ends more behind k n e l = absurd w
 word_maximal m (b ∷ front) rest w ends [] behind k n e l = refl
 word_maximal m (b ∷ front) rest w ends (x ∷ more) behind k n e (word v f g) = absurd (both_ways (continues_word rest) ends (ap continues_word e ∙ word_continues front x more behind v.1))
-word_maximal m (b ∷ front) rest w ends (x ∷ more) behind k n e (numeral d f g) = absurd (both_ways (is_ascii_digit b) (letter_no_digit b w.0) (numeral_digit b (front ++ (x ∷ more)) d))
+word_maximal m (b ∷ front) rest w ends (x ∷ more) behind k n e (numeral v d f g) = absurd (both_ways (is_ascii_digit b) (letter_no_digit b w.0) (number_digit b (front ++ (x ∷ more)) v d))
 word_maximal m (b ∷ front) rest w ends (x ∷ more) behind k n e (delimiter f g) = absurd (both_ways (is_ascii_alphabetic b) (delimiter_mark m b (front ++ (x ∷ more)) k f).no_letter w.0)
 
 -- ---- numbers
 
-all_digits_here : (front : List ℕ) (x : ℕ) (more : List ℕ) → AllDigits 10 (front ++ (x ∷ more)) → is_ascii_digit x ≡ true
-all_digits_here [] x more h = numeral_digit x more (omega arith, h)
-all_digits_here (y ∷ front) x more h = all_digits_here front x more h.1
+-- each byte of a number is one that numbers may have
+number_continues : (front : List ℕ) (x : ℕ) (more : List ℕ) (n : ℕ) → IsNumber (front ++ (x ∷ more)) n → is_number_byte x ≡ true
+number_continues front x more n d =
+    let all = and_parts (list_all is_number_byte front) (list_all is_number_byte (x ∷ more)) (sym (list_all-append is_number_byte front (x ∷ more)) ∙ number_bytes (front ++ (x ∷ more)) n d) in
+    (and_parts (is_number_byte x) (list_all is_number_byte more) all.1).0
 
-number_maximal : (m : Bool) (bytes rest : List ℕ) → IsNumeral 10 bytes → begins_with_digit rest ≡ false → IsMaximal m bytes rest
-number_maximal m [] rest d ends more behind k n e l = absurd (omega (arith, d.0))
-number_maximal m (b ∷ front) rest d ends [] behind k n e l = refl
-number_maximal m (b ∷ front) rest d ends (x ∷ more) behind k n e (word w f g) = absurd (both_ways (is_ascii_digit b) (letter_no_digit b w.0) (numeral_digit b front d))
-number_maximal m (b ∷ front) rest d ends (x ∷ more) behind k n e (numeral c f g) =
-    absurd (both_ways (is_ascii_digit x) (ap begins_with_digit (sym e) ∙ ends) (all_digits_here (b ∷ front) x more c.1))
-number_maximal m (b ∷ front) rest d ends (x ∷ more) behind k n e (delimiter f g) = absurd (both_ways (is_ascii_digit b) (delimiter_mark m b (front ++ (x ∷ more)) k f).no_digit (numeral_digit b front d))
+number_maximal : (m : Bool) (bytes rest : List ℕ) (v : ℕ) → IsNumber bytes v → stops is_number_byte rest ≡ true → IsMaximal m bytes rest
+number_maximal m [] rest v d ends more behind k n e l = absurd (no_empty_number v d)
+number_maximal m (b ∷ front) rest v d ends [] behind k n e l = refl
+number_maximal m (b ∷ front) rest v d ends (x ∷ more) behind k n e (word w f g) = absurd (both_ways (is_ascii_digit b) (letter_no_digit b w.0) (number_digit b front v d))
+number_maximal m (b ∷ front) rest v d ends (x ∷ more) behind k n e (numeral o c f g) =
+    absurd (both_ways (is_number_byte x) (not-true (is_number_byte x) (ap (stops is_number_byte) (sym e) ∙ ends)) (number_continues (b ∷ front) x more o c))
+number_maximal m (b ∷ front) rest v d ends (x ∷ more) behind k n e (delimiter f g) = absurd (both_ways (is_ascii_digit b) (delimiter_mark m b (front ++ (x ∷ more)) k f).no_digit (number_digit b front v d))
 
 -- ---- delimiters
 
@@ -92,7 +96,7 @@ delimiter_maximal : (m : Bool) (bytes : List ℕ) (c : ℕ) (rest : List ℕ) (k
 delimiter_maximal m [] c rest k d none more behind l n e lex = absurd (no_empty_delimiter m k d)
 delimiter_maximal m (a ∷ front) c rest k d none [] behind l n e lex = refl
 delimiter_maximal m (a ∷ front) c rest k d none (x ∷ more) behind l n e (word w f g) = absurd (both_ways (is_ascii_alphabetic a) (delimiter_mark m a front k d).no_letter w.0)
-delimiter_maximal m (a ∷ front) c rest k d none (x ∷ more) behind l n e (numeral v f g) = absurd (both_ways (is_ascii_digit a) (delimiter_mark m a front k d).no_digit (numeral_digit a (front ++ (x ∷ more)) v))
+delimiter_maximal m (a ∷ front) c rest k d none (x ∷ more) behind l n e (numeral o v f g) = absurd (both_ways (is_ascii_digit a) (delimiter_mark m a front k d).no_digit (number_digit a (front ++ (x ∷ more)) o v))
 delimiter_maximal m (a ∷ front) c rest k d none (x ∷ more) behind l n e (delimiter f g) =
     let longer : (a ∷ front) ++ (x ∷ more) ≡ ((a ∷ front) ++ (c ∷ [])) ++ more =
     ap (λ (y : ℕ). (a ∷ front) ++ (y ∷ more)) (sym (head_is c x rest (more ++ behind) e)) ∙ sym (append_assoc (a ∷ front) (c ∷ []) more) in
@@ -107,15 +111,15 @@ word_hyphen : (bytes : List ℕ) → IsWord bytes → begins_hyphen bytes ≡ fa
 word_hyphen [] w = absurd w
 word_hyphen (b ∷ bs) w = (letter_plain b w.0).no_hyphen
 
-number_hyphen : (bytes : List ℕ) → IsNumeral 10 bytes → begins_hyphen bytes ≡ false
-number_hyphen [] d = absurd (omega (arith, d.0))
-number_hyphen (b ∷ bs) d = (digit_plain b (numeral_digit b bs d)).no_hyphen
+number_hyphen : (bytes : List ℕ) (v : ℕ) → IsNumber bytes v → begins_hyphen bytes ≡ false
+number_hyphen [] v d = absurd (no_empty_number v d)
+number_hyphen (b ∷ bs) v d = (digit_plain b (number_digit b bs v d)).no_hyphen
 
 pub word_stands : (m : Bool) (k : Kind) (bytes rest : List ℕ) → IsWord bytes → k ≡ kind_of_word m bytes → continues_word rest ≡ false → Stands m (lexeme k (pos 0)) bytes rest
 word_stands m k bytes rest w e ends = (word w e refl, word_maximal m bytes rest w ends, no_lone_hyphen bytes rest (word_hyphen bytes w))
 
-pub number_stands : (m : Bool) (n : ℤ) (bytes rest : List ℕ) → IsNumeral 10 bytes → n ≡ pos (digits_value 10 bytes) → begins_with_digit rest ≡ false → Stands m (lexeme kind.Number n) bytes rest
-number_stands m n bytes rest d e ends = (numeral d refl e, number_maximal m bytes rest d ends, no_lone_hyphen bytes rest (number_hyphen bytes d))
+pub number_stands : (m : Bool) (v : ℕ) (bytes rest : List ℕ) → IsNumber bytes v → stops is_number_byte rest ≡ true → Stands m (lexeme kind.Number (pos v)) bytes rest
+number_stands m v bytes rest d ends = (numeral v d refl refl, number_maximal m bytes rest v d ends, no_lone_hyphen bytes rest (number_hyphen bytes v d))
 
 pub delimiter_stands : (m : Bool) (k : Kind) (bytes : List ℕ) (c : ℕ) (rest : List ℕ) → kind_of (delimiters m) bytes ≡ Some k → begins_none m (bytes ++ (c ∷ [])) ≡ true → begins_hyphen bytes ≡ false → Stands m (lexeme k (pos 0)) bytes (c ∷ rest)
 delimiter_stands m k bytes c rest d none h = (delimiter d refl, delimiter_maximal m bytes c rest k d none, no_lone_hyphen bytes (c ∷ rest) h)
@@ -124,7 +128,7 @@ delimiter_stands m k bytes c rest d none h = (delimiter d refl, delimiter_maxima
 
 no_lexeme : (m : Bool) (a : ℕ) (bs : List ℕ) (k : Kind) (n : ℤ) → is_ascii_alphabetic a ≡ false → is_ascii_digit a ≡ false → begins_none m (a ∷ []) ≡ true → IsLexeme m k n (a ∷ bs) → ⊥
 no_lexeme m a bs k n letter digit none (word w e f) = both_ways (is_ascii_alphabetic a) letter w.0
-no_lexeme m a bs k n letter digit none (numeral d e f) = both_ways (is_ascii_digit a) digit (numeral_digit a bs d)
+no_lexeme m a bs k n letter digit none (numeral v d e f) = both_ways (is_ascii_digit a) digit (number_digit a bs v d)
 no_lexeme m a bs k n letter digit none (delimiter e f) = no_delimiter m (a ∷ []) bs k none e
 
 no_lexeme_at : (m : Bool) (a : ℕ) (bs : List ℕ) → is_ascii_alphabetic a ≡ false → is_ascii_digit a ≡ false → begins_none m (a ∷ []) ≡ true → (k : Kind) (n : ℤ) (bytes behind : List ℕ) → a ∷ bs ≡ bytes ++ behind → Stands m (lexeme k n) bytes behind → ⊥

@@ -6,6 +6,7 @@ use Rattle.std.proofs.lemmas.List.Elements.{All-nil, All-cons}
 use Rattle.std.proofs.lemmas.Int.{ints}
 use Rattle.spx_tree.specs.declared.token.Kind.TheVariants as kind
 use Rattle.spx_tree.specs.Lexemes.{unreserved, kind_of_word, code_delimiters, annotation_delimiters, delimiters}
+use Rattle.spx_tree.specs.Numbers.{none, IsNumber, decimal}
 use Rattle.spx_tree.specs.Places.{place_behind}
 use Rattle.spx_tree.specs.Spells.{Role, line_end, separator, comment, head, lexeme, Stands, Part, bytes_of, AllStand, tokens_of, Spells}
 use Rattle.spx_tree.specs.Stops.{bad_byte, StopsAt}
@@ -56,6 +57,9 @@ are = refl
 comment_text : All (λ b. b ≢ 10) (codes " #")
 comment_text = All-cons (λ (b : ℕ). b ≢ 10) 32 (35 ∷ []) (λ e. absurd (omega arith)) (All-cons (λ (b : ℕ). b ≢ 10) 35 [] (λ e. absurd (omega arith)) (All-nil (λ (b : ℕ). b ≢ 10)))
 
+one : IsNumber (codes "1") 1
+one = decimal (codes "1") [] 0 refl (omega arith, tt) (none refl refl) refl
+
 behind_head_stands : AllStand true behind_head []
 unfolding unreserved kind_of_word delimiters code_delimiters annotation_delimiters
 behind_head_stands = (
@@ -74,7 +78,7 @@ behind_head_stands = (
           delimiter_stands true kind.LessOrEqual (codes "<=") 49 _ refl refl refl,
           λ e. absurd cc,
           (
-            number_stands true (pos 1) (codes "1") _ (omega arith, (omega arith, tt)) refl refl,
+            number_stands true 1 (codes "1") _ one refl,
             λ e. (refl, omega (arith, ints)),
             (
               delimiter_stands true kind.Semicolon (codes ";") 32 _ refl refl refl,

@@ -2,19 +2,22 @@
 use Rattle.std.proofs.Common.{◌≡◌, inl, inr, ℕ, ◌<◌, Bool, true, false, not, List, [], ◌∷◌, ◌++◌, length, take, Option, Some, None, refl, sym, ap, subst, ◌∙◌, arith, append_assoc, ℤ, pos}
 use Rattle.std.specs.Prelude.{◌&&◌, ◌||◌, ◌==◌, ◌^◌, ◌<ℤ◌, IsFalse, codes}
 use Rattle.std.specs.List.{list_all}
-use Rattle.std.specs.Char.{is_ascii_alphabetic, is_ascii_alphanumeric, digit_value}
+use Rattle.std.specs.Char.{is_ascii_digit, is_ascii_alphabetic, is_ascii_alphanumeric, digit_value}
 use Rattle.std.specs.Str.{bytes_eq, byte}
-use Rattle.std.specs.Str.Parse.{IsNumeral, AllDigits, digits_value}
 use Rattle.std.proofs.Math.Dec.{ltb}
 use Rattle.std.proofs.Math.Seq.{take-append_seam}
-use Rattle.std.proofs.lemmas.Bool.{and_parts, both_ways, not-true, ltb-true, lt-ltb}
+use Rattle.std.proofs.lemmas.Bool.{and_parts, and_from, both_ways, not-true, ltb-true}
 use Rattle.std.proofs.lemmas.Int.{ints}
+use Rattle.std.proofs.lemmas.List.{append-nil}
+use Rattle.std.proofs.lemmas.List.Folds.{list_all-append}
 use Rattle.std.proofs.lemmas.Slice.Eq.{bytes_eq-Decides}
 use Rattle.spx_tree.specs.declared.token.Kind.{Kind}
 use Rattle.spx_tree.specs.declared.token.Kind.TheVariants as kind
 use Rattle.spx_tree.specs.declared.token.Token.{Token}
 use Rattle.spx_tree.specs.Lexemes.{IsWordRest, IsBehindUnderscore, IsWord, kind_of_word, kind_of, delimiters, IsLexeme, word, numeral, delimiter, IsMaximal, spoils_number}
+use Rattle.spx_tree.specs.Numbers.{IsNumeralRest, IsNumeral, numeral_value, none as no_exponent, IsNumber, decimal}
 use Rattle.spx_tree.specs.Spells.{Role, line_end, separator, head, lexeme, Stands, IsSound, Part, bytes_of, marked_behind, AllStand, tokens_of, Spells}
+use Rattle.spx_tree.proofs.Numbers.{is_number_byte, number_bytes, number_digit}
 use Rattle.spx_tree.proofs.Shapes.{kind_of_passes}
 use Rattle.spx_tree.proofs.OnlyDigits.{word_no_number, delimiter_no_number}
 
@@ -29,8 +32,10 @@ abbrev begins_word : List ℕ → Bool
 begins_word [] = true
 begins_word (b ∷ bs) = is_ascii_alphabetic b && list_all is_word_byte bs
 
-abbrev is_digit : ℕ → Bool
-is_digit b = ltb (digit_value b) 10
+-- a number may begin with these bytes
+abbrev begins_number : List ℕ → Bool
+begins_number [] = true
+begins_number (b ∷ bs) = is_ascii_digit b && list_all is_number_byte bs
 
 -- these bytes are the first of those
 abbrev begins : List ℕ → List ℕ → Bool
@@ -38,7 +43,7 @@ begins front bytes = bytes_eq (take (length front) bytes) front
 
 -- no word, no number and no delimiter begins with these bytes
 abbrev begins_none : Bool → List ℕ → Bool
-begins_none m front = not (begins_word front) && (not (list_all is_digit front) && list_all (λ (e : List ℕ × Kind). not (begins front e.0)) (delimiters m))
+begins_none m front = not (begins_word front) && (not (begins_number front) && list_all (λ (e : List ℕ × Kind). not (begins front e.0)) (delimiters m))
 
 mutual
   word_rest : (front more : List ℕ) → IsWordRest (front ++ more) → list_all is_word_byte front ≡ true
@@ -54,20 +59,23 @@ word_begins : (front more : List ℕ) → IsWord (front ++ more) → begins_word
 word_begins [] more w = refl
 word_begins (b ∷ front) more w = ap (λ (t : Bool). t && list_all is_word_byte front) w.0 ∙ word_rest front more w.1
 
-digits_begin : (front more : List ℕ) → AllDigits 10 (front ++ more) → list_all is_digit front ≡ true
-digits_begin [] more d = refl
-digits_begin (b ∷ front) more d = ap (λ (t : Bool). t && list_all is_digit front) (lt-ltb (digit_value b) 10 d.0) ∙ digits_begin front more d.1
+number_begins : (front more : List ℕ) (n : ℕ) → IsNumber (front ++ more) n → begins_number front ≡ true
+number_begins [] more n d = refl
+number_begins (b ∷ front) more n d =
+    let all = and_parts (is_number_byte b) (list_all is_number_byte (front ++ more)) (number_bytes (b ∷ (front ++ more)) n d) in
+    let here = and_parts (list_all is_number_byte front) (list_all is_number_byte more) (sym (list_all-append is_number_byte front more) ∙ all.1) in
+    and_from (is_ascii_digit b) (list_all is_number_byte front) (number_digit b (front ++ more) n d) here.0
 
 begins_itself : (front more : List ℕ) → begins front (front ++ more) ≡ true
 begins_itself front more = (bytes_eq-Decides (take (length front) (front ++ more)) front).1 (take-append_seam front more)
 
 no_lexeme : (m : Bool) (k : Kind) (n : ℤ) (front more : List ℕ) → begins_none m front ≡ true → IsLexeme m k n (front ++ more) → ⊥
 no_lexeme m k n front more none l =
-    let h = and_parts (not (begins_word front)) (not (list_all is_digit front) && list_all (λ (e : List ℕ × Kind). not (begins front e.0)) (delimiters m)) none in
-    let g = and_parts (not (list_all is_digit front)) (list_all (λ (e : List ℕ × Kind). not (begins front e.0)) (delimiters m)) h.1 in
+    let h = and_parts (not (begins_word front)) (not (begins_number front) && list_all (λ (e : List ℕ × Kind). not (begins front e.0)) (delimiters m)) none in
+    let g = and_parts (not (begins_number front)) (list_all (λ (e : List ℕ × Kind). not (begins front e.0)) (delimiters m)) h.1 in
     elim l [
       | word w e f ↦ both_ways (begins_word front) (not-true (begins_word front) h.0) (word_begins front more w)
-      | numeral d e f ↦ both_ways (list_all is_digit front) (not-true (list_all is_digit front) g.0) (digits_begin front more d.1)
+      | numeral v d e f ↦ both_ways (begins_number front) (not-true (begins_number front) g.0) (number_begins front more v d)
       | delimiter e f ↦ both_ways (begins front (front ++ more)) (not-true (begins front (front ++ more)) (kind_of_passes (λ (x : List ℕ). not (begins front x)) (delimiters m) (front ++ more) k g.1 e)) (begins_itself front more)
     ]
 
@@ -110,27 +118,34 @@ word_is : (bytes : List ℕ) → is_word bytes ≡ true → IsWord bytes
 word_is [] h = absurd cc
 word_is (b ∷ bs) h = let p = and_parts (is_ascii_alphabetic b) (list_all is_ascii_alphanumeric bs) h in (p.0, rest_is bs p.1)
 
+abbrev is_digit : ℕ → Bool
+is_digit b = ltb (digit_value b) 10
+
 -- digits, one or more
 abbrev is_numeral : List ℕ → Bool
 is_numeral [] = false
 is_numeral (b ∷ bs) = list_all is_digit (b ∷ bs)
 
-digits_are : (bs : List ℕ) → list_all is_digit bs ≡ true → AllDigits 10 bs
+digits_are : (bs : List ℕ) → list_all is_digit bs ≡ true → IsNumeralRest 10 bs
 digits_are [] h = tt
-digits_are (b ∷ bs) h = let p = and_parts (is_digit b) (list_all is_digit bs) h in (ltb-true (digit_value b) 10 p.0, digits_are bs p.1)
+digits_are (b ∷ bs) h = let p = and_parts (is_digit b) (list_all is_digit bs) h in inl (ltb-true (digit_value b) 10 p.0, digits_are bs p.1)
 
 numeral_is : (bytes : List ℕ) → is_numeral bytes ≡ true → IsNumeral 10 bytes
 numeral_is [] h = absurd cc
-numeral_is (b ∷ bs) h = (omega arith, digits_are (b ∷ bs) h)
+numeral_is (b ∷ bs) h = let p = and_parts (is_digit b) (list_all is_digit bs) h in (ltb-true (digit_value b) 10 p.0, digits_are bs p.1)
+
+-- a numeral is a number
+pub number_is : (bytes : List ℕ) → IsNumeral 10 bytes → IsNumber bytes (numeral_value 10 bytes)
+number_is bytes d = decimal bytes [] 0 (sym (append-nil bytes)) d (no_exponent refl refl) (omega arith)
 
 -- digits with which the number ends
 abbrev pub is_number : Bool → List ℕ → List ℕ → Bool
 is_number m bytes rest = is_numeral bytes && closes m bytes rest
 
-pub number_stands : (m : Bool) (bytes rest : List ℕ) → is_number m bytes rest ≡ true → Stands m (lexeme kind.Number (pos (digits_value 10 bytes))) bytes rest
+pub number_stands : (m : Bool) (bytes rest : List ℕ) → is_number m bytes rest ≡ true → Stands m (lexeme kind.Number (pos (numeral_value 10 bytes))) bytes rest
 number_stands m bytes rest h =
     let p = and_parts (is_numeral bytes) (closes m bytes rest) h in
-    lexeme_stands m kind.Number (pos (digits_value 10 bytes)) bytes rest (numeral (numeral_is bytes p.0) refl refl) p.1
+    lexeme_stands m kind.Number (pos (numeral_value 10 bytes)) bytes rest (numeral (numeral_value 10 bytes) (number_is bytes (numeral_is bytes p.0)) refl refl) p.1
 
 -- ---- pieces
 
@@ -151,7 +166,7 @@ delimiter_role (Some k) = lexeme k (pos 0)
 -- what a piece is
 abbrev pub role_of : Bool → Piece → Role
 role_of m (Word bytes) = lexeme (kind_of_word m bytes) (pos 0)
-role_of m (Digits bytes) = lexeme kind.Number (pos (digits_value 10 bytes))
+role_of m (Digits bytes) = lexeme kind.Number (pos (numeral_value 10 bytes))
 role_of m (Delimiter bytes) = delimiter_role (kind_of (delimiters m) bytes)
 role_of m Space = separator
 role_of m Head = head
@@ -178,7 +193,7 @@ is_some (Some k) = true
 -- a piece stands before this rest of the text
 abbrev pub fits : Bool → Piece → List ℕ → Bool
 fits m (Word bytes) rest = is_word bytes && closes m bytes rest
-fits m (Digits bytes) rest = is_number m bytes rest && (not (spoils_number rest) && ltb (digits_value 10 bytes) (2 ^ 127))
+fits m (Digits bytes) rest = is_number m bytes rest && (not (spoils_number rest) && ltb (numeral_value 10 bytes) (2 ^ 127))
 fits m (Delimiter bytes) rest = is_some (kind_of (delimiters m) bytes) && closes m bytes rest
 fits m Head rest = not m
 fits m _ rest = true
@@ -203,8 +218,8 @@ piece_stands m (Word bytes) rest h =
     let p = and_parts (is_word bytes) (closes m bytes rest) h in
     (lexeme_stands m (kind_of_word m bytes) (pos 0) bytes rest (word (word_is bytes p.0) refl refl) p.1, λ e. absurd (word_no_number m bytes e))
 piece_stands m (Digits bytes) rest h =
-    let p = and_parts (is_number m bytes rest) (not (spoils_number rest) && ltb (digits_value 10 bytes) (2 ^ 127)) h in
-    (number_stands m bytes rest p.0, λ e. number_sound rest (digits_value 10 bytes) p.1)
+    let p = and_parts (is_number m bytes rest) (not (spoils_number rest) && ltb (numeral_value 10 bytes) (2 ^ 127)) h in
+    (number_stands m bytes rest p.0, λ e. number_sound rest (numeral_value 10 bytes) p.1)
 piece_stands m (Delimiter bytes) rest h =
     let p = and_parts (is_some (kind_of (delimiters m) bytes)) (closes m bytes rest) h in
     delimiter_stands m bytes rest (kind_of (delimiters m) bytes) refl p.0 p.1

@@ -1,8 +1,9 @@
 // What holds of the bytes of texts, each as the contract of a function that does nothing.
-ghost use Rattle.std.specs.Prelude.{◌≡◌, [], Ok, Err};
+ghost use Rattle.std.specs.Prelude.{◌≡◌, [], Ok, Err, codes};
 ghost use Rattle.spx_tree.specs.Form.{forms_of};
 ghost use Rattle.spx_tree.specs.Goes.{Answers, Expected, TooDeep, place_with};
 ghost use Rattle.spx_tree.specs.Grammar.{IsExpr, IsFile};
+ghost use Rattle.spx_tree.specs.Numbers.{IsNumber};
 ghost use Rattle.spx_tree.specs.Places.{place_behind};
 ghost use Rattle.spx_tree.specs.Spells.{Spells};
 ghost use Rattle.spx_tree.specs.Stops.{StopsAt, bad_byte, bad_number, too_wide};
@@ -24,6 +25,15 @@ pub fn a_line_is_spelled()
 /// A line that is stopped: no word has two underscores in a row.
 pub fn a_line_is_stopped()
     ensures { StopsAt 0 stopped_line bad_byte stop }
+{}
+
+/// In a number underscores do not count; digits of a base stand between two `#`, and an exponent is of the base. That a
+/// number has no other value is the law `one_spelling`.
+pub fn numbers_have_values()
+    ensures underscores { IsNumber (codes "1_000") 1000 }
+    ensures exponent { IsNumber (codes "1E+3") 1000 }
+    ensures base { IsNumber (codes "16#FF#") 255 }
+    ensures both { IsNumber (codes "16#f#E1") 240 }
 {}
 
 /// The bytes of examples/inc.adb are the program `increment`: they are these tokens, units of one level and no fewer are written

@@ -1,5 +1,9 @@
-mod Digits
+mod Fitting
 mod Runs
+mod Numerals
+mod Exponents
+mod NumberDigits
+mod LongestNumber
 mod Delimiters
 mod Found
 mod WordLexemes

@@ -7,8 +7,9 @@ use Rattle.spx_tree.specs.declared.token.Kind.{Kind}
 use Rattle.spx_tree.specs.Lexemes.{kind_of, delimiters, IsLexeme, word, numeral, delimiter, IsMaximal}
 use Rattle.spx_tree.specs.Places.{is_line_end}
 use Rattle.spx_tree.specs.Spells.{Role, lexeme, is_separator, BeginsWith, Stands}
+use Rattle.spx_tree.proofs.Numbers.{number_digit}
 use Rattle.spx_tree.proofs.OnlyDigits.{delimiter_no_number}
-use Rattle.spx_tree.proofs.Shapes.{other, shape, begins_hyphen, shape_of, stands_shape, stands_some, numeral_digit, delimiter_mark}
+use Rattle.spx_tree.proofs.Shapes.{other, shape, begins_hyphen, shape_of, stands_shape, stands_some, delimiter_mark}
 use Rattle.spx_lexer.specs.declared.lexer.pieces.What.TheVariants as what
 use Rattle.spx_lexer.specs.Pieces.{delimiter_at, piece, mark_by}
 use Rattle.spx_lexer.proofs.Delimiters.{Delimiter, IsFound, len_of, delimiter_at-longest}
@@ -16,7 +17,7 @@ use Rattle.spx_lexer.proofs.Found.{Found, Finds, nil_by_len, head_is, tail_is}
 
 delimiter_maximal : (m : Bool) (a : ℕ) (front rest : List ℕ) (k : Kind) → kind_of (delimiters m) (a ∷ front) ≡ Some k → len_of (delimiter_at m a (front ++ rest)) ≡ suc (length front) → IsMaximal m (a ∷ front) rest
 delimiter_maximal m a front rest k e len more behind l n f (word w g h) = absurd (both_ways (is_ascii_alphabetic a) (delimiter_mark m a front k e).no_letter w.0)
-delimiter_maximal m a front rest k e len more behind l n f (numeral d g h) = absurd (both_ways (is_ascii_digit a) (delimiter_mark m a front k e).no_digit (numeral_digit a (front ++ more) d))
+delimiter_maximal m a front rest k e len more behind l n f (numeral v d g h) = absurd (both_ways (is_ascii_digit a) (delimiter_mark m a front k e).no_digit (number_digit a (front ++ more) v d))
 delimiter_maximal m a front rest k e len more behind l n f (delimiter g h) =
     let le = delimiter_at-longest m a (front ++ more) behind l g in
     let same : (front ++ more) ++ behind ≡ front ++ rest = append_assoc front more behind ∙ ap (λ (x : List ℕ). front ++ x) (sym f) in
@@ -51,7 +52,7 @@ pub record IsForeign (m : Bool) (a : ℕ) (bs : List ℕ) : Type 0 where
 
 no_lexeme : (m : Bool) (a : ℕ) (bs : List ℕ) → IsForeign m a bs → (k : Kind) (n : ℤ) (front behind : List ℕ) → bs ≡ front ++ behind → IsLexeme m k n (a ∷ front) → ⊥
 no_lexeme m a bs h k n front behind e (word w f g) = both_ways (is_ascii_alphabetic a) h.no_letter w.0
-no_lexeme m a bs h k n front behind e (numeral d f g) = both_ways (is_ascii_digit a) h.no_digit (numeral_digit a front d)
+no_lexeme m a bs h k n front behind e (numeral v d f g) = both_ways (is_ascii_digit a) h.no_digit (number_digit a front v d)
 no_lexeme m a bs h k n front behind e (delimiter f g) =
     absurd (omega (arith, delimiter_at-longest m a front behind k f, ap (λ (x : List ℕ). len_of (delimiter_at m a x)) (sym e), ap len_of h.no_delimiter))
 

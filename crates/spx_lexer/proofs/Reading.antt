@@ -14,7 +14,8 @@ use Rattle.spx_lexer.specs.declared.lexer.pieces.Piece.{Piece}
 use Rattle.spx_lexer.specs.declared.lexer.positions.Position.{Position}
 use Rattle.spx_lexer.specs.declared.lexer.pieces.Cause.{Cause}
 use Rattle.spx_lexer.specs.Pieces.{piece_at}
-use Rattle.spx_lexer.specs.Faults.{reason_of, fault_of, HasMoreTokens, IsFaultOf}
+use Rattle.spx_lexer.specs.Faults.{reason_of, fault_of, IsFaultOf}
+use Rattle.spx_tree.specs.Stops.{HasMoreTokens}
 use Rattle.spx_lexer.specs.Positions.{place_after, marked_after, after, tokens_by, tokens_at}
 use Rattle.spx_lexer.proofs.Found.{role_of, Found, Finds}
 use Rattle.spx_lexer.proofs.Finds.{piece_at-finds}

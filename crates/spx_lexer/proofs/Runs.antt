@@ -1,14 +1,12 @@
--- The longest run of a word, of digits, and of a line.
+-- The longest run of a word and of a line.
 use Rattle.std.proofs.Common.{◌≡◌, ◌≢◌, ◌⊎◌, inl, inr, ℕ, suc, ◌≤◌, Bool, true, false, cond, List, [], ◌∷◌, ◌++◌, length, refl, sym, ap, arith, eqb}
 use Rattle.std.specs.List.{All}
-use Rattle.std.specs.Char.{is_ascii_digit, is_ascii_alphanumeric}
-use Rattle.std.specs.Str.Parse.{AllDigits}
+use Rattle.std.specs.Char.{is_ascii_alphanumeric}
 use Rattle.std.proofs.lemmas.Bool.{eqb-true, eqb-false}
 use Rattle.std.proofs.lemmas.List.Elements.{All-nil, All-cons}
-use Rattle.spx_tree.specs.Lexemes.{IsWordRest, IsBehindUnderscore, begins_with_digit}
+use Rattle.spx_tree.specs.Lexemes.{IsWordRest, IsBehindUnderscore}
 use Rattle.spx_tree.specs.Spells.{EndsLine}
-use Rattle.spx_lexer.specs.Pieces.{word_rest_len, underscore_len, digits_len, line_len}
-use Rattle.spx_lexer.proofs.Digits.{digit_below}
+use Rattle.spx_lexer.specs.Pieces.{word_rest_len, underscore_len, line_len}
 
 -- ---- words
 
@@ -68,25 +66,6 @@ mutual
       let h = word_rest_len-ge front rest is.1 in
       let e : underscore_len (b ∷ (front ++ rest)) ≡ suc (suc (word_rest_len (front ++ rest))) = ap (λ (x : Bool). cond x (suc (suc (word_rest_len (front ++ rest)))) 0) is.0 in
       omega arith
-
--- ---- digits
-
-pub record Digits (bs : List ℕ) (n : ℕ) : Type 0 where
-  pub front : List ℕ
-  pub rest : List ℕ
-  pub parts : bs ≡ front ++ rest
-  pub len : length front ≡ n
-  pub are : AllDigits 10 front
-  pub ends : begins_with_digit rest ≡ false
-
-digits_by : (b : ℕ) (bs : List ℕ) (h : Bool) → is_ascii_digit b ≡ h → Digits bs (digits_len bs) → Digits (b ∷ bs) (cond h (suc (digits_len bs)) 0)
-digits_by b bs true e d =
-    record { front = b ∷ d.front; rest = d.rest; parts = ap (λ (x : List ℕ). b ∷ x) d.parts; len = ap suc d.len; are = (digit_below b e, d.are); ends = d.ends }
-digits_by b bs false e d = record { front = []; rest = b ∷ bs; parts = refl; len = refl; are = tt; ends = e }
-
-pub digits : (bs : List ℕ) → Digits bs (digits_len bs)
-digits [] = record { front = []; rest = []; parts = refl; len = refl; are = tt; ends = refl }
-digits (b ∷ bs) = digits_by b bs (is_ascii_digit b) refl (digits bs)
 
 -- ---- lines
 

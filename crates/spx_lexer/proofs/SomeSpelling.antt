@@ -9,7 +9,8 @@ use Rattle.spx_tree.proofs.Shapes.{stands_some}
 use Rattle.spx_lexer.specs.declared.lexer.pieces.Piece.{Piece}
 use Rattle.spx_lexer.specs.declared.lexer.pieces.Cause.{Cause}
 use Rattle.spx_lexer.specs.declared.lexer.positions.Position.{Position}
-use Rattle.spx_lexer.specs.Faults.{reason_of, HasMoreTokens}
+use Rattle.spx_lexer.specs.Faults.{reason_of}
+use Rattle.spx_tree.specs.Stops.{HasMoreTokens}
 use Rattle.spx_lexer.specs.Pieces.{piece_at}
 use Rattle.spx_lexer.proofs.Found.{role_of, Found, Finds}
 use Rattle.spx_lexer.proofs.Finds.{piece_at-finds}

@@ -5,7 +5,8 @@ use Rattle.std.proofs.lemmas.Bool.{both_ways}
 use Rattle.std.proofs.lemmas.List.{take_at}
 use Rattle.spx_tree.specs.Lexemes.{kind_of_word, word, numeral, delimiter, IsMaximal}
 use Rattle.spx_tree.proofs.OnlyDigits.{word_no_number}
-use Rattle.spx_tree.proofs.Shapes.{letter_plain, letter_no_digit, numeral_digit, delimiter_mark}
+use Rattle.spx_tree.proofs.Shapes.{letter_plain, letter_no_digit, delimiter_mark}
+use Rattle.spx_tree.proofs.Numbers.{number_digit}
 use Rattle.spx_lexer.specs.Pieces.{word_rest_len, word_at}
 use Rattle.spx_lexer.proofs.Runs.{word_rest, word_rest_len-ge}
 use Rattle.spx_lexer.proofs.Found.{Found, nil_by_len, not_hyphen}
@@ -15,7 +16,7 @@ word_maximal m b front rest al len more behind k n e (word w f g) =
     let h = word_rest_len-ge (front ++ more) behind w.1 in
     let same : (front ++ more) ++ behind ≡ front ++ rest = append_assoc front more behind ∙ ap (λ (x : List ℕ). front ++ x) (sym e) in
     nil_by_len front more (omega (arith, ap word_rest_len same))
-word_maximal m b front rest al len more behind k n e (numeral d f g) = absurd (both_ways (is_ascii_digit b) (letter_no_digit b al) (numeral_digit b (front ++ more) d))
+word_maximal m b front rest al len more behind k n e (numeral v d f g) = absurd (both_ways (is_ascii_digit b) (letter_no_digit b al) (number_digit b (front ++ more) v d))
 word_maximal m b front rest al len more behind k n e (delimiter f g) = absurd (both_ways (is_ascii_alphabetic b) (delimiter_mark m b (front ++ more) k f).no_letter al)
 
 pub word_found : (m : Bool) (b : ℕ) (bs : List ℕ) → is_ascii_alphabetic b ≡ true → Found m (b ∷ bs) (word_at m (b ∷ bs) (word_rest_len bs + 1))

@@ -1,8 +1,7 @@
 -- What a fault of the lexer says of a text.
-use Rattle.std.specs.Prelude.{◌≡◌, ℕ, ◌<◌, false, List, [], ◌++◌, length}
+use Rattle.std.specs.Prelude.{ℕ, List}
 use Rattle.spx_text.specs.declared.place.Place.{Place}
-use Rattle.spx_tree.specs.Spells.{Part, bytes_of, AllStand, tokens_of}
-use Rattle.spx_tree.specs.Stops.{Cause as Reason, bad_byte, bad_number, too_wide, StopsAt}
+use Rattle.spx_tree.specs.Stops.{Cause as Reason, bad_byte, bad_number, too_wide, StopsAt, HasMoreTokens}
 use Rattle.spx_lexer.specs.declared.lexer.pieces.Cause.{Cause}
 use Rattle.spx_lexer.specs.declared.lexer.pieces.Cause.TheVariants as cause
 use Rattle.spx_lexer.specs.declared.lexer.LexFault.{LexFault}
@@ -18,14 +17,6 @@ abbrev pub fault_of : Reason → Place → LexFault
 fault_of bad_byte place = fault.BadByte place
 fault_of bad_number place = fault.BadNumber place
 fault_of too_wide place = fault.TooWide place
-
--- more than so many tokens stand in front of the place where the text ends or is stopped
-pub record HasMoreTokens (most file : ℕ) (bytes : List ℕ) : Type 0 where
-  pub parts : List Part
-  pub rest : List ℕ
-  pub whole : bytes_of parts ++ rest ≡ bytes
-  pub stand : AllStand false parts rest
-  pub many : most < length (tokens_of file [] false parts)
 
 -- the text of a file is stopped as the fault says and has no token too many, or has one; want of memory says nothing
 abbrev pub IsFaultOf : ℕ → List ℕ → LexFault → Type 0

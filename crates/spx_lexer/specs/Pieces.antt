@@ -1,11 +1,14 @@
 -- What the lexer finds at a place of a text.
-use Rattle.std.specs.Prelude.{ℕ, suc, ◌+◌, ◌^◌, Bool, false, not, ◌&&◌, if◌then◌else◌, ◌==◌, nat_lt, List, [], ◌∷◌, take, drop, Option, Some, None, Result, Ok, Err, ℤ, pos}
-use Rattle.std.specs.Char.{is_ascii_digit, is_ascii_alphabetic, is_ascii_alphanumeric}
-use Rattle.std.specs.Str.Parse.{digits_value}
+use Rattle.std.specs.Prelude.{ℕ, suc, ◌+◌, ◌*◌, ◌^◌, min, Bool, false, not, ◌&&◌, ◌||◌, if◌then◌else◌, ◌==◌, nat_lt, nat_le, List, [], ◌∷◌, take, drop, Option, Some, None, Result, Ok, Err, ℤ, pos}
+use Rattle.std.specs.Char.{is_ascii_digit, is_ascii_alphabetic, is_ascii_alphanumeric, digit_value}
 use Rattle.spx_tree.specs.declared.token.Kind.{Kind}
 use Rattle.spx_tree.specs.declared.token.Kind.TheVariants as kind
 use Rattle.spx_tree.specs.Lexemes.{kind_of_word, spoils_number}
+use Rattle.spx_tree.specs.Numbers.{numeral_value}
 use Rattle.spx_tree.specs.Spells.{is_separator}
+use Rattle.spx_lexer.specs.declared.lexer.numbers.Digits.{Digits}
+use Rattle.spx_lexer.specs.declared.lexer.numbers.Exponent.{Exponent}
+use Rattle.spx_lexer.specs.declared.lexer.numbers.Number.{Number}
 use Rattle.spx_lexer.specs.declared.lexer.pieces.What.{What}
 use Rattle.spx_lexer.specs.declared.lexer.pieces.What.TheVariants as what
 use Rattle.spx_lexer.specs.declared.lexer.pieces.Piece.{Piece}
@@ -21,16 +24,99 @@ abbrev mutual
   underscore_len [] = 0
   underscore_len (b ∷ bs) = if is_ascii_alphanumeric b then suc (suc (word_rest_len bs)) else 0
 
-abbrev pub digits_len : List ℕ → ℕ
-digits_len [] = 0
-digits_len (b ∷ bs) = if is_ascii_digit b then suc (digits_len bs) else 0
-
 abbrev pub line_len : List ℕ → ℕ
 line_len [] = 0
 line_len (b ∷ bs) = if b == 10 then 0 else suc (line_len bs)
 
-unfoldable pub value_of : List ℕ → Option ℤ
-value_of digits = if nat_lt (digits_value 10 digits) (2 ^ 127) then Some (pos (digits_value 10 digits)) else None
+-- ---- numbers
+
+unfoldable pub is_digit : ℕ → ℕ → Bool
+is_digit base b = nat_lt (digit_value b) base
+
+abbrev mutual
+  pub numeral_rest_len : ℕ → List ℕ → ℕ
+  numeral_rest_len base [] = 0
+  numeral_rest_len base (b ∷ bs) = if is_digit base b then suc (numeral_rest_len base bs) else (if b == 95 then digit_behind_len base bs else 0)
+
+  pub digit_behind_len : ℕ → List ℕ → ℕ
+  digit_behind_len base [] = 0
+  digit_behind_len base (b ∷ bs) = if is_digit base b then suc (suc (numeral_rest_len base bs)) else 0
+
+abbrev pub numeral_len : ℕ → List ℕ → ℕ
+numeral_len base [] = 0
+numeral_len base (b ∷ bs) = if is_digit base b then suc (numeral_rest_len base bs) else 0
+
+-- a value that is not too wide
+unfoldable pub fitting : ℕ → Option ℕ
+fitting n = if nat_lt n (2 ^ 127) then Some n else None
+
+-- the base that a numeral of this value writes
+unfoldable pub base_of : Option ℕ → Option ℕ
+base_of None = None
+base_of (Some n) = if nat_le 2 n && nat_le n 16 then Some n else None
+
+abbrev pub begins_with_hash : List ℕ → Bool
+begins_with_hash [] = false
+begins_with_hash (b ∷ bs) = b == 35
+
+abbrev pub digits : ℕ → ℕ → Option ℕ → Digits
+digits len base value = record { len = len; base = base; value = value }
+
+-- the digits in front, where `#` closes them; another `#` stands before them
+unfoldable pub closed_digits : ℕ → List ℕ → Option Digits
+closed_digits base bytes =
+    let len = numeral_len base bytes in
+    if nat_lt 0 len && begins_with_hash (drop len bytes) then Some (digits (len + 2) base (fitting (numeral_value base (take len bytes)))) else None
+
+abbrev pub based_digits : Option ℕ → List ℕ → Option Digits
+based_digits None bytes = None
+based_digits (Some base) [] = None
+based_digits (Some base) (b ∷ bs) = if b == 35 then closed_digits base bs else None
+
+-- digits and the base in front of them, or else these digits, of base 10
+abbrev pub digits_by : ℕ → Option ℕ → Option Digits → Digits
+digits_by len value None = digits len 10 value
+digits_by len value (Some found) = digits (len + found.len) found.base found.value
+
+unfoldable pub digits_at : List ℕ → Digits
+digits_at bytes =
+    let len = numeral_len 10 bytes in
+    let value = fitting (numeral_value 10 (take len bytes)) in
+    digits_by len value (based_digits (base_of value) (drop len bytes))
+
+abbrev pub exponent : ℕ → ℕ → Exponent
+exponent len value = record { len = len; value = value }
+
+-- the digits of an exponent in front, where so many bytes of it stand before them; 0 fits with every exponent, and no other number with 128
+unfoldable pub exponent_by : ℕ → List ℕ → Exponent
+exponent_by before bytes = let len = numeral_len 10 bytes in if len == 0 then exponent 0 0 else exponent (before + len) (min (numeral_value 10 (take len bytes)) 128)
+
+abbrev pub exponent_behind : List ℕ → Exponent
+exponent_behind [] = exponent_by 1 []
+exponent_behind (b ∷ bs) = if b == 43 then exponent_by 2 bs else exponent_by 1 (b ∷ bs)
+
+abbrev pub exponent_at : List ℕ → Exponent
+exponent_at [] = exponent 0 0
+exponent_at (b ∷ bs) = if b == 69 || b == 101 then exponent_behind bs else exponent 0 0
+
+abbrev pub scaled : Option ℕ → ℕ → ℕ → Option ℕ
+scaled None base exponent = None
+scaled (Some value) base exponent = fitting (value * base ^ exponent)
+
+abbrev pub as_integer : Option ℕ → Option ℤ
+as_integer None = None
+as_integer (Some value) = Some (pos value)
+
+abbrev pub value_of : Digits → ℕ → Option ℤ
+value_of found exponent = as_integer (scaled found.value found.base exponent)
+
+abbrev pub number_by : Digits → Exponent → Number
+number_by found exponent = record { len = found.len + exponent.len; value = value_of found exponent.value }
+
+unfoldable pub number_in : List ℕ → Number
+number_in bytes = let found = digits_at bytes in number_by found (exponent_at (drop found.len bytes))
+
+-- ---- delimiters
 
 abbrev pub single : Bool → ℕ → Option Kind
 single marked a =
@@ -98,12 +184,12 @@ lexeme kind number len = piece (what.Lexeme kind number) len
 abbrev pub word_at : Bool → List ℕ → ℕ → Piece
 word_at marked bytes len = lexeme (kind_of_word marked (take len bytes)) (pos 0) len
 
-abbrev pub number_by : Option ℤ → ℕ → Result Piece Cause
-number_by None len = Err cause.TooWide
-number_by (Some value) len = Ok (lexeme kind.Number value len)
+abbrev pub number_of : Option ℤ → ℕ → Result Piece Cause
+number_of None len = Err cause.TooWide
+number_of (Some value) len = Ok (lexeme kind.Number value len)
 
 unfoldable pub number_at : List ℕ → Result Piece Cause
-number_at bytes = if spoils_number (drop (digits_len bytes) bytes) then Err cause.BadNumber else number_by (value_of (take (digits_len bytes) bytes)) (digits_len bytes)
+number_at bytes = let number = number_in bytes in if spoils_number (drop number.len bytes) then Err cause.BadNumber else number_of number.value number.len
 
 abbrev pub mark_by : Option (Kind × ℕ) → Result Piece Cause
 mark_by None = Err cause.BadByte

@@ -4,8 +4,7 @@ ghost use Rattle.spx_text.specs.declared.place.Place.{Place};
 ghost use Rattle.spx_tree.specs.Spells.{Spells};
 ghost use Rattle.spx_tree.specs.Stops.{Cause, StopsAt};
 ghost use Rattle.spx_tree.specs.declared.token.Token.{Token};
-ghost use Rattle.spx_lexer.specs.Faults.{HasMoreTokens};
-
+ghost use Rattle.spx_tree.specs.Stops.{HasMoreTokens};
 /// A text has at most 1000000 tokens, or it is stopped somewhere after no more, or more come before its end or that place.
 pub fn some_spelling()
     ensures { (file : ℕ) (bytes : List ℕ) →

@@ -9,7 +9,8 @@ ghost use Rattle.spx_tree.specs.Mirror.{IsWithin};
 ghost use Rattle.spx_tree.specs.Stops.{Cause as Reason, StopsAt};
 ghost use Rattle.spx_lexer.specs.declared.lexer.LexFault.TheVariants.{TooMany, Memory};
 ghost use Rattle.spx_lexer.specs.Faults as faults;
-ghost use Rattle.spx_lexer.specs.Faults.{HasMoreTokens, IsFaultOf};
+ghost use Rattle.spx_lexer.specs.Faults.{IsFaultOf};
+ghost use Rattle.spx_tree.specs.Stops.{HasMoreTokens};
 ghost use Rattle.spx_lexer.specs.Positions as spec;
 
 mod delimiters;

@@ -1,3 +1,4 @@
+pub mod Numbers
 pub mod Shapes
 pub mod OnlyDigits
 pub mod OnePart

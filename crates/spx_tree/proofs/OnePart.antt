@@ -1,15 +1,16 @@
 -- At most one part stands in front of a text.
-use Rattle.std.proofs.Common.{◌≡◌, ◌≢◌, inl, inr, ℕ, ◌≤◌, Bool, List, [], ◌∷◌, ◌++◌, length, Some, refl, sym, ap, subst, ◌∙◌, arith, ℤ}
+use Rattle.std.proofs.Common.{◌≡◌, ◌≢◌, inl, inr, ℕ, ◌≤◌, Bool, List, [], ◌∷◌, ◌++◌, length, Some, refl, sym, ap, subst, ◌∙◌, arith, ℤ, pos}
 use Rattle.std.proofs.Math.Path.{ap₂}
 use Rattle.std.specs.List.{All}
-use Rattle.std.specs.Str.Parse.{IsNumeral}
 use Rattle.std.proofs.lemmas.Bool.{both_ways, cases_lt}
 use Rattle.std.proofs.lemmas.List.{append-nil, append_cancel_left}
 use Rattle.std.proofs.lemmas.List.Elements.{All-head, All-tail}
 use Rattle.spx_tree.specs.declared.token.Kind.{Kind}
 use Rattle.spx_tree.specs.Lexemes.{kind_of, delimiters, IsWord, IsLexeme, word, numeral, delimiter}
+use Rattle.spx_tree.specs.Numbers.{IsNumber}
 use Rattle.spx_tree.specs.Spells.{Role, line_end, separator, comment, head, lexeme, BeginsWith, EndsLine, Stands}
-use Rattle.spx_tree.proofs.Shapes.{shape, shape_of, stands_shape, letter_no_digit, numeral_digit, delimiter_mark, no_empty_delimiter}
+use Rattle.spx_tree.proofs.Shapes.{shape, shape_of, stands_shape, letter_no_digit, delimiter_mark, no_empty_delimiter}
+use Rattle.spx_tree.proofs.Numbers.{number_digit, one_number}
 
 -- two readings of a text: one begins the other
 pub front_of : (a b c d : List ℕ) → a ++ b ≡ c ++ d → length a ≤ length c → (more : List ℕ) × (c ≡ a ++ more) × (b ≡ more ++ d)
@@ -30,27 +31,27 @@ front_of (x ∷ a) b (y ∷ c) d e le =
 some_is : (x y : Kind) → Some x ≡ Some y → x ≡ y
 some_is x y e = cc
 
-no_word_numeral : (bytes : List ℕ) → IsWord bytes → IsNumeral 10 bytes → ⊥
-no_word_numeral [] w n = w
-no_word_numeral (b ∷ bs) w n = both_ways _ (letter_no_digit b w.0) (numeral_digit b bs n)
+no_word_number : (bytes : List ℕ) (n : ℕ) → IsWord bytes → IsNumber bytes n → ⊥
+no_word_number [] n w d = w
+no_word_number (b ∷ bs) n w d = both_ways _ (letter_no_digit b w.0) (number_digit b bs n d)
 
 no_word_delimiter : (m : Bool) (bytes : List ℕ) (what : Kind) → IsWord bytes → kind_of (delimiters m) bytes ≡ Some what → ⊥
 no_word_delimiter m [] what w e = w
 no_word_delimiter m (b ∷ bs) what w e = both_ways _ (delimiter_mark m b bs what e).no_letter w.0
 
-no_numeral_delimiter : (m : Bool) (bytes : List ℕ) (what : Kind) → IsNumeral 10 bytes → kind_of (delimiters m) bytes ≡ Some what → ⊥
-no_numeral_delimiter m [] what n e = no_empty_delimiter m what e
-no_numeral_delimiter m (b ∷ bs) what n e = both_ways _ (delimiter_mark m b bs what e).no_digit (numeral_digit b bs n)
+no_number_delimiter : (m : Bool) (bytes : List ℕ) (n : ℕ) (what : Kind) → IsNumber bytes n → kind_of (delimiters m) bytes ≡ Some what → ⊥
+no_number_delimiter m [] n what d e = no_empty_delimiter m what e
+no_number_delimiter m (b ∷ bs) n what d e = both_ways _ (delimiter_mark m b bs what e).no_digit (number_digit b bs n d)
 
 pub one_kind : (m : Bool) (bytes : List ℕ) (k l : Kind) (v w : ℤ) → IsLexeme m k v bytes → IsLexeme m l w bytes → (k ≡ l) × (v ≡ w)
 one_kind m bytes k l v w (word a e n) (word b f o) = (e ∙ sym f, n ∙ sym o)
-one_kind m bytes k l v w (word a e n) (numeral b f o) = absurd (no_word_numeral bytes a b)
+one_kind m bytes k l v w (word a e n) (numeral d b f o) = absurd (no_word_number bytes d a b)
 one_kind m bytes k l v w (word a e n) (delimiter f o) = absurd (no_word_delimiter m bytes l a f)
-one_kind m bytes k l v w (numeral a e n) (word b f o) = absurd (no_word_numeral bytes b a)
-one_kind m bytes k l v w (numeral a e n) (numeral b f o) = (e ∙ sym f, n ∙ sym o)
-one_kind m bytes k l v w (numeral a e n) (delimiter f o) = absurd (no_numeral_delimiter m bytes l a f)
+one_kind m bytes k l v w (numeral d a e n) (word b f o) = absurd (no_word_number bytes d b a)
+one_kind m bytes k l v w (numeral c a e n) (numeral d b f o) = (e ∙ sym f, n ∙ ap pos (one_number bytes c d a b) ∙ sym o)
+one_kind m bytes k l v w (numeral d a e n) (delimiter f o) = absurd (no_number_delimiter m bytes d l a f)
 one_kind m bytes k l v w (delimiter e n) (word b f o) = absurd (no_word_delimiter m bytes k b e)
-one_kind m bytes k l v w (delimiter e n) (numeral b f o) = absurd (no_numeral_delimiter m bytes k b e)
+one_kind m bytes k l v w (delimiter e n) (numeral d b f o) = absurd (no_number_delimiter m bytes d k b e)
 one_kind m bytes k l v w (delimiter e n) (delimiter f o) = (some_is k l (sym e ∙ f), n ∙ sym o)
 
 -- ---- the same part

@@ -60,15 +60,15 @@ one_spelling file bytes a b s t =
     s.are ∙ ap (tokens_of file [] false) same ∙ sym t.are
 
 -- what stands where a number does is that number
-record IsNumber (v : ℤ) (rest behind : List ℕ) (role : Role) (after : List ℕ) : Type 0 where
+record IsThatNumber (v : ℤ) (rest behind : List ℕ) (role : Role) (after : List ℕ) : Type 0 where
   is : role ≡ lexeme kind.Number v
   same : after ≡ behind
 
 that_number : (m : Bool) (v : ℤ) (rest front behind : List ℕ) → rest ≡ front ++ behind → Stands m (lexeme kind.Number v) front behind
-    → (role : Role) (bytes after : List ℕ) → rest ≡ bytes ++ after → Stands m role bytes after → IsNumber v rest behind role after
+    → (role : Role) (bytes after : List ℕ) → rest ≡ bytes ++ after → Stands m role bytes after → IsThatNumber v rest behind role after
 that_number m v rest front behind e p role bytes after f q = let same = one_part m role (lexeme kind.Number v) bytes after front behind (sym f ∙ e) q p in record { is = same.role; same = same.rest }
 
-sound_number : (v : ℤ) (rest behind : List ℕ) (role : Role) (after : List ℕ) → IsNumber v rest behind role after → IsSound role after → IsFalse (spoils_number behind) × (v <ℤ pos (2 ^ 127))
+sound_number : (v : ℤ) (rest behind : List ℕ) (role : Role) (after : List ℕ) → IsThatNumber v rest behind role after → IsSound role after → IsFalse (spoils_number behind) × (v <ℤ pos (2 ^ 127))
 sound_number v rest behind role after n s = let t : IsSound (lexeme kind.Number v) behind = subst (λ (x : List ℕ). IsSound (lexeme kind.Number v) x) n.same (subst (λ (r : Role). IsSound r after) n.is s) in t refl
 
 not_wide : (v w : ℤ) → v <ℤ w → w ≤ℤ v → ⊥

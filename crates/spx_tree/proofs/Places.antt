@@ -7,13 +7,12 @@ use Rattle.std.proofs.lemmas.List.{append-nil, reverse-append}
 use Rattle.std.proofs.lemmas.List.Sums.{sum_by-append}
 use Rattle.std.proofs.lemmas.List.Elements.{All-nil, All-cons, All-head, All-tail}
 use Rattle.spx_text.specs.declared.place.Place.{Place}
-use Rattle.std.proofs.lemmas.Str.Parse.{digit_from_value}
 use Rattle.std.specs.Char.{is_ascii_alphanumeric}
-use Rattle.std.specs.Str.Parse.{AllDigits}
 use Rattle.spx_tree.specs.declared.token.Kind.{Kind}
 use Rattle.spx_tree.specs.Lexemes.{code_delimiters, annotation_delimiters, delimiters, IsWordRest, IsBehindUnderscore, IsLexeme, word, numeral, delimiter}
 use Rattle.spx_tree.specs.Places.{is_line_end, place_behind}
 use Rattle.spx_tree.specs.Spells.{Role, line_end, separator, comment, head, lexeme, Stands}
+use Rattle.spx_tree.proofs.Numbers.{is_number_byte, number_bytes}
 use Rattle.spx_tree.proofs.Shapes.{letter_plain, kind_of_passes, separator_no_end}
 
 abbrev place : ℕ → ℕ → ℕ → Place
@@ -79,9 +78,12 @@ mutual
   underscore_no_line_end [] w = absurd w
   underscore_no_line_end (b ∷ bs) w = more_bytes b bs (not_ten_alphanumeric b w.0) (rest_no_line_end bs w.1)
 
-digits_no_line_end : (bs : List ℕ) → AllDigits 10 bs → NoLineEnd bs
-digits_no_line_end [] d = no_bytes
-digits_no_line_end (b ∷ bs) d = more_bytes b bs (λ e. omega (arith, digit_from_value b d.0)) (digits_no_line_end bs d.1)
+not_ten_number : (b : ℕ) → is_number_byte b ≡ true → b ≢ 10
+not_ten_number b e f = both_ways (is_number_byte 10) refl (ap is_number_byte (sym f) ∙ e)
+
+number_no_line_end : (bs : List ℕ) → list_all is_number_byte bs ≡ true → NoLineEnd bs
+number_no_line_end [] e = no_bytes
+number_no_line_end (b ∷ bs) e = let h = and_parts (is_number_byte b) (list_all is_number_byte bs) e in more_bytes b bs (not_ten_number b h.0) (number_no_line_end bs h.1)
 
 has_no_line_end : List ℕ → Bool
 has_no_line_end bytes = list_all (λ b. not (is_line_end b)) bytes
@@ -101,7 +103,7 @@ delimiters_no_line_end true = refl
 lexeme_no_line_end : (m : Bool) (k : Kind) (n : ℤ) (bytes : List ℕ) → IsLexeme m k n bytes → NoLineEnd bytes
 lexeme_no_line_end m k n [] l = no_bytes
 lexeme_no_line_end m k n (b ∷ bs) (word w e f) = more_bytes b bs (not_ten b (letter_plain b w.0).no_line_end) (rest_no_line_end bs w.1)
-lexeme_no_line_end m k n (b ∷ bs) (numeral d e f) = digits_no_line_end (b ∷ bs) d.1
+lexeme_no_line_end m k n (b ∷ bs) (numeral v d e f) = number_no_line_end (b ∷ bs) (number_bytes (b ∷ bs) v d)
 lexeme_no_line_end m k n (b ∷ bs) (delimiter e f) = no_line_end_from (b ∷ bs) (kind_of_passes has_no_line_end (delimiters m) (b ∷ bs) k (delimiters_no_line_end m) e)
 
 abbrev pub place_after : Role → Place → ℕ → Place

@@ -5,14 +5,13 @@ use Rattle.std.specs.List.{list_all}
 use Rattle.std.specs.Int.{is_in_range}
 use Rattle.std.specs.Char.{is_ascii_digit, is_ascii_alphabetic}
 use Rattle.std.specs.Str.{bytes_eq}
-use Rattle.std.specs.Str.Parse.{IsNumeral}
-use Rattle.std.proofs.lemmas.Bool.{agree_below_at, and_parts, or_cases, or_parts, leb-true, le-leb, eqb-true, not-true, and_from, false_from_ne_true, both_ways}
+use Rattle.std.proofs.lemmas.Bool.{agree_below_at, and_parts, or_cases, or_parts, leb-true, eqb-true, not-true, false_from_ne_true, both_ways}
 use Rattle.std.proofs.lemmas.Slice.Eq.{bytes_eq-Decides}
-use Rattle.std.proofs.lemmas.Str.Parse.{digit_from_value}
 use Rattle.spx_tree.specs.declared.token.Kind.{Kind}
 use Rattle.spx_tree.specs.Lexemes.{kind_of, code_delimiters, annotation_delimiters, delimiters, IsLexeme, word, numeral, delimiter}
 use Rattle.spx_tree.specs.Places.{is_line_end}
 use Rattle.spx_tree.specs.Spells.{Role, line_end, separator, comment, head, lexeme, is_separator, BeginsWith, Stands}
+use Rattle.spx_tree.proofs.Numbers.{no_empty_number, number_digit}
 
 pub data Shape : Type 0 where
   ends : Shape
@@ -130,11 +129,6 @@ no_empty_delimiter m what e = both_ways false refl (kind_of_passes is_mark (deli
 pub delimiter_mark : (m : Bool) (a : ℕ) (bs : List ℕ) (what : Kind) → kind_of (delimiters m) (a ∷ bs) ≡ Some what → IsMark a bs
 delimiter_mark m a bs what e = mark_is a bs (kind_of_passes is_mark (delimiters m) (a ∷ bs) what (all_marks m) e)
 
--- ---- numbers
-
-pub numeral_digit : (b : ℕ) (bs : List ℕ) → IsNumeral 10 (b ∷ bs) → is_ascii_digit b ≡ true
-numeral_digit b bs n = let r = digit_from_value b n.1.0 in and_from (nat_le 48 b) (nat_le b 57) (le-leb 48 b r.0) (le-leb b 57 r.1)
-
 -- ---- all that stands
 
 -- what begins a lexeme
@@ -148,12 +142,12 @@ plain_begins b bs p = record { no_line_end = p.no_line_end; no_separator = p.no_
 
 pub lexeme_begins : (m : Bool) (what : Kind) (number : ℤ) (b : ℕ) (bs : List ℕ) → IsLexeme m what number (b ∷ bs) → Begins b bs
 lexeme_begins m what number b bs (word w e n) = plain_begins b bs (letter_plain b w.0)
-lexeme_begins m what number b bs (numeral d e n) = plain_begins b bs (digit_plain b (numeral_digit b bs d))
+lexeme_begins m what number b bs (numeral v d e n) = plain_begins b bs (digit_plain b (number_digit b bs v d))
 lexeme_begins m what number b bs (delimiter e n) = let k = delimiter_mark m b bs what e in record { no_line_end = k.no_line_end; no_separator = k.no_separator; no_hyphens = k.no_hyphens }
 
 no_lexeme_empty : (m : Bool) (what : Kind) (number : ℤ) → IsLexeme m what number [] → ⊥
 no_lexeme_empty m what number (word w e n) = w
-no_lexeme_empty m what number (numeral d e n) = absurd (omega (arith, d.0))
+no_lexeme_empty m what number (numeral v d e n) = no_empty_number v d
 no_lexeme_empty m what number (delimiter e n) = no_empty_delimiter m what e
 
 -- a lone hyphen stands before no hyphen, and in a longer lexeme none comes second

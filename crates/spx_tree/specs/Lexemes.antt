@@ -2,7 +2,7 @@
 use Rattle.std.specs.Prelude.{◌≡◌, ◌⊎◌, ℕ, Bool, true, false, IsTrue, if◌then◌else◌, ◌==◌, ◌&&◌, ◌||◌, List, [], ◌∷◌, ◌++◌, map, Option, Some, None, ℤ, pos, codes}
 use Rattle.std.specs.Char.{is_ascii_digit, is_ascii_alphabetic, is_ascii_alphanumeric}
 use Rattle.std.specs.Str.{str_eq_ignore_ascii_case, bytes_eq, byte}
-use Rattle.std.specs.Str.Parse.{IsNumeral, digits_value}
+use Rattle.spx_tree.specs.Numbers.{IsNumber}
 use Rattle.spx_tree.specs.declared.token.TheConstants.{RESERVED_WORDS, ANNOTATION_WORDS}
 use Rattle.spx_tree.specs.declared.token.Kind.{Kind}
 use Rattle.spx_tree.specs.declared.token.Kind.TheVariants as kind
@@ -83,10 +83,10 @@ kind_of (entry ∷ table) bytes = if bytes_eq bytes entry.0 then Some entry.1 el
 
 -- ---- all lexemes
 
--- These bytes are a lexeme of this kind. The value of a number is that of its digits, and of any other lexeme 0.
+-- These bytes are a lexeme of this kind. The value of a lexeme that is no number is 0.
 pub data IsLexeme (marked : Bool) (what : Kind) (number : ℤ) (bytes : List ℕ) : Type 0 where
   word : IsWord bytes → what ≡ kind_of_word marked bytes → number ≡ pos 0 → IsLexeme marked what number bytes
-  numeral : IsNumeral 10 bytes → what ≡ kind.Number → number ≡ pos (digits_value 10 bytes) → IsLexeme marked what number bytes
+  numeral : (n : ℕ) → IsNumber bytes n → what ≡ kind.Number → number ≡ pos n → IsLexeme marked what number bytes
   delimiter : kind_of (delimiters marked) bytes ≡ Some what → number ≡ pos 0 → IsLexeme marked what number bytes
 
 -- no more of the text belongs to the lexeme

@@ -1,10 +1,10 @@
 -- Texts without tokens, and where they are stopped.
-use Rattle.std.specs.Prelude.{◌≡◌, ℕ, ◌<◌, ◌^◌, Bool, false, IsTrue, IsFalse, List, ◌++◌, length, ℤ, pos, ◌≤ℤ◌}
+use Rattle.std.specs.Prelude.{◌≡◌, ℕ, ◌<◌, ◌^◌, Bool, false, IsTrue, IsFalse, List, [], ◌++◌, length, ℤ, pos, ◌≤ℤ◌}
 use Rattle.spx_text.specs.declared.place.Place.{Place}
 use Rattle.spx_tree.specs.declared.token.Kind.TheVariants as kind
 use Rattle.spx_tree.specs.Lexemes.{spoils_number}
 use Rattle.spx_tree.specs.Places.{place_behind}
-use Rattle.spx_tree.specs.Spells.{Role, lexeme, Stands, Part, bytes_of, marked_along, AllStand}
+use Rattle.spx_tree.specs.Spells.{Role, lexeme, Stands, Part, bytes_of, marked_along, AllStand, tokens_of}
 
 -- why no lexeme and no gap stands at a place
 pub data Cause : Type 0 where
@@ -28,3 +28,13 @@ pub record StopsAt (file : ℕ) (bytes : List ℕ) (cause : Cause) (place : Plac
   pub stand : AllStand false parts rest
   pub at : place ≡ place_behind file (bytes_of parts)
   pub stopped : IsStopped cause (marked_along false parts) rest
+
+-- ---- texts with many tokens
+
+-- more than so many tokens come before the place where the text ends or is stopped
+pub record HasMoreTokens (most file : ℕ) (bytes : List ℕ) : Type 0 where
+  pub parts : List Part
+  pub rest : List ℕ
+  pub whole : bytes_of parts ++ rest ≡ bytes
+  pub stand : AllStand false parts rest
+  pub many : most < length (tokens_of file [] false parts)

@@ -3,7 +3,7 @@ ghost use Rattle.std.specs.Prelude.{◌≡◌, ◌≤◌, ◌+◌, length, IfOk}
 ghost use Rattle.spx_lexer.specs.Pieces as spec;
 
 use crate::lexer::delimiters::delimiter_at;
-use crate::lexer::numbers::{digits_len, spoils_number, value_of};
+use crate::lexer::numbers::{number_in, spoils_number};
 use crate::lexer::words::{kind_of_word, word_rest_len};
 use spx_tree::Kind;
 
@@ -78,20 +78,20 @@ fn word_at(marked: bool, bytes: &[u8], len: usize) -> Piece
     }
 }
 
-#[tactic(auto, using(crate::proofs::Digits::digits_front), unfolding(crate::specs::Pieces::number_at))]
+#[tactic(auto, unfolding(crate::specs::Pieces::number_at))]
 fn number_at(bytes: &[u8]) -> Result<Piece, Cause>
     ensures value { result ≡ spec.number_at bytes.now }
-    ensures within { IfOk result (λ piece. (piece.len ≡ spec.digits_len bytes.now) × (piece.len ≤ length bytes.now)) }
+    ensures within { IfOk result (λ piece. (piece.len ≡ (spec.number_in bytes.now).len) × (piece.len ≤ length bytes.now)) }
 {
-    let len = digits_len(bytes);
-    let (digits, rest) = bytes.split_at(len);
+    let number = number_in(bytes);
+    let (_, rest) = bytes.split_at(number.len);
     if spoils_number(rest) {
         return Err(Cause::BadNumber);
     }
-    match value_of(digits) {
+    match number.value {
         Some(value) => Ok(Piece {
             what: What::Lexeme(Kind::Number, value),
-            len,
+            len: number.len,
         }),
         None => Err(Cause::TooWide),
     }

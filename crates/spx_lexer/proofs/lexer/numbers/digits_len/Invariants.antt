@@ -1,9 +1,0 @@
-use Rattle.std.proofs.Common.{◌≡◌, ◌+◌, ◌-◌, ◌≤◌, length}
-use Rattle.spx_lexer.specs.Pieces.{digits_len}
-use Rattle.spx_lexer.proofs.lexer.numbers.digits_len.Given as goal
-
-abbrev pub invariant-loop-rest : goal.invariant-loop-rest
-invariant-loop-rest l = (length l.bytes - length l.rest + digits_len l.rest ≡ digits_len l.bytes) × (length l.rest ≤ length l.bytes)
-
-abbrev pub decreases-loop-rest : goal.decreases-loop-rest
-decreases-loop-rest l = length l.rest
