@@ -1,4 +1,4 @@
-// Numbers: digits, or a base and digits of it between two `#`; and an exponent, where one stands behind them.
+// Numbers: digits, or a base and digits of it between two `#`; and an exponent, where one comes after them.
 ghost use Rattle.std.specs.Prelude.{◌≡◌, ◌≤◌, ◌<◌, ◌^◌, ◌*◌, ◌+◌, ◌&&◌, ◌||◌, length, min, IfSome};
 ghost use Rattle.std.specs.Char as chars;
 ghost use Rattle.spx_tree.specs.Lexemes as lexemes;
@@ -70,7 +70,7 @@ fn numeral_rest_len(base: u8, bytes: &[u8]) -> usize
     }
 }
 
-// How many bytes the numeral in front has.
+// How many bytes the numeral has with which these bytes begin.
 fn numeral_len(base: u8, bytes: &[u8]) -> usize
     ensures value { result ≡ spec.numeral_len base bytes.now }
     ensures within { result ≤ length bytes.now }
@@ -123,7 +123,7 @@ fn base_of(value: Option<u128>) -> Option<u8>
     }
 }
 
-// The digits in front, where `#` closes them; another `#` stands before them.
+// The digits with which these bytes begin, where `#` closes them; another `#` comes before them.
 #[tactic(auto, unfolding(crate::specs::Pieces::closed_digits))]
 fn closed_digits(base: u8, bytes: &[u8]) -> Option<Digits>
     requires { 1 ≤ base }
@@ -143,7 +143,7 @@ fn closed_digits(base: u8, bytes: &[u8]) -> Option<Digits>
     }
 }
 
-// The digits of this base between two `#` in front.
+// The digits of this base between two `#` with which these bytes begin.
 fn based_digits(base: Option<u8>, bytes: &[u8]) -> Option<Digits>
     requires { IfSome base (λ base. 1 ≤ base) }
     ensures value { result ≡ spec.based_digits base bytes.now }
@@ -156,7 +156,7 @@ fn based_digits(base: Option<u8>, bytes: &[u8]) -> Option<Digits>
     }
 }
 
-// The digits in front, and their base.
+// The digits with which these bytes begin, and their base.
 #[tactic(auto, unfolding(crate::specs::Pieces::digits_at))]
 fn digits_at(bytes: &[u8]) -> Digits
     ensures value { result ≡ spec.digits_at bytes.now }
@@ -194,7 +194,7 @@ fn exponent_value(digits: &[u8]) -> u8
     }
 }
 
-// The exponent of which the digits stand in front, if any do; so many of its bytes stand before them.
+// The exponent whose digits these bytes begin with, if they do; so many of its bytes come before them.
 #[tactic(auto, unfolding(crate::specs::Pieces::exponent_by))]
 fn exponent_by(before: usize, bytes: &[u8]) -> Exponent
     requires { before ≤ 2 }
@@ -212,7 +212,7 @@ fn exponent_by(before: usize, bytes: &[u8]) -> Exponent
     }
 }
 
-// The exponent in front, or else none, which is 0.
+// The exponent with which these bytes begin, or else none, which is 0.
 fn exponent_at(bytes: &[u8]) -> Exponent
     ensures value { result ≡ spec.exponent_at bytes.now }
     ensures within { result.len ≤ length bytes.now }
@@ -247,7 +247,7 @@ fn value_of(digits: Digits, exponent: u8) -> Option<i128>
     Some(value as i128)
 }
 
-// The longest number in front.
+// The longest number with which these bytes begin.
 #[tactic(auto, unfolding(crate::specs::Pieces::number_in))]
 pub(super) fn number_in(bytes: &[u8]) -> Number
     ensures value { result ≡ spec.number_in bytes.now }
