@@ -1,5 +1,5 @@
 -- Entries and their trees.
-use Rattle.std.proofs.Common.{◌≡◌, ℕ, ◌+◌, ◌<◌, ◌≤◌, Bool, true, false, List, [], ◌∷◌, ◌++◌, length, take, drop, fold, refl, sym, ap, ◌∙◌, rules, subst, arith, append_assoc, append-nil, length-append, below_more, inl, inr, ◌⊎◌, cond, slice_get, Some, Decides, true≢false}
+use Rattle.std.proofs.Common.{◌≡◌, ℕ, ◌+◌, ◌<◌, ◌≤◌, Bool, true, false, List, [], ◌∷◌, ◌++◌, length, take, drop, fold, refl, sym, ap, ◌∙◌, rules, subst, arith, length-append, below_more, inl, inr, ◌⊎◌, cond, slice_get, Some, Decides, true≢false}
 use Rattle.std.proofs.lemmas.Option.{get_or_from_slice_get}
 use Rattle.std.proofs.lemmas.List.{length-take-le, take-append-drop}
 use Rattle.std.proofs.lemmas.List.Folds.{list_any_at}
@@ -8,11 +8,15 @@ use Rattle.indexmap.specs.IndexSet.{insert_key}
 use Rattle.std.proofs.lemmas.List.Sums.{fold-append}
 use Rattle.std.proofs.Math.ListN.{get_or-append}
 use Rattle.std.proofs.Math.Seq.{get_or-append_seam, take-append_seam}
+use denote.Enum.Bare.{sameb, same_true, true_same}
+use Rattle.spx_term.specs.declared.term.TermOp.{TermOp}
+use Rattle.spx_term.specs.contracts.term.TermOp.{the_type}
 use Rattle.spx_term.specs.declared.term.Term.{Term, Term-F, out-Term}
 use Rattle.spx_term.specs.declared.term.Term.TheVariants.{outs-Number, outs-Truth, outs-Variable, outs-Prefix, outs-Infix}
 use Rattle.spx_term.specs.declared.term.Term.TheVariants as term
 use Rattle.spx_term.specs.Sizes.{size_of}
 use Rattle.spx_arena.specs.contracts.terms.EntryPartialEq.TheImpl as entry_impl
+use Rattle.spx_arena.specs.contracts.terms.NodePartialEq.TheImpl as node_impl
 use Rattle.spx_arena.specs.declared.terms.TermId.{TermId}
 use Rattle.spx_arena.specs.declared.terms.Entry.{Entry}
 use Rattle.spx_arena.specs.declared.terms.Node.{Node}
@@ -26,8 +30,25 @@ use Rattle.spx_arena.proofs.Growth.{grows_not, extends_not, extends_twice}
 abbrev pub entry_eq : Entry → Entry → Bool
 entry_eq = (entry_impl.ghosts).eq
 
+op_true : (a b : TermOp) → sameb the_type a b ≡ true → a ≡ b
+op_true a b e = same_true the_type (search rules) a b e
+
+op_same : (a : TermOp) → sameb the_type a a ≡ true
+op_same a = true_same the_type a a refl
+
+abbrev node_eq : Node → Node → Bool
+node_eq = (node_impl.ghosts).eq
+
+node_eq-Decides : (x y : Node) → Decides (node_eq x y) (x ≡ y)
+node_eq-Decides (Number m) (Number n) = search rules
+node_eq-Decides (Truth b) (Truth c) = search rules
+node_eq-Decides (Variable x) (Variable y) = search rules
+node_eq-Decides (Prefix o a) (Prefix p b) = search rules
+node_eq-Decides (Infix o a b) (Infix p c d) = search (rules, op_true, op_same)
+node_eq-Decides _ _ = search rules
+
 pub entry_eq-Decides : (x y : Entry) → Decides (entry_eq x y) (x ≡ y)
-entry_eq-Decides x y = search rules
+entry_eq-Decides x y = search (rules, node_eq-Decides)
 
 -- one level of the tree of a node
 abbrev layer_in : List Term → Node → Term-F Term

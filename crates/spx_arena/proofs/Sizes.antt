@@ -1,7 +1,5 @@
 -- Sizes of terms at each form, and counts that end.
-use Rattle.std.proofs.Common.{◌≡◌, ℕ, ℤ, ◌+◌, Bool, refl, ap, ◌∙◌, sym, arith}
-use Rattle.std.proofs.lemmas.Int.{to_z-of_z}
-use Rattle.spx_term.specs.declared.condition.TheConstants.{MOST_NODES}
+use Rattle.std.proofs.Common.{◌≡◌, ℕ, ℤ, ◌+◌, Bool, arith}
 use Rattle.spx_term.specs.declared.term.Name.{Name}
 use Rattle.spx_term.specs.declared.term.Term.{Term}
 use Rattle.spx_term.specs.declared.term.Term.TheVariants.{Number, Truth, Variable, Prefix, Infix}

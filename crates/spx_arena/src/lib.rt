@@ -7,9 +7,8 @@
 
 mod claims;
 mod facts;
+mod parts;
 mod terms;
-#[cfg(test)]
-mod tests;
 
 pub use claims::{SharedClaim, SharedClaims};
 pub use facts::{FactLists, FactsId, Link};

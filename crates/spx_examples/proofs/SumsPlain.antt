@@ -16,6 +16,8 @@ use Rattle.spx_term.specs.declared.term.Term.TheVariants.{outs-Infix}
 use Rattle.spx_term.specs.Equality.{same_term}
 use Rattle.spx_term.specs.Folding.{before_literal, of_itself, simplified, folded_step, folded}
 use Rattle.spx_term.specs.Goals.{goal_of}
+use Rattle.spx_term.specs.declared.value.Value.TheVariants as value
+use Rattle.spx_term.specs.Conjuncts.{conjuncts}
 use Rattle.spx_term.specs.Intervals.{unbounded, point, meet, allowed, bounds_in, bounds, bounded, structural, interval, interval-Number, interval-Variable, interval-Infix}
 use Rattle.spx_term.specs.Plain.{closes, settled, is_among, joined, is_plain, is_plain-Infix, Plain}
 use Rattle.spx_term.proofs.Terms.{fold-Number, fold-Variable, fold-Infix}
@@ -70,7 +72,7 @@ both_plain hyps g h p q =
     ∙ or_right (is_among hyps (term.Infix sign.And g h)) (is_plain hyps g && is_plain hyps h) (ap₂ ◌&&◌ p q)
 
 among_plain : (hyps : List Term) (o : TermOp) (a b : Term) → is_among hyps (term.Infix o a b) ≡ true → is_plain hyps (term.Infix o a b) ≡ true
-among_plain hyps o a b h = is_plain-Infix hyps o a b ∙ ap (λ c. c || joined o (is_plain hyps a) (is_plain hyps b) (interval hyps a) (interval hyps b)) h
+among_plain hyps o a b h = is_plain-Infix hyps o a b ∙ ap (λ c. c || joined o (is_plain hyps a) (is_plain hyps b) (is_plain (hyps ++ conjuncts a) b) (interval hyps a) (interval hyps b)) h
 
 -- the goals are among what is known after the first check
 shown_plain : (n : ℤ) → is_plain (known_below n ++ sum_goals) (goal_of sum_goals) ≡ true
@@ -109,7 +111,7 @@ from_to m n = record { low = Some m; high = Some n }
 -- below n the highest number is this, and one more lies in the type
 pub record Fits (n high : ℤ) : Type 0 where
   pub below : narrowed n unbounded true ≡ from_to INTEGER_FIRST high
-  pub sums : structural sign.Add (from_to INTEGER_FIRST high) (point (pos 1)) ≡ from_to (INTEGER_FIRST +ℤ pos 1) (high +ℤ pos 1)
+  pub sums : structural sign.Add (from_to INTEGER_FIRST high) (point (pos 1)) (Some (value.Number (pos 1))) ≡ from_to (INTEGER_FIRST +ℤ pos 1) (high +ℤ pos 1)
   pub in_type : int_le (high +ℤ pos 1) INTEGER_LAST ≡ true
 
 module _ (n high : ℤ) (fit : Fits n high) where
@@ -130,15 +132,15 @@ module _ (n high : ℤ) (fit : Fits n high) where
   interval_next : interval (known_below n) next_x ≡ from_to (INTEGER_FIRST +ℤ pos 1) (high +ℤ pos 1)
   interval_next =
       interval-Infix (known_below n) sign.Add entry_x (term.Number (pos 1))
-      ∙ ap₂ (λ i j. bounded (structural sign.Add i j) (known_below n) next_x) interval_entry (interval_number (pos 1))
+      ∙ ap₂ (λ i j. bounded (structural sign.Add i j (Some (value.Number (pos 1)))) (known_below n) next_x) interval_entry (interval_number (pos 1))
       ∙ ap (λ i. bounded i (known_below n) next_x) fit.sums
       ∙ bounded_is (from_to (INTEGER_FIRST +ℤ pos 1) (high +ℤ pos 1)) next_x false (not_same entry_x next_x (no_infix (record { symbol = symbol.Entry 0; sort = Integer }) sign.Add entry_x (term.Number (pos 1))))
 
-  settled_plain : (o : TermOp) (m : ℤ) → joined o (is_plain (known_below n) next_x) (is_plain (known_below n) (term.Number m)) (from_to (INTEGER_FIRST +ℤ pos 1) (high +ℤ pos 1)) (point m) ≡ true → is_plain (known_below n) (term.Infix o next_x (term.Number m)) ≡ true
+  settled_plain : (o : TermOp) (m : ℤ) → joined o (is_plain (known_below n) next_x) (is_plain (known_below n) (term.Number m)) (is_plain (known_below n ++ conjuncts next_x) (term.Number m)) (from_to (INTEGER_FIRST +ℤ pos 1) (high +ℤ pos 1)) (point m) ≡ true → is_plain (known_below n) (term.Infix o next_x (term.Number m)) ≡ true
   settled_plain o m h =
       is_plain-Infix (known_below n) o next_x (term.Number m)
-      ∙ or_right (is_among (known_below n) (term.Infix o next_x (term.Number m))) (joined o (is_plain (known_below n) next_x) (is_plain (known_below n) (term.Number m)) (interval (known_below n) next_x) (interval (known_below n) (term.Number m)))
-      (ap₂ (joined o (is_plain (known_below n) next_x) (is_plain (known_below n) (term.Number m))) interval_next (interval_number m) ∙ h)
+      ∙ or_right (is_among (known_below n) (term.Infix o next_x (term.Number m))) (joined o (is_plain (known_below n) next_x) (is_plain (known_below n) (term.Number m)) (is_plain (known_below n ++ conjuncts next_x) (term.Number m)) (interval (known_below n) next_x) (interval (known_below n) (term.Number m)))
+      (ap₂ (joined o (is_plain (known_below n) next_x) (is_plain (known_below n) (term.Number m)) (is_plain (known_below n ++ conjuncts next_x) (term.Number m))) interval_next (interval_number m) ∙ h)
 
   goals_plain : is_plain (known_below n) (goal_of sum_goals) ≡ true
   unfolding joined settled

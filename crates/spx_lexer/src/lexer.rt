@@ -156,6 +156,3 @@ pub fn lex(alloc: Global, file: u32, source: &[u8]) -> Result<Tokens<'_>, LexFau
         end: at.place,
     })
 }
-
-#[cfg(test)]
-mod tests;

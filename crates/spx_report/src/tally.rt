@@ -26,6 +26,7 @@ fn kind_text(kind: CondKind) -> &'static [u8]
     ensures { result.now ≡ spec.kind_text kind }
 {
     match kind {
+        CondKind::Division => b"division",
         CondKind::Overflow => b"overflow",
         CondKind::Range => b"range",
     }

@@ -1,7 +1,9 @@
 pub mod Folds
 pub mod Meets
+pub mod Widths
 pub mod Places
 pub mod Tables
 pub mod Verdicts
+pub mod Outcomes
 pub mod Judging
 pub mod Claims

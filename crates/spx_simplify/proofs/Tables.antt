@@ -8,6 +8,7 @@ use Rattle.spx_term.specs.declared.term.Term.TheVariants.{Number, Truth, Variabl
 use Rattle.spx_term.specs.declared.interval.Interval.{Interval}
 use Rattle.spx_term.proofs.Equality.{same_term-Decides}
 use Rattle.spx_term.specs.Equality.{same_term}
+use Rattle.spx_term.specs.Folding.{literal_of}
 use Rattle.spx_term.specs.Intervals.{unbounded, point, meet, mirrored, bounds_before, bounds, bounded, structural, structural_prefix, interval, interval-Number, interval-Truth, interval-Variable, interval-Prefix, interval-Infix}
 use Rattle.spx_term.specs.Plain.{is_among}
 use Rattle.spx_arena.specs.declared.terms.TermId.{TermId}
@@ -18,7 +19,7 @@ use Rattle.spx_simplify.specs.declared.known.Known.{Known}
 use Rattle.spx_simplify.specs.declared.known.Made.{Made}
 use Rattle.spx_simplify.specs.declared.known.Change.{Change}
 use Rattle.spx_simplify.specs.Folds.{place_of}
-use Rattle.spx_simplify.specs.Tables.{interval_at, test_at, made_at, Stands, IsMade, Ready, Gives, Sized, HasForm, HasParts, Knows, Leaves, Sets, set_to, Restores, Undoes}
+use Rattle.spx_simplify.specs.Tables.{interval_at, test_at, made_at, Stands, IsMade, Ready, Gives, Sized, HasForm, HasParts, Knows, Leaves, Sets, set_to, Restores, Undoes, AreChanges, Assumed, LeadsBack}
 use Rattle.spx_simplify.proofs.Folds.{same_ids}
 use Rattle.spx_simplify.proofs.Meets.{meet_thrice, meet_unbounded, bounded_meet, bounded_more, infix_bounds, no_bounds, bound_elsewhere, none_bounded, or_true, or_false, among_more}
 use Rattle.spx_simplify.proofs.Places.{ready_along, leaves_same, leaves_twice, more_count, more_at, more_last}
@@ -32,10 +33,10 @@ module _ (trees hyps : List Term) (k : Known) (knows : Knows trees hyps k) where
   interval_of_prefix op a i r g e =
       interval-Prefix hyps op (tree_at trees a) ∙ ap (λ j. bounded j hyps (Prefix op (tree_at trees a))) (ap (structural_prefix op) (sym (given a i g)) ∙ sym e)
 
-  pub interval_of_infix : (op : TermOp) (a b : TermId) (i j r : Interval) → Gives k.made.items a i → Gives k.made.items b j → r ≡ structural op i j → interval hyps (Infix op (tree_at trees a) (tree_at trees b)) ≡ bounded r hyps (Infix op (tree_at trees a) (tree_at trees b))
+  pub interval_of_infix : (op : TermOp) (a b : TermId) (i j r : Interval) → Gives k.made.items a i → Gives k.made.items b j → r ≡ structural op i j (literal_of (tree_at trees b)) → interval hyps (Infix op (tree_at trees a) (tree_at trees b)) ≡ bounded r hyps (Infix op (tree_at trees a) (tree_at trees b))
   interval_of_infix op a b i j r g h e =
       interval-Infix hyps op (tree_at trees a) (tree_at trees b)
-      ∙ ap (λ x. bounded x hyps (Infix op (tree_at trees a) (tree_at trees b))) ((λ t. structural op (sym (given a i g) t) (sym (given b j h) t)) ∙ sym e)
+      ∙ ap (λ x. bounded x hyps (Infix op (tree_at trees a) (tree_at trees b))) ((λ t. structural op (sym (given a i g) t) (sym (given b j h) t) (literal_of (tree_at trees b))) ∙ sym e)
 
 -- ---- one interval more
 pub knows_made : (trees hyps : List Term) (old new : Known) (id : TermId) (n : Node) (form x : Interval) → Knows trees hyps old → (IsMade old.made.items id → ⊥) → HasForm trees id n → Ready old.made.items (length old.made.items) n
@@ -101,8 +102,8 @@ module _ (trees old new : List Term) (made : List Made) (m : ℕ) (parts : (j : 
   stay j w before (node.Infix op a c) is r =
       let t = tree_at trees a in
       let u = tree_at trees c in
-      stay_by j w (Infix op t u) (structural op (interval new t) (interval new u)) (structural op (interval old t) (interval old u)) is (interval-Infix new op t u) (interval-Infix old op t u)
-      (λ k. structural op (part_stays j a before r.0 k) (part_stays j c before r.1 k))
+      stay_by j w (Infix op t u) (structural op (interval new t) (interval new u) (literal_of u)) (structural op (interval old t) (interval old u) (literal_of u)) is (interval-Infix new op t u) (interval-Infix old op t u)
+      (λ k. structural op (part_stays j a before r.0 k) (part_stays j c before r.1 k) (literal_of u))
 
   all_stay : (n : ℕ) → n ≤ m → (j : ℕ) → j < n → Stays j
   all_stay zero le j w = absurd (omega arith)
@@ -313,6 +314,59 @@ undoes_less trees before (g ∷ hs) [] h c u = absurd (more_none trees (before +
 undoes_less trees before (g ∷ hs) (d ∷ cs) h c u =
     let l = undoes_less trees (before ++ g ∷ []) hs cs h c u.1.1 in
     ((u.0, (u.1.0, l.0)), (subst (λ b. Restores trees b c) (append_assoc before (g ∷ []) hs) l.1.0, l.1.1))
+
+-- ---- facts that are known for a while
+changes_push : (n : ℕ) (cs : List Change) (c : Change) → AreChanges n cs → c.fact.0 < n → AreChanges n (cs ++ c ∷ [])
+changes_push n [] c are w = (w, tt)
+changes_push n (d ∷ cs) c are w = (are.0, changes_push n cs c are.1 w)
+
+pub changes_more : (n : ℕ) (cs new : List Change) (c : Change) → AreChanges n cs → c.fact.0 < n → new ≡ cs ++ c ∷ [] → AreChanges n new
+changes_more n cs new c are w e = subst (AreChanges n) (sym e) (changes_push n cs c are w)
+
+changes_less : (n : ℕ) (cs : List Change) (c : Change) → AreChanges n (cs ++ c ∷ []) → (c.fact.0 < n) × AreChanges n cs
+changes_less n [] c are = (are.0, tt)
+changes_less n (d ∷ cs) c are = let l = changes_less n cs c are.1 in (l.0, (are.0, l.1))
+
+pub change_popped : (n : ℕ) (all cs : List Change) (c : Change) → AreChanges n all → all ≡ cs ++ c ∷ [] → (c.fact.0 < n) × AreChanges n cs
+change_popped n all cs c are e = changes_less n cs c (subst (AreChanges n) e are)
+
+pub assumed_none : (trees before : List Term) (k : Known) (cs : List Change) → Knows trees before k → cs ≡ [] → Assumed trees before [] k cs
+assumed_none trees before k cs knows e = record { knows = subst (λ hs. Knows trees hs k) (sym (append-nil before)) knows; undoes = subst (Undoes trees before []) (sym e) tt }
+
+pub assumed_more : (trees before hs : List Term) (old new : Known) (cs more : List Change) (c : Change) → Assumed trees before hs old cs → more ≡ cs ++ c ∷ []
+    → ((hyps : List Term) → Knows trees hyps old → Restores trees hyps c) → ((hyps : List Term) → Knows trees hyps old → Knows trees (hyps ++ tree_at trees c.fact ∷ []) new) → Assumed trees before (hs ++ tree_at trees c.fact ∷ []) new more
+assumed_more trees before hs old new cs more c a e restores knows = record {
+  knows = subst (λ xs. Knows trees xs new) (append_assoc before hs (tree_at trees c.fact ∷ [])) (knows (before ++ hs) a.knows);
+  undoes = subst (Undoes trees before (hs ++ tree_at trees c.fact ∷ [])) (sym e) (undoes_more trees before hs cs (tree_at trees c.fact) c a.undoes (restores (before ++ hs) a.knows) refl);
+}
+
+last_or_none : (hs : List Term) → (hs ≡ []) ⊎ ((init : List Term) × ((h : Term) × (hs ≡ init ++ h ∷ [])))
+last_or_none [] = inl refl
+last_or_none (h ∷ hs) = by h hs (last_or_none hs)
+  where
+    by : (h : Term) (hs : List Term) → (hs ≡ []) ⊎ ((init : List Term) × ((g : Term) × (hs ≡ init ++ g ∷ []))) → ((h ∷ hs) ≡ []) ⊎ ((init : List Term) × ((g : Term) × ((h ∷ hs) ≡ init ++ g ∷ [])))
+    by h hs (inl e) = inr ([], (h, ap (λ xs. h ∷ xs) e))
+    by h hs (inr p) = inr (h ∷ p.0, (p.1.0, ap (λ xs. h ∷ xs) p.1.1))
+
+pub back_once : (trees before : List Term) (old new : Known) (all cs : List Change) (c : Change) → LeadsBack trees before old all → all ≡ cs ++ c ∷ []
+    → ((hyps : List Term) → Restores trees hyps c → Knows trees (hyps ++ tree_at trees c.fact ∷ []) old → Knows trees hyps new) → LeadsBack trees before new cs
+back_once trees before old new all cs c l e undone = by (last_or_none l.facts)
+  where
+    by : (l.facts ≡ []) ⊎ ((init : List Term) × ((h : Term) × (l.facts ≡ init ++ h ∷ []))) → LeadsBack trees before new cs
+    by (inl none) = absurd (none_more trees before cs c (subst (λ hs. Undoes trees before hs (cs ++ c ∷ [])) none (subst (Undoes trees before l.facts) e l.assumed.undoes)))
+    by (inr p) =
+        let init = p.0 in
+        let h = p.1.0 in
+        let u = undoes_less trees before init cs h c (subst (λ hs. Undoes trees before hs (cs ++ c ∷ [])) p.1.1 (subst (Undoes trees before l.facts) e l.assumed.undoes)) in
+        let here = subst (λ hs. Knows trees hs old) (ap (λ hs. before ++ hs) p.1.1 ∙ sym (append_assoc before init (h ∷ [])) ∙ ap (λ t. (before ++ init) ++ t ∷ []) (sym u.1.1)) l.assumed.knows in
+        record { facts = init; assumed = record { knows = undone (before ++ init) u.1.0 here; undoes = u.0 } }
+
+pub back_whole : (trees before : List Term) (k : Known) (cs : List Change) → LeadsBack trees before k cs → cs ≡ [] → Knows trees before k
+back_whole trees before k cs l e = by l.facts l.assumed.knows (subst (Undoes trees before l.facts) e l.assumed.undoes)
+  where
+    by : (hs : List Term) → Knows trees (before ++ hs) k → Undoes trees before hs [] → Knows trees before k
+    by [] knows u = subst (λ hs. Knows trees hs k) (append-nil before) knows
+    by (h ∷ hs) knows u = elim u [ ]
 
 -- ---- no facts
 pub knows_none : (trees : List Term) (k : Known) → ((i : ℕ) → test_at k.facts i ≡ false) → ((i : ℕ) → interval_at k.bounds i ≡ unbounded) → k.made.items ≡ [] → Knows trees [] k

@@ -1,5 +1,5 @@
 -- Which goals are plain, by what the tables say.
-use Rattle.std.proofs.Common.{◌≡◌, ℤ, ◌<◌, Bool, true, false, ◌&&◌, ◌||◌, List, length, refl, sym, ap, ◌∙◌}
+use Rattle.std.proofs.Common.{◌≡◌, ℤ, ◌<◌, Bool, true, false, ◌&&◌, ◌||◌, List, ◌++◌, length, refl, sym, ap, ◌∙◌}
 use Rattle.spx_term.specs.declared.term.Name.{Name}
 use Rattle.spx_term.specs.declared.term.TermOp.{TermOp}
 use Rattle.spx_term.specs.declared.term.TermOp.TheVariants as signs
@@ -7,6 +7,7 @@ use Rattle.spx_term.specs.declared.term.TermPrefix.{TermPrefix}
 use Rattle.spx_term.specs.declared.term.Term.{Term}
 use Rattle.spx_term.specs.declared.term.Term.TheVariants.{Number, Truth, Variable, Prefix, Infix}
 use Rattle.spx_term.specs.declared.interval.Interval.{Interval}
+use Rattle.spx_term.specs.Conjuncts.{conjuncts}
 use Rattle.spx_term.specs.Intervals.{interval}
 use Rattle.spx_term.specs.Plain.{is_among, is_plain, settled, joined, is_plain-Number, is_plain-Truth, is_plain-Variable, is_plain-Prefix, is_plain-Infix}
 use Rattle.spx_arena.specs.declared.terms.TermId.{TermId}
@@ -29,7 +30,7 @@ module _ (trees hyps : List Term) (k : Known) (knows : Knows trees hyps k) (goal
       plain_or (node.Truth b) is e = sym (ap (is_plain hyps) is ∙ is_plain-Truth hyps b ∙ ap (λ c. b || c) e ∙ or_true b)
       plain_or (node.Variable x) is e = sym (ap (is_plain hyps) is ∙ is_plain-Variable hyps x ∙ e)
       plain_or (node.Prefix op a) is e = sym (ap (is_plain hyps) is ∙ is_plain-Prefix hyps op (tree_at trees a) ∙ e)
-      plain_or (node.Infix op a b) is e = sym (ap (is_plain hyps) is ∙ is_plain-Infix hyps op (tree_at trees a) (tree_at trees b) ∙ ap (λ c. c || joined op (is_plain hyps (tree_at trees a)) (is_plain hyps (tree_at trees b)) (interval hyps (tree_at trees a)) (interval hyps (tree_at trees b))) e)
+      plain_or (node.Infix op a b) is e = sym (ap (is_plain hyps) is ∙ is_plain-Infix hyps op (tree_at trees a) (tree_at trees b) ∙ ap (λ c. c || joined op (is_plain hyps (tree_at trees a)) (is_plain hyps (tree_at trees b)) (is_plain (hyps ++ conjuncts (tree_at trees a)) (tree_at trees b)) (interval hyps (tree_at trees a)) (interval hyps (tree_at trees b))) e)
 
   module _ (absent : test_at k.facts goal.0 ≡ false) where
     not_among : (t : Term) → tree_at trees goal ≡ t → is_among hyps t ≡ false
@@ -47,29 +48,41 @@ module _ (trees hyps : List Term) (k : Known) (knows : Knows trees hyps k) (goal
     pub plain_prefix : (op : TermPrefix) (a : Term) → tree_at trees goal ≡ Prefix op a → false ≡ is_plain hyps (tree_at trees goal)
     plain_prefix op a is = sym (ap (is_plain hyps) is ∙ is_plain-Prefix hyps op a ∙ not_among (Prefix op a) is)
 
-    plain_infix : (op : TermOp) (a b : Term) → tree_at trees goal ≡ Infix op a b → joined op (is_plain hyps a) (is_plain hyps b) (interval hyps a) (interval hyps b) ≡ is_plain hyps (tree_at trees goal)
-    plain_infix op a b is =
-        sym (ap (is_plain hyps) is ∙ is_plain-Infix hyps op a b ∙ ap (λ c. c || joined op (is_plain hyps a) (is_plain hyps b) (interval hyps a) (interval hyps b)) (not_among (Infix op a b) is))
+    abbrev joined_at : TermOp → Term → Term → Bool
+    joined_at op a b = joined op (is_plain hyps a) (is_plain hyps b) (is_plain (hyps ++ conjuncts a) b) (interval hyps a) (interval hyps b)
 
-    and_is : (op : TermOp) (p q : Bool) (i j : Interval) → op ≡ signs.And → (p && q) ≡ joined op p q i j
+    plain_infix : (op : TermOp) (a b : Term) → tree_at trees goal ≡ Infix op a b → joined_at op a b ≡ is_plain hyps (tree_at trees goal)
+    plain_infix op a b is = sym (ap (is_plain hyps) is ∙ is_plain-Infix hyps op a b ∙ ap (λ c. c || joined_at op a b) (not_among (Infix op a b) is))
+
+    joined_and : (p q r : Bool) (i j : Interval) → (p && q) ≡ joined signs.And p q r i j
     unfolding joined
-    and_is op p q i j e = ap (λ o. joined o p q i j) (sym e)
+    joined_and p q r i j = refl
 
-    other_is : (op : TermOp) (p q : Bool) (i j : Interval) → (op ≡ signs.And → ⊥) → settled op i j ≡ joined op p q i j
+    joined_or : (p q r : Bool) (i j : Interval) → (p || q) ≡ joined signs.Or p q r i j
     unfolding joined
-    other_is signs.And p q i j other = absurd (other refl)
-    other_is signs.Add p q i j other = refl
-    other_is signs.Subtract p q i j other = refl
-    other_is signs.Equal p q i j other = refl
-    other_is signs.NotEqual p q i j other = refl
-    other_is signs.Less p q i j other = refl
-    other_is signs.LessOrEqual p q i j other = refl
-    other_is signs.Greater p q i j other = refl
-    other_is signs.GreaterOrEqual p q i j other = refl
-    other_is signs.Implies p q i j other = refl
+    joined_or p q r i j = refl
 
-    pub plain_both : (op : TermOp) (a b : Term) → tree_at trees goal ≡ Infix op a b → op ≡ signs.And → (is_plain hyps a && is_plain hyps b) ≡ is_plain hyps (tree_at trees goal)
-    plain_both op a b is e = and_is op (is_plain hyps a) (is_plain hyps b) (interval hyps a) (interval hyps b) e ∙ plain_infix op a b is
+    joined_implies : (p q r : Bool) (i j : Interval) → r ≡ joined signs.Implies p q r i j
+    unfolding joined
+    joined_implies p q r i j = refl
 
-    pub plain_settled : (op : TermOp) (a b : Term) (i j : Interval) → tree_at trees goal ≡ Infix op a b → (op ≡ signs.And → ⊥) → i ≡ interval hyps a → j ≡ interval hyps b → settled op i j ≡ is_plain hyps (tree_at trees goal)
-    plain_settled op a b i j is e f g = (λ t. settled op (f t) (g t)) ∙ other_is op (is_plain hyps a) (is_plain hyps b) (interval hyps a) (interval hyps b) e ∙ plain_infix op a b is
+    joined_other : (op : TermOp) (p q r : Bool) (i j : Interval) → (op ≡ signs.And → ⊥) → (op ≡ signs.Or → ⊥) → (op ≡ signs.Implies → ⊥) → settled op i j ≡ joined op p q r i j
+    unfolding joined
+    joined_other signs.And p q r i j a o m = absurd (a refl)
+    joined_other signs.Or p q r i j a o m = absurd (o refl)
+    joined_other signs.Implies p q r i j a o m = absurd (m refl)
+    joined_other op p q r i j a o m = refl
+
+    pub plain_both : (a b : Term) → tree_at trees goal ≡ Infix signs.And a b → (is_plain hyps a && is_plain hyps b) ≡ is_plain hyps (tree_at trees goal)
+    plain_both a b is = joined_and (is_plain hyps a) (is_plain hyps b) (is_plain (hyps ++ conjuncts a) b) (interval hyps a) (interval hyps b) ∙ plain_infix signs.And a b is
+
+    pub plain_either : (a b : Term) → tree_at trees goal ≡ Infix signs.Or a b → (is_plain hyps a || is_plain hyps b) ≡ is_plain hyps (tree_at trees goal)
+    plain_either a b is = joined_or (is_plain hyps a) (is_plain hyps b) (is_plain (hyps ++ conjuncts a) b) (interval hyps a) (interval hyps b) ∙ plain_infix signs.Or a b is
+
+    pub plain_under : (a b : Term) → tree_at trees goal ≡ Infix signs.Implies a b → is_plain (hyps ++ conjuncts a) b ≡ is_plain hyps (tree_at trees goal)
+    plain_under a b is = joined_implies (is_plain hyps a) (is_plain hyps b) (is_plain (hyps ++ conjuncts a) b) (interval hyps a) (interval hyps b) ∙ plain_infix signs.Implies a b is
+
+    pub plain_settled : (op : TermOp) (a b : Term) (i j : Interval) → tree_at trees goal ≡ Infix op a b → (op ≡ signs.And → ⊥) → (op ≡ signs.Or → ⊥) → (op ≡ signs.Implies → ⊥) → i ≡ interval hyps a → j ≡ interval hyps b
+        → settled op i j ≡ is_plain hyps (tree_at trees goal)
+    plain_settled op a b i j is e f m g h =
+        (λ t. settled op (g t) (h t)) ∙ joined_other op (is_plain hyps a) (is_plain hyps b) (is_plain (hyps ++ conjuncts a) b) (interval hyps a) (interval hyps b) e f m ∙ plain_infix op a b is

@@ -1,5 +1,6 @@
 pub mod ClosedClaims
 pub mod Folds
 pub mod Tables
+pub mod Wide
 pub mod Verdicts
 pub mod Questions

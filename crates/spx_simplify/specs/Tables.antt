@@ -9,7 +9,7 @@ use Rattle.spx_term.specs.Plain.{is_among}
 use Rattle.spx_arena.specs.declared.terms.TermId.{TermId}
 use Rattle.spx_arena.specs.declared.terms.Node.{Node}
 use Rattle.spx_arena.specs.declared.terms.Node.TheVariants.{Number, Truth, Variable, Prefix, Infix}
-use Rattle.spx_arena.specs.Sharing.{tree_at, tree_in}
+use Rattle.spx_arena.specs.Sharing.{tree_at, tree_in, Below}
 use Rattle.spx_simplify.specs.declared.known.Known.{Known}
 use Rattle.spx_simplify.specs.declared.known.Made.{Made}
 use Rattle.spx_simplify.specs.declared.known.Change.{Change}
@@ -74,6 +74,7 @@ pub record Sized (n : ℕ) (k : Known) : Type 0 where
 pub record HasForm (trees : List Term) (id : TermId) (node : Node) : Type 0 where
   pub within : id.0 < length trees
   pub tree : tree_at trees id ≡ tree_in trees node
+  pub below : Below id.0 node
 
 -- a term has a form whose parts have their intervals among the first m
 pub record HasParts (trees : List Term) (made : List Made) (m : ℕ) (id : TermId) : Type 0 where
@@ -127,6 +128,21 @@ Undoes trees before [] [] = Unit {0}
 Undoes trees before [] (c ∷ cs) = ⊥
 Undoes trees before (h ∷ hs) [] = ⊥
 Undoes trees before (h ∷ hs) (c ∷ cs) = Restores trees before c × ((tree_at trees c.fact ≡ h) × Undoes trees (before ++ h ∷ []) hs cs)
+
+-- changes of the first n terms
+abbrev pub AreChanges : ℕ → List Change → Type 0
+AreChanges n [] = Unit {0}
+AreChanges n (c ∷ cs) = (c.fact.0 < n) × AreChanges n cs
+
+-- facts came in, and can be taken back
+pub record Assumed (trees before facts : List Term) (k : Known) (cs : List Change) : Type 0 where
+  pub knows : Knows trees (before ++ facts) k
+  pub undoes : Undoes trees before facts cs
+
+-- the changes lead back to what was known before
+pub record LeadsBack (trees before : List Term) (k : Known) (cs : List Change) : Type 0 where
+  pub facts : List Term
+  pub assumed : Assumed trees before facts k cs
 
 -- intervals have come in
 pub record Keeps (n : ℕ) (old new : Known) : Type 0 where

@@ -1,6 +1,7 @@
 // Folds of terms by their ids.
 ghost use Rattle.std.specs.Prelude.{◌≡◌, ◌<◌, length, IfOk, OnOk};
 ghost use Rattle.spx_term.specs.declared.term.Term.TheVariants as term;
+ghost use Rattle.spx_term.specs.declared.term.TermPrefix.TheVariants as sign;
 ghost use Rattle.spx_term.specs.Equality.{same_term};
 ghost use Rattle.spx_term.specs.Negation.{form_of, negated};
 ghost use Rattle.spx_term.specs.Folding.{literal_of, term_of, prefixed, simplified, folded};
@@ -17,7 +18,7 @@ use std::alloc::{AllocError, Global};
 
 /// The value of a term that is a literal.
 #[tactic(auto, using(crate::proofs::Folds::literal_forms))]
-fn literal_at(terms: &Terms, id: TermId) -> Option<Value>
+pub fn literal_at(terms: &Terms, id: TermId) -> Option<Value>
     requires { id.0 < length terms.now }
     ensures { result ≡ literal_of (tree_at terms.now id) }
 {
@@ -35,6 +36,24 @@ fn is_same(terms: &Terms, left: TermId, right: TermId) -> bool
 {
     terms.distinct();
     left.0 == right.0
+}
+
+/// Whether the right term is the negation of the left one.
+fn is_negation(terms: &Terms, left: TermId, right: TermId) -> bool
+    requires { (left.0 < length terms.now) × (right.0 < length terms.now) }
+    ensures { result ≡ same_term (term.Prefix sign.Not (tree_at terms.now left)) (tree_at terms.now right) }
+{
+    match terms.node(right) {
+        Node::Prefix(op, operand) => match op {
+            TermPrefix::Not => is_same(terms, left, operand),
+            TermPrefix::Minus => false,
+            TermPrefix::Abs => false,
+        },
+        Node::Number(_) => false,
+        Node::Truth(_) => false,
+        Node::Variable(_) => false,
+        Node::Infix(_, _, _) => false,
+    }
 }
 
 /// The form of a term.
@@ -65,6 +84,7 @@ fn negated(terms: &mut Terms, operand: TermId) -> Result<TermId, AllocError>
         Node::Prefix(op, inner) => match op {
             TermPrefix::Not => Ok(inner),
             TermPrefix::Minus => terms.make(Node::Prefix(TermPrefix::Not, operand)),
+            TermPrefix::Abs => terms.make(Node::Prefix(TermPrefix::Not, operand)),
         },
         Node::Infix(op, left, right) => match opposite(op, form_at(terms, left)) {
             Some(op) => terms.infix(op, left, right),
@@ -85,6 +105,7 @@ fn prefixed(terms: &mut Terms, op: TermPrefix, operand: TermId) -> Result<TermId
             None => terms.make(Node::Prefix(op, operand)),
         },
         (TermPrefix::Minus, None) => terms.make(Node::Prefix(op, operand)),
+        (TermPrefix::Abs, None) => terms.make(Node::Prefix(op, operand)),
         (TermPrefix::Not, None) => negated(terms, operand),
     }
 }
@@ -104,10 +125,18 @@ fn simplified(
         Simplification::Left => Ok(left),
         Simplification::Right => Ok(right),
         Simplification::Literal(value) => terms.literal(value),
-        Simplification::Negation => prefixed(terms, TermPrefix::Not, left),
+        Simplification::NotLeft => prefixed(terms, TermPrefix::Not, left),
+        Simplification::NotRight => prefixed(terms, TermPrefix::Not, right),
         Simplification::OfItself(value) => {
             if is_same(terms, left, right) {
                 terms.make(Node::Truth(value))
+            } else {
+                terms.infix(op, left, right)
+            }
+        }
+        Simplification::OfNegation => {
+            if is_negation(terms, left, right) {
+                terms.make(Node::Truth(true))
             } else {
                 terms.infix(op, left, right)
             }

@@ -1,12 +1,14 @@
 // Arithmetic of intervals.
-ghost use Rattle.std.specs.Prelude.{◌≡◌, int_lt, int_le};
+ghost use Rattle.std.specs.Prelude.{◌≡◌, pos, ◌-ℤ◌, ◌≤ℤ◌, int_lt, int_le, option_map};
 ghost use Rattle.std.specs.Ordering.{int_eq};
-ghost use Rattle.spx_num.specs.Exact.{exact};
-ghost use Rattle.spx_term.specs.Intervals.{unbounded, point, sum_of, difference_of, end_of, higher, lower, meet, allowed, mirrored, structural, structural_prefix};
+ghost use Rattle.spx_num.specs.Exact.{exact, absolute};
+ghost use Rattle.spx_num.specs.Widths.{fitting};
+ghost use Rattle.spx_term.specs.Intervals.{unbounded, point, sum_of, difference_of, end_of, higher, lower, meet, lesser, greater, up_to_magnitude, quotient_of, nearer_than, remainder_of, modulus_of, farthest, absolute_of, allowed, mirrored, structural, structural_prefix};
 ghost use Rattle.spx_term.specs.Plain.{ends_meet, settled};
 
+use crate::products::product;
 use spx_num::{Op, checked};
-use spx_term::{Interval, TermOp, TermPrefix};
+use spx_term::{Interval, TermOp, TermPrefix, Value};
 
 /// All numbers.
 pub const UNBOUNDED: Interval = Interval {
@@ -14,14 +16,18 @@ pub const UNBOUNDED: Interval = Interval {
     high: None,
 };
 
-/// The interval of an operation on terms of these intervals.
+/// The interval of an operation on terms of these intervals, where the right one is a literal of this value, or none.
 #[tactic(auto, unfolding(spx_term::specs::Intervals::structural))]
-pub fn structural(op: TermOp, left: Interval, right: Interval) -> Interval
-    ensures { result ≡ structural op left right }
+pub fn structural(op: TermOp, left: Interval, right: Interval, literal: Option<Value>) -> Interval
+    ensures { result ≡ structural op left right literal }
 {
     match op {
         TermOp::Add => sum(left, right),
         TermOp::Subtract => difference(left, right),
+        TermOp::Multiply => product(left, right),
+        TermOp::Divide => quotient(left),
+        TermOp::Rem => remainder(left, literal),
+        TermOp::Mod => modulus(right),
         _ => UNBOUNDED,
     }
 }
@@ -33,6 +39,7 @@ pub fn structural_prefix(op: TermPrefix, operand: Interval) -> Interval
 {
     match op {
         TermPrefix::Minus => difference(point(0), operand),
+        TermPrefix::Abs => absolute(operand),
         TermPrefix::Not => UNBOUNDED,
     }
 }
@@ -79,6 +86,138 @@ fn end(op: Op, left: Option<i128>, right: Option<i128>) -> Option<i128>
     }
 }
 
+/// A quotient is no further from 0 than the dividend.
+fn quotient(left: Interval) -> Interval
+    ensures { result ≡ quotient_of left }
+{
+    let Some(low) = left.low else {
+        return UNBOUNDED;
+    };
+    let Some(high) = left.high else {
+        return UNBOUNDED;
+    };
+    around_zero(least(minus_magnitude(low), minus_magnitude(high)))
+}
+
+/// The distance of a number from 0, with a minus sign. This always fits.
+fn minus_magnitude(value: i128) -> i128
+    ensures equal { result ≡ pos 0 -ℤ absolute value }
+    ensures negative { result ≤ℤ pos 0 }
+{
+    if value < 0 { value } else { -value }
+}
+
+fn least(a: i128, b: i128) -> i128
+    ensures { result ≡ lesser a b }
+{
+    if b < a { b } else { a }
+}
+
+fn greatest(a: i128, b: i128) -> i128
+    ensures { result ≡ greater a b }
+{
+    if a < b { b } else { a }
+}
+
+/// The numbers that are no further from 0 than a number that is at most 0.
+fn around_zero(low: i128) -> Interval
+    ensures { result ≡ up_to_magnitude (pos 0 -ℤ low) }
+{
+    Interval {
+        low: Some(low),
+        high: end(Op::Sub, Some(0), Some(low)),
+    }
+}
+
+/// A remainder is nearer to 0 than a divisor that is not 0.
+fn nearer_than(divisor: Option<Value>) -> Interval
+    ensures { result ≡ nearer_than divisor }
+{
+    match divisor {
+        Some(Value::Number(value)) => {
+            if value == 0 {
+                return UNBOUNDED;
+            }
+            around_zero(minus_magnitude(value) + 1)
+        }
+        Some(Value::Truth(_)) => UNBOUNDED,
+        None => UNBOUNDED,
+    }
+}
+
+/// A remainder lies between 0 and the dividend.
+fn remainder(left: Interval, divisor: Option<Value>) -> Interval
+    ensures { result ≡ remainder_of left divisor }
+{
+    meet(with_zero(left), nearer_than(divisor))
+}
+
+/// An interval, and 0.
+fn with_zero(operand: Interval) -> Interval
+    ensures { result ≡ record { low = option_map (lesser (pos 0)) operand.low; high = option_map (greater (pos 0)) operand.high } }
+{
+    Interval {
+        low: match operand.low {
+            Some(low) => Some(least(0, low)),
+            None => None,
+        },
+        high: match operand.high {
+            Some(high) => Some(greatest(0, high)),
+            None => None,
+        },
+    }
+}
+
+/// A modulus lies between 0 and the divisor, which it is not.
+fn modulus(right: Interval) -> Interval
+    ensures { result ≡ modulus_of right }
+{
+    Interval {
+        low: match right.low {
+            Some(low) => Some(if low < -1 { low + 1 } else { 0 }),
+            None => None,
+        },
+        high: match right.high {
+            Some(high) => Some(if 1 < high { high - 1 } else { 0 }),
+            None => None,
+        },
+    }
+}
+
+/// The distances from 0.
+fn absolute(operand: Interval) -> Interval
+    ensures { result ≡ absolute_of operand }
+{
+    let least = higher(operand.low, end(Op::Sub, Some(0), operand.high));
+    Interval {
+        low: higher(Some(0), least),
+        high: farthest(operand.low, operand.high),
+    }
+}
+
+/// The greatest distance from 0.
+fn farthest(low: Option<i128>, high: Option<i128>) -> Option<i128>
+    ensures { result ≡ farthest low high }
+{
+    let Some(low) = low else {
+        return None;
+    };
+    let Some(high) = high else {
+        return None;
+    };
+    farther(low, high)
+}
+
+/// The distance of the end that is farther from 0.
+fn farther(low: i128, high: i128) -> Option<i128>
+    ensures { result ≡ fitting (greater (pos 0 -ℤ low) high) }
+{
+    match checked(Op::Sub, 0, low) {
+        Ok(value) => Some(greatest(value, high)),
+        Err(_) => None,
+    }
+}
+
 /// The numbers of both intervals.
 pub fn meet(a: Interval, b: Interval) -> Interval
     ensures { result ≡ meet a b }
@@ -119,12 +258,7 @@ pub fn mirrored(op: TermOp) -> TermOp
         TermOp::LessOrEqual => TermOp::GreaterOrEqual,
         TermOp::Greater => TermOp::Less,
         TermOp::GreaterOrEqual => TermOp::LessOrEqual,
-        TermOp::Add
-        | TermOp::Subtract
-        | TermOp::Equal
-        | TermOp::NotEqual
-        | TermOp::And
-        | TermOp::Implies => op,
+        _ => op,
     }
 }
 
@@ -151,9 +285,7 @@ pub fn numbers_to(op: TermOp, value: i128) -> Interval
             low: Some(value),
             high: None,
         },
-        TermOp::Add | TermOp::Subtract | TermOp::NotEqual | TermOp::And | TermOp::Implies => {
-            UNBOUNDED
-        }
+        _ => UNBOUNDED,
     }
 }
 
@@ -173,7 +305,7 @@ pub fn settles(op: TermOp, left: Interval, right: Interval) -> bool
         TermOp::LessOrEqual => is_at_most(left.high, right.low),
         TermOp::Greater => is_below(right.high, left.low),
         TermOp::GreaterOrEqual => is_at_most(right.high, left.low),
-        TermOp::Add | TermOp::Subtract | TermOp::And | TermOp::Implies => false,
+        _ => false,
     }
 }
 

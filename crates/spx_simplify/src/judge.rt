@@ -12,7 +12,7 @@ ghost use Rattle.spx_simplify.specs.Questions.{AreQuestions, answer, Judges};
 
 use crate::folding::{fold_at, fold_terms};
 use crate::goals::follows;
-use crate::known::{Change, Known, MOST_DEPTH};
+use crate::known::{Change, Known};
 use spx_arena::{FactLists, FactsId, Node, TermId, Terms};
 use sqlite_items::Items;
 use std::alloc::{AllocError, Global};
@@ -138,7 +138,7 @@ impl Judge {
         if self.known.has(falsity) {
             return Ok(true);
         }
-        let yes = follows(alloc, &mut self.known, terms, goal, MOST_DEPTH)?;
+        let yes = follows(alloc, &mut self.known, terms, goal)?;
         Ok(yes)
     }
 }

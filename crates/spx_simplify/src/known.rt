@@ -2,10 +2,11 @@
 ghost use Rattle.std.specs.Prelude.{◌≡◌, ◌<◌, ◌++◌, ℕ, List, [], ◌∷◌, length, if◌then◌else◌, eqb, IfOk, OnOk, MatchOption};
 ghost use Rattle.spx_term.specs.declared.term.Term.{Term};
 ghost use Rattle.spx_term.specs.Intervals.{bounds_before, bounded, interval, meet};
-ghost use Rattle.spx_arena.specs.Sharing.{tree_at, tree_in};
+ghost use Rattle.spx_arena.specs.Sharing.{tree_at, tree_in, Below};
 ghost use Rattle.spx_simplify.specs.Folds.{place_of};
 ghost use Rattle.spx_simplify.specs.Tables.{interval_at, test_at, IsAt, IsMade, Ready, Gives, Placed, Sized, Knows, Forgets, Sets, set_to, Restores, Keeps, HasForm};
 
+use crate::folding::literal_at;
 use crate::intervals::{
     UNBOUNDED, meet, mirrored, numbers_to, point, structural, structural_prefix,
 };
@@ -237,10 +238,11 @@ impl Known {
     }
 
     /// The interval of the form of a term, where those of its parts are made.
-    fn structural(&self, node: Node) -> Interval
+    fn structural(&self, terms: &Terms, node: Node) -> Interval
+        requires below { Below (length terms.now) node }
         requires placed { Placed self.now }
         requires ready { Ready self.now.made.items (length self.now.made.items) node }
-        ensures { (trees hyps : List Term) → Knows trees hyps self.now → interval hyps (tree_in trees node) ≡ bounded result hyps (tree_in trees node) }
+        ensures { (hyps : List Term) → Knows terms.now hyps self.now → interval hyps (tree_in terms.now node) ≡ bounded result hyps (tree_in terms.now node) }
     {
         match node {
             Node::Number(value) => point(value),
@@ -248,7 +250,7 @@ impl Known {
             Node::Infix(op, left, right) => {
                 let low = self.part(left);
                 let high = self.part(right);
-                structural(op, low, high)
+                structural(op, low, high, literal_at(terms, right))
             }
             Node::Truth(_) => UNBOUNDED,
             Node::Variable(_) => UNBOUNDED,
@@ -256,19 +258,18 @@ impl Known {
     }
 
     /// Makes the interval of a term of this form, where those of its parts are made.
-    fn make(&mut self, id: TermId, node: Node) -> Result<Interval, AllocError>
-        requires bounds { id.0 < length self.old.bounds }
-        requires places { id.0 < length self.old.places }
-        requires placed { Placed self.old }
+    fn make(&mut self, terms: &Terms, id: TermId, node: Node) -> Result<Interval, AllocError>
+        requires form { HasForm terms.now id node }
+        requires sized { Sized (length terms.now) self.old }
         requires ready { Ready self.old.made.items (length self.old.made.items) node }
-        ensures keeps { OnOk result ((n : ℕ) → Sized n self.old → Keeps n self.old self.new) }
-        ensures knows { OnOk result ((trees hyps : List Term) → HasForm trees id node → Knows trees hyps self.old → Knows trees hyps self.new) }
+        ensures keeps { OnOk result (Keeps (length terms.now) self.old self.new) }
+        ensures knows { OnOk result ((hyps : List Term) → Knows terms.now hyps self.old → Knows terms.now hyps self.new) }
         ensures gives { IfOk result (Gives self.new.made.items id) }
     {
         if let Some(interval) = self.found(id) {
             return Ok(interval);
         }
-        let form = self.structural(node);
+        let form = self.structural(terms, node);
         let interval = meet(form, self.bounds_at(id));
         let count = self.made.len();
         self.made.push(Made { id, interval })?;
@@ -286,9 +287,9 @@ impl Known {
     {
         for at in 0..id.0 {
             let earlier = TermId(at);
-            self.make(earlier, terms.node(earlier))?;
+            self.make(terms, earlier, terms.node(earlier))?;
         }
-        let interval = self.make(id, terms.node(id))?;
+        let interval = self.make(terms, id, terms.node(id))?;
         Ok(interval)
     }
 
@@ -317,18 +318,18 @@ impl Known {
         match node {
             Node::Prefix(_, operand) => {
                 self.interval(terms, operand, depth - 1)?;
-                let interval = self.make(id, node)?;
+                let interval = self.make(terms, id, node)?;
                 Ok(interval)
             }
             Node::Infix(_, left, right) => {
                 self.interval(terms, left, depth - 1)?;
                 self.interval(terms, right, depth - 1)?;
-                let interval = self.make(id, node)?;
+                let interval = self.make(terms, id, node)?;
                 Ok(interval)
             }
-            Node::Number(_) => self.make(id, node),
-            Node::Truth(_) => self.make(id, node),
-            Node::Variable(_) => self.make(id, node),
+            Node::Number(_) => self.make(terms, id, node),
+            Node::Truth(_) => self.make(terms, id, node),
+            Node::Variable(_) => self.make(terms, id, node),
         }
     }
 }

@@ -5,11 +5,13 @@
 //! whether it needs no proof, and leaves the claims as they are.
 #![tactic(auto)]
 
+mod assumptions;
 mod folding;
 mod goals;
 mod intervals;
 mod judge;
 mod known;
+mod products;
 mod simplify;
 
 pub use simplify::{closed_claims, closes};

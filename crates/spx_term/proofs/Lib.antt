@@ -1,8 +1,13 @@
 pub mod Equality
 pub mod Terms
+pub mod LiteralOperands
 pub mod NegationLaws
 pub mod FoldingLaws
+pub mod Within
+pub mod NumberBounds
+pub mod OperatorIntervals
 pub mod IntervalLaws
 pub mod PlainLaws
 pub mod GoalLaws
 pub mod PathLaws
+pub mod ConjunctLaws

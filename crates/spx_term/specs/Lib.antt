@@ -5,6 +5,7 @@ pub mod Negation
 pub mod Folding
 pub mod Goals
 pub mod Shapes
+pub mod Conjuncts
 pub mod Intervals
 pub mod Plain
 pub mod Steps

@@ -13,6 +13,8 @@ pub const MOST_NODES: u32 = 1_000_000;
 /// What a condition is proved for.
 #[derive(Clone, Copy, Debug, PartialEq, Eq)]
 pub enum CondKind {
+    /// The divisor of `/`, `rem` or `mod` is not 0 (Ada 95 RM 4.5.5).
+    Division,
     /// The result of an operation lies in the base range (Ada 95 RM 3.5.4).
     Overflow,
     /// A value lies in the subtype that it is given to (Ada 95 RM 4.6).
@@ -63,44 +65,4 @@ fn conjunction(alloc: Global, goals: &[Term]) -> Result<Term, AllocError>
         all = Term::infix(alloc, TermOp::And, goal, all)?;
     }
     Ok(all)
-}
-
-#[cfg(test)]
-mod tests {
-    use super::*;
-    use crate::same;
-    use std::test::Fail;
-
-    fn condition(alloc: Global) -> Result<Condition, AllocError>
-        ensures { IfOk result (λ c. c.goals ≢ []) }
-    {
-        let mut hyps = Items::new(alloc);
-        hyps.push(Term::Truth(true))?;
-        let mut goals = Items::new(alloc);
-        goals.push(Term::Truth(true))?;
-        goals.push(Term::Truth(false))?;
-        goals.push(Term::Truth(true))?;
-        Ok(Condition {
-            name: Text::new(alloc, b"P.1")?,
-            kind: CondKind::Range,
-            place: Place {
-                file: 0,
-                line: 1,
-                column: 1,
-            },
-            hyps,
-            goals,
-        })
-    }
-
-    #[test]
-    fn joins_the_goals(rt: HostRuntime) -> Result<(), Fail> {
-        let alloc = rt.alloc();
-        let sequent = condition(alloc)?.sequent(alloc)?;
-        let last = Term::infix(alloc, TermOp::And, Term::Truth(false), Term::Truth(true))?;
-        let goal = Term::infix(alloc, TermOp::And, Term::Truth(true), last)?;
-        assert!(rt; same(&sequent.goal, &goal));
-        assert_eq!(rt; sequent.hyps.len(), 1);
-        Ok(())
-    }
 }

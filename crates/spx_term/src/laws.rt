@@ -1,4 +1,5 @@
 //! Laws of the definitions, each as the contract of a function that does nothing.
+ghost use Rattle.spx_term.specs.Conjuncts.{ConjunctsHold};
 ghost use Rattle.spx_term.specs.Folding.{FoldKeepsSorts, FoldKeepsValues};
 ghost use Rattle.spx_term.specs.Goals.{GoalHolds};
 ghost use Rattle.spx_term.specs.Paths.{ClaimsOfPaths};
@@ -17,6 +18,11 @@ pub fn fold_keeps_values()
 /// The goal of a condition holds where each of its goals does.
 pub fn goal_holds()
     ensures { GoalHolds }
+{}
+
+/// A conjunction holds where each of its parts does.
+pub fn conjuncts_hold()
+    ensures { ConjunctsHold }
 {}
 
 /// A plain sequent is valid.

@@ -1,4 +1,3 @@
-use Rattle.std.proofs.Common.{length}
 use Rattle.spx_simplify.proofs.Places.{keeps_twice, gives_made}
 use Rattle.spx_simplify.proofs.known.Known.+interval.Goals as goal
 
@@ -9,10 +8,8 @@ make-requires-in-Infix-clause-ready t c =
 
 pub returns-in_ok-interval-in-Prefix-2-clause-keeps : goal.returns-in_ok-interval-in-Prefix-2-clause-keeps
 returns-in_ok-interval-in-Prefix-2-clause-keeps t c =
-    let part = c.in_ok-interval-in-Prefix.ensures.keeps in
-    keeps_twice part (c.in_ok-interval-in-Prefix-2.ensures.keeps (length c.args.terms.now) part.sized)
+    keeps_twice c.in_ok-interval-in-Prefix.ensures.keeps c.in_ok-interval-in-Prefix-2.ensures.keeps
 
 pub returns-in_ok-interval-in-Infix-3-clause-keeps : goal.returns-in_ok-interval-in-Infix-3-clause-keeps
 returns-in_ok-interval-in-Infix-3-clause-keeps t c =
-    let parts = keeps_twice c.in_ok-interval-in-Infix.ensures.keeps c.in_ok-interval-in-Infix-2.ensures.keeps in
-    keeps_twice parts (c.in_ok-interval-in-Infix-3.ensures.keeps (length c.args.terms.now) parts.sized)
+    keeps_twice (keeps_twice c.in_ok-interval-in-Infix.ensures.keeps c.in_ok-interval-in-Infix-2.ensures.keeps) c.in_ok-interval-in-Infix-3.ensures.keeps

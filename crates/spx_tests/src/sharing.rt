@@ -1,5 +1,5 @@
 // Terms and facts, with ample memory.
-use crate::{FactLists, Node, Terms};
+use spx_arena::{FactLists, Node, Terms};
 use spx_term::{Name, Sort, Symbol, Term, TermOp, TermPrefix, same};
 use std::alloc::{AllocError, Global};
 use std::test::Fail;

@@ -1,7 +1,7 @@
 // Expected tokens and faults are read off the rules of the language by hand.
 ghost use Rattle.std.specs.Prelude.{◌≤◌, length};
 
-use crate::{LexFault, MOST_TOKENS, lex};
+use spx_lexer::{LexFault, MOST_TOKENS, lex};
 use spx_text::Place;
 use spx_tree::Kind;
 use std::alloc::Global;

@@ -1,0 +1,119 @@
+// Terms with their constant parts computed.
+use spx_term::{Name, Sort, Symbol, Term, TermOp, TermPrefix, fold, same};
+use std::alloc::{AllocError, Global};
+
+use std::test::Fail;
+
+const GREATEST: i128 = 170141183460469231731687303715884105727;
+
+/// What the fold of an operation is.
+#[derive(Clone, Copy)]
+enum Wanted {
+    X,
+    Number(i128),
+    Truth(bool),
+    Itself,
+}
+
+/// X, or a literal.
+fn operand(literal: Option<i128>) -> Term {
+    match literal {
+        Some(value) => Term::Number(value),
+        None => Term::Variable(Name {
+            symbol: Symbol::Now(0),
+            sort: Sort::Integer,
+        }),
+    }
+}
+
+fn is_wanted(folded: &Term, operation: &Term, wanted: Wanted) -> bool {
+    match wanted {
+        Wanted::X => same(folded, &operand(None)),
+        Wanted::Number(value) => same(folded, &Term::Number(value)),
+        Wanted::Truth(value) => same(folded, &Term::Truth(value)),
+        Wanted::Itself => same(folded, operation),
+    }
+}
+
+#[test]
+fn folds_a_minus(rt: HostRuntime) -> Result<(), Fail> {
+    let alloc = rt.alloc();
+    for (literal, wanted) in [
+        (Some(7), Wanted::Number(-7)),
+        (Some(-GREATEST), Wanted::Number(GREATEST)),
+        (Some(-GREATEST - 1), Wanted::Itself),
+        (None, Wanted::Itself),
+    ] {
+        let operation = Term::prefix(alloc, TermPrefix::Minus, operand(literal))?;
+        let folded = fold(alloc, &operation)?;
+        assert!(rt; is_wanted(&folded, &operation, wanted), "{operation:?}");
+    }
+    Ok(())
+}
+
+#[test]
+fn folds_an_operation(rt: HostRuntime) -> Result<(), Fail> {
+    let alloc = rt.alloc();
+    for (left, op, right, wanted) in [
+        (Some(2), TermOp::Add, Some(3), Wanted::Number(5)),
+        (Some(2), TermOp::Subtract, Some(3), Wanted::Number(-1)),
+        (Some(GREATEST), TermOp::Add, Some(1), Wanted::Itself),
+        (None, TermOp::Add, Some(0), Wanted::X),
+        (Some(0), TermOp::Add, None, Wanted::X),
+        (None, TermOp::Subtract, Some(0), Wanted::X),
+        (Some(0), TermOp::Subtract, None, Wanted::Itself),
+        (None, TermOp::Subtract, None, Wanted::Itself),
+        (Some(2), TermOp::Less, Some(3), Wanted::Truth(true)),
+        (
+            Some(2),
+            TermOp::GreaterOrEqual,
+            Some(3),
+            Wanted::Truth(false),
+        ),
+        (None, TermOp::LessOrEqual, None, Wanted::Truth(true)),
+        (None, TermOp::NotEqual, None, Wanted::Truth(false)),
+        (None, TermOp::Equal, Some(0), Wanted::Itself),
+    ] {
+        let operation = Term::infix(alloc, op, operand(left), operand(right))?;
+        let folded = fold(alloc, &operation)?;
+        assert!(rt; is_wanted(&folded, &operation, wanted), "{operation:?}");
+    }
+    Ok(())
+}
+
+/// P, or a literal.
+fn condition(literal: Option<bool>) -> Term {
+    match literal {
+        Some(value) => Term::Truth(value),
+        None => Term::Variable(Name {
+            symbol: Symbol::Now(1),
+            sort: Sort::Boolean,
+        }),
+    }
+}
+
+#[test]
+fn folds_an_implication(rt: HostRuntime) -> Result<(), Fail> {
+    let alloc = rt.alloc();
+    for (left, right, wanted) in [
+        (Some(true), None, condition(None)),
+        (Some(false), None, condition(Some(true))),
+        (None, Some(true), condition(Some(true))),
+        (
+            None,
+            Some(false),
+            Term::prefix(alloc, TermPrefix::Not, condition(None))?,
+        ),
+        (Some(true), Some(false), condition(Some(false))),
+        (Some(false), Some(false), condition(Some(true))),
+        (
+            None,
+            None,
+            Term::infix(alloc, TermOp::Implies, condition(None), condition(None))?,
+        ),
+    ] {
+        let operation = Term::infix(alloc, TermOp::Implies, condition(left), condition(right))?;
+        assert!(rt; same(&fold(alloc, &operation)?, &wanted), "{operation:?}");
+    }
+    Ok(())
+}

@@ -1,0 +1,21 @@
+//! Tests of public calls of the lower crates. They stand here, since a crate with tests is proved twice.
+#![tactic(auto)]
+
+#[cfg(test)]
+mod conditions;
+#[cfg(test)]
+mod folding;
+#[cfg(test)]
+mod lexemes;
+#[cfg(test)]
+mod negation;
+#[cfg(test)]
+mod numbers;
+#[cfg(test)]
+mod outside;
+#[cfg(test)]
+mod sequents;
+#[cfg(test)]
+mod sharing;
+#[cfg(test)]
+mod trees;

@@ -1,0 +1,208 @@
+// Sequents that need no proof.
+use spx_simplify::closes;
+use spx_term::{Name, Sequent, Sort, Symbol, Term, TermOp, TermPrefix};
+use sqlite_items::Items;
+use std::alloc::{AllocError, Global};
+
+use std::test::Fail;
+
+const FIRST: i128 = -2147483648;
+
+const LAST: i128 = 2147483647;
+
+const GREATEST: i128 = 170141183460469231731687303715884105727;
+
+fn variable() -> Term {
+    Term::Variable(Name {
+        symbol: Symbol::Now(0),
+        sort: Sort::Integer,
+    })
+}
+
+/// Whether `(X sign operand) op bound` closes under hypotheses `X op value`.
+fn closes_comparison(
+    alloc: Global,
+    facts: &[(TermOp, i128)],
+    (sign, operand): (TermOp, i128),
+    (op, bound): (TermOp, i128),
+) -> Result<bool, AllocError> {
+    let mut hyps = Items::new(alloc);
+    for (op, value) in facts {
+        hyps.push(Term::infix(alloc, *op, variable(), Term::Number(*value))?)?;
+    }
+    let left = Term::infix(alloc, sign, variable(), Term::Number(operand))?;
+    let goal = Term::infix(alloc, op, left, Term::Number(bound))?;
+    closes(alloc, &Sequent { hyps, goal })
+}
+
+#[test]
+fn closes_by_intervals(rt: HostRuntime) -> Result<(), Fail> {
+    use TermOp::{Add, Equal, Greater, GreaterOrEqual, Less, LessOrEqual, NotEqual, Subtract};
+    let in_range = [(GreaterOrEqual, FIRST), (LessOrEqual, LAST)];
+    let below_last = [(GreaterOrEqual, FIRST), (LessOrEqual, LAST), (Less, LAST)];
+    let none = [(Greater, 1), (Less, 1)];
+    for (facts, sum, comparison, closed) in [
+        (in_range.as_slice(), (Add, 1), (LessOrEqual, LAST), false),
+        (below_last.as_slice(), (Add, 1), (LessOrEqual, LAST), true),
+        (
+            below_last.as_slice(),
+            (Subtract, 1),
+            (GreaterOrEqual, FIRST),
+            false,
+        ),
+        (below_last.as_slice(), (Subtract, 1), (Less, LAST), true),
+        ([(Equal, 5)].as_slice(), (Add, 1), (Equal, 6), true),
+        ([(Equal, 5)].as_slice(), (Add, 1), (NotEqual, 6), false),
+        ([(Less, 3)].as_slice(), (Add, 0), (NotEqual, 3), true),
+        ([(Less, 3)].as_slice(), (Add, 0), (NotEqual, 2), false),
+        (
+            [(LessOrEqual, GREATEST)].as_slice(),
+            (Add, 1),
+            (LessOrEqual, GREATEST),
+            false,
+        ),
+        (
+            [(LessOrEqual, GREATEST)].as_slice(),
+            (Subtract, 1),
+            (Less, GREATEST),
+            true,
+        ),
+        (none.as_slice(), (Add, 0), (Equal, 1), false),
+        (none.as_slice(), (Add, 0), (NotEqual, 1), true),
+    ] {
+        let answer = closes_comparison(rt.alloc(), facts, sum, comparison)?;
+        assert_eq!(rt; answer, closed, "{facts:?} {sum:?} {comparison:?}");
+    }
+    Ok(())
+}
+
+/// Whether `- X op bound` closes under the hypotheses `X >= low` and `X <= high`.
+fn closes_minus(
+    alloc: Global,
+    (low, high): (i128, i128),
+    (op, bound): (TermOp, i128),
+) -> Result<bool, AllocError> {
+    let mut hyps = Items::new(alloc);
+    for (op, value) in [(TermOp::GreaterOrEqual, low), (TermOp::LessOrEqual, high)] {
+        hyps.push(Term::infix(alloc, op, variable(), Term::Number(value))?)?;
+    }
+    let left = Term::prefix(alloc, TermPrefix::Minus, variable())?;
+    let goal = Term::infix(alloc, op, left, Term::Number(bound))?;
+    closes(alloc, &Sequent { hyps, goal })
+}
+
+#[test]
+fn closes_a_minus(rt: HostRuntime) -> Result<(), Fail> {
+    use TermOp::{Equal, GreaterOrEqual, LessOrEqual};
+    for (range, comparison, closed) in [
+        ((FIRST, LAST), (LessOrEqual, LAST), false),
+        ((FIRST + 1, LAST), (LessOrEqual, LAST), true),
+        ((FIRST, LAST), (GreaterOrEqual, FIRST), true),
+        ((2, 3), (GreaterOrEqual, -3), true),
+        ((2, 3), (GreaterOrEqual, -2), false),
+        ((2, 3), (LessOrEqual, -2), true),
+        ((2, 3), (LessOrEqual, -3), false),
+        ((3, 3), (Equal, -3), true),
+        ((-GREATEST - 1, 0), (LessOrEqual, GREATEST), false),
+        ((-GREATEST, 0), (LessOrEqual, GREATEST), true),
+    ] {
+        let answer = closes_minus(rt.alloc(), range, comparison)?;
+        assert_eq!(rt; answer, closed, "{range:?} {comparison:?}");
+    }
+    Ok(())
+}
+
+/// Whether `((0 + X) /= 7) and (X op 7)` closes under a hypothesis.
+fn closes_conjunction(alloc: Global, hyp: Term, op: TermOp) -> Result<bool, AllocError> {
+    let mut hyps = Items::new(alloc);
+    hyps.push(hyp)?;
+    let sum = Term::infix(alloc, TermOp::Add, Term::Number(0), variable())?;
+    let first = Term::infix(alloc, TermOp::NotEqual, sum, Term::Number(7))?;
+    let second = Term::infix(alloc, op, variable(), Term::Number(7))?;
+    let goal = Term::infix(alloc, TermOp::And, first, second)?;
+    closes(alloc, &Sequent { hyps, goal })
+}
+
+#[test]
+fn closes_by_form(rt: HostRuntime) -> Result<(), Fail> {
+    use TermOp::{Equal, Less, LessOrEqual, NotEqual};
+    for (op, right, second, closed) in [
+        (NotEqual, Term::Number(7), NotEqual, true),
+        (NotEqual, Term::Number(7), Equal, false),
+        (Less, variable(), Equal, true),
+        (LessOrEqual, variable(), Equal, false),
+    ] {
+        let hyp = Term::infix(rt.alloc(), op, variable(), right)?;
+        let answer = closes_conjunction(rt.alloc(), hyp, second)?;
+        assert_eq!(rt; answer, closed, "{op:?} {second:?}");
+    }
+    Ok(())
+}
+
+fn above_one(alloc: Global) -> Result<Term, AllocError> {
+    Term::infix(alloc, TermOp::Greater, variable(), Term::Number(1))
+}
+
+/// Whether `X < bound` closes under a hypothesis.
+fn closes_below(alloc: Global, hyp: Term, bound: i128) -> Result<bool, AllocError> {
+    let mut hyps = Items::new(alloc);
+    hyps.push(hyp)?;
+    let goal = Term::infix(alloc, TermOp::Less, variable(), Term::Number(bound))?;
+    closes(alloc, &Sequent { hyps, goal })
+}
+
+#[test]
+fn closes_by_a_negation(rt: HostRuntime) -> Result<(), Fail> {
+    let alloc = rt.alloc();
+    for (bound, closed) in [(2, true), (1, false)] {
+        let negation = Term::prefix(alloc, TermPrefix::Not, above_one(alloc)?)?;
+        assert_eq!(rt; closes_below(alloc, negation, bound)?, closed);
+        let above = above_one(alloc)?;
+        let implication = Term::infix(alloc, TermOp::Implies, above, Term::Truth(false))?;
+        assert_eq!(rt; closes_below(alloc, implication, bound)?, closed);
+    }
+    Ok(())
+}
+
+/// `X + 1 + .. + 1`, with so many ones.
+fn sum_of_ones(alloc: Global, count: usize) -> Result<Term, AllocError> {
+    let mut sum = variable();
+    for at in 0..count {
+        let _ = at;
+        sum = Term::infix(alloc, TermOp::Add, sum, Term::Number(1))?;
+    }
+    Ok(sum)
+}
+
+/// Whether a goal closes under the hypothesis `X <= 0`.
+fn closes_at_most_zero(alloc: Global, goal: Term) -> Result<bool, AllocError> {
+    let mut hyps = Items::new(alloc);
+    hyps.push(Term::infix(alloc, TermOp::LessOrEqual, variable(), Term::Number(0))?)?;
+    closes(alloc, &Sequent { hyps, goal })
+}
+
+#[test]
+fn closes_a_deep_sum(rt: HostRuntime) -> Result<(), Fail> {
+    let alloc = rt.alloc();
+    for (bound, closed) in [(700, true), (699, false)] {
+        let sum = sum_of_ones(alloc, 700)?;
+        let goal = Term::infix(alloc, TermOp::LessOrEqual, sum, Term::Number(bound))?;
+        assert_eq!(rt; closes_at_most_zero(alloc, goal)?, closed, "{bound}");
+    }
+    Ok(())
+}
+
+#[test]
+fn closes_a_deep_conjunction(rt: HostRuntime) -> Result<(), Fail> {
+    let alloc = rt.alloc();
+    for (last, closed) in [(1, true), (0, false)] {
+        let mut goal = Term::infix(alloc, TermOp::Less, variable(), Term::Number(last))?;
+        for at in 1..700usize {
+            let bound = Term::Number(at as i128);
+            let first = Term::infix(alloc, TermOp::Less, variable(), bound)?;
+            goal = Term::infix(alloc, TermOp::And, first, goal)?;
+        }
+        assert_eq!(rt; closes_at_most_zero(alloc, goal)?, closed, "{last}");
+    }
+    Ok(())
+}
