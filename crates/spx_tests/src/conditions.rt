@@ -5,7 +5,6 @@ use spx_term::{CondKind, Condition, Term, TermOp, same};
 use spx_text::{Place, Text};
 use sqlite_items::Items;
 use std::alloc::{AllocError, Global};
-
 use std::test::Fail;
 
 fn condition(alloc: Global) -> Result<Condition, AllocError>

@@ -1,7 +1,6 @@
 // Terms with their constant parts computed.
 use spx_term::{Name, Sort, Symbol, Term, TermOp, TermPrefix, fold, same};
 use std::alloc::{AllocError, Global};
-
 use std::test::Fail;
 
 const GREATEST: i128 = 170141183460469231731687303715884105727;

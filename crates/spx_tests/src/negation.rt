@@ -1,6 +1,5 @@
 // Negations of folded terms.
 use spx_term::{Name, Sort, Symbol, Term, TermOp, TermPrefix, fold, same};
-
 use std::test::Fail;
 
 fn variable(number: usize, sort: Sort) -> Term {

@@ -1,6 +1,5 @@
 // Exact numbers at the ends of 128 bits.
 use spx_num::{Op, TooWide, checked, decimal, modulo, power, quot, rem};
-
 use std::test::Fail;
 
 // The ends of 128 bits, and one step past them.

@@ -1,9 +1,8 @@
 // Files and sinks.
 use spx_text::{
-    Failed, Files, HeldFile, HostFiles, HostSink, LoadFault, MemFiles, MemSink, NoFailFiles, NoFailSink,
-    Sink, write_all_pieces,
+    Failed, Files, HeldFile, HostFiles, HostSink, LoadFault, MemFiles, MemSink, NoFailFiles,
+    NoFailSink, Sink, write_all_pieces,
 };
-
 use std::alloc::{AllocError, Global};
 use std::test::Fail;
 use std::{fs, io};

@@ -3,7 +3,6 @@ use spx_simplify::closes;
 use spx_term::{Name, Sequent, Sort, Symbol, Term, TermOp, TermPrefix};
 use sqlite_items::Items;
 use std::alloc::{AllocError, Global};
-
 use std::test::Fail;
 
 const FIRST: i128 = -2147483648;

@@ -1,10 +1,9 @@
 // Copies of trees.
+use spx_text::{Place, Text};
 use spx_tree::{
     Arm, Closing, Decl, Derives, DerivesItem, Expr, FormalPart, Identifier, Imports, InfixOp, Name,
     Param, Precondition, PrefixOp, Stmt, Subprogram, Unit, WrittenMode,
 };
-
-use spx_text::{Place, Text};
 use sqlite_items::{Boxed, Items};
 use std::alloc::{AllocError, Global};
 use std::test::Fail;
