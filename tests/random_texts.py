@@ -15,15 +15,21 @@ from dataclasses import dataclass
 from reading import ANNOTATION, RESERVED, examine
 from table import CASES, answer, can_stand, entry, longer
 
-VALUES = ("Integer'First", "Integer'Last", '0', '0', '1', '1', '2', '5', '1073741823', '2147483646', '2147483647')
-ODD_VALUES = ('X', 'A', 'Inc', 'Integer', '2147483648', '4294967296', '170141183460469231731687303715884105727')
+VALUES = ("Integer'First", "Integer'Last", "Natural'First", "Positive'Last", '0', '0', '1', '1', '2', '5', '(-1)', '(-7)', '46340',
+          '1073741823', '2147483646', '2147483647')
+ODD_VALUES = ('X', 'A', 'Inc', 'Integer', 'True', "Boolean'First", '2147483648', '4294967296', '170141183460469231731687303715884105727')
+TYPES = ('Integer', 'Natural', 'Positive', 'Boolean')
+FACTORS = ('0', '1', '2', '3', '5', '(-1)', '(-7)', '46340')
+PRODUCTS = ('*', '*', '/', '/', 'mod', 'rem')
+LOGICAL = ('and', 'or', 'xor', 'and then', 'or else')
 RELATIONS = ('=', '/=', '<', '<=', '>', '>=')
 FORMALS = (('X',), ('X',), ('A', 'B'), ('X', 'A'), ('A', 'B', 'X'), ('A', 'B', 'X', 'Y'))
 LOCALS = ((), (), ('T',), ('T',), ('T', 'U'), ('Last',))
 ODD_LOCALS = (('X',), ('Y', 'T'), ('T', 't'), ('Integer',), ('Dec', 'Inc'))
 MODES = ('in out ', 'out ', 'in ', '')
 NAMES = ('Inc', 'Dec', 'X', 'Y', 'Last')
-STATIC_CONDITIONS = ('1 < 2', '2 < 1', "Integer'First < 0", '0 = 1', '-1 >= 0', '2147483648 > 5')
+STATIC_CONDITIONS = ('1 < 2', '2 < 1', "Integer'First < 0", '0 = 1', '-1 >= 0', '2147483648 > 5', 'True', 'False', 'not True', '3 in 1 .. 5',
+                     '-1 in Natural', 'True xor False', '7 mod (-3) = -2', '2 ** 5 > 31', "Integer'First rem (-1) = 0", '1 / 2 > 0 or else False')
 # A procedure of random parts mostly has no more paths than this, and no more levels of `if`.
 MOST_PATHS = 40
 MOST_NESTED = 3
@@ -36,13 +42,15 @@ PIECES = tuple(piece.encode('ascii') for piece in (
     '<', '<=', '>', '>=', 'end', 'is', 'begin', 'procedure', '(', ')', "'", '.', '..', '->', '~', '\n--# ', '_', '#',
     '; B : in Integer', '   X := X + 1;\n', ' + 1 - 1', 'null', '   null;\n', '   T : Integer;\n', 'T', '(X)', '-(',
     '+(', "'First", '(X = X)', 'if', 'then', 'elsif', 'else', 'end if', 'if X > 0 then', 'elsif X < 0 then', 'end if;',
-    '   if X > 0 then X := X - 1; end if;\n'))
+    '   if X > 0 then X := X - 1; end if;\n', '**', '/', 'mod', 'rem', 'abs', 'not', 'and', 'or', 'xor', 'and then', 'or else', 'then', 'else',
+    'in', 'not in', 'in 1 .. 5', 'in Natural', 'Boolean', 'Natural', 'Positive', 'True', 'False', 'null from', '& null from X', ' * 2', ' / X',
+    ' mod 3', ' ** 2', 'abs (X)', 'not (', ' and X > 0', ' and then X > 0', ' or else X /= 0'))
 # Bytes that are apt to end a lexeme, a line or a text.
 EDGES = b'\0\t\n\v\f\r -#0A_\x80\xa0\xff'
 
 # A word that is a name wherever it stands, and the names that one is exchanged for.
 NAME = re.compile(rb'[A-Za-z](?:_?[A-Za-z0-9])*')
-OTHER_NAMES = tuple(name.encode('ascii') for name in ('X', 'x', 'A', 'B', 'Y', 'T', 'U', 'Inc', 'Dec', 'Integer'))
+OTHER_NAMES = tuple(name.encode('ascii') for name in ('X', 'x', 'A', 'B', 'Y', 'T', 'U', 'Inc', 'Dec', 'Integer', 'Natural', 'Positive', 'Boolean', 'True'))
 
 # The texts of the table of the grammar: those whose conditions are made, and those with other findings.
 STOPPED = re.compile(r':\d+: (?:L\d|P1) ')
@@ -127,6 +135,8 @@ class Writer:
 
     def __init__(self, seed):
         self.random = random.Random(seed)
+        self.types = {}
+        self.ignored = []
 
     def text(self):
         """A procedure of random parts, such a one or a case of the table with other names, or one with changes."""
@@ -149,14 +159,16 @@ class Writer:
         """A procedure of random parts that mostly fit together, and at times one without formals."""
         formals = self.random.choice(FORMALS) if self.random.random() < 0.96 else ()
         locals_ = self.random.choice(LOCALS if self.random.random() < 0.98 else ODD_LOCALS)
+        self.types = {name: self.random.choices(TYPES, (60, 13, 7, 20))[0] for name in formals + locals_}
         statements = self.statements(formals, locals_)
         if formals and self.random.random() < 0.55:
             statements = self.branched(statements, formals, locals_)
         sources = self.sources(formals, locals_, statements)
         inputs = [formal for formal in formals if formal not in sources]
         if inputs and self.random.random() < 0.12:
-            self.insert(statements, (self.random.choice(inputs), self.right_side(formals, inputs[0])))
-        first = next((value for _, value in assignments(statements)), None) or self.value()
+            target = self.random.choice(inputs)
+            self.insert(statements, (target, self.right_side(formals, target, target)))
+        first = next((value for target, value in assignments(statements) if self.types[target] != 'Boolean'), self.value())
         pre = self.precondition(formals, sources, first) if self.random.random() < 0.75 else None
         return longer(self.params(formals, sources), self.items(formals, sources), *self.spelled(statements),
                       pre=pre, declared=self.declarations(locals_), name=name)
@@ -178,7 +190,7 @@ class Writer:
     def many_paths(self, formals):
         """Some twelve `if`s in a row, which have 4096 paths."""
         name = self.random.choice(formals)
-        return [Branch([(f'{self.random.choice(formals)} > 0', [(name, self.value())])])
+        return [Branch([(self.truth(formals, 0), [(name, self.right_side((), name, name))])])
                 for _ in range(self.random.randrange(11, 15))]
 
     def branch(self, statements, formals, locals_):
@@ -197,28 +209,93 @@ class Writer:
         if isinstance(statement, Branch):
             return statement
         target, _ = statement
-        return (target, self.right_side(readable, target))
+        return (target, self.right_side(readable, target, target))
 
     def some(self, formals, readable):
         """No statement, or one that sets a formal."""
         if self.random.random() < 0.4:
             return []
         target = self.random.choice(formals)
-        return [(target, self.right_side(readable, target))]
+        return [(target, self.right_side(readable, target, target))]
 
     def condition(self, readable):
-        """A relation, mostly between a variable and a value; at times one that is static, and rarely none."""
+        """A truth value, mostly a relation; rarely something else."""
+        if self.random.random() < 0.015:
+            return self.random.choice(readable + ('Boolean',))
+        return self.truth(readable, self.random.choices((0, 1, 2), (60, 30, 10))[0])
+
+    def numbers(self, variables):
+        """Those of the variables that are numbers; rarely all."""
+        is_odd = self.random.random() < 0.004
+        return tuple(name for name in variables if is_odd or self.types.get(name) != 'Boolean')
+
+    def truths(self, variables):
+        """Those of the variables that are truth values; rarely all."""
+        is_odd = self.random.random() < 0.004
+        return tuple(name for name in variables if is_odd or self.types.get(name) == 'Boolean')
+
+    def number_in(self, variables):
+        """A variable that is a number, if there is one, or a value."""
+        return self.random.choice(self.numbers(variables) * 2 + (self.value(),))
+
+    def truth(self, variables, depth):
+        """A truth value over the variables, with logical operators within one another."""
         kind = self.random.random()
-        if kind < 0.08:
+        if depth and kind < 0.75:
+            return self.logical(variables, depth)
+        if kind < 0.06:
             return self.random.choice(STATIC_CONDITIONS)
-        left = self.random.choice(readable) if kind < 0.7 else self.sum(readable, self.random.choice(readable))
-        if kind > 0.98:
-            return left
-        relation = f' {self.random.choice(RELATIONS)} '
-        sides = [left, self.random.choice(readable + (self.value(),) * 5)]
+        truths = self.truths(variables)
+        if truths and kind < 0.4:
+            name = self.random.choice(truths)
+            return self.random.choice((name, name, f'not {name}', f'{name} = {self.random.choice(truths + ("True", "False"))}',
+                                       f'{name} /= {self.random.choice(truths + ("(1 < 2)",))}'))
+        if kind < 0.55:
+            return self.membership(variables)
+        left = self.number_in(variables) if self.random.random() < 0.7 else self.sum(variables, self.number_in(variables))
+        sides = [left, self.random.choice(self.numbers(variables) + (self.value(),) * 5)]
         if self.random.random() < 0.2:
             sides.reverse()
-        return relation.join(sides)
+        return f' {self.random.choice(RELATIONS)} '.join(sides)
+
+    def logical(self, variables, depth):
+        """A chain of one operator, `not` of something, or a short-circuit form that guards what comes after it."""
+        kind = self.random.random()
+        if kind < 0.15:
+            return f'not ({self.truth(variables, depth - 1)})'
+        if kind < 0.4:
+            return self.guard(variables)
+        operator = self.random.choice(LOGICAL[:2] if kind < 0.6 else LOGICAL)
+        parts = [self.truth(variables, depth - 1) for _ in range(self.random.choice((2, 2, 2, 3)))]
+        if self.random.random() < 0.97:
+            parts = [f'({part})' if re.search(r'\b(?:and|or|xor)\b', part) else part for part in parts]
+        return f' {operator} '.join(parts)
+
+    def guard(self, variables):
+        """What a division or a sum needs, and a relation over it after `and then` or `or else`, or after others at times."""
+        name, other = self.number_in(variables), self.number_in(variables)
+        guard, opposite, value = self.random.choice((
+            (f'{name} /= 0', f'{name} = 0', f'{other} {self.random.choice(("/", "mod", "rem"))} {name}'),
+            (f'{name} > 0', f'{name} <= 0', f'{other} {self.random.choice(("/", "mod", "rem"))} {name}'),
+            (f'{name} in 1 .. 100', f'{name} not in 1 .. 100', f'{other} mod {name}'),
+            (f"{name} < Integer'Last", f"{name} >= Integer'Last", f'{name} + 1'),
+            (f'{name} >= 0', f'{name} < 0', f'{other} ** {name}'),
+            (f"{name} > Integer'First", f"{name} = Integer'First", f'abs {name}')))
+        relation = f'{value} {self.random.choice(RELATIONS)} {self.number_in(variables)}'
+        if self.random.random() < 0.5:
+            return f'{guard} {self.random.choice(("and then", "and then", "and then", "and", "or else"))} {relation}'
+        return f'{opposite} {self.random.choice(("or else", "or else", "or else", "or", "and then"))} {relation}'
+
+    def membership(self, variables):
+        """A membership test, in a type or in a range."""
+        tested = self.number_in(variables) if self.random.random() < 0.8 else self.sum(variables, self.number_in(variables))
+        word = self.random.choice(('in', 'in', 'not in'))
+        kind = self.random.random()
+        if kind < 0.3:
+            return f'{tested} {word} {self.random.choices(TYPES, (30, 35, 34, 1))[0]}'
+        ends = ('0', '1', '-5', '5', '100', "Integer'Last")
+        bounds = [self.number_in(variables) if self.random.random() < 0.3 else self.random.choice(ends) for _ in range(2)]
+        return f'{tested} {word} {bounds[0]} .. {bounds[1]}'
 
     def insert(self, statements, statement):
         """Puts a statement somewhere, also into an arm."""
@@ -251,7 +328,7 @@ class Writer:
         """A declaration for each local, or one for all."""
         if self.random.random() < 0.5:
             locals_ = (', '.join(locals_),) if locals_ else ()
-        return [f'{names} : Integer' for names in locals_]
+        return [f'{names} : {self.types.get(names, self.types[names.split(",")[0]])}' for names in locals_]
 
     def statements(self, formals, locals_):
         """Targets and right sides. Each local mostly comes from what stands before it, and goes to the next target."""
@@ -260,40 +337,56 @@ class Writer:
             return found
         for local in locals_:
             if self.random.random() < 0.93:
-                found.append((local, self.right_side(readable, found[-1][0] if found else local)))
+                found.append((local, self.right_side(readable, found[-1][0] if found else local, local)))
             readable += (local,)
         for _ in range(self.random.choice((1, 1, 2, 2, 3, 4))):
             target = self.random.choice(formals + locals_ if self.random.random() < 0.1 else formals)
-            is_behind_local = found and found[-1][0] in locals_
-            found.append((target, self.right_side(readable, found[-1][0] if is_behind_local else target)))
+            is_after_local = found and found[-1][0] in locals_
+            found.append((target, self.right_side(readable, found[-1][0] if is_after_local else target, target)))
         return found
 
-    def right_side(self, variables, usual):
-        """A sum that mostly begins with the usual variable, where it may be read; and rarely a comparison."""
-        is_usual = usual in variables and self.random.random() < 0.7
-        value = self.sum(variables, usual if is_usual else self.random.choice(variables + (self.value(),)))
-        return value + ' = 0' if self.random.random() < 0.01 else value
+    def right_side(self, variables, usual, target):
+        """A value of the type of the target, mostly with the usual variable, where it may be read; and rarely another one."""
+        is_truth = self.types.get(target) == 'Boolean'
+        if self.random.random() < 0.01:
+            is_truth = not is_truth
+        if is_truth:
+            value = self.truth(variables, self.random.choice((0, 0, 1, 1, 2)))
+            is_fit = usual in variables and self.types.get(usual) == 'Boolean' and self.random.random() < 0.5
+            return f'({value}) {self.random.choice(LOGICAL)} {usual}' if is_fit else value
+        is_usual = usual in self.numbers(variables) and self.random.random() < 0.7
+        return self.sum(variables, usual if is_usual else self.number_in(variables))
 
     def sum(self, variables, first):
         """A sum of mostly few operands, with a sign at times, and of some two hundred levels at times."""
         if self.random.random() < 0.005:
             return self.deep(first)
         count = self.random.choices((1, 2, 3, 4, 6), (25, 45, 20, 7, 3))[0]
-        operands = [self.operand(variables, self.random.choice(variables + (self.value(),) * 3))
+        operands = [self.operand(variables, self.random.choice(self.numbers(variables) + (self.value(),) * 3))
                     for _ in range(count - 1)]
         sign = self.random.choice('-+') if self.random.random() < 0.15 else ''
         return (sign + self.operand(variables, first)
                 + ''.join(f' {self.random.choice("+-")} {operand}' for operand in operands))
 
     def operand(self, variables, operand):
-        """The operand, or a sum in parentheses that begins with it."""
-        return f'({self.sum(variables, operand)})' if self.random.random() < 0.12 else operand
+        """The operand, a term or a factor that begins with it, or a sum in parentheses that does."""
+        kind = self.random.random()
+        if kind < 0.12:
+            return f'({self.sum(variables, operand)})'
+        if kind < 0.27 and (operand in variables or kind < 0.16):
+            factors = [self.random.choice(self.numbers(variables) * 2 + FACTORS) for _ in range(self.random.choice((1, 1, 2)))]
+            return operand + ''.join(f' {self.random.choice(PRODUCTS)} {factor}' for factor in factors)
+        if 0.27 <= kind < 0.31:
+            exponents = ('0', '1', '2') + (('3', '31', '(-1)', self.number_in(variables)) if operand in variables else ())
+            return f'{operand} ** {self.random.choice(exponents)}'
+        return f'abs {operand}' if 0.31 <= kind < 0.35 else operand
 
     def deep(self, operand):
         """Some two hundred zeros, parentheses, or signs with parentheses."""
         levels = self.random.randrange(198, 203)
         return self.random.choice((operand + ' + 0' * levels, '(' * levels + operand + ')' * levels,
-                                   '-(' * (levels // 2) + operand + ')' * (levels // 2)))
+                                   '-(' * (levels // 2) + operand + ')' * (levels // 2), operand + ' * 1' * levels,
+                                   'abs (' * (levels // 2) + operand + ')' * (levels // 2)))
 
     def value(self):
         """An attribute or a number that lies in Integer, or something else at times."""
@@ -321,10 +414,12 @@ class Writer:
         return spelled
 
     def precondition(self, formals, sources, value):
-        """A relation between an import, the first right side or a sum, and an operand, in either order."""
+        """A relation between an import, the first right side or a sum, and an operand, in either order; or another condition."""
         names = tuple(formal for formal in formals if is_import(formal, sources) or self.random.random() < 0.15)
-        left = self.random.choice(names + (value, self.sum(names, self.value())))
-        right = self.random.choice(names + (self.value(),) * 4)
+        if self.random.random() < 0.45:
+            return self.truth(names, self.random.choice((0, 1, 1, 2)))
+        left = self.random.choice(self.numbers(names) + (value, self.sum(names, self.value())))
+        right = self.random.choice(self.numbers(names) + (self.value(),) * 4)
         if self.random.random() < 0.02:
             return left
         sides = [left, right]
@@ -339,19 +434,21 @@ class Writer:
         found = sources_after(statements, start)
         targets = {target for target, _ in assignments(statements) if target in formals}
         used = {source for target in targets for source in found[target]}
+        unread = [formal for formal in formals if formal not in targets and formal not in used]
+        self.ignored = [formal for formal in unread if self.random.random() < 0.5]
         return {formal: found[formal] for formal in formals
-                if formal in targets or formal not in used or self.random.random() < 0.3}
+                if formal not in self.ignored and (formal in targets or formal not in used or self.random.random() < 0.3)}
 
     def params(self, formals, sources):
         """A parameter for each formal, or one for two that have the same mode; none where there are no formals."""
         params = []
         for formal in formals:
-            mode = self.mode(formal, sources)
-            if params and params[-1][1] == mode and self.random.random() < 0.5:
+            mark = self.mode(formal, sources) + self.types[formal]
+            if params and params[-1][1] == mark and self.random.random() < 0.5:
                 params[-1][0].append(formal)
             else:
-                params.append(([formal], mode))
-        return '; '.join(f'{", ".join(names)} : {mode}Integer' for names, mode in params) or None
+                params.append(([formal], mark))
+        return '; '.join(f'{", ".join(names)} : {mark}' for names, mark in params) or None
 
     def mode(self, formal, sources):
         """Mostly the mode that the exports and imports ask for."""
@@ -366,6 +463,11 @@ class Writer:
         if not formals or self.random.random() < 0.02:
             return None
         items = [f'{export} from {self.imports(export, formals, found)}' for export, found in sources.items()]
+        ignored = self.ignored + [formal for formal in formals if self.random.random() < 0.03]
+        if ignored:
+            items.append('null from ' + ', '.join(ignored))
+        if len(ignored) > 1 and self.random.random() < 0.3:
+            items[-1:] = ['null from ' + name for name in ignored]
         self.random.shuffle(items)
         return ' & '.join(items)
 

@@ -290,37 +290,69 @@ class Attribute:
 
 
 @dataclass(frozen=True)
+class Subtype:
+    """A type by its word: its values lie between its first and its last one. Those of Boolean have no bounds."""
+    word: str
+    kind: str
+    first: Optional[int] = None
+    last: Optional[int] = None
+
+
+@dataclass(frozen=True)
 class Variable:
-    """A variable, by its word in small letters, where it is named."""
+    """A variable, by its word in small letters, where it is named, of its kind."""
     word: str
     place: Place
+    kind: str
+    value = None
 
 
 @dataclass(frozen=True)
 class Static:
-    """A number, which is universal, or an attribute, which is Integer: its value, where it stands."""
-    value: int
-    universal: bool
+    """A number, which is universal, an attribute, or a truth value: its value, where it stands, of its kind."""
+    value: Union[int, bool]
+    kind: str
     place: Place
 
 
+# The kind of an expression is 'universal', 'Integer' or 'Boolean', and its value is there where it is static. As they are
+# read, the nodes below have neither.
+
 @dataclass(frozen=True)
 class Operation:
-    """`left operator right`; an operator opens one level over both of its operands."""
+    """`left operator right`; an operator opens one level over both of its operands. It stands at its first word."""
     operator: str
     place: Place
     left: 'Expression'
     right: 'Expression'
     levels: int
+    kind: Optional[str] = None
+    value: Union[int, bool, None] = None
 
 
 @dataclass(frozen=True)
-class Signed:
-    """`sign operand`, with a level more than its operand."""
-    sign: str
+class Prefix:
+    """`operator operand`, with a level more than its operand."""
+    operator: str
     place: Place
     operand: 'Expression'
     levels: int
+    kind: Optional[str] = None
+    value: Union[int, bool, None] = None
+
+
+@dataclass(frozen=True)
+class Membership:
+    """`tested in low .. high`, or a type for the two bounds; or `not in`. It stands at `not` or `in`, and opens one level."""
+    is_in: bool
+    place: Place
+    tested: 'Expression'
+    low: Optional['Expression']
+    high: Optional['Expression']
+    type_mark: Union[Name, Attribute, Subtype, None]
+    levels: int
+    kind: Optional[str] = None
+    value: Optional[bool] = None
 
 
 @dataclass(frozen=True)
@@ -329,9 +361,11 @@ class Parenthesized:
     place: Place
     inner: 'Expression'
     levels: int
+    kind: Optional[str] = None
+    value: Union[int, bool, None] = None
 
 
-Expression = Union[Name, Attribute, Variable, Static, Operation, Signed, Parenthesized]
+Expression = Union[Name, Attribute, Variable, Static, Operation, Prefix, Membership, Parenthesized]
 
 
 @dataclass(frozen=True)
@@ -382,14 +416,15 @@ class Declaration:
 
 @dataclass(frozen=True)
 class Formal:
-    """A formal, by its word in small letters, with the mode of its parameter."""
+    """A formal, by its word in small letters, with the mode and the type of its parameter."""
     word: str
     mode: str
+    subtype: Subtype
 
 
 @dataclass(frozen=True)
 class Item:
-    """`exports from imports`, with the `*` apart."""
+    """`exports from imports`, with the `*` apart. `null from imports` is one without exports."""
     exports: list
     star: bool
     imports: list
@@ -407,7 +442,7 @@ class Procedure:
     """A procedure, which stands at its word.
 
     As it is read, it has names, parameters and declarations; then what the names denote, formals, the words of locals,
-    and how each variable is spelled where it is declared.
+    and of each variable its type, and how it is spelled where it is declared.
     """
     place: Place
     name: Name
@@ -419,6 +454,7 @@ class Procedure:
     end: Place
     end_name: Optional[Name]
     spelled: Optional[dict] = None
+    subtypes: Optional[dict] = None
 
     def items(self):
         """The items of `derives`, if it is there."""
@@ -431,6 +467,10 @@ class Procedure:
 
 RELATIONS = ('=', '/=', '<', '<=', '>', '>=')
 SIGNS = ('+', '-')
+PRODUCTS = ('*', '/', 'mod', 'rem')
+# Each logical operator, with the word that makes it a short-circuit form.
+LOGICAL = {'and': 'then', 'or': 'else', 'xor': None}
+SHORT_CIRCUIT = ('and then', 'or else')
 
 
 class Parser:
@@ -536,7 +576,10 @@ class Parser:
         return Derives(word.place, items)
 
     def item(self):
-        """names "from" ["*" {"," name} | names]"""
+        """names "from" ["*" {"," name} | names] | "null" "from" names"""
+        if self.take_if('null', marked=True):
+            self.take('from', marked=True)
+            return Item([], False, [self.name(marked=True)] + self.more_names())
         exports = [self.name(marked=True)] + self.more_names()
         self.take('from', marked=True)
         if self.take_if('*', marked=True):
@@ -608,27 +651,81 @@ class Parser:
         return Arm(place, condition, self.statements(above))
 
     def expression(self, marked, above):
-        """sum [("=" | "/=" | "<" | "<=" | ">" | ">=") sum], under so many levels"""
-        left = self.sum(marked, above)
-        relation = self.opening(RELATIONS, marked, above + levels_of(left) + 1)
-        return operation(relation, left, self.sum(marked, above + 1)) if relation else left
-
-    def sum(self, marked, above):
-        """["+" | "-"] primary {("+" | "-") primary}, which nests to the left"""
-        left = self.signed(marked, above)
-        operator = self.opening(SIGNS, marked, above + levels_of(left) + 1)
-        while operator:
-            left = operation(operator, left, self.primary(marked, above + 1))
-            operator = self.opening(SIGNS, marked, above + levels_of(left) + 1)
+        """relation {operator relation}, all with one logical operator, under so many levels; it nests to the left"""
+        left = self.relation(marked, above)
+        token = self.opening(tuple(LOGICAL), marked, above + levels_of(left) + 1)
+        if not token:
+            return left
+        second = LOGICAL[token.kind]
+        is_short = second is not None and self.take_if(second, marked) is not None
+        name = f'{token.kind} {second}' if is_short else token.kind
+        while token:
+            left = operation(name, token, left, self.relation(marked, above + 1))
+            token = self.opening(name.split()[:1], marked, above + levels_of(left) + 1)
+            if token and is_short:
+                self.take(second, marked)
         return left
 
+    def relation(self, marked, above):
+        """sum [("=" | "/=" | "<" | "<=" | ">" | ">=") sum] | a membership test"""
+        left = self.sum(marked, above)
+        token = self.opening(RELATIONS + ('not', 'in'), marked, above + levels_of(left) + 1)
+        if not token:
+            return left
+        if token.kind in RELATIONS:
+            return operation(token.kind, token, left, self.sum(marked, above + 1))
+        return self.membership(token, left, marked, above + 1)
+
+    def membership(self, token, tested, marked, above):
+        """sum ["not"] "in" (name | sum ".." sum) after the first word of its operator"""
+        if token.kind == 'not':
+            self.take('in', marked)
+        low, high, type_mark = self.sum(marked, above), None, None
+        if isinstance(low, (Name, Attribute)) and not self.next_is('..', marked):
+            low, type_mark = None, low
+        else:
+            self.take('..', marked)
+            high = self.sum(marked, above)
+        levels = max(levels_of(part) for part in (tested, low, high) if part) + 1
+        return Membership(token.kind == 'in', token.place, tested, low, high, type_mark, levels)
+
+    def sum(self, marked, above):
+        """["+" | "-"] term {("+" | "-") term}, which nests to the left"""
+        return self.left_nested(SIGNS, self.signed, self.term, marked, above)
+
     def signed(self, marked, above):
-        """["+" | "-"] primary"""
-        sign = self.opening(SIGNS, marked, above + 1)
-        if not sign:
-            return self.primary(marked, above)
-        operand = self.primary(marked, above + 1)
-        return Signed(sign.kind, sign.place, operand, levels_of(operand) + 1)
+        """["+" | "-"] term"""
+        return self.prefix(SIGNS, self.term, marked, above) or self.term(marked, above)
+
+    def term(self, marked, above):
+        """factor {("*" | "/" | "mod" | "rem") factor}, which nests to the left"""
+        return self.left_nested(PRODUCTS, self.factor, self.factor, marked, above)
+
+    def factor(self, marked, above):
+        """primary ["**" primary] | ("abs" | "not") primary"""
+        prefix = self.prefix(('abs', 'not'), self.primary, marked, above)
+        if prefix:
+            return prefix
+        left = self.primary(marked, above)
+        token = self.opening(('**',), marked, above + levels_of(left) + 1)
+        return operation('**', token, left, self.primary(marked, above + 1)) if token else left
+
+    def left_nested(self, operators, first, other, marked, above):
+        """A first operand, and then operators, each with another operand."""
+        left = first(marked, above)
+        token = self.opening(operators, marked, above + levels_of(left) + 1)
+        while token:
+            left = operation(token.kind, token, left, other(marked, above + 1))
+            token = self.opening(operators, marked, above + levels_of(left) + 1)
+        return left
+
+    def prefix(self, operators, operand, marked, above):
+        """An operator and its operand, if it is there."""
+        token = self.opening(operators, marked, above + 1)
+        if not token:
+            return None
+        found = operand(marked, above + 1)
+        return Prefix(token.kind, token.place, found, levels_of(found) + 1)
 
     def primary(self, marked, above):
         """number | name | "(" expression ")" """
@@ -638,7 +735,7 @@ class Parser:
             self.take(')', marked)
             return Parenthesized(parenthesis.place, inner, levels_of(inner) + 1)
         number = self.take_if('number', marked)
-        return Static(number_value(number.text), True, number.place) if number else self.name(marked)
+        return Static(number_value(number.text), 'universal', number.place) if number else self.name(marked)
 
     def name_if(self, marked=False):
         """A name, if one comes next."""
@@ -672,86 +769,208 @@ def levels_of(expression):
 
 
 def parts_of(expression):
-    """What an operator, a sign or parentheses hold, from left to right; else nothing."""
+    """The expressions that an operator, a membership test or parentheses hold, from left to right; else nothing."""
     if isinstance(expression, Operation):
         return (expression.left, expression.right)
-    if isinstance(expression, Signed):
+    if isinstance(expression, Prefix):
         return (expression.operand,)
+    if isinstance(expression, Membership):
+        return tuple(part for part in (expression.tested, expression.low, expression.high) if part)
     return (expression.inner,) if isinstance(expression, Parenthesized) else ()
 
 
-def operation(operator, left, right):
+def operation(operator, token, left, right):
     """An operation, which has a level more than its operands."""
-    return Operation(operator.kind, operator.place, left, right, max(levels_of(left), levels_of(right)) + 1)
+    return Operation(operator, token.place, left, right, max(levels_of(left), levels_of(right)) + 1)
+
+
+# ---------------------------------------------------------------- values
+
+def quotient(left, right):
+    """Rounded toward zero; 0 where the divisor is."""
+    size = abs(left) // abs(right) if right else 0
+    return size if (left < 0) == (right < 0) else -size
+
+
+def remainder(left, right):
+    """What the quotient leaves, with the sign of the dividend; 0 where the divisor is."""
+    return left - right * quotient(left, right) if right else 0
+
+
+def modulus(left, right):
+    """The remainder of the quotient that is rounded down, with the sign of the divisor; 0 where the divisor is."""
+    return left - right * (left // right) if right else 0
+
+
+def power(left, right):
+    """0 where the exponent is negative. A number of two or more has no more than 128 bits only up to the exponent 127."""
+    if right < 0:
+        return 0
+    return left ** (right if -1 <= left <= 1 else min(right, 128))
+
+
+COMPUTED = {
+    '+': lambda a, b: a + b, '-': lambda a, b: a - b, '*': lambda a, b: a * b,
+    '/': quotient, 'rem': remainder, 'mod': modulus, '**': power,
+    '=': lambda a, b: a == b, '/=': lambda a, b: a != b,
+    '<': lambda a, b: a < b, '<=': lambda a, b: a <= b,
+    '>': lambda a, b: a > b, '>=': lambda a, b: a >= b,
+    'and': lambda a, b: a and b, 'or': lambda a, b: a or b, 'xor': lambda a, b: a != b,
+    'and then': lambda a, b: a and b, 'or else': lambda a, b: a or b,
+}
+COMPUTED_OF_ONE = {'+': lambda a: a, '-': lambda a: -a, 'abs': abs, 'not': lambda a: not a}
+DIVISIONS = ('/', 'mod', 'rem')
+
+
+def is_number(value):
+    """Whether a value is a number."""
+    return not isinstance(value, bool)
+
+
+class Fault(Exception):
+    """A check that fails, by its kind and its place."""
+
+    def __init__(self, kind, place):
+        super().__init__(kind, place)
+        self.kind = kind
+        self.place = place
+
+
+def evaluated(expression, store):
+    """The value of an expression where the store has a value for each variable that is set; or the first fault is raised.
+
+    A static expression has its exact value. The right side of a short-circuit form is evaluated only where it is needed.
+    """
+    if expression.value is not None:
+        return expression.value
+    if isinstance(expression, Variable):
+        if expression.word not in store:
+            raise Fault('unset', expression.place)
+        return store[expression.word]
+    if isinstance(expression, Operation) and expression.operator in SHORT_CIRCUIT:
+        left = evaluated(expression.left, store)
+        return evaluated(expression.right, store) if left == (expression.operator == 'and then') else left
+    return applied(expression, [evaluated(part, store) for part in parts_of(expression)])
+
+
+def applied(expression, values):
+    """The value of an operation on these values of its parts; or the first of its own checks that fails is raised."""
+    if isinstance(expression, Operation):
+        if expression.operator in DIVISIONS and values[1] == 0:
+            raise Fault('division', expression.place)
+        if expression.operator == '**' and values[1] < 0:
+            raise Fault('range', expression.right.place)
+    value = computed_value(expression, values)
+    if is_number(value) and not in_integer(value):
+        raise Fault('overflow', expression.place)
+    return value
+
+
+def computed_value(expression, values):
+    """The value of an operation on these values of its parts, whatever checks say; parentheses keep the value."""
+    if isinstance(expression, Operation):
+        return COMPUTED[expression.operator](*values)
+    if isinstance(expression, Prefix):
+        return COMPUTED_OF_ONE[expression.operator](*values)
+    if isinstance(expression, Membership):
+        tested, *bounds = values
+        low, high = bounds or (expression.type_mark.first, expression.type_mark.last)
+        return (low <= tested <= high) == expression.is_in
+    return values[0]
+
+
+def stated(expression, store):
+    """The value of an expression of an annotation, which is always there: numbers have no bound, and no check fails."""
+    if expression.value is not None:
+        return expression.value
+    if isinstance(expression, Variable):
+        return store[expression.word]
+    return computed_value(expression, [stated(part, store) for part in parts_of(expression)])
 
 
 # ---------------------------------------------------------------- types and static values
 
-COMPUTED = {
-    '+': lambda a, b: a + b, '-': lambda a, b: a - b,
-    '=': lambda a, b: a == b, '/=': lambda a, b: a != b,
-    '<': lambda a, b: a < b, '<=': lambda a, b: a <= b,
-    '>': lambda a, b: a > b, '>=': lambda a, b: a >= b,
-    'and': lambda a, b: a and b,
-}
-
-
-def type_of(expression):
-    """A comparison is Boolean; a number is universal, and a sum of such alone; all else is Integer."""
-    if isinstance(expression, Parenthesized):
-        return type_of(expression.inner)
-    if isinstance(expression, (Operation, Signed)):
-        if is_comparison(expression):
-            return 'Boolean'
-        return 'universal' if {type_of(part) for part in parts_of(expression)} == {'universal'} else 'Integer'
-    return 'universal' if isinstance(expression, Static) and expression.universal else 'Integer'
-
-
-def is_comparison(expression):
-    """Whether the expression is a relation, which stands in no parentheses."""
-    return isinstance(expression, Operation) and expression.operator in RELATIONS
-
-
-def static_value(expression):
-    """The exact value of a number, of an attribute, or of what is static in parentheses and operations; else none."""
-    if isinstance(expression, Static):
-        return expression.value
-    if isinstance(expression, Parenthesized):
-        return static_value(expression.inner)
-    values = [static_value(part) for part in parts_of(expression)]
-    if not values or not all(is_number(value) for value in values):
-        return None
-    if isinstance(expression, Signed):
-        return -values[0] if expression.sign == '-' else values[0]
-    return COMPUTED[expression.operator](*values)
-
-
-def is_number(value):
-    """Whether a static value is there and is a number."""
-    return value is not None and not isinstance(value, bool)
+INTEGER = Subtype('integer', 'Integer', INTEGER_FIRST, INTEGER_LAST)
+TYPES = {subtype.word: subtype for subtype in (
+    INTEGER, Subtype('natural', 'Integer', 0, INTEGER_LAST), Subtype('positive', 'Integer', 1, INTEGER_LAST),
+    Subtype('boolean', 'Boolean'))}
+TRUTHS = {'true': True, 'false': False}
 
 
 def meets_integer(expression):
     """N12: a universal value lies in Integer where it meets it."""
-    return type_of(expression) != 'universal' or in_integer(static_value(expression))
+    require('N12', expression.place, expression.kind != 'universal' or in_integer(expression.value))
 
 
-def operands_fit(expression):
-    """N10: no operand is Boolean. N12: a universal one beside an Integer, and then the value, lies in its type."""
-    operands = parts_of(expression)
-    kinds = {type_of(operand) for operand in operands}
-    require('N10', expression.place, 'Boolean' not in kinds)
-    for operand in operands:
-        require('N12', operand.place, kinds == {'universal'} or meets_integer(operand))
-    require('N12', expression.place, value_lies(expression))
-    return expression
+def meet_each_other(operands):
+    """N12: where one of the operands is an Integer, each universal one lies in it."""
+    if any(operand.kind == 'Integer' for operand in operands):
+        for operand in operands:
+            meets_integer(operand)
 
 
-def value_lies(expression):
-    """Whether the value of a static sum has at most 128 bits where it is universal, and else lies in Integer."""
-    value = static_value(expression)
-    lies = fits if type_of(expression) == 'universal' else in_integer
-    return not is_number(value) or lies(value)
+def kind_of_operation(tree):
+    """N10: the operands fit the operator. N12: a universal operand beside an Integer lies in it. The kind of the result."""
+    operands, kinds = parts_of(tree), {part.kind for part in parts_of(tree)}
+    if tree.operator.split()[0] in LOGICAL:
+        require('N10', tree.place, kinds == {'Boolean'})
+        return 'Boolean'
+    is_equality = tree.operator in ('=', '/=')
+    require('N10', tree.place, 'Boolean' not in kinds or (is_equality and kinds == {'Boolean'}))
+    if tree.operator == '**':
+        return kind_of_power(tree)
+    meet_each_other(operands)
+    if tree.operator in RELATIONS:
+        return 'Boolean'
+    return 'universal' if kinds == {'universal'} else 'Integer'
+
+
+def kind_of_power(tree):
+    """N12: a universal operand is an Integer where the exponent is not static, and a universal exponent always is one."""
+    is_static = tree.right.value is not None
+    if not is_static:
+        meets_integer(tree.left)
+    meets_integer(tree.right)
+    return tree.left.kind if is_static else 'Integer'
+
+
+def kind_of_prefix(tree):
+    """N10: the operand fits the operator. The kind of the result is that of the operand."""
+    require('N10', tree.place, (tree.operand.kind == 'Boolean') == (tree.operator == 'not'))
+    return tree.operand.kind
+
+
+def kind_of_membership(tree):
+    """N10: all operands are numbers. N12: a universal one that meets Integer lies in it."""
+    operands = parts_of(tree)
+    require('N10', tree.place, all(operand.kind != 'Boolean' for operand in operands))
+    if tree.type_mark:
+        meets_integer(tree.tested)
+    meet_each_other(operands)
+    return 'Boolean'
+
+
+KINDS = {Operation: kind_of_operation, Prefix: kind_of_prefix, Membership: kind_of_membership,
+         Parenthesized: lambda tree: tree.inner.kind}
+
+
+def judged(tree):
+    """The expression with its kind, and with its value where it is static; all that is known of its parts.
+
+    N12: an operation on static operands fails no check; its value has at most 128 bits where it is universal, and else lies
+    in Integer.
+    """
+    kind = KINDS[type(tree)](tree)
+    values = [part.value for part in parts_of(tree)]
+    if any(value is None for value in values):
+        return replace(tree, kind=kind)
+    if isinstance(tree, Operation):
+        require('N12', tree.place, tree.operator not in DIVISIONS or values[1] != 0)
+        require('N12', tree.place, tree.operator != '**' or values[1] >= 0)
+    value = computed_value(tree, values)
+    lies = fits if kind == 'universal' else in_integer
+    require('N12', tree.place, kind == 'Boolean' or lies(value))
+    return replace(tree, kind=kind, value=value)
 
 
 # ---------------------------------------------------------------- the walk of names and types
@@ -764,6 +983,7 @@ class Resolver:
         self.formals = []
         self.locals = []
         self.spelled = {}
+        self.subtypes = {}
         self.hidden = set()
         self.around = None
 
@@ -778,14 +998,14 @@ class Resolver:
         statements = self.statements(self.tree.statements)
         self.end_name()
         return replace(self.tree, formals=self.formals, derives=derives, pre=pre, locals=self.locals,
-                       statements=statements, spelled=self.spelled)
+                       statements=statements, spelled=self.spelled, subtypes=self.subtypes)
 
     def param(self, param):
         """A type mark sees the formals before it. Its own ones, and the procedure, are hidden there."""
         for name in param.names:
             self.declare(name)
-            self.formals.append(Formal(name.word(), param.mode))
         self.type_mark(param, self.tree.name.word())
+        self.formals += [Formal(name.word(), param.mode, self.subtypes[name.word()]) for name in param.names]
 
     def declaration(self, declaration):
         """A type mark sees the procedure, the formals and the locals before it. Its own ones are hidden there."""
@@ -797,11 +1017,13 @@ class Resolver:
     def type_mark(self, declaration, around=None):
         """The type mark of a declaration, whose names are hidden in it; and so is the procedure, `around` it."""
         self.hidden, self.around = {name.word() for name in declaration.names}, around
-        self.need(declaration.type_mark, 'type')
+        subtype = self.subtype(declaration.type_mark)
         self.hidden, self.around = set(), None
+        for name in declaration.names:
+            self.subtypes[name.word()] = subtype
 
     def declare(self, name):
-        """N2: no two formals and locals are the same word, and none is named Integer."""
+        """N2: no two formals and locals are the same word, and none is named as what is declared everywhere."""
         require('N2', name.place, not is_everywhere(name) and name.word() not in self.spelled)
         self.spelled[name.word()] = name.text
 
@@ -813,7 +1035,9 @@ class Resolver:
             return 'variable'
         if name.word() == self.tree.name.word():
             return None if name.word() == self.around else 'subprogram'
-        return 'type' if is_everywhere(name) else None
+        if name.word() in TYPES:
+            return 'type'
+        return 'truth' if name.word() in TRUTHS else None
 
     def must_denote(self, name, entity, is_fit=True):
         """N1: the name denotes something. N3: it is what its place asks for."""
@@ -828,7 +1052,12 @@ class Resolver:
     def variable(self, name):
         """N3: operands, targets and `derives` name variables."""
         self.need(name, 'variable')
-        return Variable(name.word(), name.place)
+        return Variable(name.word(), name.place, self.subtypes[name.word()].kind)
+
+    def subtype(self, name):
+        """N3: what a type is needed of names one."""
+        self.need(name, 'type')
+        return TYPES[name.word()]
 
     def derives(self, tree):
         """The annotation over what its names denote."""
@@ -843,7 +1072,7 @@ class Resolver:
     def condition(self, tree):
         """N10: a precondition, and the condition of an `if`, is Boolean."""
         found = self.expression(tree)
-        require('N10', found.place, type_of(found) == 'Boolean')
+        require('N10', found.place, found.kind == 'Boolean')
         return found
 
     def statements(self, trees):
@@ -856,33 +1085,52 @@ class Resolver:
         return Arm(tree.place, condition, self.statements(tree.statements))
 
     def statement(self, tree):
-        """N10: a right side is no Boolean. N12: it lies in Integer where it is universal."""
+        """N10: a right side is Boolean where its target is, and else is not. N12: it lies in Integer where it is universal."""
         if isinstance(tree, Null):
             return tree
         if isinstance(tree, If):
             return If([self.arm(arm) for arm in tree.arms], self.statements(tree.otherwise))
         target, value = self.variable(tree.target), self.expression(tree.value)
-        require('N10', value.place, type_of(value) != 'Boolean')
-        require('N12', value.place, meets_integer(value))
+        require('N10', value.place, (value.kind == 'Boolean') == (target.kind == 'Boolean'))
+        meets_integer(value)
         return Assignment(target, value)
 
     def expression(self, tree):
-        """An expression over what its names denote. What an operator or a sign holds comes before it."""
+        """An expression over what its names denote. What an operator holds comes before it."""
         if isinstance(tree, Operation):
-            return operands_fit(replace(tree, left=self.expression(tree.left), right=self.expression(tree.right)))
-        if isinstance(tree, Signed):
-            return operands_fit(replace(tree, operand=self.expression(tree.operand)))
+            return judged(replace(tree, left=self.expression(tree.left), right=self.expression(tree.right)))
+        if isinstance(tree, Prefix):
+            return judged(replace(tree, operand=self.expression(tree.operand)))
+        if isinstance(tree, Membership):
+            return judged(self.membership(tree))
         if isinstance(tree, Parenthesized):
-            return replace(tree, inner=self.expression(tree.inner))
+            return judged(replace(tree, inner=self.expression(tree.inner)))
         if isinstance(tree, Attribute):
             return self.attribute(tree)
-        return self.variable(tree) if isinstance(tree, Name) else tree
+        return self.name(tree) if isinstance(tree, Name) else tree
+
+    def name(self, tree):
+        """A truth value, or a variable."""
+        if self.denoted(tree) == 'truth':
+            return Static(TRUTHS[tree.word()], 'Boolean', tree.place)
+        return self.variable(tree)
+
+    def membership(self, tree):
+        """A membership test over what its names denote. N10: its type is not Boolean."""
+        tested = self.expression(tree.tested)
+        if not tree.type_mark:
+            return replace(tree, tested=tested, low=self.expression(tree.low), high=self.expression(tree.high))
+        subtype = self.subtype(tree.type_mark)
+        require('N10', tree.type_mark.place, subtype.kind != 'Boolean')
+        return replace(tree, tested=tested, type_mark=subtype)
 
     def attribute(self, tree):
-        """N3: a type is named before `'`, and `First` or `Last` comes after it."""
-        values = {'first': INTEGER_FIRST, 'last': INTEGER_LAST}
-        self.must_denote(tree.prefix, 'type', tree.designator.word() in values)
-        return Static(values[tree.designator.word()], False, tree.prefix.place)
+        """N3: a type of numbers is named before `'`, and `First` or `Last` comes after it."""
+        prefix, designator = tree.prefix, tree.designator.word()
+        subtype = TYPES.get(prefix.word())
+        has_bounds = subtype is not None and subtype.kind == 'Integer'
+        self.must_denote(prefix, 'type', has_bounds and designator in ('first', 'last'))
+        return Static(subtype.first if designator == 'first' else subtype.last, 'Integer', prefix.place)
 
     def end_name(self):
         """N5: the name after `end`, if there is one, is the procedure's."""
@@ -893,11 +1141,11 @@ class Resolver:
 
 def is_everywhere(name):
     """Whether a name is declared everywhere."""
-    return name.word() == 'integer'
+    return name.word() in TYPES or name.word() in TRUTHS
 
 
 def resolved(trees):
-    """The procedures with what their names denote. N2: no two have the same name, and none is named Integer."""
+    """The procedures with what their names denote. N2: no two have the same name, nor that of what is declared everywhere."""
     words = [tree.name.word() for tree in trees]
     for at, tree in enumerate(trees):
         require('N2', tree.name.place, not is_everywhere(tree.name) and words[at] not in words[:at])
@@ -920,14 +1168,16 @@ def assignments(statements):
 class Relation:
     """What `derives` declares: the exports as they stand, which export is derived from which import, the imports.
 
-    In an item each export is derived from each named import, and with `*` from itself as well.
+    In an item each export is derived from each named import, and with `*` from itself as well. The names of `null from` are
+    imports from which no export is derived.
     """
 
     def __init__(self, items):
         self.exports = [export for item in items for export in item.exports]
         self.exported = {export.word for export in self.exports}
         self.pairs = {pair for item in items for pair in pairs_of(item)}
-        self.imported = {source for source, _ in self.pairs}
+        self.ignored = [name for item in items if not item.exports for name in item.imports]
+        self.imported = {source for source, _ in self.pairs} | words_of(self.ignored)
 
     def place(self, export):
         """Where the relation has an export first."""
@@ -946,12 +1196,13 @@ def stand_twice(names):
 
 
 def u7(procedure, relation):
-    """U7: no variable is an export twice, no pair stands twice, and each formal is in the relation.
+    """U7: no variable is an export twice, no pair stands twice, none of `null from` does, and each formal is in the relation.
 
     It stands at the word `derives`, or at the word `procedure` where there is none.
     """
     place = procedure.derives.place if procedure.derives else procedure.place
     require('U7', place, not stand_twice(relation.exports))
+    require('U7', place, not stand_twice(relation.ignored))
     for item in procedure.items():
         require('U7', place, not stand_twice(item.imports))
         require('U7', place, not item.star or not words_of(item.exports) & words_of(item.imports))
@@ -1133,19 +1384,15 @@ class TruthTerm:
 
 @dataclass(frozen=True, eq=False)
 class EntryTerm:
-    """The value of a variable on entry, also of one that has none."""
+    """The value of a variable on entry, also of one that has none: a truth value, or a number."""
     word: str
+    kind: str
 
 
 @dataclass(frozen=True, eq=False)
-class MinusTerm:
-    """`- operand`, over a term."""
-    operand: object
-
-
-@dataclass(frozen=True, eq=False)
-class NotTerm:
-    """`not operand`, over a term."""
+class PrefixTerm:
+    """`operator operand`, over a term: a minus, `abs` or `not`."""
+    operator: str
     operand: object
 
 
@@ -1158,12 +1405,20 @@ class InfixTerm:
 
 
 number, truth, entry = cache(NumberTerm), cache(TruthTerm), cache(EntryTerm)
-minus, negation, infix = cache(MinusTerm), cache(NotTerm), cache(InfixTerm)
+prefix, infix = cache(PrefixTerm), cache(InfixTerm)
+
+
+@dataclass(frozen=True)
+class Check:
+    """What must hold at a place: each of its goals."""
+    kind: str
+    place: Place
+    goals: tuple
 
 
 @dataclass(frozen=True)
 class Condition:
-    """Where all hypotheses hold, all goals do."""
+    """Where all hypotheses hold, all goals of a check do."""
     number: int
     kind: str
     place: Place
@@ -1173,7 +1428,29 @@ class Condition:
 
 def literal(value):
     """The term that is this value."""
-    return truth(value) if isinstance(value, bool) else number(value)
+    return number(value) if is_number(value) else truth(value)
+
+
+def negation(term):
+    """`not`, over a term."""
+    return prefix('not', term)
+
+
+def conjunction(terms):
+    """The terms as one, joined by `and`."""
+    first, *rest = terms
+    return infix('and', first, conjunction(rest)) if rest else first
+
+
+def conjuncts(term):
+    """The terms that `and` joins to this one, from left to right."""
+    if isinstance(term, InfixTerm) and term.operator == 'and':
+        return conjuncts(term.left) + conjuncts(term.right)
+    return (term,)
+
+
+# What operators of expressions are in terms, where they are not themselves.
+IN_TERMS = {'xor': '/=', 'and then': 'and', 'or else': 'or'}
 
 
 def term_of(expression, values):
@@ -1181,25 +1458,46 @@ def term_of(expression, values):
 
     There are no parentheses and no sign `+` in terms.
     """
-    value = static_value(expression)
-    if value is not None:
-        return literal(value)
+    if expression.value is not None:
+        return literal(expression.value)
     if isinstance(expression, Variable):
         return values[expression.word]
     parts = [term_of(part, values) for part in parts_of(expression)]
     if isinstance(expression, Operation):
-        return infix(expression.operator, *parts)
-    return minus(*parts) if is_minus(expression) else parts[0]
+        return infix(IN_TERMS.get(expression.operator, expression.operator), *parts)
+    if isinstance(expression, Membership):
+        return membership_term(expression, *parts)
+    is_kept = isinstance(expression, Prefix) and expression.operator != '+'
+    return prefix(expression.operator, *parts) if is_kept else parts[0]
 
 
-def is_minus(expression):
-    """Whether the expression is an operand after a minus."""
-    return isinstance(expression, Signed) and expression.sign == '-'
+def facts_of(condition, values):
+    """The facts of a condition: what `and` joins in its text. A variable is one fact, whatever stands for it."""
+    if condition.value is None:
+        if isinstance(condition, Parenthesized):
+            return facts_of(*parts_of(condition), values)
+        if isinstance(condition, Operation) and condition.operator in ('and', 'and then'):
+            return sum((facts_of(part, values) for part in parts_of(condition)), ())
+        if isinstance(condition, Membership):
+            return conjuncts(term_of(condition, values))
+    return (term_of(condition, values),)
 
 
-def integer_facts(term):
-    """The term lies in Integer."""
-    return (infix('>=', term, number(INTEGER_FIRST)), infix('<=', term, number(INTEGER_LAST)))
+def membership_term(expression, tested, *bounds):
+    """Two comparisons of the tested term, with the bounds or with those of the type."""
+    low, high = bounds or (number(expression.type_mark.first), number(expression.type_mark.last))
+    found = conjunction(between(tested, low, high))
+    return found if expression.is_in else negation(found)
+
+
+def between(term, low, high):
+    """The term lies between two others."""
+    return (infix('>=', term, low), infix('<=', term, high))
+
+
+def bounds_of(subtype, term):
+    """The term lies in a type, which says nothing of a truth value."""
+    return between(term, number(subtype.first), number(subtype.last)) if subtype.kind == 'Integer' else ()
 
 
 def with_facts(facts, more):
@@ -1209,50 +1507,70 @@ def with_facts(facts, more):
 
 def entry_values(procedure):
     """At the start each variable stands for its value on entry."""
-    return {word: entry(word) for word in procedure.words()}
+    return {word: entry(word, procedure.subtypes[word].kind) for word in procedure.words()}
 
 
 def first_facts(procedure):
-    """Each import lies in Integer, in the order of the formals; then the precondition holds."""
+    """Each import lies in its type, in the order of the formals; then each part of the precondition holds."""
     imported, values = Relation(procedure.items()).imported, entry_values(procedure)
     facts = ()
     for formal in procedure.formals:
         if formal.word in imported:
-            facts = with_facts(facts, integer_facts(values[formal.word]))
-    return with_facts(facts, (term_of(procedure.pre, values),)) if procedure.pre else facts
+            facts = with_facts(facts, bounds_of(formal.subtype, values[formal.word]))
+    return with_facts(facts, facts_of(procedure.pre, values)) if procedure.pre else facts
 
 
-def overflow_checks(expression):
-    """The sums and minuses in an expression that are not static, in the order in which they are evaluated."""
-    if static_value(expression) is not None:
+def checks_of(expression, values):
+    """The checks of an expression, in the order in which it is evaluated. What is static has none."""
+    if expression.value is not None:
         return []
-    found = [checked for part in parts_of(expression) for checked in overflow_checks(part)]
-    is_sum = isinstance(expression, Operation) and not is_comparison(expression)
-    return found + [expression] if is_sum or is_minus(expression) else found
+    found = [checks_of(part, values) for part in parts_of(expression)]
+    if isinstance(expression, Operation) and expression.operator in SHORT_CIRCUIT:
+        left = term_of(expression.left, values)
+        needed = left if expression.operator == 'and then' else negation(left)
+        found[1] = [guarded(needed, check) for check in found[1]]
+    return sum(found, []) + own_checks(expression, values)
 
 
-def checks_of(statement):
-    """The checks of an assignment, each with the expression that it is on: `overflow`, and then `range`."""
-    return overflows(statement.value) + [('range', statement.value)]
+def guarded(needed, check):
+    """A check that is made only where the left side of a short-circuit form needs its right side."""
+    return replace(check, goals=(infix('->', needed, conjunction(check.goals)),))
 
 
-def overflows(expression):
-    """The checks of an expression."""
-    return [('overflow', part) for part in overflow_checks(expression)]
+def own_checks(expression, values):
+    """The checks of an operation itself: of its divisor, of its exponent, and then of its result."""
+    operator = expression.operator if isinstance(expression, (Operation, Prefix)) else None
+    found = []
+    if operator in DIVISIONS:
+        divisor = term_of(expression.right, values)
+        found.append(Check('division', expression.place, (infix('/=', divisor, number(0)),)))
+    if operator == '**':
+        exponent = term_of(expression.right, values)
+        found.append(Check('range', expression.right.place, (infix('>=', exponent, number(0)),)))
+    is_sign = isinstance(expression, Prefix) and operator in ('-', 'abs')
+    if is_sign or (isinstance(expression, Operation) and operator in ('+', '-', '*', '/', '**')):
+        found.append(Check('overflow', expression.place, bounds_of(INTEGER, term_of(expression, values))))
+    return found
+
+
+def checks_of_assignment(subtype, value, values):
+    """The checks of the right side, and that it lies in the type of the target, which a truth value always does."""
+    goals = bounds_of(subtype, term_of(value, values))
+    return checks_of(value, values) + ([Check('range', value.place, goals)] if goals else [])
 
 
 class Walk:
     """Goes along all paths of a procedure, and collects what there is to show, once for all paths that begin alike."""
 
-    def __init__(self):
+    def __init__(self, subtypes):
+        self.subtypes = subtypes
         self.found = []
 
-    def show(self, checks, facts, values):
+    def show(self, checks, facts):
         """A condition for each check. What was shown is a fact from there on."""
-        for kind, checked in checks:
-            goals = integer_facts(term_of(checked, values))
-            self.found.append(Condition(len(self.found) + 1, kind, checked.place, facts, goals))
-            facts = with_facts(facts, goals)
+        for check in checks:
+            self.found.append(Condition(len(self.found) + 1, check.kind, check.place, facts, check.goals))
+            facts = with_facts(facts, check.goals)
         return facts
 
     def go(self, statements, facts, values):
@@ -1262,22 +1580,23 @@ class Walk:
                 self.part(statement, statements[at + 1:], facts, values)
                 return
             if isinstance(statement, Assignment):
-                facts = self.show(checks_of(statement), facts, values)
-                values = {**values, statement.target.word: term_of(statement.value, values)}
+                word, value = statement.target.word, statement.value
+                facts = self.show(checks_of_assignment(self.subtypes[word], value, values), facts)
+                values = {**values, word: term_of(value, values)}
 
     def part(self, tree, rest, facts, values):
         """Each branch, and after it the rest: an arm where its condition holds and those before it do not."""
         for arm in tree.arms:
-            facts = self.show(overflows(arm.condition), facts, values)
+            facts = self.show(checks_of(arm.condition, values), facts)
             condition = term_of(arm.condition, values)
-            self.go(arm.statements + rest, with_facts(facts, (condition,)), values)
+            self.go(arm.statements + rest, with_facts(facts, facts_of(arm.condition, values)), values)
             facts = with_facts(facts, (negation(condition),))
         self.go(tree.otherwise + rest, facts, values)
 
 
 def conditions_of(procedure):
     """What there is to show along the paths of a procedure, in the order of the walk."""
-    walk = Walk()
+    walk = Walk(procedure.subtypes)
     walk.go(procedure.statements, first_facts(procedure), entry_values(procedure))
     return walk.found
 
@@ -1300,7 +1619,7 @@ def require_few_paths(procedure):
 @cache
 def size_of(term):
     """The nodes of a term, where one that stands twice counts twice. Each term is counted once."""
-    if isinstance(term, (MinusTerm, NotTerm)):
+    if isinstance(term, PrefixTerm):
         return size_of(term.operand) + 1
     if isinstance(term, InfixTerm):
         return size_of(term.left) + size_of(term.right) + 1
@@ -1326,25 +1645,19 @@ MIRRORED = {'<': '>', '<=': '>=', '>': '<', '>=': '<='}
 
 @cache
 def folded(term):
-    """Operations on literals are computed, neutral ones dropped, comparisons of a term with itself decided."""
-    if isinstance(term, MinusTerm):
-        return folded_minus(folded(term.operand))
-    if isinstance(term, NotTerm):
-        return folded_not(folded(term.operand))
+    """Operations on literals are computed, neutral operands dropped, comparisons of a term with itself decided."""
+    if isinstance(term, PrefixTerm):
+        return folded_prefix(term.operator, folded(term.operand))
     if not isinstance(term, InfixTerm):
         return term
-    left, right = folded(term.left), folded(term.right)
+    operator, left, right = term.operator, folded(term.left), folded(term.right)
+    if operator in OF_TRUTHS:
+        return OF_TRUTHS[operator](left, right)
     if is_literal(left) and is_literal(right):
-        return computed(term.operator, left, right)
-    if left is right and term.operator in RELATIONS:
-        return truth(term.operator in ('=', '<=', '>='))
-    if term.operator == 'and':
-        return folded_and(left, right)
-    if right is number(0) and term.operator in ('+', '-'):
-        return left
-    if left is number(0) and term.operator == '+':
-        return right
-    return infix(term.operator, left, right)
+        return computed(operator, left, right)
+    if left is right and operator in RELATIONS:
+        return truth(operator in ('=', '<=', '>='))
+    return folded_of_numbers(operator, left, right)
 
 
 def is_literal(term):
@@ -1352,25 +1665,53 @@ def is_literal(term):
     return isinstance(term, (NumberTerm, TruthTerm))
 
 
+def is_of_numbers(comparison):
+    """Whether a comparison is one of numbers."""
+    left = comparison.left
+    if isinstance(left, EntryTerm):
+        return left.kind == 'Integer'
+    if isinstance(left, PrefixTerm):
+        return left.operator != 'not'
+    is_logical = isinstance(left, InfixTerm) and (left.operator in RELATIONS or left.operator in OF_TRUTHS)
+    return not is_logical and not isinstance(left, TruthTerm)
+
+
 def computed(operator, left, right):
     """The literal of an operation on literals, where it has at most 128 bits."""
     value = COMPUTED[operator](left.value, right.value)
-    return literal(value) if isinstance(value, bool) or fits(value) else infix(operator, left, right)
+    return literal(value) if not is_number(value) or fits(value) else infix(operator, left, right)
 
 
-def folded_minus(operand):
-    """The literal of a minus before a literal, where it has at most 128 bits."""
-    fitting = isinstance(operand, NumberTerm) and fits(-operand.value)
-    return number(-operand.value) if fitting else minus(operand)
+def folded_of_numbers(operator, left, right):
+    """0 is dropped from sums and 1 from products; a product with 0 is 0."""
+    zero, one = number(0), number(1)
+    if operator == '*' and zero in (left, right):
+        return zero
+    if (operator, right) in (('+', zero), ('-', zero), ('*', one)):
+        return left
+    if (operator, left) in (('+', zero), ('*', one)):
+        return right
+    return infix(operator, left, right)
+
+
+def folded_prefix(operator, operand):
+    """A minus, `abs` or `not`, over a folded term. The literal has at most 128 bits."""
+    if operator == 'not':
+        return folded_not(operand)
+    if isinstance(operand, NumberTerm):
+        value = COMPUTED_OF_ONE[operator](operand.value)
+        if fits(value):
+            return number(value)
+    return prefix(operator, operand)
 
 
 def folded_not(operand):
-    """`not` of a literal is computed, of a comparison it is the opposite one, and of another `not` what that is of."""
+    """`not` of a literal is computed, of a comparison of numbers it is the opposite one, of another `not` what that is of."""
     if isinstance(operand, TruthTerm):
         return truth(not operand.value)
-    if isinstance(operand, NotTerm):
+    if isinstance(operand, PrefixTerm) and operand.operator == 'not':
         return operand.operand
-    if isinstance(operand, InfixTerm) and operand.operator in OPPOSITE:
+    if isinstance(operand, InfixTerm) and operand.operator in OPPOSITE and is_of_numbers(operand):
         return infix(OPPOSITE[operand.operator], operand.left, operand.right)
     return negation(operand)
 
@@ -1384,6 +1725,27 @@ def folded_and(left, right):
     return left if right is truth(True) else infix('and', left, right)
 
 
+def folded_or(left, right):
+    """`or false` is dropped, `or true` is true, and so is `p or (not p)`."""
+    if truth(True) in (left, right) or right is negation(left):
+        return truth(True)
+    if left is truth(False):
+        return right
+    return left if right is truth(False) else infix('or', left, right)
+
+
+def folded_implication(left, right):
+    """`true -> p` is p, `false -> p` and `p -> true` are true, and `p -> false` is `not p`."""
+    if left is truth(True):
+        return right
+    if left is truth(False) or right is truth(True):
+        return truth(True)
+    return folded_not(left) if right is truth(False) else infix('->', left, right)
+
+
+OF_TRUTHS = {'and': folded_and, 'or': folded_or, '->': folded_implication}
+
+
 @dataclass(frozen=True)
 class Interval:
     """Its ends are none where it has no bound."""
@@ -1391,12 +1753,14 @@ class Interval:
     high: Optional[int] = None
 
 
-def end_of(operator, left, right):
+def end(number):
     """An end that would pass 128 bits is none."""
-    if left is None or right is None:
-        return None
-    end = COMPUTED[operator](left, right)
-    return end if fits(end) else None
+    return number if number is not None and fits(number) else None
+
+
+def end_of(operator, left, right):
+    """The sum or difference of two ends, if both are there."""
+    return None if left is None or right is None else end(COMPUTED[operator](left, right))
 
 
 def meet(first, second):
@@ -1416,14 +1780,59 @@ def difference(left, right):
     return Interval(end_of('-', left.low, right.high), end_of('-', left.high, right.low))
 
 
+def is_bounded(interval):
+    """Whether both ends are there."""
+    return interval.low is not None and interval.high is not None
+
+
+def product_of(left, right):
+    """From the least to the greatest product of two ends, where all four are there."""
+    if not (is_bounded(left) and is_bounded(right)):
+        return Interval()
+    products = [first * second for first in (left.low, left.high) for second in (right.low, right.high)]
+    return Interval(end(min(products)), end(max(products)))
+
+
+def absolute_of(operand):
+    """At least 0, the low end, and the high end with the other sign; at most the greatest distance from 0 of an end."""
+    low, high = operand.low, operand.high
+    lows = [0, low, None if high is None else end(-high)]
+    return Interval(max(low for low in lows if low is not None), end(max(-low, high)) if is_bounded(operand) else None)
+
+
+def quotient_of(left, _):
+    """No further from 0 than the dividend."""
+    if not is_bounded(left):
+        return Interval()
+    most = max(abs(left.low), abs(left.high))
+    return Interval(end(-most), end(most))
+
+
+def remainder_of(left, right):
+    """Between 0 and the dividend; of a literal divisor that is not 0, nearer to 0 than that."""
+    low = None if left.low is None else min(0, left.low)
+    high = None if left.high is None else max(0, left.high)
+    return Interval(low, high)
+
+
+def modulus_of(_, right):
+    """Between 0 and the divisor, and nearer to 0 than that."""
+    low = None if right.low is None else min(0, right.low + 1)
+    high = None if right.high is None else max(0, right.high - 1)
+    return Interval(low, high)
+
+
+INTERVALS = {'+': sum_of, '-': difference, '*': product_of, '/': quotient_of, 'rem': remainder_of, 'mod': modulus_of}
+
+
 def allowed(operator, number):
     """The numbers x with `x operator number`; `/=` sets no bound."""
     if operator == '=':
         return Interval(number, number)
     if operator in ('<', '<='):
-        return Interval(high=end_of('-', number, 1) if operator == '<' else number)
+        return Interval(high=end(number - 1) if operator == '<' else number)
     if operator in ('>', '>='):
-        return Interval(low=end_of('+', number, 1) if operator == '>' else number)
+        return Interval(low=end(number + 1) if operator == '>' else number)
     return Interval()
 
 
@@ -1437,30 +1846,37 @@ def bounds(hypothesis):
             yield right, allowed(MIRRORED.get(operator, operator), left.value)
 
 
-def all_bounds(hypotheses):
-    """What the hypotheses say together of each term that one of them compares with a literal."""
-    found = {}
-    for hypothesis in hypotheses:
-        for term, interval in bounds(hypothesis):
-            found[term] = meet(found.get(term, Interval()), interval)
-    return found
+class Known:
+    """Hypotheses, with what they say together of each term that one of them compares with a literal."""
 
+    def __init__(self, hypotheses):
+        self.hypotheses = hypotheses
+        self.bounds = {}
+        self.found = {}
+        for hypothesis in hypotheses:
+            for term, interval in bounds(hypothesis):
+                self.bounds[term] = meet(self.bounds.get(term, Interval()), interval)
 
-def structural(term, known):
-    """A number is itself, a sum or a difference has that of its operands, `-X` that of `0 - X`; else unbounded."""
-    if isinstance(term, NumberTerm):
-        return Interval(term.value, term.value)
-    if isinstance(term, MinusTerm):
-        return difference(Interval(0, 0), interval_of(term.operand, known))
-    if isinstance(term, InfixTerm) and term.operator in ('+', '-'):
-        left, right = interval_of(term.left, known), interval_of(term.right, known)
-        return sum_of(left, right) if term.operator == '+' else difference(left, right)
-    return Interval()
+    def interval(self, term):
+        """The interval of a term, narrowed by what is known of it. Each term is looked at once."""
+        if term not in self.found:
+            self.found[term] = meet(self.structural(term), self.bounds.get(term, Interval()))
+        return self.found[term]
 
-
-def interval_of(term, known):
-    """The interval of a term, narrowed by what is known of it."""
-    return meet(structural(term, known), known.get(term, Interval()))
+    def structural(self, term):
+        """A number is itself, an operation has what those of its operands give, and all else is unbounded."""
+        if isinstance(term, NumberTerm):
+            return Interval(term.value, term.value)
+        if isinstance(term, PrefixTerm) and term.operator != 'not':
+            operand = self.interval(term.operand)
+            return absolute_of(operand) if term.operator == 'abs' else difference(Interval(0, 0), operand)
+        if not isinstance(term, InfixTerm) or term.operator not in INTERVALS:
+            return Interval()
+        found = INTERVALS[term.operator](self.interval(term.left), self.interval(term.right))
+        if term.operator == 'rem' and isinstance(term.right, NumberTerm) and term.right.value != 0:
+            most = abs(term.right.value) - 1
+            found = meet(found, Interval(-most, most))
+        return found
 
 
 def below(first, second, operator='<'):
@@ -1479,28 +1895,30 @@ def settled(operator, first, second):
     return operator == '/=' and (below(first.high, second.low) or below(second.high, first.low))
 
 
-def is_plain(goal, hypotheses, known):
-    """A goal is plain where it is true, a hypothesis, settled by intervals, or both parts of an `and` are plain."""
-    if goal is truth(True) or goal in hypotheses:
+def is_plain(goal, known):
+    """A goal is plain where it is true, a hypothesis, settled by intervals, or where enough of its parts are plain."""
+    if goal is truth(True) or goal in known.hypotheses:
         return True
     if not isinstance(goal, InfixTerm):
         return False
     if goal.operator == 'and':
-        return is_plain(goal.left, hypotheses, known) and is_plain(goal.right, hypotheses, known)
-    return settled(goal.operator, interval_of(goal.left, known), interval_of(goal.right, known))
+        return is_plain(goal.left, known) and is_plain(goal.right, known)
+    if goal.operator == 'or':
+        return is_plain(goal.left, known) or is_plain(goal.right, known)
+    if goal.operator == '->':
+        return closes_folded(goal.right, known.hypotheses + list(conjuncts(goal.left)))
+    return settled(goal.operator, known.interval(goal.left), known.interval(goal.right))
 
 
-def goal_of(goals):
-    """The goals as one, joined by `and`."""
-    first, *rest = goals
-    return infix('and', first, goal_of(rest)) if rest else first
+def closes_folded(goal, hypotheses):
+    """A hypothesis is false or the goal is plain."""
+    return truth(False) in hypotheses or is_plain(goal, Known(hypotheses))
 
 
 def closes(condition):
     """All terms being folded, a hypothesis is false or the goal is plain."""
     hypotheses = [folded(hypothesis) for hypothesis in condition.hypotheses]
-    goal = folded(goal_of(condition.goals))
-    return truth(False) in hypotheses or is_plain(goal, hypotheses, all_bounds(hypotheses))
+    return closes_folded(folded(conjunction(condition.goals)), hypotheses)
 
 
 # ---------------------------------------------------------------- the answer

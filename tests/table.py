@@ -10,6 +10,7 @@ examples of docs/report.md and docs/guide.md are cases too, each a file of examp
 """
 
 import argparse
+import re
 import sys
 from dataclasses import dataclass
 from itertools import combinations, product, takewhile
@@ -36,19 +37,41 @@ class Case:
 
 
 def examined(name, text, *rows):
-    """No rule is broken. A row has a procedure's name, the number of its conditions, and the numbers of those left.
+    """No rule is broken. A row has a procedure's name, the number of its conditions, and those that are left.
 
-    Each that is left is an overflow condition; they stand in order at the `@`s, which are taken out.
+    Each that is left is the number of an overflow condition, or a number with another kind; they stand in order at the `@`s,
+    which are taken out.
     """
     marks, spelled_out = marked_places(encoded(text))
-    left = [(title, number) for title, _, *numbers in rows for number in numbers]
+    left = [(title, *(found if isinstance(found, tuple) else (found, 'overflow')))
+            for title, _, *founds in rows for found in founds]
     assert len(marks) == len(left), name
-    lines = [f'{name}:{line}:{column}: V1 unproved: {title}.{number} overflow'
-             for (line, column), (title, number) in zip(marks, left)]
+    lines = [f'{name}:{line}:{column}: V1 unproved: {title}.{number} {kind}'
+             for (line, column), (title, number, kind) in zip(marks, left)]
     lines += [f'{title}: {total} conditions, {total - len(numbers)} simplified, 0 scripted, {len(numbers)} open'
               for title, total, *numbers in rows]
     lines.append(f'refused: {len(left)}' if left else 'accepted')
     return Case(name, spelled_out, '\n'.join(lines) + '\n', 1 if left else 0)
+
+
+# The kinds of conditions, by their first letters.
+KINDS = {'d': 'division', 'o': 'overflow', 'r': 'range'}
+LEFT = re.compile(r'<([0-9]+[dor](?:,[0-9]+[dor])*)>')
+
+
+def left_at(name, text, total, named='Inc'):
+    """So many conditions of one procedure. Those that are left stand in the text, in front of what they are on.
+
+    Each is a number and the first letter of its kind: `X := X <1d,2o>/ Y;` for a division and an overflow.
+    """
+    found = []
+    for match in LEFT.finditer(text):
+        before = LEFT.sub('', text[:match.start()])
+        line, column = before.count('\n') + 1, len(before) - before.rfind('\n')
+        found += [(int(each[:-1]), KINDS[each[-1]], line, column) for each in match.group(1).split(',')]
+    lines = [f'{name}:{line}:{column}: V1 unproved: {named}.{number} {kind}' for number, kind, line, column in sorted(found)]
+    row = f'{named}: {total} conditions, {total - len(found)} simplified, 0 scripted, {len(found)} open'
+    return reported(name, LEFT.sub('', text), *lines, row, f'refused: {len(found)}' if found else 'accepted')
 
 
 def marked_places(text):
@@ -306,7 +329,7 @@ TOKENS = (
     ('colon', ':', ';'),
     ('in', 'in', 'on'),
     ('out', 'out', 'access'),
-    ('type', 'Integer', 'Natural'),
+    ('type', 'Integer', 'Count'),
     ('closing_parenthesis', ')', ';'),
     (None, '\n--#', None),
     ('derives', 'derives', 'depends'),
@@ -330,7 +353,7 @@ TOKENS = (
     ('target', 'X', '1'),
     ('becomes', ':=', '='),
     ('left_operand', 'X', 'null'),
-    ('operator', '+', '*'),
+    ('operator', '+', '&'),
     ('right_operand', '1', '1.0'),
     ('semicolon_of_the_statement', ';', ':'),
     (None, '\n', None),
@@ -371,8 +394,8 @@ LOCAL_TOKENS = (
     *plain('; \n X :='),
     ('parenthesis_of_a_sum', '(', '<'),
     ('first_held_operand', 'T', '='),
-    ('held_operator', '+', '/'),
-    ('last_held_operand', '1', 'not'),
+    ('held_operator', '+', '|'),
+    ('last_held_operand', '1', 'or'),
     ('parenthesis_that_closes_a_sum', ')', '..'),
     ('operator_behind_parentheses', '-', '&'),
     *plain('1 ; \n end Neg ;'),
@@ -419,7 +442,7 @@ IF_TOKENS = (
     ('if', 'if', 'while'),
     ('left_of_a_condition', 'A', 'null'),
     ('relation_of_a_condition', '<', ':='),
-    ('right_of_a_condition', '0', 'not'),
+    ('right_of_a_condition', '0', 'or'),
     ('then', 'then', 'is'),
     ('target_in_an_arm', 'X', '1'),
     ('becomes_in_an_arm', ':=', '='),
@@ -462,7 +485,7 @@ MISSING = {'in': ('U8', 'import'), 'out': ('U8', 'export'), 'import': ('U8', 'ex
 DOUBLED = {'parenthesis_in_pre': 6, 'parenthesis': 3, 'parenthesis_of_a_sum': 7}
 # What a text is with another token instead: which token after it is unexpected, if not itself; or a finding, and the
 # token at which it stands. `on` is the type where `in` was, and another parameter may come after `;`.
-EXCHANGED = {'type': ('N1', 'type'), 'left_of_the_relation': ('N1', 'left_of_the_relation'), 'prefix': ('N3', 'prefix'),
+EXCHANGED = {'type': ('N1', 'type'), 'left_of_the_relation': ('N10', 'relation'), 'prefix': ('N3', 'prefix'),
              'designator': ('N3', 'prefix'), 'end_name': ('N5', 'end_name'), 'in': 1, 'closing_parenthesis': 1}
 SPOILED = {'opening_parenthesis': bad_byte, 'parenthesis': bad_byte, 'parenthesis_that_closes': bad_byte,
            'right_operand': bad_number}
@@ -752,7 +775,7 @@ def places():
                 yield unexpected(f'cut_behind_{label}.adb', ' '.join(token for _, token, _ in listed[:place + 1]) + '@')
     # what stands in front
     yield unexpected('tabs_in_front.adb', INC.replace('   X :=', '\t\tX\t@='))
-    yield unexpected('carriage_returns_in_front.adb', INC.replace('\n', '\r\n').replace('X +', 'X\r@*'))
+    yield unexpected('carriage_returns_in_front.adb', INC.replace('\n', '\r\n').replace('X +', 'X\r@&'))
     yield unexpected('lines_in_front.adb', '\n\v\n\f\n' + INC.replace('is\n', '@;\n'))
     yield bad_byte('bytes_in_front.adb', INC.replace('is\n', '-- é\nis -- é\n').replace('X +', 'X @é'))
     yield bad_number('tabs_before_a_number.adb', INC.replace(' + 1', '\t+\t@1__0'))
@@ -874,7 +897,7 @@ def layout():
     yield unexpected('parts_of_becomes.adb', INC.replace(':=', ': ='), at=(6, 6))
     yield unexpected('parts_of_less_or_equal.adb', procedure(pre='X < = 0'), at=(3, 13))
     yield unexpected('parts_of_greater_or_equal.adb', procedure('X - 1', pre='X > = 0'), at=(3, 13))
-    yield unexpected('parts_of_not_equal.adb', procedure('X', pre='X / = 0'), at=(3, 11))
+    yield unexpected('parts_of_not_equal.adb', procedure('X', pre='X / = 0'), at=(3, 13))
     yield unexpected('equal_before_less.adb', procedure(pre='X =< 0'), at=(3, 12))
     yield unexpected('arrow.adb', procedure('X - 1', pre='X => 0'), at=(3, 11))
     yield unexpected('box.adb', procedure('X', pre='X <> 0'), at=(3, 11))
@@ -1099,8 +1122,8 @@ def grammar():
     yield accepted('local_variable.adb', COPY.replace('is\n', 'is\n   Y : Integer;\n'), 1)
     yield refused('attribute_for_a_target.adb', procedure('X', target="@Integer'Last"), 'N3')
     yield unexpected('two_targets.adb', procedure('A', formals='A, B', target='A, B', derives='A, B from *'), at=(5, 5))
-    yield unexpected('product.adb', procedure('X * 2', pre='X = 0'), at=(6, 11))
-    yield unexpected('power.adb', procedure('X ** 2', pre='X = 0'), at=(6, 11))
+    yield accepted('product.adb', procedure('X * 2', pre='X = 0'))
+    yield examined('power.adb', procedure('X @** 2', pre='X = 0'), ('Inc', 3, 2))
     yield accepted('parentheses.adb', procedure('(X)'), 1)
     yield accepted('parentheses_around_a_number.adb', procedure('X + (1)', pre=BELOW))
     yield unexpected('no_expression.adb', procedure('', **OUT), at=(5, 9))
@@ -1108,11 +1131,11 @@ def grammar():
     yield unexpected('attribute_of_a_number.adb', procedure("1'First", **OUT), at=(5, 10))
     yield unexpected('reserved_word_for_an_attribute.adb', procedure("Integer'Range", **OUT), at=(5, 17))
     yield unexpected('apostrophe_alone.adb', procedure("Integer'", **OUT), at=(5, 17))
-    yield unexpected('pre_with_and.adb', procedure('X', pre='X < 5 and X > 0'), at=(3, 15))
-    yield unexpected('pre_with_not.adb', procedure('X', pre='not X = 0'), at=(3, 9))
+    yield accepted('pre_with_and.adb', procedure('X', pre='X < 5 and X > 0'), 1)
+    yield refused('pre_with_not.adb', procedure('X', pre='@not X = 0'), 'N10')
     yield unexpected('pre_with_implication.adb', procedure('X', pre='X = 0 -> X = 0'), at=(3, 15))
     yield accepted('pre_in_parentheses.adb', procedure('X', pre='(X < 5)'), 1)
-    yield refused('pre_with_true.adb', procedure('X', pre='@True'), 'N1')
+    yield accepted('pre_with_true.adb', procedure('X', pre='True'), 1)
     yield unexpected('pre_with_entry_value.adb', procedure('X', pre='X~ = 0'), at=(3, 10))
     yield unexpected('empty_pre.adb', procedure('X', pre=''), at=(3, 9))
     yield accepted('pre_with_minus_sign.adb', procedure('X - 1', pre='X > -5'))
@@ -1147,9 +1170,9 @@ def names():
     yield refused('undeclared_in_pre_left.adb', procedure('X', pre='@Y < 0'), 'N1')
     yield refused('undeclared_in_pre_right.adb', procedure('X', pre='0 < @Y'), 'N1')
     yield refused('undeclared_type.adb', procedure('X', type_mark='@Count'), 'N1')
-    yield refused('undeclared_natural.adb', procedure('X', type_mark='@Natural'), 'N1')
+    yield accepted('natural.adb', procedure('X', type_mark='Natural'), 1)
     yield refused('undeclared_prefix.adb', procedure('X', pre="X < @Count'Last"), 'N1')
-    yield refused('undeclared_true.adb', procedure('@True', **OUT), 'N1')
+    yield refused('true_for_an_integer.adb', procedure('@True', **OUT), 'N10')
     yield refused('formal_twice.adb', procedure('X', formals='X, @X'), 'N2')
     yield refused('formal_twice_in_two_cases.adb', procedure('X', formals='X, @x'), 'N2')
     yield refused('formal_twice_apart.adb',
@@ -1317,7 +1340,7 @@ def chains():
     yield unexpected('chain_with_an_operator_at_its_end.adb', procedure('X + 1 +', pre='X < 0'), at=(6, 16))
     yield unexpected('chain_with_two_operators.adb', procedure('X + 1 + - 1', pre='X < 0'), at=(6, 17))
     yield accepted('chain_with_parentheses.adb', procedure('X + (1 + 1)', pre='X < 0'))
-    yield unexpected('chain_with_a_product.adb', procedure('X + 1 * 2', pre='X < 0'), at=(6, 15))
+    yield accepted('chain_with_a_product.adb', procedure('X + 1 * 2', pre='X < 0'))
     yield unexpected('chain_with_a_marked_operand.adb', procedure('X + 1 --# + 1\n', pre='X < 0'), at=(6, 19))
 
 
@@ -1342,7 +1365,8 @@ def levels():
     yield unexpected('two_hundred_levels_at_the_end_of_the_text.adb', cut('1' + ' + 1' * 199 + ' +@'))
     yield unexpected('two_hundred_levels_and_no_operand.adb', procedure('1' + ' + 1' * 199 + ' + @', **OUT))
     yield too_nested('two_hundred_and_one_levels_and_no_operand.adb', procedure('1' + ' + 1' * 200 + ' + ', **OUT))
-    yield unexpected('two_hundred_levels_and_another_token.adb', procedure('1' + ' + 1' * 200 + ' @* 1 + 1', **OUT))
+    yield unexpected('two_hundred_levels_and_another_token.adb', procedure('1' + ' + 1' * 200 + ' @& 1 + 1', **OUT))
+    yield too_nested('two_hundred_levels_and_a_product.adb', procedure('1' + ' + 1' * 200 + ' * 1 + 1', **OUT))
     yield unexpected('two_hundred_and_one_levels_behind_another_breach.adb',
                      longer(OUT_XY, 'X, Y from', 'X := 1 @1', 'Y := 1' + ' + 1' * 201))
     yield too_nested('two_hundred_and_one_levels_before_another_breach.adb',
@@ -1450,8 +1474,8 @@ def parameters():
     yield refused('in_out_not_exported_among_two.adb',
                   longer('A : in out Integer; X : out Integer', 'X from @A', 'X := A'), 'U8')
     yield refused('modes_exchanged.adb', longer('A : out Integer; X : in Integer', '@X from A', 'X := A'), 'U8')
-    yield refused('second_type_undeclared.adb', longer('A : in Integer; X : out @Natural', 'X from A', 'X := A'), 'N1')
-    yield refused('first_type_undeclared.adb', longer('A : in @Natural; X : out Integer', 'X from A', 'X := A'), 'N1')
+    yield refused('second_type_undeclared.adb', longer('A : in Integer; X : out @Count', 'X from A', 'X := A'), 'N1')
+    yield refused('first_type_undeclared.adb', longer('A : in @Count; X : out Integer', 'X from A', 'X := A'), 'N1')
     yield refused('formal_before_for_a_type.adb', longer('A : in Integer; X : out @A', 'X from A', 'X := A'), 'N3')
     yield refused('formal_behind_for_a_type.adb', longer('A : in @X; X : out Integer', 'X from A', 'X := A'), 'N1')
     yield refused('formal_in_two_parameters.adb',
@@ -1792,7 +1816,7 @@ def declared_locals():
                                     'in_two_declarations': ('N2', 'T : Integer', 'U : Integer', '@T : Integer'),
                                     'named_integer': ('N2', 'T : Integer', '@Integer : Integer'),
                                     'named_integer_in_upper_case': ('N2', 'T, @INTEGER : Integer'),
-                                    'of_no_type': ('N1', 'T : @Natural'), 'of_a_formal': ('N3', 'T : @X'),
+                                    'of_no_type': ('N1', 'T : @Count'), 'of_a_formal': ('N3', 'T : @X'),
                                     'of_the_procedure': ('N3', 'T : @Inc'), 'of_itself': ('N1', 'T : @T'),
                                     'of_the_next_one': ('N1', 'T, U : @U'),
                                     'of_a_local_before': ('N3', 'U : Integer', 'T : @U'),
@@ -1975,8 +1999,8 @@ def signs_and_types():
         yield refused(f'value_with_{name}.adb', procedure(value, pre='X = 0'), rule)
     for name, (rule, pre) in {'a_comparison_of_a_comparison': ('N10', '(X = X) @= X'),
                               'a_comparison_with_a_comparison': ('N10', 'X @< (X = X)'),
-                              'two_comparisons': ('N10', '(X = X) @= (X = X)'),
-                              'two_static_comparisons': ('N10', '(1 = 1) @= (2 = 2)'),
+                              'two_comparisons': ('N10', '(X = X) @< (X = X)'),
+                              'two_static_comparisons': ('N10', '(1 = 1) @<= (2 = 2)'),
                               'a_comparison_in_a_sum': ('N10', '(X = X) @+ 1 > 0'),
                               'minus_of_a_comparison': ('N10', '@-(X < 5)'),
                               'plus_of_a_comparison': ('N10', '@+(X < 5)'), 'a_name_in_parentheses': ('N10', '@(X)'),
@@ -2037,10 +2061,12 @@ def signs_and_syntax():
                         'parentheses_behind_a_number': '1 @(X)', 'parentheses_behind_parentheses': '(X) @(X)',
                         'a_name_behind_parentheses': '(X) @X', 'a_becomes_in_parentheses': '(X @:= X)',
                         'a_semicolon_in_parentheses': '(X@; )', 'two_relations_in_parentheses': '(X = X @= X)',
-                        'a_relation_behind_two': '(X = X) = X @= X', 'abs': '@abs X', 'not': '@not (X)',
-                        'a_product_behind_a_sign': '-X @* X', 'a_power_of_parentheses': '(X) @** X',
+                        'a_relation_behind_two': '(X = X) = X @= X',
                         'a_marked_parenthesis': '--# @(\nX)', 'a_marked_sign': '--# @-\nX'}.items():
         yield unexpected(f'value_with_{name}.adb', procedure(value))
+    yield unproved('value_with_abs.adb', procedure('@abs X'))
+    yield refused('value_with_not.adb', procedure('@not (X)'), 'N10')
+    yield open_in_order('value_with_a_product_behind_a_sign.adb', procedure('@-X @* X'), 3, (1, 2), (2, 1))
     for name, pre in {'a_sign_behind_a_sign': '- @-X < 1', 'a_sign_behind_an_operator': 'X + @-1 < 1',
                       'an_open_parenthesis': '(X < 1@', 'a_closed_parenthesis': 'X < 1@)',
                       'no_condition_in_parentheses': '(@)', 'two_relations_in_parentheses': '(X < 1 @< 1)',
@@ -2179,8 +2205,11 @@ def documented():
                   'F1 missing: X from X', 'F4 unset: X')
     yield refused('limit_with_an_arm_that_does_nothing.adb', at_end(limit.replace('X := 100', 'null')),
                   'F1 missing: X from X', 'F4 unset: X')
+    share = (TOP / 'examples' / 'guard.adb').read_text(encoding='utf-8')
+    yield accepted('guard.adb', share, 1, named='Share')
+    yield left_at('guard_by_and.adb', share.replace('and then Whole', 'and Whole <1d>').replace('<1d> ', '<1d>'), 1, named='Share')
     yield bad_number('inc_with_a_bad_number.adb', procedure('X + 1_', pre=BELOW), at=(6, 13))
-    yield unexpected('inc_with_a_product.adb', procedure('X * 1', pre=BELOW), at=(6, 11))
+    yield unexpected('inc_with_two_operators.adb', procedure('X + * 1', pre=BELOW), at=(6, 13))
     yield unexpected('inc_without_end.adb', INC.replace('end Inc;\n', ''), at=(7, 1))
     yield refused('inc_with_an_undeclared_name.adb', procedure('@Y + 1', pre=BELOW), 'N1')
     yield refused('inc_with_two_formals_of_one_name.adb', procedure(formals='X, @x', pre=BELOW), 'N2')
@@ -2448,7 +2477,7 @@ PARTS = {'name': 'Mix', 'formals': 'A', 'mode': 'in', 'type': 'Integer', 'derive
 SLIPS = {
     'integer_for_the_name': ('N2', {'name': '@Integer', 'end': 'Integer'}),
     'a_formal_twice': ('N2', {'formals': 'A, @A'}),
-    'no_type_of_a_formal': ('N1', {'type': '@Natural'}),
+    'no_type_of_a_formal': ('N1', {'type': '@Count'}),
     'the_procedure_for_an_export': ('N3', {'export': '@Mix'}),
     'a_local_for_an_import': ('N1', {'third': '@T'}),
     'a_comparison_in_pre': ('N10', {'left': '(A = B) @+ A'}),
@@ -2529,7 +2558,7 @@ def breaches_in_expressions():
     yield refused('target_of_an_attribute_of_nothing_and_a_value.adb', procedure('Z', target="@Y'First"), 'N1')
     yield refused('type_of_two_formals_that_is_one.adb', procedure('X', formals='X, Y', type_mark='@Y'), 'N1')
     yield refused('type_undeclared_and_a_formal_twice.adb',
-                  longer('A : @Natural; A : Integer', 'A from A', 'null'), 'N1')
+                  longer('A : @Count; A : Integer', 'A from A', 'null'), 'N1')
     yield refused('formal_twice_and_its_type_undeclared.adb', longer('A, @A : Natural', 'A from A', 'null'), 'N2')
     yield refused('import_undeclared_and_an_export_of_the_next_item.adb',
                   procedure('A', derives='A from @Y & Z from B', **AB), 'N1')
@@ -3089,7 +3118,7 @@ def rules_of_branches():
     yield refused('condition_that_is_a_variable_in_parentheses.adb', conditional('if @(X) then X := 1; end if'), 'N10')
     yield refused('condition_of_elsif_that_is_a_variable.adb',
                   conditional('if X > 0 then X := 1; elsif @X then Y := 1; end if'), 'N10')
-    yield refused('condition_that_compares_conditions.adb', conditional('if (X = 0) @= (X = 1) then X := 1; end if'), 'N10')
+    yield accepted('condition_that_compares_conditions.adb', conditional('if (X = 0) = (X = 1) then X := 1; end if'), 1)
     yield refused('wide_number_in_a_condition.adb', conditional('if X < @2147483648 then X := 1; end if'), 'N12')
     yield refused('comparison_assigned_in_an_arm.adb', conditional('if X < 5 then X := X @< 5; end if'), 'N10')
     yield refused('wide_number_assigned_after_else.adb',
@@ -3130,8 +3159,8 @@ def syntax_of_branches():
     yield unexpected('if_that_ends_with_a_name.adb', conditional('if X < 0 then null; end @Inc'))
     yield unexpected('name_after_end_if.adb', conditional('if X < 0 then null; end if @X'))
     yield unexpected('condition_with_two_relations.adb', conditional('if X < 0 @= 1 then null; end if'))
-    yield unexpected('condition_with_and.adb', conditional('if X < 0 @and X > -5 then null; end if'))
-    yield unexpected('condition_with_not.adb', conditional('if @not X < 0 then null; end if'))
+    yield accepted('condition_with_and.adb', conditional('if X < 0 and X > -5 then X := 0; end if'), 1)
+    yield refused('condition_with_not.adb', conditional('if @not X < 0 then null; end if'), 'N10')
     yield unexpected('condition_with_a_semicolon.adb', conditional('if X < 0@; then null; end if'))
     yield unexpected('assignment_for_a_condition.adb', conditional('if X @:= 0 then null; end if'))
     yield unexpected('if_in_an_expression.adb', conditional('X := @if X < 0 then 1 else 2'))
@@ -3266,6 +3295,690 @@ def nodes_of_branches():
                         doublings_and_increments_in(before, f'{larger} = 0').replace('@', ''))
 
 
+# ---------------------------------------------------------------- operators, truth values, natural and positive numbers
+
+READ = {'A': 'Integer', 'B': 'Integer', 'F': 'Boolean', 'G': 'Boolean', 'N': 'Natural', 'P': 'Positive'}
+
+
+def over(body, of='Integer', pre=None, statements=None):
+    """The text of a procedure that sets X, of this type, to a value; or by statements, which the value is then a part of.
+
+    It has a formal for each name that it reads, of the type that `READ` gives it. X comes from all of them that the body
+    reads; `null from` has those that only the precondition does.
+    """
+    names = [name for name in READ if re.search(rf'\b{name}\b', f'{body} {pre}')]
+    used = [name for name in names if re.search(rf'\b{name}\b', body)]
+    ignored = [name for name in names if name not in used]
+    params = '; '.join([f'{name} : in {READ[name]}' for name in names] + [f'X : out {of}'])
+    derives = f'X from {", ".join(used)}' + (f' & null from {", ".join(ignored)}' if ignored else '')
+    return longer(params, derives, *(statements or [f'X := {body}']), pre=pre)
+
+
+def tested(condition, pre=None):
+    """The text of a procedure that sets X to 1 where a condition is true, and else to 0: two conditions more."""
+    return over(condition, pre=pre, statements=[f'if {condition} then X := 1; else X := 0; end if'])
+
+
+def computed(left, right, expression):
+    """The text of a procedure in which A and B have these values, and X + 1 is closed where what is stated is false.
+
+    There are two conditions of the two values, then those of the expression, and two of X + 1.
+    """
+    statements = [f'A := {left}', f'B := {right}', f'if {expression} then X := X + 1; end if']
+    return longer(X, 'X from X', *statements, declared=['A, B : Integer'])
+
+
+CHOOSE = '''procedure Choose (B : in Boolean; Y : out Integer)
+--# derives Y from & null from B;
+is
+begin
+   if B then
+      Y := 1;
+   else
+      Y := 2;
+   end if;
+end Choose;
+'''
+PART = '''procedure Part (B : in Boolean; Y : out Integer)
+--# derives Y from B;
+is
+   T : Integer;
+begin
+   if B then
+      T := 1;
+   end if;
+   Y := T;
+end Part;
+'''
+SIGNS = '''procedure Signs (A, B : in Integer; Q, R, M : out Integer)
+--# derives Q, R, M from A, B;
+--# pre B /= 0;
+is
+begin
+   Q := A / B;
+   R := A rem B;
+   M := A mod B;
+end Signs;
+'''
+
+
+def worked_texts():
+    """Four texts of several lines, and what is one token away from them."""
+    yield refused('choose.adb', CHOOSE.replace('derives Y', 'derives @Y'), 'F1 missing: Y from B')
+    yield accepted('choose_by_its_import.adb', CHOOSE.replace('from & null', ''), 2, named='Choose')
+    yield refused('part.adb', PART.replace(':= T', ':= @T'), 'F4 unset: T')
+    yield accepted('part_with_else.adb', PART.replace('1;', '1; else T := 2;'), 4, named='Part')
+    yield left_at('signs.adb', SIGNS.replace('A / B', 'A <2o>/ B'), 7, named='Signs')
+    yield left_at('signs_without_precondition.adb',
+                  SIGNS.replace('--# pre B /= 0;\n', '').replace('A / B', 'A <1d,2o>/ B'), 7, named='Signs')
+    yield left_at('signs_of_what_is_not_the_least.adb', SIGNS.replace('/= 0;', "/= 0 and A > Integer'First;"), 7, named='Signs')
+    yield unexpected('choose_by_two_operators.adb', CHOOSE.replace('if B then', 'if A and B @or C then'))
+    yield bad_byte('inc_by_two_underscores.adb', procedure('X@__1', pre=BELOW))
+
+
+# The quotient, the remainder and the modulus of two numbers.
+DIVIDED = {(7, 3): (2, 1, 1), (-7, 3): (-2, -1, 2), (7, -3): (-2, 1, -2), (-7, -3): (2, -1, -1),
+           (6, 3): (2, 0, 0), (-6, 3): (-2, 0, 0), (6, -3): (-2, 0, 0), (-6, -3): (2, 0, 0),
+           (1, 3): (0, 1, 1), (-1, 3): (0, -1, 2), (1, -3): (0, 1, -2), (-1, -3): (0, -1, -1), (0, -3): (0, 0, 0)}
+
+
+def typed(number):
+    """A static Integer of this value."""
+    return f"({number} + 0 * Integer'Last)"
+
+
+def values_of_divisions():
+    """`/` toward zero, `rem` with the sign of the dividend, `mod` with that of the divisor: in numbers, in Integer, in terms."""
+    for (left, right), values in DIVIDED.items():
+        for operator, value in zip(('/', 'rem', 'mod'), values):
+            name = f'{left}_{operator.replace("/", "by")}_{right}'.replace('-', 'minus_')
+            yield accepted(f'{name}.adb', procedure(pre=f'({left}) {operator} ({right}) /= {value}'))
+            yield unproved(f'{name}_in_integer.adb', procedure('X @+ 1', pre=f'{typed(left)} {operator} {typed(right)} = {value}'))
+            yield accepted(f'{name}_in_terms.adb', computed(left, right, f'A {operator} B /= {value}'), 6 if operator == '/' else 5)
+
+
+def values_of_operators():
+    """The values of the other operators, each stated to be different, which is false and closes all."""
+    for name, expression, value in (
+            ('product', '(-6) * 7', -42), ('product_with_zero', f'0 * {LAST}', 0), ('power', '2 ** 10', 1024),
+            ('power_of_a_negative', '(-2) ** 3', -8), ('even_power_of_a_negative', '(-3) ** 2', 9), ('power_zero', '5 ** 0', 1),
+            ('power_zero_of_zero', '0 ** 0', 1), ('power_one', '(-5) ** 1', -5), ('power_of_zero', '0 ** 2147483647', 0),
+            ('power_of_one', '1 ** 2147483647', 1), ('odd_power_of_minus_one', '(-1) ** 2147483647', -1),
+            ('even_power_of_minus_one', '(-1) ** 2147483646', 1), ('abs', 'abs (-7)', 7), ('abs_of_a_positive', 'abs 7', 7),
+            ('abs_of_zero', 'abs 0', 0), ('sign_over_a_term', '-7 mod 3', -1), ('sign_over_a_quotient', '-7 / 2 * 2', -6),
+            ('sign_over_a_power', '-2 ** 2', -4), ('left_nested_products', '100 / 10 / 5', 2),
+            ('products_before_sums', '2 + 3 * 4 - 10 / 5', 12), ('powers_before_products', '2 * 3 ** 2', 18),
+            ('abs_before_a_product', '2 * abs (-3) * 2', 12), ('wide_power', '2 ** 126 / 2 ** 124', 4),
+            ('natural_first', "Natural'First", 0), ('positive_first', "Positive'First", 1),
+            ('natural_last', "Natural'Last", 2147483647), ('positive_last', "POSITIVE'LAST", 2147483647)):
+        yield accepted(f'value_of_{name}.adb', procedure(pre=f'{expression} /= {value}'))
+    for name, condition in {
+            'not': 'not True', 'not_of_a_comparison': 'not (1 < 2)', 'and': 'True and False', 'or': 'False or False',
+            'xor': 'True xor True', 'xor_of_false': 'False xor False', 'and_then': 'True and then False',
+            'and_then_of_false': 'False and then True', 'or_else': 'False or else False', 'equal': 'True = False',
+            'not_equal': 'True /= True', 'equal_comparisons': '(1 < 2) = (2 < 1)', 'three': 'True and True and False',
+            'three_xor': 'True xor True xor False', 'not_before_and': 'not False and False', 'not_before_equal': 'not True = True',
+            'in': '6 in 1 .. 5', 'in_below': '0 in 1 .. 5', 'not_in': '5 not in 1 .. 5', 'not_in_low': '1 not in 1 .. 5',
+            'in_an_empty_range': '3 in 5 .. 1', 'in_natural': '-1 in Natural', 'in_positive': '0 in Positive',
+            'not_in_integer': '5 not in Integer', 'not_in_natural': '0 not in Natural',
+            'in_wide': '5000000000 not in 1 .. 5000000000'}.items():
+        yield accepted(f'false_value_of_{name}.adb', procedure(pre=condition))
+        yield unproved(f'true_value_of_{name}.adb', procedure('X @+ 1', pre=f'not ({condition})'))
+
+
+def ends_of_static_operators():
+    """Static operations at the ends of 128 bits and of Integer: the last that is kept, and the first that breaks N12."""
+    least, widest = f'(-{WIDEST} - 1)', WIDEST
+    for name, kept, broken in (
+            ('product', f'{widest} * 1', f'{widest} @* 2'), ('product_of_the_least', f'{least} * 1', f'{least} @* (-1)'),
+            ('quotient_of_the_least', f'{least} / 1', f'{least} @/ (-1)'), ('abs', f'abs (-{widest})', f'@abs {least}'),
+            ('power_of_two', '2 ** 126', '2 @** 127'), ('power_of_minus_two', '(-2) ** 127', '(-2) @** 128'),
+            ('power_of_ten', '10 ** 38', '10 @** 39'), ('far_power', '1 ** 2147483647', '2 @** 2147483647'),
+            ('far_power_of_minus_two', '(-1) ** 2147483647', '(-2) @** 2147483647'),
+            ('negative_exponent', '2 ** 0', '2 @** (-1)'), ('negative_exponent_of_one', '1 ** 0', '1 @** (-1)'),
+            ('quotient_by_zero', '0 / 1', '1 @/ 0'), ('rem_by_zero', '0 rem 1', '1 @rem 0'), ('mod_by_zero', '0 mod 1', '1 @mod 0'),
+            ('zero_by_zero', '0 / 1', '0 @/ 0'), ('innermost_quotient', '1 + 1 / 1', '1 + 1 @/ 0'),
+            ('innermost_of_two', '1 / 1 / 1', '1 @/ 0 / 0'), ('divisor_that_fails', '1 / (1 / 1)', '1 / (1 @/ 0)'),
+            ('divisor_that_is_zero', '1 / (1 / 1)', '1 @/ (1 / 2)'), ('sign_over_a_quotient', '-1 / 1', '-1 @/ 0'),
+            ('rem_of_the_least', f'{least} rem (-1)', f'{least} @rem (1 - 1)'),
+            ('mod_of_the_least', f'{least} mod (-1)', f'{least} @mod (1 - 1)')):
+        yield accepted(f'static_{name}_at_the_ends_of_128_bits.adb', procedure('0', pre=f'{kept} = 0', **OUT), 1)
+        yield refused(f'static_{name}_past_the_ends_of_128_bits.adb', procedure('0', pre=f'{broken} = 0', **OUT), 'N12')
+    for name, kept, broken in (
+            ('product', f'{LAST} * (-1)', f'{FIRST} @* (-1)'), ('product_by_two', '1073741823 * ' + typed(2), '1073741824 @* ' + typed(2)),
+            ('least_product_by_two', '(-1073741824) * ' + typed(2), '(-1073741825) @* ' + typed(2)),
+            ('quotient', f'{LAST} / (-1)', f'{FIRST} @/ (-1)'), ('quotient_by_one', f'{FIRST} / 1', f'{FIRST} @/ 0'),
+            ('rem', f'{FIRST} rem (-1)', f'{FIRST} @rem 0'), ('mod', f'{FIRST} mod (-1)', f'{FIRST} @mod 0'),
+            ('abs', f'abs ({FIRST} + 1)', f'@abs {FIRST}'), ('minus', f'-({FIRST} + 1)', f'@-{FIRST}'),
+            ('power_of_two', typed(2) + ' ** 30', typed(2) + ' @** 31'),
+            ('power_of_minus_two', typed(-2) + ' ** 31', typed(-2) + ' @** 32'),
+            ('power_of_last', f'{LAST} ** 1', f'{LAST} @** 2'), ('power_of_first', f'{FIRST} ** 1', f'{FIRST} @** 2'),
+            ('typed_exponent', '2 ** ' + typed(30) + ' + 0 * ' + LAST, typed(2) + ' @** ' + typed(31)),
+            ('negative_exponent', typed(2) + ' ** 0', typed(2) + ' @** (-1)'),
+            ('wide_left_operand', f'2147483647 / {LAST}', f'@2147483648 / {LAST}'),
+            ('wide_right_operand', f'{LAST} mod 2147483647', f'{LAST} mod @2147483648'),
+            ('wide_exponent', '1 ** 2147483647', '1 ** @2147483648'), ('low_exponent', typed(1) + ' ** 0', typed(1) + ' ** @(-2147483649)'),
+            ('wide_value', '1073741824 * 2 - 1', '1073741824 @* 2'), ('wide_quotient', '(-2147483647) / (-1)', '(-2147483648) @/ (-1)'),
+            ('wide_abs', 'abs (-2147483647)', '@abs (-2147483648)'), ('wide_power', '2 ** 31 - 1', '2 @** 31')):
+        yield accepted(f'static_{name}_at_the_ends_of_integer.adb', procedure(kept, **OUT), 1)
+        yield refused(f'static_{name}_past_the_ends_of_integer.adb', procedure(broken, **OUT), 'N12')
+
+
+def meeting_a_type():
+    """A universal operand meets Integer beside one, in a power that is not static, in a membership test, and nowhere else."""
+    for name, value in {'product': 'A * @2147483648', 'quotient': '@2147483648 / A', 'rem': 'A rem @(-2147483649)',
+                        'mod': '-@2147483649 mod A', 'left_of_a_power': '@2147483648 ** A', 'exponent': 'A ** @2147483648',
+                        'power_with_a_sum': '@2147483648 ** (A + 1)'}.items():
+        yield refused(f'wide_number_in_a_{name}.adb', over(value), 'N12')
+    for name, condition in {'tested': '@2147483648 in 0 .. A', 'low': 'A in @-2147483649 .. 0', 'high': 'A in 0 .. @2147483648',
+                            'tested_and_high': '@2147483648 in A .. 2147483648', 'tested_in_integer': '@2147483648 in Integer',
+                            'tested_not_in_natural': '@(2 ** 31) not in Natural', 'low_of_two': '5 not in @2147483648 .. A',
+                            'tested_beside_last': f'@2147483648 in 0 .. {LAST}', 'equal': 'A = 2 @** 31',
+                            'sum_in_integer': '2147483647 @+ 1 in Integer'}.items():
+        yield refused(f'wide_number_{name}.adb', procedure('X', pre=condition.replace('A', 'X')), 'N12')
+    yield accepted('wide_numbers_that_meet_no_type.adb', procedure('X', pre='2147483648 in 2147483647 .. 2 ** 40'), 1)
+    yield accepted('wide_number_in_a_static_power.adb', procedure('2147483648 ** 2 / 2 ** 40', **OUT), 1)
+    yield accepted('least_number_in_a_membership_test.adb', procedure('X', pre='-2147483648 in Positive or X > 0'), 1)
+    yield left_at('number_to_the_power_of_a_variable.adb', over('2147483647 <2o>** <1r>A'), 3)
+    yield left_at('number_to_the_power_of_a_natural.adb', over('2 <2o>** N'), 3)
+
+
+def run_time_ends():
+    """Operations on variables: which checks there are, in their order, and which are left with and without bounds."""
+    for name, value, total, pre in (
+            ('product', 'A <1o>* B', 2, None), ('product_within', 'A * B', 2, 'A in -46340 .. 46340 and B in -46340 .. 46340'),
+            ('product_past', 'A <1o>* B', 2, 'A in -46341 .. 46341 and B in -46341 .. 46341'),
+            ('product_below', 'A <1o>* B', 2, 'A in 1 .. 46341 and B in -46341 .. -1'),
+            ('product_by_two', 'A * 2', 2, 'A in -1073741824 .. 1073741823'),
+            ('product_by_two_past', 'A <1o>* 2', 2, 'A in 0 .. 1073741824'),
+            ('product_by_minus_one', 'A <1o>* (-1)', 2, None), ('product_by_one', 'A * 1', 2, None), ('product_of_one', '1 * A', 2, None),
+            ('product_by_zero', 'A * 0', 2, None), ('product_of_zero', '0 * A', 2, None), ('square', 'A * A', 2, 'A = 46340'),
+            ('quotient', 'A <1d,2o>/ B', 3, None), ('quotient_by_two', 'A <2o>/ 2', 3, None),
+            ('quotient_by_what_is_not_zero', 'A <2o>/ B', 3, 'B /= 0'),
+            ('quotient_of_what_is_not_the_least', 'A / B', 3, f'A > {FIRST} and B /= 0'),
+            ('quotient_by_what_zero_is_not', 'A <1d>/ B', 3, f'A > {FIRST} and 0 /= B'),
+            ('quotient_of_the_least', 'A <2o>/ B', 3, f'A = {FIRST} and B = -1'),
+            ('quotient_by_minus_one', 'A <2o>/ (-1)', 3, None), ('quotient_by_a_positive', 'N / P', 3, None),
+            ('quotient_by_a_natural', 'N <1d>/ N', 3, None),
+            ('quotient_by_zero', 'A <1d>/ 0', 3, None), ('quotient_of_zero', '0 <1d>/ A', 3, None),
+            ('quotient_by_a_negative', 'A / B', 3, 'B < 0 and A > 0'),
+            ('rem', 'A <1d>rem B', 2, None), ('rem_by_a_positive', 'A rem P', 2, None), ('rem_by_zero', 'A <1d>rem 0', 2, None),
+            ('rem_of_the_least', 'A rem (-1)', 2, None),
+            ('mod', 'A <1d>mod B', 2, None), ('mod_by_a_positive', 'A mod P', 2, None), ('mod_by_zero', 'A <1d>mod 0', 2, None),
+            ('mod_by_minus_one', 'A mod (-1)', 2, None),
+            ('divisor_below_one', 'A <1d>mod B', 2, 'B < 1'), ('divisor_below_zero', 'A mod B', 2, 'B < 0'),
+            ('divisor_above_zero', 'A rem B', 2, '0 < B'),
+            ('power', 'A <2o>** <1r>B', 3, None), ('power_two', 'A <2o>** 2', 3, 'A in 0 .. 2'), ('power_zero', 'A <2o>** 0', 3, None),
+            ('power_one', 'A <2o>** 1', 3, None),
+            ('power_of_a_natural', 'A <2o>** N', 3, None), ('power_below_zero', 'A ** <1r>(-1)', 3, None),
+            ('power_in_parentheses', 'A <3o>** <2r>(A <1o>+ 1)', 4, None),
+            ('power_of_a_sum', '(A <1o>+ 1) <3o>** <2r>B', 4, None), ('power_of_one', '1 <2o>** <1r>A', 3, None),
+            ('power_of_zero', '0 <2o>** N', 3, None),
+            ('abs', '<1o>abs A', 2, None), ('abs_of_a_natural', 'abs N', 2, None),
+            ('abs_of_a_negative', 'abs A', 2, f'A < 0 and A > {FIRST}'),
+            ('abs_of_the_least', '<1o>abs A', 2, f'A = {FIRST}'), ('abs_of_what_is_not_the_least', 'abs A', 2, f'{FIRST} < A'),
+            ('abs_in_parentheses', 'abs (A <1o>+ 1)', 3, 'A > 0'),
+            ('minus_of_a_natural', '-N', 2, None), ('minus_of_a_product', '<2o>-A <1o>* B', 3, None),
+            ('minus_of_a_mod', '-A mod P', 3, None)):
+        yield left_at(f'run_time_{name}.adb', over(value, pre=pre), total)
+    # the checks of the left operand, of the right one, and then of the operation
+    yield left_at('checks_from_left_to_right.adb', over('(A <1o>+ 1) <4d>/ (B <3o>* <2o>abs A)'), 6)
+    yield left_at('checks_of_a_chain_of_quotients.adb', over('A <1d,2o>/ B <3d,4o>/ A'), 5)
+    yield left_at('checks_of_a_chain_of_products.adb', over('A <1o>* B <2o>* A'), 3)
+    # what was shown is a fact from there on
+    yield left_at('divisor_that_was_shown.adb', over('A <1d>/ B + A rem B - A mod B', pre="A in -5 .. 5 and B > -5 and B < 5"), 7)
+    for operator, left, right, total, marked in (
+            ('/', FIRST, -1, 5, 'A <4o>/ B'), ('/', LAST, -1, 5, 'A / B'), ('/', 1, 0, 5, 'A <3d>/ B'), ('mod', 1, 0, 4, 'A <3d>mod B'),
+            ('rem', FIRST, -1, 4, 'A rem B'), ('mod', FIRST, -1, 4, 'A mod B'), ('*', FIRST, -1, 4, 'A <3o>* B'),
+            ('*', 65536, -32768, 4, 'A * B'),
+            ('*', 65536, 32768, 4, 'A <3o>* B'), ('**', 2, 30, 5, 'A ** B'), ('**', 2, 31, 5, 'A <4o>** B'), ('**', -2, 31, 5, 'A ** B'),
+            ('**', 2, -1, 5, 'A ** <3r>B'), ('**', 2, 0, 5, 'A ** B'), ('**', 2, 1, 5, 'A ** B'), ('**', -2, 127, 5, 'A <4o>** B'),
+            ('**', 2, 127, 5, 'A <4o>** B'), ('**', 0, 0, 5, 'A ** B'), ('**', 1, LAST, 5, 'A ** B'),
+            ('abs', FIRST, 0, 5, '<3o>abs A + B')):
+        name = f'known_{OPERATOR_NAMES[operator]}_of_{left}_and_{right}'.replace('-', 'minus_').replace("'", '_')
+        yield left_at(f'{name}.adb',
+                      longer(OUT_X, 'X from', f'A := {left}', f'B := {right}', f'X := {marked}', declared=['A, B : Integer']), total)
+
+
+OPERATOR_NAMES = {'/': 'quotient', 'mod': 'mod', 'rem': 'rem', '*': 'product', '**': 'power', 'abs': 'abs'}
+
+
+def intervals_of_operators():
+    """What the simplifier knows of an operation: its ends are pinned by the last number that can be added, and the first that cannot."""
+    five, small = 'A in -5 .. 3', 'A in -5 .. 3 and B in 1 .. 9'
+    for name, value, checks, pre, low, high in (
+            ('product', 'A * B', 1, 'A in -5 .. 3 and B in -7 .. 2', -21, 35),
+            ('product_of_negatives', 'A * B', 1, 'A in -5 .. -3 and B in -7 .. -2', 6, 35),
+            ('product_by_a_negative', 'A * (-3)', 1, 'A in -5 .. 2', -6, 15), ('square', 'A * A', 1, five, -15, 25),
+            ('product_by_zero', 'A * 0', 1, None, 0, 0),
+            ('quotient', 'A / B', 2, small, -5, 5), ('quotient_by_a_number', 'A / 2', 2, 'A in 4 .. 9', -9, 9),
+            ('rem', 'A rem B', 1, small, -5, 3),
+            ('rem_of_a_positive', 'A rem B', 1, 'A in 2 .. 9 and B /= 0', 0, 9), ('rem_by_a_number', 'A rem 3', 1, 'A in -5 .. 9', -2, 2),
+            ('rem_by_a_negative', 'A rem (-3)', 1, 'A in -5 .. 9', -2, 2),
+            ('rem_by_a_greater_number', 'A rem 100', 1, 'A in -5 .. 9', -5, 9),
+            ('rem_of_a_positive_by_a_number', 'A rem 3', 1, 'A in 1 .. 9', 0, 2), ('rem_by_one', 'A rem 1', 1, None, 0, 0),
+            ('mod', 'A mod B', 1, 'B in -4 .. 6 and B /= 0', -3, 5),
+            ('mod_by_a_positive', 'A mod B', 1, 'B in 1 .. 6', 0, 5), ('mod_by_a_negative', 'A mod B', 1, 'B in -6 .. -1', -5, 0),
+            ('mod_by_a_number', 'A mod 7', 1, None, 0, 6),
+            ('mod_by_a_negative_number', 'A mod (-7)', 1, None, -6, 0), ('mod_of_a_small_number', 'A mod 7', 1, 'A in 1 .. 2', 0, 6),
+            ('abs', 'abs A', 1, five, 0, 5),
+            ('abs_of_a_negative', 'abs A', 1, 'A in -5 .. -2', 2, 5), ('abs_of_a_positive', 'abs A', 1, 'A in 2 .. 5', 2, 5),
+            ('minus', '-A', 1, five, -3, 5),
+            ('minus_of_a_product', '-A * 2', 2, five, -6, 10), ('natural', 'N', 0, 'N <= 9', 0, 9), ('positive', 'P', 0, 'P <= 9', 1, 9)):
+        for end, sign, added in (('high', '+', 2147483647 - high), ('low', '-', low + 2147483648)):
+            # what is past Integer is added in two steps
+            steps, last = ('', added) if added < 2147483647 else (f' {sign} 2147483647', added - 2147483647)
+            number = checks + (2 if steps else 1)
+            yield accepted(f'{end}_end_of_{name}.adb', over(f'{value}{steps} {sign} {last}', pre=pre), number + 1)
+            yield left_at(f'past_the_{end}_end_of_{name}.adb', over(f'{value}{steps} <{number}o>{sign} {last + 1}', pre=pre), number + 1)
+
+
+def guards():
+    """Short-circuit forms that guard a check, and the same with operators that evaluate both sides."""
+    above = 'A >= 0'
+    for name, condition, total, pre in (
+            ('quotient', 'B /= 0 and then A / B > 0', 4, above), ('quotient_by_and', 'B /= 0 and A <1d>/ B > 0', 4, above),
+            ('quotient_without_bounds', 'B /= 0 and then A <2o>/ B > 0', 4, None),
+            ('quotient_by_or_else', 'B = 0 or else A / B > 0', 4, above),
+            ('quotient_by_or', 'B = 0 or A <1d>/ B > 0', 4, above), ('quotient_by_xor', '(B = 0) xor (A <1d>/ B > 0)', 4, above),
+            ('mod', 'B /= 0 and then A mod B = 0', 3, None), ('mod_by_and', 'B /= 0 and A <1d>mod B = 0', 3, None),
+            ('rem', 'B = 0 or else A rem B = 0', 3, None), ('rem_by_or', 'B = 0 or A <1d>rem B = 0', 3, None),
+            ('positive', 'B > 0 and then A mod B = 0', 3, None), ('negative', '0 > B and then A mod B = 0', 3, None),
+            ('range', 'B in 1 .. 5 and then A mod B = 0', 3, None), ('type', 'B in Positive and then A mod B = 0', 3, None),
+            ('type_with_zero', 'B in Natural and then A <1d>mod B = 0', 3, None),
+            ('not_in_a_type', 'B not in Positive or else A mod B = 0', 3, None),
+            ('not_zero', 'not (B = 0) and then A mod B = 0', 3, None),
+            ('not_in_a_range', 'B not in 0 .. 0 and then A <1d>mod B = 0', 3, None),
+            ('not_not_zero', 'not (B /= 0) or else A mod B = 0', 3, None), ('other', 'A /= 0 and then A <1d>mod B = 0', 3, None),
+            ('same_with_the_other_form', 'B /= 0 or else A <1d>mod B = 0', 3, None),
+            ('zero_with_the_other_form', 'B = 0 and then A <1d>mod B = 0', 3, None),
+            ('late', 'A <1d>mod B = 0 and then B /= 0', 3, None), ('sum', f'A < {LAST} and then A + 1 > B', 3, None),
+            ('sum_by_and', f'A < {LAST} and A <1o>+ 1 > B', 3, None), ('sum_by_or_else', f'A >= {LAST} or else A + 1 > B', 3, None),
+            ('sum_by_equality', f'A = {LAST} or else A <1o>+ 1 > B', 3, None), ('minus', f'A /= {FIRST} and then <1o>-A > B', 3, None),
+            ('minus_by_a_comparison', f'A > {FIRST} and then -A > B', 3, None), ('abs', f'A > {FIRST} and then abs A > B', 3, None),
+            ('product', 'A in -9 .. 9 and then A * 2 > B', 3, None), ('product_by_and', 'A in -9 .. 9 and A <1o>* 2 > B', 3, None),
+            ('exponent', 'B >= 0 and then A <2o>** B > 0', 4, None), ('exponent_by_and', 'B >= 0 and A <2o>** <1r>B > 0', 4, None),
+            ('nested', 'B /= 0 and then (A >= 0 and then A / B > 0)', 4, None),
+            ('chain', 'B /= 0 and then A >= 0 and then A / B > 0', 4, None),
+            ('chain_of_or_else', 'B = 0 or else A < 0 or else A <1d,2o>/ B > 0', 4, None),
+            ('nested_or_else', 'B = 0 or else (A < 0 or else A / B > 0)', 4, None),
+            ('or_else_in_and_then', 'B /= 0 and then (A < 0 or else A / B > 0)', 4, None),
+            ('and_then_in_or_else', 'B = 0 or else (A >= 0 and then A / B > 0)', 4, None),
+            ('and_in_the_left_side', '(B /= 0 and A >= 0) and then A / B > 0', 4, None),
+            ('or_in_the_left_side', '(B /= 0 or A >= 0) and then A <1d>mod B > 0', 3, None),
+            ('middle', 'B /= 0 and then A mod B = 0 and then B <2d>mod A > 0', 4, None),
+            ('under_not', 'not (B = 0 or else A mod B = 0)', 3, None), ('under_a_comparison', '(B /= 0 and then A mod B = 0) = F', 3, None),
+            ('beside_and', '(B /= 0 and then A mod B = 0) and A <2d>rem B = 0', 4, None),
+            ('in_the_left_side', '(B /= 0 and then A mod B = 0) and then A rem B = 0', 4, None),
+            ('true', 'True and then A <1d>mod B = 0', 3, None), ('false', 'False and then A mod B = 0', 3, None),
+            ('true_or_else', 'True or else A mod B = 0', 3, None),
+            ('false_or_else', 'False or else A <1d>mod B = 0', 3, None), ('variable', 'F and then A <1d>mod B = 0', 3, None),
+            ('both_sides', 'A <1o>+ 1 > 0 and then B <2o>+ 1 > 0', 4, None), ('membership', 'A > 0 and then B in 0 .. A - 1', 3, None),
+            ('membership_without_it', 'A > 0 and B in 0 .. A <1o>- 1', 3, None),
+            ('membership_test_of_sums', 'A <1o>+ 1 in B <2o>- 1 .. <3o>-B', 5, None)):
+        yield left_at(f'guard_of_{name}.adb', tested(condition, pre), total)
+    yield left_at('guarded_value.adb', over('B /= 0 and then A mod B = 0', of='Boolean'), 1)
+    yield left_at('unguarded_value.adb', over('B /= 0 and A <1d>mod B = 0', of='Boolean'), 1)
+    # an implication that was shown is one fact, from which its right side is not known, but which is known itself
+    yield left_at('guarded_check_twice.adb', over('A / B', statements=[
+        'if B /= 0 and then A <2o>/ B > 0 then X := 1; elsif B /= 0 and then A / B < 0 then X := 2; else X := A <7d,8o>/ B; end if']), 9)
+    yield left_at('guarded_check_in_its_arm.adb', over('A / B', statements=[
+        'if B /= 0 and then A <2o>/ B > 0 then X := A <4o>/ B; else X := 0; end if']), 6)
+    yield refused('static_fault_in_a_right_side.adb', tested('F and then 1 @/ 0 = 1'), 'N12')
+    yield refused('static_fault_that_is_not_needed.adb', tested('False and then 1 @/ 0 = 1'), 'N12')
+    yield refused('unset_in_a_right_side.adb',
+                  longer(X, 'X from X', 'if X > 0 and then @T > 0 then X := 1; end if', declared=T), 'F4 unset: T')
+    yield refused('unset_in_a_membership_test.adb',
+                  longer(X, 'X from X', 'if @T in @U .. @T then X := X; end if', declared=T_AND_U),
+                  'F4 unset: T', 'F4 unset: U', 'F4 unset: T')
+    yield refused('flow_from_a_right_side.adb', tested('F or else A = 1').replace('X from A, F', '@X from F & null from A'),
+                  'F1 missing: X from A')
+    yield refused('flow_from_a_bound.adb', tested('A in 0 .. B').replace('X from A, B', '@X from A & null from B'), 'F1 missing: X from B')
+    yield refused('flow_from_what_is_tested.adb', tested('A in Natural').replace('X from A', '@X from & null from A'),
+                  'F1 missing: X from A')
+
+
+OPERATORS = ('and', 'or', 'xor', 'and then', 'or else')
+
+
+def mixed_chains():
+    """Each pair of logical operators without parentheses: P1 at the second one, or where it cannot be the first one any more."""
+    for first, second in product(OPERATORS, OPERATORS):
+        name = f'{first}_before_{second}'.replace(' ', '_')
+        if first == second:
+            yield accepted(f'{name}.adb', tested(f'F {first} G {second} F'), 2)
+            yield accepted(f'{name}_and_once_more.adb', tested(f'F {first} G {second} F {first} A > 0'), 2)
+            continue
+        # the first word of the second operator goes on where it is that of the first one
+        after = {('and', 'and then'): 'and @then F', ('or', 'or else'): 'or @else F',
+                 ('and then', 'and'): 'and @F', ('or else', 'or'): 'or @F'}.get((first, second), f'@{second} F')
+        yield unexpected(f'{name}.adb', tested(f'F {first} G ').replace(f'F {first} G ', f'F {first} G {after}'))
+        yield unexpected(f'{name}_after_two.adb', tested(f'F {first} G ').replace(f'F {first} G ', f'F {first} G {first} G {after}'))
+        yield accepted(f'{name}_in_parentheses.adb', tested(f'(F {first} G) {second} F'), 2)
+    for name, condition in {'two_relations_beside_and': 'A = 1 and B = 1 @= F', 'and_then_at_its_end': 'F and then @',
+                            'or_else_at_its_end': 'F or else @', 'two_and': 'F and @and G', 'then_without_and': 'F and then @then G',
+                            'else_without_or': 'F or else @else G',
+                            'not_not': 'not @not F', 'abs_abs': 'abs @abs A > 0', 'not_of_a_power': 'not A @** B',
+                            'abs_of_a_power': 'abs A @** B = 0',
+                            'two_powers': 'A ** B @** A = 0', 'power_of_a_sign': 'A ** @-B = 0', 'product_of_a_sign': 'A * @-B = 0',
+                            'abs_of_a_sign': 'abs @-A = 0',
+                            'not_after_a_relation': 'F = @and G', 'mod_alone': '@mod A = 0', 'two_products': 'A * @/ B = 0'}.items():
+        yield unexpected(f'syntax_of_{name}.adb', tested(condition).replace('@ then', '@then'))
+    yield unexpected('syntax_of_and_at_its_end.adb', tested('F and').replace('X := 1', 'X @:= 1'))
+    for name, condition in {'not_on_the_right_of_a_relation': 'F = not G', 'abs_after_a_product': 'N in 0 .. 5 * abs (-1)',
+            'not_before_a_relation': 'not F = G',
+                            'xor_of_relations': 'A > 0 xor B > 0', 'and_of_membership_tests': 'A in 1 .. 5 and B not in 1 .. 5',
+                            'power_of_parentheses': 'N in 0 .. (2) ** (3)'}.items():
+        yield accepted(f'syntax_of_{name}.adb', tested(condition), 2)
+
+
+def membership_tests():
+    """The two forms of a membership test, with `not` and without, and what goes on after `in`."""
+    for name, pre in {'range': 'A in 1 .. 5', 'type': f'A in Integer and A < {LAST}', 'range_of_sums': 'A in 1 + 1 .. 2 * 3 - 1',
+            'range_of_signs': 'A in -5 .. +5',
+                      'range_of_parentheses': '(A) in (1) .. (5)', 'range_of_attributes': "A in Positive'First .. Natural'Last - 1",
+                      'range_of_variables': 'A in B .. 5',
+                      'empty_range': 'A in 5 .. 1', 'range_and_not': "not (A not in 1 .. 5) and A = 3",
+                      'other_type': 'A not in Integer and (A in Positive) = True and A in 1 .. 1'}.items():
+        yield accepted(f'precondition_by_a_{name}.adb', over('A + 1', pre=pre))
+    for name, pre in {'not_in_a_range': 'A not in 1 .. 5', 'lower_bound': 'A in Positive', 'not_not_in': 'not (A not in 1 .. 5)',
+            'not_in_the_rest': f'A not in 5 .. {LAST}',
+                      'membership_that_is_compared': '(A in 1 .. 5) = True', 'bound_that_is_no_literal': 'A in 1 .. B',
+                      'or': 'A in 1 .. 5 or A in 1 .. 5', 'sum': 'A + 0 * 1 in B .. B'}.items():
+        yield left_at(f'no_precondition_by_{name}.adb', over('A <1o>+ 1', pre=pre), 2)
+    for name, condition in {'type_in_parentheses': 'A in (Positive) @', 'type_and_a_sum': 'A in Positive + 1 @',
+            'type_and_a_power': 'A in Positive ** 2 @',
+                            'one_number': 'A in 1 @', 'no_upper_bound': 'A in 1 .. @', 'no_lower_bound': 'A in @.. 5', 'nothing': 'A in @',
+                            'not_and_no_in': 'A not @Positive',
+                            'not_and_nothing': 'A not @', 'two_in': 'A in 1 .. 5 @in 1 .. 5',
+                            'in_after_a_type': 'A in Positive @in Positive', 'in_after_a_relation': 'A = 1 @in 1 .. 5',
+                            'relation_after_a_range': 'A in 1 .. 5 @= F', 'relation_after_a_type': 'A in Positive @= F',
+                            'two_ranges': 'A in 1 .. 5 @.. 6', 'range_of_a_type': 'A in Positive @range',
+                            'range_in_parentheses': 'A in (1 @.. 5)', 'attribute_of_an_attribute': "A in Positive'First@'Last",
+                            'not_before_in': 'not @in 1 .. 5', 'not_not_in': 'A not @not in 1 .. 5',
+                            'in_and_not': 'A in not B @', 'logical_operator_after_one_number': 'A in 1 @and F',
+                            'bar': 'A in 1 .. 2 @| 4 .. 5'}.items():
+        yield unexpected(f'membership_test_with_{name}.adb', tested(condition).replace('@ then', '@then'))
+    for name, (rule, condition) in {
+            'a_variable_for_a_type': ('N3', 'A in @B'), 'an_attribute_for_a_type': ('N3', "A in @Positive'First"),
+            'a_truth_value_for_a_type': ('N3', 'A in @True'),
+            'the_procedure_for_a_type': ('N3', 'A in @Inc'), 'nothing_for_a_type': ('N1', 'A in @Count'),
+            'an_attribute_of_nothing': ('N1', "A in @Count'First"),
+            'a_type_for_a_bound': ('N3', 'A in @Positive .. 5'), 'a_type_for_a_high_bound': ('N3', 'A in 1 .. @Positive'),
+            'boolean_for_a_type': ('N10', 'A in @Boolean'),
+            'boolean_for_the_type_of_a_truth_value': ('N10', 'F in @Boolean'), 'boolean_after_not_in': ('N10', 'F not in @BOOLEAN'),
+            'a_truth_value_in_a_range': ('N10', 'F @in 1 .. 5'),
+            'a_truth_value_in_a_type': ('N10', 'F @in Integer'), 'a_truth_value_not_in_a_type': ('N10', 'F @not in Natural'),
+            'a_truth_value_not_in_a_range': ('N10', 'True @not in 1 .. 2'),
+            'a_truth_value_for_a_low_bound': ('N10', 'A @in F .. 5'), 'a_truth_value_for_a_high_bound': ('N10', 'A @not in 1 .. False'),
+            'a_range_of_truth_values': ('N10', 'F @in False .. True'),
+            'not_over_a_number': ('N10', '@not A in 1 .. 5'), 'not_in_a_bound': ('N10', 'A in 1 .. @not B'),
+            'a_comparison_in_a_bound': ('N10', 'A @in 1 .. (B = 1)'),
+            'a_wrong_tested_one_before_a_type': ('N10', '(A @+ F) in Count'), 'a_wrong_type_before_a_truth_value': ('N1', 'F in @Count'),
+            'a_wrong_low_bound_before_a_high_one': ('N1', 'F in @Y .. Z'), 'a_sum_of_a_test': ('N10', '(A in 1 .. 5) @+ 1 = 2')}.items():
+        yield refused(f'membership_test_of_{name}.adb', tested(condition), rule)
+
+
+EVERYWHERE = ('Integer', 'Natural', 'Positive', 'Boolean', 'True', 'False')
+
+
+def predefined_names():
+    """What is declared everywhere cannot be declared again, and stands only where it is asked for."""
+    for word in EVERYWHERE[1:]:
+        small, mark = word.lower(), {'True': 'N3', 'False': 'N3'}.get(word)
+        yield refused(f'procedure_named_{small}.adb', procedure('X', name='@' + word, end=None), 'N2')
+        yield refused(f'formal_named_{small}.adb', procedure('X', formals=f'X, @{word.upper()}', derives='X from X'), 'N2')
+        yield refused(f'local_named_{small}.adb', with_local(f'T, @{small} : Integer'), 'N2')
+        yield refused(f'{small}_for_a_target.adb', procedure('X', target='@' + word), 'N3')
+        yield refused(f'{small}_for_an_export.adb', procedure('X', derives=f'X, @{word} from X'), 'N3')
+        yield refused(f'{small}_for_an_import.adb', procedure('X', derives=f'X from X, @{word}'), 'N3')
+        yield refused(f'{small}_in_null_from.adb', procedure('X', derives=f'X from X & null from @{word}'), 'N3')
+        if mark:
+            yield refused(f'{small}_for_a_type.adb', procedure('X', type_mark='@' + word), 'N3')
+            yield refused(f'{small}_for_a_type_of_locals.adb', with_local(f'T : @{word}'), 'N3')
+            yield refused(f'{small}_for_a_prefix.adb', procedure(f"@{word}'First", **OUT), 'N3')
+            yield refused(f'{small}_in_a_sum.adb', procedure(f'X @+ {word}'), 'N10')
+        else:
+            yield refused(f'{small}_for_an_operand.adb', procedure(f'X + @{word}'), 'N3')
+            yield refused(f'{small}_for_a_condition.adb', conditional(f'if @{word} then X := 1; end if'), 'N3')
+    yield refused('first_of_boolean.adb', procedure("@Boolean'First", **OUT), 'N3')
+    yield refused('last_of_boolean_for_a_truth_value.adb', over("@Boolean'Last", of='Boolean'), 'N3')
+    yield refused('size_of_natural.adb', procedure("@Natural'Size", **OUT), 'N3')
+    yield refused('declaration_of_natural_before_its_type.adb', longer('@Natural : in Count', None, 'null'), 'N2')
+
+
+def types_of_operands():
+    """N10 at each operator where an operand has another type, and at what does not fit its context."""
+    for operator in ('+', '-', '*', '/', 'mod', 'rem', '**'):
+        name = {'+': 'sum', '-': 'difference'}.get(operator) or OPERATOR_NAMES[operator]
+        yield refused(f'truth_value_on_the_left_of_a_{name}.adb', over(f'F @{operator} A'), 'N10')
+        yield refused(f'truth_value_on_the_right_of_a_{name}.adb', over(f'A @{operator} F'), 'N10')
+        yield refused(f'static_truth_value_in_a_{name}.adb', over(f'2 @{operator} True'), 'N10')
+    for operator in ('<', '<=', '>', '>='):
+        name = {'<': 'less', '<=': 'less_or_equal', '>': 'greater', '>=': 'greater_or_equal'}[operator]
+        yield refused(f'truth_values_with_{name}.adb', tested(f'F @{operator} G'), 'N10')
+        yield refused(f'truth_value_and_number_with_{name}.adb', tested(f'A @{operator} G'), 'N10')
+        yield refused(f'static_truth_values_with_{name}.adb', tested(f'False @{operator} True'), 'N10')
+    for operator in ('=', '/='):
+        name = {'=': 'equal', '/=': 'not_equal'}[operator]
+        yield accepted(f'truth_values_with_{name}.adb', tested(f'F {operator} G'), 2)
+        yield accepted(f'truth_value_and_comparison_with_{name}.adb', tested(f'F {operator} (A < B)'), 2)
+        yield refused(f'truth_value_and_number_with_{name}.adb', tested(f'F @{operator} A'), 'N10')
+        yield refused(f'number_and_truth_value_with_{name}.adb', tested(f'1 @{operator} True'), 'N10')
+    for operator in OPERATORS:
+        name = operator.replace(' ', '_')
+        yield refused(f'number_on_the_left_of_{name}.adb', tested(f'A @{operator} F'), 'N10')
+        yield refused(f'number_on_the_right_of_{name}.adb', tested(f'F @{operator} 1'), 'N10')
+        yield refused(f'number_at_the_end_of_a_chain_of_{name}.adb', tested(f'F {operator} G @{operator} A'), 'N10')
+        yield refused(f'number_in_the_middle_of_a_chain_of_{name}.adb', tested(f'F @{operator} A {operator} G'), 'N10')
+    for name, (rule, text) in {
+            'not_of_a_number': ('N10', tested('@not A')), 'not_of_a_literal': ('N10', tested('@not 1')),
+            'abs_of_a_truth_value': ('N10', over('@abs F')),
+            'minus_of_a_truth_value': ('N10', over('@-F')), 'number_for_a_truth_value': ('N10', over('@1', of='Boolean')),
+            'sum_for_a_truth_value': ('N10', over('A @+ 1', of='Boolean')),
+            'truth_value_for_a_number': ('N10', over('@F')), 'and_for_a_number': ('N10', over('F @and G')),
+            'not_for_a_number': ('N10', over('@not F')), 'test_for_a_number': ('N10', over('A @in Natural')),
+            'truth_value_for_a_natural': ('N10', over('@True', of='Natural')), 'natural_for_a_condition': ('N10', tested('@N')),
+            'product_for_a_condition': ('N10', tested('A @* B')),
+            'parentheses_for_a_truth_value': ('N10', over('@(A)', of='Boolean')),
+            'mod_for_a_precondition': ('N10', over('A', pre='A @mod 2')),
+            'abs_for_a_precondition': ('N10', over('A', pre='@abs A')), 'left_before_the_operator': ('N1', tested('@Y and 1')),
+            'right_before_the_operator': ('N1', tested('1 and @Y')),
+            'right_of_a_short_circuit_form_before_it': ('N12', tested('1 and then 1 @/ 0 = 0')),
+            'operator_before_a_wide_operand': ('N10', tested('A @< F or A < 2147483648'))}.items():
+        yield refused(f'types_of_{name}.adb', text, rule)
+
+
+def truth_values():
+    """Objects of the type Boolean: what is known of them, and what the simplifier does with them."""
+    yield accepted('copy_of_a_truth_value.adb', over('F', of='Boolean'), 0)
+    yield accepted('truth_value_that_is_static.adb', over('True', of='Boolean'), 0)
+    yield accepted('comparison_for_a_truth_value.adb', over('A < B', of='Boolean'), 0)
+    yield accepted('operators_for_a_truth_value.adb', over('(F and G) or (not F xor G) or A in Natural', of='Boolean'), 0)
+    yield left_at('sum_in_a_truth_value.adb', over('A <1o>+ 1 > B', of='Boolean'), 1)
+    yield accepted('truth_value_through_a_local.adb',
+                   longer('F : in Boolean; X : out Boolean', 'X from F', 'T := F xor True', 'X := not T', declared=['T : Boolean']), 0)
+    yield accepted('flip.adb', longer('B : in Boolean; X : in out Boolean', 'X from X, B', *['if B then X := not X; end if'] * 6), 0)
+    for name, pre in {'itself_unequal': 'F /= F', 'itself_xor': 'F xor F', 'not_equal_to_itself': 'not (F = F)', 'false': 'False',
+            'and_false': 'F and False', 'false_and_then': 'False and then F',
+                      'not_or_true': 'not (F or True)', 'not_true_or_else': 'not (True or else F)', 'not_or_not': 'not (F or not F)',
+                      'not_or_else_not': 'not (F or else (not F))',
+                      'not_not_false': 'not (not False)', 'unequal_literals': 'True xor True',
+                      'double_not_of_itself': 'not (not (F /= F))', 'conjunction_in_parentheses': f'F and (G and A < {LAST})',
+                      'conjunction_of_and_then': f'A < {LAST} and then F', 'not_of_a_comparison': f'not (A >= {LAST})',
+                      'not_not_of_a_comparison': f'not (not (A < {LAST}))',
+                      'not_of_equal_sums': 'not (A + 0 = A)', 'or_false': f'A < {LAST} or False', 'false_or': f'False or else A < {LAST}',
+                      'true_and': f'True and A < {LAST}'}.items():
+        yield accepted(f'known_by_{name}.adb', over('A + 1', pre=pre))
+    for name, pre in {'itself_equal': 'F = F', 'and_not': 'F and not F', 'not_and_not': 'not (F and G)', 'or': f'A < {LAST} or F',
+            'not_or_other_order': 'not (not F or F)',
+                      'not_or_of_a_comparison': 'not (A < 0 or not (A < 0))', 'equal_to_false': 'F = False and F',
+                      'xor': f'(A < {LAST}) xor False', 'not_of_unequal': 'not (F /= G) and F /= G',
+                      'equal_to_true': f'(A < {LAST}) = True', 'true': 'True', 'not_false': 'not False',
+                      'not_not_a_conjunction': f'not (not (A < {LAST} and F))', 'or_of_equals': f'A < {LAST} or A < {LAST}'}.items():
+        yield left_at(f'not_known_by_{name}.adb', over('A <1o>+ 1', pre=pre), 2)
+    # in an arm, and after it
+    for name, condition, arm, rest in (
+            ('conjunction', f'F and A < {LAST}', 'A + 1', 'A <3o>+ 1'), ('disjunction', f'F or A = {LAST}', 'A <1o>+ 1', 'A <3o>+ 1'),
+            ('and_then', f'A < {LAST} and then F', 'A + 1', 'A <3o>+ 1'), ('membership_test', 'A in 0 .. 5', 'A + 1', 'A <3o>+ 1'),
+            ('no_membership_test', 'A not in 0 .. 5', 'A <1o>+ 1', 'A <3o>+ 1'),
+            ('not', f'not (A = {LAST} or F)', 'A <1o>+ 1', 'A <3o>+ 1'),
+            ('comparison', f'A < {LAST}', 'A + 1', 'A <3o>+ 1'), ('not_of_a_comparison', f'not (A < {LAST})', 'A <1o>+ 1', 'A + 1')):
+        yield left_at(f'arm_of_a_{name}.adb',
+                      over(f'{condition} {arm}', statements=[f'if {condition} then X := {arm}; else X := {rest}; end if']), 4)
+    yield left_at('truth_value_that_keeps_a_comparison.adb',
+                  longer('A : in Integer; X : out Integer', 'X from A', f'T := A < {LAST}',
+                         'if T then X := A + 1; else X := A <3o>+ 1; end if', declared=['T : Boolean']), 4)
+    # a Boolean variable is one fact: the conjunction that was assigned to it is not split
+    yield left_at('truth_value_that_keeps_a_conjunction.adb',
+                  longer('A : in Integer; X : out Integer', 'X from A', 'T := A in 1 .. 5',
+                         'if T then X := A <1o>+ 1; else X := A <3o>+ 1; end if', declared=['T : Boolean']), 4)
+
+
+def natural_and_positive():
+    """Natural and Positive at their ends: their facts, the range checks of what is assigned, and overflow of Integer."""
+    for name, of, value, total, pre in (
+            ('natural_zero', 'Natural', '0', 1, None), ('natural_last', 'Natural', LAST, 1, None),
+            ('natural_below', 'Natural', '<1r>-1', 1, None),
+            ('natural_far_below', 'Natural', f'<1r>{FIRST}', 1, None),
+            ('natural_first_and_one_less', 'Natural', "Natural'First <1r>- 1", 1, None),
+            ('positive_one', 'Positive', '1', 1, None), ('positive_zero', 'Positive', '<1r>0', 1, None),
+            ('positive_first', 'Positive', "Positive'First", 1, None),
+            ('positive_of_natural_first', 'Positive', "<1r>Natural'First", 1, None), ('natural_of_integer', 'Natural', '<1r>A', 1, None),
+            ('natural_of_positive', 'Natural', 'P', 1, None),
+            ('positive_of_natural', 'Positive', '<1r>N', 1, None), ('positive_of_natural_that_is_not_zero', 'Positive', 'N', 1, 'N > 0'),
+            ('positive_of_unequal_natural', 'Positive', '<1r>N', 1, 'N /= 0'),
+            ('integer_of_natural', 'Integer', 'N', 1, None), ('natural_more', 'Natural', 'N <1o>+ 1', 2, None),
+            ('natural_less', 'Natural', 'N <2r>- 1', 2, None),
+            ('positive_less', 'Positive', 'P <2r>- 1', 2, None), ('natural_of_positive_less', 'Natural', 'P - 1', 2, None),
+            ('natural_in_parentheses', 'Natural', '<2r>(N - 1)', 2, None),
+            ('natural_less_and_more', 'Natural', 'N - 1 + 1', 3, None), ('natural_difference', 'Natural', 'N <2r>- P', 2, None),
+            ('natural_of_abs', 'Natural', 'abs A', 2, f'A > {FIRST}'),
+            ('natural_of_mod', 'Natural', 'A mod P', 2, None), ('natural_of_rem', 'Natural', 'A <2r>rem P', 2, None),
+            ('natural_of_natural_rem', 'Natural', 'N rem P', 2, None),
+            ('positive_of_mod', 'Positive', 'A <2r>mod P', 2, None), ('natural_of_a_quotient', 'Natural', 'N <3r>/ P', 3, None),
+            ('natural_of_minus', 'Natural', '<2r>-N', 2, None),
+            ('natural_of_a_type', 'Natural', 'A', 1, 'A in Natural'), ('positive_of_a_type', 'Positive', 'A', 1, 'A in Positive'),
+            ('natural_of_what_is_in_no_type', 'Natural', '<1r>A', 1, 'A not in Positive')):
+        yield left_at(f'{name}.adb', over(value, of=of, pre=pre), total)
+    yield left_at('natural_that_is_counted_down.adb',
+                  longer('N : in out Natural', 'N from N', 'N := N <2r>- 1', 'N := N <4r>- 1'), 4)
+    yield left_at('natural_local.adb', longer(X, 'X from X', 'T := <1r>X', 'X := T - 1', declared=['T : Natural']), 3)
+    yield left_at('natural_that_is_no_import.adb',
+                  longer('X : out Natural; A : in Integer', 'X from & null from A', 'X := 0', pre='A > 0'), 1)
+    yield left_at('natural_that_is_set_in_arms.adb',
+                  longer('A : in Integer; X : out Natural', 'X from A', 'if A >= 0 then X := A; else X := <2o>-A; end if'), 3)
+    yield refused('natural_last_and_one.adb', procedure("Natural'Last @+ 1", **OUT), 'N12')
+    yield refused('wide_number_for_a_natural.adb', over('@2147483648', of='Natural'), 'N12')
+    yield refused('low_number_for_a_positive.adb', over('@-2147483649', of='Positive'), 'N12')
+
+
+def null_from():
+    """`null from`: what it says of modes, of preconditions and of flow."""
+    params = 'A, B : in Integer; X : out Integer'
+    for name, derives in {'second_item': 'X from A & null from B', 'first_item': 'null from B & X from A',
+            'two_items': 'null from B & X from A & null from A',
+                          'name_in_a_pair': 'X from A & null from B, A', 'other_cases': 'X from a & NULL FROM b',
+                          'other_order': 'null from A, B & X from A'}.items():
+        yield accepted(f'null_from_as_{name}.adb', longer(params, derives, 'X := A'), 1)
+    yield accepted('null_from_alone.adb', longer('A, B : in Integer', 'null from A, B', 'null'), 0)
+    yield accepted('null_from_and_star.adb', longer(X, 'X from * & null from X', 'X := X'), 1)
+    yield accepted('null_from_for_in_out.adb', longer(X, 'X from & null from X', 'X := 1'), 1)
+    yield accepted('null_from_makes_an_import_of_pre.adb', longer(X, 'X from & null from X', 'X := 1', pre='X > 0'), 1)
+    yield accepted('null_from_for_what_is_read_and_lost.adb',
+                   longer('A : in Integer; F : in Boolean; X : out Integer', 'X from A, F & null from A',
+                          'if F then X := A; else X := 0; end if'), 2)
+    for name, derives in {'twice': 'X from A & null from B, B', 'twice_in_two_cases': 'X from A & null from B, b',
+            'in_two_items': 'X from A & null from B & null from B',
+                          'in_items_apart': 'null from B & X from A & null from A, b', 'without_the_other': 'X from A & null from A',
+                          'only': 'null from A, B',
+                          'pair_twice_beside_it': 'X from A, A & null from B',
+                          'export_twice_beside_it': 'X from A & X from & null from B'}.items():
+        yield refused(f'null_from_{name}.adb', at_derives(longer(params, derives, 'X := A')), 'U7')
+    for name, text in {'of_mode_out': longer('A : in Integer; X : out Integer', 'X from A & null from @X', 'X := A'),
+                       'of_mode_out_first': longer('A : in Integer; X : out Integer', 'null from @X & X from A', 'X := A'),
+                       'of_in_out_that_is_not_exported': longer('A, X : in out Integer', 'A from A & null from @X', 'null'),
+                       'of_in_that_is_exported': longer('A : in Integer', '@A from & null from A', 'null'),
+                       'of_mode_out_by_star_before_it': longer('A : in Integer; X : out Integer', '@X from * & null from A, X',
+                                                               'X := A')}.items():
+        yield refused(f'null_from_{name}.adb', text, 'U8')
+    yield refused('null_from_of_another_and_pre.adb',
+                  longer('A : in Integer; X : out Integer', 'X from & null from A', 'X := 1', pre='A > @X'), 'U11')
+    for name, (rule, derives) in {'undeclared': ('N1', 'X from A & null from B, @Y'), 'type': ('N3', 'X from A & null from @Integer'),
+            'procedure': ('N3', 'null from @Inc & X from A, B'),
+                                  'attribute': ('N3', "X from A & null from @Integer'First")}.items():
+        yield refused(f'null_from_of_an_{name}_name.adb', longer(params, derives, 'X := A'), rule)
+    for name, derives in {'nothing': 'null from @', 'star': 'null from @*', 'no_from': 'null @B', 'null_and_a_name': 'null@, X from A',
+            'a_name_and_null': 'X, @null from A', 'comma': 'null from A, @',
+                          'star_after_a_name': 'null from A, @*', 'null_for_an_import': 'X from @null', 'number': 'null from @1',
+                          'parentheses': 'null from @(A)', 'no_ampersand': 'X from A @null from B'}.items():
+        yield unexpected(f'null_from_with_{name}.adb', longer(params, derives, 'X := A'))
+    yield unexpected('null_from_unmarked.adb', longer(params, 'X from A &\n@null from B', 'X := A'))
+    yield refused('null_from_and_a_flow.adb', longer(params, '@X from A & null from B', 'X := B - A'), 'F1 missing: X from B')
+    yield refused('null_from_and_an_unused_pair.adb', longer(params, '@X from A, B & null from B', 'X := A'), 'F2 unused: X from B')
+    yield refused('null_from_and_a_lost_value.adb',
+                  longer(params, 'X from A & null from B', '@T := B', 'X := A', declared=T), 'F3')
+    yield refused('null_from_and_a_condition.adb', longer(params, 'X from A & null from B', 'X := A', '@if B > 0 then null; end if'), 'F3')
+    yield refused('null_from_and_an_unset_local.adb',
+                  longer(params, 'X from A & null from B', 'X := A - @T', declared=T), 'F4 unset: T')
+
+
+def levels_of_operators():
+    """Each operator opens a level at its first token, and there are at most 200."""
+    def closed(text, opening, closing, count):
+        return opening * count + text + closing * count
+
+    for name, inner, after in (('product', '1', ' * 1'), ('quotient', '1', ' / 1'), ('mod', '1', ' mod 2'), ('rem', '1', ' rem 2')):
+        yield accepted(f'chain_of_200_of_{name}.adb', procedure(inner + after * 200, **OUT), 1)
+        yield too_nested(f'chain_of_201_of_{name}.adb', procedure(inner + after * 201, **OUT))
+    for operator in OPERATORS:
+        name = operator.replace(' ', '_')
+        yield accepted(f'chain_of_200_of_{name}.adb', tested('F' + f' {operator} F' * 199), 2)
+        yield too_nested(f'chain_of_201_of_{name}.adb', tested('F' + f' {operator} F' * 200))
+        # the level is opened at the first word, whatever comes after it
+        yield too_nested(f'chain_of_201_of_{name}_at_its_first_word.adb',
+                         tested('F' + f' {operator} F' * 199).replace(' then X', f' {operator.split()[0]} ; X', 1))
+    yield accepted('nested_not_of_200_levels.adb', over(closed('F', 'not (', ')', 100), of='Boolean'), 0)
+    yield too_nested('nested_not_of_201_levels.adb', over(closed('not F', 'not (', ')', 100), of='Boolean'))
+    yield accepted('nested_abs_of_200_levels.adb', over(closed('1', 'abs (', ')', 100)), 1)
+    yield too_nested('nested_abs_of_201_levels.adb', over(closed('abs 1', 'abs (', ')', 100)))
+    yield accepted('nested_power_of_200_levels.adb', over(closed('1', '(', ' ** 1)', 100)), 1)
+    yield too_nested('nested_power_of_201_levels.adb', over(closed('1', '(', ' ** 1)', 100) + ' ** 1'))
+    for name, test in (('type', 'in Natural'), ('range', 'in 1 .. 5'), ('no_type', 'not in Natural')):
+        yield accepted(f'test_in_a_{name}_of_200_levels.adb', over(closed('A', '(', ')', 199) + ' ' + test, of='Boolean'), 0)
+        yield too_nested(f'test_in_a_{name}_of_201_levels.adb', over(closed('A', '(', ')', 200) + ' ' + test, of='Boolean'))
+    yield too_nested('test_of_201_levels_at_not.adb', over(closed('A', '(', ')', 200) + ' not ;', of='Boolean'))
+    yield unexpected('test_of_200_levels_and_another_token.adb', over(closed('A', '(', ')', 199) + ' not @;', of='Boolean'))
+    yield accepted('high_bound_of_200_levels.adb', over('A in 1 .. ' + closed('5', '(', ')', 199), of='Boolean'), 0)
+    yield too_nested('high_bound_of_201_levels.adb', over('A in 1 .. ' + closed('5', '(', ')', 200), of='Boolean'))
+    yield too_nested('low_bound_of_201_levels.adb', over('A in ' + closed('5', '(', ')', 200) + ' .. 6', of='Boolean'))
+    yield too_nested('exponent_of_201_levels.adb', over('A ** ' + closed('5', '(', ')', 200)))
+    yield too_nested('operand_of_abs_of_201_levels.adb', over('abs ' + closed('A', '(', ')', 200)))
+    yield accepted('term_after_a_sign_of_200_levels.adb', over('-1' + ' * 1' * 199), 1)
+    yield too_nested('term_after_a_sign_of_201_levels.adb', over('-1' + ' * 1' * 200))
+
+
+def sum_of_nodes(count):
+    """A relation of so many nodes: sums of X, with a minus where the number is even."""
+    return f'X{" + X" * ((count - 3) // 2)} = 0' if count % 2 else f'-X{" + X" * ((count - 4) // 2)} = 0'
+
+
+def nodes_of_operators():
+    """As in `nodes_of_branches`, where the facts that a condition brings have so many nodes, and checks stand before the arm."""
+    for name, condition, nodes, checks in (
+            ('conjunction', 'X >= 0 and X /= 5', 3 + 3, 0), ('and_then', 'X >= 0 and then X /= 5', 3 + 3, 0),
+            ('disjunction', 'X >= 0 or X /= 5', 7, 0),
+            ('xor', 'X >= 0 xor X /= 5', 7, 0), ('not', 'not (X >= 0 and X /= 5)', 8, 0), ('test_in_a_range', 'X in 0 .. X', 3 + 3, 0),
+            ('test_in_a_type', 'X in Natural', 3, 0), ('no_test', 'X not in 0 .. 5', 8, 0), ('division', 'X mod 2 >= 0', 3 + 5, 1),
+            ('guarded_division', 'X = 0 or else X mod 2 >= 0', 8 + 9, 1), ('truth_value', 'True', 1, 0),
+            ('static_conjunction', 'X >= 0 and 1 < 2', 3 + 1, 0)):
+        fitting, larger = sum_of_nodes(182 - nodes), sum_of_nodes(183 - nodes)
+        left = [number + checks for number in range(1, 39, 2)]
+        yield examined(f'{name}_of_1000000_nodes.adb', doublings_and_increments_in(f'if {condition} then', fitting),
+                       ('Inc', 38 + checks, *left))
+        yield too_large(f'{name}_of_1000001_nodes.adb', doublings_and_increments_in(f'if {condition} then', larger).replace('@', ''))
+
+
 # ---------------------------------------------------------------- the table
 
 GROUPS = (form, relations, simplifier, numbers, places, words, layout, comments, marks, other_bytes, tokens, grammar,
@@ -3276,7 +3989,10 @@ GROUPS = (form, relations, simplifier, numbers, places, words, layout, comments,
           breaches_in_expressions, rules_in_order, procedures_in_order, headings_in_order,
           flow_findings_in_order, nodes_of_conditions, numbers_of_variables, branches, facts_of_arms, static_conditions,
           checks_of_conditions, order_of_conditions, flow_of_branches, ineffective_branches, unset_in_branches,
-          rules_of_branches, syntax_of_branches, levels_of_branches, numbers_of_paths, nodes_of_branches)
+          rules_of_branches, syntax_of_branches, levels_of_branches, numbers_of_paths, nodes_of_branches, worked_texts, values_of_divisions,
+          values_of_operators, ends_of_static_operators, meeting_a_type, run_time_ends, intervals_of_operators, guards,
+          mixed_chains, membership_tests, predefined_names, types_of_operands, truth_values, natural_and_positive,
+          null_from, levels_of_operators, nodes_of_operators)
 CASES = tuple(case for group in GROUPS for case in group())
 
 

@@ -11,6 +11,8 @@ use Rattle.spx_tree.specs.declared.declaration.Decl.TheVariants as decl
 use Rattle.spx_tree.specs.declared.statement.Stmt.{Stmt, Stmt-F, map-Stmt, roll-Stmt, ind-Stmt, fold-roll-Stmt}
 use Rattle.spx_tree.specs.declared.statement.Stmt.TheVariants as stmt
 use Rattle.spx_tree.specs.declared.statement.Arm.{Arm, Arm-F, map-Arm, roll-Arm, fold-roll-Arm}
+use Rattle.spx_tree.specs.declared.annotation.Exports.{Exports}
+use Rattle.spx_tree.specs.declared.annotation.Exports.TheVariants as exported
 use Rattle.spx_tree.specs.declared.annotation.DerivesItem.{DerivesItem}
 use Rattle.spx_tree.specs.declared.annotation.Derives.{Derives}
 use Rattle.spx_tree.specs.declared.annotation.Precondition.{Precondition}
@@ -25,13 +27,13 @@ use Rattle.spx_core.specs.declared.statement.CoreStmt.{CoreStmt, CoreStmt-F, map
 use Rattle.spx_core.specs.declared.statement.CoreArm.{CoreArm, fold-roll-CoreArm}
 use Rattle.spx_core.specs.declared.program.Program.{Program}
 use Rattle.spx_core.specs.Regions.{Region, Regions, hidden}
-use Rattle.spx_core.specs.Erased.{Visible, erased, erased_arm, erased_arm_step, erased_decl, erased_defining, erased_derives, erased_expr, erased_formal_part, erased_item, erased_param, erased_pre, erased_reference, erased_step, erased_stmt, erased_stmt_step, erased_sub, unit_of}
+use Rattle.spx_core.specs.Erased.{Visible, erased, erased_arm, erased_arm_step, erased_decl, erased_defining, erased_derives, erased_exports, erased_expr, erased_formal_part, erased_item, erased_param, erased_pre, erased_reference, erased_step, erased_stmt, erased_stmt_step, erased_sub, unit_of}
 use Rattle.spx_core.specs.Judged.{breach_in}
 use Rattle.spx_core.specs.Statements.{Typed, first_name_breach, judged_program}
 use Rattle.spx_core.proofs.Callers.Bodies.{all_are_units}
 use Rattle.spx_core.proofs.Judgements.{unbroken}
 use Rattle.spx_core.specs.Resolved as resolved
-use Rattle.spx_core.specs.Resolved.{around_body, around_formals, declared_by, declaring, declaring_all, defining, defining_all, formal_names, local_names, own_vars, resolved_arm, resolved_decl, resolved_decls, resolved_derives, resolved_expr, resolved_formal_part, resolved_item, resolved_name, resolved_param, resolved_params, resolved_pre, resolved_reference, resolved_stmt, resolved_sub, resolved_subs, unit_name, variable_at}
+use Rattle.spx_core.specs.Resolved.{around_body, around_formals, declared_by, declaring, declaring_all, defining, defining_all, exported_names, formal_names, local_names, own_vars, place_of_null, resolved_arm, resolved_decl, resolved_decls, resolved_derives, resolved_expr, resolved_formal_part, resolved_item, resolved_name, resolved_param, resolved_params, resolved_pre, resolved_reference, resolved_stmt, resolved_sub, resolved_subs, unit_name, variable_at}
 
 -- ---- names and expressions
 
@@ -58,6 +60,12 @@ module _ (regions : Regions) where
   at_layer (Expr-F.Parenthesized place a) = erased_at (CoreExpr-F.Parenthesized place (resolved_expr regions a.0)) ∙ ap (expr.Parenthesized place) a.1
   at_layer (Expr-F.Prefix op place a) = erased_at (CoreExpr-F.Prefix op place (resolved_expr regions a.0)) ∙ ap (expr.Prefix op place) a.1
   at_layer (Expr-F.Infix op place a b) = erased_at (CoreExpr-F.Infix op place (resolved_expr regions a.0) (resolved_expr regions b.0)) ∙ ap₂ (expr.Infix op place) a.1 b.1
+  at_layer (Expr-F.InType op place a name) =
+      erased_at (CoreExpr-F.InType op place (resolved_expr regions a.0) (resolved_reference regions name)) ∙ ap₂ (expr.InType op place) a.1 (kept_reference regions name)
+  at_layer (Expr-F.InRange op place a low high) =
+      erased_at (CoreExpr-F.InRange op place (resolved_expr regions a.0) (resolved_expr regions low.0) (resolved_expr regions high.0))
+      ∙ ap (λ x. expr.InRange op place x (erased_expr (resolved_expr regions low.0)) (erased_expr (resolved_expr regions high.0))) a.1
+      ∙ ap₂ (expr.InRange op place a.0) low.1 high.1
 
   layer : (y : Expr-F Shown) → Kept (roll-Expr (map-Expr Shown Expr (λ e. e.0) y))
   layer y = ap erased_expr (fold-roll-Expr CoreExpr (resolved.expr_step regions) (map-Expr Shown Expr (λ e. e.0) y)) ∙ at_layer y
@@ -130,10 +138,14 @@ module _ (regions : Regions) where
   kept_stmt : (s : Stmt) → KeptStmt s
   kept_stmt = ind-Stmt KeptStmt KeptArm (λ x y is. subst (λ z. KeptStmt (roll-Stmt z)) is (stmt_layer y)) (λ x y is. subst (λ z. KeptArm (roll-Arm z)) is (arm_layer y))
 
+  kept_exports : (exports : Exports) → erased_exports (place_of_null exports) (map (resolved_reference regions) (exported_names exports)) ≡ exports
+  kept_exports (exported.Names names) = ap exported.Names (kept_each erased_reference (resolved_reference regions) (kept_reference regions) names)
+  kept_exports (exported.Null place) = refl
+
   kept_item : (item : DerivesItem) → erased_item (resolved_item regions item) ≡ item
   kept_item item =
-      ap₂ (λ (es is : List Name). let x : DerivesItem = record { exports = es; imports = record { itself = item.imports.itself; names = is } } in x)
-      (kept_each erased_reference (resolved_reference regions) (kept_reference regions) item.exports)
+      ap₂ (λ (es : Exports) (is : List Name). let x : DerivesItem = record { exports = es; imports = record { itself = item.imports.itself; names = is } } in x)
+      (kept_exports item.exports)
       (kept_each erased_reference (resolved_reference regions) (kept_reference regions) item.imports.names)
 
   kept_derives : (derives : Derives) → erased_derives (resolved_derives regions derives) ≡ derives

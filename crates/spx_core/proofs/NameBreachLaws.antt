@@ -1,12 +1,13 @@
 -- What is reported of a rule on names or types is broken at that place, and where nothing is reported no rule is broken.
 -- Of each kind of part, a lemma `.._found` says the first, and a lemma `no_..` the second.
-use Rattle.std.proofs.Common.{◌≡◌, true, false, not, ◌&&◌, List, [], ◌∷◌, Option, Some, None, Ok, Err, refl, sym, ap, subst, ◌∙◌, ⊎_elim}
+use Rattle.std.proofs.Common.{◌≡◌, ◌⊎◌, true, false, not, ◌&&◌, List, [], ◌∷◌, Option, Some, None, Ok, Err, refl, sym, ap, subst, ◌∙◌, inl, inr, ⊎_elim}
 use Rattle.std.specs.Prelude.{Contains}
-use Rattle.std.proofs.lemmas.Bool.{and_from, and_left, and_right, both_ways, not-false, not-true}
+use Rattle.std.proofs.lemmas.Bool.{and_cases, and_from, and_left, and_parts, and_right, both_ways, not-false, not-true}
 use Rattle.std.proofs.lemmas.List.Elements.{Contains-append_left, Contains-append_right, Contains-append_cases}
 use Rattle.spx_text.specs.declared.place.Place.{Place}
 use Rattle.spx_tree.specs.declared.expression.Identifier.{Identifier}
 use Rattle.spx_tree.specs.declared.expression.InfixOp.{InfixOp}
+use Rattle.spx_tree.specs.declared.expression.MemberOp.{MemberOp}
 use Rattle.spx_tree.specs.declared.expression.PrefixOp.{PrefixOp}
 use Rattle.spx_tree.specs.declared.subprogram.Unit.{Unit}
 use Rattle.spx_core.specs.declared.entity.Entity.{Entity}
@@ -35,16 +36,16 @@ use Rattle.spx_core.specs.declared.rule.Typing.{Typing}
 use Rattle.spx_core.specs.Commands.{Command, Skip, Set, Then, Choose, commands}
 use Rattle.spx_core.specs.Dependency.{relation}
 use Rattle.spx_core.specs.HasType.{HasType}
-use Rattle.spx_core.specs.Judged.{Judged, ◌>>=◌, attribute, condition, each, expr_step, if_there, is_attribute, is_whole, judged, keeps, named_object, named_type, object_at, operand_of, operation, referred_object, referred_type, sign, type_at, whole}
+use Rattle.spx_core.specs.Judged.{Judged, ◌>>=◌, attribute, condition, each, expr_step, if_there, integer_type, is_attribute, is_whole, judged, keeps, member_of_range, member_of_type, named_object, named_type, named_value, object_at, operand_of, operation, referred_object, referred_type, sign, type_at, value_at, whole}
 use Rattle.spx_core.specs.NameBreaches as broken
-use Rattle.spx_core.specs.NameBreaches.{BreaksCommand, BreaksCondition, BreaksExpr, BreaksName, BreaksProgram, BreaksReference, BreaksSub, IsObject, IsType}
+use Rattle.spx_core.specs.NameBreaches.{BreaksCommand, BreaksCondition, BreaksExpr, BreaksName, BreaksProgram, BreaksReference, BreaksSub, IsObject, IsType, IsValue}
 use Rattle.spx_core.specs.Resolved.{declared_by, formal_names, local_names, params_of, resolved}
 use Rattle.spx_core.specs.Statements.{assignment, declared, declared_once, first_name_breach, judged_command, judged_decl, judged_end, judged_item, judged_name, judged_param, judged_pre, judged_program, judged_sub, judged_variable, test}
-use Rattle.spx_core.specs.Types.{both_held, is_boolean, is_held, is_number, is_of, lies_in, meet, met, result_of, result_type, signed_result}
+use Rattle.spx_core.specs.Types.{both_held, has_numbers, is_boolean, is_held, is_of, left_type, lies_in, met, operand_fits, operands_fit, result_of, result_type, right_type, signed_result, three_fit}
 use Rattle.spx_core.proofs.Elements.{in_all, in_first, in_none, in_part}
 use Rattle.spx_core.proofs.Judgements.{bound, by_part, by_test, each_broken, joined, kept, ok_is, passes_at, reported, unbroken}
 use Rattle.spx_core.proofs.TypedLaws.{complete, sound}
-use Rattle.spx_core.proofs.Callers.Expressions.{Cases, induct, fold-Number, fold-Name, fold-Attribute, fold-Parenthesized, fold-Prefix, fold-Infix}
+use Rattle.spx_core.proofs.Callers.Expressions.{Cases, induct, fold-Number, fold-Name, fold-Attribute, fold-Parenthesized, fold-Prefix, fold-Infix, fold-InType, fold-InRange}
 
 -- ---- names
 
@@ -59,25 +60,43 @@ object_found : (name : CoreName) (e : Option Entity) (b : Breach) → name.entit
 object_found name None b is h = told (BreaksName IsObject name) N1 name.name.place b h (broken.undeclared is)
 object_found name (Some (entity.Variable v object)) b is h = absurd cc
 object_found name (Some (entity.TypeName subtype)) b is h = told (BreaksName IsObject name) N3 name.name.place b h (broken.of_another_kind (entity.TypeName subtype) is (λ o. let e = o.2 in cc))
+object_found name (Some (entity.Literal subtype position)) b is h = told (BreaksName IsObject name) N3 name.name.place b h (broken.of_another_kind (entity.Literal subtype position) is (λ o. let e = o.2 in cc))
 object_found name (Some (entity.Subprogram s)) b is h = told (BreaksName IsObject name) N3 name.name.place b h (broken.of_another_kind (entity.Subprogram s) is (λ o. let e = o.2 in cc))
+
+value_found : (name : CoreName) (e : Option Entity) (b : Breach) → name.entity ≡ e → value_at name.name.place e ≡ Err b → At (BreaksName IsValue name) b
+value_found name None b is h = told (BreaksName IsValue name) N1 name.name.place b h (broken.undeclared is)
+value_found name (Some (entity.Variable v object)) b is h = absurd cc
+value_found name (Some (entity.Literal subtype position)) b is h = absurd cc
+value_found name (Some (entity.TypeName subtype)) b is h = told (BreaksName IsValue name) N3 name.name.place b h (broken.of_another_kind (entity.TypeName subtype) is (⊎_elim (λ o. let e = o.2 in cc) (λ l. let e = l.2 in cc)))
+value_found name (Some (entity.Subprogram s)) b is h = told (BreaksName IsValue name) N3 name.name.place b h (broken.of_another_kind (entity.Subprogram s) is (⊎_elim (λ o. let e = o.2 in cc) (λ l. let e = l.2 in cc)))
 
 type_found : (name : CoreName) (e : Option Entity) (b : Breach) → name.entity ≡ e → type_at name.name.place e ≡ Err b → At (BreaksName IsType name) b
 type_found name None b is h = told (BreaksName IsType name) N1 name.name.place b h (broken.undeclared is)
 type_found name (Some (entity.TypeName subtype)) b is h = absurd cc
 type_found name (Some (entity.Variable v object)) b is h = told (BreaksName IsType name) N3 name.name.place b h (broken.of_another_kind (entity.Variable v object) is (λ o. let e = o.1 in cc))
+type_found name (Some (entity.Literal subtype position)) b is h = told (BreaksName IsType name) N3 name.name.place b h (broken.of_another_kind (entity.Literal subtype position) is (λ o. let e = o.1 in cc))
 type_found name (Some (entity.Subprogram s)) b is h = told (BreaksName IsType name) N3 name.name.place b h (broken.of_another_kind (entity.Subprogram s) is (λ o. let e = o.1 in cc))
 
 object_is : (place : Place) (e : Option Entity) (object : Object) → object_at place e ≡ Ok object → (v : VarId) × (e ≡ Some (entity.Variable v object))
 object_is place None object h = absurd cc
 object_is place (Some (entity.Variable v o)) object h = (v, ap (λ (x : Object). Some (entity.Variable v x)) (ok_is h))
 object_is place (Some (entity.TypeName subtype)) object h = absurd cc
+object_is place (Some (entity.Literal subtype position)) object h = absurd cc
 object_is place (Some (entity.Subprogram s)) object h = absurd cc
 
 type_is : (place : Place) (e : Option Entity) (subtype : Subtype) → type_at place e ≡ Ok subtype → e ≡ Some (entity.TypeName subtype)
 type_is place None subtype h = absurd cc
 type_is place (Some (entity.TypeName s)) subtype h = ap (λ (x : Subtype). Some (entity.TypeName x)) (ok_is h)
 type_is place (Some (entity.Variable v o)) subtype h = absurd cc
+type_is place (Some (entity.Literal s position)) subtype h = absurd cc
 type_is place (Some (entity.Subprogram s)) subtype h = absurd cc
+
+value_is : (place : Place) (e : Option Entity) (t : Typing) → value_at place e ≡ Ok t → (entity : Entity) × (e ≡ Some entity) × IsValue entity
+value_is place None t h = absurd cc
+value_is place (Some (entity.Variable v object)) t h = (entity.Variable v object, refl, inl (v, object, refl))
+value_is place (Some (entity.Literal subtype position)) t h = (entity.Literal subtype position, refl, inr (subtype, position, refl))
+value_is place (Some (entity.TypeName s)) t h = absurd cc
+value_is place (Some (entity.Subprogram s)) t h = absurd cc
 
 -- a name that denotes what is needed breaks no rule
 no_name : (IsNeeded : Entity → Type 0) (name : CoreName) (e : Entity) → name.entity ≡ Some e → IsNeeded e → (rule : RuleName) (place : Place) → ¬ BreaksName IsNeeded name rule place
@@ -86,6 +105,9 @@ no_name IsNeeded name e is needed _ _ (broken.of_another_kind other at unneeded)
 
 no_object_name : (name : CoreName) (object : Object) → named_object name ≡ Ok object → (rule : RuleName) (place : Place) → ¬ BreaksName IsObject name rule place
 no_object_name name object h = let o = object_is name.name.place name.entity object h in no_name IsObject name (entity.Variable o.0 object) o.1 (o.0, object, refl)
+
+no_value_name : (name : CoreName) (t : Typing) → named_value name ≡ Ok t → (rule : RuleName) (place : Place) → ¬ BreaksName IsValue name rule place
+no_value_name name t h = let v = value_is name.name.place name.entity t h in no_name IsValue name v.0 v.1 v.2
 
 no_type_name : (name : CoreName) (subtype : Subtype) → named_type name ≡ Ok subtype → (rule : RuleName) (place : Place) → ¬ BreaksName IsType name rule place
 no_type_name name subtype h = no_name IsType name (entity.TypeName subtype) (type_is name.name.place name.entity subtype h) (subtype, refl)
@@ -132,6 +154,21 @@ no_type_reference reference subtype h =
     let is = reference_is IsType (named_type reference.root) reference subtype h in
     no_reference IsType (named_type reference.root) reference is.1 (no_type_name reference.root subtype is.0)
 
+referred_is : (reference : Reference) (subtype : Subtype) → referred_type reference ≡ Ok subtype → reference.root.entity ≡ Some (entity.TypeName subtype)
+referred_is reference subtype h = type_is reference.root.name.place reference.root.entity subtype (reference_is IsType (named_type reference.root) reference subtype h).0
+
+-- a name denotes one type
+same_type_named : (reference : Reference) (s subtype : Subtype) → referred_type reference ≡ Ok s → reference.root.entity ≡ Some (entity.TypeName subtype) → s ≡ subtype
+same_type_named reference s subtype h is = ok_is (sym (reference_is IsType (named_type reference.root) reference s h).0 ∙ ap (type_at reference.root.name.place) is)
+
+integer_is : (reference : Reference) (subtype : Subtype) → integer_type reference ≡ Ok subtype → (reference.root.entity ≡ Some (entity.TypeName subtype)) × (referred_type reference ≡ Ok subtype) × (has_numbers subtype.base.class ≡ true)
+integer_is reference subtype h =
+    let s = bound (referred_type reference) _ subtype h in
+    let n = bound (keeps N10 reference.root.name.place (has_numbers s.0.base.class)) _ subtype s.2 in
+    let same : s.0 ≡ subtype = ok_is n.2 in
+    let referred = s.1 ∙ n.2 in
+    (referred_is reference subtype referred, referred, subst (λ (s : Subtype). has_numbers s.base.class ≡ true) same (kept N10 reference.root.name.place _ n.1))
+
 -- ---- expressions
 
 abbrev Found : CoreExpr → Type 0
@@ -140,7 +177,10 @@ Found e = (b : Breach) → judged e ≡ Err b → At (BreaksExpr e) b
 attribute_found : (prefix : CoreName) (designator : Identifier) (b : Breach) → attribute prefix designator ≡ Err b → At (BreaksExpr (expr.Attribute prefix designator)) b
 attribute_found prefix designator b h =
     by_part (named_type prefix) _ b h (λ e. broken.prefix prefix designator b.rule b.place (type_found prefix _ b refl e)) (λ subtype is h.
-    by_part (keeps N3 prefix.name.place (is_attribute designator.text)) _ b h (λ e. by_test (BreaksExpr (expr.Attribute prefix designator)) _ _ _ b e (broken.no_attribute prefix designator)) (λ _ _ h. absurd cc))
+    by_part (keeps N3 prefix.name.place (has_numbers subtype.base.class && is_attribute designator.text)) _ b h
+    (λ e. by_test (BreaksExpr (expr.Attribute prefix designator)) _ _ _ b e
+    (λ no. ⊎_elim (broken.no_attribute_of_type prefix designator subtype (type_is prefix.name.place prefix.entity subtype is)) (broken.no_attribute prefix designator) (and_cases (has_numbers subtype.base.class) _ no)))
+    (λ _ _ h. absurd cc))
 
 sign_found : (op : PrefixOp) (at : Place) (a : CoreExpr) (o : Typing) → HasType a o → (b : Breach) → sign op at o ≡ Err b → At (BreaksExpr (expr.Prefix op at a)) b
 sign_found op at a o d b h =
@@ -148,27 +188,52 @@ sign_found op at a o d b h =
     let held = is_held o.value value in
     let lies = lies_in o.of value in
     let Breaks = BreaksExpr (expr.Prefix op at a) in
-    by_part (keeps N10 at (is_number o.of)) _ b h (λ e. by_test Breaks N10 at (is_number o.of) b e (broken.sign_of_no_number op at a o d)) (λ _ _ h.
+    by_part (keeps N10 at (operand_fits op o.of)) _ b h (λ e. by_test Breaks N10 at (operand_fits op o.of) b e (broken.no_operand op at a o d)) (λ _ _ h.
     by_part (keeps N12 at held) _ b h (λ e. by_test Breaks N12 at held b e (λ out. broken.sign_out_of_range op at a o d (and_left held lies out))) (λ _ _ h.
     by_part (keeps N12 at lies) _ b h (λ e. by_test Breaks N12 at lies b e (λ out. broken.sign_out_of_range op at a o d (and_right held lies out))) (λ _ _ h. absurd cc)))
 
 operation_found : (op : InfixOp) (at : Place) (a c : CoreExpr) (l r : Typing) → HasType a l → HasType c r → (b : Breach) → operation op at l r ≡ Err b → At (BreaksExpr (expr.Infix op at a c)) b
 operation_found op at a c l r d f b h =
-    let of = met l.of r.of in
+    let left = left_type op l.of r.of r.value in
+    let right = right_type op l.of r.of in
     let value = result_of op l.value r.value in
     let held = both_held l.value r.value value in
-    let lies = lies_in (result_type op of) value in
+    let lies = lies_in (result_type op left) value in
     let Breaks = BreaksExpr (expr.Infix op at a c) in
-    by_part (keeps N10 at (meet l.of r.of)) _ b h (λ e. by_test Breaks N10 at (meet l.of r.of) b e (broken.no_common_type op at a c l r d f)) (λ _ _ h.
-    by_part (keeps N12 l.place (lies_in of l.value)) _ b h (λ e. by_test Breaks N12 l.place (lies_in of l.value) b e (broken.left_out_of_range op at a c l r d f)) (λ _ _ h.
-    by_part (keeps N12 r.place (lies_in of r.value)) _ b h (λ e. by_test Breaks N12 r.place (lies_in of r.value) b e (broken.right_out_of_range op at a c l r d f)) (λ _ _ h.
+    by_part (keeps N10 at (operands_fit op l.of r.of)) _ b h (λ e. by_test Breaks N10 at (operands_fit op l.of r.of) b e (broken.no_operands op at a c l r d f)) (λ _ _ h.
+    by_part (keeps N12 l.place (lies_in left l.value)) _ b h (λ e. by_test Breaks N12 l.place (lies_in left l.value) b e (broken.left_out_of_range op at a c l r d f)) (λ _ _ h.
+    by_part (keeps N12 r.place (lies_in right r.value)) _ b h (λ e. by_test Breaks N12 r.place (lies_in right r.value) b e (broken.right_out_of_range op at a c l r d f)) (λ _ _ h.
     by_part (keeps N12 at held) _ b h (λ e. by_test Breaks N12 at held b e (λ out. broken.result_out_of_range op at a c l r d f (and_left held lies out))) (λ _ _ h.
     by_part (keeps N12 at lies) _ b h (λ e. by_test Breaks N12 at lies b e (λ out. broken.result_out_of_range op at a c l r d f (and_right held lies out))) (λ _ _ h. absurd cc)))))
+
+member_of_type_found : (op : MemberOp) (at : Place) (a : CoreExpr) (name : Reference) (o : Typing) → HasType a o → (b : Breach) → (integer_type name >>= λ s. member_of_type op at o s) ≡ Err b → At (BreaksExpr (expr.InType op at a name)) b
+member_of_type_found op at a name o d b h =
+    let Breaks = BreaksExpr (expr.InType op at a name) in
+    by_part (integer_type name) _ b h (λ e. type_at_fault e) (λ subtype is h.
+    let named = (integer_is name subtype is).0 in
+    by_part (keeps N10 at (is_of subtype.base o.of)) _ b h (λ e. by_test Breaks N10 at (is_of subtype.base o.of) b e (broken.tested_of_another_type op at a name subtype o named d)) (λ _ _ h.
+    by_part (keeps N12 o.place (lies_in (Of subtype.base) o.value)) _ b h (λ e. by_test Breaks N12 o.place (lies_in (Of subtype.base) o.value) b e (broken.tested_out_of_type op at a name subtype o named d)) (λ _ _ h. absurd cc)))
+  where
+    type_at_fault : integer_type name ≡ Err b → At (BreaksExpr (expr.InType op at a name)) b
+    type_at_fault e =
+        by_part (referred_type name) _ b e (λ e. broken.of_type op at a name b.rule b.place (type_reference_found name b e)) (λ subtype is e.
+        by_part (keeps N10 name.root.name.place (has_numbers subtype.base.class)) _ b e
+        (λ e. by_test (BreaksExpr (expr.InType op at a name)) N10 name.root.name.place _ b e (broken.no_integer_type op at a name subtype (referred_is name subtype is))) (λ _ _ e. absurd cc))
+
+member_of_range_found : (op : MemberOp) (at : Place) (a low high : CoreExpr) (o l u : Typing) → HasType a o → HasType low l → HasType high u → (b : Breach) → member_of_range op at o l u ≡ Err b → At (BreaksExpr (expr.InRange op at a low high)) b
+member_of_range_found op at a low high o l u d c f b h =
+    let of = met (met o.of l.of) u.of in
+    let Breaks = BreaksExpr (expr.InRange op at a low high) in
+    let of_three : (t : Typing) → (t ≡ o) ⊎ ((t ≡ l) ⊎ (t ≡ u)) → keeps N12 t.place (lies_in of t.value) ≡ Err b → At Breaks b = λ t is e. by_test Breaks N12 t.place (lies_in of t.value) b e (broken.one_of_three op at a low high o l u t d c f is) in
+    by_part (keeps N10 at (three_fit o.of l.of u.of)) _ b h (λ e. by_test Breaks N10 at (three_fit o.of l.of u.of) b e (broken.no_three op at a low high o l u d c f)) (λ _ _ h.
+    by_part (keeps N12 o.place (lies_in of o.value)) _ b h (of_three o (inl refl)) (λ _ _ h.
+    by_part (keeps N12 l.place (lies_in of l.value)) _ b h (of_three l (inr (inl refl))) (λ _ _ h.
+    by_part (keeps N12 u.place (lies_in of u.value)) _ b h (of_three u (inr (inr refl))) (λ _ _ h. absurd cc))))
 
 found_cases : Cases Found
 found_cases = record {
   number = λ n place b h. let e = sym (fold-Number expr_step n place) ∙ h in absurd cc;
-  name = λ n b h. by_part (named_object n) _ b (sym (fold-Name expr_step n) ∙ h) (λ e. broken.name n b.rule b.place (object_found n _ b refl e)) (λ object is e. absurd cc);
+  name = λ n b h. broken.name n b.rule b.place (value_found n _ b refl (sym (fold-Name expr_step n) ∙ h));
   attribute = λ prefix designator b h. attribute_found prefix designator b (sym (fold-Attribute expr_step prefix designator) ∙ h);
   parenthesized = λ at a p b h. by_part (judged a) _ b (sym (fold-Parenthesized expr_step at a) ∙ h) (λ e. broken.inner at a b.rule b.place (p b e)) (λ o is e. absurd cc);
   prefix = λ op at a p b h.
@@ -176,45 +241,96 @@ found_cases = record {
   «infix» = λ op at a c p q b h.
       by_part (judged a) _ b (sym (fold-Infix expr_step op at a c) ∙ h) (λ e. broken.left op at a c b.rule b.place (p b e)) (λ l left h.
       by_part (judged c) _ b h (λ e. broken.right op at a c b.rule b.place (q b e)) (λ r right e. operation_found op at a c l r (sound a l left) (sound c r right) b e));
+  in_type = λ op at a name p b h.
+      by_part (judged a) _ b (sym (fold-InType expr_step op at a name) ∙ h) (λ e. broken.tested op at a name b.rule b.place (p b e)) (λ o is e. member_of_type_found op at a name o (sound a o is) b e);
+  in_range = λ op at a low high p q r b h.
+      by_part (judged a) _ b (sym (fold-InRange expr_step op at a low high) ∙ h) (λ e. broken.tested_in_range op at a low high b.rule b.place (p b e)) (λ o first h.
+      by_part (judged low) _ b h (λ e. broken.low_bound op at a low high b.rule b.place (q b e)) (λ l second h.
+      by_part (judged high) _ b h (λ e. broken.high_bound op at a low high b.rule b.place (r b e)) (λ u third e.
+      member_of_range_found op at a low high o l u (sound a o first) (sound low l second) (sound high u third) b e)));
 }
 
 expr_found : (e : CoreExpr) → Found e
 expr_found = induct Found found_cases
 
--- what a sign passes that gives something
-sign_passes : (op : PrefixOp) (at : Place) (o t : Typing) → sign op at o ≡ Ok t → (is_number o.of ≡ true) × ((is_held o.value (signed_result op o.value) && lies_in o.of (signed_result op o.value)) ≡ true)
+-- what an attribute passes that gives something
+attribute_passes : (prefix : CoreName) (designator : Identifier) (t : Typing) → attribute prefix designator ≡ Ok t
+    → (subtype : Subtype) × (named_type prefix ≡ Ok subtype) × ((has_numbers subtype.base.class && is_attribute designator.text) ≡ true)
+attribute_passes prefix designator t h =
+    let b = bound (named_type prefix) _ t h in
+    let c = bound (keeps N3 prefix.name.place (has_numbers b.0.base.class && is_attribute designator.text)) _ t b.2 in
+    (b.0, b.1, kept N3 prefix.name.place _ c.1)
+
+-- a sign
+sign_passes : (op : PrefixOp) (at : Place) (o t : Typing) → sign op at o ≡ Ok t → (operand_fits op o.of ≡ true) × ((is_held o.value (signed_result op o.value) && lies_in o.of (signed_result op o.value)) ≡ true)
 sign_passes op at o t h =
-    let a = bound (keeps N10 at (is_number o.of)) _ t h in
+    let a = bound (keeps N10 at (operand_fits op o.of)) _ t h in
     let b = bound (keeps N12 at (is_held o.value (signed_result op o.value))) _ t a.2 in
     let c = bound (keeps N12 at (lies_in o.of (signed_result op o.value))) _ t b.2 in
     (kept N10 at _ a.1, and_from _ _ (kept N12 at _ b.1) (kept N12 at _ c.1))
 
--- and an operation
+-- an operation
 record Passes (op : InfixOp) (l r : Typing) : Type 0 where
-  meets : meet l.of r.of ≡ true
-  left_lies : lies_in (met l.of r.of) l.value ≡ true
-  right_lies : lies_in (met l.of r.of) r.value ≡ true
-  result_lies : (both_held l.value r.value (result_of op l.value r.value) && lies_in (result_type op (met l.of r.of)) (result_of op l.value r.value)) ≡ true
+  fit : operands_fit op l.of r.of ≡ true
+  left_lies : lies_in (left_type op l.of r.of r.value) l.value ≡ true
+  right_lies : lies_in (right_type op l.of r.of) r.value ≡ true
+  result_lies : (both_held l.value r.value (result_of op l.value r.value) && lies_in (result_type op (left_type op l.of r.of r.value)) (result_of op l.value r.value)) ≡ true
 
 operation_passes : (op : InfixOp) (at : Place) (l r t : Typing) → operation op at l r ≡ Ok t → Passes op l r
 operation_passes op at l r t h =
-    let of = met l.of r.of in
+    let left = left_type op l.of r.of r.value in
     let value = result_of op l.value r.value in
-    let a = bound (keeps N10 at (meet l.of r.of)) _ t h in
-    let b = bound (keeps N12 l.place (lies_in of l.value)) _ t a.2 in
-    let c = bound (keeps N12 r.place (lies_in of r.value)) _ t b.2 in
+    let a = bound (keeps N10 at (operands_fit op l.of r.of)) _ t h in
+    let b = bound (keeps N12 l.place (lies_in left l.value)) _ t a.2 in
+    let c = bound (keeps N12 r.place (lies_in (right_type op l.of r.of) r.value)) _ t b.2 in
     let d = bound (keeps N12 at (both_held l.value r.value value)) _ t c.2 in
-    let e = bound (keeps N12 at (lies_in (result_type op of) value)) _ t d.2 in
+    let e = bound (keeps N12 at (lies_in (result_type op left) value)) _ t d.2 in
     record {
-      meets = kept N10 at _ a.1;
+      fit = kept N10 at _ a.1;
       left_lies = kept N12 l.place _ b.1;
       right_lies = kept N12 r.place _ c.1;
       result_lies = and_from _ _ (kept N12 at _ d.1) (kept N12 at _ e.1);
     }
 
+-- a test for a type
+record PassesType (name : Reference) (subtype : Subtype) (o : Typing) : Type 0 where
+  referred : referred_type name ≡ Ok subtype
+  has_its_numbers : has_numbers subtype.base.class ≡ true
+  same_type : is_of subtype.base o.of ≡ true
+  type_lies : lies_in (Of subtype.base) o.value ≡ true
+
+member_of_type_passes : (op : MemberOp) (at : Place) (name : Reference) (o t : Typing) → (integer_type name >>= λ s. member_of_type op at o s) ≡ Ok t → (subtype : Subtype) × PassesType name subtype o
+member_of_type_passes op at name o t h =
+    let s = bound (integer_type name) _ t h in
+    let is = integer_is name s.0 s.1 in
+    let a = bound (keeps N10 at (is_of s.0.base o.of)) _ t s.2 in
+    let b = bound (keeps N12 o.place (lies_in (Of s.0.base) o.value)) _ t a.2 in
+    (s.0, record { referred = is.1; has_its_numbers = is.2; same_type = kept N10 at _ a.1; type_lies = kept N12 o.place _ b.1 })
+
+-- a test for a range
+record PassesRange (o l u : Typing) : Type 0 where
+  three : three_fit o.of l.of u.of ≡ true
+  tested_lies : lies_in (met (met o.of l.of) u.of) o.value ≡ true
+  low_lies : lies_in (met (met o.of l.of) u.of) l.value ≡ true
+  high_lies : lies_in (met (met o.of l.of) u.of) u.value ≡ true
+
+member_of_range_passes : (op : MemberOp) (at : Place) (o l u t : Typing) → member_of_range op at o l u ≡ Ok t → PassesRange o l u
+member_of_range_passes op at o l u t h =
+    let of = met (met o.of l.of) u.of in
+    let a = bound (keeps N10 at (three_fit o.of l.of u.of)) _ t h in
+    let b = bound (keeps N12 o.place (lies_in of o.value)) _ t a.2 in
+    let c = bound (keeps N12 l.place (lies_in of l.value)) _ t b.2 in
+    let d = bound (keeps N12 u.place (lies_in of u.value)) _ t c.2 in
+    record { three = kept N10 at _ a.1; tested_lies = kept N12 o.place _ b.1; low_lies = kept N12 l.place _ c.1; high_lies = kept N12 u.place _ d.1 }
+
+each_of_three : (o l u t : Typing) → PassesRange o l u → (t ≡ o) ⊎ ((t ≡ l) ⊎ (t ≡ u)) → lies_in (met (met o.of l.of) u.of) t.value ≡ true
+each_of_three o l u t passes is =
+    let Lies = λ (t : Typing). lies_in (met (met o.of l.of) u.of) t.value ≡ true in
+    ⊎_elim (λ e. subst Lies (sym e) passes.tested_lies) (⊎_elim (λ e. subst Lies (sym e) passes.low_lies) (λ e. subst Lies (sym e) passes.high_lies)) is
+
 -- the same where the operands are known to have these types
 signed_passes : (op : PrefixOp) (at : Place) (a : CoreExpr) (o t : Typing) → HasType a o → judged (expr.Prefix op at a) ≡ Ok t
-    → (is_number o.of ≡ true) × ((is_held o.value (signed_result op o.value) && lies_in o.of (signed_result op o.value)) ≡ true)
+    → (operand_fits op o.of ≡ true) × ((is_held o.value (signed_result op o.value) && lies_in o.of (signed_result op o.value)) ≡ true)
 signed_passes op at a o t d h = sign_passes op at o t (sym (joined (sign op at) (complete a o d)) ∙ sym (fold-Prefix expr_step op at a) ∙ h)
 
 operated_passes : (op : InfixOp) (at : Place) (a c : CoreExpr) (l r t : Typing) → HasType a l → HasType c r → judged (expr.Infix op at a c) ≡ Ok t → Passes op l r
@@ -222,13 +338,28 @@ operated_passes op at a c l r t d f h =
     let both = joined (λ l. judged c >>= λ r. operation op at l r) (complete a l d) ∙ joined (operation op at l) (complete c r f) in
     operation_passes op at l r t (sym both ∙ sym (fold-Infix expr_step op at a c) ∙ h)
 
+-- what is tested, where the name is known to denote this type
+in_type_passes : (op : MemberOp) (at : Place) (a : CoreExpr) (name : Reference) (subtype : Subtype) (o t : Typing) → name.root.entity ≡ Some (entity.TypeName subtype) → HasType a o → judged (expr.InType op at a name) ≡ Ok t → PassesType name subtype o
+in_type_passes op at a name subtype o t is d h =
+    let first = joined (λ o. integer_type name >>= λ s. member_of_type op at o s) (complete a o d) in
+    let p = member_of_type_passes op at name o t (sym first ∙ sym (fold-InType expr_step op at a name) ∙ h) in
+    subst (λ s. PassesType name s o) (same_type_named name p.0 subtype p.1.referred is) p.1
+
+in_range_passes : (op : MemberOp) (at : Place) (a low high : CoreExpr) (o l u t : Typing) → HasType a o → HasType low l → HasType high u → judged (expr.InRange op at a low high) ≡ Ok t → PassesRange o l u
+in_range_passes op at a low high o l u t d c f h =
+    let all = joined (λ o. judged low >>= λ l. judged high >>= λ u. member_of_range op at o l u) (complete a o d) ∙ joined (λ l. judged high >>= λ u. member_of_range op at o l u) (complete low l c) ∙ joined (member_of_range op at o l) (complete high u f) in
+    member_of_range_passes op at o l u t (sym all ∙ sym (fold-InRange expr_step op at a low high) ∙ h)
+
 no_expr : (e : CoreExpr) (rule : RuleName) (place : Place) → BreaksExpr e rule place → (t : Typing) → judged e ≡ Ok t → ⊥
-no_expr _ _ _ (broken.name n rule place h) t ok = let b = bound (named_object n) _ t (sym (fold-Name expr_step n) ∙ ok) in no_object_name n b.0 b.1 rule place h
-no_expr _ _ _ (broken.prefix n designator rule place h) t ok = let b = bound (named_type n) _ t (sym (fold-Attribute expr_step n designator) ∙ ok) in no_type_name n b.0 b.1 rule place h
+no_expr _ _ _ (broken.name n rule place h) t ok = no_value_name n t (sym (fold-Name expr_step n) ∙ ok) rule place h
+no_expr _ _ _ (broken.prefix n designator rule place h) t ok = let b = attribute_passes n designator t (sym (fold-Attribute expr_step n designator) ∙ ok) in no_type_name n b.0 b.1 rule place h
 no_expr _ _ _ (broken.no_attribute n designator unknown) t ok =
-    let b = bound (named_type n) _ t (sym (fold-Attribute expr_step n designator) ∙ ok) in
-    let c = bound (keeps N3 n.name.place (is_attribute designator.text)) _ t b.2 in
-    both_ways _ unknown (kept N3 n.name.place _ c.1)
+    let b = attribute_passes n designator t (sym (fold-Attribute expr_step n designator) ∙ ok) in
+    both_ways _ unknown (and_parts (has_numbers b.0.base.class) (is_attribute designator.text) b.2).1
+no_expr _ _ _ (broken.no_attribute_of_type n designator subtype is numberless) t ok =
+    let b = attribute_passes n designator t (sym (fold-Attribute expr_step n designator) ∙ ok) in
+    let same : b.0 ≡ subtype = ok_is (sym b.1 ∙ ap (type_at n.name.place) is) in
+    both_ways _ numberless (subst (λ (s : Subtype). has_numbers s.base.class ≡ true) same (and_parts (has_numbers b.0.base.class) (is_attribute designator.text) b.2).0)
 no_expr _ _ _ (broken.inner at a rule place h) t ok = let b = bound (judged a) _ t (sym (fold-Parenthesized expr_step at a) ∙ ok) in no_expr a rule place h b.0 b.1
 no_expr _ _ _ (broken.operand op at a rule place h) t ok = let b = bound (judged a) _ t (sym (fold-Prefix expr_step op at a) ∙ ok) in no_expr a rule place h b.0 b.1
 no_expr _ _ _ (broken.left op at a c rule place h) t ok = let b = bound (judged a) _ t (sym (fold-Infix expr_step op at a c) ∙ ok) in no_expr a rule place h b.0 b.1
@@ -236,12 +367,34 @@ no_expr _ _ _ (broken.right op at a c rule place h) t ok =
     let l = bound (judged a) _ t (sym (fold-Infix expr_step op at a c) ∙ ok) in
     let r = bound (judged c) _ t l.2 in
     no_expr c rule place h r.0 r.1
-no_expr _ _ _ (broken.sign_of_no_number op at a o d fails) t ok = both_ways _ fails (signed_passes op at a o t d ok).0
+no_expr _ _ _ (broken.tested op at a name rule place h) t ok = let b = bound (judged a) _ t (sym (fold-InType expr_step op at a name) ∙ ok) in no_expr a rule place h b.0 b.1
+no_expr _ _ _ (broken.of_type op at a name rule place h) t ok =
+    let o = bound (judged a) _ t (sym (fold-InType expr_step op at a name) ∙ ok) in
+    let p = member_of_type_passes op at name o.0 t o.2 in
+    no_type_reference name p.0 p.1.referred rule place h
+no_expr _ _ _ (broken.tested_in_range op at a low high rule place h) t ok = let b = bound (judged a) _ t (sym (fold-InRange expr_step op at a low high) ∙ ok) in no_expr a rule place h b.0 b.1
+no_expr _ _ _ (broken.low_bound op at a low high rule place h) t ok =
+    let o = bound (judged a) _ t (sym (fold-InRange expr_step op at a low high) ∙ ok) in
+    let l = bound (judged low) _ t o.2 in
+    no_expr low rule place h l.0 l.1
+no_expr _ _ _ (broken.high_bound op at a low high rule place h) t ok =
+    let o = bound (judged a) _ t (sym (fold-InRange expr_step op at a low high) ∙ ok) in
+    let l = bound (judged low) _ t o.2 in
+    let u = bound (judged high) _ t l.2 in
+    no_expr high rule place h u.0 u.1
+no_expr _ _ _ (broken.no_operand op at a o d fails) t ok = both_ways _ fails (signed_passes op at a o t d ok).0
 no_expr _ _ _ (broken.sign_out_of_range op at a o d fails) t ok = both_ways _ fails (signed_passes op at a o t d ok).1
-no_expr _ _ _ (broken.no_common_type op at a c l r d f fails) t ok = both_ways _ fails (operated_passes op at a c l r t d f ok).meets
+no_expr _ _ _ (broken.no_operands op at a c l r d f fails) t ok = both_ways _ fails (operated_passes op at a c l r t d f ok).fit
 no_expr _ _ _ (broken.left_out_of_range op at a c l r d f fails) t ok = both_ways _ fails (operated_passes op at a c l r t d f ok).left_lies
 no_expr _ _ _ (broken.right_out_of_range op at a c l r d f fails) t ok = both_ways _ fails (operated_passes op at a c l r t d f ok).right_lies
 no_expr _ _ _ (broken.result_out_of_range op at a c l r d f fails) t ok = both_ways _ fails (operated_passes op at a c l r t d f ok).result_lies
+no_expr _ _ _ (broken.no_integer_type op at a name subtype is numberless) t ok =
+    let o = bound (judged a) _ t (sym (fold-InType expr_step op at a name) ∙ ok) in
+    both_ways _ numberless (in_type_passes op at a name subtype o.0 t is (sound a o.0 o.1) ok).has_its_numbers
+no_expr _ _ _ (broken.tested_of_another_type op at a name subtype o is d fails) t ok = both_ways _ fails (in_type_passes op at a name subtype o t is d ok).same_type
+no_expr _ _ _ (broken.tested_out_of_type op at a name subtype o is d fails) t ok = both_ways _ fails (in_type_passes op at a name subtype o t is d ok).type_lies
+no_expr _ _ _ (broken.no_three op at a low high o l u d c f fails) t ok = both_ways _ fails (in_range_passes op at a low high o l u t d c f ok).three
+no_expr _ _ _ (broken.one_of_three op at a low high o l u one d c f is fails) t ok = both_ways _ fails (each_of_three o l u one (in_range_passes op at a low high o l u t d c f ok) is)
 
 -- ---- conditions
 

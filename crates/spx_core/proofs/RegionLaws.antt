@@ -1,22 +1,27 @@
--- What holds of all variables that are declared in regions holds of those that names denote there.
-use Rattle.std.proofs.Common.{◌≡◌, ℕ, Bool, true, false, if◌then◌else◌, List, [], ◌∷◌, ◌++◌, Option, Some, None, map, is_some, sym, ap, subst, ◌∙◌, ⊎_elim}
-use Rattle.std.specs.Prelude.{⊤, unwrap_or}
-use Rattle.std.specs.List.{AllByRecursion}
+-- What holds of all entities that are declared in regions holds of those that names denote there.
+use Rattle.std.proofs.Common.{◌≡◌, ℕ, Bool, true, false, if◌then◌else◌, List, [], ◌∷◌, ◌++◌, Option, Some, None, map, option_map, is_some, refl, sym, ap, subst, inl, inr}
+use Rattle.std.specs.Prelude.{⊤, slice_get, unwrap_or}
+use Rattle.std.specs.List.{AllByRecursion, list_any}
 use Rattle.std.specs.Str.{str_eq_ignore_ascii_case}
 use Rattle.std.proofs.lemmas.Bool.{eqb-true, or_cases}
+use Rattle.spx_tree.specs.declared.expression.Identifier.{Identifier}
 use Rattle.spx_tree.specs.declared.expression.Name.{Name}
 use Rattle.spx_tree.specs.declared.expression.Name.TheVariants.{Simple, Attribute}
 use Rattle.spx_tree.specs.declared.expression.Expr.{Expr, Expr-F, roll-Expr, map-Expr, ind-Expr, fold-roll-Expr}
 use Rattle.spx_core.specs.declared.entity.VarId.{VarId}
+use Rattle.spx_core.specs.declared.entity.Subtype.{Subtype}
 use Rattle.spx_core.specs.declared.entity.Object.{Object}
 use Rattle.spx_core.specs.declared.entity.Entity.{Entity}
 use Rattle.spx_core.specs.declared.entity.Entity.TheVariants as entity
+use Rattle.spx_core.specs.declared.name.CoreName.{CoreName}
 use Rattle.spx_core.specs.declared.name.Defining.{Defining}
 use Rattle.spx_core.specs.declared.expression.CoreExpr.{CoreExpr}
+use Rattle.spx_core.specs.declared.program.TypeRow.{TypeRow}
 use Rattle.spx_core.specs.Uses.{denotes, is_same, mentions, uses, variable_of}
-use Rattle.spx_core.specs.Regions.{Declaration, Region, Regions, declared_in, denoted, standard}
-use Rattle.spx_core.specs.Resolved.{around_body, declaring, declaring_all, expr_step, resolved_expr, resolved_name, resolved_reference}
-use Rattle.spx_core.proofs.Callers.ReadsLaws.{uses-Number, uses-Name, uses-Attribute, uses-Parenthesized, uses-Prefix, uses-Infix}
+use Rattle.spx_core.specs.Reads.{names_read, names_step}
+use Rattle.spx_core.specs.Regions.{Declaration, Region, Regions, declared_in, denoted, hidden, standard}
+use Rattle.spx_core.specs.Resolved.{around_body, declaring, declaring_all, expr_step, resolved_expr, resolved_name, resolved_reference, standard_types, subtype_of}
+use Rattle.spx_core.proofs.Callers.Expressions.{fold-Number, fold-Name, fold-Attribute, fold-Parenthesized, fold-Prefix, fold-Infix, fold-InType, fold-InRange}
 use Rattle.spx_core.proofs.Callers.ListTests.{each_append, some_mapped}
 use Rattle.spx_core.proofs.Callers.Variables.{same_var}
 
@@ -24,10 +29,23 @@ either : {X : Type 0} (Q : X → Type 0) (b : Bool) (x y : X) → Q x → Q y �
 either Q true x y left right = left
 either Q false x y left right = right
 
--- of what is denoted, if it is a variable
+-- the row of the table of types at the subtype's id is its own
+abbrev pub HasRow : Subtype → Type 0
+HasRow subtype = option_map (λ (row : TypeRow). row.subtype) (slice_get standard_types subtype.id.0) ≡ Some subtype
+
+-- of what is denoted: such a variable, or a subtype that has a row
 abbrev pub Holds : (VarId → Object → Type 0) → Option Entity → Type 0
 Holds P (Some (entity.Variable v object)) = P v object
+Holds P (Some (entity.TypeName subtype)) = HasRow subtype
 Holds P other = ⊤
+
+-- what a name of a type denotes has a row, and so has what counts as denoted where there is none
+pub subtype_has_row : (P : VarId → Object → Type 0) (o : Option Entity) → Holds P o → HasRow (subtype_of o)
+subtype_has_row P (Some (entity.TypeName subtype)) h = h
+subtype_has_row P (Some (entity.Variable v object)) h = refl
+subtype_has_row P (Some (entity.Literal subtype position)) h = refl
+subtype_has_row P (Some (entity.Subprogram sub)) h = refl
+subtype_has_row P None h = refl
 
 module _ (P : VarId → Object → Type 0) where
   abbrev pub AllHold : List Defining → Type 0
@@ -52,14 +70,24 @@ module _ (P : VarId → Object → Type 0) where
       let new : Region = record { word = d.name.text; entity = Some d.entity } ∷ [] in
       either HoldsIn (is_some (declared_in region d.name.text)) region (region ++ new) all (each_append _ region new all (h, tt))
 
-  declaring_all_holds : (region : Region) (ds : List Defining) → HoldsIn region → AllHold ds → HoldsIn (declaring_all region ds)
+  pub declaring_all_holds : (region : Region) (ds : List Defining) → HoldsIn region → AllHold ds → HoldsIn (declaring_all region ds)
   declaring_all_holds region [] all h = all
   declaring_all_holds region (d ∷ ds) all h = declaring_all_holds (declaring region d) ds (declaring_holds region d all h.0) h.1
 
+  pub hidden_holds : (names : List Identifier) → HoldsIn (hidden names)
+  hidden_holds [] = tt
+  hidden_holds (name ∷ names) = (tt, hidden_holds names)
+
+  pub standard_holds : HoldsIn standard
+  unfolding standard
+  standard_holds = (refl, (tt, (tt, (refl, (refl, (refl, tt))))))
+
+  pub around_holds : (name : Defining) → Holds P (Some name.entity) → AllByRecursion HoldsIn (around_body name)
+  around_holds name h = (declaring_holds [] name tt h, (standard_holds, tt))
+
   -- inside a subprogram that declares these
   pub inside_holds : (name : Defining) (ds : List Defining) → Holds P (Some name.entity) → AllHold ds → AllByRecursion HoldsIn (declaring_all [] ds ∷ around_body name)
-  unfolding standard
-  inside_holds name ds h all = (declaring_all_holds [] ds tt all, (declaring_holds [] name tt h, ((tt, tt), tt)))
+  inside_holds name ds h all = (declaring_all_holds [] ds tt all, around_holds name h)
 
   -- ---- names and expressions
 
@@ -68,6 +96,7 @@ module _ (P : VarId → Object → Type 0) where
       let e = same_var w v (eqb-true w.0 v.0 is) in
       (object, ap (λ u. Some (entity.Variable u object)) e, subst (λ u. P u object) e h)
   denoted_variable v (Some (entity.TypeName subtype)) h is = absurd cc
+  denoted_variable v (Some (entity.Literal subtype position)) h is = absurd cc
   denoted_variable v (Some (entity.Subprogram sub)) h is = absurd cc
   denoted_variable v None h is = absurd cc
 
@@ -83,25 +112,50 @@ module _ (P : VarId → Object → Type 0) where
         let known = reference_variable v one.0 one.1 in
         (known.0, known.2)
 
-    abbrev UsesKnown : VarId → Expr → Type 0
-    UsesKnown v e = uses v (resolved_expr regions e) ≡ true → (object : Object) × P v object
+    pub root_holds : (name : Name) → Holds P (resolved_reference regions name).root.entity
+    root_holds (Simple name) = denoted_holds regions name.text all
+    root_holds (Attribute prefix designator) = denoted_holds regions prefix.text all
 
-    module _ (v : VarId) where
-      abbrev Shown : Type 0
-      Shown = (e : Expr) × UsesKnown v e
+    -- ---- the names that an expression reads
 
-      at_layer : (y : Expr-F Shown) → uses v (expr_step regions (map-Expr Expr CoreExpr (resolved_expr regions) (map-Expr Shown Expr (λ e. e.0) y))) ≡ true → (object : Object) × P v object
-      at_layer (Expr-F.Number n place) h = absurd (let e = uses-Number v n place in cc)
-      at_layer (Expr-F.Name (Simple name)) h = let known = reference_variable v (Simple name) (sym (uses-Name v (resolved_name regions name)) ∙ h) in (known.0, known.2)
-      at_layer (Expr-F.Name (Attribute prefix designator)) h = absurd (let e = uses-Attribute v (resolved_name regions prefix) designator in cc)
-      at_layer (Expr-F.Parenthesized place a) h = a.1 (sym (uses-Parenthesized v place (resolved_expr regions a.0)) ∙ h)
-      at_layer (Expr-F.Prefix op place a) h = a.1 (sym (uses-Prefix v op place (resolved_expr regions a.0)) ∙ h)
-      at_layer (Expr-F.Infix op place a b) h =
-          ⊎_elim a.1 b.1
-          (or_cases (uses v (resolved_expr regions a.0)) (uses v (resolved_expr regions b.0)) (sym (uses-Infix v op place (resolved_expr regions a.0) (resolved_expr regions b.0)) ∙ h))
+    abbrev pub AreKnown : List CoreName → Type 0
+    AreKnown names = AllByRecursion (λ (name : CoreName). Holds P name.entity) names
 
-      layer : (y : Expr-F Shown) → UsesKnown v (roll-Expr (map-Expr Shown Expr (λ e. e.0) y))
-      layer y h = at_layer y (sym (ap (uses v) (fold-roll-Expr CoreExpr (expr_step regions) (map-Expr Shown Expr (λ e. e.0) y))) ∙ h)
+    abbrev ReadsKnown : Expr → Type 0
+    ReadsKnown e = AreKnown (names_read (resolved_expr regions e))
 
-      pub used_variable : (e : Expr) → UsesKnown v e
-      used_variable = ind-Expr (UsesKnown v) (λ x y is. subst (λ z. UsesKnown v (roll-Expr z)) is (layer y))
+    abbrev Shown : Type 0
+    Shown = (e : Expr) × ReadsKnown e
+
+    both_known : (xs ys : List CoreName) → AreKnown xs → AreKnown ys → AreKnown (xs ++ ys)
+    both_known xs ys left right = each_append _ xs ys left right
+
+    at_layer : (y : Expr-F Shown) → AreKnown (names_read (expr_step regions (map-Expr Expr CoreExpr (resolved_expr regions) (map-Expr Shown Expr (λ e. e.0) y))))
+    at_layer (Expr-F.Number n place) = subst AreKnown (sym (fold-Number names_step n place)) tt
+    at_layer (Expr-F.Name (Simple name)) = subst AreKnown (sym (fold-Name names_step (resolved_name regions name))) (denoted_holds regions name.text all, tt)
+    at_layer (Expr-F.Name (Attribute prefix designator)) = subst AreKnown (sym (fold-Attribute names_step (resolved_name regions prefix) designator)) tt
+    at_layer (Expr-F.Parenthesized place a) = subst AreKnown (sym (fold-Parenthesized names_step place (resolved_expr regions a.0))) a.1
+    at_layer (Expr-F.Prefix op place a) = subst AreKnown (sym (fold-Prefix names_step op place (resolved_expr regions a.0))) a.1
+    at_layer (Expr-F.Infix op place a b) =
+        subst AreKnown (sym (fold-Infix names_step op place (resolved_expr regions a.0) (resolved_expr regions b.0))) (both_known _ _ a.1 b.1)
+    at_layer (Expr-F.InType op place a name) = subst AreKnown (sym (fold-InType names_step op place (resolved_expr regions a.0) (resolved_reference regions name))) a.1
+    at_layer (Expr-F.InRange op place a low high) =
+        subst AreKnown (sym (fold-InRange names_step op place (resolved_expr regions a.0) (resolved_expr regions low.0) (resolved_expr regions high.0)))
+        (both_known _ _ a.1 (both_known _ _ low.1 high.1))
+
+    layer : (y : Expr-F Shown) → ReadsKnown (roll-Expr (map-Expr Shown Expr (λ e. e.0) y))
+    layer y = subst (λ e. AreKnown (names_read e)) (sym (fold-roll-Expr CoreExpr (expr_step regions) (map-Expr Shown Expr (λ e. e.0) y))) (at_layer y)
+
+    pub read_known : (e : Expr) → ReadsKnown e
+    read_known = ind-Expr ReadsKnown (λ x y is. subst (λ z. ReadsKnown (roll-Expr z)) is (layer y))
+
+    known_variable : (v : VarId) (names : List CoreName) → AreKnown names → list_any (denotes v) names ≡ true → (object : Object) × P v object
+    known_variable v [] known h = absurd cc
+    known_variable v (name ∷ names) known h =
+        elim (or_cases (denotes v name) (list_any (denotes v) names) h) [
+          | inl here ↦ let one = denoted_variable v name.entity known.0 here in (one.0, one.2)
+          | inr later ↦ known_variable v names known.1 later
+        ]
+
+    pub used_variable : (v : VarId) (e : Expr) → uses v (resolved_expr regions e) ≡ true → (object : Object) × P v object
+    used_variable v e h = known_variable v (names_read (resolved_expr regions e)) (read_known e) h

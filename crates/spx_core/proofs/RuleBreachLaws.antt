@@ -26,10 +26,10 @@ use Rattle.spx_core.specs.Uses.{denotes, is_same, mentions, variable_of}
 use Rattle.spx_core.specs.Dependency.{exports, imports, relation, variables}
 use Rattle.spx_core.specs.Mirror.DerivesItems.{has_export, has_import}
 use Rattle.spx_core.specs.Formals.{formals, is_formal, stands_in}
-use Rattle.spx_core.specs.Judged.{Judged, ◌>>=◌, each, if_there, keeps}
-use Rattle.spx_core.specs.Obeyed.{Obeys, export_agrees, exports_once, first_rule_breach, import_agrees, is_among, is_export_of, is_exported, is_imported, is_listed, is_right_relation, may_be_assigned, mode_denoted, mode_named, names_formal, names_formals, names_once, obeyed, obeyed_command, obeyed_export, obeyed_import, obeyed_item, obeyed_pre, obeyed_relation, obeyed_sub, pairs_once, place_or, reads_import, variable_is}
+use Rattle.spx_core.specs.Judged.{◌>>=◌, each, if_there, keeps}
+use Rattle.spx_core.specs.Obeyed.{Obeys, export_agrees, exports_once, first_rule_breach, import_agrees, is_among, is_export_of, is_exported, is_imported, is_listed, is_right_relation, may_be_assigned, mode_denoted, mode_named, names_formal, names_formals, names_once, obeyed, obeyed_command, obeyed_export, obeyed_import, obeyed_item, obeyed_pre, obeyed_relation, obeyed_sub, pairs_once, place_or, reads_import, unused_imports, variable_is, variable_passes}
 use Rattle.spx_core.specs.Rules.{ObeysRules, agrees}
-use Rattle.spx_core.specs.RuleBreaches.{Assigns, BreaksRule, Disagrees, HasBadDerives, IsImport, IsInRelation, IsVariable, StandsTwice, exports_named, bad_derives, mode_disagrees, not_imported, input_assigned, export_twice, import_twice, import_beside_star, formal_left_out, no_formal}
+use Rattle.spx_core.specs.RuleBreaches.{Assigns, BreaksRule, Disagrees, HasBadDerives, IsInRelation, IsVariable, StandsTwice, exports_named, bad_derives, mode_disagrees, not_imported, input_assigned, export_twice, import_twice, unused_twice, import_beside_star, formal_left_out, no_formal}
 use Rattle.spx_core.specs.Scopes.{HasItsMode, HaveTheirModes, Scoped}
 use Rattle.spx_core.specs.Erased.{Visible}
 use Rattle.spx_core.proofs.Judgements.{bound, broken_in, each_broken, each_passes, kept, not_kept, passes_at, reported, unbroken}
@@ -178,21 +178,28 @@ module _ (sub : Sub) where
       (λ item. let w = fails (names_formals sub) (relation sub) item in wrong_item w.0 w.1 w.2)
       (and_cases (list_all (is_listed sub) (formals sub)) (list_all (names_formals sub) (relation sub)) h)
 
+  wrong_unused : names_once (unused_imports (relation sub)) ≡ false → HasBadDerives sub
+  wrong_unused h = let w = stands_twice (variables (unused_imports (relation sub))) (not-false _ (sym (names_once_is (unused_imports (relation sub))) ∙ h)) in unused_twice w.0 w.1
+
   wrong : is_right_relation sub ≡ false → HasBadDerives sub
   wrong h =
-      ⊎_elim (λ once. let w = stands_twice (exports_named sub) (not-false _ (sym (exports_once_is (relation sub)) ∙ once)) in export_twice w.0 w.1)
-      (λ rest. ⊎_elim (λ pair. let w = fails pairs_once (relation sub) pair in wrong_pair w.0 w.1 w.2) wrong_names (and_cases (list_all pairs_once (relation sub)) _ rest))
-      (and_cases (exports_once (relation sub)) _ h)
+      ⊎_elim (λ once. let w = stands_twice (exports_named sub) (not-false _ (sym (exports_once_is (relation sub)) ∙ once)) in export_twice w.0 w.1) (λ rest.
+      ⊎_elim (λ pair. let w = fails pairs_once (relation sub) pair in wrong_pair w.0 w.1 w.2) (λ rest.
+      ⊎_elim wrong_unused wrong_names (and_cases (names_once (unused_imports (relation sub))) _ rest))
+      (and_cases (list_all pairs_once (relation sub)) _ rest)) (and_cases (exports_once (relation sub)) _ h)
 
-  -- where one of the four tests fails, the whole does
+  -- where one of the five tests fails, the whole does
   not_once : exports_once (relation sub) ≡ false → is_right_relation sub ≡ false
   not_once h = and_left (exports_once (relation sub)) _ h
 
   not_pair : (item : CoreDerivesItem) → Contains (relation sub) item → pairs_once item ≡ false → is_right_relation sub ≡ false
   not_pair item at h = and_right (exports_once (relation sub)) _ (and_left (list_all pairs_once (relation sub)) _ (failed pairs_once (relation sub) item at h))
 
+  not_unused : names_once (unused_imports (relation sub)) ≡ false → is_right_relation sub ≡ false
+  not_unused h = and_right (exports_once (relation sub)) _ (and_right (list_all pairs_once (relation sub)) _ (and_left (names_once (unused_imports (relation sub))) _ h))
+
   not_names : (list_all (is_listed sub) (formals sub) && list_all (names_formals sub) (relation sub)) ≡ false → is_right_relation sub ≡ false
-  not_names h = and_right (exports_once (relation sub)) _ (and_right (list_all pairs_once (relation sub)) _ h)
+  not_names h = and_right (exports_once (relation sub)) _ (and_right (list_all pairs_once (relation sub)) _ (and_right (names_once (unused_imports (relation sub))) _ h))
 
   not_formal : (v : VarId) → Contains (formals sub) v → is_listed sub v ≡ false → is_right_relation sub ≡ false
   not_formal v at h = not_names (and_left (list_all (is_listed sub) (formals sub)) _ (failed (is_listed sub) (formals sub) v at h))
@@ -209,6 +216,7 @@ module _ (sub : Sub) where
   is_wrong (export_twice v s) = not_once (exports_once_is (relation sub) ∙ not_from_true _ (is_twice v (exports_named sub) s))
   is_wrong (import_twice item v at s) =
       not_pair item at (and_left (names_once item.imports) _ (names_once_is item.imports ∙ not_from_true _ (is_twice v (variables item.imports) s)))
+  is_wrong (unused_twice v s) = not_unused (names_once_is (unused_imports (relation sub)) ∙ not_from_true _ (is_twice v (variables (unused_imports (relation sub))) s))
   is_wrong (import_beside_star item v at star export import) =
       let among = variables_are v item.imports in
       let beside = beside_is item ∙ passes (λ w. mentions w item.imports) (variables item.exports) v export (sym among ∙ stands v (variables item.imports) import) in
@@ -311,19 +319,17 @@ module _ (sub : Sub) (item : CoreDerivesItem) (at : Contains (relation sub) item
 
 -- ---- U11
 
-no_import : (sub : Sub) (name : CoreName) → is_imported sub name ≡ false → ¬ IsImport sub name
-no_import sub name h is = let e = sym h ∙ (ap (variable_is (λ w. imports w sub)) is.1 ∙ is.2) in absurd (cc)
-
-some_import : (sub : Sub) (o : Option VarId) → variable_is (λ v. imports v sub) o ≡ true → (v : VarId) × (o ≡ Some v) × (imports v sub ≡ true)
-some_import sub (Some v) h = (v, refl, h)
-some_import sub None h = absurd (cc)
+some_other : (sub : Sub) (o : Option VarId) → variable_passes (λ v. imports v sub) o ≡ false → (v : VarId) × (o ≡ Some v) × (imports v sub ≡ false)
+some_other sub (Some v) h = (v, refl, h)
+some_other sub None h = absurd (cc)
 
 pre_breaks : (p : Program) (sub : Sub) (b : Breach) (o : Option CorePrecondition) → sub.pre ≡ o → if_there (obeyed_pre sub) o ≡ Err b → IsBroken p sub b
 pre_breaks p sub b None is e = absurd (cc)
 pre_breaks p sub b (Some pre) is e =
     let w = each_broken (reads_import sub) (names_read pre.condition) b e in
-    let k = not_kept U11 w.0.name.place (is_imported sub w.0) b w.2 in
-    subst (IsBroken p sub) k.1 (not_imported pre w.0 is w.1 (no_import sub w.0 k.0))
+    let k = not_kept U11 w.0.name.place (variable_passes (λ v. imports v sub) (variable_of w.0.entity)) b w.2 in
+    let v = some_other sub (variable_of w.0.entity) k.0 in
+    subst (IsBroken p sub) k.1 (not_imported pre w.0 v.0 is w.1 v.1 v.2)
 
 -- ---- U2
 
@@ -402,9 +408,11 @@ module _ (p : Program) (sub : Sub) (scoped : Scoped p sub) where
     none_broken _ _ (mode_disagrees name v within is disagrees) =
         let e = sym disagrees.2 ∙ rules.modes v disagrees.0 (formal_in name v within is) disagrees.1 in
         absurd (cc)
-    none_broken _ _ (not_imported pre name is within other) =
+    none_broken _ _ (not_imported pre name v is within its other) =
         let ok_here = passes_at (reads_import sub) (names_read pre.condition) (ap (if_there (obeyed_pre sub)) (sym is) ∙ rest_passes.0) name within in
-        other (some_import sub (variable_of name.entity) (kept U11 name.name.place (is_imported sub name) ok_here))
+        let passes = variable_passes (λ w. imports w sub) in
+        let e = sym other ∙ (sym (ap passes its) ∙ kept U11 name.name.place (passes (variable_of name.entity)) ok_here) in
+        absurd (cc)
     none_broken _ _ (input_assigned target assigns is) = no_input (commands sub.statements) target assigns rest_passes.1 is
 
 -- ---- programs

@@ -22,7 +22,7 @@ use Rattle.spx_core.specs.Commands.{Command, Skip, Set, Then, Choose, commands}
 use Rattle.spx_core.specs.Effects.{effect, sets}
 use Rattle.spx_core.specs.Formals.{formals, is_formal, mode_of}
 use Rattle.spx_core.specs.Judged.{each, if_there}
-use Rattle.spx_core.specs.Obeyed.{Obeys, export_agrees, exports_once, import_agrees, is_imported, is_exported, is_listed, is_right_relation, may_be_assigned, mode_named, names_formals, obeyed_export, obeyed_import, obeyed_item, obeyed_pre, obeyed_relation, obeyed_command, obeyed_sub, pairs_once, place_or, reads_import, variable_is}
+use Rattle.spx_core.specs.Obeyed.{Obeys, export_agrees, exports_once, import_agrees, is_imported, is_exported, is_listed, is_right_relation, may_be_assigned, mode_named, names_formals, names_once, obeyed_export, obeyed_import, obeyed_item, obeyed_pre, obeyed_relation, obeyed_command, obeyed_sub, pairs_once, place_or, reads_import, unused_imports, variable_is, variable_passes}
 use Rattle.spx_core.specs.Rules.{ObeysRules, agrees}
 use Rattle.spx_core.specs.Scopes.{HasItsMode, HaveTheirModes, Scoped, TargetsHaveTheirModes}
 use Rattle.spx_core.specs.Erased.{Visible}
@@ -114,7 +114,8 @@ pre_reads : (sub : Sub) (v : VarId) (pre : CorePrecondition) → if_there (obeye
 pre_reads sub v pre ok is h =
     let name = found (denotes v) (names_read pre.condition) h in
     let passes_here = passes_at (reads_import sub) (names_read pre.condition) (ap (if_there (obeyed_pre sub)) (sym is) ∙ ok) name.0 name.1 in
-    sym (tested v (λ w. imports w sub) name.0 name.2) ∙ kept U11 name.0.name.place (is_imported sub name.0) passes_here
+    let passes_it = variable_passes (λ w. imports w sub) in
+    sym (ap passes_it (same_is v (variable_of name.0.entity) name.2)) ∙ kept U11 name.0.name.place (passes_it (variable_of name.0.entity)) passes_here
 
 -- ---- subprograms and programs
 
@@ -125,11 +126,13 @@ rules_of p sub scoped ok =
     let c = bound (if_there (obeyed_pre sub) sub.pre) _ tt b.2 in
     let once = and_parts (exports_once (relation sub)) _ (kept U7 (place_or sub.place sub.derives) (is_right_relation sub) a.1) in
     let pairs = and_parts (list_all pairs_once (relation sub)) _ once.1 in
-    let rest = and_parts (list_all (is_listed sub) (formals sub)) (list_all (names_formals sub) (relation sub)) pairs.1 in
+    let unused = and_parts (names_once (unused_imports (relation sub))) _ pairs.1 in
+    let rest = and_parts (list_all (is_listed sub) (formals sub)) (list_all (names_formals sub) (relation sub)) unused.1 in
     record {
       targets = λ v set is. no_input p v (commands sub.statements) scoped.target_modes c.2 set is;
       exports_are_named_once = once.0;
       pairs_are_named_once = pairs.0;
+      unused_are_named_once = unused.0;
       formals_are_listed = rest.0;
       others_are_not = rest.1;
       modes = λ v mode formal is.

@@ -1,4 +1,4 @@
--- The names of a subprogram denote the variables that it declares.
+-- The names of a subprogram denote the variables that it declares, each with what is declared of it.
 use Rattle.std.proofs.Common.{◌≡◌, ℕ, ◌+◌, Bool, true, false, ◌||◌, List, [], ◌∷◌, ◌++◌, length, map, Option, Some, None, option_map, is_some, refl, sym, ap, ap₂, subst, ◌∙◌, ⊎_elim, append_assoc, length-append}
 use denote.Hole.Carrier.{roll}
 use Rattle.std.specs.Prelude.{⊤, All, ◌&&◌, option_and_then, slice_get}
@@ -13,6 +13,7 @@ use Rattle.spx_tree.specs.declared.statement.Stmt.{Stmt, Stmt-F, map-Stmt, roll-
 use Rattle.spx_tree.specs.declared.statement.Arm.{Arm, Arm-F, map-Arm, roll-Arm, fold-roll-Arm}
 use Rattle.spx_tree.specs.declared.annotation.DerivesItem.{DerivesItem}
 use Rattle.spx_tree.specs.declared.annotation.Derives.{Derives}
+use Rattle.spx_tree.specs.declared.annotation.Precondition.{Precondition}
 use Rattle.spx_tree.specs.declared.subprogram.Subprogram.{Subprogram}
 use Rattle.spx_tree.specs.declared.subprogram.Unit.{Unit}
 use Rattle.spx_tree.specs.declared.subprogram.Unit.TheVariants as unit
@@ -21,17 +22,21 @@ use Rattle.spx_core.specs.declared.entity.Mode.{Mode}
 use Rattle.spx_core.specs.declared.entity.VarKind.{VarKind}
 use Rattle.spx_core.specs.declared.entity.VarKind.TheVariants.{Formal, Local}
 use Rattle.spx_core.specs.declared.entity.Object.{Object}
+use Rattle.spx_core.specs.declared.name.CoreName.{CoreName}
 use Rattle.spx_core.specs.declared.name.Defining.{Defining}
 use Rattle.spx_core.specs.declared.name.Reference.{Reference}
 use Rattle.spx_core.specs.declared.expression.CoreExpr.{CoreExpr}
 use Rattle.spx_core.specs.declared.statement.CoreStmt.{CoreStmt, CoreStmt-F, map-CoreStmt, roll-CoreStmt, fold-roll-CoreStmt}
 use Rattle.spx_core.specs.declared.statement.CoreArm.{CoreArm, fold-roll-CoreArm}
 use Rattle.spx_core.specs.declared.dependency.CoreDerivesItem.{CoreDerivesItem}
+use Rattle.spx_core.specs.declared.program.TypeRow.{TypeRow}
 use Rattle.spx_core.specs.declared.program.Var.{Var}
 use Rattle.spx_core.specs.declared.program.Program.{Program}
+use Rattle.spx_core.specs.declared.subprogram.CorePrecondition.{CorePrecondition}
 use Rattle.spx_core.specs.declared.subprogram.Sub.{Sub}
 use Rattle.spx_core.specs.Commands.{Command, Skip, Set, Then, Choose, arm_before, arms_before, chain, command, commands}
 use Rattle.spx_core.specs.Commands as commands_of
+use Rattle.spx_core.specs.Reads.{names_read}
 use Rattle.spx_core.specs.Uses.{denotes, mentions, uses}
 use Rattle.spx_core.specs.Dependency.{items_of}
 use Rattle.spx_core.specs.Mirror.DerivesItems.{has_export, has_import}
@@ -39,19 +44,31 @@ use Rattle.spx_core.specs.Formals.{is_formal, is_local, mode_in, mode_of, stands
 use Rattle.spx_core.specs.Effects.{effect, is_read, reads, reads_of, sets}
 use Rattle.spx_core.specs.Obeyed.{mode_denoted}
 use Rattle.spx_core.specs.Regions.{Region, Regions}
-use Rattle.spx_core.specs.Resolved.{around_body, declaring, declaring_all, formal_names, local_names, own_vars, resolved_derives, resolved_item, resolved_expr, resolved_arm, resolved_reference, resolved_stmt, resolved_sub, resolved_subs, unit_name, var_of}
+use Rattle.spx_core.specs.Resolved.{around_body, declaring, declaring_all, exported_names, formal_names, local_names, own_vars, resolved_derives, resolved_item, resolved_expr, resolved_arm, resolved_pre, resolved_reference, resolved_stmt, resolved_sub, resolved_subs, standard_types, unit_name, var_of}
 use Rattle.spx_core.specs.Resolved as resolved
 use Rattle.spx_core.specs.Erased.{Visible, erased}
-use Rattle.spx_core.specs.Scopes.{HasItsMode, HaveTheirModes, Scoped, TargetsHaveTheirModes, kind_of}
+use Rattle.spx_core.specs.Scopes.{AreAsDeclared, HasItsMode, HaveTheirModes, IsAsDeclared, Scoped, TargetsHaveTheirModes, kind_of, object_declared, object_in}
 use Rattle.spx_core.proofs.Callers.Pairs.{exports_are, imports_are}
 use Rattle.spx_core.proofs.Callers.ListTests.{each_append, some_mapped}
 use Rattle.spx_core.proofs.Callers.FlowLaws.{reads_uses}
-use Rattle.spx_core.proofs.RegionLaws.{AllHold, HoldsIn, inside_holds, mentioned_variable, reference_variable, used_variable}
-use Rattle.spx_core.proofs.Consecutive.{Consecutive, positions_differ, IsFormalKind, IsLocalKind, at_position, decls_consecutive, first_positions, formals_consecutive, is_at, last_positions, rows}
+use Rattle.spx_core.proofs.RegionLaws.{AllHold, Holds, HoldsIn, around_holds, inside_holds, mentioned_variable, read_known, reference_variable, root_holds, used_variable}
+use Rattle.spx_core.proofs.Consecutive.{Any, Consecutive, positions_differ, IsFormal, IsLocal, at_position, decls_consecutive, first_positions, formals_consecutive, formals_known, is_at, last_positions, rows}
 
 mode_in_row : (kind : VarKind) (row : Option Var) → option_map (λ (var : Var). var.kind) row ≡ Some kind → option_and_then (λ (var : Var). mode_in var.kind) row ≡ mode_in kind
 mode_in_row kind (Some var) is = ap mode_in (let e : var.kind ≡ kind = cc in e)
 mode_in_row kind None is = absurd (cc)
+
+-- the kind of a variable is that of its object
+kind_typed : (kind : VarKind) (row : Option TypeRow) (object : Object) → option_map (λ (r : TypeRow). let o : Object = record { kind = kind; subtype = r.subtype } in o) row ≡ Some object → kind ≡ object.kind
+kind_typed kind (Some row) object is = cc
+kind_typed kind None object is = absurd cc
+
+kind_in : (p : Program) (row : Option Var) (object : Object) → option_and_then (object_in p) row ≡ Some object → option_map (λ (var : Var). var.kind) row ≡ Some object.kind
+kind_in p (Some var) object is = ap Some (kind_typed var.kind (slice_get p.types var.type_id.0) object is)
+kind_in p None object is = absurd cc
+
+pub kind_is : (p : Program) (v : VarId) (object : Object) → object_declared p v ≡ Some object → kind_of p v ≡ Some object.kind
+kind_is p v object is = kind_in p (slice_get p.vars v.0) object is
 
 -- the mode of a variable is that of its kind
 pub mode_is : (p : Program) (v : VarId) (kind : VarKind) → kind_of p v ≡ Some kind → mode_of v p ≡ mode_in kind
@@ -126,7 +143,7 @@ stmts_resolve regions (s ∷ stmts) = (stmt_resolves regions s, stmts_resolve re
 module _ (P : VarId → Object → Type 0) (regions : Regions) (all : AllByRecursion (HoldsIn P) regions) (v : VarId) where
   imported_variable : (item : DerivesItem) → has_import v (resolved_item regions item) ≡ true → (object : Object) × P v object
   imported_variable item h =
-      ⊎_elim (mentioned_variable P regions all v item.imports.names) (λ itself. mentioned_variable P regions all v item.exports (and_parts (is_some item.imports.itself) (has_export v (resolved_item regions item)) itself).1)
+      ⊎_elim (mentioned_variable P regions all v item.imports.names) (λ itself. mentioned_variable P regions all v (exported_names item.exports) (and_parts (is_some item.imports.itself) (has_export v (resolved_item regions item)) itself).1)
       (or_cases (mentions v (map (resolved_reference regions) item.imports.names)) (is_some item.imports.itself && has_export v (resolved_item regions item)) h)
 
   in_relation : (test : CoreDerivesItem → Bool) → ((item : DerivesItem) → test (resolved_item regions item) ≡ true → (object : Object) × P v object)
@@ -153,11 +170,11 @@ module _ (P : VarId → Object → Type 0) (regions : Regions) (all : AllByRecur
       (λ arms. ⊎_elim (read_variable a written.1) (read_variable b written.2) (or_cases (reads v (effect a)) (reads v (effect b)) arms))
       (or_cases (is_read v (reads_of condition)) (reads v (effect a) || reads v (effect b)) h)
 
-module _ (p : Program) (P : VarId → Object → Type 0) (row : (v : VarId) (object : Object) → P v object → kind_of p v ≡ Some object.kind) (regions : Regions) (all : AllByRecursion (HoldsIn P) regions) where
+module _ (p : Program) (P : VarId → Object → Type 0) (row : (v : VarId) (object : Object) → P v object → object_declared p v ≡ Some object) (regions : Regions) (all : AllByRecursion (HoldsIn P) regions) where
   has_its_mode : (name : Name) → HasItsMode p (resolved_reference regions name)
   has_its_mode name v is =
       let known = reference_variable P regions all v name is in
-      ap mode_denoted known.1 ∙ sym (mode_is p v known.0.kind (row v known.0 known.2))
+      ap mode_denoted known.1 ∙ sym (mode_is p v known.0.kind (kind_is p v known.0 (row v known.0 known.2)))
 
   have_their_modes : (names : List Name) → All (HasItsMode p) (map (resolved_reference regions) names)
   have_their_modes names = All-map (HasItsMode p) (resolved_reference regions) names (λ k d less. has_its_mode _)
@@ -165,7 +182,7 @@ module _ (p : Program) (P : VarId → Object → Type 0) (row : (v : VarId) (obj
   relation_has_modes : (derives : Option Derives) → All (HaveTheirModes p) (items_of (option_map (resolved_derives regions) derives))
   relation_has_modes None = All-from_recursion (HaveTheirModes p) [] tt
   relation_has_modes (Some derives) =
-      All-map (HaveTheirModes p) (resolved_item regions) derives.items (λ k d less. let item = get_or derives.items k d in (have_their_modes item.exports, have_their_modes item.imports.names))
+      All-map (HaveTheirModes p) (resolved_item regions) derives.items (λ k d less. let item = get_or derives.items k d in (have_their_modes (exported_names item.exports), have_their_modes item.imports.names))
 
   targets_have_modes : (c : Command) → Resolves regions c → TargetsHaveTheirModes p c
   targets_have_modes Skip written = tt
@@ -173,9 +190,36 @@ module _ (p : Program) (P : VarId → Object → Type 0) (row : (v : VarId) (obj
   targets_have_modes (Then a b) written = (targets_have_modes a written.0, targets_have_modes b written.1)
   targets_have_modes (Choose place condition a b) written = (targets_have_modes a written.1, targets_have_modes b written.2)
 
+  -- ---- what is declared of the variables that names denote
+
+  as_declared : (name : CoreName) → Holds P name.entity → IsAsDeclared p name
+  as_declared name h v object is = row v object (subst (Holds P) is h)
+
+  all_as_declared : (names : List CoreName) → AllByRecursion (λ (name : CoreName). Holds P name.entity) names → AllByRecursion (IsAsDeclared p) names
+  all_as_declared [] known = tt
+  all_as_declared (name ∷ names) known = (as_declared name known.0, all_as_declared names known.1)
+
+  read_as_declared : (value : CoreExpr) → IsValueIn regions value → All (IsAsDeclared p) (names_read value)
+  read_as_declared value written =
+      subst (λ e. All (IsAsDeclared p) (names_read e)) (sym written.1)
+      (All-from_recursion (IsAsDeclared p) _ (all_as_declared (names_read (resolved_expr regions written.0)) (read_known P regions all written.0)))
+
+  target_as_declared : (target : Reference) → IsTargetIn regions target → IsAsDeclared p target.root
+  target_as_declared target written = subst (λ (r : Reference). IsAsDeclared p r.root) (sym written.1) (as_declared (resolved_reference regions written.0).root (root_holds P regions all written.0))
+
+  command_as_declared : (c : Command) → Resolves regions c → AreAsDeclared p c
+  command_as_declared Skip written = tt
+  command_as_declared (Set target value) written = (target_as_declared target written.0, read_as_declared value written.1)
+  command_as_declared (Then a b) written = (command_as_declared a written.0, command_as_declared b written.1)
+  command_as_declared (Choose place condition a b) written = (read_as_declared condition written.0, (command_as_declared a written.1, command_as_declared b written.2))
+
+  pre_as_declared : (written : Option Precondition) (pre : CorePrecondition) → option_map (resolved_pre regions) written ≡ Some pre → All (IsAsDeclared p) (names_read pre.condition)
+  pre_as_declared None pre is = absurd cc
+  pre_as_declared (Some w) pre is = read_as_declared pre.condition (w.condition, ap (λ (x : CorePrecondition). x.condition) (let e : pre ≡ resolved_pre regions w = cc in e))
+
 -- ---- subprograms
 
-module _ (p : Program) where
+module _ (p : Program) (types : p.types ≡ standard_types) where
   -- the unit at this position, whose variables stand between these rows
   module _ (library : Region) (position first : ℕ) (s : Subprogram) (before after : List Var) (len : length before ≡ first) where
     abbrev name : Defining
@@ -196,11 +240,11 @@ module _ (p : Program) where
     local_positions : (v : VarId) → is_local v sub ≡ is_at v (first + length its_formals) its_locals
     local_positions v = ap (stands_in v) (last_positions first its_formals its_locals)
 
-    formals_are : Consecutive IsFormalKind first its_formals
+    formals_are : Consecutive IsFormal first its_formals
     formals_are = formals_consecutive s.name first s.formal_part
 
-    locals_are : Consecutive IsLocalKind (first + length its_formals) its_locals
-    locals_are = decls_consecutive (around_body name) (declaring_all [] its_formals) (first + length its_formals) s.declarations
+    locals_are : Consecutive IsLocal (first + length its_formals) its_locals
+    locals_are = decls_consecutive (around_body name) (around_holds Any name tt) (declaring_all [] its_formals) (first + length its_formals) s.declarations (formals_known first its_formals formals_are)
 
     abbrev annotations : Regions
     annotations = declaring_all [] its_formals ∷ around_body name
@@ -208,24 +252,24 @@ module _ (p : Program) where
     abbrev body : Regions
     body = declaring_all [] (its_formals ++ its_locals) ∷ around_body name
 
-    -- a formal whose row says its kind, and any variable of the subprogram
+    -- a formal whose row says what is declared of it, and any variable of the subprogram
     abbrev FormalRow : VarId → Object → Type 0
-    FormalRow v object = (is_formal v sub ≡ true) × (kind_of p v ≡ Some object.kind)
+    FormalRow v object = (is_formal v sub ≡ true) × (object_declared p v ≡ Some object)
 
     abbrev Own : VarId → Object → Type 0
-    Own v object = ((is_formal v sub || is_local v sub) ≡ true) × (kind_of p v ≡ Some object.kind)
+    Own v object = ((is_formal v sub || is_local v sub) ≡ true) × (object_declared p v ≡ Some object)
 
     module _ (vars : p.vars ≡ before ++ (own_vars sub ++ after)) where
       vars_are : p.vars ≡ before ++ (map var_of its_formals ++ (map var_of its_locals ++ after))
       vars_are = vars ∙ ap (λ ws. before ++ (ws ++ after)) (map-append var_of its_formals its_locals) ∙ ap (λ ws. before ++ ws) (append_assoc (map var_of its_formals) (map var_of its_locals) after)
 
-      formal_rows : (P : VarId → Object → Type 0) → ((v : VarId) (object : Object) → IsFormalKind object.kind → is_formal v sub ≡ true → kind_of p v ≡ Some object.kind → P v object) → AllHold P its_formals
+      formal_rows : (P : VarId → Object → Type 0) → ((v : VarId) (object : Object) → IsFormal object → is_formal v sub ≡ true → object_declared p v ≡ Some object → P v object) → AllHold P its_formals
       formal_rows P follows =
-          rows p IsFormalKind P before first its_formals (map var_of its_locals ++ after) len vars_are formals_are (λ v object kind at row. follows v object kind (formal_positions v ∙ at) row)
+          rows p types IsFormal (λ object k. k.1) P before first its_formals (map var_of its_locals ++ after) len vars_are formals_are (λ v object kind at row. follows v object kind (formal_positions v ∙ at) row)
 
-      local_rows : (P : VarId → Object → Type 0) → ((v : VarId) (object : Object) → IsLocalKind object.kind → is_local v sub ≡ true → kind_of p v ≡ Some object.kind → P v object) → AllHold P its_locals
+      local_rows : (P : VarId → Object → Type 0) → ((v : VarId) (object : Object) → IsLocal object → is_local v sub ≡ true → object_declared p v ≡ Some object → P v object) → AllHold P its_locals
       local_rows P follows =
-          rows p IsLocalKind P (before ++ map var_of its_formals) (first + length its_formals) its_locals after
+          rows p types IsLocal (λ object k. k.1) P (before ++ map var_of its_formals) (first + length its_formals) its_locals after
           (length-append before (map var_of its_formals) ∙ ap₂ ◌+◌ len (length-map its_formals var_of)) (vars_are ∙ sym (append_assoc before (map var_of its_formals) (map var_of its_locals ++ after))) locals_are
           (λ v object kind at row. follows v object kind (local_positions v ∙ at) row)
 
@@ -240,12 +284,12 @@ module _ (p : Program) where
       formal_kind : (v : VarId) → is_formal v sub ≡ true → (mode : Mode) × (kind_of p v ≡ Some (Formal mode))
       formal_kind v h =
           let P : VarId → Object → Type 0 = λ v object. (mode : Mode) × (kind_of p v ≡ Some (Formal mode)) in
-          (at_position p IsFormalKind P v first its_formals formals_are (formal_rows P (λ v object kind formal row. (kind.0, row ∙ ap Some kind.1))) (sym (formal_positions v) ∙ h)).1
+          (at_position p types IsFormal (λ object k. k.1) P v first its_formals formals_are (formal_rows P (λ v object kind formal row. (kind.0.0, kind_is p v object row ∙ ap Some kind.0.1))) (sym (formal_positions v) ∙ h)).1
 
       local_kind : (v : VarId) → is_local v sub ≡ true → kind_of p v ≡ Some Local
       local_kind v h =
           let P : VarId → Object → Type 0 = λ v object. kind_of p v ≡ Some Local in
-          (at_position p IsLocalKind P v (first + length its_formals) its_locals locals_are (local_rows P (λ v object kind local row. row ∙ ap Some kind)) (sym (local_positions v) ∙ h)).1
+          (at_position p types IsLocal (λ object k. k.1) P v (first + length its_formals) its_locals locals_are (local_rows P (λ v object kind local row. kind_is p v object row ∙ ap Some kind.0)) (sym (local_positions v) ∙ h)).1
 
       no_local : (v : VarId) → is_formal v sub ≡ true → is_local v sub ≡ false
       no_local v h = false_from_ne_true (is_local v sub) (λ l. let kind = formal_kind v h in let other = local_kind v l in absurd (let e : Formal kind.0 ≡ Local = cc in cc))
@@ -254,7 +298,7 @@ module _ (p : Program) where
       scoped_sub = record {
         targets = λ v h. (assigned_variable Own body in_body v (commands sub.statements) (stmts_resolve body s.statements) h).1.0;
         read = λ v h. (read_variable Own body in_body v (commands sub.statements) (stmts_resolve body s.statements) h).1.0;
-        exported = λ v h. (in_relation FormalRow annotations in_annotations v (has_export v) (λ item. mentioned_variable FormalRow annotations in_annotations v item.exports) s.derives (sym (exports_are v sub) ∙ h)).1.0;
+        exported = λ v h. (in_relation FormalRow annotations in_annotations v (has_export v) (λ item. mentioned_variable FormalRow annotations in_annotations v (exported_names item.exports)) s.derives (sym (exports_are v sub) ∙ h)).1.0;
         imported = λ v h. (in_relation FormalRow annotations in_annotations v (has_import v) (imported_variable FormalRow annotations in_annotations v) s.derives (sym (imports_are v sub) ∙ h)).1.0;
         formal_kinds = formal_kind;
         local_kinds = local_kind;
@@ -262,6 +306,8 @@ module _ (p : Program) where
         apart = no_local;
         relation_modes = relation_has_modes p FormalRow (λ v object h. h.1) annotations in_annotations s.derives;
         target_modes = targets_have_modes p Own (λ v object h. h.1) body in_body (commands sub.statements) (stmts_resolve body s.statements);
+        body_names = command_as_declared p Own (λ v object h. h.1) body in_body (commands sub.statements) (stmts_resolve body s.statements);
+        pre_names = pre_as_declared p FormalRow (λ v object h. h.1) annotations in_annotations s.pre;
       }
 
   -- ---- programs
@@ -281,4 +327,4 @@ module _ (p : Program) where
 pub all_scoped : (p : Program) → Visible p → All (Scoped p) p.subs
 all_scoped p is =
     subst (λ q. All (Scoped q) q.subs) (sym is)
-    (All-from_recursion (Scoped (resolved.resolved (erased p))) (resolved.resolved (erased p)).subs (scoped_subs (resolved.resolved (erased p)) [] 0 0 [] (erased p) refl refl))
+    (All-from_recursion (Scoped (resolved.resolved (erased p))) (resolved.resolved (erased p)).subs (scoped_subs (resolved.resolved (erased p)) refl [] 0 0 [] (erased p) refl refl))

@@ -1,5 +1,5 @@
 -- The units that a program is made from: its names without what they denote, and the programs whose names stand with what they denote.
-use Rattle.std.specs.Prelude.{◌≡◌, List, [], ◌∷◌, map, Option, option_map, filter_map, slice_get}
+use Rattle.std.specs.Prelude.{◌≡◌, List, [], ◌∷◌, map, Option, Some, None, option_map, filter_map, slice_get}
 use Rattle.spx_tree.specs.declared.expression.Identifier.{Identifier}
 use Rattle.spx_tree.specs.declared.expression.Name.{Name}
 use Rattle.spx_tree.specs.declared.expression.Name.TheVariants.{Simple, Attribute}
@@ -10,6 +10,9 @@ use Rattle.spx_tree.specs.declared.declaration.Decl.TheVariants as decl
 use Rattle.spx_tree.specs.declared.statement.Stmt.{Stmt}
 use Rattle.spx_tree.specs.declared.statement.Stmt.TheVariants as stmt
 use Rattle.spx_tree.specs.declared.statement.Arm.{Arm}
+use Rattle.spx_text.specs.declared.place.Place.{Place}
+use Rattle.spx_tree.specs.declared.annotation.Exports.{Exports}
+use Rattle.spx_tree.specs.declared.annotation.Exports.TheVariants as exported
 use Rattle.spx_tree.specs.declared.annotation.DerivesItem.{DerivesItem}
 use Rattle.spx_tree.specs.declared.annotation.Derives.{Derives}
 use Rattle.spx_tree.specs.declared.annotation.Precondition.{Precondition}
@@ -60,6 +63,8 @@ erased_step (CoreExpr-F.Attribute prefix designator) = expr.Name (Attribute pref
 erased_step (CoreExpr-F.Parenthesized place inner) = expr.Parenthesized place inner
 erased_step (CoreExpr-F.Prefix op place operand) = expr.Prefix op place operand
 erased_step (CoreExpr-F.Infix op place left right) = expr.Infix op place left right
+erased_step (CoreExpr-F.InType op place tested type_name) = expr.InType op place tested (erased_reference type_name)
+erased_step (CoreExpr-F.InRange op place tested low high) = expr.InRange op place tested low high
 
 abbrev pub erased_expr : CoreExpr → Expr
 erased_expr = fold-CoreExpr Expr erased_step
@@ -81,8 +86,12 @@ erased_arm = fold-CoreArm Stmt Arm erased_stmt_step erased_arm_step
 abbrev pub erased_decl : CoreDecl → Decl
 erased_decl (Variables names type_name) = decl.Variables (map erased_defining names) (erased_reference type_name)
 
+abbrev pub erased_exports : Option Place → List Reference → Exports
+erased_exports None names = exported.Names (erased_references names)
+erased_exports (Some place) names = exported.Null place
+
 abbrev pub erased_item : CoreDerivesItem → DerivesItem
-erased_item item = record { exports = erased_references item.exports; imports = record { itself = item.itself; names = erased_references item.imports } }
+erased_item item = record { exports = erased_exports item.null item.exports; imports = record { itself = item.itself; names = erased_references item.imports } }
 
 abbrev pub erased_derives : CoreDerives → Derives
 erased_derives derives = record { place = derives.place; items = map erased_item derives.items }

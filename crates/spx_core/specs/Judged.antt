@@ -1,10 +1,12 @@
 -- The static rules on names and expressions: what an expression is, or the first rule that is broken, in the order of the text.
-use Rattle.std.specs.Prelude.{⊤, ℕ, ℤ, Bool, true, false, ◌||◌, List, [], ◌∷◌, Option, Some, None, codes, if◌then◌else◌, Result, Ok, Err}
+use Rattle.std.specs.Prelude.{⊤, ℕ, ℤ, Bool, true, false, ◌||◌, ◌&&◌, List, [], ◌∷◌, Option, Some, None, codes, if◌then◌else◌, Result, Ok, Err}
 use Rattle.std.specs.Str.{str_eq_ignore_ascii_case}
 use Rattle.spx_text.specs.declared.place.Place.{Place}
 use Rattle.spx_tree.specs.declared.expression.Identifier.{Identifier}
 use Rattle.spx_tree.specs.declared.expression.InfixOp.{InfixOp}
 use Rattle.spx_tree.specs.declared.expression.PrefixOp.{PrefixOp}
+use Rattle.spx_tree.specs.declared.expression.MemberOp.{MemberOp}
+use Rattle.spx_core.specs.declared.entity.TheConstants.{BOOLEAN}
 use Rattle.spx_core.specs.declared.entity.Subtype.{Subtype}
 use Rattle.spx_core.specs.declared.entity.Object.{Object}
 use Rattle.spx_core.specs.declared.entity.Entity.{Entity}
@@ -19,7 +21,7 @@ use Rattle.spx_core.specs.declared.rule.Breach.{Breach}
 use Rattle.spx_core.specs.declared.rule.ExprType.{ExprType}
 use Rattle.spx_core.specs.declared.rule.ExprType.TheVariants.{Universal, Of}
 use Rattle.spx_core.specs.declared.rule.Typing.{Typing}
-use Rattle.spx_core.specs.Types.{both_held, is_boolean, is_held, is_number, is_of, lies_in, meet, met, result_of, result_type, signed_result}
+use Rattle.spx_core.specs.Types.{both_held, has_numbers, is_boolean, is_held, is_of, left_type, lies_in, member_value, met, operand_fits, position_in, operands_fit, result_of, result_type, right_type, signed_result, three_fit}
 
 -- ---- judgements
 
@@ -98,7 +100,17 @@ referred_object reference = do
 abbrev pub typing : ExprType → Option ℤ → Place → Typing
 typing of value place = record { of = of; value = value; place = place }
 
--- the attributes of a type (Ada 95 RM 3.5)
+-- a value is needed: an object has one, and a literal is one
+abbrev pub value_at : Place → Option Entity → Judged Typing
+value_at place None = Err (record { rule = N1; place = place })
+value_at place (Some (entity.Variable v object)) = Ok (typing (Of object.subtype.base) None place)
+value_at place (Some (entity.Literal subtype position)) = Ok (typing (Of subtype.base) (Some (position_in subtype.base.class position)) place)
+value_at place (Some other) = Err (record { rule = N3; place = place })
+
+abbrev pub named_value : CoreName → Judged Typing
+named_value name = value_at name.name.place name.entity
+
+-- the attributes of an integer type (Ada 95 RM 3.5)
 abbrev pub is_first : List ℕ → Bool
 is_first designator = str_eq_ignore_ascii_case designator (codes "first")
 
@@ -111,10 +123,10 @@ attribute_of subtype designator = if is_first designator then subtype.first else
 abbrev pub attribute : CoreName → Identifier → Judged Typing
 attribute prefix designator = do
   subtype ← named_type prefix
-  _ ← keeps N3 prefix.name.place (is_attribute designator.text)
+  _ ← keeps N3 prefix.name.place (has_numbers subtype.base.class && is_attribute designator.text)
   Ok (typing (Of subtype.base) (Some (attribute_of subtype designator.text)) prefix.name.place)
 
--- a number of the type is needed, which a universal one then must be
+-- a value of the type is needed, which a universal one then must be
 abbrev pub operand_of : Subtype → Typing → Judged ⊤
 operand_of subtype operand = do
   _ ← keeps N10 operand.place (is_of subtype.base operand.of)
@@ -126,28 +138,51 @@ condition operand = keeps N10 operand.place (is_boolean operand.of)
 
 abbrev pub sign : PrefixOp → Place → Typing → Judged Typing
 sign op place operand = do
-  _ ← keeps N10 place (is_number operand.of)
+  _ ← keeps N10 place (operand_fits op operand.of)
   _ ← keeps N12 place (is_held operand.value (signed_result op operand.value))
   _ ← keeps N12 place (lies_in operand.of (signed_result op operand.value))
   Ok (typing operand.of (signed_result op operand.value) place)
 
 abbrev pub operation : InfixOp → Place → Typing → Typing → Judged Typing
 operation op place left right = do
-  _ ← keeps N10 place (meet left.of right.of)
-  _ ← keeps N12 left.place (lies_in (met left.of right.of) left.value)
-  _ ← keeps N12 right.place (lies_in (met left.of right.of) right.value)
+  _ ← keeps N10 place (operands_fit op left.of right.of)
+  _ ← keeps N12 left.place (lies_in (left_type op left.of right.of right.value) left.value)
+  _ ← keeps N12 right.place (lies_in (right_type op left.of right.of) right.value)
   _ ← keeps N12 place (both_held left.value right.value (result_of op left.value right.value))
-  _ ← keeps N12 place (lies_in (result_type op (met left.of right.of)) (result_of op left.value right.value))
-  Ok (typing (result_type op (met left.of right.of)) (result_of op left.value right.value) place)
+  _ ← keeps N12 place (lies_in (result_type op (left_type op left.of right.of right.value)) (result_of op left.value right.value))
+  Ok (typing (result_type op (left_type op left.of right.of right.value)) (result_of op left.value right.value) place)
 
--- one level, of whose parts it is known: an infix operation stands at its operator, every other node at its first token
+-- an integer type is needed
+abbrev pub integer_type : Reference → Judged Subtype
+integer_type reference = do
+  subtype ← referred_type reference
+  _ ← keeps N10 reference.root.name.place (has_numbers subtype.base.class)
+  Ok subtype
+
+abbrev pub member_of_type : MemberOp → Place → Typing → Subtype → Judged Typing
+member_of_type op place tested subtype = do
+  _ ← keeps N10 place (is_of subtype.base tested.of)
+  _ ← keeps N12 tested.place (lies_in (Of subtype.base) tested.value)
+  Ok (typing (Of BOOLEAN.base) (member_value op tested.value (Some subtype.first) (Some subtype.last)) place)
+
+abbrev pub member_of_range : MemberOp → Place → (tested low high : Typing) → Judged Typing
+member_of_range op place tested low high = do
+  _ ← keeps N10 place (three_fit tested.of low.of high.of)
+  _ ← keeps N12 tested.place (lies_in (met (met tested.of low.of) high.of) tested.value)
+  _ ← keeps N12 low.place (lies_in (met (met tested.of low.of) high.of) low.value)
+  _ ← keeps N12 high.place (lies_in (met (met tested.of low.of) high.of) high.value)
+  Ok (typing (Of BOOLEAN.base) (member_value op tested.value low.value high.value) place)
+
+-- one level, of whose parts it is known
 abbrev pub expr_step : CoreExpr-F (Judged Typing) → Judged Typing
 expr_step (CoreExpr-F.Number n place) = Ok (typing Universal (Some n) place)
-expr_step (CoreExpr-F.Name name) = named_object name >>= λ object. Ok (typing (Of object.subtype.base) None name.name.place)
+expr_step (CoreExpr-F.Name name) = named_value name
 expr_step (CoreExpr-F.Attribute prefix designator) = attribute prefix designator
 expr_step (CoreExpr-F.Parenthesized place inner) = inner >>= λ e. Ok (typing e.of e.value place)
 expr_step (CoreExpr-F.Prefix op place operand) = operand >>= λ e. sign op place e
 expr_step (CoreExpr-F.Infix op place left right) = left >>= λ l. right >>= λ r. operation op place l r
+expr_step (CoreExpr-F.InType op place tested type_name) = tested >>= λ t. integer_type type_name >>= λ subtype. member_of_type op place t subtype
+expr_step (CoreExpr-F.InRange op place tested low high) = tested >>= λ t. low >>= λ l. high >>= λ h. member_of_range op place t l h
 
 abbrev pub judged : CoreExpr → Judged Typing
 judged = fold-CoreExpr (Judged Typing) expr_step

@@ -1,11 +1,12 @@
 -- What breaks each rule on names and types, and where: one case for each rule and each kind of part (Ada 95 RM 3.5, 4.1, 4.5, 4.9, 5.2, 5.3, 6.3, 8.3).
 -- Nothing here says in which order the parts are looked at.
-use Rattle.std.specs.Prelude.{◌≡◌, ◌&&◌, true, false, List, ◌++◌, Contains, Some, None}
+use Rattle.std.specs.Prelude.{◌≡◌, ◌⊎◌, ℤ, ◌&&◌, true, false, List, ◌++◌, Contains, Some, None}
 use Rattle.std.specs.Str.{str_eq_ignore_ascii_case}
 use Rattle.spx_text.specs.declared.place.Place.{Place}
 use Rattle.spx_tree.specs.declared.expression.Identifier.{Identifier}
 use Rattle.spx_tree.specs.declared.expression.InfixOp.{InfixOp}
 use Rattle.spx_tree.specs.declared.expression.PrefixOp.{PrefixOp}
+use Rattle.spx_tree.specs.declared.expression.MemberOp.{MemberOp}
 use Rattle.spx_core.specs.declared.entity.Entity.{Entity}
 use Rattle.spx_core.specs.declared.entity.Entity.TheVariants as entity
 use Rattle.spx_core.specs.declared.entity.Object.{Object}
@@ -32,12 +33,16 @@ use Rattle.spx_core.specs.Dependency.{relation}
 use Rattle.spx_core.specs.HasType.{HasType}
 use Rattle.spx_core.specs.Judged.{is_attribute}
 use Rattle.spx_core.specs.Resolved.{formal_names, local_names, params_of}
-use Rattle.spx_core.specs.Types.{both_held, is_boolean, is_held, is_number, is_of, lies_in, meet, met, result_of, result_type, signed_result}
+use Rattle.spx_core.specs.Types.{both_held, has_numbers, is_boolean, is_held, is_of, left_type, lies_in, met, operand_fits, operands_fit, result_of, result_type, right_type, signed_result, three_fit}
 
 -- ---- names
 
 abbrev pub IsObject : Entity → Type 0
 IsObject e = (v : VarId) × (object : Object) × (e ≡ entity.Variable v object)
+
+-- what has a value: an object or a literal
+abbrev pub IsValue : Entity → Type 0
+IsValue e = IsObject e ⊎ ((subtype : Subtype) × (position : ℤ) × (e ≡ entity.Literal subtype position))
 
 abbrev pub IsType : Entity → Type 0
 IsType e = (subtype : Subtype) × (e ≡ entity.TypeName subtype)
@@ -57,27 +62,41 @@ pub data BreaksReference (IsNeeded : Entity → Type 0) (reference : Reference) 
 -- ---- expressions
 
 pub data BreaksExpr : CoreExpr → RuleName → Place → Type 0 where
-  -- an object is needed
-  name : (name : CoreName) (rule : RuleName) (place : Place) → BreaksName IsObject name rule place → BreaksExpr (expr.Name name) rule place
-  -- a type is needed before the apostrophe, and `First` or `Last` after it
+  -- an object or a literal is needed
+  name : (name : CoreName) (rule : RuleName) (place : Place) → BreaksName IsValue name rule place → BreaksExpr (expr.Name name) rule place
+  -- an integer type is needed before the apostrophe, and `First` or `Last` after it
   prefix : (prefix : CoreName) (designator : Identifier) (rule : RuleName) (place : Place) → BreaksName IsType prefix rule place → BreaksExpr (expr.Attribute prefix designator) rule place
   no_attribute : (prefix : CoreName) (designator : Identifier) → is_attribute designator.text ≡ false → BreaksExpr (expr.Attribute prefix designator) N3 prefix.name.place
+  no_attribute_of_type : (prefix : CoreName) (designator : Identifier) (subtype : Subtype) → prefix.entity ≡ Some (entity.TypeName subtype) → has_numbers subtype.base.class ≡ false → BreaksExpr (expr.Attribute prefix designator) N3 prefix.name.place
   -- a part of it breaks a rule
   inner : (at : Place) (a : CoreExpr) (rule : RuleName) (place : Place) → BreaksExpr a rule place → BreaksExpr (expr.Parenthesized at a) rule place
   operand : (op : PrefixOp) (at : Place) (a : CoreExpr) (rule : RuleName) (place : Place) → BreaksExpr a rule place → BreaksExpr (expr.Prefix op at a) rule place
   left : (op : InfixOp) (at : Place) (a b : CoreExpr) (rule : RuleName) (place : Place) → BreaksExpr a rule place → BreaksExpr (expr.Infix op at a b) rule place
   right : (op : InfixOp) (at : Place) (a b : CoreExpr) (rule : RuleName) (place : Place) → BreaksExpr b rule place → BreaksExpr (expr.Infix op at a b) rule place
-  -- a sign is applied to what is no number, or gives a static value that lies outside the type, or in no 128 bits
-  sign_of_no_number : (op : PrefixOp) (at : Place) (a : CoreExpr) (o : Typing) → HasType a o → is_number o.of ≡ false → BreaksExpr (expr.Prefix op at a) N10 at
+  tested : (op : MemberOp) (at : Place) (a : CoreExpr) (name : Reference) (rule : RuleName) (place : Place) → BreaksExpr a rule place → BreaksExpr (expr.InType op at a name) rule place
+  of_type : (op : MemberOp) (at : Place) (a : CoreExpr) (name : Reference) (rule : RuleName) (place : Place) → BreaksReference IsType name rule place → BreaksExpr (expr.InType op at a name) rule place
+  tested_in_range : (op : MemberOp) (at : Place) (a low high : CoreExpr) (rule : RuleName) (place : Place) → BreaksExpr a rule place → BreaksExpr (expr.InRange op at a low high) rule place
+  low_bound : (op : MemberOp) (at : Place) (a low high : CoreExpr) (rule : RuleName) (place : Place) → BreaksExpr low rule place → BreaksExpr (expr.InRange op at a low high) rule place
+  high_bound : (op : MemberOp) (at : Place) (a low high : CoreExpr) (rule : RuleName) (place : Place) → BreaksExpr high rule place → BreaksExpr (expr.InRange op at a low high) rule place
+  -- an operator is applied to what is no number, or `not` to what is no truth value; or it gives a static value that lies outside the type, or in no 128 bits
+  no_operand : (op : PrefixOp) (at : Place) (a : CoreExpr) (o : Typing) → HasType a o → operand_fits op o.of ≡ false → BreaksExpr (expr.Prefix op at a) N10 at
   sign_out_of_range : (op : PrefixOp) (at : Place) (a : CoreExpr) (o : Typing) → HasType a o → (is_held o.value (signed_result op o.value) && lies_in o.of (signed_result op o.value)) ≡ false → BreaksExpr (expr.Prefix op at a) N12 at
-  -- two operands are not numbers of one type
-  no_common_type : (op : InfixOp) (at : Place) (a b : CoreExpr) (l r : Typing) → HasType a l → HasType b r → meet l.of r.of ≡ false → BreaksExpr (expr.Infix op at a b) N10 at
+  -- two operands are not of the types that the operator takes
+  no_operands : (op : InfixOp) (at : Place) (a b : CoreExpr) (l r : Typing) → HasType a l → HasType b r → operands_fit op l.of r.of ≡ false → BreaksExpr (expr.Infix op at a b) N10 at
   -- a universal operand lies outside the type that it meets
-  left_out_of_range : (op : InfixOp) (at : Place) (a b : CoreExpr) (l r : Typing) → HasType a l → HasType b r → lies_in (met l.of r.of) l.value ≡ false → BreaksExpr (expr.Infix op at a b) N12 l.place
-  right_out_of_range : (op : InfixOp) (at : Place) (a b : CoreExpr) (l r : Typing) → HasType a l → HasType b r → lies_in (met l.of r.of) r.value ≡ false → BreaksExpr (expr.Infix op at a b) N12 r.place
-  -- the static result lies outside its type, or in no 128 bits
+  left_out_of_range : (op : InfixOp) (at : Place) (a b : CoreExpr) (l r : Typing) → HasType a l → HasType b r → lies_in (left_type op l.of r.of r.value) l.value ≡ false → BreaksExpr (expr.Infix op at a b) N12 l.place
+  right_out_of_range : (op : InfixOp) (at : Place) (a b : CoreExpr) (l r : Typing) → HasType a l → HasType b r → lies_in (right_type op l.of r.of) r.value ≡ false → BreaksExpr (expr.Infix op at a b) N12 r.place
+  -- there is no static result, since a divisor is 0, an exponent is negative or 128 bits do not hold it, or it lies outside its type
   result_out_of_range : (op : InfixOp) (at : Place) (a b : CoreExpr) (l r : Typing) → HasType a l → HasType b r
-      → (both_held l.value r.value (result_of op l.value r.value) && lies_in (result_type op (met l.of r.of)) (result_of op l.value r.value)) ≡ false → BreaksExpr (expr.Infix op at a b) N12 at
+      → (both_held l.value r.value (result_of op l.value r.value) && lies_in (result_type op (left_type op l.of r.of r.value)) (result_of op l.value r.value)) ≡ false → BreaksExpr (expr.Infix op at a b) N12 at
+  -- the type of a membership test has no numbers, or what is tested is of another type, or lies outside its base type
+  no_integer_type : (op : MemberOp) (at : Place) (a : CoreExpr) (name : Reference) (subtype : Subtype) → name.root.entity ≡ Some (entity.TypeName subtype) → has_numbers subtype.base.class ≡ false → BreaksExpr (expr.InType op at a name) N10 name.root.name.place
+  tested_of_another_type : (op : MemberOp) (at : Place) (a : CoreExpr) (name : Reference) (subtype : Subtype) (o : Typing) → name.root.entity ≡ Some (entity.TypeName subtype) → HasType a o → is_of subtype.base o.of ≡ false → BreaksExpr (expr.InType op at a name) N10 at
+  tested_out_of_type : (op : MemberOp) (at : Place) (a : CoreExpr) (name : Reference) (subtype : Subtype) (o : Typing) → name.root.entity ≡ Some (entity.TypeName subtype) → HasType a o → lies_in (Of subtype.base) o.value ≡ false → BreaksExpr (expr.InType op at a name) N12 o.place
+  -- the three of a test for a range are not numbers of one type, or one lies outside it
+  no_three : (op : MemberOp) (at : Place) (a low high : CoreExpr) (o l h : Typing) → HasType a o → HasType low l → HasType high h → three_fit o.of l.of h.of ≡ false → BreaksExpr (expr.InRange op at a low high) N10 at
+  one_of_three : (op : MemberOp) (at : Place) (a low high : CoreExpr) (o l h t : Typing) → HasType a o → HasType low l → HasType high h → (t ≡ o) ⊎ ((t ≡ l) ⊎ (t ≡ h)) → lies_in (met (met o.of l.of) h.of) t.value ≡ false
+      → BreaksExpr (expr.InRange op at a low high) N12 t.place
 
 -- an expression where a truth value is needed
 pub data BreaksCondition (e : CoreExpr) : RuleName → Place → Type 0 where

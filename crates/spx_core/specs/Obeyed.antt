@@ -1,6 +1,6 @@
 -- The static rules on the use of variables (Barnes, High Integrity Software), in the order of the text.
 use Rattle.std.specs.Prelude.{◌≡◌, ⊤, Bool, true, false, not, ◌&&◌, ◌||◌, is_some, List, [], ◌∷◌, Option, Some, None, Ok}
-use Rattle.std.specs.List.{list_any, list_all}
+use Rattle.std.specs.List.{flat_map, list_any, list_all}
 use Rattle.spx_text.specs.declared.place.Place.{Place}
 use Rattle.spx_core.specs.declared.entity.VarId.{VarId}
 use Rattle.spx_core.specs.declared.entity.Mode.{Mode}
@@ -38,6 +38,11 @@ abbrev pub variable_is : (VarId → Bool) → Option VarId → Bool
 variable_is test (Some v) = test v
 variable_is test None = false
 
+-- the same, which a name that denotes no variable passes
+abbrev pub variable_passes : (VarId → Bool) → Option VarId → Bool
+variable_passes test (Some v) = test v
+variable_passes test None = true
+
 abbrev pub is_imported : Sub → CoreName → Bool
 is_imported sub name = variable_is (λ v. imports v sub) (variable_of name.entity)
 
@@ -66,9 +71,21 @@ abbrev pub exports_once : List CoreDerivesItem → Bool
 exports_once [] = true
 exports_once (item ∷ items) = names_once item.exports && (not (list_any (is_export_of items) item.exports) && exports_once items)
 
+-- the names, where there is a `null`
+abbrev pub imports_at : Option Place → List Reference → List Reference
+imports_at (Some place) imports = imports
+imports_at None imports = []
+
 -- an import is named once, and beside `*` it is none of the exports
 abbrev pub pairs_once : CoreDerivesItem → Bool
 pairs_once item = names_once item.imports && not (is_some item.itself && list_any (λ name. is_among name item.imports) item.exports)
+
+-- the imports of the items from which nothing is exported
+abbrev pub null_imports : CoreDerivesItem → List Reference
+null_imports item = imports_at item.null item.imports
+
+abbrev pub unused_imports : List CoreDerivesItem → List Reference
+unused_imports items = flat_map null_imports items
 
 abbrev pub is_listed : Sub → VarId → Bool
 is_listed sub v = imports v sub || exports v sub
@@ -78,7 +95,8 @@ names_formals sub item = list_all (names_formal sub) item.exports && list_all (n
 
 abbrev pub is_right_relation : Sub → Bool
 is_right_relation sub =
-    exports_once (relation sub) && (list_all pairs_once (relation sub) && (list_all (is_listed sub) (formals sub) && list_all (names_formals sub) (relation sub)))
+    exports_once (relation sub)
+    && (list_all pairs_once (relation sub) && (names_once (unused_imports (relation sub)) && (list_all (is_listed sub) (formals sub) && list_all (names_formals sub) (relation sub))))
 
 -- at the word `derives`, or, where there is none, at the heading
 abbrev pub place_or : Place → Option CoreDerives → Place
@@ -113,10 +131,10 @@ obeyed_import sub name = keeps U8 name.root.name.place (import_agrees (mode_name
 abbrev pub obeyed_item : Sub → CoreDerivesItem → Judged ⊤
 obeyed_item sub item = each (obeyed_export sub (is_some item.itself)) item.exports >>= λ _. each (obeyed_import sub) item.imports
 
--- ---- U11: a precondition names only imports
+-- ---- U11: of the variables, a precondition names only imports
 
 abbrev pub reads_import : Sub → CoreName → Judged ⊤
-reads_import sub name = keeps U11 name.name.place (is_imported sub name)
+reads_import sub name = keeps U11 name.name.place (variable_passes (λ v. imports v sub) (variable_of name.entity))
 
 abbrev pub obeyed_pre : Sub → CorePrecondition → Judged ⊤
 obeyed_pre sub pre = each (reads_import sub) (names_read pre.condition)

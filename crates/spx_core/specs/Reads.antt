@@ -11,6 +11,8 @@ names_step (CoreExpr-F.Attribute prefix designator) = []
 names_step (CoreExpr-F.Parenthesized place inner) = inner
 names_step (CoreExpr-F.Prefix op place operand) = operand
 names_step (CoreExpr-F.Infix op place left right) = left ++ right
+names_step (CoreExpr-F.InType op place tested type_name) = tested
+names_step (CoreExpr-F.InRange op place tested low high) = tested ++ (low ++ high)
 
 -- in the order of the text
 abbrev pub names_read : CoreExpr → List CoreName

@@ -10,6 +10,9 @@ use Rattle.spx_tree.specs.declared.declaration.Decl.{Decl}
 use Rattle.spx_tree.specs.declared.declaration.Decl.TheVariants as written_decl
 use Rattle.spx_tree.specs.declared.statement.Stmt.{Stmt, Stmt-F, fold-Stmt}
 use Rattle.spx_tree.specs.declared.statement.Arm.{Arm, Arm-F, fold-Arm}
+use Rattle.spx_text.specs.declared.place.Place.{Place}
+use Rattle.spx_tree.specs.declared.annotation.Exports.{Exports}
+use Rattle.spx_tree.specs.declared.annotation.Exports.TheVariants as exported
 use Rattle.spx_tree.specs.declared.annotation.DerivesItem.{DerivesItem}
 use Rattle.spx_tree.specs.declared.annotation.Derives.{Derives}
 use Rattle.spx_tree.specs.declared.annotation.Precondition.{Precondition}
@@ -20,7 +23,7 @@ use Rattle.spx_tree.specs.declared.subprogram.FormalPart.{FormalPart}
 use Rattle.spx_tree.specs.declared.subprogram.Subprogram.{Subprogram}
 use Rattle.spx_tree.specs.declared.subprogram.Unit.{Unit}
 use Rattle.spx_tree.specs.declared.subprogram.Unit.TheVariants as unit
-use Rattle.spx_core.specs.declared.entity.TheConstants.{INTEGER}
+use Rattle.spx_core.specs.declared.entity.TheConstants.{BOOLEAN, INTEGER, NATURAL, POSITIVE, UNIVERSAL}
 use Rattle.spx_core.specs.declared.entity.SubId.{SubId}
 use Rattle.spx_core.specs.declared.entity.VarId.{VarId}
 use Rattle.spx_core.specs.declared.entity.Subtype.{Subtype}
@@ -76,6 +79,8 @@ expr_step regions (Expr-F.Name name) = resolved_value regions name
 expr_step regions (Expr-F.Parenthesized place inner) = expr.Parenthesized place inner
 expr_step regions (Expr-F.Prefix op place operand) = expr.Prefix op place operand
 expr_step regions (Expr-F.Infix op place left right) = expr.Infix op place left right
+expr_step regions (Expr-F.InType op place tested type_name) = expr.InType op place tested (resolved_reference regions type_name)
+expr_step regions (Expr-F.InRange op place tested low high) = expr.InRange op place tested low high
 
 abbrev pub resolved_expr : Regions → Expr → CoreExpr
 resolved_expr regions = fold-Expr CoreExpr (expr_step regions)
@@ -97,9 +102,23 @@ resolved_stmt regions = fold-Stmt CoreStmt CoreArm (stmt_step regions) (arm_step
 abbrev pub resolved_arm : Regions → Arm → CoreArm
 resolved_arm regions = fold-Arm CoreStmt CoreArm (stmt_step regions) (arm_step regions)
 
+-- the names that are exported; at `null` there are none
+abbrev pub exported_names : Exports → List Name
+exported_names (exported.Names names) = names
+exported_names (exported.Null place) = []
+
+-- the place of `null`
+abbrev pub place_of_null : Exports → Option Place
+place_of_null (exported.Names names) = None
+place_of_null (exported.Null place) = Some place
+
 abbrev pub resolved_item : Regions → DerivesItem → CoreDerivesItem
-resolved_item regions item =
-    record { exports = map (resolved_reference regions) item.exports; itself = item.imports.itself; imports = map (resolved_reference regions) item.imports.names }
+resolved_item regions item = record {
+  null = place_of_null item.exports;
+  exports = map (resolved_reference regions) (exported_names item.exports);
+  itself = item.imports.itself;
+  imports = map (resolved_reference regions) item.imports.names;
+}
 
 abbrev pub resolved_derives : Regions → Derives → CoreDerives
 resolved_derives regions derives = record { place = derives.place; items = map (resolved_item regions) derives.items }
@@ -109,10 +128,10 @@ resolved_pre regions pre = record { place = pre.place; condition = resolved_expr
 
 -- ---- declared names
 
--- the subtype that a name denotes; where it denotes none, a rule is broken, and it counts as `Integer`
+-- the subtype that a name denotes; where it denotes none, a rule is broken, and it counts as that of universal numbers
 abbrev pub subtype_of : Option Entity → Subtype
 subtype_of (Some (entity.TypeName subtype)) = subtype
-subtype_of _ = INTEGER
+subtype_of _ = UNIVERSAL
 
 -- what is declared of the objects of a declaration with this type name
 abbrev pub object_of : VarKind → Reference → Object
@@ -145,9 +164,9 @@ defining_all region object position (name ∷ names) =
 -- no mode means `in` (Ada 95 RM 6.1)
 abbrev pub mode_of : WrittenMode → Mode
 mode_of written.Unwritten = mode.In
-mode_of written.In = mode.In
+mode_of (written.In place) = mode.In
 mode_of written.Out = mode.Out
-mode_of written.InOut = mode.InOut
+mode_of (written.InOut place) = mode.InOut
 
 -- the names that a declaration declares
 abbrev pub declared_by : CoreDecl → List Defining
@@ -248,7 +267,7 @@ resolved_sub name position s = with_formals name position s (option_map (resolve
 -- the variables that a subprogram declares
 abbrev pub var_in : List ℕ → Entity → Var
 var_in word (entity.Variable v object) = record { name = word; kind = object.kind; type_id = object.subtype.id }
-var_in word other = record { name = word; kind = Local; type_id = INTEGER.id }
+var_in word other = record { name = word; kind = Local; type_id = UNIVERSAL.id }
 
 abbrev pub var_of : Defining → Var
 var_of d = var_in d.name.text d.entity
@@ -267,9 +286,15 @@ resolved_subs library position first (unit.Subprogram s ∷ units) =
     resolved_sub (unit_name library position s) first s
     ∷ resolved_subs (declaring library (unit_name library position s)) (position + 1) (first + length (own_vars (resolved_sub (unit_name library position s) first s))) units
 
--- the predefined types
+-- the predefined types, each at the position that is its id
 abbrev pub standard_types : List TypeRow
-standard_types = record { name = codes "Integer"; subtype = INTEGER } ∷ []
+standard_types =
+    record { name = codes "universal_integer"; subtype = UNIVERSAL }
+    ∷ record { name = codes "Boolean"; subtype = BOOLEAN }
+    ∷ record { name = codes "Integer"; subtype = INTEGER }
+    ∷ record { name = codes "Natural"; subtype = NATURAL }
+    ∷ record { name = codes "Positive"; subtype = POSITIVE }
+    ∷ []
 
 -- the subprogram at this position
 abbrev pub sub_at : ℕ → SubId

@@ -1,6 +1,6 @@
 -- What breaks each rule on variables, and where: one case for each rule (Barnes, High Integrity Software).
 -- Nothing here says in which order the rules are looked at.
-use Rattle.std.specs.Prelude.{◌≡◌, ◌⊎◌, true, false, List, ◌∷◌, ◌++◌, Contains, IsSome, Some}
+use Rattle.std.specs.Prelude.{◌≡◌, ◌⊎◌, false, List, ◌∷◌, ◌++◌, Contains, IsSome, Some}
 use Rattle.std.specs.List.{flat_map}
 use Rattle.spx_text.specs.declared.place.Place.{Place}
 use Rattle.spx_core.specs.declared.entity.VarId.{VarId}
@@ -19,7 +19,7 @@ use Rattle.spx_core.specs.Reads.{names_read}
 use Rattle.spx_core.specs.Uses.{variable_of}
 use Rattle.spx_core.specs.Dependency.{exports, imports, relation, variables}
 use Rattle.spx_core.specs.Formals.{formals, is_formal, mode_of}
-use Rattle.spx_core.specs.Obeyed.{mode_named, place_or}
+use Rattle.spx_core.specs.Obeyed.{mode_named, place_or, unused_imports}
 use Rattle.spx_core.specs.Rules.{agrees}
 
 -- ---- U7
@@ -44,6 +44,8 @@ pub data HasBadDerives (sub : Sub) : Type 0 where
   export_twice : (v : VarId) → StandsTwice v (exports_named sub) → HasBadDerives sub
   -- a pair twice: an item names an import twice, or one of its exports beside `*`
   import_twice : (item : CoreDerivesItem) (v : VarId) → Contains (relation sub) item → StandsTwice v (variables item.imports) → HasBadDerives sub
+  -- an import of two items from which nothing is exported
+  unused_twice : (v : VarId) → StandsTwice v (variables (unused_imports (relation sub))) → HasBadDerives sub
   import_beside_star : (item : CoreDerivesItem) (v : VarId) → Contains (relation sub) item → IsSome item.itself → Contains (variables item.exports) v → Contains (variables item.imports) v → HasBadDerives sub
   formal_left_out : (v : VarId) → Contains (formals sub) v → imports v sub ≡ false → exports v sub ≡ false → HasBadDerives sub
   -- a name of something that is no formal
@@ -54,12 +56,6 @@ pub data HasBadDerives (sub : Sub) : Type 0 where
 -- the mode with which the variable is declared disagrees with what it is in the relation
 abbrev pub Disagrees : Program → Sub → VarId → Type 0
 Disagrees p sub v = (mode : Mode) × (mode_of v p ≡ Some mode) × (agrees mode (imports v sub) (exports v sub) ≡ false)
-
--- ---- U11
-
--- the name denotes an import
-abbrev pub IsImport : Sub → CoreName → Type 0
-IsImport sub name = (v : VarId) × IsVariable name v × (imports v sub ≡ true)
 
 -- ---- U2
 
@@ -75,5 +71,5 @@ Assigns (Choose place condition a b) target = Assigns a target ⊎ Assigns b tar
 pub data BreaksRule (p : Program) (sub : Sub) : RuleName → Place → Type 0 where
   bad_derives : HasBadDerives sub → BreaksRule p sub U7 (place_or sub.place sub.derives)
   mode_disagrees : (name : Reference) (v : VarId) → IsInRelation sub name → IsVariable name.root v → Disagrees p sub v → BreaksRule p sub U8 name.root.name.place
-  not_imported : (pre : CorePrecondition) (name : CoreName) → sub.pre ≡ Some pre → Contains (names_read pre.condition) name → ¬ IsImport sub name → BreaksRule p sub U11 name.name.place
+  not_imported : (pre : CorePrecondition) (name : CoreName) (v : VarId) → sub.pre ≡ Some pre → Contains (names_read pre.condition) name → IsVariable name v → imports v sub ≡ false → BreaksRule p sub U11 name.name.place
   input_assigned : (target : Reference) → Assigns (commands sub.statements) target → mode_named target.root ≡ Some In → BreaksRule p sub U2 target.root.name.place

@@ -11,7 +11,7 @@ use Rattle.spx_core.specs.Uses.{uses}
 use Rattle.spx_core.specs.Dependency.{exports, imports, relation}
 use Rattle.spx_core.specs.Effects.{defines}
 use Rattle.spx_core.specs.Formals.{formals, is_formal, mode_of}
-use Rattle.spx_core.specs.Obeyed.{exports_once, is_listed, names_formals, pairs_once}
+use Rattle.spx_core.specs.Obeyed.{exports_once, is_listed, names_formals, names_once, pairs_once, unused_imports}
 
 -- `in` is imported and not exported, `out` exported and not imported, `in out` both
 abbrev pub agrees : Mode → (imported exported : Bool) → Bool
@@ -25,6 +25,7 @@ pub record ObeysRules (p : Program) (sub : Sub) : Type 0 where
   -- U7
   pub exports_are_named_once : IsTrue (exports_once (relation sub))
   pub pairs_are_named_once : IsTrue (list_all pairs_once (relation sub))
+  pub unused_are_named_once : IsTrue (names_once (unused_imports (relation sub)))
   pub formals_are_listed : IsTrue (list_all (is_listed sub) (formals sub))
   pub others_are_not : IsTrue (list_all (names_formals sub) (relation sub))
   -- U8

@@ -1,17 +1,23 @@
 -- Where the variables of a subprogram are seen: the names of its body denote its formals and locals, those of its relation its formals, each
 -- with the facts that are declared of it.
-use Rattle.std.specs.Prelude.{◌≡◌, ⊤, true, false, ◌||◌, ◌==◌, All, Option, Some, option_map, slice_get}
+use Rattle.std.specs.Prelude.{◌≡◌, ⊤, true, false, ◌||◌, ◌==◌, All, Option, Some, option_and_then, option_map, slice_get}
 use Rattle.std.specs.List.{IsDistinct}
 use Rattle.spx_core.specs.declared.entity.VarId.{VarId}
 use Rattle.spx_core.specs.declared.entity.VarKind.{VarKind}
 use Rattle.spx_core.specs.declared.entity.VarKind.TheVariants.{Formal, Local}
 use Rattle.spx_core.specs.declared.entity.Mode.{Mode}
+use Rattle.spx_core.specs.declared.entity.Object.{Object}
+use Rattle.spx_core.specs.declared.entity.Entity.TheVariants as entity
+use Rattle.spx_core.specs.declared.name.CoreName.{CoreName}
 use Rattle.spx_core.specs.declared.name.Reference.{Reference}
+use Rattle.spx_core.specs.declared.subprogram.CorePrecondition.{CorePrecondition}
 use Rattle.spx_core.specs.declared.dependency.CoreDerivesItem.{CoreDerivesItem}
+use Rattle.spx_core.specs.declared.program.TypeRow.{TypeRow}
 use Rattle.spx_core.specs.declared.program.Var.{Var}
 use Rattle.spx_core.specs.declared.program.Program.{Program}
 use Rattle.spx_core.specs.declared.subprogram.Sub.{Sub}
 use Rattle.spx_core.specs.Commands.{Command, Skip, Set, Then, Choose, commands}
+use Rattle.spx_core.specs.Reads.{names_read}
 use Rattle.spx_core.specs.Uses.{denotes}
 use Rattle.spx_core.specs.Dependency.{exports, imports, relation}
 use Rattle.spx_core.specs.Formals.{is_formal, is_local, mode_of}
@@ -36,6 +42,24 @@ TargetsHaveTheirModes p (Set target value) = HasItsMode p target
 TargetsHaveTheirModes p (Then a b) = TargetsHaveTheirModes p a × TargetsHaveTheirModes p b
 TargetsHaveTheirModes p (Choose place condition a b) = TargetsHaveTheirModes p a × TargetsHaveTheirModes p b
 
+-- what is declared of a variable: its kind, and its type by the table of types
+abbrev pub object_in : Program → Var → Option Object
+object_in p var = option_map (λ (row : TypeRow). record { kind = var.kind; subtype = row.subtype }) (slice_get p.types var.type_id.0)
+
+abbrev pub object_declared : Program → VarId → Option Object
+object_declared p v = option_and_then (object_in p) (slice_get p.vars v.0)
+
+-- the name stands with what is declared of its variable
+abbrev pub IsAsDeclared : Program → CoreName → Type 0
+IsAsDeclared p name = (v : VarId) (object : Object) → name.entity ≡ Some (entity.Variable v object) → object_declared p v ≡ Some object
+
+-- so does each name of a command
+abbrev pub AreAsDeclared : Program → Command → Type 0
+AreAsDeclared p Skip = ⊤
+AreAsDeclared p (Set target value) = IsAsDeclared p target.root × All (IsAsDeclared p) (names_read value)
+AreAsDeclared p (Then a b) = AreAsDeclared p a × AreAsDeclared p b
+AreAsDeclared p (Choose place condition a b) = All (IsAsDeclared p) (names_read condition) × (AreAsDeclared p a × AreAsDeclared p b)
+
 pub record Scoped (p : Program) (sub : Sub) : Type 0 where
   pub targets : (v : VarId) → defines v sub.statements ≡ true → (is_formal v sub || is_local v sub) ≡ true
   pub read : (v : VarId) → reads v (effects sub.statements) ≡ true → (is_formal v sub || is_local v sub) ≡ true
@@ -47,3 +71,5 @@ pub record Scoped (p : Program) (sub : Sub) : Type 0 where
   pub apart : (v : VarId) → is_formal v sub ≡ true → is_local v sub ≡ false
   pub relation_modes : All (HaveTheirModes p) (relation sub)
   pub target_modes : TargetsHaveTheirModes p (commands sub.statements)
+  pub body_names : AreAsDeclared p (commands sub.statements)
+  pub pre_names : (pre : CorePrecondition) → sub.pre ≡ Some pre → All (IsAsDeclared p) (names_read pre.condition)

@@ -2,9 +2,9 @@
 ghost use Rattle.std.specs.Prelude.{◌≡◌};
 ghost use Rattle.spx_core.specs.Places.{place_of};
 
-use crate::CoreName;
+use crate::{CoreName, Reference};
 use spx_text::Place;
-use spx_tree::{Identifier, InfixOp, PrefixOp};
+use spx_tree::{Identifier, InfixOp, MemberOp, PrefixOp};
 use sqlite_items::Boxed;
 
 /// An expression. Places are those of the tree that it comes from.
@@ -18,10 +18,15 @@ pub enum CoreExpr {
     Parenthesized(Place, Boxed<CoreExpr>),
     Prefix(PrefixOp, Place, Boxed<CoreExpr>),
     Infix(InfixOp, Place, Boxed<CoreExpr>, Boxed<CoreExpr>),
+    /// `expression in type_name`
+    InType(MemberOp, Place, Boxed<CoreExpr>, Reference),
+    /// `expression in low .. high`
+    InRange(MemberOp, Place, Boxed<CoreExpr>, Boxed<CoreExpr>, Boxed<CoreExpr>),
 }
 
 impl CoreExpr {
-    /// An infix operation stands at its operator, every other node at its first token.
+    /// An infix operation and a membership test stand at the first word of their operator, every other node at its first
+    /// token.
     pub fn place(&self) -> Place
         ensures { result ≡ place_of self.now }
     {
@@ -32,6 +37,8 @@ impl CoreExpr {
             CoreExpr::Parenthesized(place, _) => *place,
             CoreExpr::Prefix(_, place, _) => *place,
             CoreExpr::Infix(_, place, _, _) => *place,
+            CoreExpr::InType(_, place, _, _) => *place,
+            CoreExpr::InRange(_, place, _, _, _) => *place,
         }
     }
 }

@@ -20,8 +20,8 @@ mod vars;
 
 pub use dependency::{CoreDerives, CoreDerivesItem};
 pub use entity::{
-    BaseType, Entity, INTEGER, INTEGER_FIRST, INTEGER_LAST, Mode, Object, SubId, Subtype, TypeId,
-    VarId, VarKind, variable_of,
+    BOOLEAN, BaseType, Class, Entity, INTEGER, INTEGER_FIRST, INTEGER_LAST, Mode, NATURAL, Object,
+    POSITIVE, SubId, Subtype, TypeId, UNIVERSAL, VarId, VarKind, variable_of,
 };
 pub use expression::CoreExpr;
 pub use name::{CoreName, Defining, Reference, Step};

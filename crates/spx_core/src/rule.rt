@@ -24,6 +24,8 @@ pub enum RuleName {
     N5,
     /// The type of an expression does not fit its place.
     N10,
+    /// An expression is not static where a static one is needed (Ada 95 RM 4.9).
+    N11,
     /// A static value lies outside its range (Ada 95 RM 4.9).
     N12,
     /// A target that cannot be assigned.
@@ -56,9 +58,8 @@ pub struct Breach {
 /// The type of an expression (Ada 95 RM 3.4.1).
 #[derive(Clone, Copy, Debug, PartialEq, Eq)]
 pub enum ExprType {
-    /// That of literals and of operations over them.
+    /// That of numbers that are written, and of operations over them.
     Universal,
-    Boolean,
     /// A base type.
     Of(BaseType),
 }

@@ -95,6 +95,12 @@ module _ (eq : Read → Read → Bool) (same : (a b : Read) → eq a b ≡ true 
 pub reads_of_both : (e a b : CoreExpr) → names_read e ≡ names_read a ++ names_read b → reads_of e ≡ reads_of a ++ reads_of b
 reads_of_both e a b both = ap (filter_map read_of) both ∙ filter_map-append read_of (names_read a) (names_read b)
 
+pub reads_of_three : (e a b c : CoreExpr) → names_read e ≡ names_read a ++ (names_read b ++ names_read c) → reads_of e ≡ reads_of a ++ (reads_of b ++ reads_of c)
+reads_of_three e a b c three =
+    ap (filter_map read_of) three
+    ∙ filter_map-append read_of (names_read a) (names_read b ++ names_read c)
+    ∙ ap (λ rest. reads_of a ++ rest) (filter_map-append read_of (names_read b) (names_read c))
+
 -- ---- exports at a place
 
 module _ (end place : Place) (v : VarId) where

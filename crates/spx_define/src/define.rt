@@ -67,6 +67,12 @@ fn add_unset_names(set: &Assigned, expr: &CoreExpr, found: &mut Reads) -> Result
             add_unset_names(set, left.get(), found)?;
             add_unset_names(set, right.get(), found)
         }
+        CoreExpr::InType(_, _, tested, _) => add_unset_names(set, tested.get(), found),
+        CoreExpr::InRange(_, _, tested, low, high) => {
+            add_unset_names(set, tested.get(), found)?;
+            add_unset_names(set, low.get(), found)?;
+            add_unset_names(set, high.get(), found)
+        }
     }
 }
 

@@ -14,9 +14,9 @@ pub one_file : (words files : List (List ℕ)) → files_of words ≡ Some files
 one_file [] files is = absurd (cc)
 one_file (command ∷ rest) files is = grind (arith, common_steps, nat_tests, is)
 
-pub one_loaded : (told : List ℕ → Option (List ℕ)) (words : List (String Global)) (all : List (Vec ℕ Global)) → MayHold told (names words) (contents_of all) → length words ≡ 1 → length all ≡ 1
-one_loaded told words all holds one =
-    omega (arith, holds_length told (names words) (contents_of all) holds, length-map all (λ (v : Vec ℕ Global). v.items), length-map words (λ (s : String Global). Rattle.std.specs.Prelude.string_bytes s))
+pub one_loaded : (known : List ℕ → Option (List ℕ)) (words : List (String Global)) (all : List (Vec ℕ Global)) → MayHold known (names words) (contents_of all) → length words ≡ 1 → length all ≡ 1
+one_loaded known words all holds one =
+    omega (arith, holds_length known (names words) (contents_of all) holds, length-map all (λ (v : Vec ℕ Global). v.items), length-map words (λ (s : String Global). Rattle.std.specs.Prelude.string_bytes s))
 
 pub ruleset endings = (one_loaded)
 

@@ -7,7 +7,7 @@ use Rattle.std.proofs.lemmas.Bool.Decides.{nat_tests}
 use Rattle.std.proofs.lemmas.List.{length-map}
 use Rattle.std.proofs.lemmas.Bool.{false_from_ne_true}
 use Rattle.spx_tree.specs.declared.subprogram.Unit.{Unit}
-use Rattle.spx_tree.specs.Places.{place_behind}
+use Rattle.spx_tree.specs.Places.{place_after_bytes}
 use Rattle.spx_tree.specs.Form.{forms_of}
 use Rattle.spx_tree.specs.Goes.{place_with}
 use Rattle.spx_core.specs.declared.program.Program.{Program}
@@ -30,7 +30,7 @@ use Rattle.spx_examiner.specs.declared.reading.Reading.TheVariants.{Units, Broke
 use Rattle.spx_examiner.specs.Words.{files_of, HasForm}
 use Rattle.spx_examiner.specs.Judgement.{status_of}
 use Rattle.spx_report.specs.Findings.{findings_of, first_limit, first_limit_in}
-use Rattle.spx_examiner.specs.Causes.{Tells, any_too_long, named}
+use Rattle.spx_examiner.specs.Causes.{AreKnown, any_too_long, named}
 use Rattle.spx_examiner.specs.Reading.{IsRead, crowded, stopped, ended, nested, whole, stopped_at, expected_at}
 use Rattle.spx_examiner.specs.Outcome.{IsSoundFrom, IsReportOn, IsReportOnUnits, IsReportOnReading, IsJudgement, no_form, of_files, IsAssured, AreAcceptable, AreClean, AreFit, AreRefusable, AreReliable, IsPassed, variables, conditions, AreRefusals, IsReadTooFar, AreTooWide, AreTooLarge, OneOutcome, PassesLimit}
 use Rattle.spx_core.specs.Contents.{Is, IsText, IsMadeFrom}
@@ -219,7 +219,7 @@ case_of laws bytes j reading (crowded many is) report = on_limit Tokens (inl (cr
 case_of laws bytes j reading (stopped cause place at few is) report =
     on_broken (stopped_at cause place) (λ units text. laws.stop.unspelled 0 bytes cause place text.tokens at text.spelled) (subst (λ r. IsReportOnReading r j) is report)
 case_of laws bytes j reading (ended tokens left spelled further is) report =
-    on_broken (expected_at (place_with (place_behind 0 bytes) tokens left))
+    on_broken (expected_at (place_with (place_after_bytes 0 bytes) tokens left))
     (λ units text. goes_on (forms_of bytes tokens) left text.levels units further text.grammatical (sym (forms_of_text laws.spelling bytes tokens units spelled.spelled text)))
     (subst (λ r. IsReportOnReading r j) is report)
 case_of laws bytes j reading (nested tokens left spelled deep is) report = on_limit Nesting (inr (nested tokens left spelled deep refl)) (subst (λ r. IsReportOnReading r j) is report)
@@ -312,15 +312,15 @@ reliable_report laws (bytes ∷ more ∷ rest) j report e assured = absurd repor
 
 -- ---- judgements
 
-tells_len : (told : List ℕ → Option (List ℕ)) (files contents : List (List ℕ)) → Tells told files contents → length contents ≡ length files
-tells_len told files contents tells = omega (arith, ap length tells, length-map files told, length-map contents (λ (c : List ℕ). Some c))
+known_len : (known : List ℕ → Option (List ℕ)) (files contents : List (List ℕ)) → AreKnown known files contents → length contents ≡ length files
+known_len known files contents are_known = omega (arith, ap length are_known, length-map files known, length-map contents (λ (c : List ℕ). Some c))
 
 -- as many contents as the words name files
 abbrev pub AsMany : List (List ℕ) → List (List ℕ) → Type 0
 AsMany words contents = length contents ≡ length (named words)
 
-pub as_many : (told : List ℕ → Option (List ℕ)) (words contents : List (List ℕ)) → Tells told (named words) contents → AsMany words contents
-as_many told words contents tells = tells_len told (named words) contents tells
+pub as_many : (known : List ℕ → Option (List ℕ)) (words contents : List (List ℕ)) → AreKnown known (named words) contents → AsMany words contents
+as_many known words contents are_known = known_len known (named words) contents are_known
 
 -- without units there are no subprograms, and so no limit of conditions that is passed
 none_large : (p : Program) (subs : List Sub) (name : LimitName) → map unit_of subs ≡ [] → ¬ (first_limit_in p subs ≡ Some name)

@@ -5,7 +5,7 @@ use Rattle.std.proofs.lemmas.List.{append-nil, append_assoc}
 use Rattle.spx_text.specs.declared.place.Place.{Place}
 use Rattle.spx_tree.specs.declared.token.Token.{Token}
 use Rattle.spx_tree.specs.declared.subprogram.Unit.{Unit}
-use Rattle.spx_tree.specs.Places.{place_behind}
+use Rattle.spx_tree.specs.Places.{place_after_bytes}
 use Rattle.spx_tree.specs.Spells.{Spells}
 use Rattle.spx_tree.specs.Stops.{Cause, StopsAt}
 use Rattle.spx_tree.specs.Form.{Form, forms_of}
@@ -30,7 +30,7 @@ pub one_file_is_all : (bytes : List ℕ) (units : List Unit) → IsText 0 bytes 
 one_file_is_all bytes units text = (units, [], sym (append-nil units), text, refl)
 
 pub all_is_one_file : (bytes : List ℕ) (units : List Unit) → AreTexts 0 (bytes ∷ []) units → IsText 0 bytes units
-all_is_one_file bytes units (front, behind, parts, text, none) = subst (IsText 0 bytes) (sym (parts ∙ ap (λ (us : List Unit). front ++ us) none ∙ append-nil front)) text
+all_is_one_file bytes units (front, following, parts, text, none) = subst (IsText 0 bytes) (sym (parts ∙ ap (λ (us : List Unit). front ++ us) none ∙ append-nil front)) text
 
 -- the units of a text are written with the tokens that spell it
 pub forms_of_text : OneSpelling → (bytes : List ℕ) (tokens : List Token) (units : List Unit) → Spells 0 bytes tokens → IsText 0 bytes units → written units ≡ forms_of bytes tokens
@@ -79,8 +79,8 @@ goes_on fs left n units (inr (f, rest, x, text, count)) fit is = not_ended text.
 -- what an answer of syntax comes to
 reading_by : List ℕ → List Token → Parsed → Reading
 reading_by bytes tokens (Ok (units, [])) = Units units
-reading_by bytes tokens (Ok (units, f ∷ rest)) = Broken (expected_at (place_with (place_behind 0 bytes) tokens (length (f ∷ rest))))
-reading_by bytes tokens (Err (Expected left)) = Broken (expected_at (place_with (place_behind 0 bytes) tokens left))
+reading_by bytes tokens (Ok (units, f ∷ rest)) = Broken (expected_at (place_with (place_after_bytes 0 bytes) tokens (length (f ∷ rest))))
+reading_by bytes tokens (Err (Expected left)) = Broken (expected_at (place_with (place_after_bytes 0 bytes) tokens left))
 reading_by bytes tokens (Err (TooDeep left)) = TooNested
 
 record IsParsed (bytes : List ℕ) (reading : Reading) : Type 0 where
@@ -90,7 +90,7 @@ record IsParsed (bytes : List ℕ) (reading : Reading) : Type 0 where
   answers : Answers written IsFile 200 (forms_of bytes tokens) answer
   is : reading ≡ reading_by bytes tokens answer
 
-ended_is_parsed : (bytes : List ℕ) (reading : Reading) (tokens : List Token) (left : ℕ) → AreTokens bytes tokens → GoesNoFurther (forms_of bytes tokens) left → reading ≡ Broken (expected_at (place_with (place_behind 0 bytes) tokens left)) → IsParsed bytes reading
+ended_is_parsed : (bytes : List ℕ) (reading : Reading) (tokens : List Token) (left : ℕ) → AreTokens bytes tokens → GoesNoFurther (forms_of bytes tokens) left → reading ≡ Broken (expected_at (place_with (place_after_bytes 0 bytes) tokens left)) → IsParsed bytes reading
 unfolding reading_by
 ended_is_parsed bytes reading tokens left spelled (inl e) is = record { tokens = tokens; lexed = spelled; answer = Err (Expected left); answers = e; is = is }
 ended_is_parsed bytes reading tokens left spelled (inr (f, rest, units, text, count)) is = record {
@@ -98,7 +98,7 @@ ended_is_parsed bytes reading tokens left spelled (inr (f, rest, units, text, co
   lexed = spelled;
   answer = Ok (units, f ∷ rest);
   answers = text;
-  is = is ∙ ap (λ (n : ℕ). Broken (expected_at (place_with (place_behind 0 bytes) tokens n))) count;
+  is = is ∙ ap (λ (n : ℕ). Broken (expected_at (place_with (place_after_bytes 0 bytes) tokens n))) count;
 }
 
 nested_is_parsed : (bytes : List ℕ) (reading : Reading) (tokens : List Token) (left : ℕ) → AreTokens bytes tokens → goes.IsTooDeep written IsFile 200 (forms_of bytes tokens) left → reading ≡ TooNested → IsParsed bytes reading
@@ -148,7 +148,7 @@ pub one_reading : OneSpelling → OneStop → OneAnswer → (bytes : List ℕ) (
 one_reading one stop answer bytes r s a b = one_phase one stop answer bytes r s (phase_of bytes r a) (phase_of bytes s b)
 
 -- where syntax expects another token
-pub expected_is_read : (bytes : List ℕ) (tokens : List Token) (end place : Place) (found : Finding) → AreTokens bytes tokens → end ≡ place_behind 0 bytes → ((left : ℕ) × goes.IsExpected written IsFile 200 (forms_of bytes tokens) left × (place ≡ place_with end tokens left)) ⊎ ((f : Form) × (rest : List Form) × (units : List Unit) × goes.IsText written IsFile 200 (forms_of bytes tokens) (f ∷ rest) units × (place ≡ place_with end tokens (length (f ∷ rest)))) → found ≡ expected_at place → IsRead bytes (Broken found)
+pub expected_is_read : (bytes : List ℕ) (tokens : List Token) (end place : Place) (found : Finding) → AreTokens bytes tokens → end ≡ place_after_bytes 0 bytes → ((left : ℕ) × goes.IsExpected written IsFile 200 (forms_of bytes tokens) left × (place ≡ place_with end tokens left)) ⊎ ((f : Form) × (rest : List Form) × (units : List Unit) × goes.IsText written IsFile 200 (forms_of bytes tokens) (f ∷ rest) units × (place ≡ place_with end tokens (length (f ∷ rest)))) → found ≡ expected_at place → IsRead bytes (Broken found)
 expected_is_read bytes tokens end place found spelled at_end (inl (left, e, at)) is =
     ended tokens left spelled (inl e) (ap (λ f. Broken f) (is ∙ ap expected_at (at ∙ ap (λ (p : Place). place_with p tokens left) at_end)))
 expected_is_read bytes tokens end place found spelled at_end (inr (f, rest, units, text, at)) is =

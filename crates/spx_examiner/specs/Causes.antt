@@ -7,14 +7,14 @@ use Rattle.spx_examiner.specs.declared.status.Status.TheVariants.{ReadFault, Wri
 use Rattle.spx_examiner.specs.Words.{files_of}
 
 -- the files give these contents for these names
-abbrev pub Tells : (List ℕ → Option (List ℕ)) → List (List ℕ) → List (List ℕ) → Type 0
-Tells told names contents = map told names ≡ map Some contents
+abbrev pub AreKnown : (List ℕ → Option (List ℕ)) → List (List ℕ) → List (List ℕ) → Type 0
+AreKnown known names contents = map known names ≡ map Some contents
 
--- Files of these names may have these contents: there is one for each name, and it is what is told of its file, where that is told.
+-- Files of these names may have these contents: there is one for each name, and it is what is known of its file, where that is known.
 abbrev pub MayHold : (List ℕ → Option (List ℕ)) → List (List ℕ) → List (List ℕ) → Type 0
-MayHold told [] contents = contents ≡ []
-MayHold told (name ∷ names) [] = ⊥
-MayHold told (name ∷ names) (bytes ∷ contents) = IfSome (told name) (λ given. bytes ≡ given) × MayHold told names contents
+MayHold known [] contents = contents ≡ []
+MayHold known (name ∷ names) [] = ⊥
+MayHold known (name ∷ names) (bytes ∷ contents) = IfSome (known name) (λ given. bytes ≡ given) × MayHold known names contents
 
 -- a file has more bytes than it may have
 abbrev pub is_too_long : List ℕ → Bool
@@ -34,12 +34,12 @@ abbrev pub named : List (List ℕ) → List (List ℕ)
 named words = unwrap_or (files_of words) []
 
 -- for whatever contents the files give for all the names in the words
-abbrev pub WhereTold : (List ℕ → Option (List ℕ)) → List (List ℕ) → (List (List ℕ) → Type 0) → Type 0
-WhereTold told words P = (contents : List (List ℕ)) → Tells told (named words) contents → P contents
+abbrev pub WhereKnown : (List ℕ → Option (List ℕ)) → List (List ℕ) → (List (List ℕ) → Type 0) → Type 0
+WhereKnown known words P = (contents : List (List ℕ)) → AreKnown known (named words) contents → P contents
 
 -- for some contents that the files may have which the words name
 abbrev pub ForFiles : (List ℕ → Option (List ℕ)) → List (List ℕ) → (List (List ℕ) → Type 0) → Type 0
-ForFiles told words P = (contents : List (List ℕ)) × MayHold told (named words) contents × P contents
+ForFiles known words P = (contents : List (List ℕ)) × MayHold known (named words) contents × P contents
 
 -- this answer is given exactly where its cause holds, faults and out of memory aside
 abbrev pub Exactly : Status → Type 0 → Status → Type 0

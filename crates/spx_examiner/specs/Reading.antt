@@ -3,7 +3,7 @@ use Rattle.std.specs.Prelude.{◌≡◌, ◌⊎◌, ℕ, List, [], ◌∷◌, le
 use Rattle.spx_text.specs.declared.place.Place.{Place}
 use Rattle.spx_tree.specs.declared.token.Token.{Token}
 use Rattle.spx_tree.specs.declared.subprogram.Unit.{Unit}
-use Rattle.spx_tree.specs.Places.{place_behind}
+use Rattle.spx_tree.specs.Places.{place_after_bytes}
 use Rattle.spx_tree.specs.Spells.{Spells}
 use Rattle.spx_tree.specs.Stops.{Cause, bad_byte, bad_number, too_wide, StopsAt}
 use Rattle.spx_tree.specs.Form.{Form, forms_of}
@@ -51,6 +51,6 @@ pub record AreTokens (bytes : List ℕ) (tokens : List Token) : Type 0 where
 pub data IsRead (bytes : List ℕ) (reading : Reading) : Type 0 where
   crowded : HasMoreTokens 1000000 0 bytes → reading ≡ TooManyTokens → IsRead bytes reading
   stopped : (cause : Cause) (place : Place) → StopsAt 0 bytes cause place → ¬ HasMoreTokens 1000000 0 bytes → reading ≡ Broken (stopped_at cause place) → IsRead bytes reading
-  ended : (tokens : List Token) (left : ℕ) → AreTokens bytes tokens → GoesNoFurther (forms_of bytes tokens) left → reading ≡ Broken (expected_at (place_with (place_behind 0 bytes) tokens left)) → IsRead bytes reading
+  ended : (tokens : List Token) (left : ℕ) → AreTokens bytes tokens → GoesNoFurther (forms_of bytes tokens) left → reading ≡ Broken (expected_at (place_with (place_after_bytes 0 bytes) tokens left)) → IsRead bytes reading
   nested : (tokens : List Token) (left : ℕ) → AreTokens bytes tokens → goes.IsTooDeep written IsFile 200 (forms_of bytes tokens) left → reading ≡ TooNested → IsRead bytes reading
   whole : (tokens : List Token) (units : List Unit) → AreTokens bytes tokens → goes.IsText written IsFile 200 (forms_of bytes tokens) [] units → reading ≡ Units units → IsRead bytes reading

@@ -4,9 +4,9 @@ ghost use Rattle.spx_examiner.specs.Outcome.{OneOutcome, SomeOutcome};
 
 use spx_core::laws::{name_breaches, one_program, rule_breaches};
 use spx_lexer::some_spelling;
-use spx_parse_unit::{one_answer, some_answer};
+use spx_parse_unit::{one_answer, one_tree, some_answer};
 use spx_report::laws::{one_list_of_flow_lines, some_list_of_flow_lines};
-use spx_tree::{one_spelling, one_stop, one_tree};
+use spx_tree::{one_spelling, one_stop};
 
 /// The laws of the crates below.
 pub(crate) fn laws_below()

@@ -15,10 +15,10 @@ pub fn load_all<F: Files>(
     words: &[String],
     files: &mut F,
 ) -> Result<Vec<Vec<u8>>, LoadFault>
-    ensures loaded { IfOk result (λ all. MayHold (F.told files.old) (names words.now) (contents_of all.items)) }
-    ensures too_long { IsErrOf result LoadFault.TooLong → (contents : List (List ℕ)) × MayHold (F.told files.old) (names words.now) contents × AreTooLong contents }
-    // Nothing that is told is changed.
-    ensures told { (name : List ℕ) → F.told files.new name ≡ F.told files.old name }
+    ensures loaded { IfOk result (λ all. MayHold (F.known files.old) (names words.now) (contents_of all.items)) }
+    ensures too_long { IsErrOf result LoadFault.TooLong → (contents : List (List ℕ)) × MayHold (F.known files.old) (names words.now) contents × AreTooLong contents }
+    // Nothing that is known is changed.
+    ensures known { (name : List ℕ) → F.known files.new name ≡ F.known files.old name }
     ensures failed { IsErrOf result LoadFault.Failed → OneFailed (names words.now) (F.failed files.old) (F.failed files.new) }
     ensures none_failed { (IsErrOf result LoadFault.Failed → ⊥) → F.failed files.new ≡ F.failed files.old }
 {

@@ -4,7 +4,7 @@ ghost use Rattle.spx_text.specs.Loads.{names};
 ghost use Rattle.spx_text.specs.Writes.{Rose};
 ghost use Rattle.spx_examiner.specs.Words.{HasNoForm};
 ghost use Rattle.spx_examiner.specs.Judgement.{status_of, text_of};
-ghost use Rattle.spx_examiner.specs.Causes.{Concludes, Exactly, ForFiles, MayHold, OneFailed, WhereTold, named};
+ghost use Rattle.spx_examiner.specs.Causes.{Concludes, Exactly, ForFiles, MayHold, OneFailed, WhereKnown, named};
 ghost use Rattle.spx_paths.specs.Fit.{Clean, Fit};
 ghost use Rattle.spx_meaning.specs.Laws.{NeverBad, TwoRuns};
 ghost use Rattle.spx_examiner.specs.Outcome.{AreAcceptable, AreFit, AreRefusable, AreReliable, EndsAs, IsAssured, IsCutShortAs, IsJudgedOn, IsJudgement, PassesLimit};
@@ -62,8 +62,8 @@ fn examined(alloc: Global, bytes: &[u8]) -> Result<Judgement, AllocError>
 fn judged<F: Files>(alloc: Global, named: &[String], files: &mut F) -> Result<Judgement, Stop>
     requires { length named.now ≡ 1 }
     ensures named { IfOk result (λ judgement. status_of judgement ≢ Status.Usage) }
-    ensures judged { IfOk result (λ judgement. (contents : List (List ℕ)) × MayHold (F.told files.old) (names named.now) contents × IsJudgedOn contents judgement) }
-    ensures told { (name : List ℕ) → F.told files.new name ≡ F.told files.old name }
+    ensures judged { IfOk result (λ judgement. (contents : List (List ℕ)) × MayHold (F.known files.old) (names named.now) contents × IsJudgedOn contents judgement) }
+    ensures known { (name : List ℕ) → F.known files.new name ≡ F.known files.old name }
     ensures failed { IsErrOf result Stop.ReadFault → OneFailed (names named.now) (F.failed files.old) (F.failed files.new) }
     ensures none_failed { (IsErrOf result Stop.ReadFault → ⊥) → F.failed files.new ≡ F.failed files.old }
 {
@@ -110,8 +110,8 @@ fn assure(judgement: &Judgement)
 fn prepare<F: Files>(alloc: Global, words: &[String], files: &mut F) -> Result<Report, Stop>
     ensures text { IfOk result (λ made. made.text.items ≡ text_of (named (names words.now)) made.judgement) }
     ensures usage { IfOk result (λ made. (status_of made.judgement ≡ Status.Usage) ↔ HasNoForm (names words.now)) }
-    ensures judged { IfOk result (λ made. ForFiles (F.told files.old) (names words.now) (λ contents. IsJudgement (names words.now) contents made.judgement)) }
-    ensures told { (name : List ℕ) → F.told files.new name ≡ F.told files.old name }
+    ensures judged { IfOk result (λ made. ForFiles (F.known files.old) (names words.now) (λ contents. IsJudgement (names words.now) contents made.judgement)) }
+    ensures known { (name : List ℕ) → F.known files.new name ≡ F.known files.old name }
     ensures failed { IsErrOf result Stop.ReadFault → OneFailed (named (names words.now)) (F.failed files.old) (F.failed files.new) }
     ensures none_failed { (IsErrOf result Stop.ReadFault → ⊥) → F.failed files.new ≡ F.failed files.old }
 {
@@ -135,27 +135,27 @@ pub fn examine<F: Files, S: Sink>(
 ) -> Status
     // The report is that on the words and on contents that the files may have, which are what the files give where they give
     // their bytes. Its text was written, and the status is its own: `Refused` exactly where it has findings.
-    ensures outcome { Concludes result → ForFiles (F.told files.old) (names words.now) (λ contents.
+    ensures outcome { Concludes result → ForFiles (F.known files.old) (names words.now) (λ contents.
         EndsAs (names words.now) contents result (S.taken sink.old) (S.taken sink.new)) }
 
     // The headline: where a program is accepted, the bytes spell exactly one program, and its runs may be relied on.
-    ensures headline { result ≡ Status.Accepted → ForFiles (F.told files.old) (names words.now) (λ contents.
+    ensures headline { result ≡ Status.Accepted → ForFiles (F.known files.old) (names words.now) (λ contents.
         EndsAs (names words.now) contents result (S.taken sink.old) (S.taken sink.new) × AreReliable contents) }
 
     // What is accepted is clean, and so fit to run.
-    ensures clean { WhereTold (F.told files.old) (names words.now) (λ contents. result ≡ Status.Accepted → AreFit contents) }
+    ensures clean { WhereKnown (F.known files.old) (names words.now) (λ contents. result ≡ Status.Accepted → AreFit contents) }
 
     // Where no fault is counted, what is acceptable is accepted, unless memory runs out.
-    ensures complete { WhereTold (F.told files.old) (names words.now) (λ contents. AreAcceptable (names words.now) contents
+    ensures complete { WhereKnown (F.known files.old) (names words.now) (λ contents. AreAcceptable (names words.now) contents
         → F.failed files.new ≡ F.failed files.old → ¬ Rose (S.faults sink.old) (S.faults sink.new)
         → (result ≡ Status.Accepted) ⊎ (result ≡ Status.NoMemory)) }
 
-    ensures accepted { WhereTold (F.told files.old) (names words.now) (λ contents.
+    ensures accepted { WhereKnown (F.known files.old) (names words.now) (λ contents.
         Exactly Status.Accepted (AreAcceptable (names words.now) contents) result) }
-    ensures refused { WhereTold (F.told files.old) (names words.now) (λ contents.
+    ensures refused { WhereKnown (F.known files.old) (names words.now) (λ contents.
         Exactly Status.Refused (AreRefusable (names words.now) contents) result) }
     ensures usage { Exactly Status.Usage (HasNoForm (names words.now)) result }
-    ensures limit { WhereTold (F.told files.old) (names words.now) (λ contents. Exactly Status.Limit (PassesLimit contents) result) }
+    ensures limit { WhereKnown (F.known files.old) (names words.now) (λ contents. Exactly Status.Limit (PassesLimit contents) result) }
 
     // A read fault comes exactly where a load failed, of a file that the words name.
     ensures read_fault { result ≡ Status.ReadFault → OneFailed (named (names words.now)) (F.failed files.old) (F.failed files.new) }
@@ -163,14 +163,14 @@ pub fn examine<F: Files, S: Sink>(
 
     // A write fault comes only where the sink counted one, and then a part of the report's text was taken.
     ensures write_fault { result ≡ Status.WriteFault → Rose (S.faults sink.old) (S.faults sink.new) }
-    ensures part { result ≡ Status.WriteFault → ForFiles (F.told files.old) (names words.now) (λ contents.
+    ensures part { result ≡ Status.WriteFault → ForFiles (F.known files.old) (names words.now) (λ contents.
         IsCutShortAs (names words.now) contents (S.taken sink.old) (S.taken sink.new)) }
 
     // No other answer comes with any text.
     ensures nothing { (result ≡ Status.ReadFault) ⊎ (result ≡ Status.NoMemory) → S.taken sink.new ≡ S.taken sink.old }
 
     // The files give afterwards what they gave before, and the sink's count of faults never falls.
-    ensures told { (name : List ℕ) → F.told files.new name ≡ F.told files.old name }
+    ensures known { (name : List ℕ) → F.known files.new name ≡ F.known files.old name }
     ensures later { S.faults sink.old ≤ S.faults sink.new }
 {
     laws_below();

@@ -1,7 +1,7 @@
 // From the bytes of a file to its units, or to what keeps it from having any.
 ghost use Rattle.std.specs.Prelude.{◌≡◌, ◌≤◌, length, IfOk};
 ghost use Rattle.spx_tree.specs.Mirror.{AreWithin};
-ghost use Rattle.spx_tree.specs.Places.{place_behind};
+ghost use Rattle.spx_tree.specs.Places.{place_after_bytes};
 ghost use Rattle.spx_examiner.specs.Reading.{AreTokens, IsRead, expected_at};
 ghost use Rattle.spx_examiner.specs.declared.reading.Reading.TheVariants.{Broken};
 
@@ -42,7 +42,7 @@ fn expected(alloc: Global, place: Place) -> Result<Finding, AllocError>
 fn parsed(alloc: Global, tokens: &Tokens<'_>) -> Result<Reading, AllocError>
     requires within { AreWithin (length tokens.now.source.now) tokens.now.list.items }
     requires tokens { AreTokens tokens.now.source.now tokens.now.list.items }
-    requires end { tokens.now.end ≡ place_behind 0 tokens.now.source.now }
+    requires end { tokens.now.end ≡ place_after_bytes 0 tokens.now.source.now }
     ensures { IfOk result (IsRead tokens.now.source.now) }
 {
     match parse_units(alloc, tokens) {

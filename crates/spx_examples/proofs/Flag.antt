@@ -2,10 +2,10 @@
 use Rattle.std.proofs.Common.{◌≡◌, inr, ℕ, pos, if◌then◌else◌, List, [], ◌∷◌, ◌++◌, Ok, Some, None, refl, sym, ap, ap₂, subst, ◌∙◌}
 use Rattle.std.specs.List.{filter_map}
 use Rattle.spx_tree.specs.declared.expression.InfixOp.TheVariants as op
-use Rattle.spx_core.specs.declared.entity.TheConstants.{INTEGER}
+use Rattle.spx_core.specs.declared.entity.TheConstants.{BOOLEAN, INTEGER}
 use Rattle.spx_core.specs.declared.expression.CoreExpr.TheVariants.{Name, Number}
 use Rattle.spx_core.specs.declared.name.CoreName.{CoreName}
-use Rattle.spx_core.specs.declared.rule.ExprType.TheVariants.{Boolean, Universal}
+use Rattle.spx_core.specs.declared.rule.ExprType.TheVariants.{Universal, Of}
 use Rattle.spx_core.specs.Commands.{Command, Skip, Set, Then, Choose, commands}
 use Rattle.spx_core.specs.Judged.{◌>>=◌, condition, expr_step, judged, operand_of, typing}
 use Rattle.spx_core.specs.Statements.{Typed, judged_command}
@@ -22,12 +22,12 @@ use Rattle.spx_term.specs.Meaning.{as_truth, value_of_op}
 use Rattle.spx_meaning.specs.declared.bad.BadKind.TheVariants.{Unset}
 use Rattle.spx_meaning.specs.Stores.{Store}
 use Rattle.spx_meaning.specs.Frames.{Frame, around}
-use Rattle.spx_meaning.specs.Evaluation.{Answer, Gives, with_value, applied, checked, static_or, read, eval, eval-Number, eval-Name, eval-Infix}
-use Rattle.spx_meaning.specs.Literals.{literal, literal_in}
+use Rattle.spx_meaning.specs.Evaluation.{Answer, Gives, with_value, applied, read, eval, eval-Number}
 use Rattle.spx_meaning.specs.Runs.{Outcome, Ended, Bad, then_do, use_value, run, call, entry_of}
 use Rattle.spx_meaning.specs.Runs as runs
 use Rattle.spx_examples.specs.Increment.{place, x}
 use Rattle.spx_examples.specs.Flag.{y, x_at, y_at, named, positive, one, setting, closing, branch, flag, flag_program, flag_effect}
+use Rattle.spx_examples.proofs.Evaluations.{eval_name, eval_operated}
 use Rattle.spx_examples.proofs.Statements.{assignment_is, if_is, operating, and_no_more, to_end}
 
 -- ---- rules
@@ -39,7 +39,7 @@ branch_command = Choose (place 5 4) positive (Then (Set (named (y_at 6 7)) one) 
 pub flag_command : commands (branch ∷ []) ≡ Then branch_command Skip
 flag_command = if_is (place 5 4) positive (setting ∷ []) closing ∙ ap (λ body. Then (Choose (place 5 4) positive body Skip) Skip) (assignment_is (named (y_at 6 7)) one)
 
-judged_positive : judged positive ≡ Ok (typing Boolean None (place 5 9))
+judged_positive : judged positive ≡ Ok (typing (Of BOOLEAN.base) None (place 5 9))
 judged_positive =
     fold-Infix expr_step op.Greater (place 5 9) (Name (x_at 5 7)) (Number (pos 0) (place 5 11))
     ∙ ap₂ (operating op.Greater (place 5 9)) (fold-Name expr_step (x_at 5 7)) (fold-Number expr_step (pos 0) (place 5 11))
@@ -76,18 +76,14 @@ may_be_unset = left refl refl (subst (λ e. Free (Goes e) y) (sym effect_is) way
 
 -- ---- runs
 
-positive_is_not : literal positive ≡ None
-positive_is_not = ap literal_in judged_positive
-
 -- whether X is positive, where X is read as this
 abbrev positive_of : Answer → Answer
 positive_of answer = with_value answer (λ v. Gives (applied op.Greater v (value.Number (pos 0))))
 
 eval_positive : (f : Frame) (n : ℕ) (s : Store) → eval f n s positive ≡ positive_of (read s (place 5 7) (Some x))
 eval_positive f n s =
-    eval-Infix f n s op.Greater (place 5 9) (Name (x_at 5 7)) (Number (pos 0) (place 5 11))
-    ∙ ap₂ (λ l b. static_or l (with_value (eval f n s (Name (x_at 5 7))) (λ v. with_value b (λ w. checked op.Greater (place 5 9) (applied op.Greater v w))))) positive_is_not (eval-Number f n s (pos 0) (place 5 11))
-    ∙ ap positive_of (eval-Name f n s (x_at 5 7))
+    eval_operated f n s op.Greater (place 5 9) (Name (x_at 5 7)) (Number (pos 0) (place 5 11)) _ _ _
+    judged_positive (eval_name f n s (x_at 5 7)) (eval-Number f n s (pos 0) (place 5 11))
 
 -- the body, where its condition and the right side have these answers
 abbrev branching : Frame → Store → Answer → Answer → Outcome

@@ -6,7 +6,7 @@ use Rattle.spx_tree.specs.declared.expression.Expr.TheBlock.{hidden-the_row-Expr
 use Rattle.spx_tree.specs.declared.statement.Stmt.{Stmt-F, out-Stmt}
 use Rattle.spx_tree.specs.declared.statement.Stmt.TheVariants.{outs-Assignment}
 use Rattle.spx_tree.specs.Lexemes.{unreserved, kind_of_word, code_delimiters, annotation_delimiters, delimiters}
-use Rattle.spx_tree.specs.Places.{place_behind}
+use Rattle.spx_tree.specs.Places.{place_after_bytes}
 use Rattle.spx_tree.specs.Spells.{Spells}
 use Rattle.spx_tree.specs.Grammar.{IsExpr, IsFormed, Within, IsStmt, IsFile}
 use Rattle.spx_tree.specs.Form.{forms_of}
@@ -43,7 +43,7 @@ body =
     ∷ Word (codes "end") ∷ Space ∷ Word (codes "Inc") ∷ Delimiter (codes ";") ∷ LineEnd ∷ []
 
 pub spelled : Spells 0 inc_bytes inc_tokens
-unfolding unreserved kind_of_word delimiters code_delimiters annotation_delimiters place_behind
+unfolding unreserved kind_of_word delimiters code_delimiters annotation_delimiters place_after_bytes
 spelled = spelled_by (heading ++ derives ++ pre ++ body) refl refl refl
 
 -- ---- its tree

@@ -34,6 +34,7 @@ mod Locals
 mod Variants
 mod Starts
 mod TwoRuns
+mod Operators
 mod NameBreaches
 mod VariableBreaches
 mod Sequents

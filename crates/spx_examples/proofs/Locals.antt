@@ -22,12 +22,11 @@ use Rattle.spx_term.specs.Meaning.{as_truth, value_of_op, value_of_prefix}
 use Rattle.spx_meaning.specs.declared.bad.BadKind.TheVariants.{Overflow, Range, Unset}
 use Rattle.spx_meaning.specs.Stores.{Store}
 use Rattle.spx_meaning.specs.Frames.{Frame, around}
-use Rattle.spx_meaning.specs.Evaluation.{Answer, Gives, Fails, with_value, signed, static_or, read, eval, eval-Number, eval-Name, eval-Parenthesized, eval-Prefix}
-use Rattle.spx_meaning.specs.Literals.{literal, literal_in}
+use Rattle.spx_meaning.specs.Evaluation.{Answer, Gives, Fails, with_value, signed, read, eval, eval-Number, eval-Parenthesized}
 use Rattle.spx_meaning.specs.Runs.{Outcome, Ended, Bad, then_do, use_value, run, call}
 use Rattle.spx_examples.specs.Increment.{place, x, x_at, x_named, successor}
 use Rattle.spx_examples.specs.Variants.{number, local_y_at, local_sub, local_program, only_null, giving, the_local, negated, past_last, local_and_sum, sum_and_local, twice, local_above, testing}
-use Rattle.spx_examples.proofs.Evaluations.{taking, assigns, numeric, sum_is_not_static, comparison_is_not_static, left_fails}
+use Rattle.spx_examples.proofs.Evaluations.{taking, assigns, eval_name, eval_signed, numeric, sum_is_not_static, comparison_is_not_static, left_fails}
 use Rattle.spx_examples.proofs.Statements.{null_is, assignment_sets, assignment_is, if_is, and_no_more, to_end}
 use Rattle.spx_examples.proofs.Successor.{judged_x, judged_successor, eval_successor, step_command, successor_of, assigning, step_runs}
 
@@ -53,7 +52,7 @@ gives n e v w answer is = ap (to_end (local_sub (giving e))) (assigns (around_lo
 -- ---- a read of the local
 
 pub value_is_unset : (n : ℕ) (v w : Option Value) → call (local_program (giving the_local)) n (local_sub (giving the_local)) (v ∷ w ∷ []) ≡ Bad Unset (place 6 9)
-value_is_unset n v w = gives n the_local v w (Fails Unset (place 6 9)) (eval-Name (around_local (giving the_local) v) n (unset_after v) (local_y_at 6 9))
+value_is_unset n v w = gives n the_local v w (Fails Unset (place 6 9)) (eval_name (around_local (giving the_local) v) n (unset_after v) (local_y_at 6 9))
 
 judged_local : (column : ℕ) → judged (Name (local_y_at 6 column)) ≡ numeric (place 6 column)
 judged_local column = fold-Name expr_step (local_y_at 6 column)
@@ -61,7 +60,7 @@ judged_local column = fold-Name expr_step (local_y_at 6 column)
 condition_fails : (f : Frame) (n : ℕ) (v : Option Value) → eval f n (unset_after v) local_above ≡ Fails Unset (place 6 7)
 condition_fails f n v =
     let none = comparison_is_not_static (place 6 9) (place 6 7) (place 6 11) (Name (local_y_at 6 7)) (Name (x_at 6 11)) (judged_local 7) (judged_x 6 11) in
-    left_fails f n (unset_after v) op.Greater (place 6 9) (Name (local_y_at 6 7)) (Name (x_at 6 11)) Unset (place 6 7) none (eval-Name f n (unset_after v) (local_y_at 6 7))
+    left_fails f n (unset_after v) op.Greater (place 6 9) (Name (local_y_at 6 7)) (Name (x_at 6 11)) Unset (place 6 7) none (eval_name f n (unset_after v) (local_y_at 6 7))
 
 pub condition_is_unset : (n : ℕ) (v w : Option Value) → call (local_program testing) n (local_sub testing) (v ∷ w ∷ []) ≡ Bad Unset (place 6 7)
 condition_is_unset n v w =
@@ -74,15 +73,15 @@ condition_is_unset n v w =
 
 -- ---- `X := - X`
 
-negated_is_not_static : literal negated ≡ None
-negated_is_not_static = ap literal_in (fold-Prefix expr_step Minus (place 6 9) (Name (x_at 6 11)) ∙ ap (λ o. o >>= λ t. rules.sign Minus (place 6 9) t) (judged_x 6 11))
+judged_negated : judged negated ≡ numeric (place 6 9)
+judged_negated = fold-Prefix expr_step Minus (place 6 9) (Name (x_at 6 11)) ∙ ap (λ o. o >>= λ t. rules.sign Minus (place 6 9) t) (judged_x 6 11)
 
 -- the value of - X, where X is read as this
 abbrev negated_of : Answer → Answer
-negated_of answer = with_value answer (λ a. signed Minus (place 6 9) a)
+negated_of answer = with_value answer (λ a. signed Minus INTEGER.base (place 6 9) a)
 
 eval_negated : (f : Frame) (n : ℕ) (s : Store) → eval f n s negated ≡ negated_of (read s (place 6 11) (Some x))
-eval_negated f n s = eval-Prefix f n s Minus (place 6 9) (Name (x_at 6 11)) ∙ ap₂ (λ l a. static_or l (negated_of a)) negated_is_not_static (eval-Name f n s (x_at 6 11))
+eval_negated f n s = eval_signed f n s Minus (place 6 9) (Name (x_at 6 11)) _ _ judged_negated (eval_name f n s (x_at 6 11))
 
 gives_negated : (n : ℕ) (v w : Option Value) → call (local_program (giving negated)) n (local_sub (giving negated)) (v ∷ w ∷ [])
     ≡ to_end (local_sub (giving negated)) (taking (around_local (giving negated) v) (unset_after v) (x_named 6 4) negated (negated_of (read (unset_after v) (place 6 11) (Some x))))
@@ -122,7 +121,7 @@ local_before_sum n w =
     let f : Frame = around_local (giving local_and_sum) (number INTEGER_LAST) in
     let sum : CoreExpr = Parenthesized (place 6 13) (successor 6 14) in
     let none = sum_is_not_static (place 6 11) (place 6 9) (place 6 13) (Name (local_y_at 6 9)) sum (judged_local 9) (judged_sum 13 14) in
-    gives n local_and_sum (number INTEGER_LAST) w (Fails Unset (place 6 9)) (left_fails f n last_and_unset op.Add (place 6 11) (Name (local_y_at 6 9)) sum Unset (place 6 9) none (eval-Name f n last_and_unset (local_y_at 6 9)))
+    gives n local_and_sum (number INTEGER_LAST) w (Fails Unset (place 6 9)) (left_fails f n last_and_unset op.Add (place 6 11) (Name (local_y_at 6 9)) sum Unset (place 6 9) none (eval_name f n last_and_unset (local_y_at 6 9)))
 
 sum_overflows : (f : Frame) (n : ℕ) → eval f n last_and_unset (Parenthesized (place 6 9) (successor 6 10)) ≡ Fails Overflow (place 6 12)
 unfolding value_of_op

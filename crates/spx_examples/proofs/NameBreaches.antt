@@ -15,7 +15,7 @@ use Rattle.spx_tree.specs.declared.statement.Stmt.TheVariants as written_stmt
 use Rattle.spx_tree.specs.declared.subprogram.Subprogram.{Subprogram}
 use Rattle.spx_tree.specs.declared.subprogram.Unit.{Unit}
 use Rattle.spx_tree.specs.declared.subprogram.Unit.TheVariants as unit
-use Rattle.spx_tree.specs.Written.{parenthesized, signed, operation}
+use Rattle.spx_tree.specs.Written.{parenthesized, signed, operation, in_type, in_range}
 use Rattle.spx_core.specs.declared.expression.CoreExpr.{CoreExpr, CoreExpr-F}
 use Rattle.spx_core.specs.declared.rule.Breach.{Breach}
 use Rattle.spx_core.specs.declared.rule.Typing.{Typing}
@@ -27,7 +27,7 @@ use Rattle.spx_core.specs.Regions.{Regions}
 use Rattle.spx_core.specs.Resolved.{around_body, declaring, declaring_all, formal_names, local_names, own_vars, params_of, resolved_expr, resolved_pre, resolved_reference, resolved_stmt, resolved_sub, resolved_subs, resolved_value, unit_name}
 use Rattle.spx_core.specs.Resolved as resolving
 use Rattle.spx_core.specs.Statements.{first_name_breach, judged_name, judged_command, judged_decl, judged_end, judged_item, judged_param, judged_pre, judged_sub}
-use Rattle.spx_core.proofs.Callers.Expressions.{fold-Number, fold-Name, fold-Attribute, fold-Parenthesized, fold-Prefix, fold-Infix}
+use Rattle.spx_core.proofs.Callers.Expressions.{fold-Number, fold-Name, fold-Attribute, fold-Parenthesized, fold-Prefix, fold-Infix, fold-InType, fold-InRange}
 use Rattle.spx_examples.proofs.Statements.{assignment_is, if_is, and_no_more}
 use Rattle.spx_examples.proofs.Resolving.{resolved_assignment, resolved_if}
 
@@ -49,6 +49,8 @@ expr_now around (written_expr.Name name) = name_now around name
 expr_now around (parenthesized place a) = expr_step (CoreExpr-F.Parenthesized place (expr_now around a))
 expr_now around (signed op place a) = expr_step (CoreExpr-F.Prefix op place (expr_now around a))
 expr_now around (operation op place a b) = expr_step (CoreExpr-F.Infix op place (expr_now around a) (expr_now around b))
+expr_now around (in_type op place a name) = expr_step (CoreExpr-F.InType op place (expr_now around a) (resolved_reference around name))
+expr_now around (in_range op place a low high) = expr_step (CoreExpr-F.InRange op place (expr_now around a) (expr_now around low) (expr_now around high))
 
 module _ (around : Regions) where
   at_layer : (y : Expr-F Expr) → judged (resolved_expr around (roll-Expr y)) ≡ judged (resolving.expr_step around (map-Expr Expr CoreExpr (resolved_expr around) y))
@@ -68,6 +70,15 @@ module _ (around : Regions) where
       at_layer (Expr-F.Infix op place a b)
       ∙ fold-Infix expr_step op place (resolved_expr around a) (resolved_expr around b)
       ∙ ap₂ (λ j k. expr_step (CoreExpr-F.Infix op place j k)) (judged_is a) (judged_is b)
+  judged_is (in_type op place a name) =
+      at_layer (Expr-F.InType op place a name)
+      ∙ fold-InType expr_step op place (resolved_expr around a) (resolved_reference around name)
+      ∙ ap (λ j. expr_step (CoreExpr-F.InType op place j (resolved_reference around name))) (judged_is a)
+  judged_is (in_range op place a low high) =
+      at_layer (Expr-F.InRange op place a low high)
+      ∙ fold-InRange expr_step op place (resolved_expr around a) (resolved_expr around low) (resolved_expr around high)
+      ∙ ap₂ (λ j k. expr_step (CoreExpr-F.InRange op place j k (judged (resolved_expr around high)))) (judged_is a) (judged_is low)
+      ∙ ap (λ l. expr_step (CoreExpr-F.InRange op place (expr_now around a) (expr_now around low) l)) (judged_is high)
 
   -- ---- annotations and statements
 

@@ -2,8 +2,9 @@
 use Rattle.std.proofs.Common.{◌≡◌, pos, [], ◌∷◌, Ok, None, ap, ap₂, ◌∙◌}
 use Rattle.std.specs.Prelude.{⊤}
 use Rattle.spx_tree.specs.declared.expression.InfixOp.TheVariants as op
+use Rattle.spx_core.specs.declared.entity.TheConstants.{BOOLEAN}
 use Rattle.spx_core.specs.declared.expression.CoreExpr.TheVariants as expr
-use Rattle.spx_core.specs.declared.rule.ExprType.TheVariants.{Boolean}
+use Rattle.spx_core.specs.declared.rule.ExprType.TheVariants.{Of}
 use Rattle.spx_core.specs.declared.rule.Typing.{Typing}
 use Rattle.spx_core.specs.Commands.{Command, Skip, Then, Choose, commands}
 use Rattle.spx_core.specs.Judged.{Judged, ◌>>=◌, condition, expr_step, judged, typing}
@@ -25,7 +26,7 @@ next_command =
     if_is (place 5 4) below_hundred (step ∷ []) closing
     ∙ ap (λ body. Then (Choose (place 5 4) below_hundred body Skip) Skip) (assignment_is (x_named 6 7) (successor 6 12))
 
-judged_below : judged below_hundred ≡ Ok (typing Boolean None (place 5 9))
+pub judged_below : judged below_hundred ≡ Ok (typing (Of BOOLEAN.base) None (place 5 9))
 judged_below =
     fold-Infix expr_step op.Less (place 5 9) (expr.Name (x_at 5 7)) (expr.Number (pos 100) (place 5 11))
     ∙ ap₂ (operating op.Less (place 5 9)) (judged_x 5 7) (fold-Number expr_step (pos 100) (place 5 11))

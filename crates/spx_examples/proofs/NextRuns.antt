@@ -8,14 +8,15 @@ use Rattle.spx_term.specs.declared.value.Value.TheVariants as value
 use Rattle.spx_term.specs.Meaning.{as_truth, value_of_op}
 use Rattle.spx_meaning.specs.Stores.{Store}
 use Rattle.spx_meaning.specs.Frames.{Frame, around}
-use Rattle.spx_meaning.specs.Evaluation.{Answer, Gives, with_value, applied, checked, static_or, read, eval, eval-Number, eval-Name, eval-Infix}
+use Rattle.spx_meaning.specs.Evaluation.{Answer, Gives, with_value, applied, read, eval, eval-Number}
 use Rattle.spx_meaning.specs.Runs.{Outcome, Ended, then_do, use_value, run, call}
 use Rattle.spx_examples.specs.Increment.{place, x, x_at}
 use Rattle.spx_examples.specs.Refused.{x_is_last}
 use Rattle.spx_examples.specs.Next.{below_hundred, branch, next_sub, next_program}
 use Rattle.spx_examples.proofs.Successor.{x_is, successor_of, assigning, step_runs}
+use Rattle.spx_examples.proofs.Evaluations.{eval_name, eval_operated}
 use Rattle.spx_examples.proofs.Statements.{to_end}
-use Rattle.spx_examples.proofs.NextRules.{next_command, below_is_not}
+use Rattle.spx_examples.proofs.NextRules.{next_command, judged_below}
 
 -- whether X is below 100, where X is read as this
 abbrev below_of : Answer → Answer
@@ -23,9 +24,8 @@ below_of answer = with_value answer (λ y. Gives (applied op.Less y (value.Numbe
 
 eval_below : (f : Frame) (n : ℕ) (s : Store) → eval f n s below_hundred ≡ below_of (read s (place 5 7) (Some x))
 eval_below f n s =
-    eval-Infix f n s op.Less (place 5 9) (Name (x_at 5 7)) (Number (pos 100) (place 5 11))
-    ∙ ap₂ (λ l b. static_or l (with_value (eval f n s (Name (x_at 5 7))) (λ y. with_value b (λ z. checked op.Less (place 5 9) (applied op.Less y z))))) below_is_not (eval-Number f n s (pos 100) (place 5 11))
-    ∙ ap below_of (eval-Name f n s (x_at 5 7))
+    eval_operated f n s op.Less (place 5 9) (Name (x_at 5 7)) (Number (pos 100) (place 5 11)) _ _ _
+    judged_below (eval_name f n s (x_at 5 7)) (eval-Number f n s (pos 100) (place 5 11))
 
 -- the body, where its condition has this answer, and its assignment this outcome
 abbrev branching : Store → Answer → Outcome → Outcome

@@ -1,5 +1,5 @@
 -- The values of numbers.
-use Rattle.std.proofs.Common.{◌≡◌, inl, inr, [], refl, arith}
+use Rattle.std.proofs.Common.{inl, inr, [], refl, arith}
 use Rattle.std.specs.Prelude.{codes}
 use Rattle.spx_tree.specs.Numbers.{IsNumeral, IsNumber, IsExponent, none, some, decimal, based}
 

@@ -7,7 +7,7 @@ use Rattle.std.proofs.lemmas.Int.{ints}
 use Rattle.spx_tree.specs.declared.token.Kind.TheVariants as kind
 use Rattle.spx_tree.specs.Lexemes.{unreserved, kind_of_word, code_delimiters, annotation_delimiters, delimiters}
 use Rattle.spx_tree.specs.Numbers.{none, IsNumber, decimal}
-use Rattle.spx_tree.specs.Places.{place_behind}
+use Rattle.spx_tree.specs.Places.{place_after_bytes}
 use Rattle.spx_tree.specs.Spells.{Role, line_end, separator, comment, head, lexeme, Stands, Part, bytes_of, AllStand, tokens_of, Spells}
 use Rattle.spx_tree.specs.Stops.{bad_byte, StopsAt}
 use Rattle.spx_examples.specs.Example.{line, line_tokens, stopped_line, stop}
@@ -18,11 +18,11 @@ part role bytes = record { role = role; bytes = bytes }
 
 -- ---- a line that is spelled
 
-abbrev behind_comment : List Part
-behind_comment = part line_end (10 ∷ []) ∷ part (lexeme kind.End (pos 0)) (codes "end") ∷ []
+abbrev following_comment : List Part
+following_comment = part line_end (10 ∷ []) ∷ part (lexeme kind.End (pos 0)) (codes "end") ∷ []
 
-abbrev behind_head : List Part
-behind_head =
+abbrev following_head : List Part
+following_head =
     part separator (codes " ")
     ∷ part (lexeme kind.Pre (pos 0)) (codes "pre")
     ∷ part separator (codes " ")
@@ -32,7 +32,7 @@ behind_head =
     ∷ part (lexeme kind.Semicolon (pos 0)) (codes ";")
     ∷ part separator (codes " ")
     ∷ part comment (codes "-- #")
-    ∷ behind_comment
+    ∷ following_comment
 
 abbrev parts : List Part
 parts =
@@ -41,17 +41,17 @@ parts =
     ∷ part (lexeme kind.Identifier (pos 0)) (codes "X")
     ∷ part separator (codes " ")
     ∷ part head (codes "--#")
-    ∷ behind_head
+    ∷ following_head
 
-behind_comment_stands : AllStand true behind_comment []
+following_comment_stands : AllStand true following_comment []
 unfolding unreserved kind_of_word
-behind_comment_stands = (refl, tt, (word_stands false kind.End (codes "end") [] (refl, inl (refl, inl (refl, tt))) refl refl, λ e. absurd cc, tt))
+following_comment_stands = (refl, tt, (word_stands false kind.End (codes "end") [] (refl, inl (refl, inl (refl, tt))) refl refl, λ e. absurd cc, tt))
 
 whole : bytes_of parts ≡ line
 whole = refl
 
 are : line_tokens ≡ tokens_of 0 [] false parts
-unfolding place_behind
+unfolding place_after_bytes
 are = refl
 
 comment_text : All (λ b. b ≢ 10) (codes " #")
@@ -60,9 +60,9 @@ comment_text = All-cons (λ (b : ℕ). b ≢ 10) 32 (35 ∷ []) (λ e. absurd (o
 one : IsNumber (codes "1") 1
 one = decimal (codes "1") [] 0 refl (omega arith, tt) (none refl refl) refl
 
-behind_head_stands : AllStand true behind_head []
+following_head_stands : AllStand true following_head []
 unfolding unreserved kind_of_word delimiters code_delimiters annotation_delimiters
-behind_head_stands = (
+following_head_stands = (
   (32, refl, refl),
   tt,
   (
@@ -89,7 +89,7 @@ behind_head_stands = (
                 (
                   (codes " #", refl, comment_text, refl, λ e. refl),
                   tt,
-                  behind_comment_stands,
+                  following_comment_stands,
                 ),
               ),
             ),
@@ -117,7 +117,7 @@ stand = (
         (
           (refl, refl),
           tt,
-          behind_head_stands,
+          following_head_stands,
         ),
       ),
     ),
@@ -136,11 +136,11 @@ first_stands : AllStand false first_part (codes "__B")
 unfolding unreserved kind_of_word
 first_stands = (word_stands false kind.Identifier (codes "A") _ (refl, tt) refl refl, λ e. absurd cc, tt)
 
-at : stop ≡ place_behind 0 (bytes_of first_part)
-unfolding place_behind
+at : stop ≡ place_after_bytes 0 (bytes_of first_part)
+unfolding place_after_bytes
 at = refl
 
-underscore_stands_nowhere : (role : Role) (bytes behind : List ℕ) → codes "__B" ≡ bytes ++ behind → Stands false role bytes behind → ⊥
+underscore_stands_nowhere : (role : Role) (bytes following : List ℕ) → codes "__B" ≡ bytes ++ following → Stands false role bytes following → ⊥
 unfolding delimiters code_delimiters
 underscore_stands_nowhere = nothing_stands false 95 (codes "_B") refl refl refl refl
 

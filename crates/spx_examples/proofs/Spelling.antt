@@ -14,9 +14,9 @@ use Rattle.std.proofs.lemmas.Slice.Eq.{bytes_eq-Decides}
 use Rattle.spx_tree.specs.declared.token.Kind.{Kind}
 use Rattle.spx_tree.specs.declared.token.Kind.TheVariants as kind
 use Rattle.spx_tree.specs.declared.token.Token.{Token}
-use Rattle.spx_tree.specs.Lexemes.{IsWordRest, IsBehindUnderscore, IsWord, kind_of_word, kind_of, delimiters, IsLexeme, word, numeral, delimiter, IsMaximal, spoils_number}
+use Rattle.spx_tree.specs.Lexemes.{IsWordRest, IsAfterUnderscore, IsWord, kind_of_word, kind_of, delimiters, IsLexeme, word, numeral, delimiter, IsMaximal, spoils_number}
 use Rattle.spx_tree.specs.Numbers.{IsNumeralRest, IsNumeral, numeral_value, none as no_exponent, IsNumber, decimal}
-use Rattle.spx_tree.specs.Spells.{Role, line_end, separator, head, lexeme, Stands, IsSound, Part, bytes_of, marked_behind, AllStand, tokens_of, Spells}
+use Rattle.spx_tree.specs.Spells.{Role, line_end, separator, head, lexeme, Stands, IsSound, Part, bytes_of, marked_following, AllStand, tokens_of, Spells}
 use Rattle.spx_tree.proofs.Numbers.{is_number_byte, number_bytes, number_digit}
 use Rattle.spx_tree.proofs.Shapes.{kind_of_passes}
 use Rattle.spx_tree.proofs.OnlyDigits.{word_no_number, delimiter_no_number}
@@ -51,7 +51,7 @@ mutual
   word_rest (b ∷ front) more (inl w) = ap (λ (t : Bool). (t || b == byte "_") && list_all is_word_byte front) w.0 ∙ word_rest front more w.1
   word_rest (b ∷ front) more (inr w) = ap (λ (c : ℕ). is_word_byte c && list_all is_word_byte front) w.0 ∙ after_underscore front more w.1
 
-  after_underscore : (front more : List ℕ) → IsBehindUnderscore (front ++ more) → list_all is_word_byte front ≡ true
+  after_underscore : (front more : List ℕ) → IsAfterUnderscore (front ++ more) → list_all is_word_byte front ≡ true
   after_underscore [] more w = refl
   after_underscore (b ∷ front) more w = ap (λ (t : Bool). (t || b == byte "_") && list_all is_word_byte front) w.0 ∙ word_rest front more w.1
 
@@ -90,10 +90,10 @@ head_is : (x y : ℕ) (xs ys : List ℕ) → x ∷ xs ≡ y ∷ ys → y ≡ x
 head_is x y xs ys e = cc
 
 maximal : (m : Bool) (bytes rest : List ℕ) → ends m bytes rest ≡ true → IsMaximal m bytes rest
-maximal m bytes rest h [] behind k n e l = refl
-maximal m bytes [] h (x ∷ more) behind k n e l = absurd cc
-maximal m bytes (c ∷ rest) h (x ∷ more) behind k n e l =
-    let longer : bytes ++ x ∷ more ≡ (bytes ++ c ∷ []) ++ more = ap (λ (y : ℕ). bytes ++ y ∷ more) (head_is c x rest (more ++ behind) e) ∙ sym (append_assoc bytes (c ∷ []) more) in
+maximal m bytes rest h [] following k n e l = refl
+maximal m bytes [] h (x ∷ more) following k n e l = absurd cc
+maximal m bytes (c ∷ rest) h (x ∷ more) following k n e l =
+    let longer : bytes ++ x ∷ more ≡ (bytes ++ c ∷ []) ++ more = ap (λ (y : ℕ). bytes ++ y ∷ more) (head_is c x rest (more ++ following) e) ∙ sym (append_assoc bytes (c ∷ []) more) in
     absurd (no_lexeme m k n (bytes ++ c ∷ []) more h (subst (IsLexeme m k n) longer l))
 
 -- the lexeme ends there, and is no hyphen
@@ -184,7 +184,7 @@ text_of LineEnd = 10 ∷ []
 -- the parts that pieces are
 abbrev pub parts_of : Bool → List Piece → List Part
 parts_of m [] = []
-parts_of m (p ∷ ps) = record { role = role_of m p; bytes = text_of p } ∷ parts_of (marked_behind (role_of m p) m) ps
+parts_of m (p ∷ ps) = record { role = role_of m p; bytes = text_of p } ∷ parts_of (marked_following (role_of m p) m) ps
 
 abbrev is_some : Option Kind → Bool
 is_some None = false
@@ -201,7 +201,7 @@ fits m _ rest = true
 -- each piece stands before those after it, and this rest
 abbrev pub all_fit : Bool → List Piece → List ℕ → Bool
 all_fit m [] rest = true
-all_fit m (p ∷ ps) rest = fits m p (bytes_of (parts_of (marked_behind (role_of m p) m) ps) ++ rest) && all_fit (marked_behind (role_of m p) m) ps rest
+all_fit m (p ∷ ps) rest = fits m p (bytes_of (parts_of (marked_following (role_of m p) m) ps) ++ rest) && all_fit (marked_following (role_of m p) m) ps rest
 
 delimiter_stands : (m : Bool) (bytes rest : List ℕ) (o : Option Kind) → kind_of (delimiters m) bytes ≡ o → is_some o ≡ true → closes m bytes rest ≡ true → Stands m (delimiter_role o) bytes rest × IsSound (delimiter_role o) rest
 delimiter_stands m bytes rest None e some h = absurd cc
@@ -230,7 +230,7 @@ piece_stands m LineEnd rest h = (refl, tt)
 pub all_stand : (m : Bool) (ps : List Piece) (rest : List ℕ) → all_fit m ps rest ≡ true → AllStand m (parts_of m ps) rest
 all_stand m [] rest h = tt
 all_stand m (p ∷ ps) rest h =
-    let next = marked_behind (role_of m p) m in
+    let next = marked_following (role_of m p) m in
     let here = and_parts (fits m p (bytes_of (parts_of next ps) ++ rest)) (all_fit next ps rest) h in
     let stands = piece_stands m p (bytes_of (parts_of next ps) ++ rest) here.0 in
     (stands.0, stands.1, all_stand next ps rest here.1)

@@ -6,7 +6,7 @@ use Rattle.spx_tree.specs.declared.token.Kind.TheVariants as k
 use Rattle.spx_tree.specs.declared.subprogram.Unit.{Unit}
 use Rattle.spx_tree.specs.declared.subprogram.Unit.TheVariants as unit
 use Rattle.spx_tree.specs.Lexemes.{unreserved, kind_of_word, code_delimiters, delimiters}
-use Rattle.spx_tree.specs.Places.{place_behind}
+use Rattle.spx_tree.specs.Places.{place_after_bytes}
 use Rattle.spx_tree.specs.Spells.{Spells}
 use Rattle.spx_tree.specs.Stops.{bad_number, too_wide, StopsAt}
 use Rattle.spx_tree.specs.Form.{Form, placed, bare, forms_of}
@@ -30,7 +30,7 @@ abbrev wide : List ℕ
 wide = codes "170141183460469231731687303715884105728"
 
 pub number_is_spoiled : StopsAt 0 spoiled_number bad_number (place 1 6)
-unfolding delimiters code_delimiters place_behind
+unfolding delimiters code_delimiters place_after_bytes
 number_is_spoiled = record {
   parts = parts_of false before_number;
   rest = codes "12X;";
@@ -41,7 +41,7 @@ number_is_spoiled = record {
 }
 
 pub number_is_too_wide : StopsAt 0 wide_number too_wide (place 1 6)
-unfolding delimiters code_delimiters place_behind
+unfolding delimiters code_delimiters place_after_bytes
 number_is_too_wide = record {
   parts = parts_of false before_number;
   rest = wide ++ codes ";";
@@ -52,7 +52,7 @@ number_is_too_wide = record {
 }
 
 pub widest_is_spelled : Spells 0 widest_number widest_tokens
-unfolding place_behind
+unfolding place_after_bytes
 widest_is_spelled = spelled_by (Digits widest_number ∷ []) refl refl refl
 
 -- ---- by their tokens
@@ -82,22 +82,22 @@ ends levels (more, [], fit, e) = absurd cc
 ends levels (more, unit.Subprogram sub ∷ units, fit, e) = let kind : k.Is ≡ k.Identifier = second_kind _ _ _ _ _ _ e in absurd cc
 
 pub unnamed_spelled : Spells 0 unnamed unnamed_tokens
-unfolding unreserved kind_of_word delimiters code_delimiters place_behind
+unfolding unreserved kind_of_word delimiters code_delimiters place_after_bytes
 unnamed_spelled = spelled_by (Word (codes "procedure") ∷ Space ∷ Word (codes "is") ∷ []) refl refl refl
 
 pub unnamed_answer : Answers written IsFile 200 (forms_of unnamed unnamed_tokens) (Err (Expected 1))
 unnamed_answer = record { taken = procedure_form ∷ []; rest = is_form ∷ []; parts = refl; count = refl; begins = begins; no_text = no_file; ends = ends }
 
-pub unnamed_place : place_with (place_behind 0 unnamed) unnamed_tokens 1 ≡ place 1 11
+pub unnamed_place : place_with (place_after_bytes 0 unnamed) unnamed_tokens 1 ≡ place 1 11
 unnamed_place = refl
 
 pub cut_short_spelled : Spells 0 cut_short cut_short_tokens
-unfolding unreserved kind_of_word delimiters code_delimiters place_behind
+unfolding unreserved kind_of_word delimiters code_delimiters place_after_bytes
 cut_short_spelled = spelled_by (Word (codes "procedure") ∷ LineEnd ∷ []) refl refl refl
 
 pub cut_short_answer : Answers written IsFile 200 (forms_of cut_short cut_short_tokens) (Err (Expected 0))
 cut_short_answer = record { taken = procedure_form ∷ []; rest = []; parts = refl; count = refl; begins = begins; no_text = no_file; ends = tt }
 
-pub cut_short_place : place_with (place_behind 0 cut_short) cut_short_tokens 0 ≡ place 2 1
-unfolding place_behind
+pub cut_short_place : place_with (place_after_bytes 0 cut_short) cut_short_tokens 0 ≡ place 2 1
+unfolding place_after_bytes
 cut_short_place = refl

@@ -19,10 +19,11 @@ use Rattle.spx_term.specs.declared.value.Value.TheVariants as value
 use Rattle.spx_meaning.specs.Literals.{literal, literal_in}
 use Rattle.spx_meaning.specs.Stores.{Store}
 use Rattle.spx_meaning.specs.Frames.{Frame}
-use Rattle.spx_meaning.specs.Evaluation.{Answer, with_value, applied, checked, static_or, read, eval, eval-Number, eval-Name, eval-Infix}
+use Rattle.spx_meaning.specs.Evaluation.{Answer, with_value, applied, in_base, read, eval, eval-Number}
 use Rattle.spx_meaning.specs.Runs.{Outcome, use_value, run}
 use Rattle.spx_meaning.specs.Runs as runs
 use Rattle.spx_examples.specs.Increment.{place, x_at, successor, x_named, x}
+use Rattle.spx_examples.proofs.Evaluations.{eval_name, eval_operated}
 use Rattle.spx_examples.proofs.Statements.{operating}
 
 pub judged_x : (line column : ℕ) → judged (Name (x_at line column)) ≡ Ok (typing (Of INTEGER.base) None (place line column))
@@ -67,13 +68,12 @@ place_of_successor line column = ap place_in (outs-Infix op.Add (place line (col
 
 -- the value of X + 1, where X is read as this
 abbrev pub successor_of : Place → Answer → Answer
-successor_of at x = with_value x (λ y. checked op.Add at (applied op.Add y (value.Number (pos 1))))
+successor_of at answer = with_value answer (λ y. in_base INTEGER.base at (applied op.Add y (value.Number (pos 1))))
 
 pub eval_successor : (f : Frame) (n : ℕ) (s : Store) (line column : ℕ) → eval f n s (successor line column) ≡ successor_of (place line (column + 2)) (read s (place line column) (Some x))
 eval_successor f n s line column =
-    eval-Infix f n s op.Add (place line (column + 2)) (Name (x_at line column)) (Number (pos 1) (place line (column + 4)))
-    ∙ ap₂ (λ l b. static_or l (with_value (eval f n s (Name (x_at line column))) (λ y. with_value b (λ z. checked op.Add (place line (column + 2)) (applied op.Add y z))))) (successor_is_not line column) (eval-Number f n s (pos 1) (place line (column + 4)))
-    ∙ ap (successor_of (place line (column + 2))) (eval-Name f n s (x_at line column))
+    eval_operated f n s op.Add (place line (column + 2)) (Name (x_at line column)) (Number (pos 1) (place line (column + 4))) _ _ _
+    (judged_successor line column) (eval_name f n s (x_at line column)) (eval-Number f n s (pos 1) (place line (column + 4)))
 
 -- X := X + 1, where the right side gives this
 abbrev pub assigning : Program → Store → Place → Answer → Outcome

@@ -3,16 +3,17 @@ use Rattle.std.proofs.Common.{◌≡◌, ℕ, ◌+◌, ℤ, pos, true, false, if
 use Rattle.spx_text.specs.declared.place.Place.{Place}
 use Rattle.spx_tree.specs.declared.expression.InfixOp.{InfixOp}
 use Rattle.spx_tree.specs.declared.expression.InfixOp.TheVariants as op
-use Rattle.spx_core.specs.declared.entity.TheConstants.{INTEGER_FIRST, INTEGER_LAST}
+use Rattle.spx_core.specs.declared.entity.TheConstants.{INTEGER, INTEGER_FIRST, INTEGER_LAST}
 use Rattle.spx_core.specs.declared.entity.VarId.{VarId}
-use Rattle.spx_core.specs.declared.name.CoreName.{CoreName}
 use Rattle.spx_core.specs.declared.expression.CoreExpr.{CoreExpr}
 use Rattle.spx_core.specs.declared.expression.CoreExpr.TheVariants as expr
 use Rattle.spx_core.specs.declared.program.Program.{Program}
 use Rattle.spx_core.specs.declared.subprogram.Sub.{Sub}
-use Rattle.spx_core.specs.Uses.{variable_of}
 use Rattle.spx_core.specs.Places.{place_of}
 use Rattle.spx_term.specs.declared.condition.CondKind.TheVariants.{Overflow, Range}
+use Rattle.spx_term.specs.declared.term.Name.{Name}
+use Rattle.spx_term.specs.declared.term.Sort.TheVariants.{Integer}
+use Rattle.spx_term.specs.declared.term.Symbol.TheVariants as symbol
 use Rattle.spx_term.specs.declared.term.TermOp.{TermOp}
 use Rattle.spx_term.specs.declared.term.TermOp.TheVariants as sign
 use Rattle.spx_term.specs.declared.term.Term.{Term}
@@ -22,19 +23,31 @@ use Rattle.spx_term.specs.Plain.{is_among}
 use Rattle.spx_term.specs.Steps.{Tree, Cut, Assign, Claim, assume_all, check, same_name, substituted_step, substituted, claims_of, with_new, without_doubles, tidy}
 use Rattle.spx_term.proofs.Terms as terms
 use Rattle.spx_meaning.specs.Evaluation.{term_op}
-use Rattle.spx_meaning.specs.Literals.{literal}
-use Rattle.spx_paths.specs.Terms.{now, now_term, entry_term, named, term_of, term_with-Infix, term_with-Name, term_with-Number, literal_or}
-use Rattle.spx_paths.specs.Checks.{in_integer, checks, checks-Infix, checks-Name, checks-Number, operation_check, unless_static}
+use Rattle.spx_meaning.specs.Literals.{base_judged, literal, literal_in}
+use Rattle.spx_paths.specs.Terms.{now_term, entry_term, term_of, term_with-Infix, term_with-Name, term_with-Number, literal_or}
+use Rattle.spx_paths.specs.Checks.{in_type, checks, checks-Infix, checks-Name, checks-Number, operation_check, unless_static}
 use Rattle.spx_paths.specs.Walks.{walk}
-use Rattle.spx_examples.specs.Increment.{place, x, x_at, successor, entry_x, next_x, at_least_first, at_most_last, entry_below, known_entry, known_below, sum_goals}
-use Rattle.spx_examples.proofs.Successor.{step_command, place_of_successor, successor_is_not}
+use Rattle.spx_examples.specs.Increment.{place, x, x_at, successor, increment, entry_x, next_x, at_least_first, at_most_last, entry_below, known_entry, known_below, sum_goals}
+use Rattle.spx_examples.proofs.Successor.{judged_x, judged_successor, step_command, place_of_successor, successor_is_not}
 use Rattle.spx_examples.proofs.TermEquality.{other_op, other_left, no_infix, is_new}
 
 -- ---- terms of the value now
 
+-- the program of these subprograms, whose one variable is X
+abbrev pub program_with : List Sub → Program
+program_with subs = record increment { subs = subs }
+
+-- the name of its value now
+abbrev pub now_name : Name
+now_name = record { symbol = symbol.Now 0; sort = Integer }
+
 -- `X`
 abbrev pub now_x : Term
-now_x = now_term x
+now_x = term.Variable now_name
+
+-- it lies in `Integer`
+abbrev pub in_integer : Term → List Term
+in_integer t = in_type INTEGER t
 
 -- `X + 1`
 abbrev pub next_now : Term
@@ -46,51 +59,56 @@ below_now n = term.Infix sign.Less now_x (term.Number n)
 
 -- check X + 1 against the base range and the type of X, and give it to X
 abbrev pub summed : Place → Tree → Tree
-summed at rest = check Overflow at (in_integer next_now) (check Range at (in_integer next_now) (Assign (now x) next_now rest))
+summed at rest = check Overflow at (in_integer next_now) (check Range at (in_integer next_now) (Assign now_name next_now rest))
 
-module _ (entered : VarId → Term) where
-  pub term_of_operation : (o : InfixOp) (at : Place) (name : CoreName) (b : CoreExpr) → literal (expr.Infix o at (expr.Name name) b) ≡ None
-      → term_of entered (expr.Infix o at (expr.Name name) b) ≡ term.Infix (term_op o) (named now_term (variable_of name.entity)) (term_of entered b)
-  term_of_operation o at name b none =
-      term_with-Infix now_term entered o at (expr.Name name) b
-      ∙ ap₂ (λ l t. literal_or l (term.Infix (term_op o) t (term_of entered b))) none (term_with-Name now_term entered name)
+module _ (p : Program) (entered : VarId → Term) where
+  -- an operation that is not static, on X
+  pub term_of_operation : (o : InfixOp) (at : Place) (line column : ℕ) (b : CoreExpr) → literal (expr.Infix o at (expr.Name (x_at line column)) b) ≡ None
+      → term_of p entered (expr.Infix o at (expr.Name (x_at line column)) b) ≡ term.Infix (term_op o) (now_term p x) (term_of p entered b)
+  term_of_operation o at line column b none =
+      term_with-Infix (now_term p) entered o at (expr.Name (x_at line column)) b
+      ∙ ap₂ (λ l t. literal_or l (term.Infix (term_op o) t (term_of p entered b))) none
+      (term_with-Name (now_term p) entered (x_at line column) ∙ ap (λ j. literal_or (literal_in j) (now_term p x)) (judged_x line column))
 
-  term_of_successor : (line column : ℕ) → term_of entered (successor line column) ≡ next_now
+  term_of_successor : (line column : ℕ) → term_of p entered (successor line column) ≡ term.Infix sign.Add (now_term p x) (term.Number (pos 1))
   term_of_successor line column =
-      term_of_operation op.Add (place line (column + 2)) (x_at line column) (expr.Number (pos 1) (place line (column + 4))) (successor_is_not line column)
-      ∙ ap (term.Infix sign.Add now_x) (term_with-Number now_term entered (pos 1) (place line (column + 4)))
+      term_of_operation op.Add (place line (column + 2)) line column (expr.Number (pos 1) (place line (column + 4))) (successor_is_not line column)
+      ∙ ap (term.Infix sign.Add (now_term p x)) (term_with-Number (now_term p) entered (pos 1) (place line (column + 4)))
 
-  checks_successor : (line column : ℕ) (rest : Tree) → checks entered [] (successor line column) rest ≡ check Overflow (place line (column + 2)) (in_integer (term_of entered (successor line column))) rest
+  checks_successor : (line column : ℕ) (rest : Tree) → checks p entered [] (successor line column) rest ≡ check Overflow (place line (column + 2)) (in_integer (term_of p entered (successor line column))) rest
   checks_successor line column rest =
       let one : CoreExpr = expr.Number (pos 1) (place line (column + 4)) in
-      let after : Tree = operation_check [] op.Add (place line (column + 2)) (term_of entered (successor line column)) rest in
-      checks-Infix entered [] op.Add (place line (column + 2)) (expr.Name (x_at line column)) one rest
-      ∙ ap (λ l. unless_static l rest (checks entered [] (expr.Name (x_at line column)) (checks entered [] one after))) (successor_is_not line column)
-      ∙ checks-Name entered [] (x_at line column) (checks entered [] one after)
-      ∙ checks-Number entered [] (pos 1) (place line (column + 4)) after
+      let after : Tree = check Overflow (place line (column + 2)) (in_integer (term_of p entered (successor line column))) rest in
+      checks-Infix p entered [] op.Add (place line (column + 2)) (expr.Name (x_at line column)) one rest
+      ∙ ap (λ j. unless_static (literal_in j) rest (checks p entered [] (expr.Name (x_at line column)) (checks p entered [] one
+      (operation_check [] op.Add (base_judged j) (place line (column + 2)) (place_of one) (term_of p entered one) (term_of p entered (successor line column)) rest)))) (judged_successor line column)
+      ∙ checks-Name p entered [] (x_at line column) (checks p entered [] one after)
+      ∙ checks-Number p entered [] (pos 1) (place line (column + 4)) after
 
-pub walk_step : (p : Program) (sub : Sub) (line target value : ℕ) (rest leave : ℕ → Tree) (made : ℕ) → walk p sub (step_command line target value) rest leave made ≡ summed (place line (value + 2)) (rest made)
-walk_step p sub line target value rest leave made =
-    let entered = entry_term sub in
-    let t = term_of entered (successor line value) in
-    checks_successor entered line value (check Range (place_of (successor line value)) (in_integer t) (Assign (now x) t (rest made)))
-    ∙ ap₂ (λ u at. check Overflow (place line (value + 2)) (in_integer u) (check Range at (in_integer u) (Assign (now x) u (rest made)))) (term_of_successor entered line value) (place_of_successor line value)
+pub walk_step : (subs : List Sub) (sub : Sub) (line target value : ℕ) (rest leave : ℕ → Tree) (made : ℕ)
+    → walk (program_with subs) sub (step_command line target value) rest leave made ≡ summed (place line (value + 2)) (rest made)
+walk_step subs sub line target value rest leave made =
+    let p = program_with subs in
+    let entered = entry_term p sub in
+    let t = term_of p entered (successor line value) in
+    checks_successor p entered line value (check Range (place_of (successor line value)) (in_integer t) (Assign now_name t (rest made)))
+    ∙ ap₂ (λ u at. check Overflow (place line (value + 2)) (in_integer u) (check Range at (in_integer u) (Assign now_name u (rest made)))) (term_of_successor p entered line value) (place_of_successor line value)
 
 -- ---- the entry value in the place of X
 
 -- a term over the entry value
 abbrev pub on_entry : Term → Term
-on_entry = substituted (now x) entry_x
+on_entry = substituted now_name entry_x
 
-same_x : same_name (now x) (now x) ≡ true
+same_x : same_name now_name now_name ≡ true
 unfolding same_name same_by
 same_x = refl
 
 pub x_on_entry : on_entry now_x ≡ entry_x
-x_on_entry = terms.fold-Variable (substituted_step (now x) entry_x) (now x) ∙ ap (λ b. if b then entry_x else now_x) same_x
+x_on_entry = terms.fold-Variable (substituted_step now_name entry_x) now_name ∙ ap (λ b. if b then entry_x else now_x) same_x
 
 pub before_number : (o : TermOp) (a b : Term) (n : ℤ) → on_entry a ≡ b → on_entry (term.Infix o a (term.Number n)) ≡ term.Infix o b (term.Number n)
-before_number o a b n is = terms.fold-Infix (substituted_step (now x) entry_x) o a (term.Number n) ∙ ap₂ (term.Infix o) is (terms.fold-Number (substituted_step (now x) entry_x) n)
+before_number o a b n is = terms.fold-Infix (substituted_step now_name entry_x) o a (term.Number n) ∙ ap₂ (term.Infix o) is (terms.fold-Number (substituted_step now_name entry_x) n)
 
 next_on_entry : on_entry next_now ≡ next_x
 next_on_entry = before_number sign.Add now_x entry_x (pos 1) x_on_entry
@@ -161,7 +179,7 @@ all_once n =
 
 -- from the entry on, where X lies below n
 abbrev pub path_below : ℤ → Tree → Tree
-path_below n rest = Assign (now x) entry_x (assume_all (in_integer now_x ++ below_now n ∷ []) rest)
+path_below n rest = Assign now_name entry_x (assume_all (in_integer now_x ++ below_now n ∷ []) rest)
 
 -- the claims with these hypotheses and goals
 abbrev pub claims_with : Place → List Term → List Term → List Term → List Claim
@@ -197,7 +215,7 @@ entry_all_once =
 
 -- from the entry on
 abbrev pub path_from_entry : Tree → Tree
-path_from_entry rest = Assign (now x) entry_x (assume_all (in_integer now_x) rest)
+path_from_entry rest = Assign now_name entry_x (assume_all (in_integer now_x) rest)
 
 pub claims_from_entry : (at : Place) → map tidy (claims_of (path_from_entry (summed at Cut))) ≡ claims_with at known_entry (known_entry ++ sum_goals) sum_goals
 claims_from_entry at =

@@ -7,10 +7,10 @@ use Rattle.spx_tree.specs.declared.expression.Expr.TheBlock.{hidden-the_row-Expr
 use Rattle.spx_tree.specs.declared.expression.Expr.TheVariants as tree
 use Rattle.spx_tree.specs.declared.expression.Name.TheVariants.{Simple, Attribute}
 use Rattle.spx_tree.specs.Lexemes.{unreserved, kind_of_word, code_delimiters, delimiters}
-use Rattle.spx_tree.specs.Places.{place_behind}
+use Rattle.spx_tree.specs.Places.{place_after_bytes}
 use Rattle.spx_tree.specs.Spells.{Spells}
 use Rattle.spx_tree.specs.Form.{Form, placed, named, literal, forms_of}
-use Rattle.spx_tree.specs.Written.{program, parenthesized, signed, operation, written_expr}
+use Rattle.spx_tree.specs.Written.{program, parenthesized, signed, operation, in_type, in_range, written_expr}
 use Rattle.spx_tree.specs.Grammar.{IsExpr}
 use Rattle.spx_tree.specs.Goes.{TooDeep, Begins, Answers}
 use Rattle.spx_examples.specs.Increment.{place, word, x_written, successor_written}
@@ -33,7 +33,7 @@ unfolding hidden-the_row-Expr-0 hidden
 sum_forms = refl
 
 pub sum_spelled : Spells 0 sum sum_tokens
-unfolding unreserved kind_of_word delimiters code_delimiters place_behind
+unfolding unreserved kind_of_word delimiters code_delimiters place_after_bytes
 sum_spelled = spelled_by (Word (codes "X") ∷ Space ∷ Delimiter (codes "+") ∷ Space ∷ Digits (codes "1") ∷ []) refl refl refl
 
 pub sum_answer : Answers (written_expr program) IsExpr 1 (forms_of sum sum_tokens) (Ok (successor_written 1 1, []))
@@ -47,6 +47,8 @@ no_operator (more, tree.Name (Attribute prefix designator), fit, e) = let kind :
 no_operator (more, parenthesized at inner, fit, e) = omega (arith, fit.low)
 no_operator (more, signed sign at operand, fit, e) = omega (arith, fit.low)
 no_operator (more, operation op at left right, fit, e) = omega (arith, fit.low)
+no_operator (more, in_type op at tested type_name, fit, e) = omega (arith, fit.low)
+no_operator (more, in_range op at tested low high, fit, e) = omega (arith, fit.low)
 
 pub sum_too_deep : Answers (written_expr program) IsExpr 0 (forms_of sum sum_tokens) (Err (TooDeep 2))
 sum_too_deep = record {

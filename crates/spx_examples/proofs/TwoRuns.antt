@@ -9,7 +9,7 @@ use Rattle.spx_term.specs.declared.value.Value.{Value}
 use Rattle.spx_term.specs.declared.value.Value.TheVariants as value
 use Rattle.spx_term.specs.Meaning.{value_of_op}
 use Rattle.spx_meaning.specs.Frames.{Frame, around}
-use Rattle.spx_meaning.specs.Evaluation.{Gives, eval-Name}
+use Rattle.spx_meaning.specs.Evaluation.{Gives}
 use Rattle.spx_meaning.specs.Laws.{Start, Agree, AreDerived, OthersAreKept, TwoRuns}
 use Rattle.spx_meaning.specs.Runs.{Ended, call}
 use Rattle.spx_meaning.specs.Stores.{Store, look, type_of, is_in}
@@ -21,7 +21,7 @@ use Rattle.spx_examples.proofs.IncrementRuns.{body_runs}
 use Rattle.spx_examples.proofs.OneVariable.{if_x}
 use Rattle.spx_examples.proofs.Statements.{to_end}
 use Rattle.spx_examples.proofs.Successor.{x_is}
-use Rattle.spx_examples.proofs.Evaluations.{assigns, taking}
+use Rattle.spx_examples.proofs.Evaluations.{assigns, eval_name, taking}
 
 -- ---- `Copy`
 
@@ -34,7 +34,7 @@ abbrev frame : ℤ → Frame
 frame n = around copy_program copy (from None n)
 
 copies : (n : ℕ) (v : Option Value) (m : ℤ) → call copy_program n copy (from v m) ≡ to_end copy (taking (frame m) (from None m) (named (y_at 5 4)) (Name (z_at 5 9)) (Gives (value.Number m)))
-copies n v m = ap (to_end copy) (assigns (frame m) n (from None m) (named (y_at 5 4)) (Name (z_at 5 9)) (Gives (value.Number m)) (eval-Name (frame m) n (from None m) (z_at 5 9)))
+copies n v m = ap (to_end copy) (assigns (frame m) n (from None m) (named (y_at 5 4)) (Name (z_at 5 9)) (Gives (value.Number m)) (eval_name (frame m) n (from None m) (z_at 5 9)))
 
 pub copies_1 : (n : ℕ) (v : Option Value) → call copy_program n copy (from v (pos 1)) ≡ Ended (from (number (pos 1)) (pos 1))
 copies_1 n v = copies n v (pos 1)

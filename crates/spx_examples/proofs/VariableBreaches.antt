@@ -1,5 +1,5 @@
 -- The first breach of a rule on variables, in a program of which the first procedure has one statement.
-use Rattle.std.proofs.Common.{◌≡◌, pos, List, [], ◌∷◌, ◌++◌, Some, ap, ap₂, ◌∙◌}
+use Rattle.std.proofs.Common.{◌≡◌, pos, List, [], ◌∷◌, ◌++◌, None, Some, refl, ap, ap₂, ◌∙◌}
 use Rattle.std.specs.Prelude.{⊤, Option}
 use Rattle.spx_tree.specs.declared.expression.InfixOp.TheVariants.{Greater}
 use Rattle.spx_core.specs.declared.expression.CoreExpr.{CoreExpr}
@@ -15,8 +15,10 @@ use Rattle.spx_core.specs.Obeyed.{first_rule_breach, obeyed_command, obeyed_item
 use Rattle.spx_core.specs.Reads.{names_read, names_step}
 use Rattle.spx_core.proofs.Callers.Expressions.{fold-Name, fold-Number, fold-Infix}
 use Rattle.spx_examples.specs.Increment.{place}
-use Rattle.spx_examples.specs.Flag.{x_at, named, one, closing}
-use Rattle.spx_examples.specs.VariableRules.{pre_on, setting_x, branch_of}
+use Rattle.spx_examples.specs.Flag.{x_at, y_at, named, positive, one, closing, flag}
+use Rattle.spx_examples.specs.Operators.{true_at}
+use Rattle.spx_examples.specs.VariableRules.{only, pre_on, requiring_true, setting_x, branch_of}
+use Rattle.spx_examples.proofs.Flag.{flag_command}
 use Rattle.spx_examples.proofs.Statements.{assignment_is, if_is}
 
 -- the precondition that a name is positive reads the name
@@ -57,3 +59,11 @@ breach_reading p sub others name body subs_are pre_is body_is =
     breach_is p sub others body subs_are body_is
     ∙ ap (λ pre. breach_with sub others (if_there (obeyed_pre sub) pre) body) pre_is
     ∙ ap (λ names. breach_with sub others (each (reads_import sub) names) body) (names_are name)
+
+-- a literal is no variable
+pub true_obeys : first_rule_breach (only (requiring_true flag)) ≡ None
+true_obeys =
+    let sub : Sub = requiring_true flag in
+    let body : Command = Then (Choose (place 5 4) positive (Then (Set (named (y_at 6 7)) one) Skip) Skip) Skip in
+    breach_is (only sub) sub [] body refl flag_command
+    ∙ ap (λ names. breach_with sub [] (each (reads_import sub) names) body) (fold-Name names_step (true_at 3 9))

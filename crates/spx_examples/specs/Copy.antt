@@ -32,7 +32,7 @@ z_at line column = record { name = word (codes "Z") line column; entity = Some (
 
 -- `Z : in Integer`
 abbrev pub z_formal : CoreParam
-z_formal = record { names = record { name = word (codes "Z") 1 50; entity = formal_of z In; again = false } ∷ []; mode = written.In; type_name = named (integer_at 1 57) }
+z_formal = record { names = record { name = word (codes "Z") 1 50; entity = formal_of z In; again = false } ∷ []; mode = written.In (place 1 54); type_name = named (integer_at 1 57) }
 
 -- `Y := Z`
 abbrev pub copying : CoreStmt

@@ -9,7 +9,7 @@ use Rattle.spx_tree.specs.declared.token.Token.{Token}
 abbrev pub line : List ℕ
 line = codes "X:=X --# pre X<=1; -- #" ++ 10 ∷ codes "end"
 
--- a token of code: its kind and number, its first byte, the first one behind it, its line and column
+-- a token of code: its kind and number, its first byte, the first one after it, its line and column
 abbrev pub in_code : Kind → ℤ → ℕ → ℕ → ℕ → ℕ → Token
 in_code what number first after line column = record { kind = what; number = number; first = first; after = after; place = record { file = 0; line = line; column = column }; marked = false }
 

@@ -36,7 +36,7 @@ gives target value = stmt.Assignment (named target) value
 
 -- `exports from imports`
 abbrev pub derived : List Reference → List Reference → CoreDerivesItem
-derived exports imports = record { exports = exports; itself = None; imports = imports }
+derived exports imports = record { null = None; exports = exports; itself = None; imports = imports }
 
 -- an annotation of these items
 abbrev pub annotated : List CoreDerivesItem → CoreDerives
@@ -98,7 +98,7 @@ only_x_from_x = derived (x_named 2 13 ∷ []) (x_named 2 20 ∷ []) ∷ derived 
 
 -- `X from * & Y from X`, where `*` stands for X
 abbrev pub one_by_star : List CoreDerivesItem
-one_by_star = record { exports = x_named 2 13 ∷ []; itself = Some (place 2 20); imports = [] } ∷ derived (named (y_at 2 24) ∷ []) (x_named 2 31 ∷ []) ∷ []
+one_by_star = record { null = None; exports = x_named 2 13 ∷ []; itself = Some (place 2 20); imports = [] } ∷ derived (named (y_at 2 24) ∷ []) (x_named 2 31 ∷ []) ∷ []
 
 -- `Y := X`, where both are derived from X
 abbrev pub declared : Sub

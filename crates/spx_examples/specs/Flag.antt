@@ -56,7 +56,7 @@ named name = record { root = name; way = [] }
 
 -- `X : in Integer`
 abbrev pub x_formal : CoreParam
-x_formal = record { names = record { name = word (codes "X") 1 17; entity = formal_of x In; again = false } ∷ []; mode = written.In; type_name = named (integer_at 1 24) }
+x_formal = record { names = record { name = word (codes "X") 1 17; entity = formal_of x In; again = false } ∷ []; mode = written.In (place 1 21); type_name = named (integer_at 1 24) }
 
 -- `Y : out Integer`
 abbrev pub y_formal : CoreParam
@@ -64,7 +64,7 @@ y_formal = record { names = record { name = word (codes "Y") 1 33; entity = form
 
 -- `Y from X`
 abbrev pub relation : CoreDerivesItem
-relation = record { exports = named (y_at 2 13) ∷ []; itself = None; imports = named (x_at 2 20) ∷ [] }
+relation = record { null = None; exports = named (y_at 2 13) ∷ []; itself = None; imports = named (x_at 2 20) ∷ [] }
 
 -- `X > 0`
 abbrev pub positive : CoreExpr

@@ -10,6 +10,7 @@ use Rattle.spx_tree.specs.declared.expression.Expr.TheVariants as written_expr
 use Rattle.spx_tree.specs.declared.statement.Stmt.{Stmt}
 use Rattle.spx_tree.specs.declared.statement.Stmt.TheVariants as written_stmt
 use Rattle.spx_tree.specs.declared.annotation.DerivesItem.{DerivesItem}
+use Rattle.spx_tree.specs.declared.annotation.Exports.TheVariants as exports
 use Rattle.spx_tree.specs.declared.subprogram.Param.{Param}
 use Rattle.spx_tree.specs.declared.subprogram.Subprogram.{Subprogram}
 use Rattle.spx_tree.specs.declared.subprogram.Unit.{Unit}
@@ -60,11 +61,11 @@ x_written line column = Simple (word (codes "X") line column)
 
 -- `X : in out Integer`
 abbrev pub formal_written : Param
-formal_written = record { names = word (codes "X") 1 16 ∷ []; mode = written.InOut; type_name = Simple (word (codes "Integer") 1 27) }
+formal_written = record { names = word (codes "X") 1 16 ∷ []; mode = written.InOut (place 1 20); type_name = Simple (word (codes "Integer") 1 27) }
 
 -- `X from X`
 abbrev pub relation_written : DerivesItem
-relation_written = record { exports = x_written 2 13 ∷ []; imports = record { itself = None; names = x_written 2 20 ∷ [] } }
+relation_written = record { exports = exports.Names (x_written 2 13 ∷ []); imports = record { itself = None; names = x_written 2 20 ∷ [] } }
 
 -- `Integer'Last`
 abbrev pub last_written : Expr
@@ -136,11 +137,11 @@ inc_declared = record { name = word (codes "Inc") 1 11; entity = entity.Subprogr
 
 -- `X : in out Integer`
 abbrev pub formal : CoreParam
-formal = record { names = x_declared ∷ []; mode = written.InOut; type_name = record { root = integer_at 1 27; way = [] } }
+formal = record { names = x_declared ∷ []; mode = written.InOut (place 1 20); type_name = record { root = integer_at 1 27; way = [] } }
 
 -- `X from X`
 abbrev pub relation : CoreDerivesItem
-relation = record { exports = x_named 2 13 ∷ []; itself = None; imports = x_named 2 20 ∷ [] }
+relation = record { null = None; exports = x_named 2 13 ∷ []; itself = None; imports = x_named 2 20 ∷ [] }
 
 -- `Integer'Last`
 abbrev pub integer_last : CoreExpr

@@ -7,6 +7,7 @@ pub mod Refused
 pub mod Next
 pub mod Flag
 pub mod Variants
+pub mod Operators
 pub mod Copy
 pub mod NameRules
 pub mod VariableRules

@@ -10,6 +10,7 @@
 --
 -- A precondition stands in line 3, a local after `is`, and another procedure in line 8.
 use Rattle.std.specs.Prelude.{ℕ, ◌+◌, ℤ, pos, List, [], ◌∷◌, Option, Some, None, codes}
+use Rattle.spx_tree.specs.declared.annotation.Exports.TheVariants as exports
 use Rattle.spx_tree.specs.declared.declaration.Decl.TheVariants.{Variables}
 use Rattle.spx_tree.specs.declared.expression.Name.{Name}
 use Rattle.spx_tree.specs.declared.expression.Name.TheVariants.{Simple, Attribute}
@@ -97,7 +98,7 @@ with_pre s name = record s { pre = Some (record { place = place 3 5; condition =
 -- the relation of one export, whose name has one letter, and one import
 abbrev pub with_relation : Subprogram → (export import : List ℕ) → Subprogram
 with_relation s export import =
-    record s { derives = Some (record { place = place 2 5; items = record { exports = Simple (word export 2 13) ∷ []; imports = record { itself = None; names = Simple (word import 2 20) ∷ [] } } ∷ [] }) }
+    record s { derives = Some (record { place = place 2 5; items = record { exports = exports.Names (Simple (word export 2 13) ∷ []); imports = record { itself = None; names = Simple (word import 2 20) ∷ [] } } ∷ [] }) }
 
 -- a formal part of one parameter
 abbrev pub with_formal : Subprogram → Param → Subprogram

@@ -10,6 +10,7 @@
 --     end Next;
 use Rattle.std.specs.Prelude.{pos, false, List, [], ◌∷◌, ◌++◌, map, Some, None, codes}
 use Rattle.spx_tree.specs.declared.annotation.DerivesItem.{DerivesItem}
+use Rattle.spx_tree.specs.declared.annotation.Exports.TheVariants as exports
 use Rattle.spx_tree.specs.declared.expression.InfixOp.TheVariants as op
 use Rattle.spx_tree.specs.declared.expression.Name.TheVariants.{Simple}
 use Rattle.spx_tree.specs.declared.expression.Expr.{Expr}
@@ -50,11 +51,11 @@ use Rattle.spx_examples.specs.Increment.{place, word, x_written, successor_writt
 
 -- `X : in out Integer`
 abbrev pub formal_written : Param
-formal_written = record { names = word (codes "X") 1 17 ∷ []; mode = written.InOut; type_name = Simple (word (codes "Integer") 1 28) }
+formal_written = record { names = word (codes "X") 1 17 ∷ []; mode = written.InOut (place 1 21); type_name = Simple (word (codes "Integer") 1 28) }
 
 -- `X from X`
 abbrev pub relation_written : DerivesItem
-relation_written = record { exports = x_written 2 13 ∷ []; imports = record { itself = None; names = x_written 2 20 ∷ [] } }
+relation_written = record { exports = exports.Names (x_written 2 13 ∷ []); imports = record { itself = None; names = x_written 2 20 ∷ [] } }
 
 -- `X < 100`
 abbrev pub below_written : Expr
@@ -102,11 +103,11 @@ next_declared = record { name = word (codes "Next") 1 11; entity = entity.Subpro
 
 -- `X : in out Integer`
 abbrev pub formal : CoreParam
-formal = record { names = x_declared ∷ []; mode = written.InOut; type_name = record { root = integer_at 1 28; way = [] } }
+formal = record { names = x_declared ∷ []; mode = written.InOut (place 1 21); type_name = record { root = integer_at 1 28; way = [] } }
 
 -- `X from X`
 abbrev pub relation : CoreDerivesItem
-relation = record { exports = x_named 2 13 ∷ []; itself = None; imports = x_named 2 20 ∷ [] }
+relation = record { null = None; exports = x_named 2 13 ∷ []; itself = None; imports = x_named 2 20 ∷ [] }
 
 -- `X < 100`
 abbrev pub below_hundred : CoreExpr
@@ -146,17 +147,21 @@ next_effect = next (choose ((place 5 7, x) ∷ []) (next (assign (Some x) ((plac
 
 -- ---- the paths
 
+-- the value of X now
+abbrev pub x_now : Term
+x_now = now_term next_program x
+
 -- `X < 100`, of the value now
 abbrev pub below_now : Term
-below_now = term.Infix sign.Less (now_term x) (term.Number (pos 100))
+below_now = term.Infix sign.Less x_now (term.Number (pos 100))
 
 -- `X + 1`, of the value now
 abbrev pub next_now : Term
-next_now = term.Infix sign.Add (now_term x) (term.Number (pos 1))
+next_now = term.Infix sign.Add x_now (term.Number (pos 1))
 
 -- X stands for its entry value, which lies in its type
 abbrev pub entering_steps : List PathStep
-entering_steps = path.Assign (now x) entry_x ∷ path.Assume (at_least_first (now_term x)) ∷ path.Assume (at_most_last (now_term x)) ∷ []
+entering_steps = path.Assign (now next_program x) entry_x ∷ path.Assume (at_least_first x_now) ∷ path.Assume (at_most_last x_now) ∷ []
 
 -- what is to be shown of the sum
 abbrev pub sum_checks : List Term
@@ -171,7 +176,7 @@ path_through_arm =
     ∷ map path.Assume sum_checks
     ++ path.Prove Range (place 6 14) sum_checks
     ∷ map path.Assume sum_checks
-    ++ path.Assign (now x) next_now
+    ++ path.Assign (now next_program x) next_now
     ∷ []
 
 -- and past it

@@ -13,8 +13,11 @@
 use Rattle.std.specs.Prelude.{ℕ, ◌+◌, pos, false, List, [], ◌∷◌, ◌++◌, Some, None, codes}
 use Rattle.spx_tree.specs.declared.expression.InfixOp.TheVariants as op
 use Rattle.spx_tree.specs.declared.subprogram.WrittenMode.{WrittenMode}
+use Rattle.spx_tree.specs.declared.subprogram.WrittenMode.TheVariants as written
 use Rattle.spx_core.specs.declared.entity.TheConstants.{INTEGER}
 use Rattle.spx_core.specs.declared.entity.VarId.{VarId}
+use Rattle.spx_core.specs.declared.entity.Mode.{Mode}
+use Rattle.spx_core.specs.declared.entity.Mode.TheVariants.{In, Out, InOut}
 use Rattle.spx_core.specs.declared.entity.VarKind.TheVariants.{Formal, Local}
 use Rattle.spx_core.specs.declared.entity.Entity.{Entity}
 use Rattle.spx_core.specs.declared.entity.Entity.TheVariants as entity
@@ -30,9 +33,9 @@ use Rattle.spx_core.specs.declared.dependency.CoreDerivesItem.{CoreDerivesItem}
 use Rattle.spx_core.specs.declared.subprogram.CoreParam.{CoreParam}
 use Rattle.spx_core.specs.declared.subprogram.CorePrecondition.{CorePrecondition}
 use Rattle.spx_core.specs.declared.subprogram.Sub.{Sub}
-use Rattle.spx_core.specs.Resolved.{mode_of}
 use Rattle.spx_examples.specs.Branches.{arm}
 use Rattle.spx_examples.specs.Increment.{place, word, x, integer_at}
+use Rattle.spx_examples.specs.Operators.{true_at}
 use Rattle.spx_examples.specs.Flag.{y, formal_of, x_at, named, one, closing, flag, flag_program}
 
 -- the program of one procedure
@@ -42,15 +45,15 @@ only sub = record flag_program { subs = sub ∷ [] }
 -- ---- annotations
 
 -- `X` and `Y` in line 2, formals of these modes
-abbrev pub x_of : WrittenMode → ℕ → Reference
-x_of mode column = named (record { name = word (codes "X") 2 column; entity = Some (formal_of x (mode_of mode)) })
+abbrev pub x_of : Mode → ℕ → Reference
+x_of mode column = named (record { name = word (codes "X") 2 column; entity = Some (formal_of x mode) })
 
-abbrev pub y_of : WrittenMode → ℕ → Reference
-y_of mode column = named (record { name = word (codes "Y") 2 column; entity = Some (formal_of y (mode_of mode)) })
+abbrev pub y_of : Mode → ℕ → Reference
+y_of mode column = named (record { name = word (codes "Y") 2 column; entity = Some (formal_of y mode) })
 
 -- exports `from` imports
 abbrev pub item : (exports imports : List Reference) → CoreDerivesItem
-item exports imports = record { exports = exports; itself = None; imports = imports }
+item exports imports = record { null = None; exports = exports; itself = None; imports = imports }
 
 -- exports `from *`, which stands at this column, and imports
 abbrev pub starred : (exports : List Reference) → ℕ → (imports : List Reference) → CoreDerivesItem
@@ -67,6 +70,10 @@ pre_on name = record { place = place 3 5; condition = expr.Infix op.Greater (pla
 -- a procedure with this precondition
 abbrev pub requiring : Sub → CoreName → Sub
 requiring sub name = record sub { pre = Some (pre_on name) }
+
+-- a procedure with the precondition `True`
+abbrev pub requiring_true : Sub → Sub
+requiring_true sub = record sub { pre = Some (record { place = place 3 5; condition = expr.Name (true_at 3 9) }) }
 
 -- ---- statements
 
@@ -92,18 +99,24 @@ idle sub = record sub { statements = stmt.Null (place 5 4) ∷ [] }
 
 -- ---- formals of other modes
 
+-- a mode as it is written, at its column
+abbrev pub written_as : Mode → ℕ → WrittenMode
+written_as In column = written.In (place 1 column)
+written_as Out column = written.Out
+written_as InOut column = written.InOut (place 1 column)
+
 -- a parameter, at the column of its name
-abbrev pub param : List ℕ → VarId → WrittenMode → ℕ → CoreParam
+abbrev pub param : List ℕ → VarId → Mode → ℕ → CoreParam
 param text v mode column = record {
-  names = record { name = word text 1 column; entity = formal_of v (mode_of mode); again = false } ∷ [];
-  mode = mode;
+  names = record { name = word text 1 column; entity = formal_of v mode; again = false } ∷ [];
+  mode = written_as mode (column + 4);
   type_name = named (integer_at 1 (column + 11));
 }
 
 -- `Flag` with X and Y of these modes, which derives these items and does nothing
-abbrev pub with_modes : (m n : WrittenMode) → List CoreDerivesItem → Program
+abbrev pub with_modes : (m n : Mode) → List CoreDerivesItem → Program
 with_modes m n items = record flag_program {
-  vars = record { name = codes "X"; kind = Formal (mode_of m); type_id = INTEGER.id } ∷ record { name = codes "Y"; kind = Formal (mode_of n); type_id = INTEGER.id } ∷ [];
+  vars = record { name = codes "X"; kind = Formal m; type_id = INTEGER.id } ∷ record { name = codes "Y"; kind = Formal n; type_id = INTEGER.id } ∷ [];
   subs = record (idle (with_items items)) { formal_part = Some (record { place = place 1 16; params = param (codes "X") x m 17 ∷ param (codes "Y") y n 37 ∷ [] }) } ∷ [];
 }
 

@@ -3,14 +3,15 @@ use Rattle.std.specs.Prelude.{ℕ, ℤ, pos, false, List, [], ◌∷◌, ◌++�
 use Rattle.spx_tree.specs.declared.expression.InfixOp.TheVariants as op
 use Rattle.spx_tree.specs.declared.expression.PrefixOp.TheVariants.{Minus}
 use Rattle.spx_tree.specs.declared.subprogram.WrittenMode.TheVariants as written
-use Rattle.spx_core.specs.declared.entity.TheConstants.{INTEGER}
+use Rattle.spx_core.specs.declared.entity.TheConstants.{INTEGER, NATURAL}
 use Rattle.spx_core.specs.declared.entity.Entity.{Entity}
 use Rattle.spx_core.specs.declared.entity.Entity.TheVariants as entity
-use Rattle.spx_core.specs.declared.entity.Mode.TheVariants.{Out}
+use Rattle.spx_core.specs.declared.entity.Mode.TheVariants.{Out, InOut}
 use Rattle.spx_core.specs.declared.entity.VarKind.TheVariants.{Formal, Local}
 use Rattle.spx_core.specs.declared.expression.CoreExpr.{CoreExpr}
 use Rattle.spx_core.specs.declared.expression.CoreExpr.TheVariants as expr
 use Rattle.spx_core.specs.declared.name.CoreName.{CoreName}
+use Rattle.spx_core.specs.declared.name.Reference.{Reference}
 use Rattle.spx_core.specs.declared.program.Program.{Program}
 use Rattle.spx_core.specs.declared.statement.CoreDecl.TheVariants.{Variables}
 use Rattle.spx_core.specs.declared.statement.CoreStmt.{CoreStmt}
@@ -20,7 +21,7 @@ use Rattle.spx_term.specs.declared.value.Value.{Value}
 use Rattle.spx_term.specs.declared.value.Value.TheVariants as value
 use Rattle.spx_examples.specs.Branches.{arm}
 use Rattle.spx_examples.specs.Increment.{place, word, x, x_at, x_named, x_declared, integer_at, successor, formal, increment}
-use Rattle.spx_examples.specs.Refused.{inc_without_pre, increment_without_pre}
+use Rattle.spx_examples.specs.Refused.{inc_without_pre}
 use Rattle.spx_examples.specs.Flag.{y, formal_of, named, flag, flag_program}
 use Rattle.spx_examples.specs.Flag as flags
 
@@ -120,7 +121,7 @@ out_x_at line column = record { name = word (codes "X") line column; entity = So
 abbrev pub out_sub : List CoreStmt → Sub
 out_sub statements = record inc_without_pre {
   formal_part = Some (record { place = place 1 15; params = record formal { names = record x_declared { entity = out_x } ∷ []; mode = written.Out; type_name = named (integer_at 1 24) } ∷ [] });
-  derives = Some (record { place = place 2 5; items = record { exports = named (out_x_at 2 13) ∷ []; itself = None; imports = [] } ∷ [] });
+  derives = Some (record { place = place 2 5; items = record { null = None; exports = named (out_x_at 2 13) ∷ []; itself = None; imports = [] } ∷ [] });
   statements = statements;
 }
 
@@ -142,11 +143,43 @@ inc_without_derives = record inc_without_pre { derives = None }
 abbrev pub increment_without_derives : Program
 increment_without_derives = record increment { subs = inc_without_derives ∷ [] }
 
--- ---- a type `Integer` that ends at 100, over the same base range: no text has this program yet
+-- ---- X of the subtype `Natural`
+--
+--     procedure Inc (X : in out Natural)
+--     --# derives X from X;
+--
+--     is
+--     begin
+--        X := - X;
+--     end Inc;
 
--- the program
-abbrev pub increment_to_hundred : Program
-increment_to_hundred = record increment_without_pre { types = record { name = codes "Integer"; subtype = record INTEGER { last = pos 100 } } ∷ [] }
+-- what `X` denotes
+abbrev pub natural_x : Entity
+natural_x = entity.Variable x (record { kind = Formal InOut; subtype = NATURAL })
+
+-- `X`, at its line and column
+abbrev pub natural_x_at : ℕ → ℕ → CoreName
+natural_x_at line column = record { name = word (codes "X") line column; entity = Some natural_x }
+
+-- `Natural`
+abbrev pub natural_named : Reference
+natural_named = named (record { name = word (codes "Natural") 1 27; entity = Some (entity.TypeName NATURAL) })
+
+-- `- X`
+abbrev pub natural_negated : CoreExpr
+natural_negated = expr.Prefix Minus (place 6 9) (expr.Name (natural_x_at 6 11))
+
+-- the procedure
+abbrev pub natural_sub : Sub
+natural_sub = record inc_without_pre {
+  formal_part = Some (record { place = place 1 15; params = record formal { names = record x_declared { entity = natural_x } ∷ []; type_name = natural_named } ∷ [] });
+  derives = Some (record { place = place 2 5; items = record { null = None; exports = named (natural_x_at 2 13) ∷ []; itself = None; imports = named (natural_x_at 2 20) ∷ [] } ∷ [] });
+  statements = stmt.Assignment (named (natural_x_at 6 4)) natural_negated ∷ [];
+}
+
+-- its program
+abbrev pub natural_program : Program
+natural_program = record increment { vars = record { name = codes "X"; kind = Formal InOut; type_id = NATURAL.id } ∷ []; subs = natural_sub ∷ [] }
 
 -- ---- `Flag` with the precondition `X > 0`
 --

@@ -7,15 +7,15 @@ ghost use Rattle.spx_core.specs.declared.entity.TheConstants.{INTEGER_FIRST};
 ghost use Rattle.spx_core.specs.declared.rule.Breach.{Breach};
 ghost use Rattle.spx_core.specs.declared.rule.RuleName.TheVariants.{N12};
 ghost use Rattle.spx_core.specs.declared.statement.CoreStmt.{CoreStmt};
-ghost use Rattle.spx_core.specs.Statements.{judged_program};
+ghost use Rattle.spx_core.specs.Statements.{Typed, judged_program};
 ghost use Rattle.spx_term.specs.declared.value.Value.{Value};
 ghost use Rattle.spx_term.specs.declared.value.Value.TheVariants as value;
 ghost use Rattle.spx_meaning.specs.declared.bad.BadKind.TheVariants.{Overflow, Pre, Range, Unset};
 ghost use Rattle.spx_meaning.specs.Laws.{Start};
 ghost use Rattle.spx_meaning.specs.Runs.{Bad, Ended, call};
 ghost use Rattle.spx_examples.specs.Increment.{place, inc, increment};
-ghost use Rattle.spx_examples.specs.Refused.{inc_without_pre, x_is_last};
-ghost use Rattle.spx_examples.specs.Variants.{number, local_sub, local_program, only_null, giving, the_local, negated, past_last, testing, out_sub, out_program, itself, increment_to_hundred};
+ghost use Rattle.spx_examples.specs.Refused.{x_is_last};
+ghost use Rattle.spx_examples.specs.Variants.{number, local_sub, local_program, only_null, giving, the_local, negated, past_last, testing, out_sub, out_program, itself, natural_sub, natural_program};
 
 /// `Inc` may be called where X is 41. It may not where its precondition is false, where X is unset, or where the value of X is none of
 /// its type, be it a number or not. In each of these cases the other demands are met.
@@ -38,12 +38,13 @@ pub fn a_sign_may_overflow()
     ensures from_first { (n : ℕ) (y : Option Value) → call (local_program (giving negated)) n (local_sub (giving negated)) (number INTEGER_FIRST ∷ y ∷ []) ≡ Bad Overflow (place 6 9) }
 {}
 
-/// A value that passes the overflow check and lies outside the type of its target is bad at the value. Since `Integer` is its own base
-/// range, no text has such a program yet: in `inside` and `outside` the table of types has a narrower one. The nearest text gives X a
-/// literal past the last number, which no check looks at; rule N12 refuses it.
+/// A value that passes the overflow check and lies outside the type of its target is bad at the value: `- X` is a number of `Integer`
+/// where X is 41, and none of `Natural`. So is a literal past the last number, which is static and brings no overflow check; rule N12
+/// refuses it.
 pub fn a_value_outside_its_type_is_bad()
-    ensures inside { (n : ℕ) → call increment_to_hundred n inc_without_pre (number (pos 99) ∷ []) ≡ Ended (number (pos 100) ∷ []) }
-    ensures outside { (n : ℕ) → call increment_to_hundred n inc_without_pre (number (pos 100) ∷ []) ≡ Bad Range (place 6 11) }
+    ensures typed { Typed natural_program }
+    ensures inside { (n : ℕ) → call natural_program n natural_sub (number (pos 0) ∷ []) ≡ Ended (number (pos 0) ∷ []) }
+    ensures outside { (n : ℕ) → call natural_program n natural_sub (number (pos 41) ∷ []) ≡ Bad Range (place 6 9) }
     ensures refused { judged_program (local_program (giving past_last)) ≡ Err (record { rule = N12; place = place 6 9 }) }
     ensures literal { (n : ℕ) (x y : Option Value) → call (local_program (giving past_last)) n (local_sub (giving past_last)) (x ∷ y ∷ []) ≡ Bad Range (place 6 9) }
 {}

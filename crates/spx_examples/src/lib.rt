@@ -8,6 +8,7 @@ pub mod call_laws;
 pub mod flow_laws;
 pub mod laws;
 pub mod name_rule_laws;
+pub mod operator_laws;
 pub mod run_laws;
 pub mod sequent_laws;
 pub mod text_laws;

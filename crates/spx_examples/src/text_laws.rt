@@ -4,7 +4,7 @@ ghost use Rattle.spx_tree.specs.Form.{forms_of};
 ghost use Rattle.spx_tree.specs.Goes.{Answers, Expected, TooDeep, place_with};
 ghost use Rattle.spx_tree.specs.Grammar.{IsExpr, IsFile};
 ghost use Rattle.spx_tree.specs.Numbers.{IsNumber};
-ghost use Rattle.spx_tree.specs.Places.{place_behind};
+ghost use Rattle.spx_tree.specs.Places.{place_after_bytes};
 ghost use Rattle.spx_tree.specs.Spells.{Spells};
 ghost use Rattle.spx_tree.specs.Stops.{StopsAt, bad_byte, bad_number, too_wide};
 ghost use Rattle.spx_tree.specs.Written.{program, written_expr, written};
@@ -60,10 +60,10 @@ pub fn texts_are_stopped()
     ensures widest { Spells 0 widest_number widest_tokens }
     ensures unnamed_spelled { Spells 0 unnamed unnamed_tokens }
     ensures unnamed_answer { Answers written IsFile 200 (forms_of unnamed unnamed_tokens) (Err (Expected 1)) }
-    ensures unnamed_place { place_with (place_behind 0 unnamed) unnamed_tokens 1 ≡ place 1 11 }
+    ensures unnamed_place { place_with (place_after_bytes 0 unnamed) unnamed_tokens 1 ≡ place 1 11 }
     ensures cut_short_spelled { Spells 0 cut_short cut_short_tokens }
     ensures cut_short_answer { Answers written IsFile 200 (forms_of cut_short cut_short_tokens) (Err (Expected 0)) }
-    ensures cut_short_place { place_with (place_behind 0 cut_short) cut_short_tokens 0 ≡ place 2 1 }
+    ensures cut_short_place { place_with (place_after_bytes 0 cut_short) cut_short_tokens 0 ≡ place 2 1 }
 {}
 
 /// `X + 1` is an expression of one level: within one it is read, and within none its operator lies too deep.

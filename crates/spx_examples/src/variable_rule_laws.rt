@@ -3,13 +3,13 @@
 #![tactic(auto, unfolding(spx_core::specs::Obeyed::first_rule_breach))]
 
 ghost use Rattle.std.specs.Prelude.{◌≡◌, [], ◌∷◌, None};
-ghost use Rattle.spx_tree.specs.declared.subprogram.WrittenMode.TheVariants.{In, Out, InOut};
+ghost use Rattle.spx_core.specs.declared.entity.Mode.TheVariants.{In, Out, InOut};
 ghost use Rattle.spx_core.specs.declared.rule.RuleName.TheVariants.{U2, U7, U8, U11};
 ghost use Rattle.spx_core.specs.Obeyed.{first_rule_breach};
 ghost use Rattle.spx_examples.specs.Flag.{x_at, y_at, positive, relation, flag, flag_program};
 ghost use Rattle.spx_examples.specs.Increment.{place, increment};
 ghost use Rattle.spx_examples.specs.NameRules.{breach};
-ghost use Rattle.spx_examples.specs.VariableRules.{only, x_of, y_of, z_of, item, starred, with_items, requiring, setting_x_if, never, with_modes, with_local_z, bare};
+ghost use Rattle.spx_examples.specs.VariableRules.{only, x_of, y_of, z_of, item, starred, with_items, requiring, requiring_true, setting_x_if, never, with_modes, with_local_z, bare};
 
 /// X has the mode `in`, so that `X := 1` breaks U2, also in an arm that is never run. A formal `out` or `in out` may be assigned.
 pub fn an_assigned_formal_of_mode_in_breaks_u2()
@@ -66,10 +66,11 @@ pub fn modes_agree_with_the_relation()
     ensures kept { first_rule_breach (with_modes InOut InOut (starred (x_of InOut 13 ∷ y_of InOut 16 ∷ []) 23 [] ∷ [])) ≡ None }
 {}
 
-/// Y is no import, so that `pre Y > 0;` breaks U11, and `pre X > 0;` does not.
+/// Y is no import, so that `pre Y > 0;` breaks U11, and `pre X > 0;` does not. Nor does `pre True;`, which names no variable.
 pub fn a_precondition_on_an_export_breaks_u11()
     ensures export { first_rule_breach (only (requiring flag (y_at 3 9))) ≡ breach U11 3 9 }
     ensures import { first_rule_breach (only (requiring flag (x_at 3 9))) ≡ None }
+    ensures literal { first_rule_breach (only (requiring_true flag)) ≡ None }
 {}
 
 /// The rules come in the order U7, U8, U11, U2: each of these programs breaks one and those after it.

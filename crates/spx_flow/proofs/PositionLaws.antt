@@ -14,11 +14,13 @@ use Rattle.spx_text.specs.declared.place.Place.{Place}
 use Rattle.spx_tree.specs.declared.expression.Identifier.{Identifier}
 use Rattle.spx_tree.specs.declared.expression.InfixOp.{InfixOp}
 use Rattle.spx_tree.specs.declared.expression.PrefixOp.{PrefixOp}
+use Rattle.spx_tree.specs.declared.expression.MemberOp.{MemberOp}
 use Rattle.spx_core.specs.declared.entity.VarId.{VarId}
 use Rattle.spx_core.specs.declared.name.CoreName.{CoreName}
+use Rattle.spx_core.specs.declared.name.Reference.{Reference}
 use Rattle.spx_core.specs.declared.expression.CoreExpr.{CoreExpr}
 use Rattle.spx_core.specs.declared.statement.CoreStmt.{CoreStmt}
-use Rattle.spx_core.specs.declared.expression.CoreExpr.TheVariants.{Number, Name, Attribute, Parenthesized, Prefix, Infix}
+use Rattle.spx_core.specs.declared.expression.CoreExpr.TheVariants.{Number, Name, Attribute, Parenthesized, Prefix, Infix, InType, InRange}
 use Rattle.spx_core.specs.Uses.{denotes, is_same, variable_of}
 use Rattle.spx_core.specs.Reads.{names_read, names_step}
 use Rattle.spx_core.specs.Effects.{Effect, effect, effects, is_read, reads, reads_of, sets}
@@ -27,7 +29,7 @@ use Rattle.spx_core.specs.Flow.{MayFlow}
 use Rattle.spx_core.specs.Mirror.VarSets.{holds, place_in_set}
 use Rattle.spx_flow.specs.Positions.{Covers, Stands, position_named, positions_read}
 use Rattle.spx_flow.specs.Targets.{positions_in}
-use Rattle.spx_core.proofs.Callers.Expressions.{fold-Number, fold-Name, fold-Attribute, fold-Parenthesized, fold-Prefix, fold-Infix}
+use Rattle.spx_core.proofs.Callers.Expressions.{fold-Number, fold-Name, fold-Attribute, fold-Parenthesized, fold-Prefix, fold-Infix, fold-InType, fold-InRange}
 use Rattle.spx_core.proofs.Callers.FlowLaws.{keeps, reads_any, reads_uses, sets_any}
 use Rattle.spx_core.proofs.Callers.ListTests.{found, passes}
 use Rattle.spx_core.proofs.Callers.Variables.{same_itself, same_var}
@@ -53,7 +55,17 @@ module _ (set : List ℕ) where
   pub positions-Infix : (op : InfixOp) (place : Place) (a b : CoreExpr) → positions_read set (Infix op place a b) ≡ positions_read set a ++ positions_read set b
   positions-Infix op place a b = ap (filter_map (position_named set)) (fold-Infix names_step op place a b) ∙ filter_map-append (position_named set) (names_read a) (names_read b)
 
-pub ruleset positions_forms = (positions-Number, positions-Name, positions-Attribute, positions-Parenthesized, positions-Prefix, positions-Infix, append_assoc)
+  pub positions-InType : (op : MemberOp) (place : Place) (a : CoreExpr) (name : Reference) → positions_read set (InType op place a name) ≡ positions_read set a
+  positions-InType op place a name = ap (filter_map (position_named set)) (fold-InType names_step op place a name)
+
+  pub positions-InRange : (op : MemberOp) (place : Place) (a low high : CoreExpr)
+      → positions_read set (InRange op place a low high) ≡ positions_read set a ++ (positions_read set low ++ positions_read set high)
+  positions-InRange op place a low high =
+      ap (filter_map (position_named set)) (fold-InRange names_step op place a low high)
+      ∙ filter_map-append (position_named set) (names_read a) (names_read low ++ names_read high)
+      ∙ ap (λ l. positions_read set a ++ l) (filter_map-append (position_named set) (names_read low) (names_read high))
+
+pub ruleset positions_forms = (positions-Number, positions-Name, positions-Attribute, positions-Parenthesized, positions-Prefix, positions-Infix, positions-InType, positions-InRange, append_assoc)
 
 -- ---- positions and variables
 

@@ -38,6 +38,13 @@ fn add_positions(vars: &VarSet, value: &CoreExpr, found: &mut Vec<usize>) -> Res
             add_positions(vars, right.get(), found)?;
             Ok(())
         }
+        CoreExpr::InType(_, _, tested, _) => add_positions(vars, tested.get(), found),
+        CoreExpr::InRange(_, _, tested, low, high) => {
+            add_positions(vars, tested.get(), found)?;
+            add_positions(vars, low.get(), found)?;
+            add_positions(vars, high.get(), found)?;
+            Ok(())
+        }
     }
 }
 

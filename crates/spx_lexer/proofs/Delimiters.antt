@@ -1,4 +1,4 @@
--- The longest delimiter in front of a text.
+-- The longest delimiter before a text.
 use Rattle.std.proofs.Common.{◌≡◌, ℕ, suc, ◌≤◌, Bool, true, false, cond, List, [], ◌∷◌, ◌++◌, length, Option, Some, None, refl, sym, ap, ◌∙◌, arith}
 use Rattle.std.specs.Prelude.{◌&&◌, nat_le}
 use Rattle.std.specs.List.{list_all}
@@ -83,7 +83,7 @@ pub delimiter_found : (m : Bool) (a : ℕ) (bs : List ℕ) → IsFound m a bs (d
 unfolding delimiter_at
 delimiter_found m a bs = three_found m a bs (is_equivalence m a bs) refl
 
--- ---- and none in front is longer
+-- ---- and none at the front is longer
 
 abbrev pub len_of : Option (Kind × ℕ) → ℕ
 len_of None = 0

@@ -1,11 +1,11 @@
--- The longest exponent in front of a text.
+-- The longest exponent before a text.
 use Rattle.std.proofs.Common.{◌≡◌, ◌⊎◌, inl, inr, ℕ, suc, ◌+◌, ◌<◌, ◌≤◌, min, Bool, true, false, cond, List, [], ◌∷◌, ◌++◌, take, length, refl, sym, ap, ◌∙◌, arith, eqb, append_assoc, length-append}
 use Rattle.std.specs.Prelude.{◌||◌, codes}
 use Rattle.std.specs.Char.{digit_value}
 use Rattle.std.proofs.lemmas.Bool.{eqb-true, eqb-false, ne_eqb, or_cases}
 use Rattle.spx_tree.specs.Numbers.{IsNumeral, numeral_value, IsExponent, none, some}
 use Rattle.spx_lexer.specs.declared.lexer.numbers.Exponent.{Exponent}
-use Rattle.spx_lexer.specs.Pieces.{numeral_len, exponent, exponent_by, exponent_behind, exponent_at}
+use Rattle.spx_lexer.specs.Pieces.{numeral_len, exponent, exponent_by, exponent_following, exponent_at}
 use Rattle.spx_lexer.proofs.Numerals.{numeral, numeral_front, numeral_len-ge, numeral_some}
 
 -- ---- what is found
@@ -22,7 +22,7 @@ pub record HasExponent (bytes : List ℕ) (found : Exponent) : Type 0 where
 no_exponent : (bytes : List ℕ) → HasExponent bytes (exponent 0 0)
 no_exponent bytes = record { front = []; rest = bytes; e = 0; parts = refl; len = refl; is = none refl refl; value = refl }
 
--- the digits of an exponent stand behind these bytes
+-- the digits of an exponent stand after these bytes
 abbrev LeadsIn : List ℕ → Type 0
 LeadsIn before = (digits : List ℕ) → IsNumeral 10 digits → IsExponent (before ++ digits) (numeral_value 10 digits)
 
@@ -52,9 +52,9 @@ letter_leads b l digits d = some b [] digits refl l (inl refl) d refl
 plus_leads : (b c : ℕ) → (b ≡ 69) ⊎ (b ≡ 101) → c ≡ 43 → LeadsIn (b ∷ c ∷ [])
 plus_leads b c l e digits d = some b (c ∷ []) digits refl l (inr (ap (λ (x : ℕ). x ∷ []) e)) d refl
 
-behind_letter : (b : ℕ) (bytes : List ℕ) → (b ≡ 69) ⊎ (b ≡ 101) → HasExponent (b ∷ bytes) (exponent_behind bytes)
-behind_letter b [] l = exponent_by-found (b ∷ []) [] 1 refl (letter_leads b l)
-behind_letter b (c ∷ bytes) l = by_plus (eqb c 43) refl
+following_letter : (b : ℕ) (bytes : List ℕ) → (b ≡ 69) ⊎ (b ≡ 101) → HasExponent (b ∷ bytes) (exponent_following bytes)
+following_letter b [] l = exponent_by-found (b ∷ []) [] 1 refl (letter_leads b l)
+following_letter b (c ∷ bytes) l = by_plus (eqb c 43) refl
   where
     by_plus : (t : Bool) → eqb c 43 ≡ t → HasExponent (b ∷ c ∷ bytes) (cond t (exponent_by 2 bytes) (exponent_by 1 (c ∷ bytes)))
     by_plus true e = exponent_by-found (b ∷ c ∷ []) bytes 2 refl (plus_leads b c l (eqb-true c 43 e))
@@ -67,8 +67,8 @@ pub exponent_at-found : (bytes : List ℕ) → HasExponent bytes (exponent_at by
 exponent_at-found [] = no_exponent []
 exponent_at-found (b ∷ bytes) = by_letter (eqb b 69 || eqb b 101) refl
   where
-    by_letter : (t : Bool) → (eqb b 69 || eqb b 101) ≡ t → HasExponent (b ∷ bytes) (cond t (exponent_behind bytes) (exponent 0 0))
-    by_letter true e = behind_letter b bytes (letter_is b e)
+    by_letter : (t : Bool) → (eqb b 69 || eqb b 101) ≡ t → HasExponent (b ∷ bytes) (cond t (exponent_following bytes) (exponent 0 0))
+    by_letter true e = following_letter b bytes (letter_is b e)
     by_letter false e = no_exponent (b ∷ bytes)
 
 -- ---- and no longer one stands there
@@ -89,26 +89,26 @@ digit_no_plus c h = ne_eqb c 43 (λ e. plus_no_digit c e h)
     plus_no_digit : (x : ℕ) → x ≡ 43 → digit_value x < 10 → ⊥
     plus_no_digit x e g = let f : digit_value x ≡ 36 = ap digit_value e in omega arith
 
-behind_letter-ge : (sign digits rest : List ℕ) → (sign ≡ []) ⊎ (sign ≡ codes "+") → IsNumeral 10 digits → suc (length sign + length digits) ≤ (exponent_behind ((sign ++ digits) ++ rest)).len
-behind_letter-ge sign [] rest s d = absurd d
-behind_letter-ge sign (c ∷ digits) rest (inl s) d =
+following_letter-ge : (sign digits rest : List ℕ) → (sign ≡ []) ⊎ (sign ≡ codes "+") → IsNumeral 10 digits → suc (length sign + length digits) ≤ (exponent_following ((sign ++ digits) ++ rest)).len
+following_letter-ge sign [] rest s d = absurd d
+following_letter-ge sign (c ∷ digits) rest (inl s) d =
     let ge = exponent_by-ge 1 (c ∷ digits) rest d in
-    let len : (exponent_behind ((sign ++ (c ∷ digits)) ++ rest)).len ≡ (exponent_by 1 (c ∷ (digits ++ rest))).len =
-    ap (λ (x : List ℕ). (exponent_behind ((x ++ (c ∷ digits)) ++ rest)).len) s
+    let len : (exponent_following ((sign ++ (c ∷ digits)) ++ rest)).len ≡ (exponent_by 1 (c ∷ (digits ++ rest))).len =
+    ap (λ (x : List ℕ). (exponent_following ((x ++ (c ∷ digits)) ++ rest)).len) s
     ∙ ap (λ (t : Bool). (cond t (exponent_by 2 (digits ++ rest)) (exponent_by 1 (c ∷ (digits ++ rest)))).len) (digit_no_plus c d.0) in
     omega (arith, ap length s)
-behind_letter-ge sign (c ∷ digits) rest (inr s) d =
+following_letter-ge sign (c ∷ digits) rest (inr s) d =
     let ge = exponent_by-ge 2 (c ∷ digits) rest d in
-    let len : (exponent_behind ((sign ++ (c ∷ digits)) ++ rest)).len ≡ (exponent_by 2 (c ∷ (digits ++ rest))).len = ap (λ (x : List ℕ). (exponent_behind ((x ++ (c ∷ digits)) ++ rest)).len) s in
+    let len : (exponent_following ((sign ++ (c ∷ digits)) ++ rest)).len ≡ (exponent_by 2 (c ∷ (digits ++ rest))).len = ap (λ (x : List ℕ). (exponent_following ((x ++ (c ∷ digits)) ++ rest)).len) s in
     omega (arith, ap length s)
 
-letter_found : (b : ℕ) (bytes : List ℕ) → (b ≡ 69) ⊎ (b ≡ 101) → (exponent_at (b ∷ bytes)).len ≡ (exponent_behind bytes).len
+letter_found : (b : ℕ) (bytes : List ℕ) → (b ≡ 69) ⊎ (b ≡ 101) → (exponent_at (b ∷ bytes)).len ≡ (exponent_following bytes).len
 letter_found b bytes (inl e) = ap (λ (x : ℕ). (exponent_at (x ∷ bytes)).len) e
 letter_found b bytes (inr e) = ap (λ (x : ℕ). (exponent_at (x ∷ bytes)).len) e
 
 pub exponent_at-ge : (x rest : List ℕ) (e : ℕ) → IsExponent x e → length x ≤ (exponent_at (x ++ rest)).len
 exponent_at-ge x rest e (none p v) = omega (arith, ap length p)
 exponent_at-ge x rest e (some letter sign digits p l s d v) =
-    let ge = behind_letter-ge sign digits rest s d in
-    let len : (exponent_at (x ++ rest)).len ≡ (exponent_behind ((sign ++ digits) ++ rest)).len = ap (λ (y : List ℕ). (exponent_at (y ++ rest)).len) p ∙ letter_found letter ((sign ++ digits) ++ rest) l in
+    let ge = following_letter-ge sign digits rest s d in
+    let len : (exponent_at (x ++ rest)).len ≡ (exponent_following ((sign ++ digits) ++ rest)).len = ap (λ (y : List ℕ). (exponent_at (y ++ rest)).len) p ∙ letter_found letter ((sign ++ digits) ++ rest) l in
     omega (arith, ap length p, length-append sign digits)

@@ -24,7 +24,7 @@ finds_by m b bs false false false false false e es eh el ed =
     let nh = not_hyphens b bs eh in
     mark_finds m b bs (delimiter_at m b bs) (λ none. record { no_line_end = e; no_separator = es; no_hyphens = nh; no_letter = el; no_digit = ed; no_delimiter = none }) nh refl (delimiter_found m b bs)
 
--- What is found stands in front of the text, and where nothing is found the text is stopped.
+-- What is found stands before the text, and where nothing is found the text is stopped.
 pub piece_at-finds : (m : Bool) (bytes : List ℕ) → 0 < length bytes → Finds m bytes (piece_at m bytes)
 unfolding piece_at lexeme_at
 piece_at-finds m [] some = absurd (omega arith)

@@ -1,4 +1,4 @@
--- The longest number in front of a text.
+-- The longest number before a text.
 use Rattle.std.proofs.Common.{◌≡◌, ◌⊎◌, inl, inr, ℕ, ◌+◌, ◌*◌, ◌^◌, ◌≤◌, min, List, [], ◌∷◌, ◌++◌, drop, length, Option, refl, sym, ap, subst, ◌∙◌, arith, append_assoc, length-append}
 use Rattle.std.proofs.lemmas.List.{drop_at}
 use Rattle.spx_tree.specs.Numbers.{IsNumeral, numeral_value, IsExponent, none, some, IsNumber, decimal, based}
@@ -25,10 +25,10 @@ unfolding number_in
 number_in-found bytes r =
     let found = digits_at bytes in
     let d = digits_at-found bytes r in
-    let behind : drop found.len bytes ≡ d.rest = ap (drop found.len) d.parts ∙ drop_at d.front d.rest found.len d.len in
+    let following : drop found.len bytes ≡ d.rest = ap (drop found.len) d.parts ∙ drop_at d.front d.rest found.len d.len in
     let x = exponent_at-found d.rest in
     let n = d.value * found.base ^ x.e in
-    subst (λ (y : List ℕ). HasNumber bytes (number_by found (exponent_at y))) (sym behind)
+    subst (λ (y : List ℕ). HasNumber bytes (number_by found (exponent_at y))) (sym following)
     (
     record {
       front = d.front ++ x.front;
@@ -45,12 +45,12 @@ number_in-found bytes r =
 
 -- ---- and no longer one stands there
 
--- digits of this length, and an exponent behind them
+-- digits of this length, and an exponent after them
 with_exponent : (bytes front x rest : List ℕ) (e : ℕ) → bytes ≡ front ++ (x ++ rest) → (digits_at bytes).len ≡ length front → IsExponent x e → length front + length x ≤ (number_in bytes).len
 unfolding number_in
 with_exponent bytes front x rest e p len h =
-    let behind : drop (digits_at bytes).len bytes ≡ x ++ rest = ap (drop (digits_at bytes).len) p ∙ drop_at front (x ++ rest) (digits_at bytes).len (sym len) in
-    omega (arith, exponent_at-ge x rest e h, ap (λ (y : List ℕ). (exponent_at y).len) behind)
+    let following : drop (digits_at bytes).len bytes ≡ x ++ rest = ap (drop (digits_at bytes).len) p ∙ drop_at front (x ++ rest) (digits_at bytes).len (sym len) in
+    omega (arith, exponent_at-ge x rest e h, ap (λ (y : List ℕ). (exponent_at y).len) following)
 
 digits_only : (bytes : List ℕ) → (digits_at bytes).len ≤ (number_in bytes).len
 unfolding number_in

@@ -16,11 +16,11 @@ use Rattle.spx_lexer.proofs.Delimiters.{Delimiter, IsFound, len_of, delimiter_at
 use Rattle.spx_lexer.proofs.Found.{Found, Finds, nil_by_len, head_is, tail_is}
 
 delimiter_maximal : (m : Bool) (a : ℕ) (front rest : List ℕ) (k : Kind) → kind_of (delimiters m) (a ∷ front) ≡ Some k → len_of (delimiter_at m a (front ++ rest)) ≡ suc (length front) → IsMaximal m (a ∷ front) rest
-delimiter_maximal m a front rest k e len more behind l n f (word w g h) = absurd (both_ways (is_ascii_alphabetic a) (delimiter_mark m a front k e).no_letter w.0)
-delimiter_maximal m a front rest k e len more behind l n f (numeral v d g h) = absurd (both_ways (is_ascii_digit a) (delimiter_mark m a front k e).no_digit (number_digit a (front ++ more) v d))
-delimiter_maximal m a front rest k e len more behind l n f (delimiter g h) =
-    let le = delimiter_at-longest m a (front ++ more) behind l g in
-    let same : (front ++ more) ++ behind ≡ front ++ rest = append_assoc front more behind ∙ ap (λ (x : List ℕ). front ++ x) (sym f) in
+delimiter_maximal m a front rest k e len more following l n f (word w g h) = absurd (both_ways (is_ascii_alphabetic a) (delimiter_mark m a front k e).no_letter w.0)
+delimiter_maximal m a front rest k e len more following l n f (numeral v d g h) = absurd (both_ways (is_ascii_digit a) (delimiter_mark m a front k e).no_digit (number_digit a (front ++ more) v d))
+delimiter_maximal m a front rest k e len more following l n f (delimiter g h) =
+    let le = delimiter_at-longest m a (front ++ more) following l g in
+    let same : (front ++ more) ++ following ≡ front ++ rest = append_assoc front more following ∙ ap (λ (x : List ℕ). front ++ x) (sym f) in
     nil_by_len front more (omega (arith, ap (λ (x : List ℕ). len_of (delimiter_at m a x)) same))
 
 lone_hyphen : (a : ℕ) (bs front rest : List ℕ) → (eqb a 45 && begins_hyphen bs) ≡ false → bs ≡ front ++ rest → a ∷ front ≡ 45 ∷ [] → BeginsWith 45 rest → ⊥
@@ -50,23 +50,23 @@ pub record IsForeign (m : Bool) (a : ℕ) (bs : List ℕ) : Type 0 where
   pub no_digit : is_ascii_digit a ≡ false
   pub no_delimiter : delimiter_at m a bs ≡ None
 
-no_lexeme : (m : Bool) (a : ℕ) (bs : List ℕ) → IsForeign m a bs → (k : Kind) (n : ℤ) (front behind : List ℕ) → bs ≡ front ++ behind → IsLexeme m k n (a ∷ front) → ⊥
-no_lexeme m a bs h k n front behind e (word w f g) = both_ways (is_ascii_alphabetic a) h.no_letter w.0
-no_lexeme m a bs h k n front behind e (numeral v d f g) = both_ways (is_ascii_digit a) h.no_digit (number_digit a front v d)
-no_lexeme m a bs h k n front behind e (delimiter f g) =
-    absurd (omega (arith, delimiter_at-longest m a front behind k f, ap (λ (x : List ℕ). len_of (delimiter_at m a x)) (sym e), ap len_of h.no_delimiter))
+no_lexeme : (m : Bool) (a : ℕ) (bs : List ℕ) → IsForeign m a bs → (k : Kind) (n : ℤ) (front following : List ℕ) → bs ≡ front ++ following → IsLexeme m k n (a ∷ front) → ⊥
+no_lexeme m a bs h k n front following e (word w f g) = both_ways (is_ascii_alphabetic a) h.no_letter w.0
+no_lexeme m a bs h k n front following e (numeral v d f g) = both_ways (is_ascii_digit a) h.no_digit (number_digit a front v d)
+no_lexeme m a bs h k n front following e (delimiter f g) =
+    absurd (omega (arith, delimiter_at-longest m a front following k f, ap (λ (x : List ℕ). len_of (delimiter_at m a x)) (sym e), ap len_of h.no_delimiter))
 
-no_lexeme_at : (m : Bool) (a : ℕ) (bs : List ℕ) → IsForeign m a bs → (k : Kind) (n : ℤ) (front behind : List ℕ) → a ∷ bs ≡ front ++ behind → Stands m (lexeme k n) front behind → ⊥
-no_lexeme_at m a bs h k n [] behind e s = absurd (omega (arith, stands_some m (lexeme k n) [] behind s))
-no_lexeme_at m a bs h k n (c ∷ front) behind e s =
-    no_lexeme m a bs h k n front behind (tail_is a c bs (front ++ behind) e) (subst (λ (x : ℕ). IsLexeme m k n (x ∷ front)) (sym (head_is a c bs (front ++ behind) e)) s.0)
+no_lexeme_at : (m : Bool) (a : ℕ) (bs : List ℕ) → IsForeign m a bs → (k : Kind) (n : ℤ) (front following : List ℕ) → a ∷ bs ≡ front ++ following → Stands m (lexeme k n) front following → ⊥
+no_lexeme_at m a bs h k n [] following e s = absurd (omega (arith, stands_some m (lexeme k n) [] following s))
+no_lexeme_at m a bs h k n (c ∷ front) following e s =
+    no_lexeme m a bs h k n front following (tail_is a c bs (front ++ following) e) (subst (λ (x : ℕ). IsLexeme m k n (x ∷ front)) (sym (head_is a c bs (front ++ following) e)) s.0)
 
 foreign_shape : (m : Bool) (a : ℕ) (bs : List ℕ) → IsForeign m a bs → shape (a ∷ bs) ≡ other
 foreign_shape m a bs h = rw (h.no_line_end, h.no_separator, h.no_hyphens) refl
 
-nothing_stands : (m : Bool) (a : ℕ) (bs : List ℕ) → IsForeign m a bs → (role : Role) (front behind : List ℕ) → a ∷ bs ≡ front ++ behind → Stands m role front behind → ⊥
-nothing_stands m a bs h (lexeme k n) front behind e s = no_lexeme_at m a bs h k n front behind e s
-nothing_stands m a bs h role front behind e s = let f : other ≡ shape_of role = sym (foreign_shape m a bs h) ∙ ap shape e ∙ stands_shape m role front behind s in absurd cc
+nothing_stands : (m : Bool) (a : ℕ) (bs : List ℕ) → IsForeign m a bs → (role : Role) (front following : List ℕ) → a ∷ bs ≡ front ++ following → Stands m role front following → ⊥
+nothing_stands m a bs h (lexeme k n) front following e s = no_lexeme_at m a bs h k n front following e s
+nothing_stands m a bs h role front following e s = let f : other ≡ shape_of role = sym (foreign_shape m a bs h) ∙ ap shape e ∙ stands_shape m role front following s in absurd cc
 
 pub mark_finds : (m : Bool) (a : ℕ) (bs : List ℕ) (o : Option (Kind × ℕ)) → (delimiter_at m a bs ≡ None → IsForeign m a bs) → (eqb a 45 && begins_hyphen bs) ≡ false → delimiter_at m a bs ≡ o → IsFound m a bs o → Finds m (a ∷ bs) (mark_by o)
 mark_finds m a bs None foreign nh e d = (omega arith, nothing_stands m a bs (foreign e))

@@ -1,4 +1,4 @@
--- The digits of the longest number in front of a text, and their base.
+-- The digits of the longest number before a text, and their base.
 use Rattle.std.proofs.Common.{◌≡◌, ℕ, ◌+◌, ◌*◌, ◌^◌, ◌≤◌, Bool, true, false, cond, not, List, [], ◌∷◌, ◌++◌, take, drop, length, nat_lt, nat_le, Option, Some, None, inl, inr, refl, sym, ap, subst, ◌∙◌, arith, eqb, append_assoc, length-append}
 use Rattle.std.proofs.Math.Path.{ap₂}
 use Rattle.std.specs.Prelude.{◌&&◌}
@@ -8,10 +8,10 @@ use Rattle.spx_tree.specs.Numbers.{IsNumeral, numeral_value, IsExponent, IsNumbe
 use Rattle.spx_tree.proofs.Numbers.{stops, is_numeral_byte, hash_stops}
 use Rattle.spx_lexer.specs.declared.lexer.numbers.Digits.{Digits}
 use Rattle.spx_lexer.specs.Pieces.{numeral_len, fitting, base_of, begins_with_hash, digits, closed_digits, based_digits, digits_by, digits_at}
-use Rattle.spx_lexer.proofs.Numerals.{Numeral, numeral, numeral_front, numeral_behind, numeral_len-ge, numeral_some, numeral_len-exact}
+use Rattle.spx_lexer.proofs.Numerals.{Numeral, numeral, numeral_front, numeral_following, numeral_len-ge, numeral_some, numeral_len-exact}
 use Rattle.spx_lexer.proofs.Fitting.{fitting-small, fitting-some}
 
--- bytes are digits of this value, of base 10 or behind their base
+-- bytes are digits of this value, of base 10 or after their base
 pub data AreDigits (bytes : List ℕ) (base value : ℕ) : Type 0 where
   plain : IsNumeral 10 bytes → base ≡ 10 → value ≡ numeral_value 10 bytes → AreDigits bytes base value
   closed : (whole inner : List ℕ) → bytes ≡ whole ++ (35 ∷ (inner ++ (35 ∷ []))) → IsNumeral 10 whole → base ≡ numeral_value 10 whole → 2 ≤ base → base ≤ 16 → IsNumeral base inner → value ≡ numeral_value base inner → AreDigits bytes base value
@@ -52,9 +52,9 @@ abbrev IsClosed : ℕ → List ℕ → Option Digits → Type 0
 IsClosed base bytes None = Unit {0}
 IsClosed base bytes (Some found) = Closed base bytes found
 
-closing : (bytes rest : List ℕ) → bytes ≡ rest → begins_with_hash bytes ≡ true → (behind : List ℕ) × (rest ≡ 35 ∷ behind)
+closing : (bytes rest : List ℕ) → bytes ≡ rest → begins_with_hash bytes ≡ true → (following : List ℕ) × (rest ≡ 35 ∷ following)
 closing bytes [] e h = let f : begins_with_hash [] ≡ true = ap begins_with_hash (sym e) ∙ h in absurd cc
-closing bytes (c ∷ behind) e h = (behind, ap (λ (x : ℕ). x ∷ behind) (eqb-true c 35 (ap begins_with_hash (sym e) ∙ h)))
+closing bytes (c ∷ following) e h = (following, ap (λ (x : ℕ). x ∷ following) (eqb-true c 35 (ap begins_with_hash (sym e) ∙ h)))
 
 closed_digits-found : (base : ℕ) (bytes : List ℕ) → IsClosed base bytes (closed_digits base bytes)
 unfolding closed_digits
@@ -69,7 +69,7 @@ closed_digits-found base bytes = by_test (nat_lt 0 (numeral_len base bytes) && b
         elim (numeral base bytes) [
           | inl none ↦ absurd (omega (arith, ltb-true 0 n h.0))
           | inr r ↦
-              let c = closing (drop n bytes) r.rest (numeral_behind base bytes n r) h.1 in
+              let c = closing (drop n bytes) r.rest (numeral_following base bytes n r) h.1 in
               record {
                 inner = r.front;
                 rest = c.0;
@@ -96,7 +96,7 @@ unfolding base_of
 base_is b n None e f = absurd cc
 base_is b n (Some v) e f = base_by b n v (nat_le 2 v && nat_le v 16) (fitting-some n v e).0 refl f
 
--- the numeral in front, which may be a base for the digits behind it
+-- the numeral at the front, which may be a base for the digits after it
 module _ (bytes : List ℕ) (len : ℕ) (r : Numeral 10 bytes len) where
   plain_found : HasDigits bytes (digits len 10 (fitting (numeral_value 10 r.front)))
   plain_found = record { front = r.front; rest = r.rest; value = numeral_value 10 r.front; parts = r.parts; len = r.len; are = plain r.is refl refl; fits = refl }
@@ -127,15 +127,15 @@ module _ (bytes : List ℕ) (len : ℕ) (r : Numeral 10 bytes len) where
   by_base (Some base) [] e f = plain_found
   by_base (Some base) (c ∷ inner) e f = by_hash base c inner (eqb c 35) (base_is base (numeral_value 10 r.front) (fitting (numeral_value 10 r.front)) refl e) f refl
 
--- what is found where a numeral has this length and these bytes, and those stand behind it
+-- what is found where a numeral has this length and these bytes, and those stand after it
 abbrev found_by : ℕ → List ℕ → List ℕ → Digits
-found_by len whole behind = digits_by len (fitting (numeral_value 10 whole)) (based_digits (base_of (fitting (numeral_value 10 whole))) behind)
+found_by len whole following = digits_by len (fitting (numeral_value 10 whole)) (based_digits (base_of (fitting (numeral_value 10 whole))) following)
 
 pub digits_at-found : (bytes : List ℕ) → Numeral 10 bytes (numeral_len 10 bytes) → HasDigits bytes (digits_at bytes)
 unfolding digits_at
 digits_at-found bytes r =
     let len = numeral_len 10 bytes in
-    subst (HasDigits bytes) (ap₂ (found_by len) (sym (numeral_front 10 bytes len r)) (sym (numeral_behind 10 bytes len r)))
+    subst (HasDigits bytes) (ap₂ (found_by len) (sym (numeral_front 10 bytes len r)) (sym (numeral_following 10 bytes len r)))
     (by_base bytes len r (base_of (fitting (numeral_value 10 r.front))) r.rest refl refl)
 
 -- ---- and no longer ones stand there
@@ -152,7 +152,7 @@ digits_at-ge whole rest w =
     let value = fitting (numeral_value 10 (take len bytes)) in
     omega (arith, numeral_len-ge 10 whole rest (omega arith) w, digits_by-ge len value (based_digits (base_of value) (drop len bytes)))
 
--- where no byte of a numeral stands behind it, the numeral in front is this one
+-- where no byte of a numeral stands after it, the numeral at the front is this one
 module _ (whole rest : List ℕ) (w : IsNumeral 10 whole) (end : stops (is_numeral_byte 10) rest ≡ true) where
   found_exactly : digits_at (whole ++ rest) ≡ found_by (length whole) whole rest
   unfolding digits_at
@@ -191,7 +191,7 @@ pub digits_at-closed : (whole inner rest : List ℕ) → IsNumeral 10 whole → 
     → (digits_at (whole ++ (35 ∷ (inner ++ (35 ∷ rest))))).len ≡ length whole + (length inner + 2)
 digits_at-closed whole inner rest w lo hi d =
     let base = numeral_value 10 whole in
-    let behind = inner ++ (35 ∷ rest) in
-    ap (λ (d : Digits). d.len) (found_exactly whole (35 ∷ behind) w refl)
-    ∙ ap (λ (o : Option ℕ). (digits_by (length whole) (fitting base) (based_digits o (35 ∷ behind))).len) (sym (small_base base lo hi))
+    let following = inner ++ (35 ∷ rest) in
+    ap (λ (d : Digits). d.len) (found_exactly whole (35 ∷ following) w refl)
+    ∙ ap (λ (o : Option ℕ). (digits_by (length whole) (fitting base) (based_digits o (35 ∷ following))).len) (sym (small_base base lo hi))
     ∙ ap (λ (o : Option Digits). (digits_by (length whole) (fitting base) o).len) (sym (closed_exactly base inner rest hi d))

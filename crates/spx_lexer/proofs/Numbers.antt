@@ -48,12 +48,12 @@ number_sized o [] some dg h = absurd (omega arith)
 number_sized o (b ∷ bs) some dg h = sized_by o (number_in (b ∷ bs)).len (length (b ∷ bs)) (number_some b bs dg) h
 
 number_maximal : (m : Bool) (front rest : List ℕ) (n : ℕ) → IsNumber front n → length front ≡ (number_in (front ++ rest)).len → IsMaximal m front rest
-number_maximal m [] rest n d len more behind k v e l = absurd (no_empty_number n d)
-number_maximal m (b ∷ front) rest n d len more behind k v e (word w f g) = absurd (both_ways (is_ascii_digit b) (letter_no_digit b w.0) (number_digit b front n d))
-number_maximal m (b ∷ front) rest n d len more behind k v e (numeral o c f g) =
-    let same : ((b ∷ front) ++ more) ++ behind ≡ (b ∷ front) ++ rest = append_assoc (b ∷ front) more behind ∙ ap (λ (x : List ℕ). (b ∷ front) ++ x) (sym e) in
-    nil_by_len (b ∷ front) more (omega (arith, number_in-longest ((b ∷ front) ++ more) behind o c, ap (λ (x : List ℕ). (number_in x).len) same))
-number_maximal m (b ∷ front) rest n d len more behind k v e (delimiter f g) = absurd (both_ways (is_ascii_digit b) (delimiter_mark m b (front ++ more) k f).no_digit (number_digit b front n d))
+number_maximal m [] rest n d len more following k v e l = absurd (no_empty_number n d)
+number_maximal m (b ∷ front) rest n d len more following k v e (word w f g) = absurd (both_ways (is_ascii_digit b) (letter_no_digit b w.0) (number_digit b front n d))
+number_maximal m (b ∷ front) rest n d len more following k v e (numeral o c f g) =
+    let same : ((b ∷ front) ++ more) ++ following ≡ (b ∷ front) ++ rest = append_assoc (b ∷ front) more following ∙ ap (λ (x : List ℕ). (b ∷ front) ++ x) (sym e) in
+    nil_by_len (b ∷ front) more (omega (arith, number_in-longest ((b ∷ front) ++ more) following o c, ap (λ (x : List ℕ). (number_in x).len) same))
+number_maximal m (b ∷ front) rest n d len more following k v e (delimiter f g) = absurd (both_ways (is_ascii_digit b) (delimiter_mark m b (front ++ more) k f).no_digit (number_digit b front n d))
 
 no_lone_hyphen : (bytes rest : List ℕ) (n : ℕ) → IsNumber bytes n → bytes ≡ 45 ∷ [] → BeginsWith 45 rest → ⊥
 no_lone_hyphen [] rest n d e f = absurd cc

@@ -4,10 +4,10 @@ use Rattle.std.proofs.Math.Path.{ap₂}
 use Rattle.std.proofs.lemmas.List.{append-nil, drop_at}
 use Rattle.spx_text.specs.declared.place.Place.{Place}
 use Rattle.spx_tree.specs.declared.token.Token.{Token}
-use Rattle.spx_tree.specs.Places.{place_behind}
-use Rattle.spx_tree.specs.Spells.{Stands, IsSound, Part, bytes_of, marked_behind, marked_along, AllStand, tokens_by as tokens_of_role, tokens_of, Spells}
+use Rattle.spx_tree.specs.Places.{place_after_bytes}
+use Rattle.spx_tree.specs.Spells.{Stands, IsSound, Part, bytes_of, marked_following, marked_along, AllStand, tokens_by as tokens_of_role, tokens_of, Spells}
 use Rattle.spx_tree.specs.Stops.{Cause as Reason, bad_byte, bad_number, too_wide, IsStopped, StopsAt}
-use Rattle.spx_tree.proofs.Places.{place_after as place_behind_role, place_behind-part}
+use Rattle.spx_tree.proofs.Places.{place_after as place_following_role, place_after_bytes-part}
 use Rattle.spx_lexer.specs.declared.lexer.pieces.What.{What}
 use Rattle.spx_lexer.specs.declared.lexer.pieces.What.TheVariants as what
 use Rattle.spx_lexer.specs.declared.lexer.pieces.Piece.{Piece}
@@ -29,28 +29,28 @@ bytes_of-push : (parts : List Part) (part : Part) → bytes_of (push parts part)
 bytes_of-push [] part = append-nil part.bytes
 bytes_of-push (p ∷ parts) part = ap (λ (x : List ℕ). p.bytes ++ x) (bytes_of-push parts part) ∙ sym (append_assoc p.bytes (bytes_of parts) part.bytes)
 
-marked_along-push : (m : Bool) (parts : List Part) (part : Part) → marked_along m (push parts part) ≡ marked_behind part.role (marked_along m parts)
+marked_along-push : (m : Bool) (parts : List Part) (part : Part) → marked_along m (push parts part) ≡ marked_following part.role (marked_along m parts)
 marked_along-push m [] part = refl
-marked_along-push m (p ∷ parts) part = marked_along-push (marked_behind p.role m) parts part
+marked_along-push m (p ∷ parts) part = marked_along-push (marked_following p.role m) parts part
 
 all_stand-push : (m : Bool) (parts : List Part) (part : Part) (rest : List ℕ) → AllStand m parts (part.bytes ++ rest) → Stands (marked_along m parts) part.role part.bytes rest → IsSound part.role rest → AllStand m (push parts part) rest
 all_stand-push m [] part rest h s i = (s, i, tt)
 all_stand-push m (p ∷ parts) part rest h s i =
     let same : bytes_of parts ++ (part.bytes ++ rest) ≡ bytes_of (push parts part) ++ rest = sym (append_assoc (bytes_of parts) part.bytes rest) ∙ ap (λ (x : List ℕ). x ++ rest) (sym (bytes_of-push parts part)) in
-    (subst (Stands m p.role p.bytes) same h.0, subst (IsSound p.role) same h.1, all_stand-push (marked_behind p.role m) parts part rest h.2 s i)
+    (subst (Stands m p.role p.bytes) same h.0, subst (IsSound p.role) same h.1, all_stand-push (marked_following p.role m) parts part rest h.2 s i)
 
 tokens_of-push : (file : ℕ) (front : List ℕ) (m : Bool) (parts : List Part) (part : Part) → tokens_of file front m (push parts part) ≡ tokens_of file front m parts ++ tokens_of_role file (front ++ bytes_of parts) (marked_along m parts) part.role part.bytes
 tokens_of-push file front m [] part = append-nil (tokens_of_role file front m part.role part.bytes) ∙ ap (λ (x : List ℕ). tokens_of_role file x m part.role part.bytes) (sym (append-nil front))
 tokens_of-push file front m (p ∷ parts) part =
-    ap (λ (ts : List Token). tokens_of_role file front m p.role p.bytes ++ ts) (tokens_of-push file (front ++ p.bytes) (marked_behind p.role m) parts part)
-    ∙ sym (append_assoc (tokens_of_role file front m p.role p.bytes) (tokens_of file (front ++ p.bytes) (marked_behind p.role m) parts) (tokens_of_role file ((front ++ p.bytes) ++ bytes_of parts) (marked_along (marked_behind p.role m) parts) part.role part.bytes))
-    ∙ ap (λ (x : List ℕ). tokens_of file front m (p ∷ parts) ++ tokens_of_role file x (marked_along (marked_behind p.role m) parts) part.role part.bytes) (append_assoc front p.bytes (bytes_of parts))
+    ap (λ (ts : List Token). tokens_of_role file front m p.role p.bytes ++ ts) (tokens_of-push file (front ++ p.bytes) (marked_following p.role m) parts part)
+    ∙ sym (append_assoc (tokens_of_role file front m p.role p.bytes) (tokens_of file (front ++ p.bytes) (marked_following p.role m) parts) (tokens_of_role file ((front ++ p.bytes) ++ bytes_of parts) (marked_along (marked_following p.role m) parts) part.role part.bytes))
+    ∙ ap (λ (x : List ℕ). tokens_of file front m (p ∷ parts) ++ tokens_of_role file x (marked_along (marked_following p.role m) parts) part.role part.bytes) (append_assoc front p.bytes (bytes_of parts))
 
 -- ---- positions
 
--- the position behind these bytes of a file
+-- the position after these bytes of a file
 abbrev pub position : ℕ → List ℕ → Bool → Position
-position file front m = record { offset = length front; place = place_behind file front; marked = m }
+position file front m = record { offset = length front; place = place_after_bytes file front; marked = m }
 
 tokens_same : (file : ℕ) (front bytes : List ℕ) (m : Bool) (w : What) (len : ℕ) → length bytes ≡ len → tokens_by w (position file front m) len ≡ tokens_of_role file front m (role_of w) bytes
 tokens_same file front bytes m what.LineEnd len e = refl
@@ -59,14 +59,14 @@ tokens_same file front bytes m what.Comment len e = refl
 tokens_same file front bytes m what.Head len e = refl
 tokens_same file front bytes m (what.Lexeme k n) len e = ap (λ (x : ℕ). tokens_by (what.Lexeme k n) (position file front m) x) (sym e)
 
-place_same : (w : What) (at : Place) (len : ℕ) → place_after w at len ≡ place_behind_role (role_of w) at len
+place_same : (w : What) (at : Place) (len : ℕ) → place_after w at len ≡ place_following_role (role_of w) at len
 place_same what.LineEnd at len = refl
 place_same what.Separator at len = refl
 place_same what.Comment at len = refl
 place_same what.Head at len = refl
 place_same (what.Lexeme k n) at len = refl
 
-marked_same : (w : What) (m : Bool) → marked_after w m ≡ marked_behind (role_of w) m
+marked_same : (w : What) (m : Bool) → marked_after w m ≡ marked_following (role_of w) m
 marked_same what.LineEnd m = refl
 marked_same what.Separator m = refl
 marked_same what.Comment m = refl
@@ -76,13 +76,13 @@ marked_same (what.Lexeme k n) m = refl
 position_of : ℕ → Place → Bool → Position
 position_of offset place m = record { offset = offset; place = place; marked = m }
 
-after_same : (file : ℕ) (front bytes rest : List ℕ) (m : Bool) (p : Piece) → length bytes ≡ p.len → Stands m (role_of p.what) bytes rest → after (position file front m) p ≡ position file (front ++ bytes) (marked_behind (role_of p.what) m)
+after_same : (file : ℕ) (front bytes rest : List ℕ) (m : Bool) (p : Piece) → length bytes ≡ p.len → Stands m (role_of p.what) bytes rest → after (position file front m) p ≡ position file (front ++ bytes) (marked_following (role_of p.what) m)
 unfolding position_of
 after_same file front bytes rest m p len s =
     let offset : length front + p.len ≡ length (front ++ bytes) = omega (arith, len, length-append front bytes) in
-    let place : place_after p.what (place_behind file front) p.len ≡ place_behind file (front ++ bytes) =
-    place_same p.what (place_behind file front) p.len ∙ ap (place_behind_role (role_of p.what) (place_behind file front)) (sym len) ∙ sym (place_behind-part file m (role_of p.what) front bytes rest s) in
-    ap (λ (x : ℕ). position_of x (place_after p.what (place_behind file front) p.len) (marked_after p.what m)) offset
+    let place : place_after p.what (place_after_bytes file front) p.len ≡ place_after_bytes file (front ++ bytes) =
+    place_same p.what (place_after_bytes file front) p.len ∙ ap (place_following_role (role_of p.what) (place_after_bytes file front)) (sym len) ∙ sym (place_after_bytes-part file m (role_of p.what) front bytes rest s) in
+    ap (λ (x : ℕ). position_of x (place_after p.what (place_after_bytes file front) p.len) (marked_after p.what m)) offset
     ∙ ap₂ (position_of (length (front ++ bytes))) place (marked_same p.what m)
 
 -- ---- a text read up to a place
@@ -95,7 +95,7 @@ pub record HasRead (file : ℕ) (source : List ℕ) (tokens : List Token) (at : 
   pub place : at ≡ position file (bytes_of parts) (marked_along false parts)
 
 pub read_none : (file : ℕ) (source : List ℕ) (tokens : List Token) → tokens ≡ [] → HasRead file source tokens (record { offset = 0; place = record { file = file; line = 1; column = 1 }; marked = false }) source
-unfolding place_behind
+unfolding place_after_bytes
 read_none file source tokens e = record { parts = []; whole = refl; stand = tt; are = e; place = refl }
 
 pub read_more : (file : ℕ) (source : List ℕ) (tokens : List Token) (at : Position) (bytes : List ℕ) (p : Piece) → HasRead file source tokens at bytes → (f : Found at.marked bytes p) → HasRead file source (tokens ++ tokens_at at p) (after at p) f.rest
@@ -117,12 +117,12 @@ read_more file source tokens at bytes p h f =
           ∙ ap₂ (λ (x : List ℕ) (y : Bool). position file x y) (sym (bytes_of-push h.parts part)) (sym (marked_along-push false h.parts part));
     }
 
-pub turn : (file : ℕ) (source : List ℕ) (tokens next : List Token) (at behind : Position) (bytes rest : List ℕ) (p : Piece) → HasRead file source tokens at bytes → 0 < length bytes
-    → Ok p ≡ piece_at at.marked bytes → next ≡ tokens ++ tokens_at at p → behind ≡ after at p → rest ≡ drop p.len bytes → HasRead file source next behind rest
-turn file source tokens next at behind bytes rest p h some e et ep er =
+pub turn : (file : ℕ) (source : List ℕ) (tokens next : List Token) (at following : Position) (bytes rest : List ℕ) (p : Piece) → HasRead file source tokens at bytes → 0 < length bytes
+    → Ok p ≡ piece_at at.marked bytes → next ≡ tokens ++ tokens_at at p → following ≡ after at p → rest ≡ drop p.len bytes → HasRead file source next following rest
+turn file source tokens next at following bytes rest p h some e et ep er =
     let f : Found at.marked bytes p = subst (Finds at.marked bytes) (sym e) (piece_at-finds at.marked bytes some) in
     let left : rest ≡ f.rest = er ∙ ap (drop p.len) f.parts ∙ drop_at f.front f.rest p.len f.len in
-    subst (λ (x : List ℕ). HasRead file source next behind x) (sym left)
+    subst (λ (x : List ℕ). HasRead file source next following x) (sym left)
     (subst (λ (x : Position). HasRead file source next x f.rest) (sym ep) (subst (λ (x : List Token). HasRead file source x (after at p) f.rest) (sym et) (read_more file source tokens at bytes p h f)))
 
 -- ---- the answers
@@ -139,8 +139,8 @@ read_all file source tokens at rest h none =
     let e = no_rest rest none in
     record { parts = h.parts; whole = all_read file source tokens at rest h e; stand = subst (AllStand false h.parts) e h.stand; are = h.are }
 
-pub read_end : (file : ℕ) (source : List ℕ) (tokens : List Token) (at : Position) (rest : List ℕ) → HasRead file source tokens at rest → length rest ≤ 0 → at.place ≡ place_behind file source
-read_end file source tokens at rest h none = ap (λ (x : Position). x.place) h.place ∙ ap (place_behind file) (all_read file source tokens at rest h (no_rest rest none))
+pub read_end : (file : ℕ) (source : List ℕ) (tokens : List Token) (at : Position) (rest : List ℕ) → HasRead file source tokens at rest → length rest ≤ 0 → at.place ≡ place_after_bytes file source
+read_end file source tokens at rest h none = ap (λ (x : Position). x.place) h.place ∙ ap (place_after_bytes file) (all_read file source tokens at rest h (no_rest rest none))
 
 pub read_stop : (file : ℕ) (source : List ℕ) (tokens : List Token) (at : Position) (bytes : List ℕ) (c : Cause) → HasRead file source tokens at bytes → 0 < length bytes → Err c ≡ piece_at at.marked bytes → StopsAt file source (reason_of c) at.place
 read_stop file source tokens at bytes c h some e =

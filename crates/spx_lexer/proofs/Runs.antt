@@ -4,7 +4,7 @@ use Rattle.std.specs.List.{All}
 use Rattle.std.specs.Char.{is_ascii_alphanumeric}
 use Rattle.std.proofs.lemmas.Bool.{eqb-true, eqb-false}
 use Rattle.std.proofs.lemmas.List.Elements.{All-nil, All-cons}
-use Rattle.spx_tree.specs.Lexemes.{IsWordRest, IsBehindUnderscore}
+use Rattle.spx_tree.specs.Lexemes.{IsWordRest, IsAfterUnderscore}
 use Rattle.spx_tree.specs.Spells.{EndsLine}
 use Rattle.spx_lexer.specs.Pieces.{word_rest_len, underscore_len, line_len}
 
@@ -22,7 +22,7 @@ record Underscore (bs : List ℕ) (n : ℕ) : Type 0 where
   rest : List ℕ
   parts : bs ≡ front ++ rest
   len : suc (length front) ≡ n
-  is : IsBehindUnderscore front
+  is : IsAfterUnderscore front
 
 word_by : (b : ℕ) (bs : List ℕ) (h u : Bool) → is_ascii_alphanumeric b ≡ h → eqb b 95 ≡ u → WordRest bs (word_rest_len bs) → (underscore_len bs ≡ 0) ⊎ Underscore bs (underscore_len bs)
     → WordRest (b ∷ bs) (cond h (suc (word_rest_len bs)) (cond u (underscore_len bs) 0))
@@ -60,7 +60,7 @@ mutual
       ap (λ (x : ℕ). cond (is_ascii_alphanumeric x) (suc (word_rest_len (front ++ rest))) (cond (eqb x 95) (underscore_len (front ++ rest)) 0)) is.0 in
       omega arith
 
-  underscore_len-ge : (front rest : List ℕ) → IsBehindUnderscore front → suc (length front) ≤ underscore_len (front ++ rest)
+  underscore_len-ge : (front rest : List ℕ) → IsAfterUnderscore front → suc (length front) ≤ underscore_len (front ++ rest)
   underscore_len-ge [] rest is = absurd is
   underscore_len-ge (b ∷ front) rest is =
       let h = word_rest_len-ge front rest is.1 in

@@ -1,4 +1,4 @@
--- How many tokens stand in front of a place of a text.
+-- How many tokens stand before a place of a text.
 use Rattle.std.proofs.Common.{◌≡◌, inl, inr, ℕ, ◌+◌, ◌≤◌, ◌<◌, ◌^◌, Bool, false, List, [], ◌∷◌, ◌++◌, length, refl, sym, ap, subst, ◌∙◌, append_assoc, length-append, arith, Ok, Err, ℤ, pos}
 use Rattle.std.proofs.lemmas.Bool.{both_ways}
 use Rattle.std.proofs.lemmas.Int.{ints}
@@ -7,7 +7,7 @@ use Rattle.std.specs.Prelude.{◌<ℤ◌, ◌≤ℤ◌, IsFalse}
 use Rattle.spx_tree.specs.declared.token.Kind.TheVariants as kind
 use Rattle.spx_tree.specs.declared.token.Token.{Token}
 use Rattle.spx_tree.specs.Lexemes.{spoils_number}
-use Rattle.spx_tree.specs.Spells.{Role, lexeme, Stands, IsSound, Part, bytes_of, marked_behind, marked_along, AllStand, tokens_by as tokens_of_role, tokens_of}
+use Rattle.spx_tree.specs.Spells.{Role, lexeme, Stands, IsSound, Part, bytes_of, marked_following, marked_along, AllStand, tokens_by as tokens_of_role, tokens_of}
 use Rattle.spx_tree.specs.Stops.{Cause as Reason, bad_byte, bad_number, too_wide, IsStopped}
 use Rattle.spx_tree.proofs.Shapes.{stands_some}
 use Rattle.spx_tree.proofs.OnePart.{one_part}
@@ -28,26 +28,26 @@ use Rattle.spx_lexer.proofs.Reading.{HasRead, read_more}
 -- ---- places where nothing stands
 
 abbrev NothingStands : Bool → List ℕ → Type 0
-NothingStands m rest = (role : Role) (bytes behind : List ℕ) → rest ≡ bytes ++ behind → Stands m role bytes behind → IsSound role behind → ⊥
+NothingStands m rest = (role : Role) (bytes following : List ℕ) → rest ≡ bytes ++ following → Stands m role bytes following → IsSound role following → ⊥
 
 nothing_at_end : (m : Bool) (rest : List ℕ) → length rest ≤ 0 → NothingStands m rest
-nothing_at_end m rest none role bytes behind e p s = absurd (omega (arith, ap length e, length-append bytes behind, stands_some m role bytes behind p))
+nothing_at_end m rest none role bytes following e p s = absurd (omega (arith, ap length e, length-append bytes following, stands_some m role bytes following p))
 
 -- what stands where a number does is that number
 sound_number : (m : Bool) (v : ℤ) (rest front after : List ℕ) → rest ≡ front ++ after → Stands m (lexeme kind.Number v) front after
-    → (role : Role) (bytes behind : List ℕ) → rest ≡ bytes ++ behind → Stands m role bytes behind → IsSound role behind → IsFalse (spoils_number after) × (v <ℤ pos (2 ^ 127))
-sound_number m v rest front after e p role bytes behind f q s =
-    let same = one_part m role (lexeme kind.Number v) bytes behind front after (sym f ∙ e) q p in
-    let t : IsSound (lexeme kind.Number v) after = subst (λ (x : List ℕ). IsSound (lexeme kind.Number v) x) same.rest (subst (λ (r : Role). IsSound r behind) same.role s) in
+    → (role : Role) (bytes following : List ℕ) → rest ≡ bytes ++ following → Stands m role bytes following → IsSound role following → IsFalse (spoils_number after) × (v <ℤ pos (2 ^ 127))
+sound_number m v rest front after e p role bytes following f q s =
+    let same = one_part m role (lexeme kind.Number v) bytes following front after (sym f ∙ e) q p in
+    let t : IsSound (lexeme kind.Number v) after = subst (λ (x : List ℕ). IsSound (lexeme kind.Number v) x) same.rest (subst (λ (r : Role). IsSound r following) same.role s) in
     t refl
 
 not_wide : (v w : ℤ) → v <ℤ w → w ≤ℤ v → ⊥
 not_wide v w a b = omega (arith, ints)
 
 stopped_nothing : (r : Reason) (m : Bool) (rest : List ℕ) → IsStopped r m rest → NothingStands m rest
-stopped_nothing bad_byte m rest h role bytes behind e p s = h.1 role bytes behind e p
-stopped_nothing bad_number m rest h role bytes behind e p s = both_ways _ (sound_number m h.0 rest h.1 h.2 h.3 h.4 role bytes behind e p s).0 h.5
-stopped_nothing too_wide m rest h role bytes behind e p s = not_wide h.0 (pos (2 ^ 127)) (sound_number m h.0 rest h.1 h.2 h.3 h.4 role bytes behind e p s).1 h.6
+stopped_nothing bad_byte m rest h role bytes following e p s = h.1 role bytes following e p
+stopped_nothing bad_number m rest h role bytes following e p s = both_ways _ (sound_number m h.0 rest h.1 h.2 h.3 h.4 role bytes following e p s).0 h.5
+stopped_nothing too_wide m rest h role bytes following e p s = not_wide h.0 (pos (2 ^ 127)) (sound_number m h.0 rest h.1 h.2 h.3 h.4 role bytes following e p s).1 h.6
 
 no_more : (m : Bool) (rest : List ℕ) (more : List Part) (d : List ℕ) → NothingStands m rest → rest ≡ bytes_of more ++ d → AllStand m more d → more ≡ []
 no_more m rest [] d none e s = refl
@@ -59,9 +59,9 @@ tokens_of-more : (file : ℕ) (front : List ℕ) (m : Bool) (parts more : List P
 tokens_of-more file front m [] more = omega arith
 tokens_of-more file front m (p ∷ parts) more =
     let first = tokens_of_role file front m p.role p.bytes in
-    let behind = front ++ p.bytes in
-    let marked = marked_behind p.role m in
-    omega (arith, length-append first (tokens_of file behind marked parts), length-append first (tokens_of file behind marked (parts ++ more)), tokens_of-more file behind marked parts more)
+    let following = front ++ p.bytes in
+    let marked = marked_following p.role m in
+    omega (arith, length-append first (tokens_of file following marked parts), length-append first (tokens_of file following marked (parts ++ more)), tokens_of-more file following marked parts more)
 
 few_tokens : (most file : ℕ) (source : List ℕ) (tokens : List Token) (at : Position) (rest : List ℕ) → HasRead file source tokens at rest → length tokens ≤ most → NothingStands at.marked rest → ¬ HasMoreTokens most file source
 few_tokens most file source tokens at rest h few none k =

@@ -12,12 +12,12 @@ use Rattle.spx_lexer.proofs.Runs.{word_rest, word_rest_len-ge}
 use Rattle.spx_lexer.proofs.Found.{Found, nil_by_len, not_hyphen}
 
 word_maximal : (m : Bool) (b : ℕ) (front rest : List ℕ) → is_ascii_alphabetic b ≡ true → length front ≡ word_rest_len (front ++ rest) → IsMaximal m (b ∷ front) rest
-word_maximal m b front rest al len more behind k n e (word w f g) =
-    let h = word_rest_len-ge (front ++ more) behind w.1 in
-    let same : (front ++ more) ++ behind ≡ front ++ rest = append_assoc front more behind ∙ ap (λ (x : List ℕ). front ++ x) (sym e) in
+word_maximal m b front rest al len more following k n e (word w f g) =
+    let h = word_rest_len-ge (front ++ more) following w.1 in
+    let same : (front ++ more) ++ following ≡ front ++ rest = append_assoc front more following ∙ ap (λ (x : List ℕ). front ++ x) (sym e) in
     nil_by_len front more (omega (arith, ap word_rest_len same))
-word_maximal m b front rest al len more behind k n e (numeral v d f g) = absurd (both_ways (is_ascii_digit b) (letter_no_digit b al) (number_digit b (front ++ more) v d))
-word_maximal m b front rest al len more behind k n e (delimiter f g) = absurd (both_ways (is_ascii_alphabetic b) (delimiter_mark m b (front ++ more) k f).no_letter al)
+word_maximal m b front rest al len more following k n e (numeral v d f g) = absurd (both_ways (is_ascii_digit b) (letter_no_digit b al) (number_digit b (front ++ more) v d))
+word_maximal m b front rest al len more following k n e (delimiter f g) = absurd (both_ways (is_ascii_alphabetic b) (delimiter_mark m b (front ++ more) k f).no_letter al)
 
 pub word_found : (m : Bool) (b : ℕ) (bs : List ℕ) → is_ascii_alphabetic b ≡ true → Found m (b ∷ bs) (word_at m (b ∷ bs) (word_rest_len bs + 1))
 word_found m b bs al =

@@ -18,7 +18,7 @@ fault_of bad_byte place = fault.BadByte place
 fault_of bad_number place = fault.BadNumber place
 fault_of too_wide place = fault.TooWide place
 
--- the text of a file is stopped as the fault says and has no token too many, or has one; want of memory says nothing
+-- the text of a file is stopped as the fault says and has no token too many, or has one; running out of memory says nothing
 abbrev pub IsFaultOf : ℕ → List ℕ → LexFault → Type 0
 IsFaultOf file bytes (fault.BadByte place) = StopsAt file bytes bad_byte place × (¬ HasMoreTokens 1000000 file bytes)
 IsFaultOf file bytes (fault.BadNumber place) = StopsAt file bytes bad_number place × (¬ HasMoreTokens 1000000 file bytes)

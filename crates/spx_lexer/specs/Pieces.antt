@@ -36,11 +36,11 @@ is_digit base b = nat_lt (digit_value b) base
 abbrev mutual
   pub numeral_rest_len : ℕ → List ℕ → ℕ
   numeral_rest_len base [] = 0
-  numeral_rest_len base (b ∷ bs) = if is_digit base b then suc (numeral_rest_len base bs) else (if b == 95 then digit_behind_len base bs else 0)
+  numeral_rest_len base (b ∷ bs) = if is_digit base b then suc (numeral_rest_len base bs) else (if b == 95 then digit_following_len base bs else 0)
 
-  pub digit_behind_len : ℕ → List ℕ → ℕ
-  digit_behind_len base [] = 0
-  digit_behind_len base (b ∷ bs) = if is_digit base b then suc (suc (numeral_rest_len base bs)) else 0
+  pub digit_following_len : ℕ → List ℕ → ℕ
+  digit_following_len base [] = 0
+  digit_following_len base (b ∷ bs) = if is_digit base b then suc (suc (numeral_rest_len base bs)) else 0
 
 abbrev pub numeral_len : ℕ → List ℕ → ℕ
 numeral_len base [] = 0
@@ -62,7 +62,7 @@ begins_with_hash (b ∷ bs) = b == 35
 abbrev pub digits : ℕ → ℕ → Option ℕ → Digits
 digits len base value = record { len = len; base = base; value = value }
 
--- the digits in front, where `#` closes them; another `#` stands before them
+-- the digits at the front, where `#` closes them; another `#` stands before them
 unfoldable pub closed_digits : ℕ → List ℕ → Option Digits
 closed_digits base bytes =
     let len = numeral_len base bytes in
@@ -73,7 +73,7 @@ based_digits None bytes = None
 based_digits (Some base) [] = None
 based_digits (Some base) (b ∷ bs) = if b == 35 then closed_digits base bs else None
 
--- digits and the base in front of them, or else these digits, of base 10
+-- digits and the base before them, or else these digits, of base 10
 abbrev pub digits_by : ℕ → Option ℕ → Option Digits → Digits
 digits_by len value None = digits len 10 value
 digits_by len value (Some found) = digits (len + found.len) found.base found.value
@@ -87,17 +87,17 @@ digits_at bytes =
 abbrev pub exponent : ℕ → ℕ → Exponent
 exponent len value = record { len = len; value = value }
 
--- the digits of an exponent in front, where so many bytes of it stand before them; 0 fits with every exponent, and no other number with 128
+-- the digits of an exponent at the front, where so many bytes of it stand before them; 0 fits with every exponent, and no other number with 128
 unfoldable pub exponent_by : ℕ → List ℕ → Exponent
 exponent_by before bytes = let len = numeral_len 10 bytes in if len == 0 then exponent 0 0 else exponent (before + len) (min (numeral_value 10 (take len bytes)) 128)
 
-abbrev pub exponent_behind : List ℕ → Exponent
-exponent_behind [] = exponent_by 1 []
-exponent_behind (b ∷ bs) = if b == 43 then exponent_by 2 bs else exponent_by 1 (b ∷ bs)
+abbrev pub exponent_following : List ℕ → Exponent
+exponent_following [] = exponent_by 1 []
+exponent_following (b ∷ bs) = if b == 43 then exponent_by 2 bs else exponent_by 1 (b ∷ bs)
 
 abbrev pub exponent_at : List ℕ → Exponent
 exponent_at [] = exponent 0 0
-exponent_at (b ∷ bs) = if b == 69 || b == 101 then exponent_behind bs else exponent 0 0
+exponent_at (b ∷ bs) = if b == 69 || b == 101 then exponent_following bs else exponent 0 0
 
 abbrev pub scaled : Option ℕ → ℕ → ℕ → Option ℕ
 scaled None base exponent = None

@@ -3,7 +3,7 @@ ghost use Rattle.std.specs.Prelude.{◌≡◌, ◌⊎◌, ◌≤◌, ◌<◌, �
 ghost use Rattle.std.specs.List.{All};
 ghost use Rattle.spx_text.specs.declared.place.Place.{Place};
 ghost use Rattle.spx_tree.specs.declared.token.Token.{Token};
-ghost use Rattle.spx_tree.specs.Places.{place_behind};
+ghost use Rattle.spx_tree.specs.Places.{place_after_bytes};
 ghost use Rattle.spx_tree.specs.Spells.{Spells};
 ghost use Rattle.spx_tree.specs.Mirror.{IsWithin};
 ghost use Rattle.spx_tree.specs.Stops.{Cause as Reason, StopsAt};
@@ -34,7 +34,7 @@ pub const MOST_TOKENS: usize = 1_000_000;
 pub struct Tokens<'a> {
     pub source: &'a [u8],
     pub list: Vec<Token>,
-    /// The place behind the last byte.
+    /// The place after the last byte.
     pub end: Place,
 }
 
@@ -44,13 +44,13 @@ pub enum LexFault {
     /// The byte at this place begins no lexeme.
     #[error("bad byte")]
     BadByte(Place),
-    /// A digit, a letter, `_`, `#`, or `.` and a digit stand behind the number at this place.
+    /// A digit, a letter, `_`, `#`, or `.` and a digit stand after the number at this place.
     #[error("bad number")]
     BadNumber(Place),
     /// The value of the number at this place is greater than `2**127 - 1`.
     #[error("number too wide")]
     TooWide(Place),
-    /// More than `MOST_TOKENS` tokens stand in front of the place where the text ends or is stopped.
+    /// More than `MOST_TOKENS` tokens stand before the place where the text ends or is stopped.
     #[error("too many tokens")]
     TooMany,
     #[error("out of memory")]
@@ -75,7 +75,7 @@ fn fault_of(cause: Cause, place: Place) -> LexFault
     }
 }
 
-// Whether a piece is a token, and one too many behind `count` others.
+// Whether a piece is a token, and one too many after `count` others.
 fn is_too_many(count: usize, piece: Piece) -> bool
     requires { count ≤ 1000000 }
     ensures { result ≡ nat_lt 1000000 (count + spec.count_of piece.what) }
@@ -116,7 +116,7 @@ pub fn lex(alloc: Global, file: u32, source: &[u8]) -> Result<Tokens<'_>, LexFau
     ensures tokens { IfOk result (λ answer. Spells file source.now answer.list.items) }
     ensures within { IfOk result (λ answer. All (IsWithin (length source.now)) answer.list.items) }
     ensures few { IfOk result (λ answer. ¬ HasMoreTokens 1000000 file source.now) }
-    ensures end { IfOk result (λ answer. answer.end ≡ place_behind file source.now) }
+    ensures end { IfOk result (λ answer. answer.end ≡ place_after_bytes file source.now) }
 
     // Where tokens spell the text and are not too many, they are the answer, unless memory runs out.
     ensures spelled { (tokens : List Token) → Spells file source.now tokens → ¬ HasMoreTokens 1000000 file source.now → MatchResult result (λ answer. answer.list.items ≡ tokens) (λ fault. fault ≡ Memory) }
@@ -147,8 +147,8 @@ pub fn lex(alloc: Global, file: u32, source: &[u8]) -> Result<Tokens<'_>, LexFau
         }
         add(&mut list, at, piece)?;
         at = after(at, piece);
-        let (_, behind) = rest.split_at(piece.len);
-        rest = behind;
+        let (_, following) = rest.split_at(piece.len);
+        rest = following;
     }
     Ok(Tokens {
         source,

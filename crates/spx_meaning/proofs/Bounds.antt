@@ -1,20 +1,17 @@
 -- A result other than Later is the same at every greater bound.
-use Rattle.std.proofs.Common.{◌≡◌, ◌≢◌, ℕ, ◌≤◌, Bool, true, false, refl, sym, ap, ap₂, ◌∙◌}
+use Rattle.std.proofs.Common.{◌≡◌, ◌≢◌, ℕ, ◌≤◌, Bool, true, false, refl, sym, ap, ◌∙◌}
 use Rattle.std.specs.Prelude.{if◌then◌else◌}
-use Rattle.spx_core.specs.declared.program.Program.{Program}
 use Rattle.spx_core.specs.declared.expression.CoreExpr.{CoreExpr}
-use Rattle.spx_core.specs.declared.subprogram.Sub.{Sub}
 use Rattle.spx_core.specs.Commands.{Command, Skip, Set, Then, Choose, commands}
 use Rattle.spx_core.specs.Places.{place_of}
 use Rattle.spx_core.specs.Uses.{variable_of}
 use Rattle.spx_term.specs.declared.value.Value.{Value}
 use Rattle.spx_term.specs.Meaning.{as_truth}
-use Rattle.spx_meaning.specs.declared.bad.BadKind.TheVariants.{Unset}
 use Rattle.spx_meaning.specs.Stores.{Store}
 use Rattle.spx_meaning.specs.Frames.{Frame, around}
 use Rattle.spx_meaning.specs.Evaluation.{Answer, Gives, Fails, Waits, eval}
-use Rattle.spx_meaning.specs.Runs.{Outcome, Ended, Left, Bad, Later, then_do, use_value, assign, demand, demand_pre, entry_of, exports_set, run, run_body}
-use Rattle.spx_meaning.specs.Laws.{CallsAreSettled, IsSettled, RunsAreSettled}
+use Rattle.spx_meaning.specs.Runs.{Outcome, Ended, Left, Bad, Later, then_do, use_value, assign, demand_pre, entry_of, run, run_body}
+use Rattle.spx_meaning.specs.Laws.{CallsAreSettled, RunsAreSettled}
 use Rattle.spx_meaning.proofs.Callers.Evaluation.{eval_same}
 
 -- an outcome other than Later is kept

@@ -1,6 +1,6 @@
 -- The lemmas that crates above cite.
 pub mod Stores
-pub mod IntegerTypes
+pub mod Types
 pub mod Evaluation
 pub mod Runs
 pub mod Flows

@@ -3,8 +3,9 @@ use Rattle.std.specs.Prelude.{pos, Bool, Option, Some, None}
 use Rattle.spx_core.specs.declared.entity.Subtype.{Subtype}
 use Rattle.spx_core.specs.declared.program.Program.{Program}
 use Rattle.spx_core.specs.declared.entity.VarId.{VarId}
+use Rattle.spx_core.specs.declared.name.CoreName.{CoreName}
 use Rattle.spx_core.specs.declared.expression.CoreExpr.{CoreExpr, CoreExpr-F, fold-CoreExpr}
-use Rattle.spx_core.specs.Judged.{attribute}
+use Rattle.spx_core.specs.Judged.{attribute, named_value}
 use Rattle.spx_core.specs.Uses.{variable_of}
 use Rattle.spx_term.specs.declared.value.Value.{Value}
 use Rattle.spx_term.specs.declared.value.Value.TheVariants as value
@@ -12,7 +13,7 @@ use Rattle.spx_term.specs.Meaning.{as_truth}
 use Rattle.spx_meaning.specs.Literals.{literal_in}
 use Rattle.spx_meaning.specs.Stores.{Store, look, type_of, first_value}
 use Rattle.spx_meaning.specs.Frames.{Frame}
-use Rattle.spx_meaning.specs.Evaluation.{applied_sign, applied}
+use Rattle.spx_meaning.specs.Evaluation.{applied_sign, applied, member, first_in, last_in}
 
 -- an unset variable counts as the first value of its type
 abbrev pub seen : Subtype → Option Value → Value
@@ -33,14 +34,24 @@ abbrev pub value_or_zero : Option Value → Value
 value_or_zero (Some x) = x
 value_or_zero None = value.Number (pos 0)
 
+-- a literal has its value, and a variable what it counts as
+abbrev pub value_or : Option Value → Value → Value
+value_or (Some x) y = x
+value_or None y = y
+
+abbrev pub named_meaning : Frame → Store → CoreName → Value
+named_meaning f s name = value_or (literal_in (named_value name)) (reading_of f.program s (variable_of name.entity))
+
 -- one level, whose parts have these values
 abbrev pub meant_step : Frame → Store → CoreExpr-F Value → Value
 meant_step f s (CoreExpr-F.Number n place) = value.Number n
-meant_step f s (CoreExpr-F.Name name) = reading_of f.program s (variable_of name.entity)
+meant_step f s (CoreExpr-F.Name name) = named_meaning f s name
 meant_step f s (CoreExpr-F.Attribute prefix designator) = value_or_zero (literal_in (attribute prefix designator))
 meant_step f s (CoreExpr-F.Parenthesized place a) = a
 meant_step f s (CoreExpr-F.Prefix op place a) = applied_sign op a
 meant_step f s (CoreExpr-F.Infix op place a b) = applied op a b
+meant_step f s (CoreExpr-F.InType op place a name) = member op a (first_in name) (last_in name)
+meant_step f s (CoreExpr-F.InRange op place a low high) = member op a low high
 
 -- the value of an expression in an annotation
 abbrev pub meant : Frame → Store → CoreExpr → Value

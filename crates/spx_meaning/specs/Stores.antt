@@ -1,6 +1,8 @@
 -- Values in types, and the stores that a run goes through.
-use Rattle.std.specs.Prelude.{ℕ, zero, suc, Bool, false, ◌&&◌, int_le, List, [], ◌∷◌, Option, Some, None, slice_get}
-use Rattle.spx_core.specs.declared.entity.TheConstants.{INTEGER}
+use Rattle.std.specs.Prelude.{ℕ, zero, suc, ℤ, Bool, true, false, ◌&&◌, int_le, List, [], ◌∷◌, Option, Some, None, slice_get}
+use Rattle.spx_core.specs.declared.entity.TheConstants.{UNIVERSAL}
+use Rattle.spx_core.specs.declared.entity.Class.{Class}
+use Rattle.spx_core.specs.declared.entity.Class.TheVariants.{Integer, Boolean}
 use Rattle.spx_core.specs.declared.entity.Subtype.{Subtype}
 use Rattle.spx_core.specs.declared.entity.VarId.{VarId}
 use Rattle.spx_core.specs.declared.program.TypeRow.{TypeRow}
@@ -9,14 +11,24 @@ use Rattle.spx_core.specs.declared.program.Program.{Program}
 use Rattle.spx_term.specs.declared.value.Value.{Value}
 use Rattle.spx_term.specs.declared.value.Value.TheVariants.{Number, Truth}
 
+-- whether a value is one of the class, and between these, if it is a number
+abbrev pub is_within : Class → (first last : ℤ) → Value → Bool
+is_within Integer first last (Number n) = int_le first n && int_le n last
+is_within Integer first last (Truth b) = false
+is_within Boolean first last (Number n) = false
+is_within Boolean first last (Truth b) = true
+
 -- whether a value is one of the type (Ada 95 RM 3.5)
 abbrev pub is_in : Subtype → Value → Bool
-is_in subtype (Number n) = int_le subtype.first n && int_le n subtype.last
-is_in subtype (Truth b) = false
+is_in subtype x = is_within subtype.base.class subtype.first subtype.last x
 
 -- the first value of a type
+abbrev pub first_of_class : Class → ℤ → Value
+first_of_class Integer first = Number first
+first_of_class Boolean first = Truth false
+
 abbrev pub first_value : Subtype → Value
-first_value subtype = Number subtype.first
+first_value subtype = first_of_class subtype.base.class subtype.first
 
 -- what is declared of a variable
 abbrev pub declared : Program → VarId → Option Var
@@ -24,11 +36,11 @@ declared p v = slice_get p.vars v.0
 
 abbrev pub subtype_in : Option TypeRow → Subtype
 subtype_in (Some row) = row.subtype
-subtype_in None = INTEGER
+subtype_in None = UNIVERSAL
 
 abbrev pub type_in : List TypeRow → Option Var → Subtype
 type_in types (Some var) = subtype_in (slice_get types var.type_id.0)
-type_in types None = INTEGER
+type_in types None = UNIVERSAL
 
 -- the type of a variable
 abbrev pub type_of : Program → VarId → Subtype

@@ -5,6 +5,8 @@ use spx_text::Place;
 /// What has failed.
 #[derive(Clone, Copy, Debug, PartialEq, Eq)]
 pub enum BadKind {
+    /// A divisor is 0 (Ada 95 RM 4.5.5).
+    Division,
     /// The result of an operation does not lie in the base range (Ada 95 RM 3.5.4).
     Overflow,
     /// A value does not lie in the subtype that it is given to (Ada 95 RM 4.6).

@@ -4,7 +4,9 @@
 mod bad;
 pub mod laws;
 mod store;
+mod types;
 
 pub use bad::{Bad, BadKind};
 pub use spx_term::Value;
 pub use store::Store;
+pub use types::type_of;

@@ -1,6 +1,6 @@
 -- Reading expressions and statements answers exactly, from each index on.
 use Rattle.std.specs.Prelude.{⊤}
-use Rattle.std.proofs.Common.{◌≡◌, ℕ, suc, Bool, ◌≤◌, List, [], Ok, length, drop, refl, sym, subst, ◌∙◌}
+use Rattle.std.proofs.Common.{◌≡◌, ℕ, suc, Bool, ◌≤◌, List, [], Ok, length, drop, refl, sym, subst, ◌∙◌, arith}
 use Rattle.std.proofs.lemmas.List.{append-nil}
 use Rattle.spx_tree.specs.declared.expression.Layer.TheVariants as layer
 use Rattle.spx_tree.specs.declared.expression.Expr.{Expr}
@@ -27,16 +27,16 @@ use Rattle.spx_parse_body.proofs.Indexed.{Exactly}
 
 module _ (marked : Bool) where
   expr_is : (n : ℕ) (x : Expr) (fs : List Form) → IsExpr n x → fs ≡ written_expr marked x → expression marked n fs ≡ Ok (x, [])
-  expr_is n x fs f e = (expression_again marked n x fs [] f (λ e. cc, refl, refl) (e ∙ sym (append-nil (written_expr marked x)))).is
+  expr_is n x fs f e = (expression_again marked n x fs [] f (omega arith) (e ∙ sym (append-nil (written_expr marked x)))).is
 
   expr_good : (n : ℕ) → Good ⊤ ⊤ (written_expr marked) (IsExpr n) [] Any (expression marked n) (expression marked (suc n))
   expr_good n = expression_good marked n
 
   expr_answers : (n : ℕ) (fs : List Form) → AreShaped fs → Answers (written_expr marked) IsExpr n fs (expression marked n fs)
-  expr_answers = exact.answers (written_expr marked) IsExpr (expression marked) (λ n. (expr_good n).law tt tt) expr_is (λ n. (expr_good n).scans tt) (λ n. (expr_good n).grows tt tt) (λ m n x le f. layer_more m n le layer.Relation x f)
+  expr_answers = exact.answers (written_expr marked) IsExpr (expression marked) (λ n. (expr_good n).law tt tt) expr_is (λ n. (expr_good n).scans tt) (λ n. (expr_good n).grows tt tt) (λ m n x le f. layer_more m n le layer.Expression x f)
 
   expr_only : (n : ℕ) (fs : List Form) (o : Outcome Expr) → AreShaped fs → Answers (written_expr marked) IsExpr n fs o → expression marked n fs ≡ o
-  expr_only = exact.only_answer (written_expr marked) IsExpr (expression marked) (λ n. (expr_good n).law tt tt) expr_is (λ n. (expr_good n).scans tt) (λ n. (expr_good n).grows tt tt) (λ m n x le f. layer_more m n le layer.Relation x f)
+  expr_only = exact.only_answer (written_expr marked) IsExpr (expression marked) (λ n. (expr_good n).law tt tt) expr_is (λ n. (expr_good n).scans tt) (λ n. (expr_good n).grows tt tt) (λ m n x le f. layer_more m n le layer.Expression x f)
 
 stmts_are : (n : ℕ) (xs : List Stmt) (fs : List Form) → IsStmts n xs → fs ≡ written_stmts xs → stmts n fs ≡ Ok (xs, [])
 stmts_are n xs fs f e = (stmts_again n xs fs [] f refl (e ∙ sym (append-nil (written_stmts xs)))).is

@@ -5,6 +5,7 @@ pub mod Lawful
 pub mod Good
 pub mod Reaches
 pub mod Separated
+pub mod Operators
 pub mod ExpressionsGood
 pub mod Exact
 pub mod Located

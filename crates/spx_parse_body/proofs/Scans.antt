@@ -30,7 +30,7 @@ Fewer m (Err e) = ⊤
 abbrev pub Takes : {A : Type 0} → List Form → Outcome A → Type 0
 Takes fs o = Fewer (length fs) o × (AreShaped fs → Below (length fs) o)
 
--- What becomes of an outcome where more forms follow. Behind a value at the end, a form that is no form of a token may be refused.
+-- What becomes of an outcome where more forms follow. After a value at the end, a form that is no form of a token may be refused.
 abbrev pub ExtendsOk : {A : Type 0} → A → List Form → List Form → Outcome A → Type 0
 ExtendsOk x [] ys o = AtMost (length ys) o × (AreShaped ys → (o ≡ Ok (x, ys)) ⊎ Below (length ys) o)
 ExtendsOk x (t ∷ r) ys o = o ≡ Ok (x, (t ∷ r) ++ ys)

@@ -22,10 +22,10 @@ unfolding taking
 taking_there g marked kind source [] rest t parts same seen = cc
 taking_there g marked kind source (u ∷ us) rest t parts same seen =
     let there : u ≡ t = cc in
-    let behind : us ≡ rest = cc in
+    let following : us ≡ rest = cc in
     ap (λ b. kept_or (cond b (g (kept_as (keeps u.kind) source u)) None) (forms_of source us) (forms_of source (u ∷ us))) (sym (seen_both (same_mark u.marked marked) kind u.kind) ∙ seen)
     ∙ ap (λ (k : Kind). kept_or (g (kept_as (keeps k) source u)) (forms_of source us) (forms_of source (u ∷ us))) (ap (λ (w : Token). w.kind) there ∙ same)
-    ∙ ap₂ (λ (w : Token) (ws : List Token). kept_or (g (kept_as (keeps kind) source w)) (forms_of source ws) (forms_of source (u ∷ us))) there behind
+    ∙ ap₂ (λ (w : Token) (ws : List Token). kept_or (g (kept_as (keeps kind) source w)) (forms_of source ws) (forms_of source (u ∷ us))) there following
 
 taking_absent : {A : Type 0} (g : Kept → Option A) (marked : Bool) (kind : Kind) (fs : List Form) → sees marked kind fs ≡ false → taking g marked kind fs ≡ Err (Expected (length fs))
 unfolding taking

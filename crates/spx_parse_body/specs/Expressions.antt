@@ -1,26 +1,33 @@
--- Reading names and expressions (Ada 95 RM 4.1 and 4.4), one level down for each parenthesis, sign and operator.
+-- Reading names and expressions (Ada 95 RM 4.1 and 4.4), one level down for each parenthesis, operator and membership test.
 use Rattle.std.specs.Prelude.{ℕ, zero, suc, ◌+◌, max, Bool, Option, Some, None}
 use Rattle.spx_text.specs.declared.place.Place.{Place}
 use Rattle.spx_tree.specs.declared.token.Kind.{Kind}
 use Rattle.spx_tree.specs.declared.token.Kind.TheVariants as k
 use Rattle.spx_tree.specs.declared.expression.Identifier.{Identifier}
 use Rattle.spx_tree.specs.declared.expression.InfixOp.{InfixOp}
-use Rattle.spx_tree.specs.declared.expression.InfixOp.TheVariants as op
 use Rattle.spx_tree.specs.declared.expression.PrefixOp.{PrefixOp}
-use Rattle.spx_tree.specs.declared.expression.PrefixOp.TheVariants as sign
+use Rattle.spx_tree.specs.declared.expression.MemberOp.{MemberOp}
+use Rattle.spx_tree.specs.declared.expression.MemberOp.TheVariants as members
 use Rattle.spx_tree.specs.declared.expression.Layer.{Layer}
 use Rattle.spx_tree.specs.declared.expression.Layer.TheVariants as layer
 use Rattle.spx_tree.specs.declared.expression.Name.{Name}
 use Rattle.spx_tree.specs.declared.expression.Name.TheVariants.{Simple, Attribute}
 use Rattle.spx_tree.specs.declared.expression.Expr.{Expr}
 use Rattle.spx_tree.specs.declared.expression.Expr.TheVariants as expr
-use Rattle.spx_tree.specs.Written.{sign_kind, operator_kind}
+use Rattle.spx_tree.specs.Written.{sign_kind, operator_kind, parenthesized}
+use Rattle.spx_tree.specs.Written as written
+use Rattle.spx_tree.specs.Grammar.{layer_of, right_layer, operand_layer}
 use Rattle.spx_parse_body.specs.declared.expressions.Tall.{Tall}
+use Rattle.spx_parse_body.specs.declared.operators.Chain.{Chain}
+use Rattle.spx_parse_body.specs.declared.operators.Chain.TheVariants as chain
+use Rattle.spx_parse_body.specs.declared.operators.Relator.{Relator}
+use Rattle.spx_parse_body.specs.declared.operators.Relator.TheVariants as relators
 use Rattle.spx_parse_body.specs.Reading.{Reader, ◌>>=◌, ◌>>◌, pure, refuse, too_deep, peek, expect, expect_place, identifier, number, deeper, loop}
+use Rattle.spx_parse_body.specs.Operators.{sign_of, abs_or_not, power_of, relator_of, logical, goes_on, second, whole_operator}
 
 -- ---- names
 
--- what stands behind an identifier
+-- what stands after an identifier
 abbrev pub name_by : Bool → Identifier → Option Kind → Reader Name
 name_by marked prefix (Some k.Apostrophe) = do
   expect marked k.Apostrophe
@@ -42,7 +49,7 @@ leaf e = record { expr = e; height = 0 }
 abbrev pub enclosed : Place → Tall → Tall
 enclosed place inner = record { expr = expr.Parenthesized place inner.expr; height = inner.height + 1 }
 
--- an operand behind a sign
+-- an operand after an operator
 abbrev pub prefixed : PrefixOp → Place → Tall → Tall
 prefixed op place operand = record { expr = expr.Prefix op place operand.expr; height = operand.height + 1 }
 
@@ -50,27 +57,23 @@ prefixed op place operand = record { expr = expr.Prefix op place operand.expr; h
 abbrev pub joined : InfixOp → Place → Tall → Tall → Tall
 joined op place left right = record { expr = expr.Infix op place left.expr right.expr; height = max left.height right.height + 1 }
 
--- the sign that a form of this kind is (Ada 95 RM 4.5.4)
-abbrev pub sign_of : Option Kind → Option PrefixOp
-sign_of (Some k.Plus) = Some sign.Plus
-sign_of (Some k.Minus) = Some sign.Minus
-sign_of _ = None
+-- a membership test in a type
+abbrev pub in_type : MemberOp → Place → Tall → Name → Tall
+in_type op place tested type_name = record { expr = expr.InType op place tested.expr type_name; height = tested.height + 1 }
 
--- the adding operator that a form of this kind is (Ada 95 RM 4.5.3)
-abbrev pub adding : Option Kind → Option InfixOp
-adding (Some k.Plus) = Some op.Add
-adding (Some k.Minus) = Some op.Subtract
-adding _ = None
+-- a membership test in a range
+abbrev pub in_range : MemberOp → Place → Tall → Tall → Tall → Tall
+in_range op place tested low high = record { expr = expr.InRange op place tested.expr low.expr high.expr; height = max tested.height (max low.height high.height) + 1 }
 
--- the relational operator that a form of this kind is (Ada 95 RM 4.5.2)
-abbrev pub relational : Option Kind → Option InfixOp
-relational (Some k.Equal) = Some op.Equal
-relational (Some k.NotEqual) = Some op.NotEqual
-relational (Some k.Less) = Some op.Less
-relational (Some k.LessOrEqual) = Some op.LessOrEqual
-relational (Some k.Greater) = Some op.Greater
-relational (Some k.GreaterOrEqual) = Some op.GreaterOrEqual
-relational _ = None
+-- the name that an expression is
+abbrev pub plain_name : Expr → Option Name
+plain_name (expr.Name name) = Some name
+plain_name (expr.Number value place) = None
+plain_name (parenthesized place inner) = None
+plain_name (written.signed op place operand) = None
+plain_name (written.operation op place left right) = None
+plain_name (written.in_type op place tested type_name) = None
+plain_name (written.in_range op place tested low high) = None
 
 -- number
 unfoldable pub literal : Bool → Reader Tall
@@ -78,13 +81,18 @@ literal marked = do
   v ← number marked
   pure (leaf (expr.Number v.0 v.1))
 
+-- a membership test in the type of this name
+abbrev pub type_by : MemberOp → Place → Tall → Option Name → Reader Tall
+type_by op place tested (Some type_name) = pure (in_type op place tested type_name)
+type_by op place tested None = refuse
+
 -- What reads one level down is a parameter, and so is the number of levels that are left.
 module _ (marked : Bool) (below : Layer → Reader Tall) (levels : ℕ) where
   -- "(" expression ")"
   unfoldable pub in_parentheses : Reader Tall
   in_parentheses = deeper levels 0 (do
     place ← expect_place marked k.LeftParenthesis
-    inner ← below layer.Relation
+    inner ← below layer.Expression
     expect marked k.RightParenthesis
     pure (enclosed place inner))
 
@@ -98,55 +106,129 @@ module _ (marked : Bool) (below : Layer → Reader Tall) (levels : ℕ) where
   unfoldable pub primary : Reader Tall
   primary = λ fs. primary_by (peek marked fs) fs
 
-  -- a sign and its operand
-  unfoldable pub behind_sign : PrefixOp → Reader Tall
-  behind_sign op = deeper levels 0 (do
+  -- an operator and its operand
+  unfoldable pub operated : PrefixOp → Reader Tall
+  operated op = deeper levels 0 (do
     place ← expect_place marked (sign_kind op)
-    operand ← below layer.Primary
+    operand ← below (operand_layer op)
     pure (prefixed op place operand))
 
-  abbrev pub first_by : Option PrefixOp → Reader Tall
-  first_by None = primary
-  first_by (Some op) = behind_sign op
-
-  -- [sign] primary
-  unfoldable pub first : Reader Tall
-  first = λ fs. first_by (sign_of (peek marked fs)) fs
-
-  -- an operator and its right operand, behind what stands on the left
-  abbrev pub joined_by : Layer → InfixOp → Tall → Reader Tall
-  joined_by layer op left = deeper levels left.height (do
+  -- an operator and its right operand, after what stands on the left
+  unfoldable pub joined_by : InfixOp → Tall → Reader Tall
+  joined_by op left = deeper levels left.height (do
     place ← expect_place marked (operator_kind op)
-    right ← below layer
+    second marked op
+    right ← below (right_layer (layer_of op))
     pure (joined op place left right))
+
+  abbrev pub power_by : Tall → Option InfixOp → Reader Tall
+  power_by left None = pure left
+  power_by left (Some op) = joined_by op left
+
+  -- primary ["**" primary]
+  unfoldable pub power : Reader Tall
+  power = primary >>= λ left fs. power_by left (power_of (peek marked fs)) fs
+
+  abbrev pub factor_by : Option PrefixOp → Reader Tall
+  factor_by None = power
+  factor_by (Some op) = operated op
+
+  -- primary ["**" primary] | "abs" primary | "not" primary
+  unfoldable pub factor : Reader Tall
+  factor = λ fs. factor_by (abs_or_not (peek marked fs)) fs
 
   abbrev pub step_by : Tall → Option InfixOp → Option (Reader Tall)
   step_by left None = None
-  step_by left (Some op) = Some (joined_by layer.Primary op left)
+  step_by left (Some op) = Some (joined_by op left)
 
-  abbrev pub sum_step : Tall → Option Kind → Option (Reader Tall)
-  sum_step left kind = step_by left (adding kind)
+  abbrev pub chain_step : Chain → Tall → Option Kind → Option (Reader Tall)
+  chain_step links left kind = step_by left (goes_on links kind)
 
-  -- {adding operator primary}
-  unfoldable pub continued : Tall → Reader Tall
-  continued left = loop (peek marked) sum_step left
+  -- {operator and right operand}
+  unfoldable pub chained : Chain → Tall → Reader Tall
+  chained links left = loop (peek marked) (chain_step links) left
 
-  -- [sign] primary {adding operator primary}
+  -- factor {multiplying operator factor}
+  unfoldable pub term : Reader Tall
+  term = factor >>= chained chain.Multiplying
+
+  abbrev pub signed_by : Option PrefixOp → Reader Tall
+  signed_by None = term
+  signed_by (Some op) = operated op
+
+  -- [sign] term
+  unfoldable pub signed : Reader Tall
+  signed = λ fs. signed_by (sign_of (peek marked fs)) fs
+
+  -- [sign] term {adding operator term}
   unfoldable pub sum : Reader Tall
-  sum = first >>= continued
+  sum = signed >>= chained chain.Adding
 
-  abbrev pub relation_by : Tall → Option InfixOp → Reader Tall
+  abbrev pub member_by : MemberOp → Place → Tall → Tall → Option Kind → Reader Tall
+  member_by op place tested low (Some k.DoubleDot) = do
+    expect marked k.DoubleDot
+    high ← below layer.Sum
+    pure (in_range op place tested low high)
+  member_by op place tested low _ = type_by op place tested (plain_name low.expr)
+
+  -- name | sum ".." sum
+  unfoldable pub member : MemberOp → Place → Tall → Reader Tall
+  member op place tested = below layer.Sum >>= λ low fs. member_by op place tested low (peek marked fs) fs
+
+  -- "in" member
+  unfoldable pub inside : Tall → Reader Tall
+  inside tested = deeper levels tested.height (do
+    place ← expect_place marked k.In
+    member members.In place tested)
+
+  -- "not" "in" member
+  unfoldable pub outside : Tall → Reader Tall
+  outside tested = deeper levels tested.height (do
+    place ← expect_place marked k.Not
+    second ← expect_place marked k.In
+    member (members.NotIn second) place tested)
+
+  abbrev pub relation_by : Tall → Option Relator → Reader Tall
   relation_by left None = pure left
-  relation_by left (Some op) = joined_by layer.Sum op left
+  relation_by left (Some (relators.Compare op)) = joined_by op left
+  relation_by left (Some relators.In) = inside left
+  relation_by left (Some relators.NotIn) = outside left
 
-  -- sum [relational operator sum]
+  -- sum [relational operator sum | ["not"] "in" member]
   unfoldable pub relation : Reader Tall
-  relation = sum >>= λ left fs. relation_by left (relational (peek marked fs)) fs
+  relation = sum >>= λ left fs. relation_by left (relator_of (peek marked fs)) fs
+
+  -- a logical operator or a short-circuit form, and its right operand
+  unfoldable pub combined : InfixOp → Tall → Reader (Tall × Option InfixOp)
+  combined op left = deeper levels left.height (do
+    place ← expect_place marked (operator_kind op)
+    whole ← whole_operator marked op
+    right ← below layer.Relation
+    pure (joined whole place left right, Some whole))
+
+  abbrev pub opening_by : Tall → Option InfixOp → Reader (Tall × Option InfixOp)
+  opening_by left None = pure (left, None)
+  opening_by left (Some op) = combined op left
+
+  -- relation [operator relation]
+  unfoldable pub opening : Reader (Tall × Option InfixOp)
+  opening = relation >>= λ left fs. opening_by left (logical (peek marked fs)) fs
+
+  abbrev pub combination_by : Tall → Option InfixOp → Reader Tall
+  combination_by first None = pure first
+  combination_by first (Some op) = chained (chain.Logical op) first
+
+  -- relation {operator relation}, with one operator
+  unfoldable pub combination : Reader Tall
+  combination = opening >>= λ x. combination_by x.0 x.1
 
   abbrev pub read : Layer → Reader Tall
   read layer.Primary = primary
+  read layer.Factor = factor
+  read layer.Term = term
   read layer.Sum = sum
   read layer.Relation = relation
+  read layer.Expression = combination
 
 unfoldable pub below : Bool → ℕ → Layer → Reader Tall
 below marked zero layer = too_deep
@@ -158,8 +240,8 @@ at_layer marked levels layer = read marked (below marked levels) levels layer
 
 -- expression
 unfoldable pub expression : Bool → ℕ → Reader Expr
-expression marked levels = at_layer marked levels layer.Relation >>= λ t. pure t.expr
+expression marked levels = at_layer marked levels layer.Expression >>= λ t. pure t.expr
 
 -- expression one level down
 unfoldable pub expression_below : Bool → ℕ → Reader Expr
-expression_below marked levels = below marked levels layer.Relation >>= λ t. pure t.expr
+expression_below marked levels = below marked levels layer.Expression >>= λ t. pure t.expr

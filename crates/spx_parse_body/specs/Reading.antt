@@ -9,7 +9,7 @@ use Rattle.spx_tree.specs.declared.expression.Identifier.{Identifier}
 use Rattle.spx_tree.specs.Form.{Form, Kept, Nothing, Where, Spelled, Valued}
 use Rattle.spx_tree.specs.Goes.{Fault, Expected, TooDeep}
 
--- what is found, and the forms behind it, or a fault
+-- what is found, and the forms after it, or a fault
 abbrev pub Outcome : Type 0 → Type 0
 Outcome A = Result (A × List Form) Fault
 
@@ -135,6 +135,6 @@ abbrev pub item_step : {A : Type 0} → Reader A → List A → Bool → Option 
 item_step item found true = Some (item >>= λ x. pure (found ++ x ∷ []))
 item_step item found false = None
 
--- items behind others, as long as what is seen of the next form tells of one
+-- items after others, as long as the next form begins one
 abbrev pub more_items : {A : Type 0} → (List Form → Bool) → Reader A → List A → Reader (List A)
 more_items look item found = loop look (item_step item) found

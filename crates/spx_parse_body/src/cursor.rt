@@ -63,7 +63,7 @@ fn same_kind(a: Kind, b: Kind) -> bool
     a == b
 }
 
-/// The first token, if it has this mark and kind, and those behind it.
+/// The first token, if it has this mark and kind, and those after it.
 fn split_next(tokens: &[Token], marked: bool, kind: Kind) -> Option<(Token, &[Token])>
     ensures seen { (source : List ℕ) → read.sees marked kind (forms_of source tokens.now) ≡ is_some result }
     ensures parts { IfSome result (λ next. tokens.now ≡ next.0 ∷ next.1.now) }
@@ -79,7 +79,7 @@ fn split_next(tokens: &[Token], marked: bool, kind: Kind) -> Option<(Token, &[To
 }
 
 impl<'a> Cursor<'a> {
-    /// In front of these tokens of the source.
+    /// Before these tokens of the source.
     pub fn new(source: &'a [u8], tokens: &'a [Token]) -> Cursor<'a>
         requires { AreWithin (length source.now) tokens.now }
         ensures { result ≡ forms_of source.now tokens.now }

@@ -1,18 +1,19 @@
 // From tokens to names and expressions (Ada 95 RM 4.1 and 4.4).
-ghost use Rattle.std.specs.Prelude.{◌≡◌, ◌<◌, ◌≤◌, ◌-◌, ◌^◌, IfOk};
-ghost use Rattle.spx_tree.specs.Form.{keeps, ItsPlace};
-ghost use Rattle.spx_tree.specs.Written.{sign_kind, operator_kind};
-ghost use Rattle.spx_parse_body.specs.Reading as reading;
+ghost use Rattle.std.specs.Prelude.{◌≡◌, ◌<◌, ◌≤◌, ◌+◌, ◌-◌, ◌^◌, IfOk};
 ghost use Rattle.spx_parse_body.specs.Expressions as read;
 ghost use Rattle.spx_parse_body.specs.Answers.{Reads};
 
 use crate::cursor::{Cursor, Stop};
+use crate::operators::{
+    Chain, Relator, abs_or_not, logical, operand_layer, operator_place, place_before, power_of,
+    relator_of, right_layer, second_word, sign_of, whole_operator,
+};
 use spx_text::Place;
-use spx_tree::{Expr, InfixOp, Kind, Layer, Name, PrefixOp};
+use spx_tree::{Expr, InfixOp, Kind, Layer, MemberOp, Name, PrefixOp};
 use sqlite_items::Boxed;
 use std::alloc::{AllocError, Global};
 
-/// An expression, and how many parentheses, signs and operators lie on the longest way down.
+/// An expression, and how many parentheses, operators and membership tests lie on the longest way down.
 #[derive(Debug, Drop)]
 pub struct Tall {
     pub expr: Expr,
@@ -34,8 +35,11 @@ pub fn at_layer(
 {
     match layer {
         Layer::Primary => primary(alloc, cursor, levels, marked),
+        Layer::Factor => factor(alloc, cursor, levels, marked),
+        Layer::Term => term(alloc, cursor, levels, marked),
         Layer::Sum => sum(alloc, cursor, levels, marked),
         Layer::Relation => relation(alloc, cursor, levels, marked),
+        Layer::Expression => combination(alloc, cursor, levels, marked),
     }
 }
 
@@ -97,7 +101,7 @@ fn in_parentheses(
         return Err(cursor.too_deep());
     }
     let place = cursor.expect_place(marked, Kind::LeftParenthesis)?;
-    let inner = at_layer(alloc, cursor, levels - 1, marked, Layer::Relation)?;
+    let inner = at_layer(alloc, cursor, levels - 1, marked, Layer::Expression)?;
     cursor.expect(marked, Kind::RightParenthesis)?;
     Ok(enclose(alloc, place, inner)?)
 }
@@ -123,28 +127,7 @@ fn primary(alloc: Global, cursor: &mut Cursor<'_>, levels: u32, marked: bool) ->
     }
 }
 
-/// The sign that a token is.
-fn sign_of(kind: Option<Kind>) -> Option<PrefixOp>
-    ensures { result ≡ read.sign_of kind }
-{
-    match kind {
-        Some(Kind::Plus) => Some(PrefixOp::Plus),
-        Some(Kind::Minus) => Some(PrefixOp::Minus),
-        _ => None,
-    }
-}
-
-/// Takes a sign, and answers its place.
-fn sign_place(cursor: &mut Cursor<'_>, marked: bool, op: PrefixOp) -> Result<Place, Stop>
-    ensures { Reads (reading.expect_place marked (sign_kind op) cursor.old) result cursor.new }
-{
-    match op {
-        PrefixOp::Plus => cursor.expect_place(marked, Kind::Plus),
-        PrefixOp::Minus => cursor.expect_place(marked, Kind::Minus),
-    }
-}
-
-/// An operand behind a sign.
+/// An operand after an operator.
 fn prefix(alloc: Global, op: PrefixOp, place: Place, operand: Tall) -> Result<Tall, AllocError>
     requires { operand.height < 2 ^ 32 - 1 }
     ensures { IfOk result (λ t. t ≡ read.prefixed op place operand) }
@@ -157,88 +140,25 @@ fn prefix(alloc: Global, op: PrefixOp, place: Place, operand: Tall) -> Result<Ta
     })
 }
 
-// a sign and its operand
+// an operator and its operand
 #[cycle(layers)]
-#[tactic(auto, using(crate::proofs::Levels::below_is), unfolding(crate::specs::Expressions::behind_sign))]
-fn behind_sign(
+#[tactic(auto, using(crate::proofs::Levels::below_is), unfolding(crate::specs::Expressions::operated))]
+fn operated(
     alloc: Global,
     cursor: &mut Cursor<'_>,
     levels: u32,
     marked: bool,
     op: PrefixOp,
 ) -> Result<Tall, Stop>
-    ensures gives { Reads (read.behind_sign marked (read.below marked levels) levels op cursor.old) result cursor.new }
+    ensures gives { Reads (read.operated marked (read.below marked levels) levels op cursor.old) result cursor.new }
     ensures low { IfOk result (λ t. t.height ≤ levels) }
 {
     if levels == 0 {
         return Err(cursor.too_deep());
     }
-    let place = sign_place(cursor, marked, op)?;
-    let operand = at_layer(alloc, cursor, levels - 1, marked, Layer::Primary)?;
+    let place = place_before(cursor, marked, op)?;
+    let operand = at_layer(alloc, cursor, levels - 1, marked, operand_layer(op))?;
     Ok(prefix(alloc, op, place, operand)?)
-}
-
-// first = [sign] primary
-#[cycle(layers)]
-#[tactic(auto, unfolding(crate::specs::Expressions::first))]
-fn first(alloc: Global, cursor: &mut Cursor<'_>, levels: u32, marked: bool) -> Result<Tall, Stop>
-    ensures gives { Reads (read.first marked (read.below marked levels) levels cursor.old) result cursor.new }
-    ensures low { IfOk result (λ t. t.height ≤ levels) }
-{
-    match sign_of(cursor.peek(marked)) {
-        Some(op) => behind_sign(alloc, cursor, levels, marked, op),
-        None => primary(alloc, cursor, levels, marked),
-    }
-}
-
-/// The adding operator that a token is.
-fn adding(kind: Option<Kind>) -> Option<InfixOp>
-    ensures { result ≡ read.adding kind }
-{
-    match kind {
-        Some(Kind::Plus) => Some(InfixOp::Add),
-        Some(Kind::Minus) => Some(InfixOp::Subtract),
-        _ => None,
-    }
-}
-
-/// The relational operator that a token is.
-fn relational(kind: Option<Kind>) -> Option<InfixOp>
-    ensures { result ≡ read.relational kind }
-{
-    match kind {
-        Some(Kind::Equal) => Some(InfixOp::Equal),
-        Some(Kind::NotEqual) => Some(InfixOp::NotEqual),
-        Some(Kind::Less) => Some(InfixOp::Less),
-        Some(Kind::LessOrEqual) => Some(InfixOp::LessOrEqual),
-        Some(Kind::Greater) => Some(InfixOp::Greater),
-        Some(Kind::GreaterOrEqual) => Some(InfixOp::GreaterOrEqual),
-        _ => None,
-    }
-}
-
-/// The token that an operator is.
-fn kind_of(op: InfixOp) -> Kind
-    ensures kind { result ≡ operator_kind op }
-    ensures placed { keeps result ≡ ItsPlace }
-{
-    match op {
-        InfixOp::Add => Kind::Plus,
-        InfixOp::Subtract => Kind::Minus,
-        InfixOp::Equal => Kind::Equal,
-        InfixOp::NotEqual => Kind::NotEqual,
-        InfixOp::Less => Kind::Less,
-        InfixOp::LessOrEqual => Kind::LessOrEqual,
-        InfixOp::Greater => Kind::Greater,
-        InfixOp::GreaterOrEqual => Kind::GreaterOrEqual,
-    }
-}
-
-/// Takes an operator, and answers its place.
-fn operator_place(cursor: &mut Cursor<'_>, marked: bool, op: InfixOp) -> Result<Place, Stop>
-    ensures { Reads (reading.expect_place marked (operator_kind op) cursor.old) result cursor.new }
-{
-    cursor.expect_place(marked, kind_of(op))
 }
 
 /// Two operands under an operator.
@@ -262,60 +182,336 @@ fn join(
     })
 }
 
-// {adding operator primary}
+// an operator and its right operand
 #[cycle(layers)]
-#[tactic(auto, using(crate::proofs::Levels::below_is, crate::proofs::Levels::continued_is))]
-fn continued(
+#[tactic(auto, using(crate::proofs::Levels::below_is), unfolding(crate::specs::Expressions::joined_by))]
+fn infix(
     alloc: Global,
     cursor: &mut Cursor<'_>,
     levels: u32,
     marked: bool,
+    op: InfixOp,
+    left: Tall,
+) -> Result<Tall, Stop>
+    ensures gives { Reads (read.joined_by marked (read.below marked levels) levels op left cursor.old) result cursor.new }
+    ensures low { IfOk result (λ t. t.height ≤ levels) }
+    ensures taller { IfOk result (λ t. left.height < t.height) }
+{
+    if levels <= left.height {
+        return Err(cursor.too_deep());
+    }
+    let place = operator_place(cursor, marked, op)?;
+    second_word(cursor, marked, op)?;
+    let right = at_layer(alloc, cursor, levels - 1, marked, right_layer(op))?;
+    Ok(join(alloc, op, place, left, right)?)
+}
+
+// power = primary ["**" primary]
+#[cycle(layers)]
+#[tactic(auto, unfolding(crate::specs::Expressions::power))]
+fn power(alloc: Global, cursor: &mut Cursor<'_>, levels: u32, marked: bool) -> Result<Tall, Stop>
+    ensures gives { Reads (read.power marked (read.below marked levels) levels cursor.old) result cursor.new }
+    ensures low { IfOk result (λ t. t.height ≤ levels) }
+{
+    let left = primary(alloc, cursor, levels, marked)?;
+    match power_of(cursor.peek(marked)) {
+        Some(op) => infix(alloc, cursor, levels, marked, op, left),
+        None => Ok(left),
+    }
+}
+
+// factor = power | ("abs" | "not") primary
+#[cycle(layers)]
+#[tactic(auto, unfolding(crate::specs::Expressions::factor))]
+fn factor(alloc: Global, cursor: &mut Cursor<'_>, levels: u32, marked: bool) -> Result<Tall, Stop>
+    ensures gives { Reads (read.factor marked (read.below marked levels) levels cursor.old) result cursor.new }
+    ensures low { IfOk result (λ t. t.height ≤ levels) }
+{
+    match abs_or_not(cursor.peek(marked)) {
+        Some(op) => operated(alloc, cursor, levels, marked, op),
+        None => power(alloc, cursor, levels, marked),
+    }
+}
+
+// {operator of the chain, and its right operand}
+#[cycle(layers)]
+#[tactic(auto, using(crate::proofs::Levels::chained_is))]
+fn chained(
+    alloc: Global,
+    cursor: &mut Cursor<'_>,
+    levels: u32,
+    marked: bool,
+    chain: Chain,
     first: Tall,
 ) -> Result<Tall, Stop>
     requires { first.height ≤ levels }
-    ensures gives { Reads (read.continued marked (read.below marked levels) levels first cursor.old) result cursor.new }
+    ensures gives { Reads (read.chained marked (read.below marked levels) levels chain first cursor.old) result cursor.new }
     ensures low { IfOk result (λ t. t.height ≤ levels) }
 {
     let mut left = first;
-    while let Some(op) = adding(cursor.peek(marked)) {
-        if levels <= left.height {
-            return Err(cursor.too_deep());
-        }
-        let place = operator_place(cursor, marked, op)?;
-        let right = at_layer(alloc, cursor, levels - 1, marked, Layer::Primary)?;
-        left = join(alloc, op, place, left, right)?;
+    while let Some(op) = chain.operator(cursor.peek(marked)) {
+        left = infix(alloc, cursor, levels, marked, op, left)?;
     }
     Ok(left)
 }
 
-// sum = first {adding operator primary}
+// term = factor {multiplying operator factor}
+#[cycle(layers)]
+#[tactic(auto, unfolding(crate::specs::Expressions::term))]
+fn term(alloc: Global, cursor: &mut Cursor<'_>, levels: u32, marked: bool) -> Result<Tall, Stop>
+    ensures gives { Reads (read.term marked (read.below marked levels) levels cursor.old) result cursor.new }
+    ensures low { IfOk result (λ t. t.height ≤ levels) }
+{
+    let first = factor(alloc, cursor, levels, marked)?;
+    chained(alloc, cursor, levels, marked, Chain::Multiplying, first)
+}
+
+// signed = [sign] term
+#[cycle(layers)]
+#[tactic(auto, unfolding(crate::specs::Expressions::signed))]
+fn signed(alloc: Global, cursor: &mut Cursor<'_>, levels: u32, marked: bool) -> Result<Tall, Stop>
+    ensures gives { Reads (read.signed marked (read.below marked levels) levels cursor.old) result cursor.new }
+    ensures low { IfOk result (λ t. t.height ≤ levels) }
+{
+    match sign_of(cursor.peek(marked)) {
+        Some(op) => operated(alloc, cursor, levels, marked, op),
+        None => term(alloc, cursor, levels, marked),
+    }
+}
+
+// sum = signed {adding operator term}
 #[cycle(layers)]
 #[tactic(auto, unfolding(crate::specs::Expressions::sum))]
 fn sum(alloc: Global, cursor: &mut Cursor<'_>, levels: u32, marked: bool) -> Result<Tall, Stop>
     ensures gives { Reads (read.sum marked (read.below marked levels) levels cursor.old) result cursor.new }
     ensures low { IfOk result (λ t. t.height ≤ levels) }
 {
-    let first = first(alloc, cursor, levels, marked)?;
-    continued(alloc, cursor, levels, marked, first)
+    let first = signed(alloc, cursor, levels, marked)?;
+    chained(alloc, cursor, levels, marked, Chain::Adding, first)
 }
 
-// relation = sum [relational operator sum]
+/// The name that an expression is.
+fn plain_name(expr: Expr) -> Option<Name>
+    ensures { result ≡ read.plain_name expr }
+{
+    match expr {
+        Expr::Name(name) => Some(name),
+        Expr::Number(_, _) => None,
+        Expr::Parenthesized(_, _) => None,
+        Expr::Prefix(_, _, _) => None,
+        Expr::Infix(_, _, _, _) => None,
+        Expr::InType(_, _, _, _) => None,
+        Expr::InRange(_, _, _, _, _) => None,
+    }
+}
+
+/// A membership test in a type.
+fn test_type(
+    alloc: Global,
+    op: MemberOp,
+    place: Place,
+    tested: Tall,
+    type_name: Name,
+) -> Result<Tall, AllocError>
+    requires { tested.height < 2 ^ 32 - 1 }
+    ensures { IfOk result (λ t. t ≡ read.in_type op place tested type_name) }
+{
+    let height = tested.height + 1;
+    let tested = Boxed::new(alloc, tested.expr)?;
+    Ok(Tall {
+        expr: Expr::InType(op, place, tested, type_name),
+        height,
+    })
+}
+
+/// A membership test in the type of this name, where there is one.
+fn member_type(
+    alloc: Global,
+    cursor: &Cursor<'_>,
+    op: MemberOp,
+    place: Place,
+    tested: Tall,
+    type_name: Option<Name>,
+) -> Result<Tall, Stop>
+    requires { tested.height < 2 ^ 32 - 1 }
+    ensures gives { Reads (read.type_by op place tested type_name cursor.now) result cursor.now }
+    ensures low { IfOk result (λ t. t.height ≡ tested.height + 1) }
+{
+    match type_name {
+        Some(type_name) => Ok(test_type(alloc, op, place, tested, type_name)?),
+        None => Err(cursor.expected()),
+    }
+}
+
+/// A membership test in a range.
+fn test_range(
+    alloc: Global,
+    op: MemberOp,
+    place: Place,
+    tested: Tall,
+    low: Tall,
+    high: Tall,
+) -> Result<Tall, AllocError>
+    requires tested_low { tested.height < 2 ^ 32 - 1 }
+    requires low_low { low.height < 2 ^ 32 - 1 }
+    requires high_low { high.height < 2 ^ 32 - 1 }
+    ensures { IfOk result (λ t. t ≡ read.in_range op place tested low high) }
+{
+    let height = tested.height.max(low.height.max(high.height)) + 1;
+    let tested = Boxed::new(alloc, tested.expr)?;
+    let low = Boxed::new(alloc, low.expr)?;
+    let high = Boxed::new(alloc, high.expr)?;
+    Ok(Tall {
+        expr: Expr::InRange(op, place, tested, low, high),
+        height,
+    })
+}
+
+// member = name | sum ".." sum
 #[cycle(layers)]
-#[tactic(auto, using(crate::proofs::Levels::below_is), unfolding(crate::specs::Expressions::relation))]
+#[tactic(auto, using(crate::proofs::Levels::below_is), unfolding(crate::specs::Expressions::member))]
+fn member(
+    alloc: Global,
+    cursor: &mut Cursor<'_>,
+    levels: u32,
+    marked: bool,
+    op: MemberOp,
+    place: Place,
+    tested: Tall,
+) -> Result<Tall, Stop>
+    requires { tested.height < levels }
+    ensures gives { Reads (read.member marked (read.below marked levels) levels op place tested cursor.old) result cursor.new }
+    ensures low { IfOk result (λ t. t.height ≤ levels) }
+{
+    let low = at_layer(alloc, cursor, levels - 1, marked, Layer::Sum)?;
+    match cursor.peek(marked) {
+        Some(Kind::DoubleDot) => {
+            cursor.expect(marked, Kind::DoubleDot)?;
+            let high = at_layer(alloc, cursor, levels - 1, marked, Layer::Sum)?;
+            Ok(test_range(alloc, op, place, tested, low, high)?)
+        }
+        _ => member_type(alloc, cursor, op, place, tested, plain_name(low.expr)),
+    }
+}
+
+// "in" member
+#[cycle(layers)]
+#[tactic(auto, unfolding(crate::specs::Expressions::inside))]
+fn inside(
+    alloc: Global,
+    cursor: &mut Cursor<'_>,
+    levels: u32,
+    marked: bool,
+    tested: Tall,
+) -> Result<Tall, Stop>
+    ensures gives { Reads (read.inside marked (read.below marked levels) levels tested cursor.old) result cursor.new }
+    ensures low { IfOk result (λ t. t.height ≤ levels) }
+{
+    if levels <= tested.height {
+        return Err(cursor.too_deep());
+    }
+    let place = cursor.expect_place(marked, Kind::In)?;
+    member(alloc, cursor, levels, marked, MemberOp::In, place, tested)
+}
+
+// "not" "in" member
+#[cycle(layers)]
+#[tactic(auto, unfolding(crate::specs::Expressions::outside))]
+fn outside(
+    alloc: Global,
+    cursor: &mut Cursor<'_>,
+    levels: u32,
+    marked: bool,
+    tested: Tall,
+) -> Result<Tall, Stop>
+    ensures gives { Reads (read.outside marked (read.below marked levels) levels tested cursor.old) result cursor.new }
+    ensures low { IfOk result (λ t. t.height ≤ levels) }
+{
+    if levels <= tested.height {
+        return Err(cursor.too_deep());
+    }
+    let place = cursor.expect_place(marked, Kind::Not)?;
+    let second = cursor.expect_place(marked, Kind::In)?;
+    let op = MemberOp::NotIn(second);
+    member(alloc, cursor, levels, marked, op, place, tested)
+}
+
+// relation = sum [relational operator sum | ["not"] "in" member]
+#[cycle(layers)]
+#[tactic(auto, unfolding(crate::specs::Expressions::relation))]
 fn relation(alloc: Global, cursor: &mut Cursor<'_>, levels: u32, marked: bool) -> Result<Tall, Stop>
     ensures gives { Reads (read.relation marked (read.below marked levels) levels cursor.old) result cursor.new }
     ensures low { IfOk result (λ t. t.height ≤ levels) }
 {
     let left = sum(alloc, cursor, levels, marked)?;
-    let Some(op) = relational(cursor.peek(marked)) else {
-        return Ok(left);
-    };
+    match relator_of(cursor.peek(marked)) {
+        Some(Relator::Compare(op)) => infix(alloc, cursor, levels, marked, op, left),
+        Some(Relator::In) => inside(alloc, cursor, levels, marked, left),
+        Some(Relator::NotIn) => outside(alloc, cursor, levels, marked, left),
+        None => Ok(left),
+    }
+}
+
+// logical operator or short-circuit form, and a relation; answers the operator
+#[cycle(layers)]
+#[tactic(auto, using(crate::proofs::Levels::below_is), unfolding(crate::specs::Expressions::combined))]
+fn combined(
+    alloc: Global,
+    cursor: &mut Cursor<'_>,
+    levels: u32,
+    marked: bool,
+    op: InfixOp,
+    left: Tall,
+) -> Result<(Tall, Option<InfixOp>), Stop>
+    ensures gives { Reads (read.combined marked (read.below marked levels) levels op left cursor.old) result cursor.new }
+    ensures low { IfOk result (λ r. r.0.height ≤ levels) }
+{
     if levels <= left.height {
         return Err(cursor.too_deep());
     }
     let place = operator_place(cursor, marked, op)?;
-    let right = at_layer(alloc, cursor, levels - 1, marked, Layer::Sum)?;
-    Ok(join(alloc, op, place, left, right)?)
+    let whole = whole_operator(cursor, marked, op)?;
+    let right = at_layer(alloc, cursor, levels - 1, marked, Layer::Relation)?;
+    let first = join(alloc, whole, place, left, right)?;
+    Ok((first, Some(whole)))
+}
+
+// opening = relation [logical operator or short-circuit form, and a relation]
+#[cycle(layers)]
+#[tactic(auto, unfolding(crate::specs::Expressions::opening))]
+fn opening(
+    alloc: Global,
+    cursor: &mut Cursor<'_>,
+    levels: u32,
+    marked: bool,
+) -> Result<(Tall, Option<InfixOp>), Stop>
+    ensures gives { Reads (read.opening marked (read.below marked levels) levels cursor.old) result cursor.new }
+    ensures low { IfOk result (λ r. r.0.height ≤ levels) }
+{
+    let left = relation(alloc, cursor, levels, marked)?;
+    match logical(cursor.peek(marked)) {
+        Some(op) => combined(alloc, cursor, levels, marked, op, left),
+        None => Ok((left, None)),
+    }
+}
+
+// combination = opening {the same operator, and a relation}
+#[cycle(layers)]
+#[tactic(auto, unfolding(crate::specs::Expressions::combination))]
+fn combination(
+    alloc: Global,
+    cursor: &mut Cursor<'_>,
+    levels: u32,
+    marked: bool,
+) -> Result<Tall, Stop>
+    ensures gives { Reads (read.combination marked (read.below marked levels) levels cursor.old) result cursor.new }
+    ensures low { IfOk result (λ t. t.height ≤ levels) }
+{
+    let (first, op) = opening(alloc, cursor, levels, marked)?;
+    match op {
+        Some(op) => chained(alloc, cursor, levels, marked, Chain::Logical(op), first),
+        None => Ok(first),
+    }
 }
 
 /// Reads an expression.
@@ -328,6 +524,6 @@ pub fn expression(
 ) -> Result<Expr, Stop>
     ensures { Reads (read.expression marked levels cursor.old) result cursor.new }
 {
-    let tall = at_layer(alloc, cursor, levels, marked, Layer::Relation)?;
+    let tall = at_layer(alloc, cursor, levels, marked, Layer::Expression)?;
     Ok(tall.expr)
 }

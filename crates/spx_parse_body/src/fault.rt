@@ -3,7 +3,7 @@
 use spx_text::Place;
 use thiserror::Error;
 
-/// How many parentheses, signs and operators may lie one below the other.
+/// How many parentheses, operators and membership tests may lie one below the other.
 pub const MOST_LEVELS: u32 = 200;
 
 /// Why tokens are no text of the grammar.

@@ -9,6 +9,7 @@
 mod cursor;
 mod expressions;
 mod fault;
+mod operators;
 mod parse;
 mod statements;
 

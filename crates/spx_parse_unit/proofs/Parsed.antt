@@ -1,4 +1,4 @@
--- What the reader of units answers, in front of all tokens of a text.
+-- What the reader of units answers, before all tokens of a text.
 use Rattle.std.proofs.Common.{◌≡◌, ◌⊎◌, ℕ, ◌≤◌, List, [], ◌∷◌, length, Result, Ok, Err, refl, sym, ap, subst, ◌∙◌}
 use Rattle.spx_text.specs.declared.place.Place.{Place}
 use Rattle.spx_tree.specs.declared.token.Token.{Token}

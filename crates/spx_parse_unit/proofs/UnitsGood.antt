@@ -1,25 +1,29 @@
 -- The readers of declarations, annotations, subprograms and units keep the laws of readers.
 use Rattle.std.specs.Prelude.{⊤}
-use Rattle.std.proofs.Common.{◌≡◌, ℕ, suc, Bool, true, List, [], ◌∷◌, ◌++◌, Option, Some, None, refl, append_assoc}
+use Rattle.std.proofs.Common.{◌≡◌, ℕ, suc, Bool, true, List, [], ◌∷◌, ◌++◌, Option, Some, None, refl, ap, append_assoc}
 use Rattle.std.proofs.lemmas.List.{append-nil}
+use Rattle.spx_text.specs.declared.place.Place.{Place}
 use Rattle.spx_tree.specs.declared.token.Kind.{Kind}
 use Rattle.spx_tree.specs.declared.token.Kind.TheVariants as k
 use Rattle.spx_tree.specs.declared.expression.Identifier.{Identifier}
 use Rattle.spx_tree.specs.declared.expression.Name.{Name}
 use Rattle.spx_tree.specs.declared.declaration.Decl.TheVariants.{Variables}
+use Rattle.spx_tree.specs.declared.annotation.Exports.TheVariants as exported
 use Rattle.spx_tree.specs.declared.annotation.Imports.{Imports}
 use Rattle.spx_tree.specs.declared.subprogram.WrittenMode.TheVariants as modes
 use Rattle.spx_tree.specs.declared.subprogram.Unit.TheVariants as unit
 use Rattle.spx_tree.specs.Form.{Form, bare, placed, named}
-use Rattle.spx_tree.specs.Written.{program, annotation, behind, separated, optional, written_identifier, written_identifiers, written_name, written_names, written_decl, written_decls, written_stmts, written_imports, written_item, written_derives, written_pre, written_mode, written_param, written_params, written_formal_part, written_subprogram, written_unit, written}
-use Rattle.spx_tree.specs.Grammar.{Each, OneOrMore, IsIdentifiers, IsNames, IsDecl, IsItem, IsDerives, IsPrecondition, IsParam, IsFormalPart, IsSubprogram, IsUnit, IsFile}
+use Rattle.spx_tree.specs.Written.{program, annotation, following, separated, optional, written_identifier, written_identifiers, written_name, written_names, written_decl, written_decls, written_stmts, written_imports, written_item, written_derives, written_pre, written_mode, written_param, written_params, written_formal_part, written_subprogram, written_unit, written}
+use Rattle.spx_tree.specs.Grammar.{Each, OneOrMore, IfThere, IsIdentifiers, IsNames, IsDecl, IsStmts, IsItem, IsDerives, IsPrecondition, IsParam, IsFormalPart, IsSubprogram, IsUnit, IsFile}
 use Rattle.spx_parse_body.specs.Reading.{◌>>◌, peek, sees, expect, identifier, item_step}
 use Rattle.spx_parse_body.specs.Expressions.{name}
-use Rattle.spx_parse_unit.specs.Units.{more_identifiers, identifiers, more_names, names, starred, unstarred, imports_by, imports, item, more_derives, items, derives, precondition, in_by, behind_in, mode_by, mode, param, more_params, params, formal_part, declaration, more_declarations, declarations, subprogram, unit_at, more_units, file}
+use Rattle.spx_parse_unit.specs.declared.subprograms.HeadingParts.{HeadingParts}
+use Rattle.spx_parse_unit.specs.declared.subprograms.BodyParts.{BodyParts}
+use Rattle.spx_parse_unit.specs.Units.{more_identifiers, identifiers, more_names, names, starred, unstarred, imports_by, imports, named_item, null_item, item_by, item, more_derives, items, derives, precondition, in_by, following_in, mode_by, mode, param, more_params, params, formal_part, declaration, more_declarations, declarations, heading, body, whole, subprogram, unit_at, more_units, file}
 use Rattle.spx_parse_body.proofs.Callers.Loops.{Shrinks}
-use Rattle.spx_parse_body.proofs.Callers.Lawful.{Any, Sees, Always}
-use Rattle.spx_parse_body.proofs.Callers.Good.{Good, Starts, Case, Adds, absent, present, good_bind, good_pure, good_before, good_given, good_expect, good_expect_place, good_identifier, good_option, good_more, list_shrinks, starts_bind, starts_expect, starts_place, starts_identifier}
-use Rattle.spx_parse_body.proofs.Callers.Separated.{sees_kind, all_added, joined_added, next, behind_added, separated_adds, next_starts, good_separated, separated_shrinks, good_items, items_shrinks, good_if_seen}
+use Rattle.spx_parse_body.proofs.Callers.Lawful.{Ends, Any, Sees, Always}
+use Rattle.spx_parse_body.proofs.Callers.Good.{Good, Starts, Case, Adds, absent, present, good_bind, good_pure, good_refuse, good_fewer, good_choose, good_before, good_given, good_expect, good_expect_place, good_identifier, good_option, good_more, list_shrinks, starts_bind, starts_expect, starts_place, starts_identifier}
+use Rattle.spx_parse_body.proofs.Callers.Separated.{sees_kind, all_added, joined_added, next, following_added, separated_adds, next_starts, good_separated, separated_shrinks, good_items, items_shrinks, good_if_seen}
 use Rattle.spx_parse_body.proofs.Callers.ExpressionsGood.{name_starts, name_good, expression_good}
 use Rattle.spx_parse_body.proofs.Callers.StatementsGood.{stmts_good}
 
@@ -28,7 +32,7 @@ use Rattle.spx_parse_body.proofs.Callers.StatementsGood.{stmts_good}
 next_identifier_starts : (marked : Bool) {L P : Type 0} → Starts L P (next (written_identifier marked) Always marked k.Comma) Always [] (Sees (sees marked k.Comma) true) (expect marked k.Comma >> identifier marked) (expect marked k.Comma >> identifier marked)
 next_identifier_starts marked = next_starts (written_identifier marked) Always marked k.Comma (sees marked k.Comma) (λ t xs ys. refl) refl (sees_kind marked k.Comma) refl (good_identifier marked)
 
--- identifiers behind others
+-- identifiers after others
 identifiers_more : (marked : Bool) {L P : Type 0} (found : List Identifier) → Good L (P × IsIdentifiers found) (written_identifiers marked) IsIdentifiers (written_identifiers marked found) Any (more_identifiers marked found) (more_identifiers marked found)
 unfolding more_identifiers
 identifiers_more marked {L} {P} = good_more L P (next (written_identifier marked) Always marked k.Comma) Always (written_identifiers marked) IsIdentifiers (separated_adds (written_identifier marked) Always marked k.Comma) (sees marked k.Comma) (λ t xs ys. refl) refl (next_identifier_starts marked)
@@ -49,15 +53,15 @@ identifiers_good marked = good_separated (written_identifier marked) Always mark
 next_name_starts : (marked : Bool) {L P : Type 0} → Starts L P (next (written_name marked) Always marked k.Comma) Always [] (Sees (sees marked k.Comma) true) (expect marked k.Comma >> name marked) (expect marked k.Comma >> name marked)
 next_name_starts marked = next_starts (written_name marked) Always marked k.Comma (sees marked k.Comma) (λ t xs ys. refl) refl (sees_kind marked k.Comma) refl (name_good marked)
 
--- names behind others
+-- names after others
 names_more : (marked : Bool) {L P : Type 0} (found : List Name) → Good L (P × IsNames found) (written_names marked) IsNames (written_names marked found) Any (more_names marked found) (more_names marked found)
 unfolding more_names
 names_more marked {L} {P} = good_more L P (next (written_name marked) Always marked k.Comma) Always (written_names marked) IsNames (separated_adds (written_name marked) Always marked k.Comma) (sees marked k.Comma) (λ t xs ys. refl) refl (next_name_starts marked)
 
--- names that stand behind a star
-star_more : {L P : Type 0} (found : List Name) → Good L (P × ⊤) (behind (bare annotation k.Comma) (written_name annotation)) (λ xs. ⊤) (behind (bare annotation k.Comma) (written_name annotation) found) Any (more_names annotation found) (more_names annotation found)
+-- names that stand after a star
+star_more : {L P : Type 0} (found : List Name) → Good L (P × ⊤) (following (bare annotation k.Comma) (written_name annotation)) (λ xs. ⊤) (following (bare annotation k.Comma) (written_name annotation) found) Any (more_names annotation found) (more_names annotation found)
 unfolding more_names
-star_more {L} {P} = good_more L P (next (written_name annotation) Always annotation k.Comma) Always (behind (bare annotation k.Comma) (written_name annotation)) (λ xs. ⊤) (λ found x f g. (behind_added (written_name annotation) Always annotation k.Comma found x, tt)) (sees annotation k.Comma) (λ t xs ys. refl) refl (next_name_starts annotation)
+star_more {L} {P} = good_more L P (next (written_name annotation) Always annotation k.Comma) Always (following (bare annotation k.Comma) (written_name annotation)) (λ xs. ⊤) (λ found x f g. (following_added (written_name annotation) Always annotation k.Comma found x, tt)) (sees annotation k.Comma) (λ t xs ys. refl) refl (next_name_starts annotation)
 
 pub names_shrinks : (marked : Bool) → Shrinks (sees marked k.Comma) (item_step (expect marked k.Comma >> name marked))
 names_shrinks marked = separated_shrinks (written_name marked) Always marked k.Comma (sees marked k.Comma) (λ t xs ys. refl) refl (sees_kind marked k.Comma) refl {L = ⊤} (name_good marked) tt
@@ -99,13 +103,41 @@ imports_good : {L P : Type 0} → Good L P written_in Always [] Any imports impo
 unfolding imports
 imports_good = good_option (peek annotation) (λ t xs ys. refl) (record { itself = None; names = [] }) imports_by imports_by refl refl imports_case
 
-pub item_good : {L P : Type 0} → Good L P written_item IsItem [] Any item item
-unfolding item written_in
-item_good =
+named_item_good : {L P : Type 0} → Good L P written_item IsItem [] Any named_item named_item
+unfolding named_item written_in
+named_item_good =
     good_bind (names_good annotation) (λ exports.
     good_bind (good_expect annotation k.From) (λ u.
     good_bind imports_good (λ imports.
-    good_pure (record { exports = exports; imports = imports }) (λ l w. simp append_assoc) (λ l w. w.0.0.1))))
+    good_pure (record { exports = exported.Names exports; imports = imports }) (λ l w. simp append_assoc) (λ l w. w.0.0.1))))
+
+-- imports that are names, one or more
+IsUnstarred : Imports → Type 0
+IsUnstarred i = (i.itself ≡ None) × IsNames i.names
+
+unstarred_good : {L P : Type 0} → Good L P written_in IsUnstarred [] Any unstarred unstarred
+unfolding unstarred written_in IsUnstarred
+unstarred_good = good_bind (names_good annotation) (λ names. good_pure (record { itself = None; names = names }) (λ l w. unstarred_text names w.1) (λ l w. (refl, w.1)))
+
+null_item_starts : {L P : Type 0} {on : List Form → Type 0} → ((fs : List Form) → on fs → peek annotation fs ≡ Some k.Null) → Starts L P written_item IsItem [] on null_item null_item
+unfolding null_item written_in IsUnstarred
+null_item_starts here =
+    starts_bind (starts_place annotation k.Null here refl) (λ place.
+    good_bind (good_expect annotation k.From) (λ u.
+    good_bind unstarred_good (λ imports.
+    good_pure (record { exports = exported.Null place; imports = imports }) (λ l w. refl) (λ l w. w.1))))
+
+item_ends : Ends written_item IsItem []
+item_ends = ((named_item_good {L = ⊤} {P = ⊤}).law tt tt).ends
+
+item_case : {L P : Type 0} (kind : Option Kind) → Good L P written_item IsItem [] (Sees (peek annotation) kind) (item_by kind) (item_by kind)
+item_case (Some k.Identifier) = good_fewer (λ fs here. tt) named_item_good
+item_case (Some k.Null) = (null_item_starts (λ fs here. here)).good
+item_case _ = good_refuse (λ l w. item_ends)
+
+pub item_good : {L P : Type 0} → Good L P written_item IsItem [] Any item item
+unfolding item
+item_good = good_choose (peek annotation) (λ t xs ys. refl) item_by item_by refl refl item_case
 
 pub derives_shrinks : Shrinks (sees annotation k.Ampersand) (item_step (expect annotation k.Ampersand >> item))
 derives_shrinks = separated_shrinks written_item IsItem annotation k.Ampersand (sees annotation k.Ampersand) (λ t xs ys. refl) refl (sees_kind annotation k.Ampersand) refl {L = ⊤} item_good tt
@@ -132,16 +164,16 @@ precondition_starts levels here =
 
 -- ---- formal parameters
 
-in_case : {L P : Type 0} (kind : Option Kind) → Case L P written_mode Always (bare program k.In ∷ []) (Sees (peek program) kind) modes.In (in_by kind) (in_by kind)
-in_case (Some k.Out) = present (starts_bind (starts_expect program k.Out (λ fs here. here) refl) (λ u. good_pure modes.InOut (λ l w. refl) (λ l w. tt)))
-in_case _ = absent refl refl (λ l w. refl) (λ l w. tt)
+in_case : {L P : Type 0} (place : Place) (kind : Option Kind) → Case L P written_mode Always (placed program k.In place ∷ []) (Sees (peek program) kind) (modes.In place) (in_by place kind) (in_by place kind)
+in_case place (Some k.Out) = present (starts_bind (starts_expect program k.Out (λ fs here. here) refl) (λ u. good_pure (modes.InOut place) (λ l w. refl) (λ l w. tt)))
+in_case place _ = absent refl refl (λ l w. refl) (λ l w. tt)
 
-behind_in_good : {L P : Type 0} → Good L P written_mode Always (bare program k.In ∷ []) Any behind_in behind_in
-unfolding behind_in
-behind_in_good = good_option (peek program) (λ t xs ys. refl) modes.In in_by in_by refl refl in_case
+following_in_good : {L P : Type 0} (place : Place) → Good L P written_mode Always (placed program k.In place ∷ []) Any (following_in place) (following_in place)
+unfolding following_in
+following_in_good place = good_option (peek program) (λ t xs ys. refl) (modes.In place) (in_by place) (in_by place) refl refl (in_case place)
 
 mode_case : {L P : Type 0} (kind : Option Kind) → Case L P written_mode Always [] (Sees (peek program) kind) modes.Unwritten (mode_by kind) (mode_by kind)
-mode_case (Some k.In) = present (starts_bind (starts_expect program k.In (λ fs here. here) refl) (λ u. behind_in_good))
+mode_case (Some k.In) = present (starts_bind (starts_place program k.In (λ fs here. here) refl) following_in_good)
 mode_case (Some k.Out) = present (starts_bind (starts_expect program k.Out (λ fs here. here) refl) (λ u. good_pure modes.Out (λ l w. refl) (λ l w. tt)))
 mode_case _ = absent refl refl (λ l w. refl) (λ l w. tt)
 
@@ -196,17 +228,47 @@ declarations_good = good_items written_decl IsDecl (sees program k.Identifier) (
 end_name_starts : {L P : Type 0} {on : List Form → Type 0} → ((fs : List Form) → on fs → peek program fs ≡ Some k.Identifier) → Starts L P (written_identifier program) Always [] on (identifier program) (identifier program)
 end_name_starts here = starts_identifier program here
 
-flat : (p n f d q i c b s e m z : List Form) → (((((((((((p ++ n) ++ f) ++ d) ++ q) ++ i) ++ c) ++ b) ++ s) ++ e) ++ m) ++ z) ≡ p ++ (n ++ (f ++ (d ++ (q ++ (i ++ (c ++ (b ++ (s ++ (e ++ (m ++ z))))))))))
-flat p n f d q i c b s e m z = simp append_assoc
+-- the heading of a subprogram, and what comes after it
 
-subprogram_starts : {L P : Type 0} {on : List Form → Type 0} (levels : ℕ) → ((fs : List Form) → on fs → peek program fs ≡ Some k.Procedure) → Starts L P written_subprogram (IsSubprogram levels) [] on (subprogram levels) (subprogram (suc levels))
-unfolding subprogram
-subprogram_starts levels here =
+abbrev pub written_heading : HeadingParts → List Form
+written_heading h = placed program k.Procedure h.place ∷ named program h.name ∷ (optional written_formal_part h.formal_part ++ (optional written_derives h.derives ++ optional written_pre h.pre))
+
+abbrev pub written_body : BodyParts → List Form
+written_body b = bare program k.Is ∷ (written_decls b.declarations ++ (bare program k.Begin ∷ (written_stmts b.statements ++ (placed program k.End b.end ∷ (optional (written_identifier program) b.end_name ++ bare program k.Semicolon ∷ [])))))
+
+pub record IsHeading (levels : ℕ) (h : HeadingParts) : Type 0 where
+  pub formal_part : IfThere IsFormalPart h.formal_part
+  pub derives : IfThere IsDerives h.derives
+  pub pre : IfThere (IsPrecondition levels) h.pre
+
+pub record IsBody (levels : ℕ) (b : BodyParts) : Type 0 where
+  pub declarations : Each IsDecl b.declarations
+  pub statements : IsStmts levels b.statements
+
+heading_flat : (p n f d q : List Form) → (((p ++ n) ++ f) ++ d) ++ q ≡ p ++ (n ++ (f ++ (d ++ q)))
+heading_flat p n f d q = simp append_assoc
+
+body_flat : (i c b s e m z : List Form) → (((((i ++ c) ++ b) ++ s) ++ e) ++ m) ++ z ≡ i ++ (c ++ (b ++ (s ++ (e ++ (m ++ z)))))
+body_flat i c b s e m z = simp append_assoc
+
+whole_flat : (f d q z : List Form) → (f ++ (d ++ q)) ++ z ≡ f ++ (d ++ (q ++ z))
+whole_flat f d q z = simp append_assoc
+
+heading_starts : {L P : Type 0} {on : List Form → Type 0} (levels : ℕ) → ((fs : List Form) → on fs → peek program fs ≡ Some k.Procedure) → Starts L P written_heading (IsHeading levels) [] on (heading levels) (heading (suc levels))
+unfolding heading
+heading_starts levels here =
     starts_bind (starts_place program k.Procedure here refl) (λ place.
     good_bind (good_identifier program) (λ name.
     good_bind (good_if_seen written_formal_part IsFormalPart program k.LeftParenthesis (formal_part_starts (sees_kind program k.LeftParenthesis))) (λ formal_part.
     good_bind (good_if_seen written_derives IsDerives annotation k.Derives (derives_starts (sees_kind annotation k.Derives))) (λ derives.
     good_bind (good_if_seen written_pre (IsPrecondition levels) annotation k.Pre (precondition_starts levels (sees_kind annotation k.Pre))) (λ pre.
+    good_pure (record { place = place; name = name; formal_part = formal_part; derives = derives; pre = pre })
+    (λ l w. heading_flat (placed program k.Procedure place ∷ []) (named program name ∷ []) (optional written_formal_part formal_part) (optional written_derives derives) (optional written_pre pre))
+    (λ l w. record { formal_part = w.0.0.1; derives = w.0.1; pre = w.1 }))))))
+
+body_good : {L P : Type 0} (levels : ℕ) → Good L P written_body (IsBody levels) [] Any (body levels) (body (suc levels))
+unfolding body
+body_good levels =
     good_bind (good_expect program k.Is) (λ u1.
     good_bind declarations_good (λ declarations.
     good_bind (good_expect program k.Begin) (λ u2.
@@ -214,9 +276,18 @@ subprogram_starts levels here =
     good_bind (good_expect_place program k.End) (λ end.
     good_bind (good_if_seen (written_identifier program) Always program k.Identifier (end_name_starts (sees_kind program k.Identifier))) (λ end_name.
     good_bind (good_expect program k.Semicolon) (λ u3.
-    good_pure (record { place = place; name = name; formal_part = formal_part; derives = derives; pre = pre; declarations = declarations; statements = statements; end = end; end_name = end_name })
-    (λ l w. flat (placed program k.Procedure place ∷ []) (named program name ∷ []) (optional written_formal_part formal_part) (optional written_derives derives) (optional written_pre pre) (bare program k.Is ∷ []) (written_decls declarations) (bare program k.Begin ∷ []) (written_stmts statements) (placed program k.End end ∷ []) (optional (written_identifier program) end_name) (bare program k.Semicolon ∷ []))
-    (λ l w. record { formal_part = w.0.0.0.0.0.0.0.0.0.1; derives = w.0.0.0.0.0.0.0.0.1; pre = w.0.0.0.0.0.0.0.1; declarations = w.0.0.0.0.0.1; statements = w.0.0.0.1 })))))))))))))
+    good_pure (record { declarations = declarations; statements = statements; end = end; end_name = end_name })
+    (λ l w. body_flat (bare program k.Is ∷ []) (written_decls declarations) (bare program k.Begin ∷ []) (written_stmts statements) (placed program k.End end ∷ []) (optional (written_identifier program) end_name) (bare program k.Semicolon ∷ []))
+    (λ l w. record { declarations = w.0.0.0.0.0.1; statements = w.0.0.0.1 }))))))))
+
+subprogram_starts : {L P : Type 0} {on : List Form → Type 0} (levels : ℕ) → ((fs : List Form) → on fs → peek program fs ≡ Some k.Procedure) → Starts L P written_subprogram (IsSubprogram levels) [] on (subprogram levels) (subprogram (suc levels))
+unfolding subprogram
+subprogram_starts levels here =
+    starts_bind (heading_starts levels here) (λ heading.
+    good_bind (body_good levels) (λ body.
+    good_pure (whole heading body)
+    (λ l w. ap (λ (fs : List Form). placed program k.Procedure heading.place ∷ named program heading.name ∷ fs) (whole_flat (optional written_formal_part heading.formal_part) (optional written_derives heading.derives) (optional written_pre heading.pre) (written_body body)))
+    (λ l w. record { formal_part = w.0.1.formal_part; derives = w.0.1.derives; pre = w.0.1.pre; declarations = w.1.declarations; statements = w.1.statements })))
 
 pub unit_starts : {L P : Type 0} (levels : ℕ) → Starts L P written_unit (IsUnit levels) [] (Sees (sees program k.Procedure) true) (unit_at levels) (unit_at (suc levels))
 unfolding unit_at

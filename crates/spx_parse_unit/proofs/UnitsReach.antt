@@ -1,6 +1,6 @@
 -- The forms of declarations, annotations, subprograms and units are read as those.
 use Rattle.std.specs.Prelude.{⊤}
-use Rattle.std.proofs.Common.{◌≡◌, ℕ, Bool, true, false, List, [], ◌∷◌, ◌++◌, Option, Some, None, refl, ap, ◌∙◌, append_assoc}
+use Rattle.std.proofs.Common.{◌≡◌, ℕ, Bool, true, false, List, [], ◌∷◌, ◌++◌, Option, Some, None, refl, sym, ap, ◌∙◌, append_assoc}
 use Rattle.spx_text.specs.declared.place.Place.{Place}
 use Rattle.spx_tree.specs.declared.token.Kind.{Kind}
 use Rattle.spx_tree.specs.declared.token.Kind.TheVariants as k
@@ -8,6 +8,9 @@ use Rattle.spx_tree.specs.declared.expression.Identifier.{Identifier}
 use Rattle.spx_tree.specs.declared.expression.Name.{Name}
 use Rattle.spx_tree.specs.declared.declaration.Decl.{Decl}
 use Rattle.spx_tree.specs.declared.declaration.Decl.TheVariants.{Variables}
+use Rattle.spx_tree.specs.declared.annotation.Exports.{Exports}
+use Rattle.spx_tree.specs.declared.annotation.Exports.TheVariants as exported
+use Rattle.spx_tree.specs.declared.annotation.Imports.{Imports}
 use Rattle.spx_tree.specs.declared.annotation.DerivesItem.{DerivesItem}
 use Rattle.spx_tree.specs.declared.annotation.Derives.{Derives}
 use Rattle.spx_tree.specs.declared.annotation.Precondition.{Precondition}
@@ -19,13 +22,15 @@ use Rattle.spx_tree.specs.declared.subprogram.Subprogram.{Subprogram}
 use Rattle.spx_tree.specs.declared.subprogram.Unit.{Unit}
 use Rattle.spx_tree.specs.declared.subprogram.Unit.TheVariants as unit
 use Rattle.spx_tree.specs.Form.{Form, bare, placed, named}
-use Rattle.spx_tree.specs.Written.{program, annotation, behind, separated, optional, written_identifier, written_identifiers, written_name, written_names, written_expr, written_decl, written_decls, written_stmts, written_imports, written_item, written_derives, written_pre, written_mode, written_param, written_params, written_formal_part, written_subprogram, written_unit, written}
-use Rattle.spx_tree.specs.Grammar.{Each, OneOrMore, IfThere, IsIdentifiers, IsNames, IsDecl, IsItem, IsDerives, IsPrecondition, IsParam, IsFormalPart, IsSubprogram, IsUnit, IsFile}
-use Rattle.spx_parse_body.specs.Reading.{peek, sees, identifier, if_seen}
-use Rattle.spx_parse_unit.specs.Units.{more_identifiers, identifiers, more_names, names, starred, unstarred, imports_by, imports, item, more_derives, items, derives, precondition, in_by, behind_in, mode_by, mode, param, more_params, params, formal_part, declaration, more_declarations, declarations, subprogram, unit_at, more_units, file}
+use Rattle.spx_tree.specs.Written.{program, annotation, following, separated, optional, written_identifier, written_identifiers, written_name, written_names, written_expr, written_decl, written_decls, written_stmts, written_imports, written_item, written_derives, written_pre, written_mode, written_param, written_params, written_formal_part, written_subprogram, written_unit, written}
+use Rattle.spx_tree.specs.Grammar.{Each, OneOrMore, IfThere, IsIdentifiers, IsNames, IsDecl, HasImportsFor, IsItem, IsDerives, IsPrecondition, IsParam, IsFormalPart, IsSubprogram, IsUnit, IsFile}
+use Rattle.spx_parse_body.specs.Reading.{pure, peek, sees, identifier, if_seen}
+use Rattle.spx_parse_unit.specs.declared.subprograms.HeadingParts.{HeadingParts}
+use Rattle.spx_parse_unit.specs.declared.subprograms.BodyParts.{BodyParts}
+use Rattle.spx_parse_unit.specs.Units.{more_identifiers, identifiers, more_names, names, starred, unstarred, imports_by, imports, named_item, null_item, item_by, item, more_derives, items, derives, precondition, in_by, following_in, mode_by, mode, param, more_params, params, formal_part, declaration, more_declarations, declarations, heading, body, subprogram, unit_at, more_units, file}
 use Rattle.spx_parse_body.proofs.Callers.Shaped.{kind_self}
-use Rattle.spx_parse_body.proofs.Callers.Separated.{Lacks, not_seen, sees_front, reaches_behind, reaches_separated, reaches_if_seen}
-use Rattle.spx_parse_body.proofs.Callers.Reaches.{Reaches, reaches_bind, reaches_pure, reaches_choose, reaches_expect, reaches_expect_place, reaches_identifier, reaches_items, peek_front}
+use Rattle.spx_parse_body.proofs.Callers.Separated.{Lacks, not_seen, sees_front, reaches_following, reaches_separated, reaches_if_seen}
+use Rattle.spx_parse_body.proofs.Callers.Reaches.{Reaches, reaches_is, reaches_bind, reaches_pure, reaches_choose, reaches_expect, reaches_expect_place, reaches_identifier, reaches_items, peek_front}
 use Rattle.spx_parse_body.proofs.Callers.ExpressionsReach.{name_again, name_front, expression_again, semicolon_free}
 use Rattle.spx_parse_body.proofs.Callers.StatementsReach.{stmts_again}
 use Rattle.spx_parse_unit.proofs.UnitsGood.{identifiers_shrinks, names_shrinks, derives_shrinks, params_shrinks, declarations_shrinks, units_shrinks}
@@ -57,10 +62,10 @@ each_name : (xs : List Name) → Each (λ x. ⊤) xs
 each_name [] = tt
 each_name (x ∷ xs) = (tt, each_name xs)
 
-star_again : (xs : List Name) (fs zs : List Form) → Lacks annotation k.Comma zs → Apart annotation zs → fs ≡ behind (bare annotation k.Comma) (written_name annotation) xs ++ zs → Reaches (more_names annotation []) fs xs zs
+star_again : (xs : List Name) (fs zs : List Form) → Lacks annotation k.Comma zs → Apart annotation zs → fs ≡ following (bare annotation k.Comma) (written_name annotation) xs ++ zs → Reaches (more_names annotation []) fs xs zs
 unfolding more_names
 star_again xs fs zs over apart h =
-    reaches_behind (written_name annotation) (λ x. ⊤) annotation k.Comma (Apart annotation) (sees annotation k.Comma) (names_shrinks annotation) (comma_next annotation) (λ x gs ws g a e. name_again annotation x gs ws a e) [] xs fs zs (each_name xs) (not_seen annotation k.Comma zs over) apart h
+    reaches_following (written_name annotation) (λ x. ⊤) annotation k.Comma (Apart annotation) (sees annotation k.Comma) (names_shrinks annotation) (comma_next annotation) (λ x gs ws g a e. name_again annotation x gs ws a e) [] xs fs zs (each_name xs) (not_seen annotation k.Comma zs over) apart h
 
 -- ---- annotations
 
@@ -80,19 +85,41 @@ imports_again : (itself : Option Place) (xs : List Name) (fs zs : List Form) →
 unfolding imports starred unstarred
 imports_again None [] fs zs over h = reaches_choose (peek annotation) imports_by (peek annotation zs) (peek_front annotation fs h) (imports_plain (peek annotation zs) fs zs over.no_star over.no_name h)
 imports_again None (x ∷ xs) fs zs over h =
-    reaches_choose (peek annotation) imports_by (Some k.Identifier) (peek_front annotation fs (h ∙ append_assoc (written_name annotation x) (behind (bare annotation k.Comma) (written_name annotation) xs) zs) ∙ name_front annotation x _)
+    reaches_choose (peek annotation) imports_by (Some k.Identifier) (peek_front annotation fs (h ∙ append_assoc (written_name annotation x) (following (bare annotation k.Comma) (written_name annotation) xs) zs) ∙ name_front annotation x _)
     (reaches_bind _ (names_again annotation (x ∷ xs) fs zs (tt, each_name xs) over.no_comma over.apart h) (λ us a. reaches_pure a))
 imports_again (Some place) xs fs zs over h =
     reaches_choose (peek annotation) imports_by (Some k.Asterisk) (peek_front annotation fs h)
     (reaches_bind _ (reaches_expect_place annotation k.Asterisk h) (λ us a.
     reaches_bind _ (star_again xs us zs over.no_comma over.apart a) (λ vs b. reaches_pure b)))
 
-item_again : (x : DerivesItem) (fs zs : List Form) → IsItem x → Closes zs → fs ≡ written_item x ++ zs → Reaches item fs x zs
-unfolding item
-item_again x fs zs f over h =
-    reaches_bind _ (names_again annotation x.exports fs (bare annotation k.From ∷ (written_imports x.imports.itself x.imports.names ++ zs)) f (λ e. cc) (λ e. cc) (h ∙ append_assoc (written_names annotation x.exports) _ zs)) (λ us a.
+unstarred_again : (i : Imports) (fs zs : List Form) → i.itself ≡ None → IsNames i.names → Closes zs → fs ≡ written_imports i.itself i.names ++ zs → Reaches unstarred fs i zs
+unfolding unstarred
+unstarred_again i fs zs none f over h =
+    reaches_is (ap (λ (o : Option Place). record { itself = o; names = i.names }) (sym none))
+    (reaches_bind (λ names. pure (record { itself = None; names = names })) (names_again annotation i.names fs zs f over.no_comma over.apart (h ∙ ap (λ (o : Option Place). written_imports o i.names ++ zs) none)) (λ us a. reaches_pure a))
+
+item_made : Exports → Imports → DerivesItem
+item_made exports imports = record { exports = exports; imports = imports }
+
+exports_again : (e : Exports) (i : Imports) (fs zs : List Form) → HasImportsFor e i → Closes zs → fs ≡ written_item (item_made e i) ++ zs → Reaches item fs (item_made e i) zs
+unfolding item named_item null_item item_made
+exports_again (exported.Names []) i fs zs f over h = absurd f
+exports_again (exported.Names (x ∷ xs)) i fs zs f over h =
+    let flat = h ∙ append_assoc (written_names annotation (x ∷ xs)) (bare annotation k.From ∷ written_imports i.itself i.names) zs in
+    let first = flat ∙ append_assoc (written_name annotation x) (following (bare annotation k.Comma) (written_name annotation) xs) _ in
+    reaches_choose (peek annotation) item_by (Some k.Identifier) (peek_front annotation fs first ∙ name_front annotation x _)
+    (reaches_bind _ (names_again annotation (x ∷ xs) fs (bare annotation k.From ∷ (written_imports i.itself i.names ++ zs)) f (λ e. cc) (λ e. cc) flat) (λ us a.
     reaches_bind _ (reaches_expect annotation k.From a) (λ vs b.
-    reaches_bind _ (imports_again x.imports.itself x.imports.names vs zs over b) (λ ws d. reaches_pure d)))
+    reaches_bind _ (imports_again i.itself i.names vs zs over b) (λ ws d. reaches_pure d))))
+exports_again (exported.Null place) i fs zs f over h =
+    reaches_choose (peek annotation) item_by (Some k.Null) (peek_front annotation fs h)
+    (reaches_bind _ (reaches_expect_place annotation k.Null h) (λ us a.
+    reaches_bind _ (reaches_expect annotation k.From a) (λ vs b.
+    reaches_bind _ (unstarred_again i vs zs f.0 f.1 over b) (λ ws d. reaches_pure d))))
+
+item_again : (x : DerivesItem) (fs zs : List Form) → IsItem x → Closes zs → fs ≡ written_item x ++ zs → Reaches item fs x zs
+unfolding item_made
+item_again x fs zs f over h = exports_again x.exports x.imports fs zs f over h
 
 amper_closes : (ws : List Form) → Closes (bare annotation k.Ampersand ∷ ws)
 amper_closes ws = record { no_comma = λ e. cc; no_star = λ e. cc; no_name = λ e. cc; apart = λ e. cc }
@@ -124,17 +151,17 @@ precondition_again levels x fs zs f h =
 -- ---- formal parameters
 
 mode_again : (x : WrittenMode) (fs zs : List Form) → peek program zs ≡ Some k.Identifier → fs ≡ written_mode x ++ zs → Reaches mode fs x zs
-unfolding mode behind_in
+unfolding mode following_in
 mode_again modes.Unwritten fs zs next h = reaches_choose (peek program) mode_by (Some k.Identifier) (peek_front program fs h ∙ next) (reaches_pure h)
-mode_again modes.In fs zs next h =
+mode_again (modes.In place) fs zs next h =
     reaches_choose (peek program) mode_by (Some k.In) (peek_front program fs h)
-    (reaches_bind _ (reaches_expect program k.In h) (λ us a. reaches_choose (peek program) in_by (Some k.Identifier) (peek_front program us a ∙ next) (reaches_pure a)))
+    (reaches_bind _ (reaches_expect_place program k.In h) (λ us a. reaches_choose (peek program) (in_by place) (Some k.Identifier) (peek_front program us a ∙ next) (reaches_pure a)))
 mode_again modes.Out fs zs next h =
     reaches_choose (peek program) mode_by (Some k.Out) (peek_front program fs h)
     (reaches_bind _ (reaches_expect program k.Out h) (λ us a. reaches_pure a))
-mode_again modes.InOut fs zs next h =
+mode_again (modes.InOut place) fs zs next h =
     reaches_choose (peek program) mode_by (Some k.In) (peek_front program fs h)
-    (reaches_bind _ (reaches_expect program k.In h) (λ us a. reaches_choose (peek program) in_by (Some k.Out) (peek_front program us a)
+    (reaches_bind _ (reaches_expect_place program k.In h) (λ us a. reaches_choose (peek program) (in_by place) (Some k.Out) (peek_front program us a)
     (reaches_bind _ (reaches_expect program k.Out a) (λ vs b. reaches_pure b))))
 
 param_again : (x : Param) (fs zs : List Form) → IsParam x → Apart program zs → fs ≡ written_param x ++ zs → Reaches param fs x zs
@@ -180,7 +207,7 @@ declarations_again xs fs zs f over h =
 
 -- ---- subprograms and units
 
--- what may be left out: it comes next, or what stands behind it does
+-- what may be left out: it comes next, or what stands after it does
 
 formal_part_option : (x : Option FormalPart) (fs zs : List Form) → IfThere IsFormalPart x → Lacks program k.LeftParenthesis zs → fs ≡ optional written_formal_part x ++ zs → Reaches (if_seen program k.LeftParenthesis formal_part) fs x zs
 formal_part_option x fs zs f over h = reaches_if_seen written_formal_part IsFormalPart program k.LeftParenthesis (λ y ws g. kind_self k.LeftParenthesis) formal_part_again x fs zs f (not_seen program k.LeftParenthesis zs over) h
@@ -202,7 +229,13 @@ end_name_option x fs zs over h =
 flat : (f d q i c b s e m z zs : List Form) → (f ++ (d ++ (q ++ (i ++ (c ++ (b ++ (s ++ (e ++ (m ++ z))))))))) ++ zs ≡ f ++ (d ++ (q ++ (i ++ (c ++ (b ++ (s ++ (e ++ (m ++ (z ++ zs)))))))))
 flat f d q i c b s e m z zs = simp append_assoc
 
--- What stands behind a part that may be left out is not taken for it.
+heading_of : Subprogram → HeadingParts
+heading_of x = record { place = x.place; name = x.name; formal_part = x.formal_part; derives = x.derives; pre = x.pre }
+
+body_of : Subprogram → BodyParts
+body_of x = record { declarations = x.declarations; statements = x.statements; end = x.end; end_name = x.end_name }
+
+-- What stands after a part that may be left out is not taken for it.
 module _ (levels : ℕ) (x : Subprogram) (zs : List Form) where
   from_end : List Form
   from_end = placed program k.End x.end ∷ (optional (written_identifier program) x.end_name ++ bare program k.Semicolon ∷ zs)
@@ -230,23 +263,35 @@ module _ (levels : ℕ) (x : Subprogram) (zs : List Form) where
   derives_unmarked None p e = pre_unmarked p e
   derives_unmarked (Some d) p e = cc
 
-  subprogram_again : (fs : List Form) → IsSubprogram levels x → fs ≡ written_subprogram x ++ zs → Reaches (subprogram levels) fs x zs
-  unfolding subprogram from_end from_is from_pre from_derives
-  subprogram_again fs f h =
-      let whole = h ∙ ap (λ (us : List Form). placed program k.Procedure x.place ∷ named program x.name ∷ us)
-      (flat (optional written_formal_part x.formal_part) (optional written_derives x.derives) (optional written_pre x.pre) (bare program k.Is ∷ []) (written_decls x.declarations) (bare program k.Begin ∷ []) (written_stmts x.statements) (placed program k.End x.end ∷ []) (optional (written_identifier program) x.end_name) (bare program k.Semicolon ∷ []) zs) in
-      reaches_bind _ (reaches_expect_place program k.Procedure whole) (λ t1 a1.
+  from_name : List Form
+  from_name = named program x.name ∷ (optional written_formal_part x.formal_part ++ from_derives)
+
+  heading_again : (fs : List Form) → IsSubprogram levels x → fs ≡ placed program k.Procedure x.place ∷ from_name → Reaches (heading levels) fs (heading_of x) from_is
+  unfolding heading heading_of from_is from_pre from_derives from_name
+  heading_again fs f h =
+      reaches_bind _ (reaches_expect_place program k.Procedure h) (λ t1 a1.
       reaches_bind _ (reaches_identifier program a1) (λ t2 a2.
       reaches_bind _ (formal_part_option x.formal_part t2 from_derives f.formal_part (derives_unmarked x.derives x.pre) a2) (λ t3 a3.
       reaches_bind _ (derives_option x.derives t3 from_pre f.derives (pre_kind x.pre k.Derives (λ e. cc)) a3) (λ t4 a4.
-      reaches_bind _ (pre_option levels x.pre t4 from_is f.pre (λ e. cc) a4) (λ t5 a5.
-      reaches_bind _ (reaches_expect program k.Is a5) (λ t6 a6.
+      reaches_bind _ (pre_option levels x.pre t4 from_is f.pre (λ e. cc) a4) (λ t5 a5. reaches_pure a5)))))
+
+  body_again : (fs : List Form) → IsSubprogram levels x → fs ≡ from_is → Reaches (body levels) fs (body_of x) zs
+  unfolding body body_of from_end from_is
+  body_again fs f h =
+      reaches_bind _ (reaches_expect program k.Is h) (λ t6 a6.
       reaches_bind _ (declarations_again x.declarations t6 _ f.declarations (λ e. cc) a6) (λ t7 a7.
       reaches_bind _ (reaches_expect program k.Begin a7) (λ t8 a8.
       reaches_bind _ (stmts_again levels x.statements t8 from_end f.statements refl a8) (λ t9 a9.
       reaches_bind _ (reaches_expect_place program k.End a9) (λ t10 a10.
       reaches_bind _ (end_name_option x.end_name t10 _ (λ e. cc) a10) (λ t11 a11.
-      reaches_bind _ (reaches_expect program k.Semicolon a11) (λ t12 a12. reaches_pure a12))))))))))))
+      reaches_bind _ (reaches_expect program k.Semicolon a11) (λ t12 a12. reaches_pure a12)))))))
+
+  subprogram_again : (fs : List Form) → IsSubprogram levels x → fs ≡ written_subprogram x ++ zs → Reaches (subprogram levels) fs x zs
+  unfolding subprogram heading_of body_of from_end from_is from_pre from_derives from_name
+  subprogram_again fs f h =
+      let all = h ∙ ap (λ (us : List Form). placed program k.Procedure x.place ∷ named program x.name ∷ us)
+      (flat (optional written_formal_part x.formal_part) (optional written_derives x.derives) (optional written_pre x.pre) (bare program k.Is ∷ []) (written_decls x.declarations) (bare program k.Begin ∷ []) (written_stmts x.statements) (placed program k.End x.end ∷ []) (optional (written_identifier program) x.end_name) (bare program k.Semicolon ∷ []) zs) in
+      reaches_bind _ (heading_again fs f all) (λ us a. reaches_bind _ (body_again us f a) (λ vs b. reaches_pure b))
 
 unit_again : (levels : ℕ) (x : Unit) (fs zs : List Form) → IsUnit levels x → fs ≡ written_unit x ++ zs → Reaches (unit_at levels) fs x zs
 unfolding unit_at
@@ -255,7 +300,7 @@ unit_again levels (unit.Subprogram x) fs zs f h = reaches_bind _ (subprogram_aga
 unit_seen : (levels : ℕ) (x : Unit) (ws : List Form) → IsUnit levels x → sees program k.Procedure (written_unit x ++ ws) ≡ true
 unit_seen levels (unit.Subprogram x) ws f = kind_self k.Procedure
 
--- The forms of units are read as those units, where no unit begins behind them.
+-- The forms of units are read as those units, where no unit begins after them.
 pub file_again : (levels : ℕ) (xs : List Unit) (fs zs : List Form) → IsFile levels xs → Lacks program k.Procedure zs → fs ≡ written xs ++ zs → Reaches (file levels) fs xs zs
 unfolding file more_units
 file_again levels xs fs zs f over h =

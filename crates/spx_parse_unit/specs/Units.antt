@@ -1,11 +1,13 @@
 -- Reading declarations, annotations, subprograms and units (Ada 95 RM 3, 6 and 10.1; Barnes, High Integrity Software).
 use Rattle.std.specs.Prelude.{ℕ, Bool, List, [], ◌∷◌, Option, Some, None}
+use Rattle.spx_text.specs.declared.place.Place.{Place}
 use Rattle.spx_tree.specs.declared.token.Kind.{Kind}
 use Rattle.spx_tree.specs.declared.token.Kind.TheVariants as k
 use Rattle.spx_tree.specs.declared.expression.Identifier.{Identifier}
 use Rattle.spx_tree.specs.declared.expression.Name.{Name}
 use Rattle.spx_tree.specs.declared.declaration.Decl.{Decl}
 use Rattle.spx_tree.specs.declared.declaration.Decl.TheVariants.{Variables}
+use Rattle.spx_tree.specs.declared.annotation.Exports.TheVariants as exported
 use Rattle.spx_tree.specs.declared.annotation.Imports.{Imports}
 use Rattle.spx_tree.specs.declared.annotation.DerivesItem.{DerivesItem}
 use Rattle.spx_tree.specs.declared.annotation.Derives.{Derives}
@@ -18,7 +20,9 @@ use Rattle.spx_tree.specs.declared.subprogram.Subprogram.{Subprogram}
 use Rattle.spx_tree.specs.declared.subprogram.Unit.{Unit}
 use Rattle.spx_tree.specs.declared.subprogram.Unit.TheVariants as unit
 use Rattle.spx_tree.specs.Written.{program, annotation}
-use Rattle.spx_parse_body.specs.Reading.{Reader, ◌>>=◌, ◌>>◌, pure, peek, sees, expect, expect_place, identifier, if_seen, more_items}
+use Rattle.spx_parse_unit.specs.declared.subprograms.HeadingParts.{HeadingParts}
+use Rattle.spx_parse_unit.specs.declared.subprograms.BodyParts.{BodyParts}
+use Rattle.spx_parse_body.specs.Reading.{Reader, ◌>>=◌, ◌>>◌, pure, refuse, peek, sees, expect, expect_place, identifier, if_seen, more_items}
 use Rattle.spx_parse_body.specs.Expressions.{name, expression}
 use Rattle.spx_parse_body.specs.Statements.{stmts}
 
@@ -64,12 +68,29 @@ unfoldable pub imports : Reader Imports
 imports = λ fs. imports_by (peek annotation fs) fs
 
 -- names "from" imports
-unfoldable pub item : Reader DerivesItem
-item = do
+unfoldable pub named_item : Reader DerivesItem
+named_item = do
   exports ← names annotation
   expect annotation k.From
   imports ← imports
-  pure (record { exports = exports; imports = imports })
+  pure (record { exports = exported.Names exports; imports = imports })
+
+-- "null" "from" names
+unfoldable pub null_item : Reader DerivesItem
+null_item = do
+  place ← expect_place annotation k.Null
+  expect annotation k.From
+  imports ← unstarred
+  pure (record { exports = exported.Null place; imports = imports })
+
+abbrev pub item_by : Option Kind → Reader DerivesItem
+item_by (Some k.Identifier) = named_item
+item_by (Some k.Null) = null_item
+item_by _ = refuse
+
+-- names "from" imports | "null" "from" names
+unfoldable pub item : Reader DerivesItem
+item = λ fs. item_by (peek annotation fs) fs
 
 unfoldable pub more_derives : List DerivesItem → Reader (List DerivesItem)
 more_derives found = more_items (sees annotation k.Ampersand) (expect annotation k.Ampersand >> item) found
@@ -96,16 +117,16 @@ precondition levels = do
 
 -- ---- formal parameters
 
-abbrev pub in_by : Option Kind → Reader WrittenMode
-in_by (Some k.Out) = expect program k.Out >> pure modes.InOut
-in_by _ = pure modes.In
+abbrev pub in_by : Place → Option Kind → Reader WrittenMode
+in_by place (Some k.Out) = expect program k.Out >> pure (modes.InOut place)
+in_by place _ = pure (modes.In place)
 
--- what stands behind "in"
-unfoldable pub behind_in : Reader WrittenMode
-behind_in = λ fs. in_by (peek program fs) fs
+-- what stands after "in"
+unfoldable pub following_in : Place → Reader WrittenMode
+following_in place = λ fs. in_by place (peek program fs) fs
 
 abbrev pub mode_by : Option Kind → Reader WrittenMode
-mode_by (Some k.In) = expect program k.In >> behind_in
+mode_by (Some k.In) = expect_place program k.In >>= following_in
 mode_by (Some k.Out) = expect program k.Out >> pure modes.Out
 mode_by _ = pure modes.Unwritten
 
@@ -157,14 +178,19 @@ declarations = more_declarations []
 
 -- ---- subprograms and units
 
--- "procedure" identifier [formal part] [derives] [pre] "is" declarations "begin" statements "end" [identifier] ";"
-unfoldable pub subprogram : ℕ → Reader Subprogram
-subprogram levels = do
+-- "procedure" identifier [formal part] [derives] [pre]
+unfoldable pub heading : ℕ → Reader HeadingParts
+heading levels = do
   place ← expect_place program k.Procedure
   name ← identifier program
   formal_part ← if_seen program k.LeftParenthesis formal_part
   derives ← if_seen annotation k.Derives derives
   pre ← if_seen annotation k.Pre (precondition levels)
+  pure (record { place = place; name = name; formal_part = formal_part; derives = derives; pre = pre })
+
+-- "is" declarations "begin" statements "end" [identifier] ";"
+unfoldable pub body : ℕ → Reader BodyParts
+body levels = do
   expect program k.Is
   declarations ← declarations
   expect program k.Begin
@@ -172,7 +198,17 @@ subprogram levels = do
   end ← expect_place program k.End
   end_name ← if_seen program k.Identifier (identifier program)
   expect program k.Semicolon
-  pure (record { place = place; name = name; formal_part = formal_part; derives = derives; pre = pre; declarations = declarations; statements = statements; end = end; end_name = end_name })
+  pure (record { declarations = declarations; statements = statements; end = end; end_name = end_name })
+
+abbrev pub whole : HeadingParts → BodyParts → Subprogram
+whole h b = record { place = h.place; name = h.name; formal_part = h.formal_part; derives = h.derives; pre = h.pre; declarations = b.declarations; statements = b.statements; end = b.end; end_name = b.end_name }
+
+-- heading body
+unfoldable pub subprogram : ℕ → Reader Subprogram
+subprogram levels = do
+  heading ← heading levels
+  body ← body levels
+  pure (whole heading body)
 
 -- subprogram
 unfoldable pub unit_at : ℕ → Reader Unit

@@ -7,7 +7,7 @@ ghost use Rattle.spx_parse_unit.specs.Units as read;
 ghost use Rattle.spx_parse_body.specs.Answers.{Reads};
 
 use spx_parse_body::{ANNOTATION, Cursor, Stop, expression, name};
-use spx_tree::{Derives, DerivesItem, Identifier, Imports, Kind, Name, Precondition};
+use spx_tree::{Derives, DerivesItem, Exports, Identifier, Imports, Kind, Name, Precondition};
 use sqlite_items::Items;
 use std::alloc::Global;
 
@@ -110,15 +110,40 @@ fn imports(alloc: Global, cursor: &mut Cursor<'_>) -> Result<Imports, Stop>
     }
 }
 
-// item = names "from" imports
+// named_item = names "from" imports
+#[tactic(auto, unfolding(crate::specs::Units::named_item))]
+fn named_item(alloc: Global, cursor: &mut Cursor<'_>) -> Result<DerivesItem, Stop>
+    ensures { Reads (read.named_item cursor.old) result cursor.new }
+{
+    let names = names(alloc, cursor, ANNOTATION)?;
+    cursor.expect(ANNOTATION, Kind::From)?;
+    let imports = imports(alloc, cursor)?;
+    let exports = Exports::Names(names);
+    Ok(DerivesItem { exports, imports })
+}
+
+// null_item = "null" "from" names
+#[tactic(auto, unfolding(crate::specs::Units::null_item))]
+fn null_item(alloc: Global, cursor: &mut Cursor<'_>) -> Result<DerivesItem, Stop>
+    ensures { Reads (read.null_item cursor.old) result cursor.new }
+{
+    let place = cursor.expect_place(ANNOTATION, Kind::Null)?;
+    cursor.expect(ANNOTATION, Kind::From)?;
+    let imports = unstarred(alloc, cursor)?;
+    let exports = Exports::Null(place);
+    Ok(DerivesItem { exports, imports })
+}
+
+// item = named_item | null_item
 #[tactic(auto, unfolding(crate::specs::Units::item))]
 fn item(alloc: Global, cursor: &mut Cursor<'_>) -> Result<DerivesItem, Stop>
     ensures { Reads (read.item cursor.old) result cursor.new }
 {
-    let exports = names(alloc, cursor, ANNOTATION)?;
-    cursor.expect(ANNOTATION, Kind::From)?;
-    let imports = imports(alloc, cursor)?;
-    Ok(DerivesItem { exports, imports })
+    match cursor.peek(ANNOTATION) {
+        Some(Kind::Identifier) => named_item(alloc, cursor),
+        Some(Kind::Null) => null_item(alloc, cursor),
+        _ => Err(cursor.expected()),
+    }
 }
 
 // items = item {"&" item}

@@ -7,7 +7,7 @@ ghost use Rattle.spx_tree.specs.Written.{written};
 ghost use Rattle.spx_tree.specs.declared.subprogram.Unit.{Unit};
 ghost use Rattle.spx_tree.specs.declared.token.Token.{Token};
 
-/// The tokens of a text are read in one way: as units and what stands behind them, or up to one place where no file goes
+/// The tokens of a text are read in one way: as units and what stands after them, or up to one place where no file goes
 /// on, or none within 200 levels.
 pub fn one_answer()
     ensures { (source : List ℕ) (tokens : List Token) (a b : Result (List Unit × List Form) Fault)
@@ -17,4 +17,9 @@ pub fn one_answer()
 /// Tokens have an answer.
 pub fn some_answer()
     ensures { (source : List ℕ) (tokens : List Token) → (answer : Result (List Unit × List Form) Fault) × Answers written IsFile 200 (forms_of source tokens) answer }
+{}
+
+/// Files of the grammar that are written with the same forms are equal.
+pub fn one_tree()
+    ensures { (m n : ℕ) (a b : List Unit) → IsFile m a → IsFile n b → written a ≡ written b → a ≡ b }
 {}

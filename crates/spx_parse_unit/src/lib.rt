@@ -8,9 +8,7 @@ mod annotations;
 mod laws;
 mod parse;
 mod subprograms;
-#[cfg(test)]
-mod tests;
 
-pub use laws::{one_answer, some_answer};
+pub use laws::{one_answer, one_tree, some_answer};
 pub use parse::parse_units;
 pub use spx_parse_body::{MOST_LEVELS, ParseFault};

@@ -8,20 +8,44 @@ ghost use Rattle.spx_parse_body.specs.Answers.{Reads};
 
 use crate::annotations::{identifiers, optional_derives, optional_pre};
 use spx_parse_body::{Cursor, PROGRAM, Stop, name, stmts};
-use spx_tree::{Decl, FormalPart, Identifier, Kind, Param, Subprogram, Unit, WrittenMode};
+use spx_text::Place;
+use spx_tree::{
+    Decl, Derives, FormalPart, Identifier, Kind, Param, Precondition, Stmt, Subprogram, Unit,
+    WrittenMode,
+};
 use sqlite_items::Items;
 use std::alloc::Global;
 
-#[tactic(auto, unfolding(crate::specs::Units::behind_in))]
-fn behind_in(cursor: &mut Cursor<'_>) -> Result<WrittenMode, Stop>
-    ensures { Reads (read.behind_in cursor.old) result cursor.new }
+/// What comes before the word `is` of a subprogram.
+#[derive(Debug, Drop)]
+pub struct HeadingParts {
+    pub place: Place,
+    pub name: Identifier,
+    pub formal_part: Option<FormalPart>,
+    pub derives: Option<Derives>,
+    pub pre: Option<Precondition>,
+}
+
+/// A subprogram from the word `is` on.
+#[derive(Debug, Drop)]
+pub struct BodyParts {
+    pub declarations: Items<Decl>,
+    pub statements: Items<Stmt>,
+    /// The place of the word `end`.
+    pub end: Place,
+    pub end_name: Option<Identifier>,
+}
+
+#[tactic(auto, unfolding(crate::specs::Units::following_in))]
+fn following_in(cursor: &mut Cursor<'_>, place: Place) -> Result<WrittenMode, Stop>
+    ensures { Reads (read.following_in place cursor.old) result cursor.new }
 {
     match cursor.peek(PROGRAM) {
         Some(Kind::Out) => {
             cursor.expect(PROGRAM, Kind::Out)?;
-            Ok(WrittenMode::InOut)
+            Ok(WrittenMode::InOut(place))
         }
-        _ => Ok(WrittenMode::In),
+        _ => Ok(WrittenMode::In(place)),
     }
 }
 
@@ -32,8 +56,8 @@ fn mode(cursor: &mut Cursor<'_>) -> Result<WrittenMode, Stop>
 {
     match cursor.peek(PROGRAM) {
         Some(Kind::In) => {
-            cursor.expect(PROGRAM, Kind::In)?;
-            behind_in(cursor)
+            let place = cursor.expect_place(PROGRAM, Kind::In)?;
+            following_in(cursor, place)
         }
         Some(Kind::Out) => {
             cursor.expect(PROGRAM, Kind::Out)?;
@@ -130,16 +154,30 @@ fn end_name(alloc: Global, cursor: &mut Cursor<'_>) -> Result<Option<Identifier>
     Ok(None)
 }
 
-// subprogram = "procedure" identifier [formal_part] [derives] [pre] "is" declarations "begin" stmts "end" [identifier] ";"
-#[tactic(auto, unfolding(crate::specs::Units::subprogram))]
-fn subprogram(alloc: Global, cursor: &mut Cursor<'_>, levels: u32) -> Result<Subprogram, Stop>
-    ensures { Reads (read.subprogram levels cursor.old) result cursor.new }
+// heading = "procedure" identifier [formal_part] [derives] [pre]
+#[tactic(auto, unfolding(crate::specs::Units::heading))]
+fn heading(alloc: Global, cursor: &mut Cursor<'_>, levels: u32) -> Result<HeadingParts, Stop>
+    ensures { Reads (read.heading levels cursor.old) result cursor.new }
 {
     let place = cursor.expect_place(PROGRAM, Kind::Procedure)?;
     let name = cursor.identifier(alloc, PROGRAM)?;
     let formal_part = optional_formal_part(alloc, cursor)?;
     let derives = optional_derives(alloc, cursor)?;
     let pre = optional_pre(alloc, cursor, levels)?;
+    Ok(HeadingParts {
+        place,
+        name,
+        formal_part,
+        derives,
+        pre,
+    })
+}
+
+// body = "is" declarations "begin" stmts "end" [identifier] ";"
+#[tactic(auto, unfolding(crate::specs::Units::body))]
+fn body(alloc: Global, cursor: &mut Cursor<'_>, levels: u32) -> Result<BodyParts, Stop>
+    ensures { Reads (read.body levels cursor.old) result cursor.new }
+{
     cursor.expect(PROGRAM, Kind::Is)?;
     let declarations = declarations(alloc, cursor)?;
     cursor.expect(PROGRAM, Kind::Begin)?;
@@ -147,16 +185,31 @@ fn subprogram(alloc: Global, cursor: &mut Cursor<'_>, levels: u32) -> Result<Sub
     let end = cursor.expect_place(PROGRAM, Kind::End)?;
     let end_name = end_name(alloc, cursor)?;
     cursor.expect(PROGRAM, Kind::Semicolon)?;
-    Ok(Subprogram {
-        place,
-        name,
-        formal_part,
-        derives,
-        pre,
+    Ok(BodyParts {
         declarations,
         statements,
         end,
         end_name,
+    })
+}
+
+// subprogram = heading body
+#[tactic(auto, unfolding(crate::specs::Units::subprogram))]
+fn subprogram(alloc: Global, cursor: &mut Cursor<'_>, levels: u32) -> Result<Subprogram, Stop>
+    ensures { Reads (read.subprogram levels cursor.old) result cursor.new }
+{
+    let heading = heading(alloc, cursor, levels)?;
+    let body = body(alloc, cursor, levels)?;
+    Ok(Subprogram {
+        place: heading.place,
+        name: heading.name,
+        formal_part: heading.formal_part,
+        derives: heading.derives,
+        pre: heading.pre,
+        declarations: body.declarations,
+        statements: body.statements,
+        end: body.end,
+        end_name: body.end_name,
     })
 }
 

@@ -25,35 +25,35 @@ use Rattle.spx_paths.specs.Walks.{ending, start_tree, walk}
 use Rattle.spx_paths.proofs.PrefixLaws.{each_more, each_one}
 
 -- a path that splits, and then goes through the body of the arm
-pub arm_arrives : (arm : CoreArm) (old new taken : List PathStep) (found : List Path) → Splits (out-CoreArm arm).condition old new taken → Arrive (commands (out-CoreArm arm).body) taken found → ArriveArm arm old new found
-arm_arrives arm old new taken found splits arrives = λ last p sub rest leave made.
+pub arm_arrives : (p : Program) (arm : CoreArm) (old new taken : List PathStep) (found : List Path) → Splits p (out-CoreArm arm).condition old new taken → Arrive p (commands (out-CoreArm arm).body) taken found → ArriveArm p arm old new found
+arm_arrives p arm old new taken found splits arrives = λ last sub rest leave made.
     rw fold_out-CoreArm
-    (splits (entry_term sub) (walk p sub (commands (out-CoreArm arm).body) rest leave made) (walk p sub last rest leave made)
-    ∙ ap (λ paths. paths ++ after new (walk p sub last rest leave made)) (arrives p sub rest leave made))
+    (splits (entry_term p sub) (walk p sub (commands (out-CoreArm arm).body) rest leave made) (walk p sub last rest leave made)
+    ∙ ap (λ paths. paths ++ after new (walk p sub last rest leave made)) (arrives sub rest leave made))
 
 -- one part after the other
-pub before_both : (whole part rest : Command → Command) (old middle new : List PathStep) (found more all : List Path) → ArriveBefore whole part old middle found → ArriveBefore part rest middle new more → all ≡ found ++ more
-    → ArriveBefore whole rest old new all
-before_both whole part rest old middle new found more all one two is = λ last p sub next leave made.
+pub before_both : (p : Program) (whole part rest : Command → Command) (old middle new : List PathStep) (found more all : List Path) → ArriveBefore p whole part old middle found → ArriveBefore p part rest middle new more → all ≡ found ++ more
+    → ArriveBefore p whole rest old new all
+before_both p whole part rest old middle new found more all one two is = λ last sub next leave made.
     let tail = after new (walk p sub (rest last) next leave made) in
-    one last p sub next leave made
-    ∙ ap (λ paths. after_each found (next made) ++ paths) (two last p sub next leave made)
+    one last sub next leave made
+    ∙ ap (λ paths. after_each found (next made) ++ paths) (two last sub next leave made)
     ∙ sym (append_assoc (after_each found (next made)) (after_each more (next made)) tail)
     ∙ ap (λ paths. paths ++ tail) (sym (each_more found more (next made)) ∙ ap (λ paths. after_each paths (next made)) (sym is))
 
 -- arms, and then what is done where each condition is false
-pub if_arrives : (arms : List CoreArm) (last : Command) (old new : List PathStep) (found more all : List Path) → ArriveArms arms old new found → Arrive last new more → all ≡ found ++ more → Arrive (with_arms arms last) old all
-if_arrives arms last old new found more all one two is = λ p sub rest leave made.
-    one last p sub rest leave made
-    ∙ ap (λ paths. after_each found (rest made) ++ paths) (two p sub rest leave made)
+pub if_arrives : (p : Program) (arms : List CoreArm) (last : Command) (old new : List PathStep) (found more all : List Path) → ArriveArms p arms old new found → Arrive p last new more → all ≡ found ++ more → Arrive p (with_arms arms last) old all
+if_arrives p arms last old new found more all one two is = λ sub rest leave made.
+    one last sub rest leave made
+    ∙ ap (λ paths. after_each found (rest made) ++ paths) (two sub rest leave made)
     ∙ sym (each_more found more (rest made))
     ∙ ap (λ paths. after_each paths (rest made)) (sym is)
 
 -- one path more was walked
-pub each_arrive : (c : Command) (before : List Path) (path : Path) (found more all : List Path) → ArriveEach c before found → Arrive c path.steps more → all ≡ found ++ more → ArriveEach c (before ++ path ∷ []) all
-each_arrive c before path found more all one two is = λ p sub rest leave made.
+pub each_arrive : (p : Program) (c : Command) (before : List Path) (path : Path) (found more all : List Path) → ArriveEach p c before found → Arrive p c path.steps more → all ≡ found ++ more → ArriveEach p c (before ++ path ∷ []) all
+each_arrive p c before path found more all one two is = λ sub rest leave made.
     each_more before (path ∷ []) (walk p sub c rest leave made)
-    ∙ ap₂ (λ (x y : List (List PathStep)). x ++ y) (one p sub rest leave made) (each_one path (walk p sub c rest leave made) ∙ two p sub rest leave made)
+    ∙ ap₂ (λ (x y : List (List PathStep)). x ++ y) (one sub rest leave made) (each_one path (walk p sub c rest leave made) ∙ two sub rest leave made)
     ∙ sym (each_more found more (rest made))
     ∙ ap (λ paths. after_each paths (rest made)) (sym is)
 
@@ -62,11 +62,11 @@ pub from_one : {A : Type 0} (xs : List A) (i : ℕ) (x : A) → i < length xs �
 from_one xs i x below is = rw (add-one, drop-cons xs i x, sym is)
 
 -- one arm more was walked
-pub arms_more : (arms : List CoreArm) (i : ℕ) (arm : CoreArm) (old middle new : List PathStep) (found more all : List Path) → i < length arms → arm ≡ get_or arms i arm → ArriveBefore (with_arms arms) (with_arms (drop i arms)) old middle found
-    → ArriveArm arm middle new more → all ≡ found ++ more → ArriveBefore (with_arms arms) (with_arms (drop (i + 1) arms)) old new all
-arms_more arms i arm old middle new found more all below at one two is =
-    before_both (with_arms arms) (with_arms (drop i arms)) (with_arms (drop (i + 1) arms)) old middle new found more all one
-    (subst (λ part. ArriveBefore (with_arms part) (with_arms (drop (i + 1) arms)) middle new more) (sym (from_one arms i arm below at)) (λ last. two (with_arms (drop (i + 1) arms) last)))
+pub arms_more : (p : Program) (arms : List CoreArm) (i : ℕ) (arm : CoreArm) (old middle new : List PathStep) (found more all : List Path) → i < length arms → arm ≡ get_or arms i arm → ArriveBefore p (with_arms arms) (with_arms (drop i arms)) old middle found
+    → ArriveArm p arm middle new more → all ≡ found ++ more → ArriveBefore p (with_arms arms) (with_arms (drop (i + 1) arms)) old new all
+arms_more p arms i arm old middle new found more all below at one two is =
+    before_both p (with_arms arms) (with_arms (drop i arms)) (with_arms (drop (i + 1) arms)) old middle new found more all one
+    (subst (λ part. ArriveBefore p (with_arms part) (with_arms (drop (i + 1) arms)) middle new more) (sym (from_one arms i arm below at)) (λ last. two (with_arms (drop (i + 1) arms) last)))
     is
 
 -- at the end of a body
@@ -80,10 +80,10 @@ unfolding after
 all_paths tree = map-id (branches tree)
 
 -- from the start to the end of a body
-pub paths_are : (p : Program) (sub : Sub) (start : List PathStep) (found : List Path) → Walked [] start (opening sub) → Arrive (commands sub.statements) start found → map (λ (path : Path). path.steps) found ≡ paths p sub
+pub paths_are : (p : Program) (sub : Sub) (start : List PathStep) (found : List Path) → Walked [] start (opening p sub) → Arrive p (commands sub.statements) start found → map (λ (path : Path). path.steps) found ≡ paths p sub
 paths_are p sub start found opens arrives =
     sym (each_ended found)
-    ∙ sym (arrives p sub ending ending 0)
+    ∙ sym (arrives sub ending ending 0)
     ∙ sym (opens (walk p sub (commands sub.statements) ending ending 0))
     ∙ all_paths (start_tree p sub)
     ∙ sym (append-nil (branches (start_tree p sub)))

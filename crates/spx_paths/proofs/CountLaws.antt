@@ -1,7 +1,12 @@
 -- The paths of a body are as many as are counted.
+use Rattle.std.specs.Prelude.{pos}
 use Rattle.std.proofs.Common.{◌≡◌, ℕ, ◌+◌, Bool, true, false, List, [], ◌∷◌, length, map, add-zero, if◌then◌else◌, Option, Some, None, refl, ap₂, ◌∙◌}
 use Rattle.std.proofs.lemmas.List.{length-append, length-map}
 use Rattle.spx_text.specs.declared.place.Place.{Place}
+use Rattle.spx_core.specs.declared.entity.BaseType.{BaseType}
+use Rattle.spx_core.specs.declared.entity.Class.{Class}
+use Rattle.spx_core.specs.declared.entity.Class.TheVariants as class
+use Rattle.spx_core.specs.declared.entity.Subtype.{Subtype}
 use Rattle.spx_core.specs.declared.entity.VarId.{VarId}
 use Rattle.spx_core.specs.declared.expression.CoreExpr.{CoreExpr}
 use Rattle.spx_core.specs.declared.program.Program.{Program}
@@ -17,21 +22,24 @@ use Rattle.spx_tree.specs.declared.expression.InfixOp.TheVariants as op
 use Rattle.spx_tree.specs.declared.expression.PrefixOp.{PrefixOp}
 use Rattle.spx_tree.specs.declared.expression.PrefixOp.TheVariants as prefix
 use Rattle.spx_term.specs.declared.condition.CondKind.{CondKind}
-use Rattle.spx_term.specs.declared.condition.CondKind.TheVariants.{Overflow, Range}
+use Rattle.spx_term.specs.declared.condition.CondKind.TheVariants.{Division, Overflow, Range}
 use Rattle.spx_term.specs.declared.path.PathStep.{PathStep}
 use Rattle.spx_term.specs.declared.path.PathStep.TheVariants as step
 use Rattle.spx_core.specs.declared.expression.CoreExpr.TheVariants as expr
 use Rattle.spx_term.specs.declared.term.Name.{Name}
+use Rattle.spx_term.specs.declared.term.TermOp.TheVariants as operator
 use Rattle.spx_term.specs.declared.term.Term.{Term}
 use Rattle.spx_term.specs.declared.term.Term.TheVariants as term
 use Rattle.spx_term.specs.declared.value.Value.{Value}
 use Rattle.spx_term.specs.Paths.{branches}
-use Rattle.spx_term.specs.Steps.{Tree, Assume, Assign, assume_all, check}
+use Rattle.spx_term.specs.Steps.{Tree, Assign, assume_all, assume_parts, check}
+use Rattle.spx_term.specs.Conjuncts.{conjuncts}
 use Rattle.spx_meaning.specs.Literals.{literal}
+use Rattle.spx_meaning.specs.Stores.{type_of}
 use Rattle.spx_paths.specs.Terms.{entry, entry_term, now, term_of}
-use Rattle.spx_paths.specs.Checks.{check_forms, check_integer, checks, guarded, in_integer, operation_check, sign_check, unless_static}
+use Rattle.spx_paths.specs.Checks.{base_check, check_forms, checked_under, checks, divisor_check, guarded, in_range, in_type, operation_check, right_lefts, sign_check, unless_static}
 use Rattle.spx_paths.specs.Conditions.{PathsAreCounted}
-use Rattle.spx_paths.specs.Walks.{arrivals, assigned, ending, entering, first_facts, walk}
+use Rattle.spx_paths.specs.Walks.{arrivals, assigned, checked_in, ending, entering, first_facts, walk}
 
 -- how many paths a tree has
 abbrev count : Tree → ℕ
@@ -47,10 +55,6 @@ count_facts (t ∷ ts) rest = one_step (step.Assume t) (branches (assume_all ts 
 count_check : (kind : CondKind) (place : Place) (goals : List Term) (rest : Tree) → count (check kind place goals rest) ≡ count rest
 count_check kind place goals rest = one_step (step.Prove kind place goals) (branches (assume_all goals rest)) ∙ count_facts goals rest
 
-count_assigned : (o : Option VarId) (t : Term) (rest : Tree) → count (assigned o t rest) ≡ count rest
-count_assigned None t rest = refl
-count_assigned (Some v) t rest = one_step (step.Assign (now v) t) (branches rest)
-
 -- one tree has as many paths as another
 record AsMany (tree rest : Tree) : Type 0 where
   same : count tree ≡ count rest
@@ -65,28 +69,59 @@ unless : (x : Option Value) {rest checked : Tree} → AsMany checked rest → As
 unless None h = h
 unless (Some x) h = itself
 
-module _ (entered : VarId → Term) (lefts : List Term) where
-  checked : (kind : CondKind) (place : Place) (t : Term) (rest : Tree) → AsMany (check_integer lefts kind place t rest) rest
-  checked kind place t rest = record { same = count_check kind place (guarded lefts (in_integer t)) rest }
+in_class : (class : Class) (subtype : Subtype) (place : Place) (t : Term) (rest : Tree) → AsMany (checked_in class subtype place t rest) rest
+in_class class.Integer subtype place t rest = record { same = count_check Range place (in_type subtype t) rest }
+in_class class.Boolean subtype place t rest = itself
 
-  signed : (op : PrefixOp) (place : Place) (t : Term) (rest : Tree) → AsMany (sign_check lefts op place t rest) rest
-  signed prefix.Plus place t rest = itself
-  signed prefix.Minus place t rest = checked Overflow place t rest
+assigns : (p : Program) (place : Place) (o : Option VarId) (t : Term) (rest : Tree) → AsMany (assigned p place o t rest) rest
+assigns p place None t rest = itself
+assigns p place (Some v) t rest = and_then (in_class (type_of p v).base.class (type_of p v) place t (Assign (now p v) t rest)) (record { same = one_step (step.Assign (now p v) t) (branches rest) })
 
-  operated : (op : InfixOp) (place : Place) (t : Term) (rest : Tree) → AsMany (operation_check lefts op place t rest) rest
-  operated op.Add place t rest = checked Overflow place t rest
-  operated op.Subtract place t rest = checked Overflow place t rest
-  operated _ place t rest = itself
+module _ (lefts : List Term) where
+  checked : (kind : CondKind) (place : Place) (goals : List Term) (rest : Tree) → AsMany (checked_under lefts kind place goals rest) rest
+  checked kind place goals rest = record { same = count_check kind place (guarded lefts goals) rest }
+
+  based : (base : BaseType) (place : Place) (t : Term) (rest : Tree) → AsMany (base_check lefts base place t rest) rest
+  based base place t rest = checked Overflow place (in_range base.first base.last t) rest
+
+  divided : (place : Place) (t : Term) (rest : Tree) → AsMany (divisor_check lefts place t rest) rest
+  divided place t rest = checked Division place (term.Infix operator.NotEqual t (term.Number (pos 0)) ∷ []) rest
+
+  signed : (op : PrefixOp) (base : BaseType) (place : Place) (t : Term) (rest : Tree) → AsMany (sign_check lefts op base place t rest) rest
+  signed prefix.Plus base place t rest = itself
+  signed prefix.Minus base place t rest = based base place t rest
+  signed prefix.Abs base place t rest = based base place t rest
+  signed prefix.Not base place t rest = itself
+
+  operated : (op : InfixOp) (base : BaseType) (place at : Place) (right whole : Term) (rest : Tree) → AsMany (operation_check lefts op base place at right whole rest) rest
+  operated op.Add base place at right whole rest = based base place whole rest
+  operated op.Subtract base place at right whole rest = based base place whole rest
+  operated op.Multiply base place at right whole rest = based base place whole rest
+  operated op.Divide base place at right whole rest = and_then (divided place right _) (based base place whole rest)
+  operated op.Mod base place at right whole rest = divided place right rest
+  operated op.Rem base place at right whole rest = divided place right rest
+  operated op.Power base place at right whole rest =
+      and_then (checked Range at (term.Infix operator.GreaterOrEqual right (term.Number (pos 0)) ∷ []) (base_check lefts base place whole rest)) (based base place whole rest)
+  operated _ base place at right whole rest = itself
+
+module _ (p : Program) (entered : VarId → Term) where
+  abbrev Counted : CoreExpr → Type 0
+  Counted e = (lefts : List Term) (rest : Tree) → AsMany (checks p entered lefts e rest) rest
 
   -- checks end no path and begin none
-  count_checks : (e : CoreExpr) (rest : Tree) → AsMany (checks entered lefts e rest) rest
-  count_checks = induct (λ e. (rest : Tree) → AsMany (checks entered lefts e rest) rest) (record {
-    number = λ n place rest. simp check_forms itself;
-    name = λ name rest. simp check_forms itself;
-    attribute = λ prefix designator rest. simp check_forms itself;
-    parenthesized = λ place a more rest. simp check_forms (more rest);
-    prefix = λ op place a more rest. simp check_forms (unless (literal (expr.Prefix op place a)) (and_then (more _) (signed op place _ rest)));
-    «infix» = λ op place a b first second rest. simp check_forms (unless (literal (expr.Infix op place a b)) (and_then (first _) (and_then (second _) (operated op place _ rest))));
+  count_checks : (e : CoreExpr) → Counted e
+  count_checks = induct Counted (record {
+    number = λ n place lefts rest. simp check_forms itself;
+    name = λ name lefts rest. simp check_forms itself;
+    attribute = λ prefix designator lefts rest. simp check_forms itself;
+    parenthesized = λ place a more lefts rest. simp check_forms (more lefts rest);
+    prefix = λ op place a more lefts rest. simp check_forms (unless (literal (expr.Prefix op place a)) (and_then (more lefts _) (signed lefts op _ place _ rest)));
+    «infix» = λ op place a b first second lefts rest.
+        simp check_forms
+        (unless (literal (expr.Infix op place a b)) (and_then (first lefts _) (and_then (second (right_lefts op lefts (term_of p entered a)) _) (operated lefts op _ place _ _ _ rest))));
+    in_type = λ op place a name more lefts rest. simp check_forms (unless (literal (expr.InType op place a name)) (more lefts rest));
+    in_range = λ op place a low high first second third lefts rest.
+        simp check_forms (unless (literal (expr.InRange op place a low high)) (and_then (first lefts _) (and_then (second lefts _) (third lefts rest))));
   })
 
 -- as many paths lead through a command as arrive
@@ -94,28 +129,28 @@ count_walk : (p : Program) (sub : Sub) (c : Command) (rest leave : ℕ → Tree)
     → (made : ℕ) → count (walk p sub c rest leave made) ≡ arrivals c r l
 count_walk p sub Skip rest leave r l goes leaves made = goes made
 count_walk p sub (Set target e) rest leave r l goes leaves made =
-    let value = term_of (entry_term sub) e in
-    (and_then (count_checks (entry_term sub) [] e _) (checked (entry_term sub) [] Range (place_of e) value _)).same ∙ count_assigned (variable_of target.root.entity) value (rest made) ∙ goes made
+    (and_then (count_checks p (entry_term p sub) e [] _) (assigns p (place_of e) (variable_of target.root.entity) (term_of p (entry_term p sub) e) (rest made))).same ∙ goes made
 count_walk p sub (Then a b) rest leave r l goes leaves made =
     count_walk p sub a (walk p sub b rest leave) leave (arrivals b r l) l (count_walk p sub b rest leave r l goes leaves) leaves made
 count_walk p sub (Choose place condition a b) rest leave r l goes leaves made =
-    (count_checks (entry_term sub) [] condition _).same
-    ∙ length-append (branches (Assume (term_of (entry_term sub) condition) (walk p sub a rest leave made))) _
-    ∙ ap₂ (λ (m n : ℕ). m + n) (one_step _ (branches (walk p sub a rest leave made)) ∙ count_walk p sub a rest leave r l goes leaves made)
+    let holds = term_of p (entry_term p sub) condition in
+    (count_checks p (entry_term p sub) condition [] _).same
+    ∙ length-append (branches (assume_parts holds (walk p sub a rest leave made))) _
+    ∙ ap₂ (λ (m n : ℕ). m + n) (count_facts (conjuncts holds) (walk p sub a rest leave made) ∙ count_walk p sub a rest leave r l goes leaves made)
     (one_step _ (branches (walk p sub b rest leave made)) ∙ count_walk p sub b rest leave r l goes leaves made)
 
 perhaps : (b : Bool) (x : Name) (t : Term) (rest : Tree) → count (if b then Assign x t rest else rest) ≡ count rest
 perhaps true x t rest = one_step (step.Assign x t) (branches rest)
 perhaps false x t rest = refl
 
-count_entering : (sub : Sub) (vs : List VarId) (rest : Tree) → count (entering sub vs rest) ≡ count rest
-count_entering sub [] rest = refl
-count_entering sub (v ∷ vs) rest = perhaps (exports v sub) (now v) (term.Variable (entry v)) (entering sub vs rest) ∙ count_entering sub vs rest
+count_entering : (p : Program) (sub : Sub) (vs : List VarId) (rest : Tree) → count (entering p sub vs rest) ≡ count rest
+count_entering p sub [] rest = refl
+count_entering p sub (v ∷ vs) rest = perhaps (exports v sub) (now p v) (term.Variable (entry p v)) (entering p sub vs rest) ∙ count_entering p sub vs rest
 
 pub paths_are_counted : PathsAreCounted
 paths_are_counted p sub =
-    length-append (branches (entering sub (formals sub) _)) []
+    length-append (branches (entering p sub (formals sub) _)) []
     ∙ add-zero _
-    ∙ count_entering sub (formals sub) _
-    ∙ count_facts (first_facts sub) _
+    ∙ count_entering p sub (formals sub) _
+    ∙ count_facts (first_facts p sub) _
     ∙ count_walk p sub (commands sub.statements) ending ending 1 1 (λ m. refl) (λ m. refl) 0

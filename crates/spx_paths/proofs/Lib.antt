@@ -1,4 +1,5 @@
 pub mod CountLaws
 pub mod ClaimLaws
 pub mod PrefixLaws
+pub mod CheckLaws
 pub mod ArriveLaws

@@ -5,6 +5,7 @@ use Rattle.spx_core.specs.declared.program.Program.{Program}
 use Rattle.spx_core.specs.declared.subprogram.CorePrecondition.{CorePrecondition}
 use Rattle.spx_core.specs.declared.subprogram.Sub.{Sub}
 use Rattle.spx_core.specs.Commands.{Command, Skip, Set, Then, Choose, commands}
+use Rattle.spx_text.specs.declared.place.Place.{Place}
 use Rattle.spx_core.specs.Places.{place_of}
 use Rattle.spx_core.specs.Dependency.{exports, imports}
 use Rattle.spx_core.specs.Formals.{formals}
@@ -13,25 +14,38 @@ use Rattle.spx_term.specs.declared.condition.CondKind.TheVariants.{Range}
 use Rattle.spx_term.specs.declared.term.TermPrefix.TheVariants.{Not}
 use Rattle.spx_term.specs.declared.term.Term.{Term}
 use Rattle.spx_term.specs.declared.term.Term.TheVariants as term
-use Rattle.spx_term.specs.Steps.{Tree, Cut, Assume, Assign, Split, assume_all}
+use Rattle.spx_term.specs.Conjuncts.{conjuncts}
+use Rattle.spx_term.specs.Steps.{Tree, Cut, Assume, Assign, Split, assume_all, assume_parts, check}
+use Rattle.spx_meaning.specs.Stores.{type_of}
 use Rattle.spx_paths.specs.Terms.{now, entry, now_term, entry_term, term_of}
-use Rattle.spx_paths.specs.Checks.{check_integer, checks, in_integer}
+use Rattle.spx_paths.specs.Checks.{checks, in_type}
+use Rattle.spx_core.specs.declared.entity.Class.{Class}
+use Rattle.spx_core.specs.declared.entity.Class.TheVariants as class
+use Rattle.spx_core.specs.declared.entity.Subtype.{Subtype}
 
--- the target stands for the value; only variables are assigned
-abbrev pub assigned : Option VarId → Term → Tree → Tree
-assigned (Some v) t rest = Assign (now v) t rest
-assigned None t rest = rest
+-- a value that is given to a type lies in it (Ada 95 RM 4.6); truth values are not checked
+abbrev pub checked_in : Class → Subtype → Place → Term → Tree → Tree
+checked_in class.Integer subtype place t rest = check Range place (in_type subtype t) rest
+checked_in class.Boolean subtype place t rest = rest
+
+abbrev pub range_check : Subtype → Place → Term → Tree → Tree
+range_check subtype place t rest = checked_in subtype.base.class subtype place t rest
+
+-- the value is checked against the type of the target, which then stands for it; only variables are assigned
+abbrev pub assigned : Program → Place → Option VarId → Term → Tree → Tree
+assigned p place (Some v) t rest = range_check (type_of p v) place t (Assign (now p v) t rest)
+assigned p place None t rest = rest
 
 -- The steps through a command and then along the rest, which depends on how many values calls have made before it: `rest` where the command
 -- goes on, `leave` where it leaves the loop around it.
 abbrev pub walk : Program → Sub → Command → (rest leave : ℕ → Tree) → ℕ → Tree
 walk p sub Skip rest leave made = rest made
 walk p sub (Set target e) rest leave made =
-    checks (entry_term sub) [] e (check_integer [] Range (place_of e) (term_of (entry_term sub) e) (assigned (variable_of target.root.entity) (term_of (entry_term sub) e) (rest made)))
+    checks p (entry_term p sub) [] e (assigned p (place_of e) (variable_of target.root.entity) (term_of p (entry_term p sub) e) (rest made))
 walk p sub (Then a b) rest leave made = walk p sub a (walk p sub b rest leave) leave made
 walk p sub (Choose place condition a b) rest leave made =
-    checks (entry_term sub) [] condition
-    (Split (Assume (term_of (entry_term sub) condition) (walk p sub a rest leave made)) (Assume (term.Prefix Not (term_of (entry_term sub) condition)) (walk p sub b rest leave made)))
+    checks p (entry_term p sub) [] condition
+    (Split (assume_parts (term_of p (entry_term p sub) condition) (walk p sub a rest leave made)) (Assume (term.Prefix Not (term_of p (entry_term p sub) condition)) (walk p sub b rest leave made)))
 
 -- How many paths there are through a command and then along the rest, where there are so many from where it goes on and from where it leaves.
 abbrev pub arrivals : Command → (rest leave : ℕ) → ℕ
@@ -43,21 +57,21 @@ arrivals (Choose place condition a b) rest leave = arrivals a rest leave + arriv
 -- ---- bodies
 
 -- an exported variable stands for its entry value at the start
-abbrev pub entering : Sub → List VarId → Tree → Tree
-entering sub [] rest = rest
-entering sub (v ∷ vs) rest = if exports v sub then Assign (now v) (term.Variable (entry v)) (entering sub vs rest) else entering sub vs rest
+abbrev pub entering : Program → Sub → List VarId → Tree → Tree
+entering p sub [] rest = rest
+entering p sub (v ∷ vs) rest = if exports v sub then Assign (now p v) (term.Variable (entry p v)) (entering p sub vs rest) else entering p sub vs rest
 
 -- an import lies in its type
-abbrev pub import_facts : Sub → VarId → List Term
-import_facts sub v = if imports v sub then in_integer (now_term v) else []
+abbrev pub import_facts : Program → Sub → VarId → List Term
+import_facts p sub v = if imports v sub then in_type (type_of p v) (now_term p v) else []
 
-abbrev pub pre_facts : Sub → Option CorePrecondition → List Term
-pre_facts sub None = []
-pre_facts sub (Some pre) = term_of (entry_term sub) pre.condition ∷ []
+abbrev pub pre_facts : Program → Sub → Option CorePrecondition → List Term
+pre_facts p sub None = []
+pre_facts p sub (Some pre) = conjuncts (term_of p (entry_term p sub) pre.condition)
 
 -- what is known at the start
-abbrev pub first_facts : Sub → List Term
-first_facts sub = flat_map (import_facts sub) (formals sub) ++ pre_facts sub sub.pre
+abbrev pub first_facts : Program → Sub → List Term
+first_facts p sub = flat_map (import_facts p sub) (formals sub) ++ pre_facts p sub sub.pre
 
 -- the end of a body
 abbrev pub ending : ℕ → Tree
@@ -65,7 +79,7 @@ ending made = Cut
 
 -- the steps from the start of a body
 abbrev pub start_tree : Program → Sub → Tree
-start_tree p sub = entering sub (formals sub) (assume_all (first_facts sub) (walk p sub (commands sub.statements) ending ending 0))
+start_tree p sub = entering p sub (formals sub) (assume_all (first_facts p sub) (walk p sub (commands sub.statements) ending ending 0))
 
 -- a tree from each cut: the start of the body is the only one
 abbrev pub trees_of : Program → Sub → List Tree

@@ -4,12 +4,14 @@
 //! A layer above may rely on these calls. `has_many_paths` says exactly whether a body has more than `MOST_PATHS` paths from
 //! cut to cut, before any of them is walked. `paths` gives exactly the paths that a body has, in the order of the text, each as
 //! the steps that are taken along it; it counts before it makes a step, and a `PathFault` says why there are none. `literal`
-//! says what a static expression stands for in terms. Two laws tie these to the conditions: the count is the length of the
+//! says what a static expression stands for in terms, `base_of` the base type of an expression. Two laws tie these to the conditions: the count is the length of the
 //! list (`paths_are_counted`), and a body asks for what its paths ask for, and for nothing else (`claims_are_of_paths`).
 #![tactic(auto)]
 
+mod checks;
 mod count;
 mod fault;
+mod goals;
 pub mod laws;
 mod literals;
 mod path;
@@ -20,5 +22,5 @@ mod walk;
 
 pub use count::has_many_paths;
 pub use fault::{MOST_PATHS, PathFault};
-pub use literals::literal;
+pub use literals::{base_of, literal};
 pub use path::{Path, paths};

@@ -1,18 +1,30 @@
-// The values that static expressions stand for in terms (Ada 95 RM 4.9).
+// What is known of expressions from their types (Ada 95 RM 4.9).
 ghost use Rattle.std.specs.Prelude.{◌≡◌};
-ghost use Rattle.spx_meaning.specs.Literals.{literal, value_of};
+ghost use Rattle.spx_meaning.specs.Literals.{base_in, base_of, literal, value_of};
 
-use spx_core::{CoreExpr, ExprType};
+use spx_core::{BaseType, Class, CoreExpr, ExprType, UNIVERSAL};
 use spx_term::Value;
 use spx_types::judge;
 
-/// A static value of a type. That of `Boolean` is a position.
+/// A static value of a type. That of a Boolean type is a position.
 fn value_of(of: ExprType, value: i128) -> Value
     ensures { result ≡ value_of of value }
 {
     match of {
-        ExprType::Boolean => Value::Truth(value != 0),
-        ExprType::Universal | ExprType::Of(_) => Value::Number(value),
+        ExprType::Universal => Value::Number(value),
+        ExprType::Of(base) => match base.class {
+            Class::Integer => Value::Number(value),
+            Class::Boolean => Value::Truth(value != 0),
+        },
+    }
+}
+
+fn base_in(of: ExprType) -> BaseType
+    ensures { result ≡ base_in of }
+{
+    match of {
+        ExprType::Universal => UNIVERSAL.base,
+        ExprType::Of(base) => base,
     }
 }
 
@@ -23,5 +35,15 @@ pub fn literal(expr: &CoreExpr) -> Option<Value>
     match judge(expr) {
         Ok(typing) => typing.value.map(|value| value_of(typing.of, value)),
         Err(_) => None,
+    }
+}
+
+/// The base type of an expression, whose range the results of operations must lie in.
+pub fn base_of(expr: &CoreExpr) -> BaseType
+    ensures { result ≡ base_of expr.now }
+{
+    match judge(expr) {
+        Ok(typing) => base_in(typing.of),
+        Err(_) => UNIVERSAL.base,
     }
 }

@@ -1,6 +1,5 @@
 // The paths of a body, from its start to each end.
 ghost use Rattle.std.specs.Prelude.{◌≡◌, ◌<◌, false, Some, length, map, slice_get, IfErr, IfOk, OnOk};
-ghost use Rattle.spx_core.specs.declared.program.Program.{Program};
 ghost use Rattle.spx_core.specs.declared.subprogram.Sub.{Sub};
 ghost use Rattle.spx_paths.specs.Conditions.{paths};
 ghost use Rattle.spx_paths.specs.Limits.{IsPathFaultOf, has_many_paths};
@@ -34,16 +33,16 @@ impl Path {
 }
 
 /// The paths of a body. They are counted before a step is made.
-fn body_paths(alloc: Global, sub: &Sub) -> Result<Items<Path>, PathFault>
-    ensures exact { (p : Program) → IfOk result (λ all. map (λ path. path.steps) all ≡ paths p sub.now) }
+fn body_paths(alloc: Global, program: &Program, sub: &Sub) -> Result<Items<Path>, PathFault>
+    ensures exact { IfOk result (λ all. map (λ path. path.steps) all ≡ paths program.now sub.now) }
     ensures few { OnOk result (has_many_paths sub.now ≡ false) }
     ensures refused { IfErr result (IsPathFaultOf sub.now) }
 {
     if has_many_paths(sub) {
         return Err(PathFault::TooManyPaths(MOST_PATHS + 1));
     }
-    let start = start(alloc, sub)?;
-    let found = walk_stmts(alloc, sub.statements.as_slice(), start)?;
+    let start = start(alloc, program, sub)?;
+    let found = walk_stmts(alloc, program, sub.statements.as_slice(), start)?;
     Ok(Items::from_vec(found))
 }
 
@@ -55,5 +54,5 @@ pub fn paths(alloc: Global, program: &Program, id: SubId) -> Result<Items<Path>,
     ensures refused { (sub : Sub) → slice_get program.now.subs id.0 ≡ Some sub → IfErr result (IsPathFaultOf sub) }
 {
     let sub = &program.subs.as_slice()[id.0];
-    body_paths(alloc, sub)
+    body_paths(alloc, program, sub)
 }

@@ -1,20 +1,16 @@
-// The steps that checks and assignments add to a path.
-ghost use Rattle.std.specs.Prelude.{◌≡◌, List, [], OnOk};
-ghost use Rattle.spx_core.specs.declared.entity.VarId.{VarId};
+// The steps that facts, checks of values and assignments add to a path.
+ghost use Rattle.std.specs.Prelude.{◌≡◌, OnOk};
 ghost use Rattle.spx_core.specs.Uses.{variable_of};
-ghost use Rattle.spx_term.specs.declared.term.Term.{Term};
-ghost use Rattle.spx_term.specs.Steps.{Assign, Assume, assume_all};
-ghost use Rattle.spx_paths.specs.Checks.{check_integer, checks, operation_check, sign_check};
-ghost use Rattle.spx_paths.specs.Terms.{term_of};
-ghost use Rattle.spx_paths.specs.Walks.{assigned};
-ghost use Rattle.spx_paths.specs.Prefixes.{Walked};
+ghost use Rattle.spx_term.specs.Steps.{Assign, Assume, assume_all, assume_parts, check};
+ghost use Rattle.spx_paths.specs.Walks.{assigned, range_check};
+ghost use Rattle.spx_paths.specs.Prefixes.{Walked, is_and};
 
-use crate::literals::literal;
-use crate::terms::{in_integer, now, term_of};
-use spx_core::{CoreExpr, Entity, variable_of};
-use spx_term::{CondKind, Name, PathStep, Term, copy_all};
+use crate::goals::in_type;
+use crate::terms::now;
+use spx_core::{Class, Entity, Program, Subtype, variable_of};
+use spx_meaning::type_of;
+use spx_term::{CondKind, Name, PathStep, Term, TermOp, copy_all};
 use spx_text::Place;
-use spx_tree::{InfixOp, PrefixOp};
 use sqlite_items::Items;
 use std::alloc::{AllocError, Global};
 
@@ -27,6 +23,15 @@ pub(crate) fn assume(steps: &mut Items<PathStep>, fact: Term) -> Result<(), Allo
     Ok(())
 }
 
+/// Adds that the term is true.
+fn assume_copy(alloc: Global, steps: &mut Items<PathStep>, term: &Term) -> Result<(), AllocError>
+    ensures { OnOk result (Walked steps.old steps.new (Assume term.now)) }
+{
+    let fact = term.copy(alloc)?;
+    assume(steps, fact)?;
+    Ok(())
+}
+
 /// Adds that each of the terms is true.
 pub(crate) fn assume_all(
     alloc: Global,
@@ -36,105 +41,79 @@ pub(crate) fn assume_all(
     ensures { OnOk result (Walked steps.old steps.new (assume_all facts.now)) }
 {
     for fact in facts {
-        let fact = fact.copy(alloc)?;
-        assume(steps, fact)?;
+        assume_copy(alloc, steps, fact)?;
     }
     Ok(())
 }
 
-/// Adds the check of a number against the type `Integer`.
+/// Whether the operator is that of a conjunction.
+fn is_and(op: TermOp) -> bool
+    ensures { result ≡ is_and op }
+{
+    matches!(op, TermOp::And)
+}
+
+/// Adds that each part of a conjunction is true.
+#[cycle(assume_parts)]
+#[tactic(auto, using(crate::proofs::PrefixLaws::part_laws))]
+pub(crate) fn assume_parts(
+    alloc: Global,
+    steps: &mut Items<PathStep>,
+    term: &Term,
+) -> Result<(), AllocError>
+    ensures { OnOk result (Walked steps.old steps.new (assume_parts term.now)) }
+{
+    match term {
+        Term::Infix(op, left, right) => {
+            if !is_and(*op) {
+                assume_copy(alloc, steps, term)?;
+                return Ok(());
+            }
+            assume_parts(alloc, steps, left.get())?;
+            assume_parts(alloc, steps, right.get())?;
+            Ok(())
+        }
+        Term::Number(_) | Term::Truth(_) | Term::Variable(_) | Term::Prefix(_, _) => {
+            assume_copy(alloc, steps, term)?;
+            Ok(())
+        }
+    }
+}
+
+/// Adds a check. What was shown is a fact from there on.
 #[tactic(auto, using(crate::proofs::PrefixLaws::step_laws))]
-pub(crate) fn check_integer(
+pub(crate) fn check(
     alloc: Global,
     steps: &mut Items<PathStep>,
     kind: CondKind,
     place: Place,
-    number: &Term,
+    goals: Items<Term>,
 ) -> Result<(), AllocError>
-    ensures { OnOk result (Walked steps.old steps.new (check_integer [] kind place number.now)) }
+    ensures { OnOk result (Walked steps.old steps.new (check kind place goals)) }
 {
-    let facts = in_integer(alloc, number)?;
-    let goals = copy_all(alloc, facts.as_slice())?;
+    let facts = copy_all(alloc, goals.as_slice())?;
     steps.push(PathStep::Prove(kind, place, goals))?;
     assume_all(alloc, steps, facts.as_slice())?;
     Ok(())
 }
 
-/// Adds the check of an operation, after those of its operands.
-fn check_operation(
+/// Adds the check of a value that is given to a type.
+fn check_range(
     alloc: Global,
     steps: &mut Items<PathStep>,
-    op: InfixOp,
+    subtype: Subtype,
     place: Place,
-    expr: &CoreExpr,
+    value: &Term,
 ) -> Result<(), AllocError>
-    ensures { OnOk result ((entered : VarId → Term) → Walked steps.old steps.new (operation_check [] op place (term_of entered expr.now))) }
+    ensures { OnOk result (Walked steps.old steps.new (range_check subtype place value.now)) }
 {
-    match op {
-        InfixOp::Add | InfixOp::Subtract => {
-            let number = term_of(alloc, expr)?;
-            check_integer(alloc, steps, CondKind::Overflow, place, &number)?;
+    match subtype.base.class {
+        Class::Integer => {
+            let goals = in_type(alloc, subtype, value)?;
+            check(alloc, steps, CondKind::Range, place, goals)?;
             Ok(())
         }
-        _ => Ok(()),
-    }
-}
-
-/// Adds the check of a sign, after those of its operand.
-fn check_sign(
-    alloc: Global,
-    steps: &mut Items<PathStep>,
-    op: PrefixOp,
-    place: Place,
-    expr: &CoreExpr,
-) -> Result<(), AllocError>
-    ensures { OnOk result ((entered : VarId → Term) → Walked steps.old steps.new (sign_check [] op place (term_of entered expr.now))) }
-{
-    match op {
-        PrefixOp::Plus => Ok(()),
-        PrefixOp::Minus => {
-            let number = term_of(alloc, expr)?;
-            check_integer(alloc, steps, CondKind::Overflow, place, &number)?;
-            Ok(())
-        }
-    }
-}
-
-/// Adds the checks of an expression, from left to right. A static one has none.
-#[cycle(check_expr)]
-#[tactic(auto, using(crate::specs::Checks::check_forms))]
-pub(crate) fn check_expr(
-    alloc: Global,
-    steps: &mut Items<PathStep>,
-    expr: &CoreExpr,
-) -> Result<(), AllocError>
-    ensures { OnOk result ((entered : VarId → Term) → Walked steps.old steps.new (checks entered [] expr.now)) }
-{
-    match expr {
-        CoreExpr::Number(_, _) => Ok(()),
-        CoreExpr::Name(_) => Ok(()),
-        CoreExpr::Attribute(_, _) => Ok(()),
-        CoreExpr::Parenthesized(_, inner) => {
-            check_expr(alloc, steps, inner.get())?;
-            Ok(())
-        }
-        CoreExpr::Prefix(op, place, operand) => {
-            if literal(expr).is_some() {
-                return Ok(());
-            }
-            check_expr(alloc, steps, operand.get())?;
-            check_sign(alloc, steps, *op, *place, expr)?;
-            Ok(())
-        }
-        CoreExpr::Infix(op, place, left, right) => {
-            if literal(expr).is_some() {
-                return Ok(());
-            }
-            check_expr(alloc, steps, left.get())?;
-            check_expr(alloc, steps, right.get())?;
-            check_operation(alloc, steps, *op, *place, expr)?;
-            Ok(())
-        }
+        Class::Boolean => Ok(()),
     }
 }
 
@@ -151,17 +130,21 @@ pub(crate) fn assign_name(
     Ok(())
 }
 
-/// Adds that the variable that is denoted stands for a value.
+/// Adds that the variable that is denoted stands for a value, after the check of that value.
 pub(crate) fn assign(
+    alloc: Global,
+    program: &Program,
     steps: &mut Items<PathStep>,
+    place: Place,
     entity: Option<Entity>,
     value: Term,
 ) -> Result<(), AllocError>
-    ensures { OnOk result (Walked steps.old steps.new (assigned (variable_of entity) value)) }
+    ensures { OnOk result (Walked steps.old steps.new (assigned program.now place (variable_of entity) value)) }
 {
     match variable_of(entity) {
         Some(var) => {
-            assign_name(steps, now(var), value)?;
+            check_range(alloc, steps, type_of(program, var), place, &value)?;
+            assign_name(steps, now(program, var), value)?;
             Ok(())
         }
         None => Ok(()),

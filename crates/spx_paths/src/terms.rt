@@ -1,38 +1,56 @@
 // Terms of expressions.
 ghost use Rattle.std.specs.Prelude.{◌≡◌, IfOk};
 ghost use Rattle.spx_core.specs.declared.entity.VarId.{VarId};
+ghost use Rattle.spx_core.specs.Resolved.{subtype_of};
 ghost use Rattle.spx_core.specs.Uses.{variable_of};
 ghost use Rattle.spx_term.specs.declared.term.Term.{Term};
-ghost use Rattle.spx_term.specs.declared.term.Term.TheVariants as term;
 ghost use Rattle.spx_term.specs.Folding.{term_of as static_term};
 ghost use Rattle.spx_meaning.specs.Evaluation.{term_op};
-ghost use Rattle.spx_paths.specs.Terms.{entry, named, now, now_term, signed_term, term_of};
-ghost use Rattle.spx_paths.specs.Checks.{in_integer};
+ghost use Rattle.spx_meaning.specs.Literals.{literal};
+ghost use Rattle.spx_paths.specs.Terms.{between, entry, first_term, last_term, literal_or, member_term, named, now, now_term, signed_term, sort_of_class, sort_of_var, term_of};
 
 use crate::literals::literal;
-use spx_core::{CoreExpr, Entity, INTEGER_FIRST, INTEGER_LAST, VarId, variable_of};
+use spx_core::{
+    Class, CoreExpr, Entity, Program, Reference, Subtype, UNIVERSAL, VarId, variable_of,
+};
+use spx_meaning::type_of;
 use spx_term::{Name, Sort, Symbol, Term, TermOp, TermPrefix, Value};
-use spx_tree::{InfixOp, PrefixOp};
-use sqlite_items::Items;
+use spx_tree::{InfixOp, MemberOp, PrefixOp};
 use std::alloc::{AllocError, Global};
 
+fn sort_of_class(class: Class) -> Sort
+    ensures { result ≡ sort_of_class class }
+{
+    match class {
+        Class::Integer => Sort::Integer,
+        Class::Boolean => Sort::Boolean,
+    }
+}
+
+/// The sort of the values of a variable.
+fn sort_of_var(program: &Program, var: VarId) -> Sort
+    ensures { result ≡ sort_of_var program.now var }
+{
+    sort_of_class(type_of(program, var).base.class)
+}
+
 /// The present value of a variable.
-pub(crate) fn now(var: VarId) -> Name
-    ensures { result ≡ now var }
+pub(crate) fn now(program: &Program, var: VarId) -> Name
+    ensures { result ≡ now program.now var }
 {
     Name {
         symbol: Symbol::Now(var.0),
-        sort: Sort::Integer,
+        sort: sort_of_var(program, var),
     }
 }
 
 /// The value of a variable on entry.
-pub(crate) fn entry(var: VarId) -> Name
-    ensures { result ≡ entry var }
+pub(crate) fn entry(program: &Program, var: VarId) -> Name
+    ensures { result ≡ entry program.now var }
 {
     Name {
         symbol: Symbol::Entry(var.0),
-        sort: Sort::Integer,
+        sort: sort_of_var(program, var),
     }
 }
 
@@ -42,12 +60,22 @@ fn term_op(op: InfixOp) -> TermOp
     match op {
         InfixOp::Add => TermOp::Add,
         InfixOp::Subtract => TermOp::Subtract,
+        InfixOp::Multiply => TermOp::Multiply,
+        InfixOp::Divide => TermOp::Divide,
+        InfixOp::Mod => TermOp::Mod,
+        InfixOp::Rem => TermOp::Rem,
+        InfixOp::Power => TermOp::Power,
         InfixOp::Equal => TermOp::Equal,
         InfixOp::NotEqual => TermOp::NotEqual,
         InfixOp::Less => TermOp::Less,
         InfixOp::LessOrEqual => TermOp::LessOrEqual,
         InfixOp::Greater => TermOp::Greater,
         InfixOp::GreaterOrEqual => TermOp::GreaterOrEqual,
+        InfixOp::And => TermOp::And,
+        InfixOp::Or => TermOp::Or,
+        InfixOp::Xor => TermOp::NotEqual,
+        InfixOp::AndThen => TermOp::And,
+        InfixOp::OrElse => TermOp::Or,
     }
 }
 
@@ -61,72 +89,123 @@ fn static_term(value: Value) -> Term
     }
 }
 
+/// The literal of an expression that is static, and else the term.
+fn literal_or(expr: &CoreExpr, term: Term) -> Term
+    ensures { result ≡ literal_or (literal expr.now) term }
+{
+    match literal(expr) {
+        Some(value) => static_term(value),
+        None => term,
+    }
+}
+
 /// The present value of what a name denotes. What denotes no variable counts as 0.
-fn name_term(entity: Option<Entity>) -> Term
-    ensures { result ≡ named now_term (variable_of entity) }
+fn name_term(program: &Program, entity: Option<Entity>) -> Term
+    ensures { result ≡ named (now_term program.now) (variable_of entity) }
 {
     match variable_of(entity) {
-        Some(var) => Term::Variable(now(var)),
+        Some(var) => Term::Variable(now(program, var)),
         None => Term::Number(0),
     }
 }
 
-/// The term after a sign.
+/// The subtype that a name denotes. What denotes none counts as that of universal numbers.
+fn subtype_of(entity: Option<Entity>) -> Subtype
+    ensures { result ≡ subtype_of entity }
+{
+    match entity {
+        Some(Entity::TypeName(subtype)) => subtype,
+        _ => UNIVERSAL,
+    }
+}
+
+/// The first value of the type that a name denotes.
+fn first_term(name: &Reference) -> Term
+    ensures { result ≡ first_term name.now }
+{
+    Term::Number(subtype_of(name.root.entity).first)
+}
+
+/// Its last value.
+fn last_term(name: &Reference) -> Term
+    ensures { result ≡ last_term name.now }
+{
+    Term::Number(subtype_of(name.root.entity).last)
+}
+
+/// The term of an operation on one operand.
 fn signed_term(alloc: Global, op: PrefixOp, operand: Term) -> Result<Term, AllocError>
     ensures { IfOk result (λ t. t ≡ signed_term op operand) }
 {
     match op {
         PrefixOp::Plus => Ok(operand),
         PrefixOp::Minus => Term::prefix(alloc, TermPrefix::Minus, operand),
+        PrefixOp::Abs => Term::prefix(alloc, TermPrefix::Abs, operand),
+        PrefixOp::Not => Term::prefix(alloc, TermPrefix::Not, operand),
+    }
+}
+
+/// That a term lies between two others.
+fn between(alloc: Global, tested: Term, low: Term, high: Term) -> Result<Term, AllocError>
+    ensures { IfOk result (λ t. t ≡ between tested low high) }
+{
+    let least = Term::infix(alloc, TermOp::GreaterOrEqual, tested.copy(alloc)?, low)?;
+    let most = Term::infix(alloc, TermOp::LessOrEqual, tested, high)?;
+    Term::infix(alloc, TermOp::And, least, most)
+}
+
+/// The term of a membership test.
+fn member_term(
+    alloc: Global,
+    op: MemberOp,
+    tested: Term,
+    low: Term,
+    high: Term,
+) -> Result<Term, AllocError>
+    ensures { IfOk result (λ t. t ≡ member_term op tested low high) }
+{
+    let within = between(alloc, tested, low, high)?;
+    match op {
+        MemberOp::In => Ok(within),
+        MemberOp::NotIn(_) => Term::prefix(alloc, TermPrefix::Not, within),
     }
 }
 
 /// The term of an expression over the present values of variables. A static one stands as its literal.
 #[cycle(term_of)]
 #[tactic(auto, using(crate::specs::Terms::term_forms))]
-pub(crate) fn term_of(alloc: Global, expr: &CoreExpr) -> Result<Term, AllocError>
-    ensures { (entered : VarId → Term) → IfOk result (λ t. t ≡ term_of entered expr.now) }
+pub(crate) fn term_of(alloc: Global, program: &Program, expr: &CoreExpr) -> Result<Term, AllocError>
+    ensures { (entered : VarId → Term) → IfOk result (λ t. t ≡ term_of program.now entered expr.now) }
 {
     match expr {
         CoreExpr::Number(value, _) => Ok(Term::Number(*value)),
-        CoreExpr::Name(name) => Ok(name_term(name.entity)),
-        CoreExpr::Attribute(_, _) => match literal(expr) {
-            Some(value) => Ok(static_term(value)),
-            None => Ok(Term::Number(0)),
-        },
-        CoreExpr::Parenthesized(_, inner) => term_of(alloc, inner.get()),
+        CoreExpr::Name(name) => Ok(literal_or(expr, name_term(program, name.entity))),
+        CoreExpr::Attribute(_, _) => Ok(literal_or(expr, Term::Number(0))),
+        CoreExpr::Parenthesized(_, inner) => term_of(alloc, program, inner.get()),
         CoreExpr::Prefix(op, _, operand) => {
-            if let Some(value) = literal(expr) {
-                return Ok(static_term(value));
-            }
-            let operand = term_of(alloc, operand.get())?;
-            signed_term(alloc, *op, operand)
+            let operand = term_of(alloc, program, operand.get())?;
+            let whole = signed_term(alloc, *op, operand)?;
+            Ok(literal_or(expr, whole))
         }
         CoreExpr::Infix(op, _, left, right) => {
-            if let Some(value) = literal(expr) {
-                return Ok(static_term(value));
-            }
-            let left = term_of(alloc, left.get())?;
-            let right = term_of(alloc, right.get())?;
-            Term::infix(alloc, term_op(*op), left, right)
+            let left = term_of(alloc, program, left.get())?;
+            let right = term_of(alloc, program, right.get())?;
+            let whole = Term::infix(alloc, term_op(*op), left, right)?;
+            Ok(literal_or(expr, whole))
+        }
+        CoreExpr::InType(op, _, tested, name) => {
+            let tested = term_of(alloc, program, tested.get())?;
+            let low = first_term(name);
+            let high = last_term(name);
+            let whole = member_term(alloc, *op, tested, low, high)?;
+            Ok(literal_or(expr, whole))
+        }
+        CoreExpr::InRange(op, _, tested, low, high) => {
+            let tested = term_of(alloc, program, tested.get())?;
+            let low = term_of(alloc, program, low.get())?;
+            let high = term_of(alloc, program, high.get())?;
+            let whole = member_term(alloc, *op, tested, low, high)?;
+            Ok(literal_or(expr, whole))
         }
     }
-}
-
-/// The comparison of a term with a number.
-fn compared(alloc: Global, left: &Term, op: TermOp, bound: i128) -> Result<Term, AllocError>
-    ensures { IfOk result (λ t. t ≡ term.Infix op left.now (term.Number bound)) }
-{
-    let left = left.copy(alloc)?;
-    Term::infix(alloc, op, left, Term::Number(bound))
-}
-
-/// That a term lies in the type `Integer`.
-pub(crate) fn in_integer(alloc: Global, term: &Term) -> Result<Items<Term>, AllocError>
-    ensures { IfOk result (λ facts. facts ≡ in_integer term.now) }
-{
-    let mut facts = Items::new(alloc);
-    facts.push(compared(alloc, term, TermOp::GreaterOrEqual, INTEGER_FIRST)?)?;
-    facts.push(compared(alloc, term, TermOp::LessOrEqual, INTEGER_LAST)?)?;
-    Ok(facts)
 }

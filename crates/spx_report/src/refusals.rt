@@ -17,6 +17,7 @@ fn breach_text(rule: RuleName) -> &'static [u8]
         RuleName::N3 => b"name of another kind",
         RuleName::N5 => b"end name differs",
         RuleName::N10 => b"types do not match",
+        RuleName::N11 => b"not static",
         RuleName::N12 => b"static value out of range",
         RuleName::U2 => b"target cannot be assigned",
         RuleName::U7 => b"bad derives annotation",

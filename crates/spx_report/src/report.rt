@@ -62,6 +62,7 @@ pub(crate) fn code(rule: RuleName) -> &'static [u8]
         RuleName::N3 => b"N3",
         RuleName::N5 => b"N5",
         RuleName::N10 => b"N10",
+        RuleName::N11 => b"N11",
         RuleName::N12 => b"N12",
         RuleName::U2 => b"U2",
         RuleName::U7 => b"U7",

@@ -6,7 +6,7 @@ ghost use Rattle.spx_scope.specs.Seen.{seen};
 
 use crate::expression::resolve_reference;
 use spx_core::{
-    CoreDecl, CoreParam, Defining, Entity, INTEGER, Mode, Object, Reference, Subtype, Var, VarId,
+    CoreDecl, CoreParam, Defining, Entity, Mode, Object, Reference, Subtype, UNIVERSAL, Var, VarId,
     VarKind,
 };
 use spx_scope::{Region, Scope};
@@ -73,13 +73,13 @@ fn declare_variables(
     Ok(defined)
 }
 
-/// The subtype that a name denotes; where it denotes none, a rule is broken, and it counts as `Integer`.
+/// The subtype that a name denotes; where it denotes none, a rule is broken, and it counts as that of universal numbers.
 fn subtype_of(entity: Option<Entity>) -> Subtype
     ensures { result ≡ subtype_of entity }
 {
     match entity {
         Some(Entity::TypeName(subtype)) => subtype,
-        _ => INTEGER,
+        _ => UNIVERSAL,
     }
 }
 
@@ -99,9 +99,9 @@ fn mode_of(mode: WrittenMode) -> Mode
 {
     match mode {
         WrittenMode::Unwritten => Mode::In,
-        WrittenMode::In => Mode::In,
+        WrittenMode::In(_) => Mode::In,
         WrittenMode::Out => Mode::Out,
-        WrittenMode::InOut => Mode::InOut,
+        WrittenMode::InOut(_) => Mode::InOut,
     }
 }
 

@@ -105,5 +105,16 @@ pub fn resolve_expr(alloc: Global, expr: &Expr, scope: &Scope<'_>) -> Result<Cor
             let left = resolve_part(alloc, left, scope)?;
             Ok(CoreExpr::Infix(*op, *place, left, resolve_part(alloc, right, scope)?))
         }
+        Expr::InType(op, place, tested, type_name) => {
+            let tested = resolve_part(alloc, tested, scope)?;
+            let type_name = resolve_reference(alloc, type_name, scope)?;
+            Ok(CoreExpr::InType(*op, *place, tested, type_name))
+        }
+        Expr::InRange(op, place, tested, low, high) => {
+            let tested = resolve_part(alloc, tested, scope)?;
+            let low = resolve_part(alloc, low, scope)?;
+            let high = resolve_part(alloc, high, scope)?;
+            Ok(CoreExpr::InRange(*op, *place, tested, low, high))
+        }
     }
 }

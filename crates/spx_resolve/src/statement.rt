@@ -1,12 +1,13 @@
 // Statements and annotations.
 ghost use Rattle.std.specs.Prelude.{◌≡◌, IfOk, map, option_map};
-ghost use Rattle.spx_core.specs.Resolved.{resolved_arm, resolved_derives, resolved_item, resolved_pre, resolved_stmt};
+ghost use Rattle.spx_core.specs.Resolved.{exported_names, place_of_null, resolved_arm, resolved_derives, resolved_item, resolved_pre, resolved_reference, resolved_stmt};
 ghost use Rattle.spx_scope.specs.Seen.{seen};
 
 use crate::expression::{resolve_expr, resolve_reference, resolve_references};
-use spx_core::{CoreArm, CoreDerives, CoreDerivesItem, CorePrecondition, CoreStmt};
+use spx_core::{CoreArm, CoreDerives, CoreDerivesItem, CorePrecondition, CoreStmt, Reference};
 use spx_scope::Scope;
-use spx_tree::{Arm, Derives, DerivesItem, Precondition, Stmt};
+use spx_text::Place;
+use spx_tree::{Arm, Derives, DerivesItem, Exports, Precondition, Stmt};
 use sqlite_items::Items;
 use std::alloc::{AllocError, Global};
 
@@ -70,6 +71,30 @@ fn resolve_stmt(alloc: Global, stmt: &Stmt, scope: &Scope<'_>) -> Result<CoreStm
     }
 }
 
+/// The place of `null`, from which on nothing is exported.
+fn place_of_null(exports: &Exports) -> Option<Place>
+    ensures { result ≡ place_of_null exports.now }
+{
+    match exports {
+        Exports::Names(_) => None,
+        Exports::Null(place) => Some(*place),
+    }
+}
+
+/// The exports of an item; at `null` there are none.
+fn resolve_exports(
+    alloc: Global,
+    exports: &Exports,
+    scope: &Scope<'_>,
+) -> Result<Items<Reference>, AllocError>
+    ensures { IfOk result (λ r. r ≡ map (resolved_reference (seen scope.now)) (exported_names exports.now)) }
+{
+    match exports {
+        Exports::Names(names) => Ok(resolve_references(alloc, names.as_slice(), scope)?),
+        Exports::Null(_) => Ok(Items::new(alloc)),
+    }
+}
+
 fn resolve_item(
     alloc: Global,
     item: &DerivesItem,
@@ -77,9 +102,11 @@ fn resolve_item(
 ) -> Result<CoreDerivesItem, AllocError>
     ensures { IfOk result (λ r. r ≡ resolved_item (seen scope.now) item.now) }
 {
-    let exports = resolve_references(alloc, item.exports.as_slice(), scope)?;
+    let null = place_of_null(&item.exports);
+    let exports = resolve_exports(alloc, &item.exports, scope)?;
     let imports = resolve_references(alloc, item.imports.names.as_slice(), scope)?;
     Ok(CoreDerivesItem {
+        null,
         exports,
         itself: item.imports.itself,
         imports,

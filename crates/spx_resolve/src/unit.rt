@@ -1,5 +1,5 @@
 // Subprograms and programs.
-ghost use Rattle.std.specs.Prelude.{◌≡◌, ◌∷◌, ◌++◌, ◌-◌, [], IfOk, length, map, option_map};
+ghost use Rattle.std.specs.Prelude.{◌≡◌, ◌∷◌, ◌++◌, ◌-◌, [], IfOk, OnOk, length, map, option_map};
 ghost use Rattle.std.specs.List.{flat_map, range_with_len};
 ghost use Rattle.spx_core.specs.Resolved.{around_body, declared_by_decls, declared_by_params, declaring, declaring_all, own_vars, params_of, resolved, resolved_decls, resolved_derives, resolved_formal_part, resolved_pre, resolved_stmt, resolved_sub, resolved_subs, standard_types, sub_at, var_of};
 ghost use Rattle.spx_resolve.specs.Ids.{ids_from};
@@ -8,8 +8,9 @@ ghost use Rattle.spx_resolve.specs.Units.{subprogram_of};
 use crate::declaration::{declare, resolve_decls, resolve_params};
 use crate::statement::{resolve_derives, resolve_precondition, resolve_stmts};
 use spx_core::{
-    CoreDecl, CoreDerives, CoreFormalPart, CorePrecondition, CoreStmt, CoreUnit, Defining, Entity,
-    INTEGER, Program, Sub, SubId, TypeRow, Var, VarId,
+    BOOLEAN, CoreDecl, CoreDerives, CoreFormalPart, CorePrecondition, CoreStmt, CoreUnit, Defining,
+    Entity, INTEGER, NATURAL, POSITIVE, Program, Sub, SubId, Subtype, TypeRow, UNIVERSAL, Var,
+    VarId,
 };
 use spx_scope::{Region, Scope, Standard};
 use spx_text::Text;
@@ -175,15 +176,30 @@ fn resolve_units(
     Ok(subs)
 }
 
-/// The table of the predefined types.
+/// One more predefined type.
+fn add_type(
+    alloc: Global,
+    types: &mut Items<TypeRow>,
+    name: &[u8],
+    subtype: Subtype,
+) -> Result<(), AllocError>
+    ensures { OnOk result (types.new ≡ types.old ++ (record { name = name.now; subtype = subtype }) ∷ []) }
+{
+    let name = Text::new(alloc, name)?;
+    types.push(TypeRow { name, subtype })?;
+    Ok(())
+}
+
+/// The table of the predefined types, each at the position that is its id.
 fn predefined_types(alloc: Global) -> Result<Items<TypeRow>, AllocError>
     ensures { IfOk result (λ types. types ≡ standard_types) }
 {
     let mut types = Items::new(alloc);
-    types.push(TypeRow {
-        name: Text::new(alloc, b"Integer")?,
-        subtype: INTEGER,
-    })?;
+    add_type(alloc, &mut types, b"universal_integer", UNIVERSAL)?;
+    add_type(alloc, &mut types, b"Boolean", BOOLEAN)?;
+    add_type(alloc, &mut types, b"Integer", INTEGER)?;
+    add_type(alloc, &mut types, b"Natural", NATURAL)?;
+    add_type(alloc, &mut types, b"Positive", POSITIVE)?;
     Ok(types)
 }
 

@@ -1,9 +1,11 @@
 // U8, U2: the mode of a formal agrees with the relation, and no formal of mode `in` is assigned.
 ghost use Rattle.std.specs.Prelude.{◌≡◌};
 ghost use Rattle.spx_core.specs.Commands.{command, commands};
+ghost use Rattle.spx_core.specs.Dependency.{imports};
 ghost use Rattle.spx_core.specs.Formals.{mode_in};
 ghost use Rattle.spx_core.specs.Judged.{each};
 ghost use Rattle.spx_core.specs.Obeyed as rules;
+ghost use Rattle.spx_core.specs.Uses.{variable_of};
 ghost use Rattle.spx_types.specs.Arms.{FoundInArms};
 
 use crate::tables::Tables;
@@ -32,8 +34,18 @@ fn mode_named(name: &CoreName) -> Option<Mode>
     }
 }
 
+/// Whether a precondition may read this name: it denotes no variable, or one that is imported.
+pub fn may_be_read(tables: &Tables, name: &CoreName) -> bool
+    ensures { result ≡ rules.variable_passes (λ v. imports v tables.now) (variable_of name.now.entity) }
+{
+    match variable_of(name.entity) {
+        Some(var) => tables.imports(var),
+        None => true,
+    }
+}
+
 /// Whether the variable that a name denotes is imported.
-pub fn is_imported(tables: &Tables, name: &CoreName) -> bool
+fn is_imported(tables: &Tables, name: &CoreName) -> bool
     ensures { result ≡ rules.is_imported tables.now name.now }
 {
     match variable_of(name.entity) {

@@ -1,17 +1,17 @@
-// The rules on subprograms and programs; U11: a precondition names only imports.
+// The rules on subprograms and programs; U11: of the variables, a precondition names only imports.
 ghost use Rattle.std.specs.Prelude.{◌≡◌, ◌↔◌, IsNone, IfOk};
 ghost use Rattle.spx_core.specs.Judged.{breach_in, each, if_there};
 ghost use Rattle.spx_core.specs.Obeyed as rules;
 ghost use Rattle.spx_core.specs.Reads.{names_read};
 
-use crate::modes::{is_imported, obey_item, obey_stmts};
+use crate::modes::{may_be_read, obey_item, obey_stmts};
 use crate::relation::{is_right_relation, obey_relation};
 use crate::tables::Tables;
 use spx_core::{Breach, CoreDerivesItem, CoreExpr, Program, RuleName, Sub};
 use spx_types::keeps;
 use std::alloc::{AllocError, Global};
 
-/// Every name that the expression reads has to be that of an import.
+/// Every variable that the expression reads has to be an import.
 #[cycle(read_imports)]
 #[tactic(auto, using(spx_core::proofs::Callers::ReadsLaws::each_forms))]
 fn read_imports(tables: &Tables, expr: &CoreExpr) -> Result<(), Breach>
@@ -19,13 +19,19 @@ fn read_imports(tables: &Tables, expr: &CoreExpr) -> Result<(), Breach>
 {
     match expr {
         CoreExpr::Number(_, _) => Ok(()),
-        CoreExpr::Name(name) => keeps(RuleName::U11, name.name.place, is_imported(tables, name)),
+        CoreExpr::Name(name) => keeps(RuleName::U11, name.name.place, may_be_read(tables, name)),
         CoreExpr::Attribute(_, _) => Ok(()),
         CoreExpr::Parenthesized(_, inner) => read_imports(tables, inner.get()),
         CoreExpr::Prefix(_, _, operand) => read_imports(tables, operand.get()),
         CoreExpr::Infix(_, _, left, right) => {
             read_imports(tables, left.get())?;
             read_imports(tables, right.get())
+        }
+        CoreExpr::InType(_, _, tested, _) => read_imports(tables, tested.get()),
+        CoreExpr::InRange(_, _, tested, low, high) => {
+            read_imports(tables, tested.get())?;
+            read_imports(tables, low.get())?;
+            read_imports(tables, high.get())
         }
     }
 }

@@ -64,6 +64,29 @@ fn all_pairs_once(alloc: Global, items: &[CoreDerivesItem]) -> Result<bool, Allo
     Ok(true)
 }
 
+/// The imports of an item from which nothing is exported.
+fn null_imports(item: &CoreDerivesItem) -> &[Reference]
+    ensures { result.now ≡ rules.null_imports item.now }
+{
+    match item.null {
+        Some(_) => item.imports.as_slice(),
+        None => &[],
+    }
+}
+
+/// Whether no variable is named twice as an import from which nothing is exported.
+fn unused_once(alloc: Global, items: &[CoreDerivesItem]) -> Result<bool, AllocError>
+    ensures { IfOk result (λ once. once ≡ rules.names_once (rules.unused_imports items.now)) }
+{
+    let mut seen = VarSet::new(alloc);
+    for item in items {
+        if !insert_new(&mut seen, null_imports(item))? {
+            return Ok(false);
+        }
+    }
+    Ok(true)
+}
+
 fn is_listed(tables: &Tables, var: VarId) -> bool
     ensures { result ≡ rules.is_listed tables.now var }
 {
@@ -121,6 +144,7 @@ pub fn is_right_relation(alloc: Global, tables: &Tables) -> Result<bool, AllocEr
     Ok(
         exports_once(alloc, items)?
             && all_pairs_once(alloc, items)?
+            && unused_once(alloc, items)?
             && lists_formals(tables)
             && names_only_formals(tables),
     )

@@ -1,57 +1,69 @@
 -- The conditions of a typed program are well sorted, so those that need no proof are valid.
-use Rattle.std.proofs.Common.{◌≡◌, ℕ, ◌+◌, Bool, true, false, if◌then◌else◌, List, [], ◌∷◌, get_or, map, Option, Some, None, Ok, refl, sym, ap, ap₂, ◌∙◌, subst}
-use Rattle.std.specs.Prelude.{⊤}
+use Rattle.std.proofs.Common.{◌≡◌, ℕ, ℤ, pos, ◌+◌, Bool, true, false, if◌then◌else◌, List, [], ◌∷◌, get_or, map, Option, Some, None, Ok, refl, sym, ap, ap₂, ◌∙◌, subst}
+use Rattle.std.specs.Prelude.{⊤, All}
 use Rattle.std.specs.List.{AllByRecursion, flat_map}
+use Rattle.std.proofs.lemmas.Bool.{and_parts}
 use Rattle.std.proofs.lemmas.List.Elements.{All-from_recursion, recursion_from_All}
 use Rattle.spx_text.specs.declared.place.Place.{Place}
 use Rattle.spx_tree.specs.declared.expression.InfixOp.{InfixOp}
 use Rattle.spx_tree.specs.declared.expression.InfixOp.TheVariants as op
 use Rattle.spx_tree.specs.declared.expression.PrefixOp.{PrefixOp}
 use Rattle.spx_tree.specs.declared.expression.PrefixOp.TheVariants as prefix
-use Rattle.spx_core.specs.declared.entity.TheConstants.{INTEGER_FIRST, INTEGER_LAST}
+use Rattle.spx_core.specs.declared.entity.TheConstants.{INTEGER}
+use Rattle.spx_core.specs.declared.entity.BaseType.{BaseType}
+use Rattle.spx_core.specs.declared.entity.Class.{Class}
+use Rattle.spx_core.specs.declared.entity.Class.TheVariants as class
+use Rattle.spx_core.specs.declared.entity.Subtype.{Subtype}
 use Rattle.spx_core.specs.declared.entity.VarId.{VarId}
 use Rattle.spx_core.specs.declared.program.Program.{Program}
 use Rattle.spx_core.specs.declared.subprogram.CorePrecondition.{CorePrecondition}
 use Rattle.spx_core.specs.declared.subprogram.Sub.{Sub}
+use Rattle.spx_core.specs.declared.name.Reference.{Reference}
 use Rattle.spx_core.specs.declared.expression.CoreExpr.{CoreExpr}
-use Rattle.spx_core.specs.declared.expression.CoreExpr.TheVariants.{Prefix, Infix}
+use Rattle.spx_core.specs.declared.expression.CoreExpr.TheVariants.{Name, Prefix, Infix, InType, InRange}
 use Rattle.spx_core.specs.declared.rule.ExprType.{ExprType}
-use Rattle.spx_core.specs.declared.rule.ExprType.TheVariants.{Universal}
+use Rattle.spx_core.specs.declared.rule.ExprType.TheVariants.{Of}
 use Rattle.spx_core.specs.declared.rule.Typing.{Typing}
 use Rattle.spx_core.specs.Commands.{Command, Skip, Set, Then, Choose, commands}
 use Rattle.spx_core.specs.Places.{place_of}
 use Rattle.spx_core.specs.Dependency.{exports, imports}
 use Rattle.spx_core.specs.Formals.{formals}
-use Rattle.spx_core.specs.Judged.{if_there, judged}
+use Rattle.spx_core.specs.Judged.{if_there, judged, typing}
+use Rattle.spx_core.specs.Reads.{names_read}
+use Rattle.spx_core.specs.Scopes.{AreAsDeclared, IsAsDeclared, Scoped}
 use Rattle.spx_core.specs.Statements.{judged_pre, test}
-use Rattle.spx_core.specs.Types.{is_number, met, result_type}
+use Rattle.spx_core.specs.Types.{is_boolean, is_number, is_of, left_type, operand_fits, operands_fit, result_type}
 use Rattle.spx_core.specs.Uses.{variable_of}
 use Rattle.spx_term.specs.declared.condition.Condition.{Condition}
 use Rattle.spx_term.specs.declared.condition.CondKind.{CondKind}
-use Rattle.spx_term.specs.declared.condition.CondKind.TheVariants.{Overflow, Range}
+use Rattle.spx_term.specs.declared.condition.CondKind.TheVariants.{Division, Overflow, Range}
 use Rattle.spx_term.specs.declared.term.Sort.TheVariants.{Integer, Boolean}
 use Rattle.spx_term.specs.declared.term.Name.{Name as Symbolic}
 use Rattle.spx_term.specs.declared.term.Term.{Term}
 use Rattle.spx_term.specs.declared.term.Term.TheVariants as term
 use Rattle.spx_term.specs.declared.term.TermOp.TheVariants as sign
+use Rattle.spx_term.specs.Conjuncts.{conjuncts}
 use Rattle.spx_term.specs.declared.term.TermPrefix.TheVariants.{Not}
 use Rattle.spx_term.specs.declared.value.Value.{Value}
 use Rattle.spx_term.specs.Goals.{goal_of}
 use Rattle.spx_term.specs.Meaning.{Valid}
 use Rattle.spx_term.specs.Plain.{Plain}
 use Rattle.spx_term.specs.Sorts.{one, both, sort_of_prefix, sort_of_op, sort_step, sort_of}
-use Rattle.spx_term.specs.Steps.{Tree, Cut, Assume, Assign, Fresh, Prove, Split, assume_all, same_name, substituted_step, substituted, Claim, with_fact, with_value, claims_of, without_doubles, tidy}
+use Rattle.spx_term.specs.Steps.{Tree, Cut, Assume, Assign, Fresh, Prove, Split, assume_all, assume_parts, check, same_name, substituted_step, substituted, Claim, with_fact, with_value, claims_of, without_doubles, tidy}
+use Rattle.spx_term.proofs.ConjunctLaws.{conjuncts_sorted}
 use Rattle.spx_term.proofs.PlainLaws.{plain_valid}
 use Rattle.spx_term.proofs.Terms as terms
-use Rattle.spx_meaning.specs.Literals.{literal}
-use Rattle.spx_paths.specs.Terms.{now, now_term, entry, entry_term, term_of}
-use Rattle.spx_paths.specs.Checks.{in_integer, under, guarded, check_integer, operation_check, sign_check, unless_static, checks, checks-Parenthesized, checks-Prefix, checks-Infix, checks-Number, checks-Name, checks-Attribute}
-use Rattle.spx_paths.specs.Walks.{assigned, walk, entering, import_facts, pre_facts, first_facts, ending, start_tree, trees_of}
+use Rattle.spx_meaning.specs.Literals.{base_of, literal}
+use Rattle.spx_meaning.specs.Stores.{type_of}
+use Rattle.spx_meaning.proofs.Callers.Types.{type_is}
+use Rattle.spx_paths.specs.Terms.{now, now_term, entry, entry_term, sort_of_class, sort_of_var, term_of}
+use Rattle.spx_paths.specs.Checks.{in_class, in_range, in_type, under, guarded, checked_under, base_check, divisor_check, exponent_check, operation_check, right_lefts, sign_check, unless_static, checks, checks-Parenthesized, checks-Prefix, checks-Infix, checks-InType, checks-InRange, checks-Number, checks-Name, checks-Attribute}
+use Rattle.spx_paths.specs.Walks.{assigned, checked_in, walk, entering, import_facts, pre_facts, first_facts, ending, start_tree, trees_of}
 use Rattle.spx_paths.specs.Conditions.{body_claims, numbered, conditions_of, ArePlain}
 use Rattle.spx_paths.specs.Fit.{IsValid, HasValidConditions, Fit, Clean}
 use Rattle.spx_core.proofs.Callers.ListTests.{each_append}
 use Rattle.spx_sound.proofs.Typings.{Cases, typed_induct, tested, right_side, IsTyped, both_typed, arms_typed, TypedSub, typed_subs}
-use Rattle.spx_sound.proofs.SortedTerms.{HasSortOf, sort_of_type, number_sort, operation_sorted, is_sorted, number_sorted}
+use Rattle.spx_sound.proofs.SortedTerms.{AreDeclared, HasSortOf, sort_of_type, boolean_sort, compared_sorted, declared-Infix, declared-InRange, declared-InType, declared-Parenthesized, declared-Prefix, is_of_sort, is_sorted, not_sorted, number_sort, numbers, raised_sort, sorted_cases}
 use Rattle.spx_sound.proofs.NeverBadTrees.{each_flat_map, each_without_doubles}
 use Rattle.spx_sound.proofs.NeverBadBodies.{same_name-Decides}
 
@@ -76,11 +88,19 @@ assume_sorted : (ts : List Term) (rest : Tree) → AreFormulas ts → IsSortedTr
 assume_sorted [] rest h k = k
 assume_sorted (t ∷ ts) rest h k = (h.0, assume_sorted ts rest h.1 k)
 
-in_integer_sorted : (t : Term) → HasSortOf Integer t → AreFormulas (in_integer t)
-in_integer_sorted t h = (
-  operation_sorted op.GreaterOrEqual Universal t (term.Number INTEGER_FIRST) refl h (terms.fold-Number sort_step INTEGER_FIRST),
-  (operation_sorted op.LessOrEqual Universal t (term.Number INTEGER_LAST) refl h (terms.fold-Number sort_step INTEGER_LAST), tt),
+in_range_sorted : (first last : ℤ) (t : Term) → HasSortOf Integer t → AreFormulas (in_range first last t)
+unfolding sort_of_op
+in_range_sorted first last t h = (
+  compared_sorted sign.GreaterOrEqual t (term.Number first) refl h (terms.fold-Number sort_step first),
+  (compared_sorted sign.LessOrEqual t (term.Number last) refl h (terms.fold-Number sort_step last), tt),
 )
+
+in_class_sorted : (c : Class) (first last : ℤ) (t : Term) → HasSortOf (sort_of_class c) t → AreFormulas (in_class c first last t)
+in_class_sorted class.Integer first last t h = in_range_sorted first last t h
+in_class_sorted class.Boolean first last t h = tt
+
+in_type_sorted : (of : Subtype) (t : Term) → HasSortOf (sort_of_class of.base.class) t → AreFormulas (in_type of t)
+in_type_sorted of t h = in_class_sorted of.base.class of.first of.last t h
 
 -- one goal for formulas is one
 goal_sorted : (goals : List Term) → AreFormulas goals → IsFormula (goal_of goals)
@@ -102,59 +122,167 @@ unless_sorted : (l : Option Value) (rest own : Tree) → IsSortedTree rest → I
 unless_sorted (Some x) rest own k h = k
 unless_sorted None rest own k h = h
 
+check_sorted : (kind : CondKind) (place : Place) (goals : List Term) (rest : Tree) → AreFormulas goals → IsSortedTree rest → IsSortedTree (check kind place goals rest)
+check_sorted kind place goals rest h k = (h, assume_sorted goals rest h k)
+
+-- ---- checks of operations
+
 module _ (lefts : List Term) (formulas : AreFormulas lefts) where
-  check_sorted : (kind : CondKind) (place : Place) (t : Term) (rest : Tree) → HasSortOf Integer t → IsSortedTree rest → IsSortedTree (check_integer lefts kind place t rest)
-  check_sorted kind place t rest h k =
-      let goals = guarded_sorted lefts (in_integer t) formulas (in_integer_sorted t h) in
-      (goals, assume_sorted (guarded lefts (in_integer t)) rest goals k)
+  under_check : (kind : CondKind) (place : Place) (goals : List Term) (rest : Tree) → AreFormulas goals → IsSortedTree rest → IsSortedTree (checked_under lefts kind place goals rest)
+  under_check kind place goals rest h k = check_sorted kind place (guarded lefts goals) rest (guarded_sorted lefts goals formulas h) k
 
-  -- the result of a sum is checked, which is a number
-  operation_check_sorted : (o : InfixOp) (of : ExprType) (place : Place) (t : Term) (rest : Tree) → is_number of ≡ true → HasSortOf (sort_of_type (result_type o of)) t → IsSortedTree rest → IsSortedTree (operation_check lefts o place t rest)
-  operation_check_sorted op.Add of place t rest number h k = check_sorted Overflow place t rest (h ∙ ap Some (number_sort of number)) k
-  operation_check_sorted op.Subtract of place t rest number h k = check_sorted Overflow place t rest (h ∙ ap Some (number_sort of number)) k
-  operation_check_sorted _ of place t rest number h k = k
+  base_sorted : (base : BaseType) (place : Place) (t : Term) (rest : Tree) → HasSortOf Integer t → IsSortedTree rest → IsSortedTree (base_check lefts base place t rest)
+  base_sorted base place t rest h k = under_check Overflow place (in_range base.first base.last t) rest (in_range_sorted base.first base.last t h) k
 
-  sign_check_sorted : (o : PrefixOp) (place : Place) (t : Term) (rest : Tree) → HasSortOf Integer t → IsSortedTree rest → IsSortedTree (sign_check lefts o place t rest)
-  sign_check_sorted prefix.Plus place t rest h k = k
-  sign_check_sorted prefix.Minus place t rest h k = check_sorted Overflow place t rest h k
+  divisor_sorted : (place : Place) (t : Term) (rest : Tree) → HasSortOf Integer t → IsSortedTree rest → IsSortedTree (divisor_check lefts place t rest)
+  unfolding sort_of_op
+  divisor_sorted place t rest h k =
+      under_check Division place (term.Infix sign.NotEqual t (term.Number (pos 0)) ∷ []) rest (compared_sorted sign.NotEqual t (term.Number (pos 0)) refl h (terms.fold-Number sort_step (pos 0)), tt) k
 
-  module _ (entered : VarId → Term) where
-    abbrev HasSortedChecks : CoreExpr → Typing → Type 0
-    HasSortedChecks e t = (rest : Tree) → IsSortedTree rest → IsSortedTree (checks entered lefts e rest)
+  exponent_sorted : (place : Place) (t : Term) (rest : Tree) → HasSortOf Integer t → IsSortedTree rest → IsSortedTree (exponent_check lefts place t rest)
+  unfolding sort_of_op
+  exponent_sorted place t rest h k =
+      under_check Range place (term.Infix sign.GreaterOrEqual t (term.Number (pos 0)) ∷ []) rest (compared_sorted sign.GreaterOrEqual t (term.Number (pos 0)) refl h (terms.fold-Number sort_step (pos 0)), tt) k
 
-    checks_cases : Cases HasSortedChecks
-    checks_cases = record {
-      number = λ n place rest k. subst IsSortedTree (sym (checks-Number entered lefts n place rest)) k;
-      name = λ name base rest k. subst IsSortedTree (sym (checks-Name entered lefts name rest)) k;
-      attribute = λ prefix designator base n typed rest k. subst IsSortedTree (sym (checks-Attribute entered lefts prefix designator rest)) k;
-      parenthesized = λ place a o p rest k. subst IsSortedTree (sym (checks-Parenthesized entered lefts place a rest)) (p rest k);
-      prefix = λ op place a o number typed p rest k.
-          let e = Prefix op place a in
-          let after = sign_check lefts op place (term_of entered e) rest in
-          subst IsSortedTree (sym (checks-Prefix entered lefts op place a rest))
-          (unless_sorted (literal e) rest (checks entered lefts a after) k (p after (sign_check_sorted op place (term_of entered e) rest (number_sorted entered e _ typed number) k)));
-      «infix» = λ op place a b l r numbers typed p q rest k.
-          let e = Infix op place a b in
-          let after = operation_check lefts op place (term_of entered e) rest in
-          subst IsSortedTree (sym (checks-Infix entered lefts op place a b rest))
-          (unless_sorted (literal e) rest (checks entered lefts a (checks entered lefts b after)) k
-          (p (checks entered lefts b after) (q after (operation_check_sorted op (met l.of r.of) place (term_of entered e) rest numbers.2 (is_sorted entered e _ typed) k))));
-    }
+  -- the right operand and the whole are numbers where they are checked
+  operation_check_sorted : (o : InfixOp) (l r : ExprType) (n : Option ℤ) (base : BaseType) (place at : Place) (right t : Term) (rest : Tree) → operands_fit o l r ≡ true → HasSortOf (sort_of_type r) right → HasSortOf (sort_of_type (result_type o (left_type o l r n))) t → IsSortedTree rest
+      → IsSortedTree (operation_check lefts o base place at right t rest)
+  operation_check_sorted op.Add l r n base place at right t rest fit p h k = base_sorted base place t rest (h ∙ ap Some (numbers l r fit).both) k
+  operation_check_sorted op.Subtract l r n base place at right t rest fit p h k = base_sorted base place t rest (h ∙ ap Some (numbers l r fit).both) k
+  operation_check_sorted op.Multiply l r n base place at right t rest fit p h k = base_sorted base place t rest (h ∙ ap Some (numbers l r fit).both) k
+  operation_check_sorted op.Divide l r n base place at right t rest fit p h k =
+      let of = numbers l r fit in divisor_sorted place right (base_check lefts base place t rest) (p ∙ ap Some of.right) (base_sorted base place t rest (h ∙ ap Some of.both) k)
+  operation_check_sorted op.Mod l r n base place at right t rest fit p h k = divisor_sorted place right rest (p ∙ ap Some (numbers l r fit).right) k
+  operation_check_sorted op.Rem l r n base place at right t rest fit p h k = divisor_sorted place right rest (p ∙ ap Some (numbers l r fit).right) k
+  operation_check_sorted op.Power l r n base place at right t rest fit p h k =
+      let parts = and_parts (is_number l) (is_of INTEGER.base r) fit in
+      exponent_sorted at right (base_check lefts base place t rest) (p ∙ ap Some (is_of_sort INTEGER.base r parts.1))
+      (base_sorted base place t rest (h ∙ ap Some (raised_sort l n (number_sort l parts.0))) k)
+  operation_check_sorted _ l r n base place at right t rest fit p h k = k
 
-    checks_sorted : (e : CoreExpr) (t : Typing) → judged e ≡ Ok t → HasSortedChecks e t
-    checks_sorted = typed_induct HasSortedChecks checks_cases
+  sign_check_sorted : (o : PrefixOp) (of : ExprType) (base : BaseType) (place : Place) (t : Term) (rest : Tree) → operand_fits o of ≡ true → HasSortOf (sort_of_type of) t → IsSortedTree rest → IsSortedTree (sign_check lefts o base place t rest)
+  sign_check_sorted prefix.Plus of base place t rest fit h k = k
+  sign_check_sorted prefix.Minus of base place t rest fit h k = base_sorted base place t rest (h ∙ ap Some (number_sort of fit)) k
+  sign_check_sorted prefix.Abs of base place t rest fit h k = base_sorted base place t rest (h ∙ ap Some (number_sort of fit)) k
+  sign_check_sorted prefix.Not of base place t rest fit h k = k
 
-assigned_sorted : (o : Option VarId) (t : Term) (rest : Tree) → HasSortOf Integer t → IsSortedTree rest → IsSortedTree (assigned o t rest)
-assigned_sorted (Some v) t rest h k = (h, k)
-assigned_sorted None t rest h k = k
+  -- the left sides of the right operand are formulas
+  right_sorted : (o : InfixOp) (l r : ExprType) (left : Term) → operands_fit o l r ≡ true → HasSortOf (sort_of_type l) left → AreFormulas (right_lefts o lefts left)
+  right_sorted op.AndThen l r left fit h =
+      let formula = h ∙ ap Some (boolean_sort l (and_parts (is_boolean l) (is_boolean r) fit).0) in each_append IsFormula lefts (left ∷ []) formulas (formula, tt)
+  right_sorted op.OrElse l r left fit h =
+      let formula = h ∙ ap Some (boolean_sort l (and_parts (is_boolean l) (is_boolean r) fit).0) in
+      each_append IsFormula lefts (term.Prefix Not left ∷ []) formulas (not_sorted left formula, tt)
+  right_sorted _ l r left fit h = formulas
 
--- the term of a test, and its negation, are formulas
-test_sorted : (entered : VarId → Term) (e : CoreExpr) → test e ≡ Ok tt → IsFormula (term_of entered e)
-test_sorted entered e typed = let of = tested e typed in is_sorted entered e of.0 of.1 ∙ ap (λ type. Some (sort_of_type type)) of.2
+-- ---- checks of expressions
 
-not_sorted : (t : Term) → IsFormula t → IsFormula (term.Prefix Not t)
-unfolding sort_of_prefix
-not_sorted t h = terms.fold-Prefix sort_step Not t ∙ ap (one (sort_of_prefix Not)) h
+module _ (p : Program) (entered : VarId → Term) where
+  abbrev the_term : CoreExpr → Term
+  the_term e = term_of p entered e
+
+  -- the term has the sort of its type, and all checks are sorted
+  pub record HasSortedChecks (e : CoreExpr) (t : Typing) : Type 0 where
+    pub sorted : HasSortOf (sort_of_type t.of) (the_term e)
+    pub checks : (lefts : List Term) → AreFormulas lefts → (rest : Tree) → IsSortedTree rest → IsSortedTree (checks p entered lefts e rest)
+
+  abbrev AreSorted : CoreExpr → Typing → Type 0
+  AreSorted e t = AreDeclared p e → HasSortedChecks e t
+
+  checks_cases : Cases AreSorted
+  checks_cases = record {
+    number = λ n place d. record {
+      sorted = (sorted_cases p entered).number n place d;
+      checks = λ lefts f rest k. subst IsSortedTree (sym (checks-Number p entered lefts n place rest)) k;
+    };
+    object = λ name v object is typed d. record {
+      sorted = is_sorted p entered (Name name) (typing (Of object.subtype.base) None name.name.place) typed d;
+      checks = λ lefts f rest k. subst IsSortedTree (sym (checks-Name p entered lefts name rest)) k;
+    };
+    literal = λ name subtype n is typed d. record {
+      sorted = (sorted_cases p entered).literal name subtype n is typed d;
+      checks = λ lefts f rest k. subst IsSortedTree (sym (checks-Name p entered lefts name rest)) k;
+    };
+    attribute = λ prefix designator base n has typed d. record {
+      sorted = (sorted_cases p entered).attribute prefix designator base n has typed d;
+      checks = λ lefts f rest k. subst IsSortedTree (sym (checks-Attribute p entered lefts prefix designator rest)) k;
+    };
+    parenthesized = λ place a o h d.
+        let inner = h (declared-Parenthesized p place a d) in
+        record {
+          sorted = (sorted_cases p entered).parenthesized place a o (λ d. (h d).sorted) d;
+          checks = λ lefts f rest k. subst IsSortedTree (sym (checks-Parenthesized p entered lefts place a rest)) (inner.checks lefts f rest k);
+        };
+    prefix = λ o place a t fit typed h d.
+        let e = Prefix o place a in
+        let inner = h (declared-Prefix p o place a d) in
+        let sorted = (sorted_cases p entered).prefix o place a t fit typed (λ d. (h d).sorted) d in
+        record {
+          sorted = sorted;
+          checks = λ lefts f rest k.
+              let after = sign_check lefts o (base_of e) place (the_term e) rest in
+              subst IsSortedTree (sym (checks-Prefix p entered lefts o place a rest))
+              (unless_sorted (literal e) rest (checks p entered lefts a after) k (inner.checks lefts f after (sign_check_sorted lefts f o t.of (base_of e) place (the_term e) rest fit sorted k)));
+        };
+    «infix» = λ o place a b l r fit typed h k d.
+        let e = Infix o place a b in
+        let parts = declared-Infix p o place a b d in
+        let left = h parts.0 in
+        let right = k parts.1 in
+        let sorted = (sorted_cases p entered).«infix» o place a b l r fit typed (λ d. (h d).sorted) (λ d. (k d).sorted) d in
+        record {
+          sorted = sorted;
+          checks = λ lefts f rest m.
+              let after = operation_check lefts o (base_of e) place (place_of b) (the_term b) (the_term e) rest in
+              let inner = right_lefts o lefts (the_term a) in
+              let checked = operation_check_sorted lefts f o l.of r.of r.value (base_of e) place (place_of b) (the_term b) (the_term e) rest fit right.sorted sorted m in
+              subst IsSortedTree (sym (checks-Infix p entered lefts o place a b rest))
+              (unless_sorted (literal e) rest (checks p entered lefts a (checks p entered inner b after)) m
+              (left.checks lefts f (checks p entered inner b after) (right.checks inner (right_sorted lefts f o l.of r.of (the_term a) fit left.sorted) after checked)));
+        };
+    in_type = λ o place a name t subtype is has fit typed h d.
+        let inner = h (declared-InType p o place a name d) in
+        record {
+          sorted = (sorted_cases p entered).in_type o place a name t subtype is has fit typed (λ d. (h d).sorted) d;
+          checks = λ lefts f rest k.
+              subst IsSortedTree (sym (checks-InType p entered lefts o place a name rest))
+              (unless_sorted (literal (InType o place a name)) rest (checks p entered lefts a rest) k (inner.checks lefts f rest k));
+        };
+    in_range = λ o place a low high t l g fit typed h k m d.
+        let parts = declared-InRange p o place a low high d in
+        record {
+          sorted = (sorted_cases p entered).in_range o place a low high t l g fit typed (λ d. (h d).sorted) (λ d. (k d).sorted) (λ d. (m d).sorted) d;
+          checks = λ lefts f rest n.
+              let last = checks p entered lefts high rest in
+              let first = checks p entered lefts low last in
+              subst IsSortedTree (sym (checks-InRange p entered lefts o place a low high rest))
+              (unless_sorted (literal (InRange o place a low high)) rest (checks p entered lefts a first) n
+              ((h parts.0).checks lefts f first ((k parts.1.0).checks lefts f last ((m parts.1.1).checks lefts f rest n))));
+        };
+  }
+
+  checks_sorted : (e : CoreExpr) (t : Typing) → judged e ≡ Ok t → AreSorted e t
+  checks_sorted = typed_induct AreSorted checks_cases
+
+  -- a test has sorted checks, and its term is a formula
+  pub record SortedTest (e : CoreExpr) : Type 0 where
+    pub formula : IsFormula (the_term e)
+    pub checks : (rest : Tree) → IsSortedTree rest → IsSortedTree (checks p entered [] e rest)
+
+  test_sorted : (e : CoreExpr) → test e ≡ Ok tt → All (IsAsDeclared p) (names_read e) → SortedTest e
+  test_sorted e typed declared =
+      let of = tested e typed in
+      let whole = checks_sorted e of.0 of.1 (recursion_from_All (IsAsDeclared p) (names_read e) declared) in
+      record { formula = whole.sorted ∙ ap Some (boolean_sort of.0.of of.2); checks = whole.checks [] tt }
+
+-- ---- assignments
+
+checked_in_sorted : (c : Class) (of : Subtype) (place : Place) (t : Term) (rest : Tree) → HasSortOf (sort_of_class of.base.class) t → IsSortedTree rest → IsSortedTree (checked_in c of place t rest)
+checked_in_sorted class.Integer of place t rest h k = check_sorted Range place (in_type of t) rest (in_type_sorted of t h) k
+checked_in_sorted class.Boolean of place t rest h k = k
+
+assigned_sorted : (p : Program) (place : Place) (v : VarId) (t : Term) (rest : Tree) → HasSortOf (sort_of_var p v) t → IsSortedTree rest → IsSortedTree (assigned p place (Some v) t rest)
+assigned_sorted p place v t rest h k = checked_in_sorted (type_of p v).base.class (type_of p v) place t (Assign (now p v) t rest) h (h, k)
 
 -- ---- commands
 
@@ -163,55 +291,62 @@ abbrev AreSortedTrees : (ℕ → Tree) → Type 0
 AreSortedTrees trees = (made : ℕ) → IsSortedTree (trees made)
 
 module _ (p : Program) (sub : Sub) where
-  walk_sorted : (c : Command) (rest leave : ℕ → Tree) → IsTyped c → AreSortedTrees rest → AreSortedTrees leave → AreSortedTrees (walk p sub c rest leave)
-  walk_sorted Skip rest leave typed k l made = k made
-  walk_sorted (Set target e) rest leave typed k l made =
-      let o = variable_of target.root.entity in
-      let t = term_of (entry_term sub) e in
+  set_sorted : (target : Reference) (e : CoreExpr) (rest : Tree) → IsTyped (Set target e) → AreAsDeclared p (Set target e) → IsSortedTree rest
+      → IsSortedTree (checks p (entry_term p sub) [] e (assigned p (place_of e) (variable_of target.root.entity) (term_of p (entry_term p sub) e) rest))
+  set_sorted target e rest typed declared k =
+      let t = term_of p (entry_term p sub) e in
       let right = right_side target e typed in
-      let sorted = number_sorted (entry_term sub) e right.0 right.1 right.2 in
-      let last = assigned o t (rest made) in
-      checks_sorted [] tt (entry_term sub) e right.0 right.1 (check_integer [] Range (place_of e) t last)
-      (check_sorted [] tt Range (place_of e) t last sorted (assigned_sorted o t (rest made) sorted (k made)))
-  walk_sorted (Then a b) rest leave typed k l made =
+      let whole = checks_sorted p (entry_term p sub) e right.typing right.typed (recursion_from_All (IsAsDeclared p) (names_read e) declared.1) in
+      let sorted = whole.sorted ∙ ap Some (is_of_sort right.object.subtype.base right.typing.of right.fits ∙ ap (λ (of : Subtype). sort_of_class of.base.class) (sym (type_is p right.var right.object (declared.0 right.var right.object right.denotes)))) in
+      whole.checks [] tt (assigned p (place_of e) (variable_of target.root.entity) t rest)
+      (subst (λ (o : Option VarId). IsSortedTree (assigned p (place_of e) o t rest)) (sym (ap variable_of right.denotes)) (assigned_sorted p (place_of e) right.var t rest sorted k))
+
+  walk_sorted : (c : Command) (rest leave : ℕ → Tree) → IsTyped c → AreAsDeclared p c → AreSortedTrees rest → AreSortedTrees leave → AreSortedTrees (walk p sub c rest leave)
+  walk_sorted Skip rest leave typed declared k l made = k made
+  walk_sorted (Set target e) rest leave typed declared k l made = set_sorted target e (rest made) typed declared (k made)
+  walk_sorted (Then a b) rest leave typed declared k l made =
       let parts = both_typed a b typed in
-      walk_sorted a (walk p sub b rest leave) leave parts.0 (walk_sorted b rest leave parts.1 k l) l made
-  walk_sorted (Choose place e a b) rest leave typed k l made =
+      walk_sorted a (walk p sub b rest leave) leave parts.0 declared.0 (walk_sorted b rest leave parts.1 declared.1 k l) l made
+  walk_sorted (Choose place e a b) rest leave typed declared k l made =
       let parts = arms_typed place e a b typed in
-      let t = term_of (entry_term sub) e in
-      let sorted = test_sorted (entry_term sub) e parts.0 in
-      let of = tested e parts.0 in
-      checks_sorted [] tt (entry_term sub) e of.0 of.1 (Split (Assume t (walk p sub a rest leave made)) (Assume (term.Prefix Not t) (walk p sub b rest leave made)))
-      ((sorted, walk_sorted a rest leave parts.1 k l made), (not_sorted t sorted, walk_sorted b rest leave parts.2 k l made))
+      let t = term_of p (entry_term p sub) e in
+      let sorted = test_sorted p (entry_term p sub) e parts.0 declared.0 in
+      let first = walk p sub a rest leave made in
+      sorted.checks (Split (assume_parts t first) (Assume (term.Prefix Not t) (walk p sub b rest leave made))) (
+        assume_sorted (conjuncts t) first (conjuncts_sorted t sorted.formula) (walk_sorted a rest leave parts.1 declared.1.0 k l made),
+        (not_sorted t sorted.formula, walk_sorted b rest leave parts.2 declared.1.1 k l made),
+      )
 
 -- ---- subprograms
 
-import_facts_sorted : (sub : Sub) (v : VarId) → AreFormulas (import_facts sub v)
-import_facts_sorted sub v = by_import (imports v sub)
-  where
-    by_import : (b : Bool) → AreFormulas (if b then in_integer (now_term v) else [])
-    by_import true = in_integer_sorted (now_term v) (terms.fold-Variable sort_step (now v))
-    by_import false = tt
+module _ (p : Program) (sub : Sub) where
+  import_facts_sorted : (v : VarId) → AreFormulas (import_facts p sub v)
+  import_facts_sorted v = by_import (imports v sub)
+    where
+      by_import : (b : Bool) → AreFormulas (if b then in_type (type_of p v) (now_term p v) else [])
+      by_import true = in_type_sorted (type_of p v) (now_term p v) (terms.fold-Variable sort_step (now p v))
+      by_import false = tt
 
-pre_sorted : (sub : Sub) (pre : Option CorePrecondition) → if_there judged_pre pre ≡ Ok tt → AreFormulas (pre_facts sub pre)
-pre_sorted sub None typed = tt
-pre_sorted sub (Some pre) typed = (test_sorted (entry_term sub) pre.condition typed, tt)
+  pre_sorted : (pre : Option CorePrecondition) → ((it : CorePrecondition) → pre ≡ Some it → All (IsAsDeclared p) (names_read it.condition)) → if_there judged_pre pre ≡ Ok tt → AreFormulas (pre_facts p sub pre)
+  pre_sorted None declared typed = tt
+  pre_sorted (Some pre) declared typed =
+      conjuncts_sorted (term_of p (entry_term p sub) pre.condition) (test_sorted p (entry_term p sub) pre.condition typed (declared pre refl)).formula
 
-entering_sorted : (sub : Sub) (vars : List VarId) (rest : Tree) → IsSortedTree rest → IsSortedTree (entering sub vars rest)
-entering_sorted sub [] rest k = k
-entering_sorted sub (v ∷ vars) rest k = by_export (exports v sub) (entering_sorted sub vars rest k)
-  where
-    by_export : (b : Bool) → IsSortedTree (entering sub vars rest) → IsSortedTree (if b then Assign (now v) (term.Variable (entry v)) (entering sub vars rest) else entering sub vars rest)
-    by_export true k = (terms.fold-Variable sort_step (entry v), k)
-    by_export false k = k
+  entering_sorted : (vars : List VarId) (rest : Tree) → IsSortedTree rest → IsSortedTree (entering p sub vars rest)
+  entering_sorted [] rest k = k
+  entering_sorted (v ∷ vars) rest k = by_export (exports v sub) (entering_sorted vars rest k)
+    where
+      by_export : (b : Bool) → IsSortedTree (entering p sub vars rest) → IsSortedTree (if b then Assign (now p v) (term.Variable (entry p v)) (entering p sub vars rest) else entering p sub vars rest)
+      by_export true k = (terms.fold-Variable sort_step (entry p v), k)
+      by_export false k = k
 
-start_sorted : (p : Program) (sub : Sub) → TypedSub sub → IsSortedTree (start_tree p sub)
-start_sorted p sub typed =
-    let body = walk p sub (commands sub.statements) ending ending 0 in
-    entering_sorted sub (formals sub) (assume_all (first_facts sub) body)
-    (assume_sorted (first_facts sub) body
-    (each_append IsFormula (flat_map (import_facts sub) (formals sub)) (pre_facts sub sub.pre) (each_flat_map IsFormula (import_facts sub) (import_facts_sorted sub) (formals sub)) (pre_sorted sub sub.pre typed.pre))
-    (walk_sorted p sub (commands sub.statements) ending ending typed.statements (λ made. tt) (λ made. tt) 0))
+  start_sorted : Scoped p sub → TypedSub sub → IsSortedTree (start_tree p sub)
+  start_sorted scoped typed =
+      let body = walk p sub (commands sub.statements) ending ending 0 in
+      entering_sorted (formals sub) (assume_all (first_facts p sub) body)
+      (assume_sorted (first_facts p sub) body
+      (each_append IsFormula (flat_map (import_facts p sub) (formals sub)) (pre_facts p sub sub.pre) (each_flat_map IsFormula (import_facts p sub) import_facts_sorted (formals sub)) (pre_sorted sub.pre scoped.pre_names typed.pre))
+      (walk_sorted p sub (commands sub.statements) ending ending typed.statements scoped.body_names (λ made. tt) (λ made. tt) 0))
 
 -- ---- claims and conditions
 
@@ -278,17 +413,17 @@ trees_sorted : (trees : List Tree) → AllByRecursion IsSortedTree trees → All
 trees_sorted [] h = tt
 trees_sorted (tree ∷ trees) h = each_append IsSortedClaim (claims_of tree) (flat_map claims_of trees) (claims_sorted tree h.0) (trees_sorted trees h.1)
 
-valid_conditions : (p : Program) (sub : Sub) → TypedSub sub → ArePlain (conditions_of p sub) → HasValidConditions p sub
+valid_conditions : (p : Program) (sub : Sub) → Scoped p sub → TypedSub sub → ArePlain (conditions_of p sub) → HasValidConditions p sub
 unfolding conditions_of
-valid_conditions p sub typed plain =
+valid_conditions p sub scoped typed plain =
     All-from_recursion IsValid (conditions_of p sub)
-    (valid_where_plain sub.name.name.text 1 (body_claims p sub) (trees_sorted (trees_of p sub) (start_sorted p sub typed, tt)) (recursion_from_All IsPlain (conditions_of p sub) plain))
+    (valid_where_plain sub.name.name.text 1 (body_claims p sub) (trees_sorted (trees_of p sub) (start_sorted p sub scoped typed, tt)) (recursion_from_All IsPlain (conditions_of p sub) plain))
 
-pub clean_is_fit : (p : Program) → Clean p → Fit p
-clean_is_fit p clean = record {
+pub clean_is_fit : (p : Program) → All (Scoped p) p.subs → Clean p → Fit p
+clean_is_fit p scoped clean = record {
   visible = clean.visible;
   typed = clean.typed;
   obeys = clean.obeys;
   flows = clean.flows;
-  conditions = λ k d within. valid_conditions p (get_or p.subs k d) (typed_subs p clean.typed k d within) (clean.conditions k d within);
+  conditions = λ k d within. valid_conditions p (get_or p.subs k d) (scoped k d within) (typed_subs p clean.typed k d within) (clean.conditions k d within);
 }

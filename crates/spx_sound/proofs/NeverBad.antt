@@ -1,9 +1,10 @@
 -- No call of a program that is fit is bad.
-use Rattle.std.proofs.Common.{◌≡◌, ℕ, ℤ, Bool, true, false, not, ◌&&◌, ◌||◌, if◌then◌else◌, List, [], ◌∷◌, get_or, Option, Some, None, refl, sym, ap, ap₂, ◌∙◌, subst}
+use Rattle.std.proofs.Common.{◌≡◌, ℕ, Bool, true, false, not, ◌&&◌, ◌||◌, if◌then◌else◌, List, [], ◌∷◌, get_or, Option, Some, None, refl, sym, ap, ap₂, ◌∙◌, subst}
 use Rattle.std.proofs.lemmas.Bool.{and_parts, both_ways}
 use Rattle.std.specs.Prelude.{⊤, All, IsSome, IfSome, is_some, IsTrue}
 use Rattle.std.specs.List.{flat_map, list_all}
-use Rattle.spx_core.specs.declared.entity.TheConstants.{INTEGER}
+use Rattle.spx_core.specs.declared.entity.Class.{Class}
+use Rattle.spx_core.specs.declared.entity.Class.TheVariants as class
 use Rattle.spx_core.specs.declared.entity.VarId.{VarId}
 use Rattle.spx_core.specs.declared.entity.VarKind.TheVariants.{Formal}
 use Rattle.spx_core.specs.declared.program.Program.{Program}
@@ -27,19 +28,19 @@ use Rattle.spx_term.specs.declared.value.Value.{Value}
 use Rattle.spx_term.specs.declared.value.Value.TheVariants as value
 use Rattle.spx_term.specs.Meaning.{as_number, as_truth, Valuation, value_step, value_of, HasSort, Holds, Respects}
 use Rattle.spx_term.specs.Steps.{Tree, Assign, assume_all, same_name}
+use Rattle.spx_term.proofs.ConjunctLaws.{parts_hold}
 use Rattle.spx_term.proofs.Terms.{fold-Variable}
 use Rattle.spx_meaning.specs.declared.bad.BadKind.TheVariants.{Pre, Unset}
-use Rattle.spx_meaning.specs.Stores.{Store, look, type_of, is_in}
+use Rattle.spx_meaning.specs.Stores.{Store, look, type_of, first_of_class, is_in, is_within}
 use Rattle.spx_meaning.specs.Frames.{Frame, around}
 use Rattle.spx_meaning.specs.Annotations.{meant, reading, seen}
 use Rattle.spx_meaning.specs.Runs.{Outcome, Ended, then_do, demand, run, is_unset_kind, starts_unset, entry_of, pre_holds, demand_pre, exports_set, call}
 use Rattle.spx_meaning.specs.Laws.{Start, IsNeverBad, NeverBad}
 use Rattle.spx_meaning.proofs.Callers.Entries.{cleared_keeps, cleared_part}
 use Rattle.spx_meaning.proofs.Callers.Evaluation.{meant_same}
-use Rattle.spx_meaning.proofs.Callers.IntegerTypes.{one_type}
 use Rattle.spx_meaning.proofs.Callers.Scopes.{mode_is, unset_is}
-use Rattle.spx_paths.specs.Terms.{now, entry, now_term, entry_term}
-use Rattle.spx_paths.specs.Checks.{in_integer}
+use Rattle.spx_paths.specs.Terms.{now, entry, now_term, entry_term, sort_of_class, term_of}
+use Rattle.spx_paths.specs.Checks.{in_type}
 use Rattle.spx_paths.specs.Walks.{walk, entering, import_facts, pre_facts, first_facts, ending}
 use Rattle.spx_paths.specs.Fit.{HasValidConditions, Fit}
 use Rattle.spx_core.proofs.Callers.ListTests.{each_append}
@@ -48,7 +49,7 @@ use Rattle.spx_sound.proofs.NeverBadTrees.{AllHold, changed, Safe, each_flat_map
 use Rattle.spx_sound.proofs.NeverBadRuns.{Never, Good, good_then, good_demand, joined}
 use Rattle.spx_sound.proofs.NeverBadExpressions.{truth_from, type_facts, AgreesWith}
 use Rattle.spx_sound.proofs.NeverBadAnnotations.{means_its_term}
-use Rattle.spx_sound.proofs.NeverBadBodies.{same_name-Decides, AreIntegers, Fits, Reaches, walk_good}
+use Rattle.spx_sound.proofs.NeverBadBodies.{same_name-Decides, Fits, Reaches, walk_good}
 use Rattle.spx_sound.proofs.NeverUnset.{IsClear, Passes, never_unset}
 
 -- ---- the valuation of a store
@@ -72,23 +73,27 @@ has_sort Boolean w = tt
 valuation_respects : (p : Program) (s : Store) → Respects (valuation_of p s)
 valuation_respects p s name = has_sort name.sort (symbol_value p s name.symbol)
 
-abbrev IsInteger : Value → Type 0
-IsInteger w = (n : ℤ) × (w ≡ value.Number n) × (is_in INTEGER (value.Number n) ≡ true)
+-- a value of a class has its sort
+has_class : (c : Class) (first last : _) (w : Value) → is_within c first last w ≡ true → of_sort (sort_of_class c) w ≡ w
+has_class class.Integer first last (value.Number n) h = refl
+has_class class.Integer first last (value.Truth b) h = absurd (cc)
+has_class class.Boolean first last (value.Number n) h = absurd (cc)
+has_class class.Boolean first last (value.Truth b) h = refl
 
-integer_is : (w : Value) → is_in INTEGER w ≡ true → IsInteger w
-integer_is (value.Number n) h = (n, refl, h)
-integer_is (value.Truth b) h = absurd (cc)
+first_has_class : (c : Class) (first : _) → of_sort (sort_of_class c) (first_of_class c first) ≡ first_of_class c first
+first_has_class class.Integer first = refl
+first_has_class class.Boolean first = refl
 
--- each variable that is set has an integer
-abbrev HasIntegers : Store → Type 0
-HasIntegers s = (x : VarId) (w : Value) → look s x ≡ Some w → IsInteger w
+-- each variable that is set has a value of its type
+abbrev AreInTypes : Program → Store → Type 0
+AreInTypes p s = (x : VarId) (w : Value) → look s x ≡ Some w → is_in (type_of p x) w ≡ true
 
-valuation_agrees : (p : Program) (s : Store) → HasIntegers s → AgreesWith p s (valuation_of p s)
+valuation_agrees : (p : Program) (s : Store) → AreInTypes p s → AgreesWith p s (valuation_of p s)
 valuation_agrees p s typed x = by_value (look s x) (typed x)
   where
-    by_value : (o : Option Value) → ((w : Value) → o ≡ Some w → IsInteger w) → value.Number (as_number (seen (type_of p x) o)) ≡ seen (type_of p x) o
-    by_value (Some w) typed = let n = (typed w refl).1 in ap (λ u. value.Number (as_number u)) n ∙ sym n
-    by_value None typed = refl
+    by_value : (o : Option Value) → ((w : Value) → o ≡ Some w → is_in (type_of p x) w ≡ true) → of_sort (sort_of_class (type_of p x).base.class) (seen (type_of p x) o) ≡ seen (type_of p x) o
+    by_value (Some w) typed = has_class (type_of p x).base.class (type_of p x).first (type_of p x).last w (typed w refl)
+    by_value None typed = first_has_class (type_of p x).base.class (type_of p x).first
 
 some_of : (o : Option Value) → IsSome o → (w : Value) × (o ≡ Some w)
 some_of (Some w) h = (w, refl)
@@ -108,17 +113,18 @@ module _ (p : Program) (s : Store) where
   abbrev the_valuation : Valuation
   the_valuation = valuation_of p s
 
-  entered : (sub : Sub) (vars : List VarId) (rest : Tree) → Safe (entering sub vars rest) the_valuation → Safe rest the_valuation
+  entered : (sub : Sub) (vars : List VarId) (rest : Tree) → Safe (entering p sub vars rest) the_valuation → Safe rest the_valuation
   entered sub [] rest safe = safe
   entered sub (x ∷ vars) rest safe = entered sub vars rest (by_export (exports x sub) safe)
     where
-      by_export : (b : Bool) → Safe (if b then Assign (now x) (Variable (entry x)) (entering sub vars rest) else entering sub vars rest) the_valuation → Safe (entering sub vars rest) the_valuation
-      by_export true safe = subst (Safe (entering sub vars rest)) (unchanged the_valuation (now x) (value_of the_valuation (Variable (entry x))) (sym (fold-Variable (value_step the_valuation) (entry x)))) safe
+      by_export : (b : Bool) → Safe (if b then Assign (now p x) (Variable (entry p x)) (entering p sub vars rest) else entering p sub vars rest) the_valuation → Safe (entering p sub vars rest) the_valuation
+      by_export true safe =
+          subst (Safe (entering p sub vars rest)) (unchanged the_valuation (now p x) (value_of the_valuation (Variable (entry p x))) (sym (fold-Variable (value_step the_valuation) (entry p x)))) safe
       by_export false safe = safe
 
 -- ---- a call
 
-module _ (p : Program) (integers : AreIntegers p) (sub : Sub) (scoped : Scoped p sub) (obeys : ObeysRules p sub) where
+module _ (p : Program) (sub : Sub) (scoped : Scoped p sub) (obeys : ObeysRules p sub) where
   -- what is imported is set on entry
   import_starts_set : (x : VarId) → imports x sub ≡ true → starts_unset p x ≡ false
   import_starts_set x import =
@@ -148,9 +154,8 @@ module _ (p : Program) (integers : AreIntegers p) (sub : Sub) (scoped : Scoped p
         let set = some_of (look s x) (start.imports_set x import) in
         (set.0, kept_import x import ∙ set.1)
 
-    typed_first : HasIntegers first
-    typed_first x w is =
-        integer_is w (ap (λ of. is_in of w) (sym (integers x)) ∙ subst (λ o. IfSome o (λ u. IsTrue (is_in (type_of p x) u))) (cleared_part p s sub.vars x w is) (start.in_types x))
+    typed_first : AreInTypes p first
+    typed_first x w is = subst (λ o. IfSome o (λ u. IsTrue (is_in (type_of p x) u))) (cleared_part p s sub.vars x w is) (start.in_types x)
 
     first_agrees : AgreesWith p first first_valuation
     first_agrees = valuation_agrees p first typed_first
@@ -166,31 +171,31 @@ module _ (p : Program) (integers : AreIntegers p) (sub : Sub) (scoped : Scoped p
     -- ---- checks
 
     -- the facts at the start hold
-    import_holds : (x : VarId) → AllHold first_valuation (import_facts sub x)
+    import_holds : (x : VarId) → AllHold first_valuation (import_facts p sub x)
     import_holds x = by_import (imports x sub) refl
       where
-        by_import : (b : Bool) → imports x sub ≡ b → AllHold first_valuation (if b then in_integer (now_term x) else [])
+        by_import : (b : Bool) → imports x sub ≡ b → AllHold first_valuation (if b then in_type (type_of p x) (now_term p x) else [])
         by_import true import =
             let set = set_import x import in
-            let of = typed_first x set.0 set.1 in
-            type_facts first_valuation (now_term x) of.0
-            (fold-Variable (value_step first_valuation) (now x) ∙ first_agrees x ∙ ap (seen (type_of p x)) set.1 ∙ of.1) of.2
+            type_facts first_valuation (type_of p x) (now_term p x) set.0
+            (fold-Variable (value_step first_valuation) (now p x) ∙ first_agrees x ∙ ap (seen (type_of p x)) set.1) (typed_first x set.0 set.1)
         by_import false is = tt
 
-    pre_facts_hold : (pre : Option CorePrecondition) → pre_holds frame pre first ≡ true → AllHold first_valuation (pre_facts sub pre)
+    pre_facts_hold : (pre : Option CorePrecondition) → pre_holds frame pre first ≡ true → AllHold first_valuation (pre_facts p sub pre)
     pre_facts_hold None h = tt
     pre_facts_hold (Some pre) h =
-        (sym (means_its_term frame first first_valuation first_agrees (entry_term sub) pre.condition) ∙ truth_from (meant frame first pre.condition) h, tt)
+        parts_hold first_valuation (term_of p (entry_term p sub) pre.condition)
+        (sym (means_its_term frame first first_valuation first_agrees (entry_term p sub) pre.condition) ∙ truth_from (meant frame first pre.condition) h)
 
     abbrev body_tree : Tree
     body_tree = walk p sub (commands sub.statements) ending ending 0
 
     body_safe : HasValidConditions p sub → Safe body_tree first_valuation
     body_safe valid =
-        let whole = entered p first sub (formals sub) (assume_all (first_facts sub) body_tree) (safe_sub p sub valid first_valuation (valuation_respects p first)).0 in
-        assumed (first_facts sub) body_tree first_valuation
-        (each_append (λ t. Holds t first_valuation) (flat_map (import_facts sub) (formals sub)) (pre_facts sub sub.pre)
-        (each_flat_map (λ t. Holds t first_valuation) (import_facts sub) import_holds (formals sub)) (pre_facts_hold sub.pre (pre_first sub.pre refl start.precondition))) whole
+        let whole = entered p first sub (formals sub) (assume_all (first_facts p sub) body_tree) (safe_sub p sub valid first_valuation (valuation_respects p first)).0 in
+        assumed (first_facts p sub) body_tree first_valuation
+        (each_append (λ t. Holds t first_valuation) (flat_map (import_facts p sub) (formals sub)) (pre_facts p sub sub.pre)
+        (each_flat_map (λ t. Holds t first_valuation) (import_facts p sub) import_holds (formals sub)) (pre_facts_hold sub.pre (pre_first sub.pre refl start.precondition))) whole
 
     -- ---- unset variables
 
@@ -229,7 +234,7 @@ module _ (p : Program) (integers : AreIntegers p) (sub : Sub) (scoped : Scoped p
     body_good : HasNoFinding p sub → TypedSub sub → HasValidConditions p sub → (n : ℕ) → Good Never (body_run n) (Passes (body_effect sub) first) (λ t. ⊤)
     body_good flows typed valid n =
         joined (body_run n) (Reaches p ending) (Passes (body_effect sub) first) (Reaches p ending) (λ t. ⊤)
-        (walk_good frame integers n (commands sub.statements) ending ending 0 first first_valuation typed.statements first_fits (body_safe valid))
+        (walk_good frame n (commands sub.statements) ending ending 0 first first_valuation typed.statements scoped.body_names first_fits (body_safe valid))
         (never_unset frame n first (commands sub.statements) (first_clear flows))
 
     pre_good : (pre : Option CorePrecondition) → pre_holds frame pre first ≡ true → demand_pre frame pre first ≡ Ended first
@@ -251,4 +256,4 @@ module _ (p : Program) (integers : AreIntegers p) (sub : Sub) (scoped : Scoped p
 
 pub never_bad : (p : Program) → All (Scoped p) p.subs → All (ObeysRules p) p.subs → Fit p → NeverBad p
 never_bad p scoped obeys fit k d within =
-    is_never_bad p (one_type p fit.visible) (get_or p.subs k d) (scoped k d within) (obeys k d within) (fit.flows k d within) (typed_subs p fit.typed k d within) (fit.conditions k d within)
+    is_never_bad p (get_or p.subs k d) (scoped k d within) (obeys k d within) (fit.flows k d within) (typed_subs p fit.typed k d within) (fit.conditions k d within)

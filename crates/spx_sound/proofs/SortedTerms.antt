@@ -1,107 +1,315 @@
 -- The term of an expression that breaks no rule has the sort of its type.
-use Rattle.std.proofs.Common.{◌≡◌, ℤ, pos, true, Option, Some, None, Ok, refl, sym, ap, ap₂, ◌∙◌}
+use Rattle.std.proofs.Common.{◌≡◌, ℤ, pos, true, ◌&&◌, if◌then◌else◌, List, [], ◌∷◌, ◌++◌, Option, Some, None, Ok, refl, sym, ap, ap₂, ◌∙◌, subst}
 use Rattle.std.specs.Prelude.{option_map}
+use Rattle.std.specs.List.{AllByRecursion}
+use Rattle.std.proofs.lemmas.Bool.{and_parts}
+use Rattle.spx_text.specs.declared.place.Place.{Place}
 use Rattle.spx_tree.specs.declared.expression.InfixOp.{InfixOp}
 use Rattle.spx_tree.specs.declared.expression.InfixOp.TheVariants as op
+use Rattle.spx_tree.specs.declared.expression.MemberOp.{MemberOp}
+use Rattle.spx_tree.specs.declared.expression.MemberOp.TheVariants as member_op
 use Rattle.spx_tree.specs.declared.expression.PrefixOp.{PrefixOp}
 use Rattle.spx_tree.specs.declared.expression.PrefixOp.TheVariants as prefix
+use Rattle.spx_core.specs.declared.entity.TheConstants.{INTEGER}
+use Rattle.spx_core.specs.declared.entity.BaseType.{BaseType}
+use Rattle.spx_core.specs.declared.entity.Class.{Class}
+use Rattle.spx_core.specs.declared.entity.Class.TheVariants as class
+use Rattle.spx_core.specs.declared.entity.Entity.TheVariants as entity
+use Rattle.spx_core.specs.declared.entity.Object.{Object}
 use Rattle.spx_core.specs.declared.entity.VarId.{VarId}
+use Rattle.spx_core.specs.declared.name.CoreName.{CoreName}
+use Rattle.spx_core.specs.declared.program.Program.{Program}
 use Rattle.spx_core.specs.declared.expression.CoreExpr.{CoreExpr}
-use Rattle.spx_core.specs.declared.expression.CoreExpr.TheVariants.{Attribute, Prefix, Infix}
+use Rattle.spx_core.specs.declared.expression.CoreExpr.TheVariants.{Name, Attribute, Parenthesized, Prefix, Infix, InType, InRange}
 use Rattle.spx_core.specs.declared.rule.ExprType.{ExprType}
 use Rattle.spx_core.specs.declared.rule.ExprType.TheVariants as type
 use Rattle.spx_core.specs.declared.rule.Typing.{Typing}
 use Rattle.spx_core.specs.Judged.{judged, typing}
-use Rattle.spx_core.specs.Types.{is_number, met, result_type, signed_result}
+use Rattle.spx_core.specs.Reads.{names_read, names_step}
+use Rattle.spx_core.specs.Scopes.{IsAsDeclared}
+use Rattle.spx_core.specs.Types.{has_numbers, has_truths, is_boolean, is_number, is_of, is_true, left_type, meet, met, operand_fits, operands_fit, position_in, raised_type, result_type, same_class, signed_result, three_fit}
 use Rattle.spx_core.specs.Uses.{variable_of}
+use Rattle.spx_core.proofs.Callers.Expressions.{fold-Name, fold-Parenthesized, fold-Prefix, fold-Infix, fold-InType, fold-InRange}
 use Rattle.spx_term.specs.declared.term.Sort.{Sort}
 use Rattle.spx_term.specs.declared.term.Sort.TheVariants.{Integer, Boolean}
 use Rattle.spx_term.specs.declared.term.Term.{Term}
 use Rattle.spx_term.specs.declared.term.Term.TheVariants as term
-use Rattle.spx_term.specs.declared.term.TermPrefix.TheVariants.{Minus}
+use Rattle.spx_term.specs.declared.term.TermOp.{TermOp}
+use Rattle.spx_term.specs.declared.term.TermOp.TheVariants as operator
+use Rattle.spx_term.specs.declared.term.TermPrefix.TheVariants.{Minus, Abs, Not}
 use Rattle.spx_term.specs.declared.value.Value.{Value}
 use Rattle.spx_term.specs.declared.value.Value.TheVariants as value
+use Rattle.spx_term.specs.Folding.{term_of as static_term}
 use Rattle.spx_term.specs.Meaning.{HasSort, Respects, Valuation, value_of}
-use Rattle.spx_term.specs.Sorts.{one, both, sort_of_prefix, sort_of_op, sort_step, sort_of}
-use Rattle.spx_term.proofs.Terms.{fold-Number, fold-Truth, fold-Variable, fold-Prefix, fold-Infix}
+use Rattle.spx_term.specs.Sorts.{alike, booleans, integers, one, both, sort_of_prefix, sort_of_op, sort_step, sort_of}
+use Rattle.spx_term.proofs.Terms as terms
 use Rattle.spx_term.proofs.FoldingLaws.{sorted_value}
 use Rattle.spx_meaning.specs.Evaluation.{term_op}
 use Rattle.spx_meaning.specs.Literals.{literal, literal_in, value_of as value_in}
-use Rattle.spx_paths.specs.Terms.{now, now_term, signed_term, named, literal_or, term_of, term_with-Parenthesized, term_with-Prefix, term_with-Infix, term_with-Number, term_with-Name, term_with-Attribute}
-use Rattle.spx_sound.proofs.Typings.{joined, Cases, typed_induct}
+use Rattle.spx_meaning.proofs.Callers.Types.{type_is}
+use Rattle.spx_paths.specs.Terms.{between, first_term, last_term, literal_or, member_term, named, now, now_term, signed_term, sort_of_class, term_of, term_with-Parenthesized, term_with-Prefix, term_with-Infix, term_with-InType, term_with-InRange, term_with-Number, term_with-Name, term_with-Attribute}
+use Rattle.spx_sound.proofs.Typings.{joined, tested_in, tested_between, Cases, typed_induct}
 
 abbrev pub HasSortOf : Sort → Term → Type 0
 HasSortOf s t = sort_of t ≡ Some s
 
 -- the sort of the terms of a type
 abbrev pub sort_of_type : ExprType → Sort
-sort_of_type type.Boolean = Boolean
-sort_of_type _ = Integer
+sort_of_type type.Universal = Integer
+sort_of_type (type.Of base) = sort_of_class base.class
+
+-- ---- sorts of types
+
+class_number : (c : Class) → has_numbers c ≡ true → sort_of_class c ≡ Integer
+class_number class.Integer h = refl
+class_number class.Boolean h = absurd (cc)
+
+class_truth : (c : Class) → has_truths c ≡ true → sort_of_class c ≡ Boolean
+class_truth class.Integer h = absurd (cc)
+class_truth class.Boolean h = refl
+
+class_same : (a b : Class) → same_class a b ≡ true → sort_of_class b ≡ sort_of_class a
+class_same class.Integer b h = class_number b h
+class_same class.Boolean b h = class_truth b h
 
 pub number_sort : (of : ExprType) → is_number of ≡ true → sort_of_type of ≡ Integer
-number_sort type.Boolean h = absurd (cc)
-number_sort _ h = refl
+number_sort type.Universal h = refl
+number_sort (type.Of base) h = class_number base.class h
+
+pub boolean_sort : (of : ExprType) → is_boolean of ≡ true → sort_of_type of ≡ Boolean
+boolean_sort type.Universal h = absurd (cc)
+boolean_sort (type.Of base) h = class_truth base.class h
+
+pub is_of_sort : (base : BaseType) (of : ExprType) → is_of base of ≡ true → sort_of_type of ≡ sort_of_class base.class
+is_of_sort base type.Universal h = sym (class_number base.class h)
+is_of_sort base (type.Of other) h = class_same base.class other.class (and_parts _ _ h).1
+
+meet_sort : (l r : ExprType) → meet l r ≡ true → sort_of_type r ≡ sort_of_type l
+meet_sort type.Universal r h = number_sort r h
+meet_sort (type.Of base) r h = is_of_sort base r h
+
+met_sort : (l r : ExprType) → meet l r ≡ true → sort_of_type (met l r) ≡ sort_of_type l
+met_sort type.Universal r h = number_sort r h
+met_sort (type.Of base) r h = refl
+
+pub raised_sort : (l : ExprType) (exponent : Option ℤ) → sort_of_type l ≡ Integer → sort_of_type (raised_type l exponent) ≡ Integer
+raised_sort type.Universal (Some n) h = refl
+raised_sort type.Universal None h = refl
+raised_sort (type.Of base) exponent h = h
+
+-- ---- sorts of operations
+
+-- both are numbers, and so is what they have together
+pub record Numbers (l r : ExprType) : Type 0 where
+  pub left : sort_of_type l ≡ Integer
+  pub right : sort_of_type r ≡ Integer
+  pub both : sort_of_type (met l r) ≡ Integer
+
+pub numbers : (l r : ExprType) → (is_number l && meet l r) ≡ true → Numbers l r
+numbers l r h =
+    let parts = and_parts (is_number l) (meet l r) h in
+    let left = number_sort l parts.0 in
+    record { left = left; right = meet_sort l r parts.1 ∙ left; both = met_sort l r parts.1 ∙ left }
+
+pub three_numbers : (a b c : ExprType) → three_fit a b c ≡ true → (sort_of_type a ≡ Integer) × (sort_of_type b ≡ Integer) × (sort_of_type c ≡ Integer)
+three_numbers a b c h =
+    let first = and_parts (is_number a) (meet a b && meet (met a b) c) h in
+    let rest = and_parts (meet a b) (meet (met a b) c) first.1 in
+    let one = number_sort a first.0 in
+    (one, meet_sort a b rest.0 ∙ one, meet_sort (met a b) c rest.1 ∙ met_sort a b rest.0 ∙ one)
+
+both_integers : (result : Sort) (a b : Sort) → a ≡ Integer → b ≡ Integer → integers result a b ≡ Some result
+both_integers result a b p q = ap₂ (integers result) p q
+
+both_booleans : (a b : Sort) → a ≡ Boolean → b ≡ Boolean → booleans Boolean a b ≡ Some Boolean
+both_booleans a b p q = ap₂ (booleans Boolean) p q
+
+one_sort : (a : Sort) → alike Boolean a a ≡ Some Boolean
+one_sort Integer = refl
+one_sort Boolean = refl
+
+both_alike : (a b : Sort) → b ≡ a → alike Boolean a b ≡ Some Boolean
+both_alike a b e = ap (alike Boolean a) e ∙ one_sort a
+
+arithmetic : (l r : ExprType) → (is_number l && meet l r) ≡ true → integers Integer (sort_of_type l) (sort_of_type r) ≡ Some (sort_of_type (met l r))
+arithmetic l r h = let n = numbers l r h in both_integers Integer (sort_of_type l) (sort_of_type r) n.left n.right ∙ ap Some (sym n.both)
+
+comparison : (l r : ExprType) → (is_number l && meet l r) ≡ true → integers Boolean (sort_of_type l) (sort_of_type r) ≡ Some Boolean
+comparison l r h = let n = numbers l r h in both_integers Boolean (sort_of_type l) (sort_of_type r) n.left n.right
+
+equality : (l r : ExprType) → meet l r ≡ true → alike Boolean (sort_of_type l) (sort_of_type r) ≡ Some Boolean
+equality l r h = both_alike (sort_of_type l) (sort_of_type r) (meet_sort l r h)
+
+logical : (l r : ExprType) → (is_boolean l && is_boolean r) ≡ true → booleans Boolean (sort_of_type l) (sort_of_type r) ≡ Some Boolean
+logical l r h = let parts = and_parts (is_boolean l) (is_boolean r) h in both_booleans (sort_of_type l) (sort_of_type r) (boolean_sort l parts.0) (boolean_sort r parts.1)
+
+exclusive : (l r : ExprType) → (is_boolean l && is_boolean r) ≡ true → alike Boolean (sort_of_type l) (sort_of_type r) ≡ Some Boolean
+exclusive l r h =
+    let parts = and_parts (is_boolean l) (is_boolean r) h in
+    both_alike (sort_of_type l) (sort_of_type r) (boolean_sort r parts.1 ∙ sym (boolean_sort l parts.0))
+
+-- the operands that an operator takes have sorts that its term takes, and the sort of the result is that of its type
+pub operator_sort : (o : InfixOp) (l r : ExprType) (n : Option ℤ) → operands_fit o l r ≡ true → sort_of_op (term_op o) (sort_of_type l) (sort_of_type r) ≡ Some (sort_of_type (result_type o (left_type o l r n)))
+unfolding sort_of_op
+operator_sort op.Add l r n h = arithmetic l r h
+operator_sort op.Subtract l r n h = arithmetic l r h
+operator_sort op.Multiply l r n h = arithmetic l r h
+operator_sort op.Divide l r n h = arithmetic l r h
+operator_sort op.Mod l r n h = arithmetic l r h
+operator_sort op.Rem l r n h = arithmetic l r h
+operator_sort op.Power l r n h =
+    let parts = and_parts (is_number l) (is_of INTEGER.base r) h in
+    let left = number_sort l parts.0 in
+    both_integers Integer (sort_of_type l) (sort_of_type r) left (is_of_sort INTEGER.base r parts.1) ∙ ap Some (sym (raised_sort l n left))
+operator_sort op.Equal l r n h = equality l r h
+operator_sort op.NotEqual l r n h = equality l r h
+operator_sort op.Less l r n h = comparison l r h
+operator_sort op.LessOrEqual l r n h = comparison l r h
+operator_sort op.Greater l r n h = comparison l r h
+operator_sort op.GreaterOrEqual l r n h = comparison l r h
+operator_sort op.And l r n h = logical l r h
+operator_sort op.Or l r n h = logical l r h
+operator_sort op.Xor l r n h = exclusive l r h
+operator_sort op.AndThen l r n h = logical l r h
+operator_sort op.OrElse l r n h = logical l r h
+
+pub operation_sorted : (o : InfixOp) (l r : ExprType) (n : Option ℤ) (a b : Term) → operands_fit o l r ≡ true → HasSortOf (sort_of_type l) a → HasSortOf (sort_of_type r) b
+    → HasSortOf (sort_of_type (result_type o (left_type o l r n))) (term.Infix (term_op o) a b)
+operation_sorted o l r n a b fits p q = terms.fold-Infix sort_step (term_op o) a b ∙ ap₂ (both (sort_of_op (term_op o))) p q ∙ operator_sort o l r n fits
+
+-- so does an operator with one operand
+pub signed_sorted : (o : PrefixOp) (of : ExprType) (a : Term) → operand_fits o of ≡ true → HasSortOf (sort_of_type of) a → HasSortOf (sort_of_type of) (signed_term o a)
+unfolding sort_of_prefix
+signed_sorted prefix.Plus of a fits h = h
+signed_sorted prefix.Minus of a fits h =
+    let sort = ap Some (number_sort of fits) in terms.fold-Prefix sort_step Minus a ∙ ap (one (sort_of_prefix Minus)) (h ∙ sort) ∙ sym sort
+signed_sorted prefix.Abs of a fits h =
+    let sort = ap Some (number_sort of fits) in terms.fold-Prefix sort_step Abs a ∙ ap (one (sort_of_prefix Abs)) (h ∙ sort) ∙ sym sort
+signed_sorted prefix.Not of a fits h =
+    let sort = ap Some (boolean_sort of fits) in terms.fold-Prefix sort_step Not a ∙ ap (one (sort_of_prefix Not)) (h ∙ sort) ∙ sym sort
+
+-- a comparison of two integers, a conjunction of two truth values, and a negation are truth values
+pub compared_sorted : (o : TermOp) (a b : Term) → sort_of_op o Integer Integer ≡ Some Boolean → HasSortOf Integer a → HasSortOf Integer b → HasSortOf Boolean (term.Infix o a b)
+compared_sorted o a b sort p q = terms.fold-Infix sort_step o a b ∙ ap₂ (both (sort_of_op o)) p q ∙ sort
+
+pub not_sorted : (a : Term) → HasSortOf Boolean a → HasSortOf Boolean (term.Prefix Not a)
+unfolding sort_of_prefix
+not_sorted a h = terms.fold-Prefix sort_step Not a ∙ ap (one (sort_of_prefix Not)) h
+
+between_sorted : (t low high : Term) → HasSortOf Integer t → HasSortOf Integer low → HasSortOf Integer high → HasSortOf Boolean (between t low high)
+unfolding sort_of_op
+between_sorted t low high p q r =
+    terms.fold-Infix sort_step operator.And (term.Infix operator.GreaterOrEqual t low) (term.Infix operator.LessOrEqual t high)
+    ∙ ap₂ (both (sort_of_op operator.And)) (compared_sorted operator.GreaterOrEqual t low refl p q) (compared_sorted operator.LessOrEqual t high refl p r)
+
+member_sorted : (o : MemberOp) (t low high : Term) → HasSortOf Integer t → HasSortOf Integer low → HasSortOf Integer high → HasSortOf Boolean (member_term o t low high)
+member_sorted member_op.In t low high p q r = between_sorted t low high p q r
+member_sorted (member_op.NotIn place) t low high p q r = not_sorted (between t low high) (between_sorted t low high p q r)
+
+-- ---- literals
+
+literal_of_class : (c : Class) (n : ℤ) → HasSortOf (sort_of_class c) (static_term (if has_truths c then value.Truth (is_true n) else value.Number n))
+literal_of_class class.Integer n = terms.fold-Number sort_step n
+literal_of_class class.Boolean n = terms.fold-Truth sort_step (is_true n)
+
+literal_of_type : (of : ExprType) (n : ℤ) → HasSortOf (sort_of_type of) (static_term (value_in of n))
+literal_of_type type.Universal n = terms.fold-Number sort_step n
+literal_of_type (type.Of base) n = literal_of_class base.class n
 
 -- the literal of a type has its sort, and so has what stands where there is none
 literal_sorted : (of : ExprType) (value : Option ℤ) (a : Term) → HasSortOf (sort_of_type of) a → HasSortOf (sort_of_type of) (literal_or (option_map (value_in of) value) a)
-literal_sorted type.Boolean (Some n) a h = fold-Truth sort_step _
-literal_sorted _ (Some n) a h = fold-Number sort_step n
+literal_sorted of (Some n) a h = literal_of_type of n
 literal_sorted of None a h = h
 
--- a sign before an integer leaves one
-signed_sorted : (o : PrefixOp) (a : Term) → HasSortOf Integer a → HasSortOf Integer (signed_term o a)
-unfolding sort_of_prefix
-signed_sorted prefix.Plus a h = h
-signed_sorted prefix.Minus a h = fold-Prefix sort_step Minus a ∙ ap (one (sort_of_prefix Minus)) h
+-- ---- expressions
 
--- an operation on two integers has the sort of its type
-pub operation_sorted : (o : InfixOp) (of : ExprType) (a b : Term) → is_number of ≡ true → HasSortOf Integer a → HasSortOf Integer b → HasSortOf (sort_of_type (result_type o of)) (term.Infix (term_op o) a b)
-unfolding sort_of_op
-operation_sorted o of a b number p q = fold-Infix sort_step (term_op o) a b ∙ ap₂ (both (sort_of_op (term_op o))) p q ∙ by_operator o
-  where
-    by_operator : (o : InfixOp) → sort_of_op (term_op o) Integer Integer ≡ Some (sort_of_type (result_type o of))
-    by_operator op.Add = ap Some (sym (number_sort of number))
-    by_operator op.Subtract = ap Some (sym (number_sort of number))
-    by_operator _ = refl
+-- each name that the expression reads stands with what is declared of its variable
+abbrev pub AreDeclared : Program → CoreExpr → Type 0
+AreDeclared p e = AllByRecursion (IsAsDeclared p) (names_read e)
 
-named_sorted : (o : Option VarId) → HasSortOf Integer (named now_term o)
-named_sorted (Some v) = fold-Variable sort_step (now v)
-named_sorted None = fold-Number sort_step (pos 0)
+pub each_parts : {A : Type 0} (P : A → Type 0) (xs ys : List A) → AllByRecursion P (xs ++ ys) → AllByRecursion P xs × AllByRecursion P ys
+each_parts P [] ys h = (tt, h)
+each_parts P (x ∷ xs) ys h = let parts = each_parts P xs ys h.1 in ((h.0, parts.0), parts.1)
 
-module _ (entered : VarId → Term) where
-  abbrev IsSorted : CoreExpr → Typing → Type 0
-  IsSorted e t = HasSortOf (sort_of_type t.of) (term_of entered e)
+module _ (p : Program) where
+  along : (names others : List CoreName) → names ≡ others → AllByRecursion (IsAsDeclared p) names → AllByRecursion (IsAsDeclared p) others
+  along names others is h = subst (AllByRecursion (IsAsDeclared p)) is h
 
-  -- a node that stands for its literal, or else for what it computes
-  sorted_or : (e : CoreExpr) (a : Term) (t : Typing) → term_of entered e ≡ literal_or (literal e) a → judged e ≡ Ok t → HasSortOf (sort_of_type t.of) a → IsSorted e t
-  sorted_or e a t is typed h = ap sort_of is ∙ ap (λ j. sort_of (literal_or (literal_in j) a)) typed ∙ literal_sorted t.of t.value a h
+  pub declared-Name : (name : CoreName) → AreDeclared p (Name name) → IsAsDeclared p name
+  declared-Name name h = (along _ (name ∷ []) (fold-Name names_step name) h).0
 
-  sorted_cases : Cases IsSorted
-  sorted_cases = record {
-    number = λ n place. ap sort_of (term_with-Number now_term entered n place) ∙ fold-Number sort_step n;
-    name = λ name base. ap sort_of (term_with-Name now_term entered name) ∙ named_sorted (variable_of name.entity);
-    attribute = λ prefix designator base n typed.
-        sorted_or (Attribute prefix designator) (term.Number (pos 0)) (typing (type.Of base) (Some n) prefix.name.place) (term_with-Attribute now_term entered prefix designator) typed
-        (fold-Number sort_step (pos 0));
-    parenthesized = λ place a o p. ap sort_of (term_with-Parenthesized now_term entered place a) ∙ p;
-    prefix = λ op place a o number typed p.
-        let sort = ap Some (number_sort o.of number) in
-        sorted_or (Prefix op place a) (signed_term op (term_of entered a)) (typing o.of (signed_result op o.value) place) (term_with-Prefix now_term entered op place a) typed
-        (signed_sorted op (term_of entered a) (p ∙ sort) ∙ sym sort);
-    «infix» = λ op place a b l r numbers typed p q.
-        sorted_or (Infix op place a b) (term.Infix (term_op op) (term_of entered a) (term_of entered b)) (joined op place l r) (term_with-Infix now_term entered op place a b) typed
-        (operation_sorted op (met l.of r.of) (term_of entered a) (term_of entered b) numbers.2 (p ∙ ap Some (number_sort l.of numbers.0)) (q ∙ ap Some (number_sort r.of numbers.1)));
-  }
+  pub declared-Parenthesized : (place : Place) (a : CoreExpr) → AreDeclared p (Parenthesized place a) → AreDeclared p a
+  declared-Parenthesized place a h = along _ (names_read a) (fold-Parenthesized names_step place a) h
 
-  -- the term of an expression that breaks no rule has the sort of its type
-  pub is_sorted : (e : CoreExpr) (t : Typing) → judged e ≡ Ok t → IsSorted e t
-  is_sorted = typed_induct IsSorted sorted_cases
+  pub declared-Prefix : (o : PrefixOp) (place : Place) (a : CoreExpr) → AreDeclared p (Prefix o place a) → AreDeclared p a
+  declared-Prefix o place a h = along _ (names_read a) (fold-Prefix names_step o place a) h
 
-  -- a number is an integer
-  pub number_sorted : (e : CoreExpr) (t : Typing) → judged e ≡ Ok t → is_number t.of ≡ true → HasSortOf Integer (term_of entered e)
-  number_sorted e t typed number = is_sorted e t typed ∙ ap Some (number_sort t.of number)
+  pub declared-Infix : (o : InfixOp) (place : Place) (a b : CoreExpr) → AreDeclared p (Infix o place a b) → AreDeclared p a × AreDeclared p b
+  declared-Infix o place a b h = each_parts (IsAsDeclared p) (names_read a) (names_read b) (along _ (names_read a ++ names_read b) (fold-Infix names_step o place a b) h)
 
-integer_is : (w : Value) → HasSort Integer w → (n : ℤ) × (w ≡ value.Number n)
+  pub declared-InType : (o : MemberOp) (place : Place) (a : CoreExpr) (name : _) → AreDeclared p (InType o place a name) → AreDeclared p a
+  declared-InType o place a name h = along _ (names_read a) (fold-InType names_step o place a name) h
+
+  pub declared-InRange : (o : MemberOp) (place : Place) (a low high : CoreExpr) → AreDeclared p (InRange o place a low high) → AreDeclared p a × (AreDeclared p low × AreDeclared p high)
+  declared-InRange o place a low high h =
+      let first = each_parts (IsAsDeclared p) (names_read a) (names_read low ++ names_read high) (along _ (names_read a ++ (names_read low ++ names_read high)) (fold-InRange names_step o place a low high) h) in
+      (first.0, each_parts (IsAsDeclared p) (names_read low) (names_read high) first.1)
+
+  -- the term of a variable has the sort of the type that its name stands with
+  object_sorted : (name : CoreName) (v : VarId) (object : Object) → name.entity ≡ Some (entity.Variable v object) → IsAsDeclared p name → HasSortOf (sort_of_class object.subtype.base.class) (named (now_term p) (variable_of name.entity))
+  object_sorted name v object is declared =
+      ap (λ e. sort_of (named (now_term p) (variable_of e))) is ∙ terms.fold-Variable sort_step (now p v)
+      ∙ ap (λ s. Some (sort_of_class s.base.class)) (type_is p v object (declared v object is))
+
+  module _ (entered : VarId → Term) where
+    abbrev pub IsSorted : CoreExpr → Typing → Type 0
+    IsSorted e t = AreDeclared p e → HasSortOf (sort_of_type t.of) (term_of p entered e)
+
+    -- a node that stands for its literal, or else for what it computes
+    sorted_or : (e : CoreExpr) (a : Term) (t : Typing) → term_of p entered e ≡ literal_or (literal e) a → judged e ≡ Ok t → HasSortOf (sort_of_type t.of) a → HasSortOf (sort_of_type t.of) (term_of p entered e)
+    sorted_or e a t is typed h = ap sort_of is ∙ ap (λ j. sort_of (literal_or (literal_in j) a)) typed ∙ literal_sorted t.of t.value a h
+
+    -- one that always has a literal
+    sorted_as : (e : CoreExpr) (a : Term) (of : ExprType) (n : ℤ) (place : Place) → term_of p entered e ≡ literal_or (literal e) a → judged e ≡ Ok (typing of (Some n) place) → HasSortOf (sort_of_type of) (term_of p entered e)
+    sorted_as e a of n place is typed = ap sort_of is ∙ ap (λ j. sort_of (literal_or (literal_in j) a)) typed ∙ literal_of_type of n
+
+    pub sorted_cases : Cases IsSorted
+    sorted_cases = record {
+      number = λ n place d. ap sort_of (term_with-Number (now_term p) entered n place) ∙ terms.fold-Number sort_step n;
+      object = λ name v object is typed d.
+          sorted_or (Name name) (named (now_term p) (variable_of name.entity)) (typing (type.Of object.subtype.base) None name.name.place) (term_with-Name (now_term p) entered name) typed
+          (object_sorted name v object is (declared-Name name d));
+      literal = λ name subtype n is typed d. sorted_as (Name name) (named (now_term p) (variable_of name.entity)) (type.Of subtype.base) (position_in subtype.base.class n) name.name.place (term_with-Name (now_term p) entered name) typed;
+      attribute = λ prefix designator base n has typed d.
+          sorted_as (Attribute prefix designator) (term.Number (pos 0)) (type.Of base) n prefix.name.place (term_with-Attribute (now_term p) entered prefix designator) typed;
+      parenthesized = λ place a o h d. ap sort_of (term_with-Parenthesized (now_term p) entered place a) ∙ h (declared-Parenthesized place a d);
+      prefix = λ o place a t fits typed h d.
+          sorted_or (Prefix o place a) (signed_term o (term_of p entered a)) (typing t.of (signed_result o t.value) place) (term_with-Prefix (now_term p) entered o place a) typed
+          (signed_sorted o t.of (term_of p entered a) fits (h (declared-Prefix o place a d)));
+      «infix» = λ o place a b l r fits typed h k d.
+          let parts = declared-Infix o place a b d in
+          sorted_or (Infix o place a b) (term.Infix (term_op o) (term_of p entered a) (term_of p entered b)) (joined o place l r) (term_with-Infix (now_term p) entered o place a b) typed
+          (operation_sorted o l.of r.of r.value (term_of p entered a) (term_of p entered b) fits (h parts.0) (k parts.1));
+      in_type = λ o place a name t subtype named has fits typed h d.
+          let number = h (declared-InType o place a name d) ∙ ap Some (is_of_sort subtype.base t.of fits ∙ class_number subtype.base.class has) in
+          sorted_or (InType o place a name) (member_term o (term_of p entered a) (first_term name) (last_term name)) (tested_in o place t subtype) (term_with-InType (now_term p) entered o place a name) typed
+          (member_sorted o (term_of p entered a) (first_term name) (last_term name) number (terms.fold-Number sort_step _) (terms.fold-Number sort_step _));
+      in_range = λ o place a low high t l g fits typed h k m d.
+          let parts = declared-InRange o place a low high d in
+          let sorts = three_numbers t.of l.of g.of fits in
+          sorted_or (InRange o place a low high) (member_term o (term_of p entered a) (term_of p entered low) (term_of p entered high)) (tested_between o place t l g) (term_with-InRange (now_term p) entered o place a low high) typed
+          (member_sorted o (term_of p entered a) (term_of p entered low) (term_of p entered high) (h parts.0 ∙ ap Some sorts.0) (k parts.1.0 ∙ ap Some sorts.1) (m parts.1.1 ∙ ap Some sorts.2));
+    }
+
+    -- the term of an expression that breaks no rule has the sort of its type
+    pub is_sorted : (e : CoreExpr) (t : Typing) → judged e ≡ Ok t → AreDeclared p e → HasSortOf (sort_of_type t.of) (term_of p entered e)
+    is_sorted = typed_induct IsSorted sorted_cases
+
+-- the value of a term has the term's sort
+pub value_sorted : (v : Valuation) → Respects v → (a : Term) (s : Sort) → HasSortOf s a → HasSort s (value_of v a)
+value_sorted v respects a s h = sorted_value v respects a s h
+
+pub integer_is : (w : Value) → HasSort Integer w → (n : ℤ) × (w ≡ value.Number n)
 integer_is (value.Number n) h = (n, refl)
 integer_is (value.Truth b) h = absurd h
 

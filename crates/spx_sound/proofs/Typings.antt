@@ -1,31 +1,39 @@
 -- What is known of the parts of what breaks no rule on types.
-use Rattle.std.proofs.Common.{◌≡◌, ℤ, Bool, true, false, List, [], ◌∷◌, Some, None, Ok, Err, refl, sym, subst, ◌∙◌}
+use Rattle.std.proofs.Common.{◌≡◌, ℤ, Bool, true, false, ◌&&◌, List, [], ◌∷◌, Option, Some, None, Ok, Err, refl, sym, ap, subst, ◌∙◌}
 use Rattle.std.specs.Prelude.{⊤, All}
 use Rattle.std.specs.List.{AllByRecursion}
+use Rattle.std.proofs.lemmas.Bool.{and_parts}
 use Rattle.std.proofs.lemmas.List.Elements.{All-from_recursion, All-weaker}
 use Rattle.spx_text.specs.declared.place.Place.{Place}
 use Rattle.spx_tree.specs.declared.expression.Identifier.{Identifier}
 use Rattle.spx_tree.specs.declared.expression.InfixOp.{InfixOp}
 use Rattle.spx_tree.specs.declared.expression.PrefixOp.{PrefixOp}
+use Rattle.spx_tree.specs.declared.expression.MemberOp.{MemberOp}
+use Rattle.spx_core.specs.declared.entity.TheConstants.{BOOLEAN}
 use Rattle.spx_core.specs.declared.entity.BaseType.{BaseType}
+use Rattle.spx_core.specs.declared.entity.Subtype.{Subtype}
+use Rattle.spx_core.specs.declared.entity.VarId.{VarId}
+use Rattle.spx_core.specs.declared.entity.Object.{Object}
+use Rattle.spx_core.specs.declared.entity.Entity.{Entity}
+use Rattle.spx_core.specs.declared.entity.Entity.TheVariants as entity
 use Rattle.spx_core.specs.declared.name.CoreName.{CoreName}
 use Rattle.spx_core.specs.declared.name.Reference.{Reference}
 use Rattle.spx_core.specs.declared.expression.CoreExpr.{CoreExpr}
-use Rattle.spx_core.specs.declared.expression.CoreExpr.TheVariants.{Number, Name, Attribute, Parenthesized, Prefix, Infix}
+use Rattle.spx_core.specs.declared.expression.CoreExpr.TheVariants.{Number, Name, Attribute, Parenthesized, Prefix, Infix, InType, InRange}
 use Rattle.spx_core.specs.declared.subprogram.Sub.{Sub}
 use Rattle.spx_core.specs.declared.program.Program.{Program}
-use Rattle.spx_core.specs.declared.rule.ExprType.{ExprType}
-use Rattle.spx_core.specs.declared.rule.ExprType.TheVariants.{Universal, Boolean, Of}
+use Rattle.spx_core.specs.declared.rule.ExprType.TheVariants.{Universal, Of}
 use Rattle.spx_core.specs.declared.rule.RuleName.{RuleName}
+use Rattle.spx_core.specs.declared.rule.RuleName.TheVariants.{N10}
 use Rattle.spx_core.specs.declared.rule.Typing.{Typing}
-use Rattle.spx_core.specs.Judged.{Judged, ◌>>=◌, keeps, each, if_there, typing, attribute_of, is_attribute, named_object, named_type, operand_of, referred_object, condition, sign, operation, expr_step, judged}
+use Rattle.spx_core.specs.Judged.{Judged, ◌>>=◌, keeps, named_object, each, if_there, typing, attribute_of, is_attribute, named_type, named_value, value_at, integer_type, member_of_range, member_of_type, object_at, operand_of, referred_object, referred_type, type_at, whole, condition, sign, operation, expr_step, judged}
 use Rattle.spx_core.specs.Commands.{Command, Set, Then, Choose, commands}
 use Rattle.spx_core.specs.Dependency.{relation}
 use Rattle.spx_core.specs.Resolved.{params_of}
 use Rattle.spx_core.specs.Statements.{judged_param, judged_item, judged_pre, judged_decl, judged_command, judged_name, judged_sub, test, Typed}
-use Rattle.spx_core.specs.Types.{both_held, is_held, is_of, is_boolean, is_number, lies_in, meet, met, result_of, result_type, signed_result}
+use Rattle.spx_core.specs.Types.{both_held, has_numbers, is_held, is_of, is_boolean, left_type, lies_in, member_value, met, operand_fits, operands_fit, position_in, result_of, result_type, right_type, signed_result, three_fit}
 use Rattle.spx_core.proofs.Callers.Expressions as every
-use Rattle.spx_core.proofs.Callers.Expressions.{fold-Number, fold-Name, fold-Attribute, fold-Parenthesized, fold-Prefix, fold-Infix}
+use Rattle.spx_core.proofs.Callers.Expressions.{fold-Number, fold-Name, fold-Attribute, fold-Parenthesized, fold-Prefix, fold-Infix, fold-InType, fold-InRange}
 
 -- ---- judgements
 
@@ -52,70 +60,150 @@ each_is f (x ∷ xs) h = let parts = bound (f x) (λ _. each f xs) tt h in (part
 abbrev AreOne : Typing → Typing → Type 0
 AreOne t u = ◌≡◌ {A = Judged Typing} (Ok t) (Ok u)
 
-sign_parts : (op : PrefixOp) (place : Place) (o t : Typing) → sign op place o ≡ Ok t → (is_number o.of ≡ true) × AreOne (typing o.of (signed_result op o.value) place) t
+sign_parts : (op : PrefixOp) (place : Place) (o t : Typing) → sign op place o ≡ Ok t → (operand_fits op o.of ≡ true) × AreOne (typing o.of (signed_result op o.value) place) t
 sign_parts op place o t h =
-    let number = kept _ place (is_number o.of) _ t h in
-    let held = kept _ place (is_held o.value (signed_result op o.value)) _ t number.1 in
+    let fits = kept _ place (operand_fits op o.of) _ t h in
+    let held = kept _ place (is_held o.value (signed_result op o.value)) _ t fits.1 in
     let within = kept _ place (lies_in o.of (signed_result op o.value)) _ t held.1 in
-    (number.0, within.1)
+    (fits.0, within.1)
 
 -- the typing of an operation
 abbrev pub joined : InfixOp → Place → Typing → Typing → Typing
-joined op place l r = typing (result_type op (met l.of r.of)) (result_of op l.value r.value) place
+joined op place l r = typing (result_type op (left_type op l.of r.of r.value)) (result_of op l.value r.value) place
 
-operation_parts : (op : InfixOp) (place : Place) (l r t : Typing) → operation op place l r ≡ Ok t → (meet l.of r.of ≡ true) × AreOne (joined op place l r) t
+operation_parts : (op : InfixOp) (place : Place) (l r t : Typing) → operation op place l r ≡ Ok t → (operands_fit op l.of r.of ≡ true) × AreOne (joined op place l r) t
 operation_parts op place l r t h =
-    let of = met l.of r.of in
+    let of = left_type op l.of r.of r.value in
     let result = result_of op l.value r.value in
-    let meets = kept _ place (meet l.of r.of) _ t h in
-    let left = kept _ l.place (lies_in of l.value) _ t meets.1 in
-    let right = kept _ r.place (lies_in of r.value) _ t left.1 in
+    let fits = kept _ place (operands_fit op l.of r.of) _ t h in
+    let left = kept _ l.place (lies_in of l.value) _ t fits.1 in
+    let right = kept _ r.place (lies_in (right_type op l.of r.of) r.value) _ t left.1 in
     let held = kept _ place (both_held l.value r.value result) _ t right.1 in
     let within = kept _ place (lies_in (result_type op of) result) _ t held.1 in
-    (meets.0, within.1)
+    (fits.0, within.1)
 
-of_is_number : (base : BaseType) (of : ExprType) → is_of base of ≡ true → is_number of ≡ true
-of_is_number base Boolean h = absurd (cc)
-of_is_number base _ h = refl
+-- the typing of a membership test
+abbrev pub tested_in : MemberOp → Place → Typing → Subtype → Typing
+tested_in op place o subtype = typing (Of BOOLEAN.base) (member_value op o.value (Some subtype.first) (Some subtype.last)) place
 
--- two operands are numbers, and so is what both are
-abbrev pub AreNumbers : ExprType → ExprType → Type 0
-AreNumbers l r = (is_number l ≡ true) × (is_number r ≡ true) × (is_number (met l r) ≡ true)
+abbrev pub tested_between : MemberOp → Place → Typing → Typing → Typing → Typing
+tested_between op place o l h = typing (Of BOOLEAN.base) (member_value op o.value l.value h.value) place
 
-numbers_meet : (l r : ExprType) → meet l r ≡ true → AreNumbers l r
-numbers_meet Universal r h = (refl, h, h)
-numbers_meet Boolean r h = absurd (cc)
-numbers_meet (Of base) r h = (refl, of_is_number base r h, refl)
+in_type_parts : (op : MemberOp) (place : Place) (o : Typing) (subtype : Subtype) (t : Typing) → member_of_type op place o subtype ≡ Ok t → (is_of subtype.base o.of ≡ true) × AreOne (tested_in op place o subtype) t
+in_type_parts op place o subtype t h =
+    let fits = kept _ place (is_of subtype.base o.of) _ t h in
+    let within = kept _ o.place (lies_in (Of subtype.base) o.value) _ t fits.1 in
+    (fits.0, within.1)
+
+in_range_parts : (op : MemberOp) (place : Place) (o l h t : Typing) → member_of_range op place o l h ≡ Ok t → (three_fit o.of l.of h.of ≡ true) × AreOne (tested_between op place o l h) t
+in_range_parts op place o l h t e =
+    let of = met (met o.of l.of) h.of in
+    let fits = kept _ place (three_fit o.of l.of h.of) _ t e in
+    let tested = kept _ o.place (lies_in of o.value) _ t fits.1 in
+    let low = kept _ l.place (lies_in of l.value) _ t tested.1 in
+    let high = kept _ h.place (lies_in of h.value) _ t low.1 in
+    (fits.0, high.1)
+
+-- what a name of a value denotes
+pub data Denotes (name : CoreName) (t : Typing) : Type 0 where
+  of_object : (v : VarId) (object : Object) → name.entity ≡ Some (entity.Variable v object) → AreOne (typing (Of object.subtype.base) None name.name.place) t → Denotes name t
+  of_literal : (subtype : Subtype) (position : ℤ) → name.entity ≡ Some (entity.Literal subtype position) → AreOne (typing (Of subtype.base) (Some (position_in subtype.base.class position)) name.name.place) t → Denotes name t
+
+denoted_by : (name : CoreName) (t : Typing) → named_value name ≡ Ok t → Denotes name t
+denoted_by name t h = by_entity name.entity refl h
+  where
+    by_entity : (e : Option Entity) → name.entity ≡ e → value_at name.name.place e ≡ Ok t → Denotes name t
+    by_entity None is h = absurd (cc)
+    by_entity (Some (entity.Variable v o)) is h = of_object v o is h
+    by_entity (Some (entity.Literal subtype n)) is h = of_literal subtype n is h
+    by_entity (Some (entity.TypeName subtype)) is h = absurd (cc)
+    by_entity (Some (entity.Subprogram id)) is h = absurd (cc)
+
+-- what a type mark denotes
+type_named : (place : Place) (e : Option Entity) (subtype : Subtype) → type_at place e ≡ Ok subtype → e ≡ Some (entity.TypeName subtype)
+type_named place None subtype h = absurd (cc)
+type_named place (Some (entity.TypeName other)) subtype h = let one : other ≡ subtype = cc in ap (λ (s : Subtype). Some (entity.TypeName s)) one
+type_named place (Some (entity.Variable v o)) subtype h = absurd (cc)
+type_named place (Some (entity.Literal other n)) subtype h = absurd (cc)
+type_named place (Some (entity.Subprogram id)) subtype h = absurd (cc)
+
+object_named : (place : Place) (e : Option Entity) (o : Object) → object_at place e ≡ Ok o → (v : VarId) × (e ≡ Some (entity.Variable v o))
+object_named place None o h = absurd (cc)
+object_named place (Some (entity.Variable v other)) o h = let one : other ≡ o = cc in (v, ap (λ (x : Object). Some (entity.Variable v x)) one)
+object_named place (Some (entity.TypeName subtype)) o h = absurd (cc)
+object_named place (Some (entity.Literal subtype n)) o h = absurd (cc)
+object_named place (Some (entity.Subprogram id)) o h = absurd (cc)
+
+abbrev IsGiven : {A : Type 0} → A → A → Type 0
+IsGiven {A} x y = ◌≡◌ {A = Judged A} (Ok x) (Ok y)
+
+given_is : {A : Type 0} (x y : A) → IsGiven x y → x ≡ y
+given_is x y h = cc
+
+pub type_referred : (name : Reference) (subtype : Subtype) → referred_type name ≡ Ok subtype → name.root.entity ≡ Some (entity.TypeName subtype)
+type_referred name subtype h =
+    let named = bound (named_type name.root) (λ s. whole name >>= λ _. Ok s) subtype h in
+    let rest = bound (whole name) (λ _. Ok named.0) subtype named.2 in
+    type_named name.root.name.place name.root.entity named.0 named.1 ∙ ap (λ (s : Subtype). Some (entity.TypeName s)) (given_is named.0 subtype rest.2)
+
+pub object_referred : (name : Reference) (object : Object) → referred_object name ≡ Ok object → (v : VarId) × (name.root.entity ≡ Some (entity.Variable v object))
+object_referred name object h =
+    let named = bound (named_object name.root) (λ o. whole name >>= λ _. Ok o) object h in
+    let rest = bound (whole name) (λ _. Ok named.0) object named.2 in
+    let denotes = object_named name.root.name.place name.root.entity named.0 named.1 in
+    (denotes.0, denotes.1 ∙ ap (λ (o : Object). Some (entity.Variable denotes.0 o)) (given_is named.0 object rest.2))
+
+-- the type of a membership test has numbers
+integer_named : (name : Reference) (subtype : Subtype) → integer_type name ≡ Ok subtype → (name.root.entity ≡ Some (entity.TypeName subtype)) × (has_numbers subtype.base.class ≡ true)
+integer_named name subtype h =
+    let referred = bound (referred_type name) (λ s. keeps N10 name.root.name.place (has_numbers s.base.class) >>= λ _. Ok s) subtype h in
+    let numbers = kept N10 name.root.name.place (has_numbers referred.0.base.class) (λ _. Ok referred.0) subtype referred.2 in
+    let one = given_is referred.0 subtype numbers.1 in
+    (type_referred name referred.0 referred.1 ∙ ap (λ (s : Subtype). Some (entity.TypeName s)) one, ap (λ (s : Subtype). has_numbers s.base.class) (sym one) ∙ numbers.0)
 
 -- what is shown of each form, of the parts of which it is known, is shown of every expression that breaks no rule
 pub record Cases (P : CoreExpr → Typing → Type 0) : Type 0 where
   pub number : (n : ℤ) (place : Place) → P (Number n place) (typing Universal (Some n) place)
-  pub name : (name : CoreName) (base : BaseType) → P (Name name) (typing (Of base) None name.name.place)
-  pub attribute : (prefix : CoreName) (designator : Identifier) (base : BaseType) (n : ℤ) → judged (Attribute prefix designator) ≡ Ok (typing (Of base) (Some n) prefix.name.place) → P (Attribute prefix designator) (typing (Of base) (Some n) prefix.name.place)
+  pub object : (name : CoreName) (v : VarId) (object : Object) → name.entity ≡ Some (entity.Variable v object) → judged (Name name) ≡ Ok (typing (Of object.subtype.base) None name.name.place)
+      → P (Name name) (typing (Of object.subtype.base) None name.name.place)
+  pub literal : (name : CoreName) (subtype : Subtype) (position : ℤ) → name.entity ≡ Some (entity.Literal subtype position) → judged (Name name) ≡ Ok (typing (Of subtype.base) (Some (position_in subtype.base.class position)) name.name.place)
+      → P (Name name) (typing (Of subtype.base) (Some (position_in subtype.base.class position)) name.name.place)
+  pub attribute : (prefix : CoreName) (designator : Identifier) (base : BaseType) (n : ℤ) → has_numbers base.class ≡ true → judged (Attribute prefix designator) ≡ Ok (typing (Of base) (Some n) prefix.name.place)
+      → P (Attribute prefix designator) (typing (Of base) (Some n) prefix.name.place)
   pub parenthesized : (place : Place) (a : CoreExpr) (o : Typing) → P a o → P (Parenthesized place a) (typing o.of o.value place)
-  pub prefix : (op : PrefixOp) (place : Place) (a : CoreExpr) (o : Typing) → is_number o.of ≡ true → judged (Prefix op place a) ≡ Ok (typing o.of (signed_result op o.value) place) → P a o → P (Prefix op place a) (typing o.of (signed_result op o.value) place)
-  pub «infix» : (op : InfixOp) (place : Place) (a b : CoreExpr) (l r : Typing) → AreNumbers l.of r.of → judged (Infix op place a b) ≡ Ok (joined op place l r) → P a l → P b r → P (Infix op place a b) (joined op place l r)
+  pub prefix : (op : PrefixOp) (place : Place) (a : CoreExpr) (o : Typing) → operand_fits op o.of ≡ true → judged (Prefix op place a) ≡ Ok (typing o.of (signed_result op o.value) place) → P a o
+      → P (Prefix op place a) (typing o.of (signed_result op o.value) place)
+  pub «infix» : (op : InfixOp) (place : Place) (a b : CoreExpr) (l r : Typing) → operands_fit op l.of r.of ≡ true → judged (Infix op place a b) ≡ Ok (joined op place l r) → P a l → P b r → P (Infix op place a b) (joined op place l r)
+  pub in_type : (op : MemberOp) (place : Place) (a : CoreExpr) (name : Reference) (o : Typing) (subtype : Subtype) → name.root.entity ≡ Some (entity.TypeName subtype) → has_numbers subtype.base.class ≡ true → is_of subtype.base o.of ≡ true
+      → judged (InType op place a name) ≡ Ok (tested_in op place o subtype) → P a o → P (InType op place a name) (tested_in op place o subtype)
+  pub in_range : (op : MemberOp) (place : Place) (a low high : CoreExpr) (o l h : Typing) → three_fit o.of l.of h.of ≡ true → judged (InRange op place a low high) ≡ Ok (tested_between op place o l h)
+      → P a o → P low l → P high h → P (InRange op place a low high) (tested_between op place o l h)
 
 module _ (P : CoreExpr → Typing → Type 0) (c : Cases P) where
   abbrev Shown : CoreExpr → Type 0
   Shown e = (t : Typing) → judged e ≡ Ok t → P e t
 
   typing_is : (e : CoreExpr) (t u : Typing) → AreOne u t → P e u → P e t
-  typing_is e t u is shown = subst (P e) (let e : u ≡ t = cc in e) shown
+  typing_is e t u is shown = subst (P e) (given_is u t is) shown
+
+  name_shown : (name : CoreName) → Shown (Name name)
+  name_shown name t h = by_entity (denoted_by name t (sym (fold-Name expr_step name) ∙ h))
+    where
+      by_entity : Denotes name t → P (Name name) t
+      by_entity (of_object v o is one) = typing_is (Name name) t (typing (Of o.subtype.base) None name.name.place) one (c.object name v o is (h ∙ sym one))
+      by_entity (of_literal subtype n is one) = typing_is (Name name) t (typing (Of subtype.base) (Some (position_in subtype.base.class n)) name.name.place) one (c.literal name subtype n is (h ∙ sym one))
 
   shown_cases : every.Cases Shown
   shown_cases = record {
     number = λ n place t h. typing_is (Number n place) t (typing Universal (Some n) place) (sym (fold-Number expr_step n place) ∙ h) (c.number n place);
-    name = λ name t h.
-        let object = bound (named_object name) (λ o. Ok (typing (Of o.subtype.base) None name.name.place)) t (sym (fold-Name expr_step name) ∙ h) in
-        let base = object.0.subtype.base in
-        typing_is (Name name) t (typing (Of base) None name.name.place) object.2 (c.name name base);
+    name = name_shown;
     attribute = λ prefix designator t h.
         let subtype = bound (named_type prefix) _ t (sym (fold-Attribute expr_step prefix designator) ∙ h) in
-        let known = kept _ prefix.name.place (is_attribute designator.text) _ t subtype.2 in
         let base = subtype.0.base in
+        let known = kept _ prefix.name.place (has_numbers base.class && is_attribute designator.text) _ t subtype.2 in
         let n = attribute_of subtype.0 designator.text in
-        typing_is (Attribute prefix designator) t (typing (Of base) (Some n) prefix.name.place) known.1 (c.attribute prefix designator base n (h ∙ sym known.1));
+        typing_is (Attribute prefix designator) t (typing (Of base) (Some n) prefix.name.place) known.1
+        (c.attribute prefix designator base n (and_parts (has_numbers base.class) (is_attribute designator.text) known.0).0 (h ∙ sym known.1));
     parenthesized = λ place a p t h.
         let operand = bound (judged a) (λ o. Ok (typing o.of o.value place)) t (sym (fold-Parenthesized expr_step place a) ∙ h) in
         typing_is (Parenthesized place a) t (typing operand.0.of operand.0.value place) operand.2 (c.parenthesized place a operand.0 (p operand.0 operand.1));
@@ -130,8 +218,20 @@ module _ (P : CoreExpr → Typing → Type 0) (c : Cases P) where
         let l = left.0 in
         let r = right.0 in
         let parts = operation_parts op place l r t right.2 in
-        typing_is (Infix op place a b) t (joined op place l r) parts.1
-        (c.«infix» op place a b l r (numbers_meet l.of r.of parts.0) (h ∙ sym parts.1) (p l left.1) (q r right.1));
+        typing_is (Infix op place a b) t (joined op place l r) parts.1 (c.«infix» op place a b l r parts.0 (h ∙ sym parts.1) (p l left.1) (q r right.1));
+    in_type = λ op place a name p t h.
+        let operand = bound (judged a) (λ o. integer_type name >>= λ subtype. member_of_type op place o subtype) t (sym (fold-InType expr_step op place a name) ∙ h) in
+        let mark = bound (integer_type name) (λ subtype. member_of_type op place operand.0 subtype) t operand.2 in
+        let named = integer_named name mark.0 mark.1 in
+        let parts = in_type_parts op place operand.0 mark.0 t mark.2 in
+        typing_is (InType op place a name) t (tested_in op place operand.0 mark.0) parts.1 (c.in_type op place a name operand.0 mark.0 named.0 named.1 parts.0 (h ∙ sym parts.1) (p operand.0 operand.1));
+    in_range = λ op place a low high p q r t h.
+        let operand = bound (judged a) (λ o. judged low >>= λ l. judged high >>= λ g. member_of_range op place o l g) t (sym (fold-InRange expr_step op place a low high) ∙ h) in
+        let first = bound (judged low) (λ l. judged high >>= λ g. member_of_range op place operand.0 l g) t operand.2 in
+        let last = bound (judged high) (λ g. member_of_range op place operand.0 first.0 g) t first.2 in
+        let parts = in_range_parts op place operand.0 first.0 last.0 t last.2 in
+        typing_is (InRange op place a low high) t (tested_between op place operand.0 first.0 last.0) parts.1
+        (c.in_range op place a low high operand.0 first.0 last.0 parts.0 (h ∙ sym parts.1) (p operand.0 operand.1) (q first.0 first.1) (r last.0 last.1));
   }
 
   pub typed_induct : (e : CoreExpr) → Shown e
@@ -139,22 +239,34 @@ module _ (P : CoreExpr → Typing → Type 0) (c : Cases P) where
 
 -- ---- commands and subprograms
 
--- the right side of an assignment is a number
-pub right_side : (target : Reference) (e : CoreExpr) → judged_command (Set target e) ≡ Ok tt → (t : Typing) × (judged e ≡ Ok t) × (is_number t.of ≡ true)
+-- the target of an assignment denotes an object, and the right side is of its type
+pub record RightSide (target : Reference) (e : CoreExpr) : Type 0 where
+  pub typing : Typing
+  pub typed : judged e ≡ Ok typing
+  pub var : VarId
+  pub object : Object
+  pub denotes : target.root.entity ≡ Some (entity.Variable var object)
+  pub fits : is_of object.subtype.base typing.of ≡ true
+
+pub right_side : (target : Reference) (e : CoreExpr) → judged_command (Set target e) ≡ Ok tt → RightSide target e
 right_side target e h =
     let object = bound (referred_object target) _ tt h in
     let right = bound (judged e) (operand_of object.0.subtype) tt object.2 in
-    (right.0, right.1, of_is_number object.0.subtype.base right.0.of (kept _ right.0.place (is_of object.0.subtype.base right.0.of) _ tt right.2).0)
+    let denotes = object_referred target object.0 object.1 in
+    record {
+      typing = right.0;
+      typed = right.1;
+      var = denotes.0;
+      object = object.0;
+      denotes = denotes.1;
+      fits = (kept _ right.0.place (is_of object.0.subtype.base right.0.of) _ tt right.2).0;
+    }
 
 -- a test is a truth value
-pub tested : (e : CoreExpr) → test e ≡ Ok tt → (t : Typing) × (judged e ≡ Ok t) × (t.of ≡ Boolean)
+pub tested : (e : CoreExpr) → test e ≡ Ok tt → (t : Typing) × (judged e ≡ Ok t) × (is_boolean t.of ≡ true)
 tested e h =
     let truth = bound (judged e) condition tt h in
-    (truth.0, truth.1, boolean truth.0.of (kept_last _ _ _ truth.2))
-  where
-    boolean : (of : ExprType) → is_boolean of ≡ true → of ≡ Boolean
-    boolean Boolean h = refl
-    boolean _ h = absurd (cc)
+    (truth.0, truth.1, kept_last _ _ _ truth.2)
 
 abbrev pub IsTyped : Command → Type 0
 IsTyped c = judged_command c ≡ Ok tt

@@ -8,7 +8,9 @@ use spx_core::laws::{names_are_scoped, rules_hold};
 /// Conditions that need no proof are valid.
 pub fn clean_is_fit(program: &Program)
     ensures { Clean program.now → Fit program.now }
-{}
+{
+    names_are_scoped();
+}
 
 /// No call of a subprogram is bad, at any bound, from a store that meets its precondition, has its imports set and has
 /// values in their types.

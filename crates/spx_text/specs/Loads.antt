@@ -15,10 +15,10 @@ abbrev pub failed_by : {T : Type 0} → Result T LoadFault → List ℕ → List
 failed_by (Ok _) name = []
 failed_by (Err fault) name = named_by fault name
 
--- these bytes, at most so many, now stand behind what was there
+-- these bytes, at most so many, now stand after what was there
 pub record Appends (most : ℕ) (old new bytes : List ℕ) : Type 0 where
   pub within : length bytes ≤ most
-  pub behind : new ≡ old ++ bytes
+  pub following : new ≡ old ++ bytes
 
 abbrev pub names : List (String Global) → List (List ℕ)
 names strings = map string_bytes strings

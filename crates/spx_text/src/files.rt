@@ -21,23 +21,23 @@ pub enum LoadFault {
 
 /// Files that are loaded whole, by name.
 pub trait Files {
-    /// The bytes of each name, where they are told.
-    ghost told: { Self → List ℕ → Option (List ℕ) };
+    /// The bytes of each name, where they are known.
+    ghost known: { Self → List ℕ → Option (List ℕ) };
 
     /// The names whose loads failed, the oldest first.
     ghost failed: { Self → List (List ℕ) };
 
     /// Appends the bytes of the file of this name to `into`, at most `most` of them. After a refusal `into` is unchanged.
     fn load(&mut self, name: &str, into: &mut Vec<u8>, most: usize) -> Result<(), LoadFault>
-        // No call changes what is told.
-        ensures told { (n : List ℕ) → told self.new n ≡ told self.old n }
+        // No call changes what is known.
+        ensures known { (n : List ℕ) → known self.new n ≡ known self.old n }
 
         // The name is kept exactly where the answer is `Failed`, and nothing is kept otherwise.
         ensures failed { failed self.new ≡ failed self.old ++ failed_by result name.now }
 
         ensures kept { OnOk result (take (length into.old.items) into.new.items ≡ into.old.items) }
-        ensures loaded { OnOk result (IfSome (told self.old name.now) (Appends most into.old.items into.new.items)) }
-        ensures too_long { IsErrOf result LoadFault.TooLong → IfSome (told self.old name.now) (λ bytes. most < length bytes) }
+        ensures loaded { OnOk result (IfSome (known self.old name.now) (Appends most into.old.items into.new.items)) }
+        ensures too_long { IsErrOf result LoadFault.TooLong → IfSome (known self.old name.now) (λ bytes. most < length bytes) }
         ensures refused { OnErr result (into.new.items ≡ into.old.items) };
 }
 

@@ -1,4 +1,4 @@
-// Files and a sink over std. They tell no content.
+// Files and a sink over std. No content is known.
 ghost use Rattle.std.specs.Prelude.{◌≡◌, [], None, length, take};
 ghost use Rattle.spx_text.specs.Loads.{names};
 
@@ -12,7 +12,7 @@ use std::io::{Read, Write};
 /// How many bytes are read at once.
 const PIECE: usize = 16384;
 
-/// The files of the system. No content is told.
+/// The files of the system. No content is known.
 #[derive(Drop)]
 pub struct HostFiles<'a, R: std::rt::Files> {
     rt: &'a R,
@@ -65,7 +65,7 @@ fn read_file<R: std::rt::Files>(
 }
 
 impl<'a, R: std::rt::Files> Files for HostFiles<'a, R> {
-    ghost told = { λ _ _. None };
+    ghost known = { λ _ _. None };
 
     ghost failed = { λ files. names files.failed.items };
 

@@ -1,7 +1,7 @@
 //! Places, kept text, and the outside: the files that a program loads by name and the sink that takes its text.
 //!
-//! A layer above may rely on this: what `load` appended is what the files tell of the name, each failed load and
-//! each failed write is counted where the object itself tells of it, and a text is written whole or up to a fault.
+//! A layer above may rely on this: what `load` appended is what is known of the file of that name, each failed load and
+//! each failed write is counted where the object itself says so, and a text is written whole or up to a fault.
 #![tactic(auto)]
 
 mod files;

@@ -14,7 +14,7 @@ pub struct HeldFile {
     pub bytes: Vec<u8>,
 }
 
-/// Files in memory. A load fails exactly where the list says so and at a name that is not held, want of memory aside.
+/// Files in memory. A load fails exactly where the list says so and at a name that is not held, running out of memory aside.
 #[derive(Drop)]
 pub struct MemFiles {
     pub alloc: Global,
@@ -58,13 +58,13 @@ pub(crate) fn find<'a>(held: &'a [HeldFile], name: &str) -> Option<&'a [u8]>
 }
 
 impl Files for MemFiles {
-    ghost told = { λ files name. bytes_held files.held.items name };
+    ghost known = { λ files name. bytes_held files.held.items name };
 
     ghost failed = { λ files. names files.failed.items };
 
-    // Want of memory aside, it fails exactly at the calls in the list, and at a name that is not held.
+    // Running out of memory aside, it fails exactly at the calls in the list, and at a name that is not held.
     fn load(&mut self, name: &str, into: &mut Vec<u8>, most: usize) -> Result<(), LoadFault>
-        ensures told { (n : List ℕ) → bytes_held self.new.held.items n ≡ bytes_held self.old.held.items n }
+        ensures known { (n : List ℕ) → bytes_held self.new.held.items n ≡ bytes_held self.old.held.items n }
         ensures failed { names self.new.failed.items ≡ names self.old.failed.items ++ failed_by result name.now }
         ensures kept { OnOk result (take (length into.old.items) into.new.items ≡ into.old.items) }
         ensures loaded { OnOk result (IfSome (bytes_held self.old.held.items name.now) (Appends most into.old.items into.new.items)) }

@@ -12,7 +12,7 @@ pub struct NoFailFiles {
 }
 
 impl Files for NoFailFiles {
-    ghost told = { λ files name. Some (unwrap_or (bytes_held files.held.items name) []) };
+    ghost known = { λ files name. Some (unwrap_or (bytes_held files.held.items name) []) };
 
     ghost failed = { λ _. [] };
 
@@ -25,7 +25,7 @@ impl Files for NoFailFiles {
     }
 }
 
-/// A sink that takes each piece whole, and keeps and tells no bytes.
+/// A sink that takes each piece whole, and keeps and shows no bytes.
 #[derive(Drop)]
 pub struct NoFailSink;
 

@@ -11,7 +11,7 @@ pub struct Failed;
 
 /// What takes a program's text.
 pub trait Sink {
-    /// The bytes taken so far, where they are told.
+    /// The bytes taken so far, where they are known.
     ghost taken: { Self → Option (List ℕ) };
 
     /// How often a write has failed. At the end of its type it stands still.

@@ -1,8 +1,10 @@
 -- Which trees are texts of the grammar, within so many levels.
-use Rattle.std.specs.Prelude.{⊤, ℕ, zero, suc, ◌+◌, ◌-◌, ◌≤◌, ◌<◌, max, List, [], ◌∷◌, Option, Some, None}
+use Rattle.std.specs.Prelude.{◌≡◌, ◌⊎◌, ⊤, ℕ, zero, suc, ◌+◌, ◌-◌, ◌≤◌, ◌<◌, max, List, [], ◌∷◌, Option, Some, None}
 use Rattle.spx_tree.specs.declared.expression.Identifier.{Identifier}
 use Rattle.spx_tree.specs.declared.expression.InfixOp.{InfixOp}
 use Rattle.spx_tree.specs.declared.expression.InfixOp.TheVariants as op
+use Rattle.spx_tree.specs.declared.expression.PrefixOp.{PrefixOp}
+use Rattle.spx_tree.specs.declared.expression.PrefixOp.TheVariants as sign
 use Rattle.spx_tree.specs.declared.expression.Layer.{Layer}
 use Rattle.spx_tree.specs.declared.expression.Layer.TheVariants as layer
 use Rattle.spx_tree.specs.declared.expression.Name.{Name}
@@ -12,6 +14,9 @@ use Rattle.spx_tree.specs.declared.declaration.Decl.{Decl}
 use Rattle.spx_tree.specs.declared.declaration.Decl.TheVariants.{Variables}
 use Rattle.spx_tree.specs.declared.statement.Stmt.{Stmt, Stmt-F, out-Stmt}
 use Rattle.spx_tree.specs.declared.statement.Arm.{Arm, Arm-F, out-Arm}
+use Rattle.spx_tree.specs.declared.annotation.Exports.{Exports}
+use Rattle.spx_tree.specs.declared.annotation.Exports.TheVariants as exported
+use Rattle.spx_tree.specs.declared.annotation.Imports.{Imports}
 use Rattle.spx_tree.specs.declared.annotation.DerivesItem.{DerivesItem}
 use Rattle.spx_tree.specs.declared.annotation.Derives.{Derives}
 use Rattle.spx_tree.specs.declared.annotation.Precondition.{Precondition}
@@ -20,7 +25,7 @@ use Rattle.spx_tree.specs.declared.subprogram.FormalPart.{FormalPart}
 use Rattle.spx_tree.specs.declared.subprogram.Subprogram.{Subprogram}
 use Rattle.spx_tree.specs.declared.subprogram.Unit.{Unit}
 use Rattle.spx_tree.specs.declared.subprogram.Unit.TheVariants as unit
-use Rattle.spx_tree.specs.Written.{parenthesized, signed, operation}
+use Rattle.spx_tree.specs.Written.{parenthesized, signed, operation, in_type, in_range}
 
 -- Lists.
 
@@ -49,56 +54,121 @@ IsIdentifiers identifiers = OneOrMore (λ identifier. ⊤) identifiers
 abbrev pub IsNames : List Name → Type 0
 IsNames names = OneOrMore (λ name. ⊤) names
 
--- how many parentheses, signs and operators lie on the longest way down
+-- how many parentheses, operators and membership tests lie on the longest way down
 abbrev pub height : Expr → ℕ
 height (expr.Number value place) = 0
 height (expr.Name name) = 0
 height (parenthesized place inner) = height inner + 1
 height (signed op place operand) = height operand + 1
 height (operation op place left right) = max (height left) (height right) + 1
+height (in_type op place tested type_name) = height tested + 1
+height (in_range op place tested low high) = max (height tested) (max (height low) (height high)) + 1
 
--- the layer of an operator: adding operators (Ada 95 RM 4.5.3), relational operators (4.5.2)
+-- the layer of an operator: `**` (Ada 95 RM 4.5.6), multiplying operators (4.5.5), adding operators (4.5.3), relational operators (4.5.2),
+-- logical operators and short-circuit forms (4.5.1)
 abbrev pub layer_of : InfixOp → Layer
+layer_of op.Power = layer.Factor
+layer_of op.Multiply = layer.Term
+layer_of op.Divide = layer.Term
+layer_of op.Mod = layer.Term
+layer_of op.Rem = layer.Term
 layer_of op.Add = layer.Sum
 layer_of op.Subtract = layer.Sum
-layer_of _ = layer.Relation
+layer_of op.Equal = layer.Relation
+layer_of op.NotEqual = layer.Relation
+layer_of op.Less = layer.Relation
+layer_of op.LessOrEqual = layer.Relation
+layer_of op.Greater = layer.Relation
+layer_of op.GreaterOrEqual = layer.Relation
+layer_of op.And = layer.Expression
+layer_of op.Or = layer.Expression
+layer_of op.Xor = layer.Expression
+layer_of op.AndThen = layer.Expression
+layer_of op.OrElse = layer.Expression
+
+-- the layer of an operator before its operand: signs (4.5.4), `abs` and `not` (4.5.6)
+abbrev pub layer_before : PrefixOp → Layer
+layer_before sign.Plus = layer.Sum
+layer_before sign.Minus = layer.Sum
+layer_before sign.Abs = layer.Factor
+layer_before sign.Not = layer.Factor
 
 -- layers from those that bind most to those that bind least
 abbrev pub rank : Layer → ℕ
 rank layer.Primary = 0
-rank layer.Sum = 1
-rank layer.Relation = 2
+rank layer.Factor = 1
+rank layer.Term = 2
+rank layer.Sum = 3
+rank layer.Relation = 4
+rank layer.Expression = 5
 
--- the layer of an expression is that of its operator; a sign is one of a sum
+-- the layer of an expression is that of its operator
 abbrev pub layer_in : Expr → Layer
 layer_in (operation op place left right) = layer_of op
-layer_in (signed op place operand) = layer.Sum
+layer_in (signed op place operand) = layer_before op
+layer_in (in_type op place tested type_name) = layer.Relation
+layer_in (in_range op place tested low high) = layer.Relation
 layer_in (parenthesized place inner) = layer.Primary
 layer_in (expr.Number value place) = layer.Primary
 layer_in (expr.Name name) = layer.Primary
 
--- which layers an operator has on its left: sums nest to the left, relations do not nest
-abbrev pub LeftFits : Layer → Layer → Type 0
-LeftFits layer.Primary operand = ⊥
-LeftFits layer.Sum operand = rank operand ≤ 1
-LeftFits layer.Relation operand = rank operand ≤ 1
+-- the expression is an operation with this operator
+abbrev pub HasOperator : InfixOp → Expr → Type 0
+HasOperator op (operation other place left right) = other ≡ op
+HasOperator op (signed other place operand) = ⊥
+HasOperator op (in_type other place tested type_name) = ⊥
+HasOperator op (in_range other place tested low high) = ⊥
+HasOperator op (parenthesized place inner) = ⊥
+HasOperator op (expr.Number value place) = ⊥
+HasOperator op (expr.Name name) = ⊥
 
--- and on its right
-abbrev pub RightFits : Layer → Layer → Type 0
-RightFits layer.Primary operand = ⊥
-RightFits layer.Sum operand = rank operand ≤ 0
-RightFits layer.Relation operand = rank operand ≤ 1
+-- what an operator of this layer has on its left: terms and sums nest to the left, and so do logical operations, each with its own operator only; the rest
+-- does not nest
+abbrev pub FitsLeft : Layer → InfixOp → Expr → Type 0
+FitsLeft layer.Primary op left = ⊥
+FitsLeft layer.Factor op left = rank (layer_in left) ≤ 0
+FitsLeft layer.Term op left = rank (layer_in left) ≤ 2
+FitsLeft layer.Sum op left = rank (layer_in left) ≤ 3
+FitsLeft layer.Relation op left = rank (layer_in left) ≤ 3
+FitsLeft layer.Expression op left = (rank (layer_in left) ≤ 4) ⊎ HasOperator op left
 
--- each operand is of a layer that its operator has there; a sign stands before a primary
+abbrev pub LeftFits : InfixOp → Expr → Type 0
+LeftFits op left = FitsLeft (layer_of op) op left
+
+-- the layer that an operator has on its right, or one before it
+abbrev pub right_layer : Layer → Layer
+right_layer layer.Primary = layer.Primary
+right_layer layer.Factor = layer.Primary
+right_layer layer.Term = layer.Factor
+right_layer layer.Sum = layer.Term
+right_layer layer.Relation = layer.Sum
+right_layer layer.Expression = layer.Relation
+
+-- the layer of what an operator stands before: a sign stands over a whole term
+abbrev pub operand_layer : PrefixOp → Layer
+operand_layer sign.Plus = layer.Term
+operand_layer sign.Minus = layer.Term
+operand_layer sign.Abs = layer.Primary
+operand_layer sign.Not = layer.Primary
+
+-- of this layer, or of one before it
+abbrev pub IsUpTo : Layer → Expr → Type 0
+IsUpTo layer e = rank (layer_in e) ≤ rank layer
+
+-- each operand is of a layer that its operator has there
 abbrev pub Layered : Expr → Type 0
 Layered (expr.Number value place) = ⊤
 Layered (expr.Name name) = ⊤
 Layered (parenthesized place inner) = Layered inner
-Layered (signed op place operand) = Layered operand × (rank (layer_in operand) ≤ 0)
-Layered (operation op place left right) = Layered left × Layered right × LeftFits (layer_of op) (layer_in left) × RightFits (layer_of op) (layer_in right)
+Layered (signed op place operand) = Layered operand × IsUpTo (operand_layer op) operand
+Layered (operation op place left right) = Layered left × Layered right × LeftFits op left × IsUpTo (right_layer (layer_of op)) right
+Layered (in_type op place tested type_name) = Layered tested × IsUpTo layer.Sum tested
+Layered (in_range op place tested low high) = Layered tested × IsUpTo layer.Sum tested × Layered low × IsUpTo layer.Sum low × Layered high × IsUpTo layer.Sum high
 
--- an expression of this layer, or of one before it, within so many levels
--- expr = relation;  relation = sum [relational operator sum];  sum = [sign] primary {adding operator primary};  primary = number | name | "(" expr ")"
+-- An expression of this layer, or of one before it, within so many levels:
+-- expression = relation {"and" relation} | relation {"or" relation} | relation {"xor" relation} | relation {"and" "then" relation} | relation {"or" "else" relation}
+-- relation = sum [relational operator sum] | sum ["not"] "in" (name | sum ".." sum);  sum = [sign] term {adding operator term}
+-- term = factor {multiplying operator factor};  factor = primary ["**" primary] | "abs" primary | "not" primary;  primary = number | name | "(" expression ")"
 pub record OfLayer (layer : Layer) (levels : ℕ) (e : Expr) : Type 0 where
   pub low : height e ≤ levels
   pub layered : Layered e
@@ -106,7 +176,7 @@ pub record OfLayer (layer : Layer) (levels : ℕ) (e : Expr) : Type 0 where
 
 -- expression (Ada 95 RM 4.4)
 abbrev pub IsExpr : ℕ → Expr → Type 0
-IsExpr = OfLayer layer.Relation
+IsExpr = OfLayer layer.Expression
 
 -- Declarations (Ada 95 RM 3).
 
@@ -141,9 +211,13 @@ IsStmts levels stmts = OneOrMore (IsStmt levels) stmts
 
 -- Annotations (Barnes, High Integrity Software).
 
--- names "from" imports, which may be none
+-- names "from" imports, which may be none | "null" "from" names
+abbrev pub HasImportsFor : Exports → Imports → Type 0
+HasImportsFor (exported.Names names) imports = IsNames names
+HasImportsFor (exported.Null place) imports = (imports.itself ≡ None) × IsNames imports.names
+
 abbrev pub IsItem : DerivesItem → Type 0
-IsItem item = IsNames item.exports
+IsItem item = HasImportsFor item.exports item.imports
 
 -- "derives" item {"&" item} ";"
 abbrev pub IsDerives : Derives → Type 0

@@ -8,15 +8,19 @@ use Rattle.spx_tree.specs.declared.expression.InfixOp.{InfixOp}
 use Rattle.spx_tree.specs.declared.expression.InfixOp.TheVariants as op
 use Rattle.spx_tree.specs.declared.expression.PrefixOp.{PrefixOp}
 use Rattle.spx_tree.specs.declared.expression.PrefixOp.TheVariants as sign
+use Rattle.spx_tree.specs.declared.expression.MemberOp.{MemberOp}
+use Rattle.spx_tree.specs.declared.expression.MemberOp.TheVariants as member
 use Rattle.spx_tree.specs.declared.expression.Name.{Name}
 use Rattle.spx_tree.specs.declared.expression.Name.TheVariants.{Simple, Attribute}
 use Rattle.spx_tree.specs.declared.expression.Expr.{Expr, end_of-Expr, more_of-Expr}
 use Rattle.spx_tree.specs.declared.expression.Expr.TheVariants as expr
-use Rattle.spx_tree.specs.declared.expression.Expr.TheVariants.{Parenthesized', Prefix', Infix'}
+use Rattle.spx_tree.specs.declared.expression.Expr.TheVariants.{Parenthesized', Prefix', Infix', InType', InRange'}
 use Rattle.spx_tree.specs.declared.declaration.Decl.{Decl}
 use Rattle.spx_tree.specs.declared.declaration.Decl.TheVariants.{Variables}
 use Rattle.spx_tree.specs.declared.statement.Stmt.{Stmt, Stmt-F, fold-Stmt}
 use Rattle.spx_tree.specs.declared.statement.Arm.{Arm, Arm-F, fold-Arm}
+use Rattle.spx_tree.specs.declared.annotation.Exports.{Exports}
+use Rattle.spx_tree.specs.declared.annotation.Exports.TheVariants as exported
 use Rattle.spx_tree.specs.declared.annotation.DerivesItem.{DerivesItem}
 use Rattle.spx_tree.specs.declared.annotation.Derives.{Derives}
 use Rattle.spx_tree.specs.declared.annotation.Precondition.{Precondition}
@@ -43,15 +47,15 @@ abbrev pub joined : List (List Form) → List Form
 joined [] = []
 joined (x ∷ xs) = x ++ joined xs
 
--- each item behind a separator
-abbrev pub behind : {A : Type 0} → Form → (A → List Form) → List A → List Form
-behind separator spell [] = []
-behind separator spell (x ∷ xs) = separator ∷ (spell x ++ behind separator spell xs)
+-- each item after a separator
+abbrev pub following : {A : Type 0} → Form → (A → List Form) → List A → List Form
+following separator spell [] = []
+following separator spell (x ∷ xs) = separator ∷ (spell x ++ following separator spell xs)
 
 -- items with a separator between each and the next
 abbrev pub separated : {A : Type 0} → Form → (A → List Form) → List A → List Form
 separated separator spell [] = []
-separated separator spell (x ∷ xs) = spell x ++ behind separator spell xs
+separated separator spell (x ∷ xs) = spell x ++ following separator spell xs
 
 -- what may be left out
 abbrev pub optional : {A : Type 0} → (A → List Form) → Option A → List Form
@@ -77,27 +81,54 @@ written_name marked (Attribute prefix designator) = named marked prefix ∷ bare
 abbrev pub written_names : Bool → List Name → List Form
 written_names marked names = separated (bare marked k.Comma) (written_name marked) names
 
--- the token that an operator is
+-- the token that an operator is, or its first one
 abbrev pub operator_kind : InfixOp → Kind
 operator_kind op.Add = k.Plus
 operator_kind op.Subtract = k.Minus
+operator_kind op.Multiply = k.Asterisk
+operator_kind op.Divide = k.Slash
+operator_kind op.Mod = k.Mod
+operator_kind op.Rem = k.Rem
+operator_kind op.Power = k.DoubleAsterisk
 operator_kind op.Equal = k.Equal
 operator_kind op.NotEqual = k.NotEqual
 operator_kind op.Less = k.Less
 operator_kind op.LessOrEqual = k.LessOrEqual
 operator_kind op.Greater = k.Greater
 operator_kind op.GreaterOrEqual = k.GreaterOrEqual
+operator_kind op.And = k.And
+operator_kind op.Or = k.Or
+operator_kind op.Xor = k.Xor
+operator_kind op.AndThen = k.And
+operator_kind op.OrElse = k.Or
 
--- the token that a sign is
+-- the second word of an operator of two
+abbrev pub second_word : Bool → InfixOp → List Form
+second_word marked op.AndThen = bare marked k.Then ∷ []
+second_word marked op.OrElse = bare marked k.Else ∷ []
+second_word marked _ = []
+
+-- an operator at its place
+abbrev pub written_operator : Bool → InfixOp → Place → List Form
+written_operator marked op place = placed marked (operator_kind op) place ∷ second_word marked op
+
+-- "in" | "not" "in"
+abbrev pub written_member : Bool → MemberOp → Place → List Form
+written_member marked member.In place = placed marked k.In place ∷ []
+written_member marked (member.NotIn second) place = placed marked k.Not place ∷ placed marked k.In second ∷ []
+
+-- the token that an operator before its operand is
 abbrev pub sign_kind : PrefixOp → Kind
 sign_kind sign.Plus = k.Plus
 sign_kind sign.Minus = k.Minus
+sign_kind sign.Abs = k.Abs
+sign_kind sign.Not = k.Not
 
 -- an expression in parentheses
 pattern abbrev pub parenthesized : Place → Expr → Expr
 parenthesized place inner = Parenthesized' place tt (more_of-Expr inner end_of-Expr)
 
--- an operand behind a sign
+-- an operand after an operator
 pattern abbrev pub signed : PrefixOp → Place → Expr → Expr
 signed op place operand = Prefix' op place tt (more_of-Expr operand end_of-Expr)
 
@@ -105,13 +136,24 @@ signed op place operand = Prefix' op place tt (more_of-Expr operand end_of-Expr)
 pattern abbrev pub operation : InfixOp → Place → Expr → Expr → Expr
 operation op place left right = Infix' op place tt (more_of-Expr left end_of-Expr) tt (more_of-Expr right end_of-Expr)
 
--- number | name | "(" expression ")" | sign operand | operand operator operand
+-- a membership test in a type
+pattern abbrev pub in_type : MemberOp → Place → Expr → Name → Expr
+in_type op place tested type_name = InType' op place tt (more_of-Expr tested end_of-Expr) type_name
+
+-- a membership test in a range
+pattern abbrev pub in_range : MemberOp → Place → Expr → Expr → Expr → Expr
+in_range op place tested low high = InRange' op place tt (more_of-Expr tested end_of-Expr) tt (more_of-Expr low end_of-Expr) tt (more_of-Expr high end_of-Expr)
+
+-- number | name | "(" expression ")" | operator operand | operand operator operand | operand ["not"] "in" name | operand ["not"] "in" operand ".." operand
 abbrev pub written_expr : Bool → Expr → List Form
 written_expr marked (expr.Number value place) = literal marked value place ∷ []
 written_expr marked (expr.Name name) = written_name marked name
 written_expr marked (parenthesized place inner) = placed marked k.LeftParenthesis place ∷ (written_expr marked inner ++ bare marked k.RightParenthesis ∷ [])
 written_expr marked (signed op place operand) = placed marked (sign_kind op) place ∷ written_expr marked operand
-written_expr marked (operation op place left right) = written_expr marked left ++ placed marked (operator_kind op) place ∷ written_expr marked right
+written_expr marked (operation op place left right) = written_expr marked left ++ (written_operator marked op place ++ written_expr marked right)
+written_expr marked (in_type op place tested type_name) = written_expr marked tested ++ (written_member marked op place ++ written_name marked type_name)
+written_expr marked (in_range op place tested low high) =
+    written_expr marked tested ++ (written_member marked op place ++ (written_expr marked low ++ bare marked k.DoubleDot ∷ written_expr marked high))
 
 -- Declarations (Ada 95 RM 3).
 
@@ -167,11 +209,16 @@ written_stmts stmts = joined (map written_stmt stmts)
 -- ["*" {"," name} | names]
 abbrev pub written_imports : Option Place → List Name → List Form
 written_imports None names = written_names annotation names
-written_imports (Some place) names = placed annotation k.Asterisk place ∷ behind (bare annotation k.Comma) (written_name annotation) names
+written_imports (Some place) names = placed annotation k.Asterisk place ∷ following (bare annotation k.Comma) (written_name annotation) names
 
--- names "from" imports
+-- names | "null"
+abbrev pub written_exports : Exports → List Form
+written_exports (exported.Names names) = written_names annotation names
+written_exports (exported.Null place) = placed annotation k.Null place ∷ []
+
+-- exports "from" imports
 abbrev pub written_item : DerivesItem → List Form
-written_item item = written_names annotation item.exports ++ bare annotation k.From ∷ written_imports item.imports.itself item.imports.names
+written_item item = written_exports item.exports ++ bare annotation k.From ∷ written_imports item.imports.itself item.imports.names
 
 -- "derives" item {"&" item} ";"
 abbrev pub written_derives : Derives → List Form
@@ -186,9 +233,9 @@ written_pre pre = placed annotation k.Pre pre.place ∷ (written_expr annotation
 -- ["in"] ["out"]
 abbrev pub written_mode : WrittenMode → List Form
 written_mode modes.Unwritten = []
-written_mode modes.In = bare program k.In ∷ []
+written_mode (modes.In place) = placed program k.In place ∷ []
 written_mode modes.Out = bare program k.Out ∷ []
-written_mode modes.InOut = bare program k.In ∷ bare program k.Out ∷ []
+written_mode (modes.InOut place) = placed program k.In place ∷ bare program k.Out ∷ []
 
 -- identifiers ":" mode name
 abbrev pub written_param : Param → List Form

@@ -7,6 +7,14 @@ use spx_text::Place;
 use sqlite_items::Items;
 use std::alloc::{AllocError, Global};
 
+/// What is derived from imports.
+#[derive(Debug, Drop)]
+pub enum Exports {
+    Names(Items<Name>),
+    /// Nothing, at the word `null`.
+    Null(Place),
+}
+
 /// What an export is derived from.
 #[derive(Debug, Drop)]
 pub struct Imports {
@@ -18,7 +26,7 @@ pub struct Imports {
 /// `exports from imports`
 #[derive(Debug, Drop)]
 pub struct DerivesItem {
-    pub exports: Items<Name>,
+    pub exports: Exports,
     pub imports: Imports,
 }
 
@@ -36,12 +44,24 @@ pub struct Precondition {
     pub condition: Expr,
 }
 
+impl Exports {
+    /// Equal exports.
+    pub fn copy(&self, alloc: Global) -> Result<Exports, AllocError>
+        ensures { IfOk result (λ exports. exports ≡ self.now) }
+    {
+        match self {
+            Exports::Names(names) => Ok(Exports::Names(copy_names(alloc, names.as_slice())?)),
+            Exports::Null(place) => Ok(Exports::Null(*place)),
+        }
+    }
+}
+
 impl DerivesItem {
     /// An equal item.
     pub fn copy(&self, alloc: Global) -> Result<DerivesItem, AllocError>
         ensures { IfOk result (λ item. item ≡ self.now) }
     {
-        let exports = copy_names(alloc, self.exports.as_slice())?;
+        let exports = self.exports.copy(alloc)?;
         let names = copy_names(alloc, self.imports.names.as_slice())?;
         let imports = Imports {
             itself: self.imports.itself,

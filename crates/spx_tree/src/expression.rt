@@ -12,32 +12,58 @@ pub struct Identifier {
     pub place: Place,
 }
 
-/// An operator between two operands.
+/// An operator between two operands (Ada 95 RM 4.5).
 #[derive(Clone, Copy, Debug, PartialEq, Eq)]
 pub enum InfixOp {
     Add,
     Subtract,
+    Multiply,
+    Divide,
+    Mod,
+    Rem,
+    /// `**`
+    Power,
     Equal,
     NotEqual,
     Less,
     LessOrEqual,
     Greater,
     GreaterOrEqual,
+    And,
+    Or,
+    Xor,
+    /// `and then`
+    AndThen,
+    /// `or else`
+    OrElse,
 }
 
-/// An operator before its operand (Ada 95 RM 4.5.4).
+/// An operator before its operand (Ada 95 RM 4.5.4, 4.5.6).
 #[derive(Clone, Copy, Debug, PartialEq, Eq)]
 pub enum PrefixOp {
     Plus,
     Minus,
+    Abs,
+    Not,
+}
+
+/// The operator of a membership test (Ada 95 RM 4.5.2).
+#[derive(Clone, Copy, Debug, PartialEq, Eq)]
+pub enum MemberOp {
+    In,
+    /// `not in`, with the place of its second word.
+    NotIn(Place),
 }
 
 /// The layers of expressions (Ada 95 RM 4.4): an operator of a layer binds less than those of the layers before it.
 #[derive(Clone, Copy, Debug, PartialEq, Eq)]
 pub enum Layer {
     Primary,
+    Factor,
+    Term,
     Sum,
     Relation,
+    Expression,
 }
 
 /// A name (Ada 95 RM 4.1).
@@ -48,7 +74,8 @@ pub enum Name {
     Attribute(Identifier, Identifier),
 }
 
-/// An expression. An infix operation stands at its operator, every other node at its first token.
+/// An expression. An infix operation and a membership test stand at the first word of their operator, every other node at
+/// its first token.
 #[derive(Debug, Drop)]
 pub enum Expr {
     Number(i128, Place),
@@ -57,6 +84,10 @@ pub enum Expr {
     Parenthesized(Place, Boxed<Expr>),
     Prefix(PrefixOp, Place, Boxed<Expr>),
     Infix(InfixOp, Place, Boxed<Expr>, Boxed<Expr>),
+    /// `expression in type_name`
+    InType(MemberOp, Place, Boxed<Expr>, Name),
+    /// `expression in low .. high`
+    InRange(MemberOp, Place, Boxed<Expr>, Boxed<Expr>, Boxed<Expr>),
 }
 
 impl Identifier {
@@ -131,6 +162,16 @@ impl Expr {
                 let left = Boxed::new(alloc, left.get().copy(alloc)?)?;
                 let right = Boxed::new(alloc, right.get().copy(alloc)?)?;
                 Ok(Expr::Infix(*op, *place, left, right))
+            }
+            Expr::InType(op, place, tested, type_name) => {
+                let tested = Boxed::new(alloc, tested.get().copy(alloc)?)?;
+                Ok(Expr::InType(*op, *place, tested, type_name.copy(alloc)?))
+            }
+            Expr::InRange(op, place, tested, low, high) => {
+                let tested = Boxed::new(alloc, tested.get().copy(alloc)?)?;
+                let low = Boxed::new(alloc, low.get().copy(alloc)?)?;
+                let high = Boxed::new(alloc, high.get().copy(alloc)?)?;
+                Ok(Expr::InRange(*op, *place, tested, low, high))
             }
         }
     }

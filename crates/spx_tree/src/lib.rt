@@ -12,10 +12,12 @@ mod statement;
 mod subprogram;
 mod token;
 
-pub use annotation::{Derives, DerivesItem, Imports, Precondition};
+pub use annotation::{Derives, DerivesItem, Exports, Imports, Precondition};
 pub use declaration::Decl;
-pub use expression::{Expr, Identifier, InfixOp, Layer, Name, PrefixOp, copy_identifiers};
-pub use laws::{one_spelling, one_stop, one_tree};
+pub use expression::{
+    Expr, Identifier, InfixOp, Layer, MemberOp, Name, PrefixOp, copy_identifiers,
+};
+pub use laws::{one_spelling, one_stop};
 pub use statement::{Arm, Closing, Stmt};
 pub use subprogram::{FormalPart, Param, Subprogram, Unit, WrittenMode};
 pub use token::{ANNOTATION_WORDS, Kind, RESERVED_WORDS, Token};

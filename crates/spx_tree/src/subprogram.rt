@@ -9,14 +9,14 @@ use spx_text::Place;
 use sqlite_items::Items;
 use std::alloc::{AllocError, Global};
 
-/// The words that tell the mode of formal parameters.
+/// The words that give the mode of formal parameters, with the place of `in`.
 #[derive(Clone, Copy, Debug, PartialEq, Eq)]
 pub enum WrittenMode {
     /// No word, which means `in`.
     Unwritten,
-    In,
+    In(Place),
     Out,
-    InOut,
+    InOut(Place),
 }
 
 /// `names : mode type_name`

@@ -1,134 +1,19 @@
-// What names and expressions are, or the first rule that is broken in them (Ada 95 RM 4.1, 4.4, 4.5, 4.9, 8.3).
-ghost use Rattle.std.specs.Prelude.{◌≡◌, ok_or};
+// What expressions are, or the first rule that is broken in them (Ada 95 RM 4.4, 4.5, 4.9).
+ghost use Rattle.std.specs.Prelude.{◌≡◌};
 ghost use Rattle.spx_core.specs.Judged as rules;
+ghost use Rattle.spx_types.specs.TypeIds.{base_id, static, type_id};
 
+use crate::membership::{integer_type, member_of_range, member_of_type};
+use crate::names::{attribute, keeps, named_value};
 use crate::types::{
-    both_held, is_boolean, is_held, is_number, is_of, lies_in, meet, met, result_of, result_type,
-    signed_result,
+    is_boolean, is_of, left_type, operand_fits, operands_fit, result_type, right_type,
 };
-use spx_core::{
-    Breach, CoreExpr, CoreName, Entity, ExprType, Object, Reference, RuleName, Step, Subtype,
-    Typing,
-};
-use spx_text::{Place, Text};
-use spx_tree::{Identifier, InfixOp, PrefixOp};
+use crate::values::{both_held, is_held, lies_in, result_of, signed_result};
+use spx_core::{Breach, CoreExpr, ExprType, Program, RuleName, Subtype, TypeId, Typing, UNIVERSAL};
+use spx_text::Place;
+use spx_tree::{InfixOp, PrefixOp};
 
-/// Whether a rule is kept at the place: its breach, where it is not.
-pub fn keeps(rule: RuleName, place: Place, kept: bool) -> Result<(), Breach>
-    ensures { result ≡ rules.keeps rule place kept }
-{
-    if kept {
-        Ok(())
-    } else {
-        Err(Breach { rule, place })
-    }
-}
-
-/// What a name denotes, which has to be something.
-fn entity_of(name: &CoreName) -> Result<Entity, Breach>
-    ensures { result ≡ ok_or name.now.entity (record { rule = RuleName.N1; place = name.now.name.place }) }
-{
-    name.entity.ok_or(Breach {
-        rule: RuleName::N1,
-        place: name.name.place,
-    })
-}
-
-/// The type that a name denotes.
-fn named_type(name: &CoreName) -> Result<Subtype, Breach>
-    ensures { result ≡ rules.named_type name.now }
-{
-    match entity_of(name)? {
-        Entity::TypeName(subtype) => Ok(subtype),
-        _ => Err(Breach {
-            rule: RuleName::N3,
-            place: name.name.place,
-        }),
-    }
-}
-
-/// The object that a name denotes.
-fn named_object(name: &CoreName) -> Result<Object, Breach>
-    ensures { result ≡ rules.named_object name.now }
-{
-    match entity_of(name)? {
-        Entity::Variable(_, object) => Ok(object),
-        _ => Err(Breach {
-            rule: RuleName::N3,
-            place: name.name.place,
-        }),
-    }
-}
-
-fn is_whole(way: &[Step]) -> bool
-    ensures { result ≡ rules.is_whole way.now }
-{
-    matches!(way, [])
-}
-
-/// Nothing may follow the identifier.
-fn whole(reference: &Reference) -> Result<(), Breach>
-    ensures { result ≡ rules.whole reference.now }
-{
-    let kept = is_whole(reference.way.as_slice());
-    keeps(RuleName::N3, reference.root.name.place, kept)
-}
-
-/// The type that a whole name denotes.
-pub fn referred_type(reference: &Reference) -> Result<Subtype, Breach>
-    ensures { result ≡ rules.referred_type reference.now }
-{
-    let subtype = named_type(&reference.root)?;
-    whole(reference)?;
-    Ok(subtype)
-}
-
-/// The object that a whole name denotes.
-pub fn referred_object(reference: &Reference) -> Result<Object, Breach>
-    ensures { result ≡ rules.referred_object reference.now }
-{
-    let object = named_object(&reference.root)?;
-    whole(reference)?;
-    Ok(object)
-}
-
-fn is_first(designator: &Text) -> bool
-    ensures { result ≡ rules.is_first designator.now }
-{
-    designator.as_bytes().eq_ignore_ascii_case(b"first")
-}
-
-fn is_attribute(designator: &Text) -> bool
-    ensures { result ≡ rules.is_attribute designator.now }
-{
-    is_first(designator) || designator.as_bytes().eq_ignore_ascii_case(b"last")
-}
-
-/// The value of `'First` or `'Last`.
-fn attribute_of(subtype: Subtype, designator: &Text) -> i128
-    ensures { result ≡ rules.attribute_of subtype designator.now }
-{
-    if is_first(designator) {
-        subtype.first
-    } else {
-        subtype.last
-    }
-}
-
-fn attribute(prefix: &CoreName, designator: &Identifier) -> Result<Typing, Breach>
-    ensures { result ≡ rules.attribute prefix.now designator.now }
-{
-    let place = prefix.name.place;
-    let subtype = named_type(prefix)?;
-    keeps(RuleName::N3, place, is_attribute(&designator.text))?;
-    Ok(Typing {
-        of: ExprType::Of(subtype.base),
-        value: Some(attribute_of(subtype, &designator.text)),
-        place,
-    })
-}
-
-/// A number of the type is needed, which a universal one then must be.
+/// A value of the type is needed, which a universal one then must be.
 pub fn operand_of(subtype: Subtype, operand: Typing) -> Result<(), Breach>
     ensures { result ≡ rules.operand_of subtype operand }
 {
@@ -153,7 +38,7 @@ fn sign(op: PrefixOp, place: Place, operand: Typing) -> Result<Typing, Breach>
 {
     let of = operand.of;
     let value = signed_result(op, operand.value);
-    keeps(RuleName::N10, place, is_number(of))?;
+    keeps(RuleName::N10, place, operand_fits(op, of))?;
     keeps(RuleName::N12, place, is_held(operand.value, value))?;
     keeps(RuleName::N12, place, lies_in(of, value))?;
     Ok(Typing { of, value, place })
@@ -162,17 +47,15 @@ fn sign(op: PrefixOp, place: Place, operand: Typing) -> Result<Typing, Breach>
 fn operation(op: InfixOp, place: Place, left: Typing, right: Typing) -> Result<Typing, Breach>
     ensures { result ≡ rules.operation op place left right }
 {
-    let operands = met(left.of, right.of);
-    let of = result_type(op, operands);
+    let left_of = left_type(op, left.of, right.of, right.value);
+    let right_of = right_type(op, left.of, right.of);
+    let of = result_type(op, left_of);
     let value = result_of(op, left.value, right.value);
-    keeps(RuleName::N10, place, meet(left.of, right.of))?;
-    keeps(RuleName::N12, left.place, lies_in(operands, left.value))?;
-    keeps(RuleName::N12, right.place, lies_in(operands, right.value))?;
-    keeps(
-        RuleName::N12,
-        place,
-        both_held(left.value, right.value, value),
-    )?;
+    let held = both_held(left.value, right.value, value);
+    keeps(RuleName::N10, place, operands_fit(op, left.of, right.of))?;
+    keeps(RuleName::N12, left.place, lies_in(left_of, left.value))?;
+    keeps(RuleName::N12, right.place, lies_in(right_of, right.value))?;
+    keeps(RuleName::N12, place, held)?;
     keeps(RuleName::N12, place, lies_in(of, value))?;
     Ok(Typing { of, value, place })
 }
@@ -188,14 +71,7 @@ pub fn judge(expr: &CoreExpr) -> Result<Typing, Breach>
             value: Some(*n),
             place: *place,
         }),
-        CoreExpr::Name(name) => {
-            let object = named_object(name)?;
-            Ok(Typing {
-                of: ExprType::Of(object.subtype.base),
-                value: None,
-                place: name.name.place,
-            })
-        }
+        CoreExpr::Name(name) => named_value(name),
         CoreExpr::Attribute(prefix, designator) => attribute(prefix, designator),
         CoreExpr::Parenthesized(place, inner) => {
             let inner = judge(inner.get())?;
@@ -209,5 +85,48 @@ pub fn judge(expr: &CoreExpr) -> Result<Typing, Breach>
             let left = judge(left.get())?;
             operation(*op, *place, left, judge(right.get())?)
         }
+        CoreExpr::InType(op, place, tested, type_name) => {
+            let tested = judge(tested.get())?;
+            member_of_type(*op, *place, tested, integer_type(type_name)?)
+        }
+        CoreExpr::InRange(op, place, tested, low, high) => {
+            let tested = judge(tested.get())?;
+            let low = judge(low.get())?;
+            member_of_range(*op, *place, tested, low, judge(high.get())?)
+        }
+    }
+}
+
+/// The base type of an expression of this type.
+fn base_id(of: ExprType) -> TypeId
+    ensures { result ≡ base_id of }
+{
+    match of {
+        ExprType::Universal => UNIVERSAL.base.id,
+        ExprType::Of(base) => base.id,
+    }
+}
+
+/// The base type of an expression, or the first rule that is broken in it. `declaring` says whether the expression stands
+/// in a declaration; the table of types is that of the program. Neither is needed where each node keeps the facts of its
+/// declaration.
+pub fn type_of(_program: &Program, expr: &CoreExpr, _declaring: bool) -> Result<TypeId, Breach>
+    ensures { result ≡ type_id expr.now }
+{
+    Ok(base_id(judge(expr)?.of))
+}
+
+/// The value of a static expression, or the first rule that is broken in it: N11, at the expression, where it is not
+/// static. A truth value is its position. As in `type_of`, the program and `declaring` are not needed.
+pub fn static_value(_program: &Program, expr: &CoreExpr, _declaring: bool) -> Result<i128, Breach>
+    ensures { result ≡ static expr.now }
+{
+    let typing = judge(expr)?;
+    match typing.value {
+        Some(value) => Ok(value),
+        None => Err(Breach {
+            rule: RuleName::N11,
+            place: typing.place,
+        }),
     }
 }

@@ -6,9 +6,13 @@
 #![tactic(auto)]
 
 mod expression;
+mod membership;
+mod names;
 mod program;
 mod statement;
 mod types;
+mod values;
 
-pub use expression::{judge, keeps};
+pub use expression::{judge, static_value, type_of};
+pub use names::keeps;
 pub use program::judge_program;

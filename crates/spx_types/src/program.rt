@@ -4,7 +4,7 @@ ghost use Rattle.spx_core.specs.Judged.{each, if_there};
 ghost use Rattle.spx_core.specs.Resolved.{params_of};
 ghost use Rattle.spx_core.specs.Statements as rules;
 
-use crate::expression::keeps;
+use crate::names::keeps;
 use crate::statement::{
     declared_once, judge_decl, judge_item, judge_param, judge_pre, judge_stmts,
 };

@@ -6,7 +6,8 @@ ghost use Rattle.spx_core.specs.Judged.{each};
 ghost use Rattle.spx_core.specs.Statements as rules;
 ghost use Rattle.spx_types.specs.Arms.{FoundInArms};
 
-use crate::expression::{condition, judge, keeps, operand_of, referred_object, referred_type};
+use crate::expression::{condition, judge, operand_of};
+use crate::names::{keeps, referred_object, referred_type};
 use spx_core::{
     Breach, CoreArm, CoreDecl, CoreDerivesItem, CoreExpr, CoreParam, CorePrecondition, CoreStmt,
     Defining, Reference, RuleName,

@@ -1,15 +1,43 @@
-// Types, and operations on static values (Ada 95 RM 3.4.1, 3.5, 4.5, 4.9).
+// Types, and where expressions of a type fit (Ada 95 RM 3.4.1, 4.5).
 ghost use Rattle.std.specs.Prelude.{◌≡◌};
 ghost use Rattle.spx_core.specs.Types as is;
-ghost use Rattle.spx_num.specs.Widths.{fitting};
 
-use spx_core::{BaseType, ExprType};
+use spx_core::{BOOLEAN, BaseType, Class, ExprType, INTEGER};
 use spx_tree::{InfixOp, PrefixOp};
+
+/// Numbers are the values.
+pub fn has_numbers(class: Class) -> bool
+    ensures { result ≡ is.has_numbers class }
+{
+    match class {
+        Class::Integer => true,
+        Class::Boolean => false,
+    }
+}
+
+/// Truth values are the values.
+fn has_truths(class: Class) -> bool
+    ensures { result ≡ is.has_truths class }
+{
+    match class {
+        Class::Integer => false,
+        Class::Boolean => true,
+    }
+}
+
+fn same_class(class: Class, other: Class) -> bool
+    ensures { result ≡ is.same_class class other }
+{
+    match class {
+        Class::Integer => has_numbers(other),
+        Class::Boolean => has_truths(other),
+    }
+}
 
 fn same_base(a: BaseType, b: BaseType) -> bool
     ensures { result ≡ is.same_base a b }
 {
-    a.id.0 == b.id.0
+    a.id.0 == b.id.0 && same_class(a.class, b.class)
 }
 
 /// Whether an expression of this type fits where the base type is needed.
@@ -17,8 +45,7 @@ pub fn is_of(base: BaseType, of: ExprType) -> bool
     ensures { result ≡ is.is_of base of }
 {
     match of {
-        ExprType::Universal => true,
-        ExprType::Boolean => false,
+        ExprType::Universal => has_numbers(base.class),
         ExprType::Of(other) => same_base(base, other),
     }
 }
@@ -27,23 +54,28 @@ pub fn is_of(base: BaseType, of: ExprType) -> bool
 pub fn is_number(of: ExprType) -> bool
     ensures { result ≡ is.is_number of }
 {
-    matches!(of, ExprType::Universal | ExprType::Of(_))
+    match of {
+        ExprType::Universal => true,
+        ExprType::Of(base) => has_numbers(base.class),
+    }
 }
 
 /// Whether an expression of this type is a truth value.
 pub fn is_boolean(of: ExprType) -> bool
     ensures { result ≡ is.is_boolean of }
 {
-    matches!(of, ExprType::Boolean)
+    match of {
+        ExprType::Universal => false,
+        ExprType::Of(base) => has_truths(base.class),
+    }
 }
 
-/// Whether two operands are numbers of one type.
-pub fn meet(left: ExprType, right: ExprType) -> bool
+/// Whether two operands are of one type.
+fn meet(left: ExprType, right: ExprType) -> bool
     ensures { result ≡ is.meet left right }
 {
     match left {
         ExprType::Universal => is_number(right),
-        ExprType::Boolean => false,
         ExprType::Of(base) => is_of(base, right),
     }
 }
@@ -54,114 +86,84 @@ pub fn met(left: ExprType, right: ExprType) -> ExprType
 {
     match left {
         ExprType::Universal => right,
-        _ => left,
+        ExprType::Of(_) => left,
     }
 }
 
-fn is_between(first: i128, last: i128, n: i128) -> bool
-    ensures { result ≡ is.is_between first last n }
-{
-    first <= n && n <= last
-}
-
-/// Whether a value lies in a range, if it is static.
-fn lies_between(first: i128, last: i128, value: Option<i128>) -> bool
-    ensures { result ≡ is.lies_between first last value }
-{
-    match value {
-        Some(n) => is_between(first, last, n),
-        None => true,
-    }
-}
-
-/// Whether a value is one of the type, if it is static.
-pub fn lies_in(of: ExprType, value: Option<i128>) -> bool
-    ensures { result ≡ is.lies_in of value }
-{
-    match of {
-        ExprType::Universal | ExprType::Boolean => true,
-        ExprType::Of(base) => lies_between(base.first, base.last, value),
-    }
-}
-
-/// The position of a truth value.
-fn truth(value: bool) -> i128
-    ensures { result ≡ is.truth value }
-{
-    if value { 1 } else { 0 }
-}
-
-/// The value of an operation, where 128 bits hold it.
-#[tactic(auto, using(spx_num::specs::Widths::fits_laws))]
-fn operated(op: InfixOp, m: i128, n: i128) -> Option<i128>
-    ensures { result ≡ fitting (is.operated op m n) }
+/// Whether an operator takes operands of these types.
+pub fn operands_fit(op: InfixOp, left: ExprType, right: ExprType) -> bool
+    ensures { result ≡ is.operands_fit op left right }
 {
     match op {
-        InfixOp::Add => m.checked_add(n),
-        InfixOp::Subtract => m.checked_sub(n),
-        InfixOp::Equal => Some(truth(m == n)),
-        InfixOp::NotEqual => Some(truth(m != n)),
-        InfixOp::Less => Some(truth(m < n)),
-        InfixOp::LessOrEqual => Some(truth(m <= n)),
-        InfixOp::Greater => Some(truth(m > n)),
-        InfixOp::GreaterOrEqual => Some(truth(m >= n)),
+        InfixOp::Power => is_number(left) && is_of(INTEGER.base, right),
+        InfixOp::Equal | InfixOp::NotEqual => meet(left, right),
+        InfixOp::And | InfixOp::Or | InfixOp::Xor | InfixOp::AndThen | InfixOp::OrElse => {
+            is_boolean(left) && is_boolean(right)
+        }
+        _ => is_number(left) && meet(left, right),
     }
 }
 
-/// The value of a number with a sign before it, where 128 bits hold it.
-#[tactic(auto, using(spx_num::specs::Widths::fits_laws))]
-fn signed(op: PrefixOp, n: i128) -> Option<i128>
-    ensures { result ≡ fitting (is.signed op n) }
+/// The type of what is raised to a power: a universal number is of `Integer` where the power is not static.
+fn raised_type(of: ExprType, exponent: Option<i128>) -> ExprType
+    ensures { result ≡ is.raised_type of exponent }
+{
+    match (of, exponent) {
+        (ExprType::Universal, None) => ExprType::Of(INTEGER.base),
+        (ExprType::Universal, Some(_)) => ExprType::Universal,
+        (ExprType::Of(base), _) => ExprType::Of(base),
+    }
+}
+
+/// The type that the left operand has, where the right one has this value, if it is static.
+pub fn left_type(op: InfixOp, left: ExprType, right: ExprType, value: Option<i128>) -> ExprType
+    ensures { result ≡ is.left_type op left right value }
 {
     match op {
-        PrefixOp::Plus => Some(n),
-        PrefixOp::Minus => n.checked_neg(),
+        InfixOp::Power => raised_type(left, value),
+        _ => met(left, right),
     }
 }
 
-/// The value of an operation, where both operands are static and 128 bits hold it.
-pub fn result_of(op: InfixOp, left: Option<i128>, right: Option<i128>) -> Option<i128>
-    ensures { result ≡ is.result_of op left right }
+/// The type that the right operand has.
+pub fn right_type(op: InfixOp, left: ExprType, right: ExprType) -> ExprType
+    ensures { result ≡ is.right_type op left right }
 {
-    match (left, right) {
-        (Some(m), Some(n)) => operated(op, m, n),
-        _ => None,
+    match op {
+        InfixOp::Power => ExprType::Of(INTEGER.base),
+        _ => met(left, right),
     }
 }
 
-/// The value of a sign and its operand, where the operand is static and 128 bits hold it.
-pub fn signed_result(op: PrefixOp, operand: Option<i128>) -> Option<i128>
-    ensures { result ≡ is.signed_result op operand }
+/// Whether an operator takes an operand of this type.
+pub fn operand_fits(op: PrefixOp, operand: ExprType) -> bool
+    ensures { result ≡ is.operand_fits op operand }
 {
-    match operand {
-        Some(n) => signed(op, n),
-        None => None,
+    match op {
+        PrefixOp::Not => is_boolean(operand),
+        PrefixOp::Plus | PrefixOp::Minus | PrefixOp::Abs => is_number(operand),
     }
 }
 
-/// Whether 128 bits hold a value, if the operand is static.
-pub fn is_held(operand: Option<i128>, value: Option<i128>) -> bool
-    ensures { result ≡ is.is_held operand value }
+/// Whether three operands are numbers of one type.
+pub fn three_fit(first: ExprType, second: ExprType, third: ExprType) -> bool
+    ensures { result ≡ is.three_fit first second third }
 {
-    !matches!((operand, value), (Some(_), None))
+    is_number(first) && meet(first, second) && meet(met(first, second), third)
 }
 
-/// Whether 128 bits hold a value, if both operands are static.
-pub fn both_held(left: Option<i128>, right: Option<i128>, value: Option<i128>) -> bool
-    ensures { result ≡ is.both_held left right value }
-{
-    match left {
-        Some(_) => is_held(right, value),
-        None => true,
-    }
-}
-
-/// The type of an operation on numbers of this type.
+/// The type of an operation whose left operand has this type.
 pub fn result_type(op: InfixOp, of: ExprType) -> ExprType
     ensures { result ≡ is.result_type op of }
 {
     match op {
-        InfixOp::Add | InfixOp::Subtract => of,
-        _ => ExprType::Boolean,
+        InfixOp::Add
+        | InfixOp::Subtract
+        | InfixOp::Multiply
+        | InfixOp::Divide
+        | InfixOp::Mod
+        | InfixOp::Rem
+        | InfixOp::Power => of,
+        _ => ExprType::Of(BOOLEAN.base),
     }
 }

@@ -1,10 +1,15 @@
 pub mod ConditionTerms
 pub mod ConditionStates
-pub mod ConditionSteps
 pub mod ConditionForward
+pub mod Expressions
+pub mod Parts
 pub mod SharedIds
 pub mod SharedTerms
 pub mod SharedSteps
+pub mod GoalSteps
+pub mod Operators
+pub mod CheckSteps
+pub mod StartSteps
 pub mod Sizes
 pub mod Subs
 pub mod BranchSteps

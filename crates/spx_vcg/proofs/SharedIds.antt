@@ -3,10 +3,7 @@ use Rattle.std.proofs.Common.{◌≡◌, ℕ, ◌<◌, Bool, true, false, cond, 
 use Rattle.std.specs.List.{list_any}
 use Rattle.std.proofs.lemmas.List.{map-append}
 use Rattle.indexmap.specs.IndexSet.{insert_key}
-use Rattle.spx_term.specs.declared.term.Sort.{Sort}
-use Rattle.spx_term.specs.declared.term.Sort.TheVariants.{Integer, Boolean}
-use Rattle.spx_term.specs.declared.term.Symbol.{Symbol}
-use Rattle.spx_term.specs.declared.term.Symbol.TheVariants.{Now, Entry}
+use Rattle.spx_term.specs.declared.term.Name.{Name}
 use Rattle.spx_term.specs.declared.term.Term.{Term}
 use Rattle.spx_term.specs.declared.term.Term.TheVariants.{Variable}
 use Rattle.spx_term.specs.Equality.{same_term}
@@ -16,7 +13,7 @@ use Rattle.spx_term.proofs.Equality.{same_term-Decides}
 use Rattle.spx_arena.specs.declared.terms.TermId.{TermId}
 use Rattle.spx_arena.specs.Sharing.{tree_at, Grows, Distinct}
 use Rattle.spx_arena.specs.Claims.{AreIds, trees_at}
-use Rattle.spx_vcg.specs.States.{Given, given, value_or, state_at, state_in, AreValues}
+use Rattle.spx_vcg.specs.States.{Given, given, value_or, state_in, AreValues}
 use Rattle.spx_arena.proofs.Ids.{ids_push}
 use Rattle.spx_vcg.specs.WalkSteps.{id_eq, Longer}
 
@@ -66,14 +63,9 @@ inserted_ids id facts n = ids_or id facts n (list_any (id_eq id) facts)
 
 -- ---- states
 module _ {old new : List Term} (g : Grows old new) (values : Given) (are : AreValues (length old) values) where
-  value_kept : (n : ℕ) (o : Option TermId) (t : Term) → given values n ≡ o → value_or new o t ≡ value_or old o t
-  value_kept n (Some id) t e = g.kept id (are.ids n id e)
-  value_kept n None t e = refl
-
-  symbol_kept : (x : Symbol) (s : Sort) (t : Term) → state_at new values x s t ≡ state_at old values x s t
-  symbol_kept (Now n) Integer t = value_kept n (given values n) t refl
-  symbol_kept (Now n) Boolean t = refl
-  symbol_kept (Entry n) s t = refl
+  value_kept : (x : Name) (o : Option TermId) (t : Term) → given values x ≡ o → value_or new o t ≡ value_or old o t
+  value_kept x (Some id) t e = g.kept id (are.ids x id e)
+  value_kept x None t e = refl
 
   pub state_kept : state_in new values ≡ state_in old values
-  state_kept = λ i x. symbol_kept x.symbol x.sort (Variable x) i
+  state_kept = λ i x. value_kept x (given values x) (Variable x) refl i

@@ -4,4 +4,3 @@ pub mod WalkSteps
 pub mod PathWalk
 pub mod Following
 pub mod Largeness
-pub mod Entering

@@ -1,46 +1,51 @@
 -- What the walk of commands has made, to the end of each path.
-use Rattle.std.specs.Prelude.{◌≡◌, ℕ, length, take}
+use Rattle.std.specs.Prelude.{◌≡◌, ℕ, length, map, take}
+use Rattle.spx_core.specs.declared.expression.CoreExpr.{CoreExpr}
 use Rattle.spx_core.specs.declared.program.Program.{Program}
 use Rattle.spx_core.specs.declared.subprogram.Sub.{Sub}
 use Rattle.spx_core.specs.Commands.{Command, Then}
 use Rattle.spx_term.specs.declared.term.Term.{Term}
 use Rattle.spx_term.specs.declared.term.Term.TheVariants.{Prefix}
 use Rattle.spx_term.specs.declared.term.TermPrefix.TheVariants.{Not}
-use Rattle.spx_term.specs.Steps.{Tree, Assume, Split}
+use Rattle.spx_term.specs.Conjuncts.{conjuncts}
+use Rattle.spx_term.specs.Steps.{Tree, Assume, Split, assume_parts}
+use Rattle.spx_paths.specs.Terms.{entry_term, term_of}
 use Rattle.spx_paths.specs.Walks.{ending, walk}
-use Rattle.spx_arena.specs.declared.terms.TermId.{TermId}
-use Rattle.spx_arena.specs.Sharing.{tree_at}
 use Rattle.spx_vcg.specs.declared.branches.Mark.{Mark}
 use Rattle.spx_vcg.specs.declared.walk.Walk.{Walk}
-use Rattle.spx_vcg.specs.ConditionWalk.{applied}
-use Rattle.spx_vcg.specs.WalkSteps.{state, Whole, OnlyAdds, claims_from, Goes}
+use Rattle.spx_vcg.specs.ConditionWalk.{State, applied}
+use Rattle.spx_vcg.specs.WalkSteps.{state, Whole, OnlyAdds, claims_from, Goes, Walks}
 
 -- the walk has come along a command that goes on
-pub record Passes (old new : Walk) (c : Command) : Type 0 where
+pub record Passes (p : Program) (old new : Walk) (c : Command) : Type 0 where
   pub whole : Whole new
   pub adds : OnlyAdds old new
-  pub goes : (p : Program) (sub : Sub) → Goes old new (λ rest. walk p sub c (λ made. rest) ending 0)
+  pub goes : (sub : Sub) → Goes old new (λ rest. walk p sub c (λ made. rest) ending 0)
 
 -- the claims from the first walk and command on are those from the second
-pub record Comes (old new : Walk) (from to : Command) : Type 0 where
+pub record Comes (p : Program) (old new : Walk) (from to : Command) : Type 0 where
   pub whole : Whole new
   pub adds : OnlyAdds old new
-  pub same : (p : Program) (sub : Sub) (made : ℕ) → claims_from old (walk p sub from ending ending made) ≡ claims_from new (walk p sub to ending ending made)
+  pub same : (sub : Sub) (made : ℕ) → claims_from old (walk p sub from ending ending made) ≡ claims_from new (walk p sub to ending ending made)
 
 -- the walk has come from an arm to what is done where it is not taken
-abbrev pub PassesArm : Walk → Walk → (Command → Command) → Command → Type 0
-PassesArm old new arm following = (otherwise : Command) → Comes old new (Then (arm otherwise) following) (Then otherwise following)
+abbrev pub PassesArm : Program → Walk → Walk → (Command → Command) → Command → Type 0
+PassesArm p old new arm following = (otherwise : Command) → Comes p old new (Then (arm otherwise) following) (Then otherwise following)
 
 -- the claims under a condition are made, and values and facts are as they were
-pub record Takes (old new : Walk) (condition : TermId) (c : Command) : Type 0 where
+pub record Takes (p : Program) (old new : Walk) (condition : CoreExpr) (c : Command) : Type 0 where
   pub whole : Whole new
   pub adds : OnlyAdds old new
   pub kept : state new ≡ state old
-  pub goes : (t : Term) → tree_at old.terms condition ≡ applied (state old) t → (p : Program) (sub : Sub) (made : ℕ) → Goes old new (Split (Assume t (walk p sub c ending ending made)))
+  pub goes : (sub : Sub) (made : ℕ) → Walks old new (Split (assume_parts (term_of p (entry_term p sub) condition) (walk p sub c ending ending made)))
 
 -- a condition is false
 abbrev pub negated : Term → Tree → Tree
 negated t = Assume (Prefix Not t)
+
+-- the parts of the term stand for those of what the term stands for: no name in it stands for a conjunction
+pub record HasParts (s : State) (t : Term) : Type 0 where
+  pub parts : conjuncts (applied s t) ≡ map (applied s) (conjuncts t)
 
 -- a place to come back to
 pub record Marks (w : Walk) (m : Mark) : Type 0 where

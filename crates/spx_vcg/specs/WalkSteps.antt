@@ -1,14 +1,16 @@
 -- What the walk has made, and what each of its steps adds.
-use Rattle.std.specs.Prelude.{◌≡◌, ℕ, ◌<◌, Bool, List, ◌++◌, length}
+use Rattle.std.specs.Prelude.{◌≡◌, ℕ, ◌<◌, Bool, List, ◌++◌, length, map}
 use Rattle.spx_core.specs.declared.entity.VarId.{VarId}
 use Rattle.spx_core.specs.declared.expression.CoreExpr.{CoreExpr}
+use Rattle.spx_core.specs.declared.program.Program.{Program}
 use Rattle.spx_term.specs.declared.term.Term.{Term}
 use Rattle.spx_term.specs.Steps.{Tree, Claim}
 use Rattle.indexmap.specs.IndexSet.{insert_key}
 use Rattle.spx_arena.specs.contracts.terms.TermIdPartialEq.TheImpl as id_impl
 use Rattle.spx_arena.specs.declared.terms.TermId.{TermId}
+use Rattle.spx_paths.specs.Checks.{checks}
 use Rattle.spx_paths.specs.Terms.{term_of}
-use Rattle.spx_arena.specs.Sharing.{Grows, IsId}
+use Rattle.spx_arena.specs.Sharing.{tree_at, Grows}
 use Rattle.spx_arena.specs.Facts.{facts_at}
 use Rattle.spx_arena.specs.Claims.{AreIds, AreLists, AreClaims, trees_at, claims_at}
 use Rattle.spx_vcg.specs.ConditionWalk.{State, applied, forward}
@@ -51,29 +53,47 @@ pub record OnlyAdds (old new : Walk) : Type 0 where
   pub keys : Longer old.facts.present.keys new.facts.present.keys
   pub lists : Longer old.facts.lists new.facts.lists
 
+-- terms were only added, and nothing else was changed
+pub record OnlyTerms (old new : Walk) : Type 0 where
+  pub grown : Grows old.terms new.terms
+  pub values : new.values ≡ old.values
+  pub facts : new.facts ≡ old.facts
+  pub claims : new.claims ≡ old.claims
+
+-- the walk has gone on, and no variable was given a value
+pub record Keeps (old new : Walk) : Type 0 where
+  pub whole : Whole new
+  pub grown : Grows old.terms new.terms
+  pub adds : OnlyAdds old new
+  pub values : new.values ≡ old.values
+
+-- the claims from the first walk along these steps are those from the second
+pub record Walks (old new : Walk) (steps : Tree → Tree) : Type 0 where
+  pub same : (rest : Tree) → claims_from old (steps rest) ≡ claims_from new rest
+
 -- the first walk has come to the second along these steps
 pub record Goes (old new : Walk) (steps : Tree → Tree) : Type 0 where
   pub whole : Whole new
   pub adds : OnlyAdds old new
   pub same : (rest : Tree) → claims_from old (steps rest) ≡ claims_from new rest
 
--- and no variable was given a value
-pub record Checks (old new : Walk) (steps : Tree → Tree) : Type 0 where
-  pub goes : Goes old new steps
-  pub grown : Grows old.terms new.terms
-  pub values : new.values ≡ old.values
+-- the id stands for this term, where names have their present values
+pub record Means (w : Walk) (id : TermId) (t : Term) : Type 0 where
+  pub tree : tree_at w.terms id ≡ applied (state w) t
 
--- and a term was made
+-- the same for several
+pub record MeanAll (w : Walk) (ids : List TermId) (ts : List Term) : Type 0 where
+  pub trees : trees_at w.terms ids ≡ map (applied (state w)) ts
+
+-- the walk has come along these steps, and the id stands for the term
 pub record Makes (old new : Walk) (steps : Tree → Tree) (id : TermId) (t : Term) : Type 0 where
-  pub checks : Checks old new steps
-  pub made : IsId new.terms id (applied (state old) t)
+  pub walks : Walks old new steps
+  pub means : Means new id t
 
--- The same for the term of an expression, whatever the terms of values on entry are: no form of an expression reads one yet.
-pub record Evaluates (old new : Walk) (steps : (VarId → Term) → Tree → Tree) (e : CoreExpr) (id : TermId) : Type 0 where
-  pub whole : Whole new
-  pub grown : Grows old.terms new.terms
-  pub within : id.0 < length new.terms
-  pub makes : (entries : VarId → Term) → Makes old new (steps entries) id (term_of entries e)
+-- An expression was checked under these left sides, and the id is that of its term, whatever the terms of values on entry are: no form of an
+-- expression reads one yet.
+pub record Evaluates (p : Program) (lefts : List TermId) (old new : Walk) (e : CoreExpr) (id : TermId) : Type 0 where
+  pub makes : (entries : VarId → Term) (ls : List Term) → MeanAll old lefts ls → Makes old new (checks p entries ls e) id (term_of p entries e)
 
 -- a fact was added, or was there
 pub record AddsFact (old new : Facts) (fact : TermId) : Type 0 where
@@ -81,9 +101,3 @@ pub record AddsFact (old new : Facts) (fact : TermId) : Type 0 where
   pub lists : Longer old.lists new.lists
   pub stands : Stands new
   pub ids : (n : ℕ) → AreLists n old.lists → fact.0 < n → AreLists n new.lists
-
-pub record Adding (old new : Walk) (fact : TermId) : Type 0 where
-  pub terms : new.terms ≡ old.terms
-  pub values : new.values ≡ old.values
-  pub claims : new.claims ≡ old.claims
-  pub facts : AddsFact old.facts new.facts fact

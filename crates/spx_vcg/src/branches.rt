@@ -2,17 +2,15 @@
 ghost use Rattle.std.specs.Prelude.{◌≡◌, ◌<◌, length, map, IfOk, OnOk};
 ghost use Rattle.spx_core.specs.Commands.{Skip, Then, arm_before, arms_before, commands};
 ghost use Rattle.spx_term.specs.declared.term.Term.{Term};
-ghost use Rattle.spx_arena.specs.Sharing.{tree_at};
-ghost use Rattle.spx_vcg.specs.ConditionWalk.{applied};
 ghost use Rattle.spx_vcg.specs.Following.{after, done_otherwise};
-ghost use Rattle.spx_vcg.specs.WalkSteps.{state, Whole, Goes};
+ghost use Rattle.spx_vcg.specs.WalkSteps.{Keeps, Means, Walks, Whole};
 ghost use Rattle.spx_vcg.specs.PathWalk.{Comes, Marks, IsBack, Takes, negated, PassesArm};
 
 use crate::ids::negated_id;
 use crate::values::Values;
 use crate::walk::Walk;
 use spx_arena::{FactsId, TermId};
-use spx_core::{CoreArm, CoreStmt};
+use spx_core::{CoreArm, CoreExpr, CoreStmt, Program};
 use sqlite_items::Items;
 use std::alloc::{AllocError, Global};
 
@@ -76,22 +74,20 @@ impl Walk {
 
     /// An arm that is taken, and what follows it. Its condition is a fact in it, and no longer after it.
     #[cycle(path)]
-    #[tactic(auto, using(crate::proofs::SharedSteps::fact_whole))]
     fn taken(
         &mut self,
         alloc: Global,
-        condition: TermId,
+        program: &Program,
+        condition: &CoreExpr,
         body: &[CoreStmt],
         rest: &Rest,
     ) -> Result<(), AllocError>
-        requires whole { Whole self.old }
-        requires within { condition.0 < length self.old.terms }
-        ensures { OnOk result (Takes self.old self.new condition (Then (commands body.now) (after rest.now))) }
+        requires { Whole self.old }
+        ensures { OnOk result (Takes program.now self.old self.new condition.now (Then (commands body.now) (after rest.now))) }
     {
         let mark = self.mark()?;
-        self.terms.distinct();
-        self.assume(condition)?;
-        self.path(alloc, body, rest)?;
+        self.assume_parts(alloc, program, condition)?;
+        self.path(alloc, program, body, rest)?;
         self.back_to(mark);
         Ok(())
     }
@@ -100,22 +96,28 @@ impl Walk {
     fn not_taken(&mut self, condition: TermId) -> Result<(), AllocError>
         requires whole { Whole self.old }
         requires within { condition.0 < length self.old.terms }
-        ensures { OnOk result ((t : Term) → tree_at self.old.terms condition ≡ applied (state self.old) t → Goes self.old self.new (negated t)) }
+        ensures keeps { OnOk result (Keeps self.old self.new) }
+        ensures walks { OnOk result ((t : Term) → Means self.old condition t → Walks self.old self.new (negated t)) }
     {
         let negation = negated_id(&mut self.terms, condition)?;
-        self.terms.distinct();
         self.assume(negation)?;
         Ok(())
     }
 
     /// An arm and what follows it, and then what is known where it is not taken.
     #[cycle(path)]
-    fn arm(&mut self, alloc: Global, arm: &CoreArm, rest: &Rest) -> Result<(), AllocError>
+    fn arm(
+        &mut self,
+        alloc: Global,
+        program: &Program,
+        arm: &CoreArm,
+        rest: &Rest,
+    ) -> Result<(), AllocError>
         requires { Whole self.old }
-        ensures { OnOk result (PassesArm self.old self.new (arm_before arm.now) (after rest.now)) }
+        ensures { OnOk result (PassesArm program.now self.old self.new (arm_before arm.now) (after rest.now)) }
     {
-        let condition = self.checked_id(alloc, &arm.condition)?;
-        self.taken(alloc, condition, arm.body.as_slice(), rest)?;
+        let condition = self.checked_id(alloc, program, &[], &arm.condition)?;
+        self.taken(alloc, program, &arm.condition, arm.body.as_slice(), rest)?;
         self.not_taken(condition)?;
         Ok(())
     }
@@ -125,37 +127,45 @@ impl Walk {
     fn arms(
         &mut self,
         alloc: Global,
+        program: &Program,
         arms: &[CoreArm],
         otherwise: &[CoreStmt],
         rest: &Rest,
     ) -> Result<(), AllocError>
         requires { Whole self.old }
-        ensures { OnOk result (Comes self.old self.new (Then (arms_before (commands otherwise.now) (map arm_before arms.now)) (after rest.now)) Skip) }
+        ensures { OnOk result (Comes program.now self.old self.new (Then (arms_before (commands otherwise.now) (map arm_before arms.now)) (after rest.now)) Skip) }
     {
         for arm in arms {
-            self.arm(alloc, arm, rest)?;
+            self.arm(alloc, program, arm, rest)?;
         }
-        self.path(alloc, otherwise, rest)?;
+        self.path(alloc, program, otherwise, rest)?;
         Ok(())
     }
 
     /// Statements and what follows them, to the end of each path.
     #[cycle(path)]
-    pub fn path(&mut self, alloc: Global, stmts: &[CoreStmt], rest: &Rest) -> Result<(), AllocError>
+    pub fn path(
+        &mut self,
+        alloc: Global,
+        program: &Program,
+        stmts: &[CoreStmt],
+        rest: &Rest,
+    ) -> Result<(), AllocError>
         requires { Whole self.old }
-        ensures { OnOk result (Comes self.old self.new (Then (commands stmts.now) (after rest.now)) Skip) }
+        ensures { OnOk result (Comes program.now self.old self.new (Then (commands stmts.now) (after rest.now)) Skip) }
     {
         for (at, stmt) in stmts.iter().enumerate() {
             match stmt {
                 CoreStmt::Null(_) => continue,
                 CoreStmt::Assignment(target, value) => {
-                    self.assignment(alloc, target, value)?;
+                    self.assignment(alloc, program, target, value)?;
                     continue;
                 }
                 CoreStmt::If(arms, otherwise, _) => {
                     let following = Rest::more(&stmts[at + 1..], &*rest);
                     self.arms(
                         alloc,
+                        program,
                         arms.as_slice(),
                         done_otherwise(otherwise),
                         &following,
@@ -167,7 +177,7 @@ impl Walk {
         match rest {
             Rest::End => Ok(()),
             Rest::After(stmts, rest) => {
-                self.path(alloc, &*stmts, &*rest)?;
+                self.path(alloc, program, &*stmts, &*rest)?;
                 Ok(())
             }
         }

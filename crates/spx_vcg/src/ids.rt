@@ -1,22 +1,23 @@
 // Terms of expressions, by ids.
 ghost use Rattle.std.specs.Prelude.{◌≡◌, ◌<◌, length, IfOk};
+ghost use Rattle.spx_core.specs.Resolved.{subtype_of};
+ghost use Rattle.spx_core.specs.Uses.{variable_of};
 ghost use Rattle.spx_term.specs.declared.term.Term.TheVariants as term;
 ghost use Rattle.spx_term.specs.declared.term.TermPrefix.TheVariants.{Not};
-ghost use Rattle.spx_core.specs.Uses.{variable_of};
-ghost use Rattle.spx_meaning.specs.Evaluation.{term_op};
 ghost use Rattle.spx_term.specs.Folding.{term_of as static_term};
-ghost use Rattle.spx_paths.specs.Terms.{now, now_term, named, signed_term};
-ghost use Rattle.spx_arena.specs.Sharing.{tree_at};
+ghost use Rattle.spx_meaning.specs.Evaluation.{term_op};
+ghost use Rattle.spx_paths.specs.Terms.{between, member_term, named, now_term, signed_term};
+ghost use Rattle.spx_arena.specs.Sharing.{tree_at, Adds};
 ghost use Rattle.spx_vcg.specs.ConditionWalk.{applied};
 ghost use Rattle.spx_vcg.specs.States.{state_in, AddsMeaning, AreValues};
-ghost use Rattle.spx_arena.specs.Sharing.{Adds};
 
+use crate::names::now;
 use crate::values::Values;
 use spx_arena::{Node, TermId, Terms};
-use spx_core::{CoreExpr, Entity, INTEGER_FIRST, INTEGER_LAST, VarId, variable_of};
+use spx_core::{CoreExpr, Entity, Program, Subtype, UNIVERSAL, variable_of};
 use spx_paths::literal;
-use spx_term::{Name, Sort, Symbol, TermOp, TermPrefix, Value};
-use spx_tree::{InfixOp, PrefixOp};
+use spx_term::{Name, TermOp, TermPrefix, Value};
+use spx_tree::{InfixOp, MemberOp, PrefixOp};
 use std::alloc::AllocError;
 
 pub fn term_op(op: InfixOp) -> TermOp
@@ -25,26 +26,43 @@ pub fn term_op(op: InfixOp) -> TermOp
     match op {
         InfixOp::Add => TermOp::Add,
         InfixOp::Subtract => TermOp::Subtract,
+        InfixOp::Multiply => TermOp::Multiply,
+        InfixOp::Divide => TermOp::Divide,
+        InfixOp::Mod => TermOp::Mod,
+        InfixOp::Rem => TermOp::Rem,
+        InfixOp::Power => TermOp::Power,
         InfixOp::Equal => TermOp::Equal,
         InfixOp::NotEqual => TermOp::NotEqual,
         InfixOp::Less => TermOp::Less,
         InfixOp::LessOrEqual => TermOp::LessOrEqual,
         InfixOp::Greater => TermOp::Greater,
         InfixOp::GreaterOrEqual => TermOp::GreaterOrEqual,
+        InfixOp::And => TermOp::And,
+        InfixOp::Or => TermOp::Or,
+        InfixOp::Xor => TermOp::NotEqual,
+        InfixOp::AndThen => TermOp::And,
+        InfixOp::OrElse => TermOp::Or,
+    }
+}
+
+/// The subtype that a name denotes. What denotes none counts as that of universal numbers.
+pub fn subtype_of(entity: Option<Entity>) -> Subtype
+    ensures { result ≡ subtype_of entity }
+{
+    match entity {
+        Some(Entity::TypeName(subtype)) => subtype,
+        _ => UNIVERSAL,
     }
 }
 
 /// The id of a variable.
-pub fn variable_id(terms: &mut Terms, symbol: Symbol) -> Result<TermId, AllocError>
-    ensures { IfOk result (λ id. Adds terms.old terms.new id (term.Variable (record { symbol = symbol; sort = Sort.Integer }))) }
+fn variable_id(terms: &mut Terms, name: Name) -> Result<TermId, AllocError>
+    ensures { IfOk result (λ id. Adds terms.old terms.new id (term.Variable name)) }
 {
-    terms.make(Node::Variable(Name {
-        symbol,
-        sort: Sort::Integer,
-    }))
+    terms.make(Node::Variable(name))
 }
 
-/// The id of the literal of a static expression.
+/// The id of the literal of a value.
 #[tactic(auto, using(crate::proofs::SharedTerms::adds_laws))]
 pub fn static_id(terms: &mut Terms, value: Value) -> Result<TermId, AllocError>
     ensures { IfOk result (λ id. Adds terms.old terms.new id (static_term value)) }
@@ -52,34 +70,35 @@ pub fn static_id(terms: &mut Terms, value: Value) -> Result<TermId, AllocError>
     terms.literal(value)
 }
 
-/// The id of the value that a variable has.
-pub fn value_id(terms: &mut Terms, values: &Values, var: VarId) -> Result<TermId, AllocError>
+/// The id of the value that a name has.
+pub fn value_id(terms: &mut Terms, values: &Values, name: Name) -> Result<TermId, AllocError>
     requires { AreValues (length terms.old) values.now }
-    ensures { IfOk result (λ id. Adds terms.old terms.new id (state_in terms.old values.now (now var))) }
+    ensures { IfOk result (λ id. Adds terms.old terms.new id (state_in terms.old values.now name)) }
 {
-    match values.get(var) {
+    match values.get(name) {
         Some(id) => Ok(id),
-        None => variable_id(terms, Symbol::Now(var.0)),
+        None => variable_id(terms, name),
     }
 }
 
 /// The id of what a name denotes.
 #[tactic(auto, using(crate::proofs::SharedTerms::adds_laws, crate::proofs::ConditionTerms::applied_forms))]
 pub fn name_id(
+    program: &Program,
     terms: &mut Terms,
     values: &Values,
     entity: Option<Entity>,
 ) -> Result<TermId, AllocError>
     requires { AreValues (length terms.old) values.now }
-    ensures { IfOk result (λ id. Adds terms.old terms.new id (applied (state_in terms.old values.now) (named now_term (variable_of entity)))) }
+    ensures { IfOk result (λ id. Adds terms.old terms.new id (applied (state_in terms.old values.now) (named (now_term program.now) (variable_of entity)))) }
 {
     match variable_of(entity) {
-        Some(var) => value_id(terms, values, var),
+        Some(var) => value_id(terms, values, now(program, var)),
         None => terms.make(Node::Number(0)),
     }
 }
 
-/// The id of the term of a sign.
+/// The id of the term of an operation on one operand.
 pub fn signed_id(terms: &mut Terms, op: PrefixOp, operand: TermId) -> Result<TermId, AllocError>
     requires { operand.0 < length terms.old }
     ensures { IfOk result (λ id. Adds terms.old terms.new id (signed_term op (tree_at terms.old operand))) }
@@ -87,6 +106,8 @@ pub fn signed_id(terms: &mut Terms, op: PrefixOp, operand: TermId) -> Result<Ter
     match op {
         PrefixOp::Plus => Ok(operand),
         PrefixOp::Minus => terms.make(Node::Prefix(TermPrefix::Minus, operand)),
+        PrefixOp::Abs => terms.make(Node::Prefix(TermPrefix::Abs, operand)),
+        PrefixOp::Not => terms.make(Node::Prefix(TermPrefix::Not, operand)),
     }
 }
 
@@ -98,54 +119,100 @@ pub fn negated_id(terms: &mut Terms, condition: TermId) -> Result<TermId, AllocE
     terms.make(Node::Prefix(TermPrefix::Not, condition))
 }
 
-/// The id of the term of an expression, where variables have these values. A static one stands as its value.
-#[cycle(term_id)]
-#[tactic(auto, using(crate::proofs::SharedTerms::meaning_laws, spx_paths::specs::Terms::term_forms, crate::proofs::ConditionTerms::applied_forms))]
-pub fn term_id(terms: &mut Terms, values: &Values, expr: &CoreExpr) -> Result<TermId, AllocError>
-    requires { AreValues (length terms.old) values.now }
-    ensures { IfOk result (AddsMeaning terms.old terms.new values.now expr.now) }
+/// That a term lies between two others.
+fn between(
+    terms: &mut Terms,
+    tested: TermId,
+    low: TermId,
+    high: TermId,
+) -> Result<TermId, AllocError>
+    requires { (tested.0 < length terms.old) × (low.0 < length terms.old) × (high.0 < length terms.old) }
+    ensures { IfOk result (λ id. Adds terms.old terms.new id (between (tree_at terms.old tested) (tree_at terms.old low) (tree_at terms.old high))) }
 {
-    match expr {
-        CoreExpr::Number(value, _) => terms.make(Node::Number(*value)),
-        CoreExpr::Name(name) => name_id(terms, values, name.entity),
-        CoreExpr::Attribute(_, _) => match literal(expr) {
-            Some(value) => static_id(terms, value),
-            None => terms.make(Node::Number(0)),
-        },
-        CoreExpr::Parenthesized(_, inner) => term_id(terms, values, inner.get()),
-        CoreExpr::Prefix(op, _, operand) => {
-            if let Some(value) = literal(expr) {
-                return static_id(terms, value);
-            }
-            let operand = term_id(terms, values, operand.get())?;
-            signed_id(terms, *op, operand)
-        }
-        CoreExpr::Infix(op, _, left, right) => {
-            if let Some(value) = literal(expr) {
-                return static_id(terms, value);
-            }
-            let left = term_id(terms, values, left.get())?;
-            let right = term_id(terms, values, right.get())?;
-            let value = terms.infix(term_op(*op), left, right)?;
-            Ok(value)
+    let least = terms.infix(TermOp::GreaterOrEqual, tested, low)?;
+    let most = terms.infix(TermOp::LessOrEqual, tested, high)?;
+    let both = terms.infix(TermOp::And, least, most)?;
+    Ok(both)
+}
+
+/// The id of the term of a membership test.
+pub fn member_id(
+    terms: &mut Terms,
+    op: MemberOp,
+    tested: TermId,
+    low: TermId,
+    high: TermId,
+) -> Result<TermId, AllocError>
+    requires { (tested.0 < length terms.old) × (low.0 < length terms.old) × (high.0 < length terms.old) }
+    ensures { IfOk result (λ id. Adds terms.old terms.new id (member_term op (tree_at terms.old tested) (tree_at terms.old low) (tree_at terms.old high))) }
+{
+    let within = between(terms, tested, low, high)?;
+    match op {
+        MemberOp::In => Ok(within),
+        MemberOp::NotIn(_) => {
+            let outside = negated_id(terms, within)?;
+            Ok(outside)
         }
     }
 }
 
-/// That a term is at least the first number of the type `Integer`.
-pub fn not_below(terms: &mut Terms, value: TermId) -> Result<TermId, AllocError>
-    requires { value.0 < length terms.old }
-    ensures { IfOk result (λ id. Adds terms.old terms.new id (term.Infix TermOp.GreaterOrEqual (tree_at terms.old value) (term.Number INTEGER_FIRST))) }
+/// The id of the term of an expression, where variables have these values. A static one stands as its value.
+#[cycle(term_id)]
+pub fn term_id(
+    program: &Program,
+    terms: &mut Terms,
+    values: &Values,
+    expr: &CoreExpr,
+) -> Result<TermId, AllocError>
+    requires { AreValues (length terms.old) values.now }
+    ensures { IfOk result (AddsMeaning program.now terms.old terms.new values.now expr.now) }
 {
-    let first = terms.make(Node::Number(INTEGER_FIRST))?;
-    terms.infix(TermOp::GreaterOrEqual, value, first)
-}
-
-/// That a term is at most the last number of the type `Integer`.
-pub fn not_above(terms: &mut Terms, value: TermId) -> Result<TermId, AllocError>
-    requires { value.0 < length terms.old }
-    ensures { IfOk result (λ id. Adds terms.old terms.new id (term.Infix TermOp.LessOrEqual (tree_at terms.old value) (term.Number INTEGER_LAST))) }
-{
-    let last = terms.make(Node::Number(INTEGER_LAST))?;
-    terms.infix(TermOp::LessOrEqual, value, last)
+    if let Some(value) = literal(expr) {
+        let id = static_id(terms, value)?;
+        return Ok(id);
+    }
+    match expr {
+        CoreExpr::Number(value, _) => {
+            let id = terms.make(Node::Number(*value))?;
+            Ok(id)
+        }
+        CoreExpr::Name(name) => {
+            let id = name_id(program, terms, values, name.entity)?;
+            Ok(id)
+        }
+        CoreExpr::Attribute(_, _) => {
+            let id = terms.make(Node::Number(0))?;
+            Ok(id)
+        }
+        CoreExpr::Parenthesized(_, inner) => {
+            let id = term_id(program, terms, values, inner.get())?;
+            Ok(id)
+        }
+        CoreExpr::Prefix(op, _, operand) => {
+            let operand = term_id(program, terms, values, operand.get())?;
+            let id = signed_id(terms, *op, operand)?;
+            Ok(id)
+        }
+        CoreExpr::Infix(op, _, left, right) => {
+            let left = term_id(program, terms, values, left.get())?;
+            let right = term_id(program, terms, values, right.get())?;
+            let id = terms.infix(term_op(*op), left, right)?;
+            Ok(id)
+        }
+        CoreExpr::InType(op, _, tested, name) => {
+            let subtype = subtype_of(name.root.entity);
+            let tested = term_id(program, terms, values, tested.get())?;
+            let low = terms.make(Node::Number(subtype.first))?;
+            let high = terms.make(Node::Number(subtype.last))?;
+            let id = member_id(terms, *op, tested, low, high)?;
+            Ok(id)
+        }
+        CoreExpr::InRange(op, _, tested, low, high) => {
+            let tested = term_id(program, terms, values, tested.get())?;
+            let low = term_id(program, terms, values, low.get())?;
+            let high = term_id(program, terms, values, high.get())?;
+            let id = member_id(terms, *op, tested, low, high)?;
+            Ok(id)
+        }
+    }
 }

@@ -8,9 +8,14 @@
 #![tactic(auto)]
 
 mod branches;
+mod checks;
 mod fault;
+mod goals;
 mod ids;
 mod limit;
+mod names;
+mod start;
+mod steps;
 mod values;
 mod vcg;
 mod walk;

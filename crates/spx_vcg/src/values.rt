@@ -4,27 +4,28 @@ ghost use Rattle.spx_vcg.specs.States.{given, IsSet};
 
 use indexmap::IndexMap;
 use spx_arena::TermId;
-use spx_core::VarId;
+use spx_term::Name;
 use std::alloc::{AllocError, Global};
 use std::marker::Model;
 
-/// The value that each variable was given last. Contracts see the list of the variables' positions with their values.
+/// The value that each name was given last. Contracts see the list of the names with their values.
 #[derive(Drop)]
 pub struct Values {
-    ids: IndexMap<usize, TermId>,
+    ids: IndexMap<Name, TermId>,
 }
 
 impl Model for Values {
-    ghost use Rattle.std.specs.Prelude.{ℕ, List};
+    ghost use Rattle.std.specs.Prelude.{List};
+    ghost use Rattle.spx_term.specs.declared.term.Name.{Name};
     ghost use Rattle.spx_arena.specs.declared.terms.TermId.{TermId};
 
-    ghost Value = { List (ℕ × TermId) };
+    ghost Value = { List (Name × TermId) };
 
     ghost view = { λ a. a.ids.entries };
 }
 
 impl Values {
-    /// No variable has a value.
+    /// No name has a value.
     pub fn new(alloc: Global) -> Values
         ensures { result ≡ [] }
     {
@@ -42,18 +43,18 @@ impl Values {
         })
     }
 
-    /// The value that a variable was given last.
-    pub fn get(&self, var: VarId) -> Option<TermId>
-        ensures { result ≡ given self.now var.0 }
+    /// The value that a name was given last.
+    pub fn get(&self, name: Name) -> Option<TermId>
+        ensures { result ≡ given self.now name }
     {
-        self.ids.get(&var.0).copied()
+        self.ids.get(&name).copied()
     }
 
-    /// Gives a variable a value.
-    pub fn set(&mut self, var: VarId, value: TermId) -> Result<(), AllocError>
-        ensures { OnOk result (IsSet self.old self.new var value) }
+    /// Gives a name a value.
+    pub fn set(&mut self, name: Name, value: TermId) -> Result<(), AllocError>
+        ensures { OnOk result (IsSet self.old self.new name value) }
     {
-        self.ids.insert(var.0, value)?;
+        self.ids.insert(name, value)?;
         Ok(())
     }
 }

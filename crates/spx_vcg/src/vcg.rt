@@ -25,9 +25,9 @@ use sqlite_items::Items;
 use std::alloc::{AllocError, Global};
 
 /// The conditions on shared terms, whatever their size.
-fn walked(alloc: Global, sub: &Sub) -> Result<SharedClaims, AllocError>
+fn walked(alloc: Global, program: &Program, sub: &Sub) -> Result<SharedClaims, AllocError>
     ensures whole { IfOk result IsWhole }
-    ensures claims { (p : Program) → IfOk result (λ all. claims_in all ≡ map tidy (body_claims p sub.now)) }
+    ensures claims { IfOk result (λ all. claims_in all ≡ map tidy (body_claims program.now sub.now)) }
 {
     let lists = FactLists::new(alloc);
     let mut walk = Walk {
@@ -40,10 +40,10 @@ fn walked(alloc: Global, sub: &Sub) -> Result<SharedClaims, AllocError>
         },
         claims: Items::new(alloc),
     };
-    walk.enter_all(alloc, sub)?;
-    walk.assume_imports(alloc, sub)?;
-    walk.assume_pre(sub)?;
-    walk.path(alloc, sub.statements.as_slice(), &Rest::End)?;
+    walk.enter_all(alloc, program, sub)?;
+    walk.assume_imports(alloc, program, sub)?;
+    walk.assume_pre(alloc, program, sub)?;
+    walk.path(alloc, program, sub.statements.as_slice(), &Rest::End)?;
     let Walk {
         terms,
         values: _,
@@ -59,16 +59,16 @@ fn walked(alloc: Global, sub: &Sub) -> Result<SharedClaims, AllocError>
 }
 
 /// The conditions on shared terms, unless they pass a limit.
-fn conditions_within(alloc: Global, sub: &Sub) -> Result<SharedClaims, VcFault>
+fn conditions_within(alloc: Global, program: &Program, sub: &Sub) -> Result<SharedClaims, VcFault>
     ensures whole { IfOk result IsWhole }
-    ensures claims { (p : Program) → IfOk result (λ all. claims_in all ≡ map tidy (body_claims p sub.now)) }
-    ensures few { (p : Program) → OnOk result ((has_many_paths sub.now ≡ false) × (has_large_condition p sub.now ≡ false)) }
-    ensures refused { (p : Program) → IfErr result (IsFaultOf p sub.now) }
+    ensures claims { IfOk result (λ all. claims_in all ≡ map tidy (body_claims program.now sub.now)) }
+    ensures few { OnOk result ((has_many_paths sub.now ≡ false) × (has_large_condition program.now sub.now ≡ false)) }
+    ensures refused { IfErr result (IsFaultOf program.now sub.now) }
 {
     if has_many_paths(sub) {
         return Err(VcFault::TooManyPaths(MOST_PATHS + 1));
     }
-    let claims = walked(alloc, sub)?;
+    let claims = walked(alloc, program, sub)?;
     if has_large_claim(alloc, &claims)? {
         return Err(VcFault::TooManyNodes(MOST_NODES + 1));
     }
@@ -88,7 +88,7 @@ pub fn shared_conditions(
     ensures few { (sub : Sub) → slice_get program.now.subs id.0 ≡ Some sub → OnOk result ((has_many_paths sub ≡ false) × (has_large_condition program.now sub ≡ false)) }
     ensures refused { (sub : Sub) → slice_get program.now.subs id.0 ≡ Some sub → IfErr result (IsFaultOf program.now sub) }
 {
-    conditions_within(alloc, &program.subs.as_slice()[id.0])
+    conditions_within(alloc, program, &program.subs.as_slice()[id.0])
 }
 
 /// `SUB.N`, after so many conditions.
@@ -149,12 +149,12 @@ fn as_trees(alloc: Global, sub: &Sub, claims: &SharedClaims) -> Result<Items<Con
 }
 
 /// The verification conditions of a subprogram as trees, unless they pass a limit.
-fn trees_within(alloc: Global, sub: &Sub) -> Result<Items<Condition>, VcFault>
-    ensures exact { (p : Program) → IfOk result (λ all. all ≡ conditions_of p sub.now) }
-    ensures few { (p : Program) → OnOk result ((has_many_paths sub.now ≡ false) × (has_large_condition p sub.now ≡ false)) }
-    ensures refused { (p : Program) → IfErr result (IsFaultOf p sub.now) }
+fn trees_within(alloc: Global, program: &Program, sub: &Sub) -> Result<Items<Condition>, VcFault>
+    ensures exact { IfOk result (λ all. all ≡ conditions_of program.now sub.now) }
+    ensures few { OnOk result ((has_many_paths sub.now ≡ false) × (has_large_condition program.now sub.now ≡ false)) }
+    ensures refused { IfErr result (IsFaultOf program.now sub.now) }
 {
-    let claims = conditions_within(alloc, sub)?;
+    let claims = conditions_within(alloc, program, sub)?;
     Ok(as_trees(alloc, sub, &claims)?)
 }
 
@@ -166,5 +166,5 @@ pub fn conditions(alloc: Global, program: &Program, id: SubId) -> Result<Items<C
     ensures few { (sub : Sub) → slice_get program.now.subs id.0 ≡ Some sub → OnOk result ((has_many_paths sub ≡ false) × (has_large_condition program.now sub ≡ false)) }
     ensures refused { (sub : Sub) → slice_get program.now.subs id.0 ≡ Some sub → IfErr result (IsFaultOf program.now sub) }
 {
-    trees_within(alloc, &program.subs.as_slice()[id.0])
+    trees_within(alloc, program, &program.subs.as_slice()[id.0])
 }

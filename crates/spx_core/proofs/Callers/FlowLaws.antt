@@ -1,9 +1,9 @@
 -- Laws of flow.
 use Rattle.std.proofs.Common.{◌≡◌, Bool, true, false, ◌||◌, List, [], ◌∷◌, ◌++◌, Option, Some, None, option_map, refl, sym, ap, ap₂, ◌∙◌, subst, inl, inr, ⊎_elim}
-use Rattle.std.specs.Prelude.{◌==◌, Contains}
+use Rattle.std.specs.Prelude.{◌==◌}
 use Rattle.std.specs.List.{cons_option, filter_map, list_any}
 use Rattle.std.specs.Option.{option_to_list}
-use Rattle.std.proofs.lemmas.Bool.{or_parts, both_ways, eqb-true}
+use Rattle.std.proofs.lemmas.Bool.{or_parts, both_ways}
 use Rattle.std.proofs.lemmas.List.Folds.{list_any-append}
 use Rattle.spx_text.specs.declared.place.Place.{Place}
 use Rattle.spx_core.specs.declared.entity.VarId.{VarId}
@@ -19,8 +19,6 @@ use Rattle.spx_core.specs.Effects.{Effect, Read, nothing, assign, next, choose, 
 use Rattle.spx_core.specs.Flow.{MayFlow, FlowsCompose, FlowsKeep}
 use Rattle.spx_core.specs.Ways.{Free, Goes}
 use Rattle.spx_core.specs.FlowRules.{left, ExportsAreSet}
-use Rattle.spx_core.proofs.Callers.ListTests.{found}
-use Rattle.spx_core.proofs.Callers.Variables.{same_var}
 
 -- ---- reads
 

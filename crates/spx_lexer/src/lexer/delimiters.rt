@@ -68,7 +68,7 @@ fn is_equivalence(marked: bool, first: u8, rest: &[u8]) -> bool
     }
 }
 
-// The longest delimiter in front, and its length.
+// The longest delimiter at the front, and its length.
 #[tactic(auto, unfolding(crate::specs::Pieces::delimiter_at))]
 pub(super) fn delimiter_at(marked: bool, first: u8, rest: &[u8]) -> Option<(Kind, usize)>
     ensures value { result ≡ spec.delimiter_at marked first rest.now }

@@ -132,8 +132,8 @@ fn closed_digits(base: u8, bytes: &[u8]) -> Option<Digits>
     ensures within { IfSome result (λ digits. digits.len ≤ length bytes.now + 1) }
 {
     let len = numeral_len(base, bytes);
-    let (digits, behind) = bytes.split_at(len);
-    match behind {
+    let (digits, following) = bytes.split_at(len);
+    match following {
         [b'#', ..] if len > 0 => Some(Digits {
             len: len + 2,
             base,
@@ -164,9 +164,9 @@ fn digits_at(bytes: &[u8]) -> Digits
     ensures within { result.len ≤ length bytes.now }
 {
     let len = numeral_len(10, bytes);
-    let (whole, behind) = bytes.split_at(len);
+    let (whole, following) = bytes.split_at(len);
     let value = numeral_value(10, whole);
-    match based_digits(base_of(value), behind) {
+    match based_digits(base_of(value), following) {
         Some(digits) => Digits {
             len: len + digits.len,
             base: digits.base,
@@ -254,8 +254,8 @@ pub(super) fn number_in(bytes: &[u8]) -> Number
     ensures within { result.len ≤ length bytes.now }
 {
     let digits = digits_at(bytes);
-    let (_, behind) = bytes.split_at(digits.len);
-    let exponent = exponent_at(behind);
+    let (_, following) = bytes.split_at(digits.len);
+    let exponent = exponent_at(following);
     Number {
         len: digits.len + exponent.len,
         value: value_of(digits, exponent.value),

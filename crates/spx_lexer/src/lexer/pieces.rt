@@ -127,7 +127,7 @@ fn lexeme_at(marked: bool, bytes: &[u8]) -> Result<Piece, Cause>
     }
 }
 
-/// What stands in front of a text, of which the rest of a line may be annotation text.
+/// What stands before a text, of which the rest of a line may be annotation text.
 #[tactic(auto, unfolding(crate::specs::Pieces::piece_at))]
 pub(super) fn piece_at(marked: bool, bytes: &[u8]) -> Result<Piece, Cause>
     ensures value { result ≡ spec.piece_at marked bytes.now }

@@ -45,7 +45,7 @@ fn marked_after(what: What, marked: bool) -> bool
     }
 }
 
-// The position behind a piece.
+// The position after a piece.
 pub(super) fn after(at: Position, piece: Piece) -> Position
     requires offset { at.offset + piece.len < 2 ^ 64 }
     requires line { at.place.line < 2 ^ 32 - 1 }

@@ -4,15 +4,17 @@ use Rattle.std.proofs.lemmas.Bool.{eq-eqb}
 use Rattle.spx_text.specs.declared.place.Place.{Place}
 use Rattle.spx_core.specs.declared.entity.VarId.{VarId}
 use Rattle.spx_core.specs.declared.expression.CoreExpr.{CoreExpr}
-use Rattle.spx_core.specs.declared.expression.CoreExpr.TheVariants.{Prefix, Infix}
+use Rattle.spx_core.specs.declared.expression.CoreExpr.TheVariants.{Name, Prefix, Infix, InType, InRange}
+use Rattle.spx_core.specs.Judged.{named_value}
+use Rattle.spx_core.specs.Places.{place_of}
 use Rattle.spx_core.specs.Uses.{is_same, uses, variable_of}
 use Rattle.spx_meaning.specs.Stores.{Store, look, type_of}
 use Rattle.spx_meaning.specs.Frames.{Frame}
-use Rattle.spx_meaning.specs.Literals.{literal}
-use Rattle.spx_meaning.specs.Evaluation.{with_value, applied, applied_sign, checked, signed, read, read_at, static_or, eval, eval-Number, eval-Name, eval-Attribute, eval-Parenthesized, eval-Prefix, eval-Infix}
-use Rattle.spx_meaning.specs.Annotations.{reading_of, seen, meant, meant_step}
-use Rattle.spx_core.proofs.Callers.ReadsLaws.{uses-Name, uses-Parenthesized, uses-Prefix, uses_left, uses_right}
-use Rattle.spx_core.proofs.Callers.Expressions.{Cases, induct, fold-Number, fold-Name, fold-Attribute, fold-Parenthesized, fold-Prefix, fold-Infix}
+use Rattle.spx_meaning.specs.Literals.{base_of, literal, literal_in}
+use Rattle.spx_meaning.specs.Evaluation.{Gives, with_value, applied, applied_sign, checked, decided, first_in, last_in, member, signed, read, read_at, static_or, eval, eval-Number, eval-Name, eval-Attribute, eval-Parenthesized, eval-Prefix, eval-Infix, eval-InType, eval-InRange}
+use Rattle.spx_meaning.specs.Annotations.{reading_of, seen, value_or, meant, meant_step}
+use Rattle.spx_core.proofs.Callers.ReadsLaws.{uses-Name, uses-Parenthesized, uses-Prefix, uses-InType, uses_left, uses_right, uses_tested, uses_low, uses_high}
+use Rattle.spx_core.proofs.Callers.Expressions.{Cases, induct, fold-Number, fold-Name, fold-Attribute, fold-Parenthesized, fold-Prefix, fold-Infix, fold-InType, fold-InRange}
 
 -- the stores agree on the variables that the expression uses
 abbrev pub AgreeOnUses : CoreExpr → Store → Store → Type 0
@@ -29,19 +31,30 @@ module _ (f g : Frame) (n m : ℕ) (s t : Store) where
   same_cases : Cases Same
   same_cases = record {
     number = λ k place agree. eval-Number f n s k place ∙ sym (eval-Number g m t k place);
-    name = λ name agree. eval-Name f n s name ∙ read_same name.name.place (variable_of name.entity) (λ v h. agree v (uses-Name v name ∙ h)) ∙ sym (eval-Name g m t name);
+    name = λ name agree. eval-Name f n s name ∙ ap (static_or (literal (Name name))) (read_same name.name.place (variable_of name.entity) (λ v h. agree v (uses-Name v name ∙ h))) ∙ sym (eval-Name g m t name);
     attribute = λ prefix designator agree. eval-Attribute f n s prefix designator ∙ sym (eval-Attribute g m t prefix designator);
     parenthesized = λ place a p agree.
         eval-Parenthesized f n s place a ∙ p (λ v h. agree v (uses-Parenthesized v place a ∙ h)) ∙ sym (eval-Parenthesized g m t place a);
     prefix = λ op place a p agree.
         eval-Prefix f n s op place a
-        ∙ ap (λ x. static_or (literal (Prefix op place a)) (with_value x (λ u. signed op place u))) (p (λ v h. agree v (uses-Prefix v op place a ∙ h)))
+        ∙ ap (λ x. static_or (literal (Prefix op place a)) (with_value x (λ u. signed op (base_of (Prefix op place a)) place u))) (p (λ v h. agree v (uses-Prefix v op place a ∙ h)))
         ∙ sym (eval-Prefix g m t op place a);
     «infix» = λ op place a b p q agree.
         eval-Infix f n s op place a b
-        ∙ ap₂ (λ x y. static_or (literal (Infix op place a b)) (with_value x (λ u. with_value y (λ w. checked op place (applied op u w)))))
+        ∙ ap₂ (λ x y. static_or (literal (Infix op place a b)) (with_value x (λ u. static_or (decided op u) (with_value y (λ w. checked op (base_of (Infix op place a b)) place (place_of b) u w)))))
         (p (λ v h. agree v (uses_left v op place a b h))) (q (λ v h. agree v (uses_right v op place a b h)))
         ∙ sym (eval-Infix g m t op place a b);
+    in_type = λ op place a name p agree.
+        eval-InType f n s op place a name
+        ∙ ap (λ x. static_or (literal (InType op place a name)) (with_value x (λ u. Gives (member op u (first_in name) (last_in name))))) (p (λ v h. agree v (uses-InType v op place a name ∙ h)))
+        ∙ sym (eval-InType g m t op place a name);
+    in_range = λ op place a low high p q r agree.
+        eval-InRange f n s op place a low high
+        ∙ ap₂ (λ x y. static_or (literal (InRange op place a low high)) (with_value x (λ u. with_value y (λ w. with_value (eval f n s high) (λ z. Gives (member op u w z))))))
+        (p (λ v h. agree v (uses_tested v op place a low high h))) (q (λ v h. agree v (uses_low v op place a low high h)))
+        ∙ ap (λ x. static_or (literal (InRange op place a low high)) (with_value (eval g m t a) (λ u. with_value (eval g m t low) (λ w. with_value x (λ z. Gives (member op u w z))))))
+        (r (λ v h. agree v (uses_high v op place a low high h)))
+        ∙ sym (eval-InRange g m t op place a low high);
   }
 
   -- it does not depend on what surrounds it either
@@ -61,7 +74,7 @@ module _ (f g : Frame) (one : f.program ≡ g.program) (s t : Store) where
   means_cases = record {
     number = λ n place agree. fold-Number (meant_step f s) n place ∙ sym (fold-Number (meant_step g t) n place);
     name = λ name agree.
-        fold-Name (meant_step f s) name ∙ reading_same (variable_of name.entity) (λ v h. agree v (uses-Name v name ∙ h)) ∙ sym (fold-Name (meant_step g t) name);
+        fold-Name (meant_step f s) name ∙ ap (value_or (literal_in (named_value name))) (reading_same (variable_of name.entity) (λ v h. agree v (uses-Name v name ∙ h))) ∙ sym (fold-Name (meant_step g t) name);
     attribute = λ prefix designator agree. fold-Attribute (meant_step f s) prefix designator ∙ sym (fold-Attribute (meant_step g t) prefix designator);
     parenthesized = λ place a p agree.
         fold-Parenthesized (meant_step f s) place a
@@ -75,6 +88,15 @@ module _ (f g : Frame) (one : f.program ≡ g.program) (s t : Store) where
         fold-Infix (meant_step f s) op place a b
         ∙ ap₂ (applied op) (p (λ v h. agree v (uses_left v op place a b h))) (q (λ v h. agree v (uses_right v op place a b h)))
         ∙ sym (fold-Infix (meant_step g t) op place a b);
+    in_type = λ op place a name p agree.
+        fold-InType (meant_step f s) op place a name
+        ∙ ap (λ x. member op x (first_in name) (last_in name)) (p (λ v h. agree v (uses-InType v op place a name ∙ h)))
+        ∙ sym (fold-InType (meant_step g t) op place a name);
+    in_range = λ op place a low high p q r agree.
+        fold-InRange (meant_step f s) op place a low high
+        ∙ ap₂ (λ x y. member op x y (meant f s high)) (p (λ v h. agree v (uses_tested v op place a low high h))) (q (λ v h. agree v (uses_low v op place a low high h)))
+        ∙ ap (λ z. member op (meant g t a) (meant g t low) z) (r (λ v h. agree v (uses_high v op place a low high h)))
+        ∙ sym (fold-InRange (meant_step g t) op place a low high);
   }
 
   pub meant_same : (e : CoreExpr) → MeansSame e

@@ -14,7 +14,7 @@ use Rattle.spx_term.specs.Meaning.{as_truth}
 use Rattle.spx_meaning.specs.Stores.{Store, look}
 use Rattle.spx_meaning.specs.Frames.{Frame}
 use Rattle.spx_meaning.specs.Evaluation.{eval}
-use Rattle.spx_meaning.specs.Runs.{Outcome, Ended, Left, Bad, Later, then_do, use_value, run}
+use Rattle.spx_meaning.specs.Runs.{Outcome, Ended, Left, Bad, Later, then_do, run}
 use Rattle.spx_meaning.specs.Laws.{Agree}
 use Rattle.spx_core.proofs.Callers.FlowLaws.{keeps, reads_uses}
 use Rattle.spx_meaning.proofs.Callers.Evaluation.{eval_same}

@@ -53,7 +53,7 @@ unfolding plus
 plus_is zero n = (omega arith, omega arith)
 plus_is (suc k) n = let h = plus_is k n in (omega arith, omega arith)
 
--- of two fronts of one list, the one with less behind it begins with the other
+-- of two fronts of one list, the one with less after it begins with the other
 pub front_of : (a b c d : List Form) → a ++ b ≡ c ++ d → length d ≤ length b → (v : List Form) × (c ≡ a ++ v)
 front_of [] b c d e le = (c, refl)
 front_of (x ∷ a) b [] d e le = let len = ap length e in absurd (omega (arith, len, length-append (x ∷ a) b))
@@ -116,9 +116,9 @@ module _ {A : Type 0} (spell : A → List Form) (fits : ℕ → A → Type 0) (p
       let r = reached_by b (suc n) fs m (p (suc (suc n)) fs) sh (omega arith) refl (subst (λ (o : Outcome A). Follows o (p (suc (suc n)) fs)) e ((grows (suc n)).follows fs sh tt)) in
       (r.0, r.1, r.2, r.3, r.4, r.5, omega (arith, r.6), r.7, r.8)
 
-  begins_from : (m : ℕ) (fs taken rest more front behind : List Form) (x : A) → fs ≡ taken ++ rest → fs ≡ front ++ behind → length rest ≤ length behind → fits m x → taken ++ more ≡ spell x → Begins spell fits m front
-  begins_from m fs taken rest more front behind x e f le fit text =
-      let v = front_of front behind taken rest (sym f ∙ e) le in
+  begins_from : (m : ℕ) (fs taken rest more front following : List Form) (x : A) → fs ≡ taken ++ rest → fs ≡ front ++ following → length rest ≤ length following → fits m x → taken ++ more ≡ spell x → Begins spell fits m front
+  begins_from m fs taken rest more front following x e f le fit text =
+      let v = front_of front following taken rest (sym f ∙ e) le in
       (v.0 ++ more, x, fit, (sym (append_assoc front v.0 more) ∙ ap (λ (us : List Form). us ++ more) (sym v.1)) ∙ text)
 
   some_rest : (rest : List Form) (n : ℕ) → length rest ≡ n → 0 < n → (t : Form) × (r : List Form) × (rest ≡ t ∷ r)

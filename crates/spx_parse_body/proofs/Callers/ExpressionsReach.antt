@@ -1,4 +1,4 @@
--- The forms of a name or an expression are read as that, whatever stands behind them that does not go on with it.
+-- The forms of a name or an expression are read as that, whatever stands after them that does not go on with it.
 use Rattle.std.proofs.Common.{◌≡◌, ◌⊎◌, inl, inr, ℕ, zero, suc, ◌+◌, ◌-◌, ◌≤◌, ◌<◌, max, Bool, true, false, List, [], ◌∷◌, ◌++◌, Option, Some, None, Ok, refl, sym, ap, subst, ◌∙◌, append_assoc, arith}
 use denote.Hole.Carrier.{hidden}
 use Rattle.spx_text.specs.declared.place.Place.{Place}
@@ -9,6 +9,8 @@ use Rattle.spx_tree.specs.declared.expression.InfixOp.{InfixOp}
 use Rattle.spx_tree.specs.declared.expression.InfixOp.TheVariants as op
 use Rattle.spx_tree.specs.declared.expression.PrefixOp.{PrefixOp}
 use Rattle.spx_tree.specs.declared.expression.PrefixOp.TheVariants as sign
+use Rattle.spx_tree.specs.declared.expression.MemberOp.{MemberOp}
+use Rattle.spx_tree.specs.declared.expression.MemberOp.TheVariants as members
 use Rattle.spx_tree.specs.declared.expression.Layer.{Layer}
 use Rattle.spx_tree.specs.declared.expression.Layer.TheVariants as layer
 use Rattle.spx_tree.specs.declared.expression.Name.{Name}
@@ -17,24 +19,53 @@ use Rattle.spx_tree.specs.declared.expression.Expr.{Expr}
 use Rattle.spx_tree.specs.declared.expression.Expr.TheBlock.{hidden-the_row-Expr-0}
 use Rattle.spx_tree.specs.declared.expression.Expr.TheVariants as expr
 use Rattle.spx_tree.specs.Form.{Form, Kept, Nothing, Where, Spelled, Valued, placed, bare, named}
-use Rattle.spx_tree.specs.Written.{parenthesized, signed, operation, sign_kind, operator_kind, written_name, written_expr}
-use Rattle.spx_tree.specs.Grammar.{height, layer_of, layer_in, rank, LeftFits, RightFits, Layered, IsExpr}
+use Rattle.spx_tree.specs.Written as written
+use Rattle.spx_tree.specs.Written.{parenthesized, sign_kind, operator_kind, second_word, written_operator, written_member, written_name, written_expr}
+use Rattle.spx_tree.specs.Grammar.{height, layer_of, layer_before, layer_in, rank, right_layer, operand_layer, HasOperator, FitsLeft, IsUpTo, Layered, IsExpr}
 use Rattle.spx_parse_body.specs.declared.expressions.Tall.{Tall}
+use Rattle.spx_parse_body.specs.declared.operators.Chain.{Chain}
+use Rattle.spx_parse_body.specs.declared.operators.Chain.TheVariants as chain
+use Rattle.spx_parse_body.specs.declared.operators.Relator.{Relator}
+use Rattle.spx_parse_body.specs.declared.operators.Relator.TheVariants as relators
 use Rattle.spx_parse_body.specs.Reading.{Outcome, Reader, and_then, peek}
-use Rattle.spx_parse_body.specs.Expressions.{sign_of, adding, relational, name_by, name, literal, in_parentheses, primary_by, primary, behind_sign, first_by, first, joined_by, step_by, sum_step, continued, sum, relation_by, relation, read, below, at_layer, expression, expression_below}
+use Rattle.spx_parse_body.specs.Operators.{sign_of, abs_or_not, power_of, multiplying, adding, relator_of, logical, if_then, if_else, same_logical, goes_on, second, whole_by, whole_operator}
+use Rattle.spx_parse_body.specs.Expressions.{name_by, name, literal, in_parentheses, primary_by, primary, operated, joined_by, power_by, power, factor_by, factor, step_by, chain_step, chained, term, signed_by, signed, sum, type_by, member_by, member, inside, outside, relation_by, relation, combined, opening_by, opening, combination_by, combination, read, below, at_layer, expression, expression_below}
 use Rattle.spx_parse_body.proofs.Callers.Loops.{Shrinks}
 use Rattle.spx_parse_body.proofs.Callers.Reaches.{Reaches, reaches_bind, reaches_pure, reaches_choose, reaches_deeper, reaches_expect, reaches_expect_place, reaches_identifier, reaches_number, peek_front, loop_turn, loop_over}
-use Rattle.spx_parse_body.proofs.Callers.ExpressionsGood.{below_good, sum_shrinks}
+use Rattle.spx_parse_body.proofs.Callers.Operators.{chain_layer}
+use Rattle.spx_parse_body.proofs.Callers.ExpressionsGood.{below_good, chain_shrinks}
 
 -- an expression with its height
 abbrev pub measure : Expr → Tall
 measure x = record { expr = x; height = height x }
 
+-- the rank of the least layer that a form of this kind goes on with, or a greater number
+abbrev pub strength : Option Kind → ℕ
+strength (Some k.Apostrophe) = 0
+strength (Some k.DoubleAsterisk) = 1
+strength (Some k.Asterisk) = 2
+strength (Some k.Slash) = 2
+strength (Some k.Mod) = 2
+strength (Some k.Rem) = 2
+strength (Some k.Plus) = 3
+strength (Some k.Minus) = 3
+strength (Some k.Equal) = 4
+strength (Some k.NotEqual) = 4
+strength (Some k.Less) = 4
+strength (Some k.LessOrEqual) = 4
+strength (Some k.Greater) = 4
+strength (Some k.GreaterOrEqual) = 4
+strength (Some k.In) = 4
+strength (Some k.Not) = 4
+strength (Some k.DoubleDot) = 4
+strength (Some k.And) = 5
+strength (Some k.Or) = 5
+strength (Some k.Xor) = 5
+strength _ = 6
+
 -- the next form does not go on with an expression of this layer
 abbrev pub Free : Layer → Option Kind → Type 0
-Free layer.Primary kind = kind ≡ Some k.Apostrophe → ⊥
-Free layer.Sum kind = (kind ≡ Some k.Apostrophe → ⊥) × (adding kind ≡ None)
-Free layer.Relation kind = (kind ≡ Some k.Apostrophe → ⊥) × (adding kind ≡ None) × (relational kind ≡ None)
+Free layer kind = rank layer < strength kind
 
 pub peek_here : (marked : Bool) (kind : Kind) (part : Kept) (fs : List Form) → peek marked (record { kind = kind; marked = marked; kept = part } ∷ fs) ≡ Some kind
 peek_here true kind part fs = refl
@@ -46,64 +77,151 @@ Again marked p levels layer = (x : Expr) (fs zs : List Form) → height x ≤ le
 
 -- ---- operators
 
-layer_cases : (o : InfixOp) → (layer_of o ≡ layer.Sum) ⊎ (layer_of o ≡ layer.Relation)
-layer_cases op.Add = inl refl
-layer_cases op.Subtract = inl refl
-layer_cases _ = inr refl
+op_strength : (o : InfixOp) → strength (Some (operator_kind o)) ≡ rank (layer_of o)
+op_strength op.Add = refl
+op_strength _ = refl
 
-adding_self : (o : InfixOp) → layer_of o ≡ layer.Sum → adding (Some (operator_kind o)) ≡ Some o
-adding_self op.Add e = refl
-adding_self op.Subtract e = refl
-adding_self _ e = absurd cc
+no_tick : (kind : Option Kind) → 0 < strength kind → kind ≡ Some k.Apostrophe → ⊥
+no_tick kind s e = let n = ap strength e in omega arith
 
-relational_self : (o : InfixOp) → layer_of o ≡ layer.Relation → relational (Some (operator_kind o)) ≡ Some o
-relational_self op.Add e = absurd cc
-relational_self op.Subtract e = absurd cc
-relational_self op.Equal e = refl
-relational_self op.NotEqual e = refl
-relational_self op.Less e = refl
-relational_self op.LessOrEqual e = refl
-relational_self op.Greater e = refl
-relational_self op.GreaterOrEqual e = refl
+no_power : (kind : Option Kind) → 1 < strength kind → power_of kind ≡ None
+no_power (Some k.DoubleAsterisk) s = absurd (omega arith)
+no_power _ s = refl
 
-not_adding : (o : InfixOp) → layer_of o ≡ layer.Relation → adding (Some (operator_kind o)) ≡ None
-not_adding op.Add e = absurd cc
-not_adding op.Subtract e = absurd cc
-not_adding op.Equal e = refl
-not_adding op.NotEqual e = refl
-not_adding op.Less e = refl
-not_adding op.LessOrEqual e = refl
-not_adding op.Greater e = refl
-not_adding op.GreaterOrEqual e = refl
+no_multiplying : (kind : Option Kind) → 2 < strength kind → multiplying kind ≡ None
+no_multiplying (Some k.Asterisk) s = absurd (omega arith)
+no_multiplying (Some k.Slash) s = absurd (omega arith)
+no_multiplying (Some k.Mod) s = absurd (omega arith)
+no_multiplying (Some k.Rem) s = absurd (omega arith)
+no_multiplying _ s = refl
 
-not_tick : (o : InfixOp) → Some (operator_kind o) ≡ Some k.Apostrophe → ⊥
-not_tick op.Add e = cc
-not_tick op.Subtract e = cc
-not_tick op.Equal e = cc
-not_tick op.NotEqual e = cc
-not_tick op.Less e = cc
-not_tick op.LessOrEqual e = cc
-not_tick op.Greater e = cc
-not_tick op.GreaterOrEqual e = cc
+no_adding : (kind : Option Kind) → 3 < strength kind → adding kind ≡ None
+no_adding (Some k.Plus) s = absurd (omega arith)
+no_adding (Some k.Minus) s = absurd (omega arith)
+no_adding _ s = refl
 
-sign_self : (o : PrefixOp) → sign_of (Some (sign_kind o)) ≡ Some o
-sign_self sign.Plus = refl
-sign_self sign.Minus = refl
+no_relator : (kind : Option Kind) → 4 < strength kind → relator_of kind ≡ None
+no_relator (Some k.Equal) s = absurd (omega arith)
+no_relator (Some k.NotEqual) s = absurd (omega arith)
+no_relator (Some k.Less) s = absurd (omega arith)
+no_relator (Some k.LessOrEqual) s = absurd (omega arith)
+no_relator (Some k.Greater) s = absurd (omega arith)
+no_relator (Some k.GreaterOrEqual) s = absurd (omega arith)
+no_relator (Some k.In) s = absurd (omega arith)
+no_relator (Some k.Not) s = absurd (omega arith)
+no_relator _ s = refl
 
-rank_low : (a : Layer) → rank a ≤ 2
+no_logical : (kind : Option Kind) → 5 < strength kind → logical kind ≡ None
+no_logical (Some k.And) s = absurd (omega arith)
+no_logical (Some k.Or) s = absurd (omega arith)
+no_logical (Some k.Xor) s = absurd (omega arith)
+no_logical _ s = refl
+
+none_same : (o : InfixOp) (kind : Option Kind) → 5 < strength kind → same_logical o kind ≡ None
+none_same op.And (Some k.And) s = absurd (omega arith)
+none_same op.And _ s = refl
+none_same op.AndThen (Some k.And) s = absurd (omega arith)
+none_same op.AndThen _ s = refl
+none_same op.Or (Some k.Or) s = absurd (omega arith)
+none_same op.Or _ s = refl
+none_same op.OrElse (Some k.Or) s = absurd (omega arith)
+none_same op.OrElse _ s = refl
+none_same op.Xor (Some k.Xor) s = absurd (omega arith)
+none_same op.Xor _ s = refl
+none_same _ kind s = refl
+
+chain_ends : (c : Chain) (kind : Option Kind) → Free (chain_layer c) kind → goes_on c kind ≡ None
+chain_ends chain.Multiplying kind s = no_multiplying kind s
+chain_ends chain.Adding kind s = no_adding kind s
+chain_ends (chain.Logical o) kind s = none_same o kind s
+
+power_self : (o : InfixOp) → layer_of o ≡ layer.Factor → power_of (Some (operator_kind o)) ≡ Some o
+power_self op.Power e = refl
+power_self _ e = absurd cc
+
+term_self : (o : InfixOp) → layer_of o ≡ layer.Term → goes_on chain.Multiplying (Some (operator_kind o)) ≡ Some o
+term_self op.Multiply e = refl
+term_self op.Divide e = refl
+term_self op.Mod e = refl
+term_self op.Rem e = refl
+term_self _ e = absurd cc
+
+sum_self : (o : InfixOp) → layer_of o ≡ layer.Sum → goes_on chain.Adding (Some (operator_kind o)) ≡ Some o
+sum_self op.Add e = refl
+sum_self op.Subtract e = refl
+sum_self _ e = absurd cc
+
+relation_self : (o : InfixOp) → layer_of o ≡ layer.Relation → relator_of (Some (operator_kind o)) ≡ Some (relators.Compare o)
+relation_self op.Equal e = refl
+relation_self op.NotEqual e = refl
+relation_self op.Less e = refl
+relation_self op.LessOrEqual e = refl
+relation_self op.Greater e = refl
+relation_self op.GreaterOrEqual e = refl
+relation_self _ e = absurd cc
+
+logical_self : (o : InfixOp) → layer_of o ≡ layer.Expression → goes_on (chain.Logical o) (Some (operator_kind o)) ≡ Some o
+logical_self op.And e = refl
+logical_self op.Or e = refl
+logical_self op.Xor e = refl
+logical_self op.AndThen e = refl
+logical_self op.OrElse e = refl
+logical_self _ e = absurd cc
+
+-- the operator of one word that begins with the same one
+first_word : InfixOp → InfixOp
+first_word op.AndThen = op.And
+first_word op.OrElse = op.Or
+first_word op.And = op.And
+first_word o = o
+
+word_kind : (o : InfixOp) → operator_kind (first_word o) ≡ operator_kind o
+unfolding first_word
+word_kind op.AndThen = refl
+word_kind op.OrElse = refl
+word_kind op.And = refl
+word_kind _ = refl
+
+word_self : (o : InfixOp) → layer_of o ≡ layer.Expression → logical (Some (operator_kind o)) ≡ Some (first_word o)
+unfolding first_word
+word_self op.And e = refl
+word_self op.Or e = refl
+word_self op.Xor e = refl
+word_self op.AndThen e = refl
+word_self op.OrElse e = refl
+word_self _ e = absurd cc
+
+before_cases : (o : PrefixOp) → (layer_before o ≡ layer.Sum) × (operand_layer o ≡ layer.Term) × (sign_of (Some (sign_kind o)) ≡ Some o) ⊎ (layer_before o ≡ layer.Factor) × (operand_layer o ≡ layer.Primary) × (sign_of (Some (sign_kind o)) ≡ None) × (abs_or_not (Some (sign_kind o)) ≡ Some o)
+before_cases sign.Plus = inl (refl, refl, refl)
+before_cases sign.Minus = inl (refl, refl, refl)
+before_cases sign.Abs = inr (refl, refl, refl, refl)
+before_cases sign.Not = inr (refl, refl, refl, refl)
+
+-- the layer itself, or one before it
+layers : (a b : Layer) → rank b ≤ rank a → (b ≡ a) ⊎ (rank b < rank a)
+layers layer.Primary layer.Primary h = inl refl
+layers layer.Factor layer.Factor h = inl refl
+layers layer.Term layer.Term h = inl refl
+layers layer.Sum layer.Sum h = inl refl
+layers layer.Relation layer.Relation h = inl refl
+layers layer.Expression layer.Expression h = inl refl
+layers _ _ h = inr (omega arith)
+
+pub rank_low : (a : Layer) → rank a ≤ 5
 rank_low layer.Primary = omega arith
-rank_low layer.Sum = omega arith
-rank_low layer.Relation = omega arith
+rank_low _ = omega arith
 
-no_primary : (o : InfixOp) → rank (layer_of o) ≤ 0 → ⊥
-no_primary op.Add h = omega arith
-no_primary op.Subtract h = omega arith
-no_primary _ h = omega arith
+right_low : (a : Layer) → rank (right_layer a) ≤ rank a
+right_low layer.Primary = omega arith
+right_low _ = omega arith
 
-sum_layer : (o : InfixOp) → rank (layer_of o) ≤ 1 → layer_of o ≡ layer.Sum
-sum_layer op.Add h = refl
-sum_layer op.Subtract h = refl
-sum_layer _ h = absurd (omega arith)
+some_rank : (o : InfixOp) → 0 < rank (layer_of o)
+some_rank op.Add = omega arith
+some_rank _ = omega arith
+
+some_before : (o : PrefixOp) → 0 < rank (layer_before o)
+some_before sign.Plus = omega arith
+some_before _ = omega arith
 
 -- ---- names
 
@@ -124,21 +242,104 @@ pub name_front : (marked : Bool) (x : Name) (zs : List Form) → peek marked (wr
 name_front marked (Simple prefix) zs = peek_here marked k.Identifier (Spelled prefix.text prefix.place) zs
 name_front marked (Attribute prefix designator) zs = peek_here marked k.Identifier (Spelled prefix.text prefix.place) (bare marked k.Apostrophe ∷ named marked designator ∷ zs)
 
--- no primary begins with a sign
-unsigned : (marked : Bool) (x : Expr) (zs : List Form) → rank (layer_in x) ≤ 0 → sign_of (peek marked (written_expr marked x ++ zs)) ≡ None
-unsigned marked (expr.Number value place) zs r = ap sign_of (peek_here marked k.Number (Valued value place) zs)
-unsigned marked (expr.Name name) zs r = ap sign_of (name_front marked name zs)
-unsigned marked (parenthesized place inner) zs r = ap sign_of (peek_here marked k.LeftParenthesis (Where place) ((written_expr marked inner ++ bare marked k.RightParenthesis ∷ []) ++ zs))
-unsigned marked (signed o place operand) zs r = absurd (omega arith)
-unsigned marked (operation o place x y) zs r = absurd (no_primary o r)
+-- ---- what expressions begin with
+
+abbrev front_kind : Expr → Kind
+front_kind (expr.Number value place) = k.Number
+front_kind (expr.Name x) = k.Identifier
+front_kind (parenthesized place inner) = k.LeftParenthesis
+front_kind (written.signed o place operand) = sign_kind o
+front_kind (written.operation o place left right) = front_kind left
+front_kind (written.in_type o place tested type_name) = front_kind tested
+front_kind (written.in_range o place tested low high) = front_kind tested
+
+front : (marked : Bool) (x : Expr) (zs : List Form) → peek marked (written_expr marked x ++ zs) ≡ Some (front_kind x)
+front marked (expr.Number value place) zs = peek_here marked k.Number (Valued value place) zs
+front marked (expr.Name x) zs = name_front marked x zs
+front marked (parenthesized place inner) zs = peek_here marked k.LeftParenthesis (Where place) ((written_expr marked inner ++ bare marked k.RightParenthesis ∷ []) ++ zs)
+front marked (written.signed o place operand) zs = peek_here marked (sign_kind o) (Where place) (written_expr marked operand ++ zs)
+front marked (written.operation o place left right) zs = ap (peek marked) (append_assoc (written_expr marked left) (written_operator marked o place ++ written_expr marked right) zs) ∙ front marked left ((written_operator marked o place ++ written_expr marked right) ++ zs)
+front marked (written.in_type o place tested type_name) zs = ap (peek marked) (append_assoc (written_expr marked tested) (written_member marked o place ++ written_name marked type_name) zs) ∙ front marked tested ((written_member marked o place ++ written_name marked type_name) ++ zs)
+front marked (written.in_range o place tested low high) zs =
+    let following : List Form = written_member marked o place ++ (written_expr marked low ++ bare marked k.DoubleDot ∷ written_expr marked high) in
+    ap (peek marked) (append_assoc (written_expr marked tested) following zs) ∙ front marked tested (following ++ zs)
+
+-- no expression begins with the second word of an operator
+abbrev NoSecond : Kind → Type 0
+NoSecond kind = (if_then (Some kind) ≡ None) × (if_else (Some kind) ≡ None)
+
+sign_no_second : (o : PrefixOp) → NoSecond (sign_kind o)
+sign_no_second sign.Plus = (refl, refl)
+sign_no_second _ = (refl, refl)
+
+front_no_second : (x : Expr) → NoSecond (front_kind x)
+front_no_second (expr.Number value place) = (refl, refl)
+front_no_second (expr.Name x) = (refl, refl)
+front_no_second (parenthesized place inner) = (refl, refl)
+front_no_second (written.signed o place operand) = sign_no_second o
+front_no_second (written.operation o place left right) = front_no_second left
+front_no_second (written.in_type o place tested type_name) = front_no_second tested
+front_no_second (written.in_range o place tested low high) = front_no_second tested
+
+-- what stands on the left is of no later layer
+left_low : (a : Layer) (o : InfixOp) (x : Expr) → rank a ≤ 4 → FitsLeft a o x → rank (layer_in x) ≤ rank a
+left_low layer.Primary o x h f = absurd f
+left_low layer.Factor o x h f = omega arith
+left_low layer.Term o x h f = f
+left_low layer.Sum o x h f = f
+left_low layer.Relation o x h f = omega arith
+left_low layer.Expression o x h f = absurd (omega arith)
+
+-- no term begins with a sign
+unsigned : (x : Expr) → Layered x → rank (layer_in x) ≤ 2 → sign_of (Some (front_kind x)) ≡ None
+unsigned (expr.Number value place) l r = refl
+unsigned (expr.Name x) l r = refl
+unsigned (parenthesized place inner) l r = refl
+unsigned (written.signed o place operand) l r = elim (before_cases o) [ inl e ↦ let h = ap rank e.0 in absurd (omega arith) | inr e ↦ e.2 ]
+unsigned (written.operation o place left right) l r = unsigned left l.0 (let h = left_low (layer_of o) o left (omega arith) l.2 in omega arith)
+unsigned (written.in_type o place tested type_name) l r = absurd (omega arith)
+unsigned (written.in_range o place tested low high) l r = absurd (omega arith)
+
+-- no primary begins with "abs" or "not"
+wordless : (x : Expr) → rank (layer_in x) ≤ 0 → abs_or_not (Some (front_kind x)) ≡ None
+wordless (expr.Number value place) r = refl
+wordless (expr.Name x) r = refl
+wordless (parenthesized place inner) r = refl
+wordless (written.signed o place operand) r = let h = some_before o in absurd (omega arith)
+wordless (written.operation o place left right) r = let h = some_rank o in absurd (omega arith)
+wordless (written.in_type o place tested type_name) r = absurd (omega arith)
+wordless (written.in_range o place tested low high) r = absurd (omega arith)
 
 -- ---- expressions
 
-parenthesis_free : (marked : Bool) (zs : List Form) → Free layer.Relation (peek marked (bare marked k.RightParenthesis ∷ zs))
-parenthesis_free true zs = (λ e. cc, refl, refl)
-parenthesis_free false zs = (λ e. cc, refl, refl)
+bare_free : (marked : Bool) (kind : Kind) (zs : List Form) → strength (Some kind) ≡ 6 → Free layer.Expression (peek marked (bare marked kind ∷ zs))
+bare_free marked kind zs h = let e = ap strength (peek_here marked kind Nothing zs) ∙ h in omega arith
 
-module _ (marked : Bool) (below : Layer → Reader Tall) (levels : ℕ) (shrinks : Shrinks (peek marked) (sum_step marked below levels)) (again : 0 < levels → (layer : Layer) → Again marked (below layer) (levels - 1) layer) where
+second_again : (marked : Bool) (o : InfixOp) (fs zs : List Form) → fs ≡ second_word marked o ++ zs → Reaches (second marked o) fs tt zs
+second_again marked op.AndThen fs zs e = reaches_expect marked k.Then e
+second_again marked op.OrElse fs zs e = reaches_expect marked k.Else e
+second_again marked _ fs zs e = reaches_pure e
+
+whole_none : {out : Option InfixOp} (marked : Bool) (o : InfixOp) (fs zs : List Form) → out ≡ None → fs ≡ zs → Reaches (whole_by marked o out) fs o zs
+whole_none marked o fs zs none e = subst (λ (x : Option InfixOp). Reaches (whole_by marked o x) fs o zs) (sym none) (reaches_pure e)
+
+-- the operator before an expression
+whole_again : (marked : Bool) (o : InfixOp) (y : Expr) (fs zs : List Form) → layer_of o ≡ layer.Expression → fs ≡ second_word marked o ++ (written_expr marked y ++ zs) → Reaches (whole_operator marked (first_word o)) fs o (written_expr marked y ++ zs)
+unfolding whole_operator first_word
+whole_again marked op.And y fs zs is e =
+    reaches_choose (peek marked) (λ kind. whole_by marked op.And (if_then kind)) (Some (front_kind y)) (peek_front marked fs e ∙ front marked y zs) (whole_none marked op.And fs (written_expr marked y ++ zs) (front_no_second y).0 e)
+whole_again marked op.Or y fs zs is e =
+    reaches_choose (peek marked) (λ kind. whole_by marked op.Or (if_else kind)) (Some (front_kind y)) (peek_front marked fs e ∙ front marked y zs) (whole_none marked op.Or fs (written_expr marked y ++ zs) (front_no_second y).1 e)
+whole_again marked op.Xor y fs zs is e = reaches_pure e
+whole_again marked op.AndThen y fs zs is e =
+    reaches_choose (peek marked) (λ kind. whole_by marked op.And (if_then kind)) (Some k.Then) (peek_front marked fs e ∙ peek_here marked k.Then Nothing (written_expr marked y ++ zs))
+    (reaches_bind _ (second_again marked op.AndThen fs (written_expr marked y ++ zs) e) (λ us a. reaches_pure a))
+whole_again marked op.OrElse y fs zs is e =
+    reaches_choose (peek marked) (λ kind. whole_by marked op.Or (if_else kind)) (Some k.Else) (peek_front marked fs e ∙ peek_here marked k.Else Nothing (written_expr marked y ++ zs))
+    (reaches_bind _ (second_again marked op.OrElse fs (written_expr marked y ++ zs) e) (λ us a. reaches_pure a))
+whole_again marked _ y fs zs is e = absurd cc
+
+module _ (marked : Bool) (below : Layer → Reader Tall) (levels : ℕ) (shrinks : (c : Chain) → Shrinks (peek marked) (chain_step marked below levels c)) (again : 0 < levels → (layer : Layer) → Again marked (below layer) (levels - 1) layer) where
   parentheses_again : (place : Place) (inner : Expr) (fs zs : List Form) → height inner + 1 ≤ levels → Layered inner → fs ≡ placed marked k.LeftParenthesis place ∷ (written_expr marked inner ++ bare marked k.RightParenthesis ∷ zs)
       → Reaches (in_parentheses marked below levels) fs (measure (parenthesized place inner)) zs
   unfolding in_parentheses hidden-the_row-Expr-0 hidden
@@ -146,7 +347,7 @@ module _ (marked : Bool) (below : Layer → Reader Tall) (levels : ℕ) (shrinks
       let some : 0 < levels = omega arith in
       reaches_deeper some
       (reaches_bind _ (reaches_expect_place marked k.LeftParenthesis e) (λ us a.
-      reaches_bind _ (again some layer.Relation inner us (bare marked k.RightParenthesis ∷ zs) (omega arith) l (rank_low (layer_in inner)) (parenthesis_free marked zs) a) (λ vs b.
+      reaches_bind _ (again some layer.Expression inner us (bare marked k.RightParenthesis ∷ zs) (omega arith) l (rank_low (layer_in inner)) (bare_free marked k.RightParenthesis zs refl) a) (λ vs b.
       reaches_bind _ (reaches_expect marked k.RightParenthesis b) (λ ws d. reaches_pure d))))
 
   primary_again : Again marked (primary marked below levels) levels layer.Primary
@@ -156,142 +357,387 @@ module _ (marked : Bool) (below : Layer → Reader Tall) (levels : ℕ) (shrinks
       (reaches_bind _ (reaches_number marked e) (λ us a. reaches_pure a))
   primary_again (expr.Name x) fs zs low l r free e =
       reaches_choose (peek marked) (primary_by marked below levels) (Some k.Identifier) (peek_front marked fs e ∙ name_front marked x zs)
-      (reaches_bind _ (name_again marked x fs zs free e) (λ us a. reaches_pure a))
+      (reaches_bind _ (name_again marked x fs zs (no_tick (peek marked zs) free) e) (λ us a. reaches_pure a))
   primary_again (parenthesized place inner) fs zs low l r free e =
       let flat = e ∙ ap (λ (us : List Form). placed marked k.LeftParenthesis place ∷ us) (append_assoc (written_expr marked inner) (bare marked k.RightParenthesis ∷ []) zs) in
       reaches_choose (peek marked) (primary_by marked below levels) (Some k.LeftParenthesis) (peek_front marked fs flat ∙ peek_here marked k.LeftParenthesis (Where place) (written_expr marked inner ++ bare marked k.RightParenthesis ∷ zs))
       (parentheses_again place inner fs zs low l flat)
-  primary_again (signed o place operand) fs zs low l r free e = absurd (omega arith)
-  primary_again (operation o place x y) fs zs low l r free e = absurd (no_primary o r)
+  primary_again (written.signed o place operand) fs zs low l r free e = let h = some_before o in absurd (omega arith)
+  primary_again (written.operation o place x y) fs zs low l r free e = let h = some_rank o in absurd (omega arith)
+  primary_again (written.in_type o place x type_name) fs zs low l r free e = absurd (omega arith)
+  primary_again (written.in_range o place x a b) fs zs low l r free e = absurd (omega arith)
 
-  -- an operator and its right operand
-  joined_again : (layer : Layer) (o : InfixOp) (place : Place) (x y : Expr) (fs zs : List Form) → max (height x) (height y) + 1 ≤ levels → Layered y → rank (layer_in y) ≤ rank layer → Free layer (peek marked zs)
-      → fs ≡ placed marked (operator_kind o) place ∷ (written_expr marked y ++ zs) → Reaches (joined_by marked below levels layer o (measure x)) fs (measure (operation o place x y)) zs
-  unfolding hidden-the_row-Expr-0 hidden
-  joined_again layer o place x y fs zs low l r free e =
-      let below_x : height x < levels = omega arith in
-      reaches_deeper below_x
-      (reaches_bind _ (reaches_expect_place marked (operator_kind o) e) (λ us a.
-      reaches_bind _ (again (omega arith) layer y us zs (omega arith) l r free a) (λ vs b. reaches_pure b)))
+  -- ---- operators
 
-  -- ---- sums
-
-  sign_again : (o : PrefixOp) (place : Place) (x : Expr) (fs zs : List Form) → height x + 1 ≤ levels → Layered x → rank (layer_in x) ≤ 0 → Free layer.Primary (peek marked zs) → fs ≡ placed marked (sign_kind o) place ∷ (written_expr marked x ++ zs)
-      → Reaches (behind_sign marked below levels o) fs (measure (signed o place x)) zs
-  unfolding behind_sign hidden-the_row-Expr-0 hidden
-  sign_again o place x fs zs low l r free e =
+  operated_again : (o : PrefixOp) (place : Place) (x : Expr) (fs zs : List Form) → height x + 1 ≤ levels → Layered x → IsUpTo (operand_layer o) x → Free (operand_layer o) (peek marked zs) → fs ≡ placed marked (sign_kind o) place ∷ (written_expr marked x ++ zs)
+      → Reaches (operated marked below levels o) fs (measure (written.signed o place x)) zs
+  unfolding operated hidden-the_row-Expr-0 hidden
+  operated_again o place x fs zs low l r free e =
       let some : 0 < levels = omega arith in
       reaches_deeper some
       (reaches_bind _ (reaches_expect_place marked (sign_kind o) e) (λ us a.
-      reaches_bind _ (again some layer.Primary x us zs (omega arith) l r free a) (λ vs b. reaches_pure b)))
+      reaches_bind _ (again some (operand_layer o) x us zs (omega arith) l r free a) (λ vs b. reaches_pure b)))
 
-  first_unsigned : (x : Expr) (fs zs : List Form) → height x ≤ levels → Layered x → rank (layer_in x) ≤ 0 → Free layer.Primary (peek marked zs) → fs ≡ written_expr marked x ++ zs → Reaches (first marked below levels) fs (measure x) zs
-  unfolding first
-  first_unsigned x fs zs low l r free e =
-      reaches_choose (λ us. sign_of (peek marked us)) (first_by marked below levels) None (ap sign_of (peek_front marked fs e) ∙ unsigned marked x zs r) (primary_again x fs zs low l r free e)
+  -- an operator and its right operand, and what stands after them
+  abbrev from_operator : InfixOp → Place → Expr → List Form → List Form
+  from_operator o place y zs = written_operator marked o place ++ (written_expr marked y ++ zs)
 
-  first_signed : (o : PrefixOp) (place : Place) (x : Expr) (fs zs : List Form) → height x + 1 ≤ levels → Layered x → rank (layer_in x) ≤ 0 → Free layer.Primary (peek marked zs) → fs ≡ placed marked (sign_kind o) place ∷ (written_expr marked x ++ zs)
-      → Reaches (first marked below levels) fs (measure (signed o place x)) zs
-  unfolding first
-  first_signed o place x fs zs low l r free e =
-      reaches_choose (λ us. sign_of (peek marked us)) (first_by marked below levels) (Some o) (ap sign_of (peek_front marked fs e ∙ peek_here marked (sign_kind o) (Where place) (written_expr marked x ++ zs)) ∙ sign_self o)
-      (sign_again o place x fs zs low l r free e)
+  operator_seen : (o : InfixOp) (place : Place) (y : Expr) (zs : List Form) → peek marked (from_operator o place y zs) ≡ Some (operator_kind o)
+  operator_seen o place y zs = peek_here marked (operator_kind o) (Where place) (second_word marked o ++ (written_expr marked y ++ zs))
 
-  -- a sum that was read down to its last operand
-  record Spine (fs : List Form) (x : Expr) (zs : List Form) : Type 0 where
-    leftmost : Tall
-    after : List Form
-    is_leftmost : first marked below levels fs ≡ Ok (leftmost, after)
-    goes : continued marked below levels leftmost after ≡ continued marked below levels (measure x) zs
+  operator_strength : (o : InfixOp) (place : Place) (y : Expr) (zs : List Form) → strength (peek marked (from_operator o place y zs)) ≡ rank (layer_of o)
+  operator_strength o place y zs = ap strength (operator_seen o place y zs) ∙ op_strength o
 
-  lone : (x : Expr) (fs zs : List Form) → height x ≤ levels → Layered x → rank (layer_in x) ≤ 0 → Free layer.Primary (peek marked zs) → fs ≡ written_expr marked x ++ zs → Spine fs x zs
-  lone x fs zs low l r free e = record { leftmost = measure x; after = zs; is_leftmost = (first_unsigned x fs zs low l r free e).is; goes = refl }
+  flat : (o : InfixOp) (place : Place) (x y : Expr) (zs : List Form) → written_expr marked (written.operation o place x y) ++ zs ≡ written_expr marked x ++ from_operator o place y zs
+  flat o place x y zs =
+      append_assoc (written_expr marked x) (written_operator marked o place ++ written_expr marked y) zs ∙ ap (λ (us : List Form). written_expr marked x ++ us) (append_assoc (written_operator marked o place) (written_expr marked y) zs)
 
-  spine : (x : Expr) (fs zs : List Form) → height x ≤ levels → Layered x → rank (layer_in x) ≤ 1 → Free layer.Primary (peek marked zs) → fs ≡ written_expr marked x ++ zs → Spine fs x zs
-  unfolding continued
-  spine (operation o place x y) fs zs low l r free e =
-      let adds = sum_layer o r in
-      let behind : List Form = placed marked (operator_kind o) place ∷ (written_expr marked y ++ zs) in
-      let seen : peek marked behind ≡ Some (operator_kind o) = peek_here marked (operator_kind o) (Where place) (written_expr marked y ++ zs) in
-      let s = spine x fs behind (omega arith) l.0 (subst (λ (a : Layer). LeftFits a (layer_in x)) adds l.2) (λ t. not_tick o (sym seen ∙ t)) (e ∙ append_assoc (written_expr marked x) (placed marked (operator_kind o) place ∷ written_expr marked y) zs) in
-      let j = joined_again layer.Primary o place x y behind zs low l.1 (subst (λ (a : Layer). RightFits a (layer_in y)) adds l.3) free refl in
-      record {
-        leftmost = s.leftmost;
-        after = s.after;
-        is_leftmost = s.is_leftmost;
-        goes = s.goes ∙ loop_turn (peek marked) (sum_step marked below levels) shrinks (measure x) (measure (operation o place x y)) behind zs _ (ap (step_by marked below levels (measure x)) (ap adding seen ∙ adding_self o adds)) j.is;
-      }
-  spine (signed o place x) fs zs low l r free e = record { leftmost = measure (signed o place x); after = zs; is_leftmost = (first_signed o place x fs zs low l.0 l.1 free e).is; goes = refl }
-  spine (parenthesized place inner) fs zs low l r free e = lone (parenthesized place inner) fs zs low l (omega arith) free e
-  spine (expr.Number value place) fs zs low l r free e = lone (expr.Number value place) fs zs low l (omega arith) free e
-  spine (expr.Name x) fs zs low l r free e = lone (expr.Name x) fs zs low l (omega arith) free e
+  joined_again : (o : InfixOp) (place : Place) (x y : Expr) (fs zs : List Form) → max (height x) (height y) + 1 ≤ levels → Layered y → IsUpTo (right_layer (layer_of o)) y → Free (right_layer (layer_of o)) (peek marked zs)
+      → fs ≡ from_operator o place y zs → Reaches (joined_by marked below levels o (measure x)) fs (measure (written.operation o place x y)) zs
+  unfolding joined_by hidden-the_row-Expr-0 hidden
+  joined_again o place x y fs zs low l r free e =
+      let below_x : height x < levels = omega arith in
+      reaches_deeper below_x
+      (reaches_bind _ (reaches_expect_place marked (operator_kind o) e) (λ us a.
+      reaches_bind _ (second_again marked o us (written_expr marked y ++ zs) a) (λ vs b.
+      reaches_bind _ (again (omega arith) (right_layer (layer_of o)) y vs zs (omega arith) l r free b) (λ ws d. reaches_pure d))))
+
+  -- ---- factors
+
+  power_plain : (x : Expr) (fs zs : List Form) → height x ≤ levels → Layered x → rank (layer_in x) ≤ 0 → Free layer.Factor (peek marked zs) → fs ≡ written_expr marked x ++ zs → Reaches (power marked below levels) fs (measure x) zs
+  unfolding power
+  power_plain x fs zs low l r free e =
+      reaches_bind _ (primary_again x fs zs low l r (omega arith) e) (λ us a.
+      reaches_choose (peek marked) (λ kind. power_by marked below levels (measure x) (power_of kind)) (peek marked zs) (peek_front marked us a)
+      (subst (λ (o : Option InfixOp). Reaches (power_by marked below levels (measure x) o) us (measure x) zs) (sym (no_power (peek marked zs) free)) (reaches_pure a)))
+
+  power_joined : (o : InfixOp) (place : Place) (x y : Expr) (fs zs : List Form) → layer_of o ≡ layer.Factor → height (written.operation o place x y) ≤ levels → Layered (written.operation o place x y) → Free layer.Factor (peek marked zs)
+      → fs ≡ written_expr marked (written.operation o place x y) ++ zs → Reaches (power marked below levels) fs (measure (written.operation o place x y)) zs
+  unfolding power
+  power_joined o place x y fs zs is low l free e =
+      let low_x : height x ≤ levels = omega arith in
+      let s = operator_strength o place y zs ∙ ap rank is in
+      let right = ap (λ (a : Layer). rank (right_layer a)) is in
+      reaches_bind _ (primary_again x fs (from_operator o place y zs) low_x l.0 (subst (λ (a : Layer). FitsLeft a o x) is l.2) (omega arith) (e ∙ flat o place x y zs)) (λ us a.
+      reaches_choose (peek marked) (λ kind. power_by marked below levels (measure x) (power_of kind)) (Some (operator_kind o)) (peek_front marked us a ∙ operator_seen o place y zs)
+      (subst (λ (p : Option InfixOp). Reaches (power_by marked below levels (measure x) p) us (measure (written.operation o place x y)) zs) (sym (power_self o is)) (joined_again o place x y us zs low l.1 l.3 (omega arith) a)))
+
+  wordless_factor : (x : Expr) (fs zs : List Form) → abs_or_not (Some (front_kind x)) ≡ None → fs ≡ written_expr marked x ++ zs → Reaches (power marked below levels) fs (measure x) zs → Reaches (factor marked below levels) fs (measure x) zs
+  unfolding factor
+  wordless_factor x fs zs none e r = reaches_choose (λ us. abs_or_not (peek marked us)) (factor_by marked below levels) None (ap abs_or_not (peek_front marked fs e ∙ front marked x zs) ∙ none) r
+
+  word_factor : (o : PrefixOp) (place : Place) (x : Expr) (fs zs : List Form) → abs_or_not (Some (sign_kind o)) ≡ Some o → height x + 1 ≤ levels → Layered x → IsUpTo (operand_layer o) x → Free (operand_layer o) (peek marked zs)
+      → fs ≡ placed marked (sign_kind o) place ∷ (written_expr marked x ++ zs) → Reaches (factor marked below levels) fs (measure (written.signed o place x)) zs
+  unfolding factor
+  word_factor o place x fs zs self low l r free e =
+      reaches_choose (λ us. abs_or_not (peek marked us)) (factor_by marked below levels) (Some o) (ap abs_or_not (peek_front marked fs e ∙ peek_here marked (sign_kind o) (Where place) (written_expr marked x ++ zs)) ∙ self)
+      (operated_again o place x fs zs low l r free e)
+
+  plain_factor : (x : Expr) (fs zs : List Form) → height x ≤ levels → Layered x → rank (layer_in x) ≤ 0 → Free layer.Factor (peek marked zs) → fs ≡ written_expr marked x ++ zs → Reaches (factor marked below levels) fs (measure x) zs
+  plain_factor x fs zs low l r free e = wordless_factor x fs zs (wordless x r) e (power_plain x fs zs low l r free e)
+
+  factor_again : Again marked (factor marked below levels) levels layer.Factor
+  factor_again (written.operation o place x y) fs zs low l r free e =
+      elim (layers layer.Factor (layer_of o) r) [
+        | inl is ↦ wordless_factor (written.operation o place x y) fs zs (wordless x (subst (λ (a : Layer). FitsLeft a o x) is l.2)) e (power_joined o place x y fs zs is low l free e)
+        | inr lower ↦ let h = some_rank o in absurd (omega arith)
+      ]
+  factor_again (written.signed o place x) fs zs low l r free e =
+      elim (before_cases o) [
+        | inl is ↦ let h = ap rank is.0 in absurd (omega arith)
+        | inr is ↦ let h = ap rank is.1 in word_factor o place x fs zs is.3 low l.0 l.1 (omega arith) e
+      ]
+  factor_again (parenthesized place inner) fs zs low l r free e = plain_factor (parenthesized place inner) fs zs low l (omega arith) free e
+  factor_again (expr.Number value place) fs zs low l r free e = plain_factor (expr.Number value place) fs zs low l (omega arith) free e
+  factor_again (expr.Name x) fs zs low l r free e = plain_factor (expr.Name x) fs zs low l (omega arith) free e
+  factor_again (written.in_type o place x type_name) fs zs low l r free e = absurd (omega arith)
+  factor_again (written.in_range o place x a b) fs zs low l r free e = absurd (omega arith)
+
+  -- ---- chains
+
+  -- what was read up to the left operand, and what goes on from there
+  linked : (c : Chain) (o : InfixOp) (place : Place) (x y : Expr) (out : Outcome Tall) (zs : List Form) → goes_on c (Some (operator_kind o)) ≡ Some o → max (height x) (height y) + 1 ≤ levels → Layered y → IsUpTo (right_layer (layer_of o)) y
+      → Free (right_layer (layer_of o)) (peek marked zs) → out ≡ chained marked below levels c (measure x) (from_operator o place y zs) → out ≡ chained marked below levels c (measure (written.operation o place x y)) zs
+  unfolding chained
+  linked c o place x y out zs self low l r free goes =
+      goes ∙ loop_turn (peek marked) (chain_step marked below levels c) (shrinks c) (measure x) (measure (written.operation o place x y)) (from_operator o place y zs) zs (joined_by marked below levels o (measure x))
+      (ap (step_by marked below levels (measure x)) (ap (goes_on c) (operator_seen o place y zs) ∙ self)) (joined_again o place x y (from_operator o place y zs) zs low l r free refl).is
+
+  over : (c : Chain) (x : Expr) (zs : List Form) → Free (chain_layer c) (peek marked zs) → chained marked below levels c (measure x) zs ≡ Ok (measure x, zs)
+  unfolding chained
+  over c x zs free = loop_over (peek marked) (chain_step marked below levels c) (shrinks c) (measure x) zs (ap (step_by marked below levels (measure x)) (chain_ends c (peek marked zs) free))
+
+  -- ---- terms
+
+  term_base : (x : Expr) (fs zs : List Form) → height x ≤ levels → Layered x → rank (layer_in x) ≤ 1 → Free layer.Factor (peek marked zs) → fs ≡ written_expr marked x ++ zs → term marked below levels fs ≡ chained marked below levels chain.Multiplying (measure x) zs
+  unfolding term
+  term_base x fs zs low l r free e = ap (λ (out : Outcome Tall). and_then out (chained marked below levels chain.Multiplying)) (factor_again x fs zs low l r free e).is
+
+  term_case : (o : InfixOp) (place : Place) (x y : Expr) (fs zs : List Form) → height (written.operation o place x y) ≤ levels → Layered (written.operation o place x y) → Free layer.Factor (peek marked zs) → fs ≡ written_expr marked (written.operation o place x y) ++ zs
+      → (layer_of o ≡ layer.Term) ⊎ (rank (layer_of o) < 2) → (rank (layer_in x) ≤ 2 → Free layer.Factor (peek marked (from_operator o place y zs)) → term marked below levels fs ≡ chained marked below levels chain.Multiplying (measure x) (from_operator o place y zs))
+      → term marked below levels fs ≡ chained marked below levels chain.Multiplying (measure (written.operation o place x y)) zs
+  term_case o place x y fs zs low l free e (inl is) left =
+      let s = operator_strength o place y zs ∙ ap rank is in
+      let right = ap (λ (a : Layer). rank (right_layer a)) is in
+      linked chain.Multiplying o place x y (term marked below levels fs) zs (term_self o is) low l.1 l.3 (omega arith) (left (subst (λ (a : Layer). FitsLeft a o x) is l.2) (omega arith))
+  term_case o place x y fs zs low l free e (inr lower) left = term_base (written.operation o place x y) fs zs low l (omega arith) free e
+
+  term_goes : (x : Expr) (fs zs : List Form) → height x ≤ levels → Layered x → rank (layer_in x) ≤ 2 → Free layer.Factor (peek marked zs) → fs ≡ written_expr marked x ++ zs → term marked below levels fs ≡ chained marked below levels chain.Multiplying (measure x) zs
+  term_goes (written.operation o place x y) fs zs low l r free e =
+      let low_x : height x ≤ levels = omega arith in
+      term_case o place x y fs zs low l free e (layers layer.Term (layer_of o) r) (λ h f. term_goes x fs (from_operator o place y zs) low_x l.0 h f (e ∙ flat o place x y zs))
+  term_goes (written.signed o place x) fs zs low l r free e = term_base (written.signed o place x) fs zs low l (elim (before_cases o) [ inl is ↦ let h = ap rank is.0 in absurd (omega arith) | inr is ↦ let h = ap rank is.0 in omega arith ]) free e
+  term_goes (parenthesized place inner) fs zs low l r free e = term_base (parenthesized place inner) fs zs low l (omega arith) free e
+  term_goes (expr.Number value place) fs zs low l r free e = term_base (expr.Number value place) fs zs low l (omega arith) free e
+  term_goes (expr.Name x) fs zs low l r free e = term_base (expr.Name x) fs zs low l (omega arith) free e
+  term_goes (written.in_type o place x type_name) fs zs low l r free e = absurd (omega arith)
+  term_goes (written.in_range o place x a b) fs zs low l r free e = absurd (omega arith)
+
+  term_again : Again marked (term marked below levels) levels layer.Term
+  term_again x fs zs low l r free e = record { is = term_goes x fs zs low l r (omega arith) e ∙ over chain.Multiplying x zs free }
+
+  -- ---- sums
+
+  signed_plain : (x : Expr) (fs zs : List Form) → height x ≤ levels → Layered x → rank (layer_in x) ≤ 2 → Free layer.Term (peek marked zs) → fs ≡ written_expr marked x ++ zs → Reaches (signed marked below levels) fs (measure x) zs
+  unfolding signed
+  signed_plain x fs zs low l r free e =
+      reaches_choose (λ us. sign_of (peek marked us)) (signed_by marked below levels) None (ap sign_of (peek_front marked fs e ∙ front marked x zs) ∙ unsigned x l r) (term_again x fs zs low l r free e)
+
+  signed_term : (o : PrefixOp) (place : Place) (x : Expr) (fs zs : List Form) → sign_of (Some (sign_kind o)) ≡ Some o → height x + 1 ≤ levels → Layered x → IsUpTo (operand_layer o) x → Free (operand_layer o) (peek marked zs)
+      → fs ≡ placed marked (sign_kind o) place ∷ (written_expr marked x ++ zs) → Reaches (signed marked below levels) fs (measure (written.signed o place x)) zs
+  unfolding signed
+  signed_term o place x fs zs self low l r free e =
+      reaches_choose (λ us. sign_of (peek marked us)) (signed_by marked below levels) (Some o) (ap sign_of (peek_front marked fs e ∙ peek_here marked (sign_kind o) (Where place) (written_expr marked x ++ zs)) ∙ self)
+      (operated_again o place x fs zs low l r free e)
+
+  sum_from : (x : Expr) (fs zs : List Form) → Reaches (signed marked below levels) fs (measure x) zs → sum marked below levels fs ≡ chained marked below levels chain.Adding (measure x) zs
+  unfolding sum
+  sum_from x fs zs a = ap (λ (out : Outcome Tall). and_then out (chained marked below levels chain.Adding)) a.is
+
+  sum_base : (x : Expr) (fs zs : List Form) → height x ≤ levels → Layered x → rank (layer_in x) ≤ 2 → Free layer.Term (peek marked zs) → fs ≡ written_expr marked x ++ zs → sum marked below levels fs ≡ chained marked below levels chain.Adding (measure x) zs
+  sum_base x fs zs low l r free e = sum_from x fs zs (signed_plain x fs zs low l r free e)
+
+  sum_case : (o : InfixOp) (place : Place) (x y : Expr) (fs zs : List Form) → height (written.operation o place x y) ≤ levels → Layered (written.operation o place x y) → Free layer.Term (peek marked zs) → fs ≡ written_expr marked (written.operation o place x y) ++ zs
+      → (layer_of o ≡ layer.Sum) ⊎ (rank (layer_of o) < 3) → (rank (layer_in x) ≤ 3 → Free layer.Term (peek marked (from_operator o place y zs)) → sum marked below levels fs ≡ chained marked below levels chain.Adding (measure x) (from_operator o place y zs))
+      → sum marked below levels fs ≡ chained marked below levels chain.Adding (measure (written.operation o place x y)) zs
+  sum_case o place x y fs zs low l free e (inl is) left =
+      let s = operator_strength o place y zs ∙ ap rank is in
+      let right = ap (λ (a : Layer). rank (right_layer a)) is in
+      linked chain.Adding o place x y (sum marked below levels fs) zs (sum_self o is) low l.1 l.3 (omega arith) (left (subst (λ (a : Layer). FitsLeft a o x) is l.2) (omega arith))
+  sum_case o place x y fs zs low l free e (inr lower) left = sum_base (written.operation o place x y) fs zs low l (omega arith) free e
+
+  sum_goes : (x : Expr) (fs zs : List Form) → height x ≤ levels → Layered x → rank (layer_in x) ≤ 3 → Free layer.Term (peek marked zs) → fs ≡ written_expr marked x ++ zs → sum marked below levels fs ≡ chained marked below levels chain.Adding (measure x) zs
+  sum_goes (written.operation o place x y) fs zs low l r free e =
+      let low_x : height x ≤ levels = omega arith in
+      sum_case o place x y fs zs low l free e (layers layer.Sum (layer_of o) r) (λ h f. sum_goes x fs (from_operator o place y zs) low_x l.0 h f (e ∙ flat o place x y zs))
+  sum_goes (written.signed o place x) fs zs low l r free e =
+      elim (before_cases o) [
+        | inl is ↦ let h = ap rank is.1 in sum_from (written.signed o place x) fs zs (signed_term o place x fs zs is.2 low l.0 l.1 (omega arith) e)
+        | inr is ↦ let h = ap rank is.0 in sum_base (written.signed o place x) fs zs low l (omega arith) free e
+      ]
+  sum_goes (parenthesized place inner) fs zs low l r free e = sum_base (parenthesized place inner) fs zs low l (omega arith) free e
+  sum_goes (expr.Number value place) fs zs low l r free e = sum_base (expr.Number value place) fs zs low l (omega arith) free e
+  sum_goes (expr.Name x) fs zs low l r free e = sum_base (expr.Name x) fs zs low l (omega arith) free e
+  sum_goes (written.in_type o place x type_name) fs zs low l r free e = absurd (omega arith)
+  sum_goes (written.in_range o place x a b) fs zs low l r free e = absurd (omega arith)
 
   sum_again : Again marked (sum marked below levels) levels layer.Sum
-  unfolding sum continued
-  sum_again x fs zs low l r free e =
-      let s = spine x fs zs low l r free.0 e in
-      record { is = ap (λ (out : Outcome Tall). and_then out (continued marked below levels)) s.is_leftmost ∙ s.goes ∙ loop_over (peek marked) (sum_step marked below levels) shrinks (measure x) zs (ap (step_by marked below levels (measure x)) free.1) }
+  sum_again x fs zs low l r free e = record { is = sum_goes x fs zs low l r (omega arith) e ∙ over chain.Adding x zs free }
+
+  -- ---- membership tests
+
+  plain_member : (o : MemberOp) (place : Place) (x : Expr) (n : Name) (kind : Option Kind) → 4 < strength kind → member_by marked below levels o place (measure x) (measure (expr.Name n)) kind ≡ type_by o place (measure x) (Some n)
+  plain_member o place x n (Some k.DoubleDot) s = absurd (omega arith)
+  plain_member o place x n _ s = refl
+
+  type_again : (o : MemberOp) (place : Place) (x : Expr) (n : Name) (fs zs : List Form) → height x < levels → Free layer.Relation (peek marked zs) → fs ≡ written_name marked n ++ zs → Reaches (member marked below levels o place (measure x)) fs (measure (written.in_type o place x n)) zs
+  unfolding member hidden-the_row-Expr-0 hidden
+  type_again o place x n fs zs low free e =
+      reaches_bind _ (again (omega arith) layer.Sum (expr.Name n) fs zs (omega arith) tt (omega arith) (omega arith) e) (λ us a.
+      reaches_choose (peek marked) (member_by marked below levels o place (measure x) (measure (expr.Name n))) (peek marked zs) (peek_front marked us a)
+      (subst (λ (p : Reader Tall). Reaches p us (measure (written.in_type o place x n)) zs) (sym (plain_member o place x n (peek marked zs) free)) (reaches_pure a)))
+
+  range_again : (o : MemberOp) (place : Place) (x a b : Expr) (fs zs : List Form) → max (height x) (max (height a) (height b)) + 1 ≤ levels → Layered a → IsUpTo layer.Sum a → Layered b → IsUpTo layer.Sum b → Free layer.Relation (peek marked zs)
+      → fs ≡ written_expr marked a ++ (bare marked k.DoubleDot ∷ (written_expr marked b ++ zs)) → Reaches (member marked below levels o place (measure x)) fs (measure (written.in_range o place x a b)) zs
+  unfolding member hidden-the_row-Expr-0 hidden
+  range_again o place x a b fs zs low la ra lb rb free e =
+      let seen = peek_here marked k.DoubleDot Nothing (written_expr marked b ++ zs) in
+      let s = ap strength seen in
+      reaches_bind _ (again (omega arith) layer.Sum a fs (bare marked k.DoubleDot ∷ (written_expr marked b ++ zs)) (omega arith) la ra (omega arith) e) (λ us h.
+      reaches_choose (peek marked) (member_by marked below levels o place (measure x) (measure a)) (Some k.DoubleDot) (peek_front marked us h ∙ seen)
+      (reaches_bind _ (reaches_expect marked k.DoubleDot h) (λ vs i.
+      reaches_bind _ (again (omega arith) layer.Sum b vs zs (omega arith) lb rb (omega arith) i) (λ ws j. reaches_pure j))))
+
+  -- a membership test, where its member is read
+  tested_again : (o : MemberOp) (place : Place) (x : Expr) (y : Tall) (fs member_forms zs : List Form) → height x < levels → Layered x → IsUpTo layer.Sum x → fs ≡ written_expr marked x ++ (written_member marked o place ++ member_forms)
+      → ((us : List Form) → us ≡ member_forms → Reaches (member marked below levels o place (measure x)) us y zs) → Reaches (relation marked below levels) fs y zs
+  unfolding relation inside outside
+  tested_again (members.In) place x y fs ms zs low l r e reads =
+      let seen = peek_here marked k.In (Where place) ms in
+      let s = ap strength seen in
+      reaches_bind _ (sum_again x fs (placed marked k.In place ∷ ms) (omega arith) l r (omega arith) e) (λ us a.
+      reaches_choose (peek marked) (λ kind. relation_by marked below levels (measure x) (relator_of kind)) (Some k.In) (peek_front marked us a ∙ seen)
+      (reaches_deeper low (reaches_bind _ (reaches_expect_place marked k.In a) reads)))
+  tested_again (members.NotIn second) place x y fs ms zs low l r e reads =
+      let seen = peek_here marked k.Not (Where place) (placed marked k.In second ∷ ms) in
+      let s = ap strength seen in
+      reaches_bind _ (sum_again x fs (placed marked k.Not place ∷ placed marked k.In second ∷ ms) (omega arith) l r (omega arith) e) (λ us a.
+      reaches_choose (peek marked) (λ kind. relation_by marked below levels (measure x) (relator_of kind)) (Some k.Not) (peek_front marked us a ∙ seen)
+      (reaches_deeper low (reaches_bind _ (reaches_expect_place marked k.Not a) (λ vs b. reaches_bind _ (reaches_expect_place marked k.In b) reads))))
 
   -- ---- relations
 
-  relation_plain : (x : Expr) (fs zs : List Form) → height x ≤ levels → Layered x → rank (layer_in x) ≤ 1 → Free layer.Relation (peek marked zs) → fs ≡ written_expr marked x ++ zs → Reaches (relation marked below levels) fs (measure x) zs
+  relation_plain : (x : Expr) (fs zs : List Form) → height x ≤ levels → Layered x → rank (layer_in x) ≤ 3 → Free layer.Relation (peek marked zs) → fs ≡ written_expr marked x ++ zs → Reaches (relation marked below levels) fs (measure x) zs
   unfolding relation
   relation_plain x fs zs low l r free e =
-      reaches_bind _ (sum_again x fs zs low l r (free.0, free.1) e) (λ us a.
-      reaches_choose (peek marked) (λ kind. relation_by marked below levels (measure x) (relational kind)) (peek marked zs) (peek_front marked us a)
-      (subst (λ (o : Option InfixOp). Reaches (relation_by marked below levels (measure x) o) us (measure x) zs) (sym free.2) (reaches_pure a)))
+      reaches_bind _ (sum_again x fs zs low l r (omega arith) e) (λ us a.
+      reaches_choose (peek marked) (λ kind. relation_by marked below levels (measure x) (relator_of kind)) (peek marked zs) (peek_front marked us a)
+      (subst (λ (o : Option Relator). Reaches (relation_by marked below levels (measure x) o) us (measure x) zs) (sym (no_relator (peek marked zs) free)) (reaches_pure a)))
 
-  relation_joined : (o : InfixOp) (place : Place) (x y : Expr) (fs zs : List Form) → layer_of o ≡ layer.Relation → height (operation o place x y) ≤ levels → Layered (operation o place x y) → Free layer.Relation (peek marked zs)
-      → fs ≡ written_expr marked (operation o place x y) ++ zs → Reaches (relation marked below levels) fs (measure (operation o place x y)) zs
+  relation_joined : (o : InfixOp) (place : Place) (x y : Expr) (fs zs : List Form) → layer_of o ≡ layer.Relation → height (written.operation o place x y) ≤ levels → Layered (written.operation o place x y) → Free layer.Relation (peek marked zs)
+      → fs ≡ written_expr marked (written.operation o place x y) ++ zs → Reaches (relation marked below levels) fs (measure (written.operation o place x y)) zs
   unfolding relation
-  relation_joined o place x y fs zs relates low l free e =
-      let behind : List Form = placed marked (operator_kind o) place ∷ (written_expr marked y ++ zs) in
-      let seen : peek marked behind ≡ Some (operator_kind o) = peek_here marked (operator_kind o) (Where place) (written_expr marked y ++ zs) in
+  relation_joined o place x y fs zs is low l free e =
       let low_x : height x ≤ levels = omega arith in
-      reaches_bind _ (sum_again x fs behind low_x l.0 (subst (λ (a : Layer). LeftFits a (layer_in x)) relates l.2) (λ t. not_tick o (sym seen ∙ t), ap adding seen ∙ not_adding o relates) (e ∙ append_assoc (written_expr marked x) (placed marked (operator_kind o) place ∷ written_expr marked y) zs)) (λ us a.
-      reaches_choose (peek marked) (λ kind. relation_by marked below levels (measure x) (relational kind)) (Some (operator_kind o)) (peek_front marked us a ∙ seen)
-      (subst (λ (p : Option InfixOp). Reaches (relation_by marked below levels (measure x) p) us (measure (operation o place x y)) zs) (sym (relational_self o relates))
-      (joined_again layer.Sum o place x y us zs low l.1 (subst (λ (a : Layer). RightFits a (layer_in y)) relates l.3) (free.0, free.1) a)))
+      let s = operator_strength o place y zs ∙ ap rank is in
+      let right = ap (λ (a : Layer). rank (right_layer a)) is in
+      reaches_bind _ (sum_again x fs (from_operator o place y zs) low_x l.0 (subst (λ (a : Layer). FitsLeft a o x) is l.2) (omega arith) (e ∙ flat o place x y zs)) (λ us a.
+      reaches_choose (peek marked) (λ kind. relation_by marked below levels (measure x) (relator_of kind)) (Some (operator_kind o)) (peek_front marked us a ∙ operator_seen o place y zs)
+      (subst (λ (p : Option Relator). Reaches (relation_by marked below levels (measure x) p) us (measure (written.operation o place x y)) zs) (sym (relation_self o is)) (joined_again o place x y us zs low l.1 l.3 (omega arith) a)))
 
   relation_again : Again marked (relation marked below levels) levels layer.Relation
-  relation_again (operation o place x y) fs zs low l r free e =
-      elim (layer_cases o) [
-        | inl adds ↦ relation_plain (operation o place x y) fs zs low l (let h = ap rank adds in omega arith) free e
-        | inr relates ↦ relation_joined o place x y fs zs relates low l free e
+  relation_again (written.operation o place x y) fs zs low l r free e =
+      elim (layers layer.Relation (layer_of o) r) [
+        | inl is ↦ relation_joined o place x y fs zs is low l free e
+        | inr lower ↦ relation_plain (written.operation o place x y) fs zs low l (omega arith) free e
       ]
-  relation_again (signed o place x) fs zs low l r free e = relation_plain (signed o place x) fs zs low l (omega arith) free e
+  relation_again (written.signed o place x) fs zs low l r free e = relation_plain (written.signed o place x) fs zs low l (elim (before_cases o) [ inl is ↦ let h = ap rank is.0 in omega arith | inr is ↦ let h = ap rank is.0 in omega arith ]) free e
   relation_again (parenthesized place inner) fs zs low l r free e = relation_plain (parenthesized place inner) fs zs low l (omega arith) free e
   relation_again (expr.Number value place) fs zs low l r free e = relation_plain (expr.Number value place) fs zs low l (omega arith) free e
   relation_again (expr.Name x) fs zs low l r free e = relation_plain (expr.Name x) fs zs low l (omega arith) free e
+  relation_again (written.in_type o place x n) fs zs low l r free e =
+      let below_x : height x < levels = omega arith in
+      tested_again o place x (measure (written.in_type o place x n)) fs (written_name marked n ++ zs) zs below_x l.0 l.1
+      (e ∙ append_assoc (written_expr marked x) (written_member marked o place ++ written_name marked n) zs ∙ ap (λ (us : List Form). written_expr marked x ++ us) (append_assoc (written_member marked o place) (written_name marked n) zs))
+      (λ us a. type_again o place x n us zs below_x free a)
+  relation_again (written.in_range o place x a b) fs zs low l r free e =
+      let below_x : height x < levels = omega arith in
+      tested_again o place x (measure (written.in_range o place x a b)) fs (written_expr marked a ++ (bare marked k.DoubleDot ∷ (written_expr marked b ++ zs))) zs below_x l.0 l.1
+      (e ∙ ranged (written_expr marked x) (written_member marked o place) (written_expr marked a) (written_expr marked b))
+      (λ us h. range_again o place x a b us zs low l.2 l.3 l.4 l.5 free h)
+    where
+      ranged : (t m p q : List Form) → (t ++ (m ++ (p ++ bare marked k.DoubleDot ∷ q))) ++ zs ≡ t ++ (m ++ (p ++ (bare marked k.DoubleDot ∷ (q ++ zs))))
+      ranged t m p q = simp append_assoc
+
+  -- ---- logical operations
+
+  opening_plain : (x : Expr) (fs zs : List Form) → height x ≤ levels → Layered x → rank (layer_in x) ≤ 4 → Free layer.Expression (peek marked zs) → fs ≡ written_expr marked x ++ zs → Reaches (opening marked below levels) fs (measure x, None) zs
+  unfolding opening
+  opening_plain x fs zs low l r free e =
+      reaches_bind _ (relation_again x fs zs low l r (omega arith) e) (λ us a.
+      reaches_choose (peek marked) (λ kind. opening_by marked below levels (measure x) (logical kind)) (peek marked zs) (peek_front marked us a)
+      (subst (λ (o : Option InfixOp). Reaches (opening_by marked below levels (measure x) o) us (measure x, None) zs) (sym (no_logical (peek marked zs) free)) (reaches_pure a)))
+
+  combined_again : (o : InfixOp) (place : Place) (x y : Expr) (fs zs : List Form) → layer_of o ≡ layer.Expression → max (height x) (height y) + 1 ≤ levels → Layered y → rank (layer_in y) ≤ 4 → Free layer.Relation (peek marked zs) → fs ≡ from_operator o place y zs
+      → Reaches (combined marked below levels (first_word o) (measure x)) fs (measure (written.operation o place x y), Some o) zs
+  unfolding combined hidden-the_row-Expr-0 hidden
+  combined_again o place x y fs zs is low l r free e =
+      let below_x : height x < levels = omega arith in
+      let first = e ∙ ap (λ (kind : Kind). placed marked kind place ∷ (second_word marked o ++ (written_expr marked y ++ zs))) (sym (word_kind o)) in
+      reaches_deeper below_x
+      (reaches_bind _ (reaches_expect_place marked (operator_kind (first_word o)) first) (λ us a.
+      reaches_bind _ (whole_again marked o y us zs is a) (λ vs b.
+      reaches_bind _ (again (omega arith) layer.Relation y vs zs (omega arith) l r free b) (λ ws d. reaches_pure d))))
+
+  opening_joined : (o : InfixOp) (place : Place) (x y : Expr) (fs zs : List Form) → layer_of o ≡ layer.Expression → height (written.operation o place x y) ≤ levels → Layered (written.operation o place x y) → rank (layer_in x) ≤ 4 → Free layer.Relation (peek marked zs)
+      → fs ≡ written_expr marked (written.operation o place x y) ++ zs → Reaches (opening marked below levels) fs (measure (written.operation o place x y), Some o) zs
+  unfolding opening
+  opening_joined o place x y fs zs is low l r free e =
+      let low_x : height x ≤ levels = omega arith in
+      let s = operator_strength o place y zs ∙ ap rank is in
+      let right = ap (λ (a : Layer). rank (right_layer a)) is in
+      let low_y = l.3 in
+      reaches_bind _ (relation_again x fs (from_operator o place y zs) low_x l.0 r (omega arith) (e ∙ flat o place x y zs)) (λ us a.
+      reaches_choose (peek marked) (λ kind. opening_by marked below levels (measure x) (logical kind)) (Some (operator_kind o)) (peek_front marked us a ∙ operator_seen o place y zs)
+      (subst (λ (p : Option InfixOp). Reaches (opening_by marked below levels (measure x) p) us (measure (written.operation o place x y), Some o) zs) (sym (word_self o is)) (combined_again o place x y us zs is low l.1 (omega arith) free a)))
+
+  combination_base : (o : InfixOp) (place : Place) (x y : Expr) (fs zs : List Form) → layer_of o ≡ layer.Expression → height (written.operation o place x y) ≤ levels → Layered (written.operation o place x y) → rank (layer_in x) ≤ 4 → Free layer.Relation (peek marked zs)
+      → fs ≡ written_expr marked (written.operation o place x y) ++ zs → combination marked below levels fs ≡ chained marked below levels (chain.Logical o) (measure (written.operation o place x y)) zs
+  unfolding combination
+  combination_base o place x y fs zs is low l r free e = ap (λ (out : Outcome (Tall × Option InfixOp)). and_then out (λ z. combination_by marked below levels z.0 z.1)) (opening_joined o place x y fs zs is low l r free e).is
+
+  combination_case : (o : InfixOp) (place : Place) (x y : Expr) (fs zs : List Form) → layer_of o ≡ layer.Expression → height (written.operation o place x y) ≤ levels → Layered (written.operation o place x y) → Free layer.Relation (peek marked zs)
+      → fs ≡ written_expr marked (written.operation o place x y) ++ zs → (rank (layer_in x) ≤ 4) ⊎ HasOperator o x
+      → (HasOperator o x → Free layer.Relation (peek marked (from_operator o place y zs)) → combination marked below levels fs ≡ chained marked below levels (chain.Logical o) (measure x) (from_operator o place y zs))
+      → combination marked below levels fs ≡ chained marked below levels (chain.Logical o) (measure (written.operation o place x y)) zs
+  combination_case o place x y fs zs is low l free e (inl r) left = combination_base o place x y fs zs is low l r free e
+  combination_case o place x y fs zs is low l free e (inr has) left =
+      let s = operator_strength o place y zs ∙ ap rank is in
+      let right = ap (λ (a : Layer). rank (right_layer a)) is in
+      linked (chain.Logical o) o place x y (combination marked below levels fs) zs (logical_self o is) low l.1 l.3 (omega arith) (left has (omega arith))
+
+  combination_goes : (o : InfixOp) → layer_of o ≡ layer.Expression → (x : Expr) → HasOperator o x → (fs zs : List Form) → height x ≤ levels → Layered x → Free layer.Relation (peek marked zs) → fs ≡ written_expr marked x ++ zs
+      → combination marked below levels fs ≡ chained marked below levels (chain.Logical o) (measure x) zs
+  combination_goes o is (written.operation p place x y) has fs zs low l free e =
+      let low_x : height x ≤ levels = omega arith in
+      let same = ap layer_of has ∙ is in
+      subst (λ (q : InfixOp). combination marked below levels fs ≡ chained marked below levels (chain.Logical q) (measure (written.operation p place x y)) zs) has
+      (combination_case p place x y fs zs same low l free e (subst (λ (a : Layer). FitsLeft a p x) same l.2)
+      (λ h f. subst (λ (q : InfixOp). combination marked below levels fs ≡ chained marked below levels (chain.Logical q) (measure x) (from_operator p place y zs)) (sym has)
+      (combination_goes o is x (subst (λ (q : InfixOp). HasOperator q x) has h) fs (from_operator p place y zs) low_x l.0 f (e ∙ flat p place x y zs))))
+  combination_goes o is (written.signed p place x) has fs zs low l free e = absurd has
+  combination_goes o is (parenthesized place inner) has fs zs low l free e = absurd has
+  combination_goes o is (expr.Number value place) has fs zs low l free e = absurd has
+  combination_goes o is (expr.Name x) has fs zs low l free e = absurd has
+  combination_goes o is (written.in_type p place x n) has fs zs low l free e = absurd has
+  combination_goes o is (written.in_range p place x a b) has fs zs low l free e = absurd has
+
+  combination_plain : (x : Expr) (fs zs : List Form) → height x ≤ levels → Layered x → rank (layer_in x) ≤ 4 → Free layer.Expression (peek marked zs) → fs ≡ written_expr marked x ++ zs → Reaches (combination marked below levels) fs (measure x) zs
+  unfolding combination
+  combination_plain x fs zs low l r free e = reaches_bind _ (opening_plain x fs zs low l r free e) (λ us a. reaches_pure a)
+
+  combination_again : Again marked (combination marked below levels) levels layer.Expression
+  combination_again (written.operation o place x y) fs zs low l r free e =
+      elim (layers layer.Expression (layer_of o) r) [
+        | inl is ↦ record { is = combination_goes o is (written.operation o place x y) refl fs zs low l (omega arith) e ∙ over (chain.Logical o) (written.operation o place x y) zs free }
+        | inr lower ↦ combination_plain (written.operation o place x y) fs zs low l (omega arith) free e
+      ]
+  combination_again (written.signed o place x) fs zs low l r free e = combination_plain (written.signed o place x) fs zs low l (elim (before_cases o) [ inl is ↦ let h = ap rank is.0 in omega arith | inr is ↦ let h = ap rank is.0 in omega arith ]) free e
+  combination_again (parenthesized place inner) fs zs low l r free e = combination_plain (parenthesized place inner) fs zs low l (omega arith) free e
+  combination_again (expr.Number value place) fs zs low l r free e = combination_plain (expr.Number value place) fs zs low l (omega arith) free e
+  combination_again (expr.Name x) fs zs low l r free e = combination_plain (expr.Name x) fs zs low l (omega arith) free e
+  combination_again (written.in_type o place x n) fs zs low l r free e = combination_plain (written.in_type o place x n) fs zs low l (omega arith) free e
+  combination_again (written.in_range o place x a b) fs zs low l r free e = combination_plain (written.in_range o place x a b) fs zs low l (omega arith) free e
 
   read_again : (layer : Layer) → Again marked (read marked below levels layer) levels layer
   read_again layer.Primary = primary_again
+  read_again layer.Factor = factor_again
+  read_again layer.Term = term_again
   read_again layer.Sum = sum_again
   read_again layer.Relation = relation_again
+  read_again layer.Expression = combination_again
 
 below_again : (marked : Bool) (levels : ℕ) → 0 < levels → (layer : Layer) → Again marked (below marked levels layer) (levels - 1) layer
 unfolding below
 below_again marked zero h layer = absurd (omega arith)
-below_again marked (suc n) h layer = λ x fs zs low l r free e. read_again marked (below marked n) n (sum_shrinks marked (below marked n) (below marked (suc n)) n (below_good marked n)) (below_again marked n) layer x fs zs (omega arith) l r free e
+below_again marked (suc n) h layer = λ x fs zs low l r free e. read_again marked (below marked n) n (chain_shrinks marked (below marked n) (below marked (suc n)) n (below_good marked n)) (below_again marked n) layer x fs zs (omega arith) l r free e
 
 at_layer_again : (marked : Bool) (levels : ℕ) (layer : Layer) → Again marked (at_layer marked levels layer) levels layer
 unfolding at_layer
-at_layer_again marked levels layer = read_again marked (below marked levels) levels (sum_shrinks marked (below marked levels) (below marked (suc levels)) levels (below_good marked levels)) (below_again marked levels) layer
+at_layer_again marked levels layer = read_again marked (below marked levels) levels (chain_shrinks marked (below marked levels) (below marked (suc levels)) levels (below_good marked levels)) (below_again marked levels) layer
 
-pub expression_again : (marked : Bool) (levels : ℕ) (x : Expr) (fs zs : List Form) → IsExpr levels x → Free layer.Relation (peek marked zs) → fs ≡ written_expr marked x ++ zs → Reaches (expression marked levels) fs x zs
+pub expression_again : (marked : Bool) (levels : ℕ) (x : Expr) (fs zs : List Form) → IsExpr levels x → Free layer.Expression (peek marked zs) → fs ≡ written_expr marked x ++ zs → Reaches (expression marked levels) fs x zs
 unfolding expression
-expression_again marked levels x fs zs fit free e = reaches_bind _ (at_layer_again marked levels layer.Relation x fs zs fit.low fit.layered fit.of_layer free e) (λ us a. reaches_pure a)
+expression_again marked levels x fs zs fit free e = reaches_bind _ (at_layer_again marked levels layer.Expression x fs zs fit.low fit.layered fit.of_layer free e) (λ us a. reaches_pure a)
 
-pub expression_below_again : (marked : Bool) (levels : ℕ) → 0 < levels → (x : Expr) (fs zs : List Form) → IsExpr (levels - 1) x → Free layer.Relation (peek marked zs) → fs ≡ written_expr marked x ++ zs → Reaches (expression_below marked levels) fs x zs
+pub expression_below_again : (marked : Bool) (levels : ℕ) → 0 < levels → (x : Expr) (fs zs : List Form) → IsExpr (levels - 1) x → Free layer.Expression (peek marked zs) → fs ≡ written_expr marked x ++ zs → Reaches (expression_below marked levels) fs x zs
 unfolding expression_below
-expression_below_again marked levels some x fs zs fit free e = reaches_bind _ (below_again marked levels some layer.Relation x fs zs fit.low fit.layered fit.of_layer free e) (λ us a. reaches_pure a)
+expression_below_again marked levels some x fs zs fit free e = reaches_bind _ (below_again marked levels some layer.Expression x fs zs fit.low fit.layered fit.of_layer free e) (λ us a. reaches_pure a)
 
 -- no expression goes on with a semicolon
-pub semicolon_free : (marked : Bool) (zs : List Form) → Free layer.Relation (peek marked (bare marked k.Semicolon ∷ zs))
-semicolon_free true zs = (λ e. cc, refl, refl)
-semicolon_free false zs = (λ e. cc, refl, refl)
+pub semicolon_free : (marked : Bool) (zs : List Form) → Free layer.Expression (peek marked (bare marked k.Semicolon ∷ zs))
+semicolon_free marked zs = bare_free marked k.Semicolon zs refl
 
 -- nor with the word "then"
-pub then_free : (marked : Bool) (zs : List Form) → Free layer.Relation (peek marked (bare marked k.Then ∷ zs))
-then_free true zs = (λ e. cc, refl, refl)
-then_free false zs = (λ e. cc, refl, refl)
+pub then_free : (marked : Bool) (zs : List Form) → Free layer.Expression (peek marked (bare marked k.Then ∷ zs))
+then_free marked zs = bare_free marked k.Then zs refl

@@ -22,7 +22,7 @@ module _ {A : Type 0} (spell : A → List Form) (fits : ℕ → A → Type 0) (n
   abbrev forms : List Form
   forms = forms_of source all
 
-  -- the answer for a whole text: what stands behind a text is one form too many
+  -- the answer for a whole text: what stands after a text is one form too many
   abbrev pub located : Outcome A → Result A ParseFault
   located (Ok (x, [])) = Ok x
   located (Ok (x, f ∷ rest)) = Err (fault.Expected (place_with end all (length (f ∷ rest))))

@@ -1,4 +1,4 @@
--- What is written is read, whatever stands behind it: by the ways in which readers are made.
+-- What is written is read, whatever stands after it: by the ways in which readers are made.
 use Rattle.std.specs.Prelude.{⊤}
 use Rattle.std.proofs.Common.{◌≡◌, ℕ, ℤ, ◌<◌, Bool, true, false, cond, List, [], ◌∷◌, ◌++◌, length, map, Option, Some, None, Ok, Err, refl, sym, ap, subst, ◌∙◌, append_assoc}
 use Rattle.std.proofs.lemmas.Bool.{lt-leb}
@@ -74,14 +74,14 @@ reaches_is {p = p} {fs = fs} {zs = zs} e r = subst (λ v. Reaches p fs v zs) e r
 
 -- ---- lists
 
--- An item is read in front of what Stops tells of: what begins an item, and what stands behind all.
+-- An item is read before forms of which Stops holds: what begins an item, and what stands after all.
 module _ {A : Type 0} (Stops : List Form → Type 0) (spell1 : A → List Form) (fits1 : A → Type 0) (look : List Form → Bool) (item : Reader A) (shrinks : Shrinks look (item_step item))
     (begun : (x : A) (ws : List Form) → fits1 x → (look (spell1 x ++ ws) ≡ true) × Stops (spell1 x ++ ws)) (again : (x : A) (fs zs : List Form) → fits1 x → Stops zs → fs ≡ spell1 x ++ zs → Reaches item fs x zs) where
   items_stop : (xs : List A) (zs : List Form) → Each fits1 xs → Stops zs → Stops (joined (map spell1 xs) ++ zs)
   items_stop [] zs f stops = stops
   items_stop (y ∷ ys) zs f stops = subst Stops (sym (append_assoc (spell1 y) (joined (map spell1 ys)) zs)) (begun y (joined (map spell1 ys) ++ zs) f.0).1
 
-  -- items behind others, up to where no item stands
+  -- items after others, up to where no item stands
   pub reaches_items_before : (found xs : List A) (fs zs : List Form) → Each fits1 xs → look zs ≡ false → Stops zs → fs ≡ joined (map spell1 xs) ++ zs → Reaches (more_items look item found) fs (found ++ xs) zs
   reaches_items_before found [] fs zs f over stops h = reaches_is (sym (append-nil found)) (reaches_over look (item_step item) shrinks (ap (item_step item found) (ap look h ∙ over)) h)
   reaches_items_before found (y ∷ ys) fs zs f over stops h =
@@ -90,7 +90,7 @@ module _ {A : Type 0} (Stops : List Form → Type 0) (spell1 : A → List Form) 
       (reaches_turn look (item_step item) shrinks (ap (item_step item found) (ap look flat ∙ (begun y (joined (map spell1 ys) ++ zs) f.0).0))
       (reaches_bind (λ s. pure (found ++ s ∷ [])) (again y fs (joined (map spell1 ys) ++ zs) f.0 (items_stop ys zs f.1 stops) flat) (λ us a. reaches_pure a)) (λ us a. reaches_items_before (found ++ y ∷ []) ys us zs f.1 over stops a))
 
--- Where an item is read whatever stands behind it.
+-- Where an item is read whatever stands after it.
 module _ {A : Type 0} (spell1 : A → List Form) (fits1 : A → Type 0) (look : List Form → Bool) (item : Reader A) (shrinks : Shrinks look (item_step item))
     (begun : (x : A) (ws : List Form) → fits1 x → look (spell1 x ++ ws) ≡ true) (again : (x : A) (fs zs : List Form) → fits1 x → fs ≡ spell1 x ++ zs → Reaches item fs x zs) where
   pub reaches_items : (found xs : List A) (fs zs : List Form) → Each fits1 xs → look zs ≡ false → fs ≡ joined (map spell1 xs) ++ zs → Reaches (more_items look item found) fs (found ++ xs) zs

@@ -5,7 +5,7 @@ use Rattle.std.proofs.lemmas.List.{append-nil}
 use Rattle.spx_tree.specs.Grammar.{Each, OneOrMore, IfThere}
 use Rattle.spx_tree.specs.declared.token.Kind.{Kind}
 use Rattle.spx_tree.specs.Form.{Form, KindAlone, keeps, bare}
-use Rattle.spx_tree.specs.Written.{joined, behind, separated, optional}
+use Rattle.spx_tree.specs.Written.{joined, following, separated, optional}
 use Rattle.spx_parse_body.specs.Reading.{Reader, ◌>>=◌, ◌>>◌, peek, same_mark, is_kind, sees, expect, optional_by, if_seen, item_step, more_items}
 use Rattle.spx_parse_body.proofs.Callers.Shaped.{mark_self, kind_is, kind_self}
 use Rattle.spx_parse_body.proofs.Callers.Loops.{Shrinks}
@@ -42,7 +42,7 @@ module _ {A : Type 0} (spell : A → List Form) (fits : A → Type 0) (look : Li
   pub items_shrinks : {L : Type 0} → Starts L ⊤ spell fits [] (Sees look true) p p' → L → Shrinks look (item_step p)
   items_shrinks {L} s l = list_shrinks L ⊤ spell fits (λ xs. joined (map spell xs)) (Each fits) (each_adds spell fits) look first no_end s l
 
--- Where an item is read whatever stands behind it.
+-- Where an item is read whatever stands after it.
 module _ {A : Type 0} (spell : A → List Form) (fits : A → Type 0) (look : List Form → Bool) {p : Reader A} (shrinks : Shrinks look (item_step p)) (begun : (x : A) (ws : List Form) → fits x → look (spell x ++ ws) ≡ true)
     (again : (x : A) (fs zs : List Form) → fits x → fs ≡ spell x ++ zs → Reaches p fs x zs) where
   pub reaches_some_items : (xs : List A) (fs zs : List Form) → OneOrMore fits xs → look zs ≡ false → fs ≡ joined (map spell xs) ++ zs → Reaches (p >>= λ x. more_items look p (x ∷ [])) fs xs zs
@@ -51,20 +51,20 @@ module _ {A : Type 0} (spell : A → List Form) (fits : A → Type 0) (look : Li
       reaches_bind (λ y. more_items look p (y ∷ [])) (again x fs (joined (map spell xs) ++ zs) f.0 (h ∙ append_assoc (spell x) (joined (map spell xs)) zs)) (λ us a. reaches_items spell fits look p shrinks begun again (x ∷ []) xs us zs f.1 over a)
 
 module _ {A : Type 0} (spell : A → List Form) (fits : A → Type 0) (marked : Bool) (sep : Kind) where
-  -- an item behind the form between
+  -- an item after the form between
   abbrev pub next : A → List Form
   next x = bare marked sep ∷ spell x
 
-  pub behind_is : (xs : List A) → behind (bare marked sep) spell xs ≡ joined (map next xs)
-  behind_is [] = refl
-  behind_is (x ∷ xs) = ap (λ (fs : List Form). bare marked sep ∷ (spell x ++ fs)) (behind_is xs)
+  pub following_is : (xs : List A) → following (bare marked sep) spell xs ≡ joined (map next xs)
+  following_is [] = refl
+  following_is (x ∷ xs) = ap (λ (fs : List Form). bare marked sep ∷ (spell x ++ fs)) (following_is xs)
 
-  pub behind_added : (xs : List A) (x : A) → behind (bare marked sep) spell xs ++ next x ≡ behind (bare marked sep) spell (xs ++ x ∷ [])
-  behind_added xs x = ap (λ (fs : List Form). fs ++ next x) (behind_is xs) ∙ joined_added next xs x ∙ sym (behind_is (xs ++ x ∷ []))
+  pub following_added : (xs : List A) (x : A) → following (bare marked sep) spell xs ++ next x ≡ following (bare marked sep) spell (xs ++ x ∷ [])
+  following_added xs x = ap (λ (fs : List Form). fs ++ next x) (following_is xs) ∙ joined_added next xs x ∙ sym (following_is (xs ++ x ∷ []))
 
   pub separated_adds : Adds next fits (separated (bare marked sep) spell) (OneOrMore fits)
   separated_adds [] x f g = absurd f
-  separated_adds (y ∷ ys) x f g = (append_assoc (spell y) (behind (bare marked sep) spell ys) (next x) ∙ ap (λ (fs : List Form). spell y ++ fs) (behind_added ys x), (f.0, all_added fits ys x f.1 g))
+  separated_adds (y ∷ ys) x f g = (append_assoc (spell y) (following (bare marked sep) spell ys) (next x) ∙ ap (λ (fs : List Form). spell y ++ fs) (following_added ys x), (f.0, all_added fits ys x f.1 g))
 
   module _ (look : List Form → Bool) (first : AtFirst look) (no_end : look [] ≡ false) (seen : (fs : List Form) → look fs ≡ true → peek marked fs ≡ Some sep) (c : keeps sep ≡ KindAlone) {p p' : Reader A} where
     pub next_starts : {L P : Type 0} → Good L ⊤ spell fits [] Any p p' → Starts L P next fits [] (Sees look true) (expect marked sep >> p) (expect marked sep >> p')
@@ -78,26 +78,26 @@ module _ {A : Type 0} (spell : A → List Form) (fits : A → Type 0) (marked : 
     pub separated_shrinks : {L : Type 0} → Good L ⊤ spell fits [] Any p p' → L → Shrinks look (item_step (expect marked sep >> p))
     separated_shrinks {L} g = list_shrinks L ⊤ next fits (separated (bare marked sep) spell) (OneOrMore fits) separated_adds look first no_end (next_starts g)
 
-  -- Each item is read in front of what Stops tells of.
+  -- Each item is read before forms of which Stops holds.
   module _ (Stops : List Form → Type 0) (look : List Form → Bool) {p : Reader A} (shrinks : Shrinks look (item_step (expect marked sep >> p))) (begun : (ws : List Form) → (look (bare marked sep ∷ ws) ≡ true) × Stops (bare marked sep ∷ ws))
       (again : (x : A) (fs zs : List Form) → fits x → Stops zs → fs ≡ spell x ++ zs → Reaches p fs x zs) where
     next_again : (x : A) (fs zs : List Form) → fits x → Stops zs → fs ≡ next x ++ zs → Reaches (expect marked sep >> p) fs x zs
     next_again x fs zs f stops h = reaches_bind (λ u. p) (reaches_expect marked sep h) (λ us a. again x us zs f stops a)
 
-    -- items behind others
-    pub reaches_behind : (found xs : List A) (fs zs : List Form) → Each fits xs → look zs ≡ false → Stops zs → fs ≡ behind (bare marked sep) spell xs ++ zs → Reaches (more_items look (expect marked sep >> p) found) fs (found ++ xs) zs
-    reaches_behind found xs fs zs f over stops h =
-        reaches_items_before Stops next fits look (expect marked sep >> p) shrinks (λ x ws g. begun (spell x ++ ws)) next_again found xs fs zs f over stops (h ∙ ap (λ (ws : List Form). ws ++ zs) (behind_is xs))
+    -- items after others
+    pub reaches_following : (found xs : List A) (fs zs : List Form) → Each fits xs → look zs ≡ false → Stops zs → fs ≡ following (bare marked sep) spell xs ++ zs → Reaches (more_items look (expect marked sep >> p) found) fs (found ++ xs) zs
+    reaches_following found xs fs zs f over stops h =
+        reaches_items_before Stops next fits look (expect marked sep >> p) shrinks (λ x ws g. begun (spell x ++ ws)) next_again found xs fs zs f over stops (h ∙ ap (λ (ws : List Form). ws ++ zs) (following_is xs))
 
-    behind_stop : (xs : List A) (zs : List Form) → Stops zs → Stops (behind (bare marked sep) spell xs ++ zs)
-    behind_stop [] zs stops = stops
-    behind_stop (x ∷ xs) zs stops = (begun ((spell x ++ behind (bare marked sep) spell xs) ++ zs)).1
+    following_stop : (xs : List A) (zs : List Form) → Stops zs → Stops (following (bare marked sep) spell xs ++ zs)
+    following_stop [] zs stops = stops
+    following_stop (x ∷ xs) zs stops = (begun ((spell x ++ following (bare marked sep) spell xs) ++ zs)).1
 
     pub reaches_separated : (xs : List A) (fs zs : List Form) → OneOrMore fits xs → look zs ≡ false → Stops zs → fs ≡ separated (bare marked sep) spell xs ++ zs → Reaches (p >>= λ x. more_items look (expect marked sep >> p) (x ∷ [])) fs xs zs
     reaches_separated [] fs zs f over stops h = absurd f
     reaches_separated (x ∷ xs) fs zs f over stops h =
-        reaches_bind (λ y. more_items look (expect marked sep >> p) (y ∷ [])) (again x fs (behind (bare marked sep) spell xs ++ zs) f.0 (behind_stop xs zs stops) (h ∙ append_assoc (spell x) (behind (bare marked sep) spell xs) zs))
-        (λ us a. reaches_behind (x ∷ []) xs us zs f.1 over stops a)
+        reaches_bind (λ y. more_items look (expect marked sep >> p) (y ∷ [])) (again x fs (following (bare marked sep) spell xs ++ zs) f.0 (following_stop xs zs stops) (h ∙ append_assoc (spell x) (following (bare marked sep) spell xs) zs))
+        (λ us a. reaches_following (x ∷ []) xs us zs f.1 over stops a)
 
 -- ---- where the form between is looked for
 

@@ -39,12 +39,12 @@ pub shaped_forms : (source : List ℕ) (ts : List Token) → AreShaped (forms_of
 shaped_forms source [] = tt
 shaped_forms source (t ∷ ts) = (shaped_as (keeps t.kind) source t, shaped_forms source ts)
 
-shaped_behind : (taken rest : List Form) → AreShaped (taken ++ rest) → AreShaped rest
-shaped_behind [] rest s = s
-shaped_behind (f ∷ taken) rest s = shaped_behind taken rest s.1
+shaped_following : (taken rest : List Form) → AreShaped (taken ++ rest) → AreShaped rest
+shaped_following [] rest s = s
+shaped_following (f ∷ taken) rest s = shaped_following taken rest s.1
 
 pub shaped_rest : (fs taken rest : List Form) → fs ≡ taken ++ rest → AreShaped fs → AreShaped rest
-shaped_rest fs taken rest e s = shaped_behind taken rest (subst AreShaped e s)
+shaped_rest fs taken rest e s = shaped_following taken rest (subst AreShaped e s)
 
 -- ---- marks and kinds
 

@@ -25,7 +25,7 @@ turn_is reads go_on found true fs = and_then_assoc (reads fs) (λ x. pure (found
 pub items_is : {A : Type 0} (look : List Form → Bool) (reads : Reader A) → Shrinks look (item_step reads) → (found : List A) (fs : List Form) → loop look (item_step reads) found fs ≡ items_by reads (loop look (item_step reads)) found (look fs) fs
 items_is look reads shrinks found fs = loop_is look (item_step reads) shrinks found fs ∙ turn_is reads (loop look (item_step reads)) found (look fs) fs
 
--- a separator, and an item behind it
+-- a separator, and an item after it
 abbrev pub next_by : {A : Type 0} → Bool → Kind → Reader A → (List A → Reader (List A)) → List A → Bool → Reader (List A)
 next_by marked kind reads go_on found true = expect marked kind >>= λ u. reads >>= λ x. go_on (found ++ x ∷ [])
 next_by marked kind reads go_on found false = pure found
@@ -50,7 +50,7 @@ pub item_shorter : {A : Type 0} (look : List Form → Bool) (reads : Reader A) �
 item_shorter look reads shrinks fs r x seen e =
     shrinks.shortens [] fs (reads >>= λ y. pure (y ∷ [])) (ap (item_step reads []) seen) (x ∷ []) r (ap (λ (o : Outcome _). and_then o (λ y. pure (y ∷ []))) e)
 
--- and one behind its separator
+-- and one after its separator
 pub next_shorter : {A : Type 0} (marked : Bool) (kind : Kind) (reads : Reader A) → Shrinks (sees marked kind) (item_step (expect marked kind >> reads)) → (fs middle r : List Form) (x : A) → sees marked kind fs ≡ true → expect marked kind fs ≡ Ok (tt, middle) → reads middle ≡ Ok (x, r) → length r < length fs
 next_shorter marked kind reads shrinks fs middle r x seen e f =
     item_shorter (sees marked kind) (expect marked kind >> reads) shrinks fs r x seen (ap (λ (o : Outcome ⊤). and_then o (λ u. reads)) e ∙ f)

@@ -7,26 +7,26 @@ use Rattle.spx_examiner.proofs.Loading.{appended, holds_more, too_long_at}
 use Rattle.spx_examiner.proofs.load.load_all.Goals as goal
 use Rattle.spx_examiner.proofs.load.load_all.Goals.{After-load}
 
--- what is told of this word's file
-told_here : (g : _) (c : After-load g) → g.F.Files.told c.loop-word.files c.as_str.result.now ≡ g.F.Files.told c.args.files.now (string_bytes (get_or c.args.words.now c.loop-word.word-index c.word-item.result))
-told_here g c = c.loop-word.invariant.told c.as_str.result.now ∙ ap (g.F.Files.told c.args.files.now) (c.as_str.ensures.value ∙ ap string_bytes c.word-item.is)
+-- what is known of this word's file
+known_here : (g : _) (c : After-load g) → g.F.Files.known c.loop-word.files c.as_str.result.now ≡ g.F.Files.known c.args.files.now (string_bytes (get_or c.args.words.now c.loop-word.word-index c.word-item.result))
+known_here g c = c.loop-word.invariant.known c.as_str.result.now ∙ ap (g.F.Files.known c.args.files.now) (c.as_str.ensures.value ∙ ap string_bytes c.word-item.is)
 
 pub returns-in_err-load-clause-too_long : goal.returns-in_err-load-clause-too_long
 returns-in_err-load-clause-too_long g c = λ is.
     let below : c.loop-word.word-index < length c.args.words.now = omega arith in
     let same : Err c.in_err-load.field-0.0 ≡ Err TooLong = search rules in
-    too_long_at (g.F.Files.told c.args.files.now) c.args.words.now c.loop-word.word-index c.word-item.result below
-    (subst (λ o. IfSome o (λ given. 4194304 < length given)) (told_here g (goal.at.returns-in_err-load-clause-too_long g c).After-load) (c.in_err-load.ensures.too_long same))
+    too_long_at (g.F.Files.known c.args.files.now) c.args.words.now c.loop-word.word-index c.word-item.result below
+    (subst (λ o. IfSome o (λ given. 4194304 < length given)) (known_here g (goal.at.returns-in_err-load-clause-too_long g c).After-load) (c.in_err-load.ensures.too_long same))
 
 pub loop-word-preserved : goal.loop-word-preserved
 loop-word-preserved g c =
-    let here = subst (λ o. IfSome o (Appends 4194304 c.new-bytes.result.items c.load.new.into.items)) (told_here g (goal.at.loop-word-preserved g c).After-load) c.in_ok-load.ensures.loaded in
+    let here = subst (λ o. IfSome o (Appends 4194304 c.new-bytes.result.items c.load.new.into.items)) (known_here g (goal.at.loop-word-preserved g c).After-load) c.in_ok-load.ensures.loaded in
     let pushed : c.push.new.self.items ≡ c.loop-word.loaded.items ++ c.load.new.into ∷ [] = grind (arith, common_steps) in
     let next : suc c.loop-word.word-index ≡ c.loop-word.word-index + 1 = omega arith in
     record {
-      told = search rules;
+      known = search rules;
       failed = grind (arith, common_steps);
-      loaded = subst (λ n. MayHold (g.F.Files.told c.args.files.now) (names (take n c.args.words.now)) (contents_of c.push.new.self.items)) next (subst (λ all. MayHold (g.F.Files.told c.args.files.now) (names (take (suc c.loop-word.word-index) c.args.words.now)) (contents_of all)) (sym pushed)
-          (holds_more (g.F.Files.told c.args.files.now) c.args.words.now c.loop-word.loaded.items c.load.new.into c.loop-word.word-index c.word-item.result c.loop-word.invariant.loaded (omega arith)
+      loaded = subst (λ n. MayHold (g.F.Files.known c.args.files.now) (names (take n c.args.words.now)) (contents_of c.push.new.self.items)) next (subst (λ all. MayHold (g.F.Files.known c.args.files.now) (names (take (suc c.loop-word.word-index) c.args.words.now)) (contents_of all)) (sym pushed)
+          (holds_more (g.F.Files.known c.args.files.now) c.args.words.now c.loop-word.loaded.items c.load.new.into c.loop-word.word-index c.word-item.result c.loop-word.invariant.loaded (omega arith)
           (appended _ _ _ _ c.new-bytes.ensures.items here)));
     }

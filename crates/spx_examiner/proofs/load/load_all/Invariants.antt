@@ -5,7 +5,7 @@ use Rattle.spx_examiner.proofs.load.load_all.Given as goal
 
 abbrev pub invariant-loop-word : goal.invariant-loop-word
 invariant-loop-word g l = record {
-  told : (name : List ℕ) → g.F.Files.told l.files name ≡ g.F.Files.told l.initial.files name;
+  known : (name : List ℕ) → g.F.Files.known l.files name ≡ g.F.Files.known l.initial.files name;
   failed : g.F.Files.failed l.files ≡ g.F.Files.failed l.initial.files;
-  loaded : MayHold (g.F.Files.told l.initial.files) (names (take l.word-index l.words)) (contents_of l.loaded.items);
+  loaded : MayHold (g.F.Files.known l.initial.files) (names (take l.word-index l.words)) (contents_of l.loaded.items);
 }

@@ -12,6 +12,6 @@ returns-clause-judged g c =
     let is : files_of (names c.args.words.now) ≡ Some files = search rules in
     let (contents, holds, judged) = c.in_ok-judgement.ensures.judged in (
       contents,
-      subst (λ those. MayHold (g.F.Files.told c.args.files.now) those contents) (sym (named_are (names c.args.words.now) files is)) holds,
+      subst (λ those. MayHold (g.F.Files.known c.args.files.now) those contents) (sym (named_are (names c.args.words.now) files is)) holds,
       of_files files is (subst (IsJudgedOn contents) (sym c.in_ok-reported-2.ensures.judgement) judged),
     )

@@ -4,9 +4,12 @@ use Rattle.spx_examples.specs.Increment.{increment}
 use Rattle.spx_examples.proofs.laws.increment_is_never_bad.Goals as goal
 
 pub returns-clause-fit : goal.returns-clause-fit
-returns-clause-fit c = clean_is_fit increment c.increment_is_clean.ensures.clean
+returns-clause-fit c =
+    let clean = c.increment_is_clean.ensures.clean in
+    clean_is_fit increment (c.names_are_scoped.ensures increment clean.visible) clean
 
 pub returns-clause-never_bad : goal.returns-clause-never_bad
 returns-clause-never_bad c =
-    let fit = clean_is_fit increment c.increment_is_clean.ensures.clean in
-    never_bad increment (c.names_are_scoped.ensures increment fit.visible) (c.rules_hold.ensures increment fit.visible fit.obeys) fit
+    let clean = c.increment_is_clean.ensures.clean in
+    let scoped = c.names_are_scoped.ensures increment clean.visible in
+    never_bad increment scoped (c.rules_hold.ensures increment clean.visible clean.obeys) (clean_is_fit increment scoped clean)

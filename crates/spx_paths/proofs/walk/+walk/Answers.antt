@@ -16,56 +16,56 @@ use Rattle.spx_paths.proofs.walk.+walk.Goals as goal
 pub walk_arm-returns : goal.walk_arm-returns
 walk_arm-returns t c =
     let found = c.in_ok-found.found.items in
-    arm_arrives c.args.arm.now _ _ c.in_ok-taken.taken.steps found c.in_ok-taken.ensures
-    (subst (λ (stmts : List CoreStmt). Arrive (commands stmts) c.in_ok-taken.taken.steps found) c.as_slice.ensures c.in_ok-found.ensures)
+    arm_arrives c.args.program.now c.args.arm.now _ _ c.in_ok-taken.taken.steps found c.in_ok-taken.ensures
+    (subst (λ (stmts : List CoreStmt). Arrive c.args.program.now (commands stmts) c.in_ok-taken.taken.steps found) c.as_slice.ensures c.in_ok-found.ensures)
 
 pub walk_from_each-loop-path-preserved : goal.walk_from_each-loop-path-preserved
 walk_from_each-loop-path-preserved t c =
-    each_arrive (command c.args.stmt.now) c.loop-path.yielded c.in-Some.path c.loop-path.found.items c.in_ok-walk_stmt.field-0.items _ c.loop-path.invariant c.in_ok-walk_stmt.ensures c.in_ok-append.ensures.items
+    each_arrive c.args.program.now (command c.args.stmt.now) c.loop-path.yielded c.in-Some.path c.loop-path.found.items c.in_ok-walk_stmt.field-0.items _ c.loop-path.invariant c.in_ok-walk_stmt.ensures c.in_ok-append.ensures.items
 
 pub walk_from_each-returns : goal.walk_from_each-returns
 walk_from_each-returns t c =
     let before = c.args.before.items in
     let given = c.into_iter-path-iterator.ensures.into_iter_gives in
     let e : c.loop-path.yielded ≡ before = sym (map-id c.loop-path.yielded) ∙ (YieldsList-end (YieldsList-from_vec before given.0 (given.1 ∙ c.args.before.ok.0)) c.loop-path.yielded c.loop-path.path-iterator c.loop-path.yielded_by c.next.result c.next.new.self c.in-None.is c.next.ensures.steps).0 in
-    subst (λ paths. ArriveEach (command c.args.stmt.now) paths c.loop-path.found.items) e c.loop-path.invariant
+    subst (λ paths. ArriveEach c.args.program.now (command c.args.stmt.now) paths c.loop-path.found.items) e c.loop-path.invariant
 
 pub walk_arms-loop-arm-preserved : goal.walk_arms-loop-arm-preserved
 walk_arms-loop-arm-preserved t c =
-    arms_more c.args.arms.now c.loop-arm.arm-index c.arm-item.result _ c.loop-arm.path.steps _ c.loop-arm.found.items c.in_ok-walk_arm.field-0.items _ c.loop-arm-test.true c.arm-item.is c.loop-arm.invariant c.in_ok-walk_arm.ensures
+    arms_more c.args.program.now c.args.arms.now c.loop-arm.arm-index c.arm-item.result _ c.loop-arm.path.steps _ c.loop-arm.found.items c.in_ok-walk_arm.field-0.items _ c.loop-arm-test.true c.arm-item.is c.loop-arm.invariant c.in_ok-walk_arm.ensures
     c.in_ok-append.ensures.items
 
 pub walk_arms-returns : goal.walk_arms-returns
 walk_arms-returns t c = let e = drop_all c.loop-arm.arm-index c.args.arms.now c.loop-arm-test.false in rw e at c.loop-arm.invariant
 
 pub walk_stmts-loop-stmt-preserved : goal.walk_stmts-loop-stmt-preserved
-walk_stmts-loop-stmt-preserved t c = λ p sub rest leave made.
-    c.loop-stmt.invariant p sub rest leave made
-    ∙ ap (λ part. after_each c.loop-stmt.found.items (walk p sub (commands part) rest leave made)) (from_one c.args.stmts.now c.loop-stmt.stmt-index c.stmt-item.result c.loop-stmt-test.true c.stmt-item.is)
-    ∙ c.in_ok-found-2.ensures p sub (walk p sub (commands (drop (c.loop-stmt.stmt-index + 1) c.args.stmts.now)) rest leave) leave made
+walk_stmts-loop-stmt-preserved t c = λ sub rest leave made.
+    c.loop-stmt.invariant sub rest leave made
+    ∙ ap (λ part. after_each c.loop-stmt.found.items (walk c.args.program.now sub (commands part) rest leave made)) (from_one c.args.stmts.now c.loop-stmt.stmt-index c.stmt-item.result c.loop-stmt-test.true c.stmt-item.is)
+    ∙ c.in_ok-found-2.ensures sub (walk c.args.program.now sub (commands (drop (c.loop-stmt.stmt-index + 1) c.args.stmts.now)) rest leave) leave made
 
 pub walk_stmts-returns : goal.walk_stmts-returns
 walk_stmts-returns t c = let e = drop_all c.loop-stmt.stmt-index c.args.stmts.now c.loop-stmt-test.false in rw e at c.loop-stmt.invariant
 
 pub walk_stmts-loop-stmt-init : goal.walk_stmts-loop-stmt-init
-walk_stmts-loop-stmt-init t c = λ p sub rest leave made. c.in_ok-found.ensures p sub (walk p sub (commands c.args.stmts.now) rest leave) leave made
+walk_stmts-loop-stmt-init t c = λ sub rest leave made. c.in_ok-found.ensures c.args.program.now sub (walk c.args.program.now sub (commands c.args.stmts.now) rest leave) leave made
 
 pub walk_from_each-loop-path-init : goal.walk_from_each-loop-path-init
-walk_from_each-loop-path-init t c = λ p sub rest leave made. rw (c.new-found.ensures.items, each_none, each_none)
+walk_from_each-loop-path-init t c = λ sub rest leave made. rw (c.new-found.ensures.items, each_none, each_none)
 
 pub walk_arms-loop-arm-init : goal.walk_arms-loop-arm-init
-walk_arms-loop-arm-init t c = λ last p sub rest leave made. rw (c.new-found.ensures.items, each_none)
+walk_arms-loop-arm-init t c = λ last sub rest leave made. rw (c.new-found.ensures.items, each_none)
 
 pub walk_stmt-returns-in-Null : goal.walk_stmt-returns-in-Null
 walk_stmt-returns-in-Null t c =
     let is : command c.args.stmt.now ≡ Skip = ap command c.in-Null.is ∙ null_is c.in-Null.field-0 in
-    subst (λ (cmd : Command). IfOk c.one.result (λ found. Arrive cmd c.args.path.steps found.items)) (sym is) c.one.ensures
+    subst (λ (cmd : Command). IfOk c.one.result (λ found. Arrive c.args.program.now cmd c.args.path.steps found.items)) (sym is) (c.one.ensures c.args.program.now)
 
 pub walk_stmt-returns-in-Assignment : goal.walk_stmt-returns-in-Assignment
 walk_stmt-returns-in-Assignment t c =
     let at = c.in-Assignment in
     let is : command c.args.stmt.now ≡ Set at.target at.value = ap command at.is ∙ assignment_is at.target at.value in
-    subst (λ (cmd : Command). IfOk c.walk_assignment.result (λ found. Arrive cmd c.args.path.steps found.items)) (sym is) c.walk_assignment.ensures
+    subst (λ (cmd : Command). IfOk c.walk_assignment.result (λ found. Arrive c.args.program.now cmd c.args.path.steps found.items)) (sym is) c.walk_assignment.ensures
 
 pub walk_stmt-returns-in_ok-append-in-None : goal.walk_stmt-returns-in_ok-append-in-None
 walk_stmt-returns-in_ok-append-in-None t c =
@@ -74,8 +74,8 @@ walk_stmt-returns-in_ok-append-in-None t c =
     let other = c.in_ok-one-in-None in
     let is : command c.args.stmt.now ≡ with_arms arms Skip
     = ap command c.in-If.is ∙ ap (λ otherwise. command (stmt.If c.in-If.arms otherwise c.in-If.field-2)) c.in-None.is ∙ if_alone_is c.in-If.arms c.in-If.field-2 ∙ ap (λ (xs : List CoreArm). with_arms xs Skip) (sym c.as_slice.ensures) in
-    subst (λ (cmd : Command). Arrive cmd c.args.path.steps c.append.new.self.items) (sym is)
-    (if_arrives arms Skip _ _ walked.found.items other.field-0.items _ walked.ensures other.ensures c.in_ok-append-in-None.ensures.items)
+    subst (λ (cmd : Command). Arrive c.args.program.now cmd c.args.path.steps c.append.new.self.items) (sym is)
+    (if_arrives c.args.program.now arms Skip _ _ walked.found.items other.field-0.items _ walked.ensures (other.ensures c.args.program.now) c.in_ok-append-in-None.ensures.items)
 
 pub walk_stmt-returns-in_ok-append-in-Some : goal.walk_stmt-returns-in_ok-append-in-Some
 walk_stmt-returns-in_ok-append-in-Some t c =
@@ -88,5 +88,5 @@ walk_stmt-returns-in_ok-append-in-Some t c =
     ∙ ap (λ otherwise. command (stmt.If c.in-If.arms otherwise c.in-If.field-2)) c.in-Some.is
     ∙ if_else_is c.in-If.arms c.in-Some.stmts c.in-If.field-2
     ∙ ap₂ (λ (xs : List CoreArm) (ys : List CoreStmt). with_arms xs (commands ys)) (sym c.as_slice.ensures) (sym c.as_slice-in-Some.ensures) in
-    subst (λ (cmd : Command). Arrive cmd c.args.path.steps c.append-in-Some.new.self.items) (sym is)
-    (if_arrives arms (commands stmts) _ _ walked.found.items other.field-0.items _ walked.ensures other.ensures c.in_ok-append-in-Some.ensures.items)
+    subst (λ (cmd : Command). Arrive c.args.program.now cmd c.args.path.steps c.append-in-Some.new.self.items) (sym is)
+    (if_arrives c.args.program.now arms (commands stmts) _ _ walked.found.items other.field-0.items _ walked.ensures other.ensures c.in_ok-append-in-Some.ensures.items)

@@ -2,4 +2,4 @@ use Rattle.std.proofs.Common.{◌∙◌}
 use Rattle.spx_paths.proofs.walk.walk_assignment.Goals as goal
 
 pub returns : goal.returns
-returns c = λ p sub rest leave made. c.in_ok-add_assignment.ensures p sub rest leave made ∙ c.in_ok-found.ensures p sub rest leave made
+returns c = λ sub rest leave made. c.in_ok-add_assignment.ensures sub rest leave made ∙ c.in_ok-found.ensures c.args.program.now sub rest leave made

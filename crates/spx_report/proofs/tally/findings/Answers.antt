@@ -5,7 +5,6 @@ use Rattle.std.proofs.lemmas.List.{take_all}
 use Rattle.std.proofs.lemmas.Result.{err_from_is_err_and}
 use Rattle.spx_core.specs.Bodies.{bodies_of}
 use Rattle.spx_core.specs.Resolved.{sub_at}
-use Rattle.spx_core.specs.declared.entity.SubId.{SubId}
 use Rattle.spx_report.specs.declared.report.Finding.{Finding}
 use Rattle.spx_report.specs.Findings.{first_limit, limit_at, row_at}
 use Rattle.spx_report.proofs.FaultLaws.{first_fault}

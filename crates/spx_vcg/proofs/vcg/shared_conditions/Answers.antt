@@ -11,14 +11,14 @@ use Rattle.spx_vcg.proofs.vcg.shared_conditions.Goals as goal
 pub returns-clause-claims : goal.returns-clause-claims
 returns-clause-claims c = λ sub at.
     let p = c.args.program.now in
-    at_sub (λ s. IfOk c.conditions_within.result (λ all. claims_in all ≡ map tidy (body_claims p s))) p.subs c.as_slice.result.now c.args.id.0 c.index-as_slice-id.result sub c.as_slice.ensures c.index-as_slice-id.is at (c.conditions_within.ensures.claims p)
+    at_sub (λ s. IfOk c.conditions_within.result (λ all. claims_in all ≡ map tidy (body_claims p s))) p.subs c.as_slice.result.now c.args.id.0 c.index-as_slice-id.result sub c.as_slice.ensures c.index-as_slice-id.is at c.conditions_within.ensures.claims
 
 pub returns-clause-few : goal.returns-clause-few
 returns-clause-few c = λ sub at.
     let p = c.args.program.now in
-    at_sub (λ s. OnOk c.conditions_within.result ((has_many_paths s ≡ false) × (has_large_condition p s ≡ false))) p.subs c.as_slice.result.now c.args.id.0 c.index-as_slice-id.result sub c.as_slice.ensures c.index-as_slice-id.is at (c.conditions_within.ensures.few p)
+    at_sub (λ s. OnOk c.conditions_within.result ((has_many_paths s ≡ false) × (has_large_condition p s ≡ false))) p.subs c.as_slice.result.now c.args.id.0 c.index-as_slice-id.result sub c.as_slice.ensures c.index-as_slice-id.is at c.conditions_within.ensures.few
 
 pub returns-clause-refused : goal.returns-clause-refused
 returns-clause-refused c = λ sub at.
     let p = c.args.program.now in
-    at_sub (λ s. IfErr c.conditions_within.result (IsFaultOf p s)) p.subs c.as_slice.result.now c.args.id.0 c.index-as_slice-id.result sub c.as_slice.ensures c.index-as_slice-id.is at (c.conditions_within.ensures.refused p)
+    at_sub (λ s. IfErr c.conditions_within.result (IsFaultOf p s)) p.subs c.as_slice.result.now c.args.id.0 c.index-as_slice-id.result sub c.as_slice.ensures c.index-as_slice-id.is at c.conditions_within.ensures.refused

@@ -12,12 +12,14 @@ use Rattle.spx_vcg.proofs.walk.Walk.+path.Goals as goal
 
 pub taken-returns : goal.taken-returns
 taken-returns t c =
-    after_taken c.args.condition (Then (commands c.args.body.now) (after c.args.rest.now)) c.in_ok-mark.mark c.requires.whole c.in_ok-mark.ensures c.distinct.ensures c.requires.within c.in_ok-assume.ensures c.in_ok-path.ensures c.back_to.ensures
+    after_taken c.args.condition.now (Then (commands c.args.body.now) (after c.args.rest.now)) c.in_ok-mark.mark c.requires c.in_ok-mark.ensures c.in_ok-assume_parts.ensures.keeps c.in_ok-assume_parts.ensures.walks c.in_ok-path.ensures c.back_to.ensures
 
 pub arm-returns : goal.arm-returns
 arm-returns t c =
     let arm = out-CoreArm c.args.arm.now in
-    after_arm arm.condition (commands arm.body) (after c.args.rest.now) c.requires c.in_ok-condition.ensures (subst (λ (ss : List CoreStmt). Takes c.checked_id.new.self c.taken.new.self c.in_ok-condition.condition (Then (commands ss) (after c.args.rest.now))) c.as_slice.ensures c.in_ok-taken.ensures) c.in_ok-not_taken.ensures (arm_before c.args.arm.now) arm.place (arm_is c.args.arm.now)
+    after_arm arm.condition (commands arm.body) (after c.args.rest.now) c.in_ok-condition.ensures.keeps c.in_ok-condition.ensures.within c.in_ok-condition.ensures.makes
+    (subst (λ (ss : List CoreStmt). Takes c.args.program.now c.checked_id.new.self c.taken.new.self arm.condition (Then (commands ss) (after c.args.rest.now))) c.as_slice.ensures c.in_ok-taken.ensures)
+    c.in_ok-not_taken.ensures.keeps c.in_ok-not_taken.ensures.walks (arm_before c.args.arm.now) arm.place (arm_is c.args.arm.now)
 
 pub arms-arm-requires : goal.arms-arm-requires
 arms-arm-requires t c =
@@ -76,11 +78,11 @@ path-path-requires t c =
 pub path-returns-in-End : goal.path-returns-in-End
 path-returns-in-End t c =
     let start = Then (commands c.args.stmts.now) (after c.args.rest.now) in
-    subst (λ d. Comes c.args.self.now c.loop-at.self start d) (nothing_follows _ c.in-End.is) (at_end start (after c.args.rest.now) c.args.stmts.now c.loop-at.at (omega (arith, c.loop-at-test.false)) c.loop-at.invariant)
+    subst (λ d. Comes c.args.program.now c.args.self.now c.loop-at.self start d) (nothing_follows _ c.in-End.is) (at_end start (after c.args.rest.now) c.args.stmts.now c.loop-at.at (omega (arith, c.loop-at-test.false)) c.loop-at.invariant)
 
 pub path-returns-in_ok-path-in-After : goal.path-returns-in_ok-path-in-After
 path-returns-in_ok-path-in-After t c =
     let start = Then (commands c.args.stmts.now) (after c.args.rest.now) in
     comes_twice
-    (subst (λ d. Comes c.args.self.now c.loop-at.self start d) (follows_is _ c.in-After.stmts c.in-After.rest c.in-After.is) (at_end start (after c.args.rest.now) c.args.stmts.now c.loop-at.at (omega (arith, c.loop-at-test.false)) c.loop-at.invariant))
+    (subst (λ d. Comes c.args.program.now c.args.self.now c.loop-at.self start d) (follows_is _ c.in-After.stmts c.in-After.rest c.in-After.is) (at_end start (after c.args.rest.now) c.args.stmts.now c.loop-at.at (omega (arith, c.loop-at-test.false)) c.loop-at.invariant))
     c.in_ok-path-in-After.ensures

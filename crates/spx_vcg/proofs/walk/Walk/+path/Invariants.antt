@@ -20,7 +20,7 @@ decreases-arms l = 4 * (size (arms_before (commands l.otherwise.now) (map arm_be
 
 abbrev pub invariant-arms-loop-arm : goal.invariant-arms-loop-arm
 invariant-arms-loop-arm l =
-    Comes l.initial.self l.self (Then (arms_before (commands l.otherwise) (map arm_before l.arms)) (after l.rest)) (Then (arms_before (commands l.otherwise) (map arm_before (drop l.arm-index l.arms))) (after l.rest))
+    Comes l.program l.initial.self l.self (Then (arms_before (commands l.otherwise) (map arm_before l.arms)) (after l.rest)) (Then (arms_before (commands l.otherwise) (map arm_before (drop l.arm-index l.arms))) (after l.rest))
 
 abbrev pub invariant-path-loop-at : goal.invariant-path-loop-at
-invariant-path-loop-at l = Comes l.initial.self l.self (Then (commands l.stmts) (after l.rest)) (Then (commands (drop l.at l.stmts)) (after l.rest))
+invariant-path-loop-at l = Comes l.program l.initial.self l.self (Then (commands l.stmts) (after l.rest)) (Then (commands (drop l.at l.stmts)) (after l.rest))

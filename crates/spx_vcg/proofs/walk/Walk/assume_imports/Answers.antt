@@ -4,9 +4,10 @@ use Rattle.spx_core.specs.declared.entity.VarId.{VarId}
 use Rattle.spx_core.specs.Formals.{formals}
 use Rattle.spx_term.specs.Steps.{assume_all}
 use Rattle.spx_paths.specs.Walks.{import_facts}
-use Rattle.spx_vcg.specs.Entering.{known_of}
+use Rattle.spx_paths.specs.Prefixes.{known_of}
 use Rattle.spx_vcg.specs.WalkSteps.{Goes, claims_from}
-use Rattle.spx_vcg.proofs.SharedSteps.{adds_twice, import_step}
+use Rattle.spx_vcg.proofs.SharedSteps.{adds_twice}
+use Rattle.spx_vcg.proofs.StartSteps.{import_step}
 use Rattle.spx_vcg.proofs.walk.Walk.assume_imports.Goals as goal
 
 pub loop-var-preserved : goal.loop-var-preserved
@@ -17,11 +18,11 @@ loop-var-preserved c =
     let vars = formals c.args.sub.now in
     let within : i < length vars = omega (arith, ap length c.formals-var-items.ensures, c.loop-var-test.true) in
     let var = get_or items i none in
-    let step = subst (λ (b : Bool). Goes c.loop-var.self c.assume_import.new.self (assume_all (known_of b var))) (c.in_ok-imports.ensures var) c.in_ok-assume_import.ensures in
+    let step = subst (λ (b : Bool). Goes c.loop-var.self c.assume_import.new.self (assume_all (known_of c.args.program.now b var))) (c.in_ok-imports.ensures var) c.in_ok-assume_import.ensures in
     record {
       whole = c.in_ok-assume_import.ensures.whole;
       adds = adds_twice c.loop-var.invariant.adds c.in_ok-assume_import.ensures.adds;
-      same = import_step c.args.self.now c.loop-var.self c.assume_import.new.self c.args.sub.now vars i var none within (ap (λ (vs : List VarId). get_or vs i none) c.formals-var-items.ensures) c.loop-var.invariant.same step;
+      same = import_step c.args.self.now c.loop-var.self c.assume_import.new.self c.args.program.now c.args.sub.now vars i var none within (ap (λ (vs : List VarId). get_or vs i none) c.formals-var-items.ensures) c.loop-var.invariant.same step;
     }
 
 pub returns : goal.returns
@@ -31,5 +32,5 @@ returns c =
     record {
       whole = c.loop-var.invariant.whole;
       adds = c.loop-var.invariant.adds;
-      same = λ rest. c.loop-var.invariant.same rest ∙ at_drop_all (λ (vs : List VarId). claims_from c.loop-var.self (assume_all (flat_map (import_facts sub) vs) rest)) (formals sub) c.loop-var.var-index end;
+      same = λ rest. c.loop-var.invariant.same rest ∙ at_drop_all (λ (vs : List VarId). claims_from c.loop-var.self (assume_all (flat_map (import_facts c.args.program.now sub) vs) rest)) (formals sub) c.loop-var.var-index end;
     }

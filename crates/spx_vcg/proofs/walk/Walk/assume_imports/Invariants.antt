@@ -9,5 +9,5 @@ abbrev pub invariant-loop-var : goal.invariant-loop-var
 invariant-loop-var l = record {
   whole : Whole l.self;
   adds : OnlyAdds l.initial.self l.self;
-  same : (rest : Tree) → claims_from l.initial.self (assume_all (flat_map (import_facts l.sub) (formals l.sub)) rest) ≡ claims_from l.self (assume_all (flat_map (import_facts l.sub) (drop l.var-index (formals l.sub))) rest);
+  same : (rest : Tree) → claims_from l.initial.self (assume_all (flat_map (import_facts l.program l.sub) (formals l.sub)) rest) ≡ claims_from l.self (assume_all (flat_map (import_facts l.program l.sub) (drop l.var-index (formals l.sub))) rest);
 }

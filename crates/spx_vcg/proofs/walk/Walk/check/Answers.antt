@@ -1,15 +1,22 @@
-use Rattle.std.proofs.Common.{sym, ap, ◌∙◌, subst}
-use Rattle.spx_vcg.specs.declared.walk.Facts.{Facts}
-use Rattle.spx_vcg.specs.declared.walk.Walk.{Walk}
-use Rattle.spx_vcg.specs.WalkSteps.{AddsFact}
-use Rattle.spx_vcg.proofs.SharedSteps.{assumes, after_check}
+use Rattle.std.proofs.Common.{subst, sym}
+use Rattle.spx_arena.specs.Claims.{AreIds}
+use Rattle.spx_vcg.proofs.CheckSteps.{after_check, only_at}
+use Rattle.spx_vcg.proofs.SharedSteps.{ids_kept, keeps_twice, only_keeps}
 use Rattle.spx_vcg.proofs.walk.Walk.check.Goals as goal
 
-pub returns : goal.returns
-returns c = λ t is.
-    let low = c.in_ok-assume.ensures in
-    let high = c.in_ok-assume-2.ensures in
-    let claim = c.in_ok-claim.ensures in
-    after_check _ _ c.args.value c.in_ok-low.low c.in_ok-high.high
-    (assumes _ _ c.args.value c.in_ok-low.low c.in_ok-high.high c.requires.within c.in_ok-low.ensures c.in_ok-high.ensures (sym (high.terms ∙ low.terms ∙ ap (λ (w : Walk). w.terms) claim)) (high.values ∙ low.values ∙ ap (λ (w : Walk). w.values) claim) (subst (λ (f : Facts). AddsFact f c.assume.new.self.facts c.in_ok-low.low) (ap (λ (w : Walk). w.facts) claim) low.facts) high.facts c.distinct.ensures)
-    c.requires.whole t is c.args.kind c.args.place (high.claims ∙ low.claims ∙ ap (λ (w : Walk). w.claims) claim)
+pub claim-requires-clause-whole : goal.claim-requires-clause-whole
+claim-requires-clause-whole c = (only_keeps c.requires.whole (only_at c.args.self.now c.in_ok-all.ensures.grown)).whole
+
+pub returns-clause-keeps : goal.returns-clause-keeps
+returns-clause-keeps c = keeps_twice (only_keeps c.requires.whole (only_at c.args.self.now c.in_ok-all.ensures.grown)) (keeps_twice c.in_ok-claim.ensures.keeps c.in_ok-assume_all.ensures.keeps)
+
+pub returns-clause-walks : goal.returns-clause-walks
+returns-clause-walks c = λ ls gs ml mg.
+    after_check c.args.self.now c.args.kind c.args.place ls gs c.requires.whole c.in_ok-all.ensures c.as_slice-ids.ensures ml mg c.in_ok-claim.ensures.keeps c.in_ok-claim.ensures.walks c.in_ok-assume_all.ensures.walks
+
+pub claim-requires-clause-within : goal.claim-requires-clause-within
+claim-requires-clause-within c = subst (AreIds _) (sym c.as_slice-ids.ensures) c.in_ok-all.ensures.within
+
+pub assume_all-requires-clause-within : goal.assume_all-requires-clause-within
+assume_all-requires-clause-within c =
+    ids_kept (only_keeps c.requires.whole (only_at c.args.self.now c.in_ok-all.ensures.grown)).whole c.in_ok-claim.ensures.keeps _ (subst (AreIds _) (sym c.as_slice-ids.ensures) c.in_ok-all.ensures.within)

@@ -3,9 +3,10 @@ use Rattle.std.proofs.lemmas.List.{at_drop_all}
 use Rattle.spx_core.specs.declared.entity.VarId.{VarId}
 use Rattle.spx_core.specs.Formals.{formals}
 use Rattle.spx_paths.specs.Walks.{entering}
-use Rattle.spx_vcg.specs.Entering.{entered}
+use Rattle.spx_paths.specs.Prefixes.{entered}
 use Rattle.spx_vcg.specs.WalkSteps.{Goes, claims_from}
-use Rattle.spx_vcg.proofs.SharedSteps.{adds_twice, enter_step}
+use Rattle.spx_vcg.proofs.SharedSteps.{adds_twice}
+use Rattle.spx_vcg.proofs.StartSteps.{enter_step}
 use Rattle.spx_vcg.proofs.walk.Walk.enter_all.Goals as goal
 
 pub loop-var-preserved : goal.loop-var-preserved
@@ -16,11 +17,11 @@ loop-var-preserved c =
     let vars = formals c.args.sub.now in
     let within : i < length vars = omega (arith, ap length c.formals-var-items.ensures, c.loop-var-test.true) in
     let var = get_or items i none in
-    let step = subst (λ (b : Bool). Goes c.loop-var.self c.enter.new.self (entered b var)) (c.in_ok-exports.ensures var) c.in_ok-enter.ensures in
+    let step = subst (λ (b : Bool). Goes c.loop-var.self c.enter.new.self (entered c.args.program.now b var)) (c.in_ok-exports.ensures var) c.in_ok-enter.ensures in
     record {
       whole = c.in_ok-enter.ensures.whole;
       adds = adds_twice c.loop-var.invariant.adds c.in_ok-enter.ensures.adds;
-      same = enter_step c.args.self.now c.loop-var.self c.enter.new.self c.args.sub.now vars i var none within (ap (λ (vs : List VarId). get_or vs i none) c.formals-var-items.ensures) c.loop-var.invariant.same step;
+      same = enter_step c.args.self.now c.loop-var.self c.enter.new.self c.args.program.now c.args.sub.now vars i var none within (ap (λ (vs : List VarId). get_or vs i none) c.formals-var-items.ensures) c.loop-var.invariant.same step;
     }
 
 pub returns : goal.returns
@@ -30,5 +31,5 @@ returns c =
     record {
       whole = c.loop-var.invariant.whole;
       adds = c.loop-var.invariant.adds;
-      same = λ rest. c.loop-var.invariant.same rest ∙ at_drop_all (λ (vs : List VarId). claims_from c.loop-var.self (entering sub vs rest)) (formals sub) c.loop-var.var-index end;
+      same = λ rest. c.loop-var.invariant.same rest ∙ at_drop_all (λ (vs : List VarId). claims_from c.loop-var.self (entering c.args.program.now sub vs rest)) (formals sub) c.loop-var.var-index end;
     }

@@ -1,7 +1,12 @@
-use Rattle.std.proofs.Common.{refl}
+use Rattle.std.proofs.Common.{refl, sym, ◌∙◌}
 use Rattle.spx_term.specs.Folding.{term_of as static_term}
-use Rattle.spx_vcg.proofs.SharedSteps.{makes_static}
+use Rattle.spx_vcg.specs.WalkSteps.{state}
+use Rattle.spx_vcg.proofs.ConditionTerms.{applied-static_term}
+use Rattle.spx_vcg.proofs.SharedSteps.{only_keeps, only_makes, only_terms}
 use Rattle.spx_vcg.proofs.walk.Walk.static_id.Goals as goal
 
-pub returns : goal.returns
-returns c = makes_static _ _ c.in_ok-id.id (static_term c.args.value) c.requires refl refl refl c.in_ok-id.ensures
+pub returns-clause-keeps : goal.returns-clause-keeps
+returns-clause-keeps c = only_keeps c.requires (only_terms _ _ c.in_ok-id.ensures.grown refl refl refl)
+
+pub returns-clause-makes : goal.returns-clause-makes
+returns-clause-makes c = only_makes c.requires (only_terms _ _ c.in_ok-id.ensures.grown refl refl refl) (static_term c.args.value) (c.in_ok-id.ensures.made.tree ∙ sym (applied-static_term (state c.args.self.now) c.args.value))

@@ -1,8 +1,10 @@
 use Rattle.std.proofs.Common.{refl}
 use Rattle.spx_paths.specs.Terms.{term_of}
-use Rattle.spx_vcg.proofs.SharedTerms.{meaning_adds}
-use Rattle.spx_vcg.proofs.SharedSteps.{evaluates, makes_term}
+use Rattle.spx_vcg.proofs.SharedSteps.{only_keeps, only_makes, only_terms}
 use Rattle.spx_vcg.proofs.walk.Walk.term_id.Goals as goal
 
-pub returns : goal.returns
-returns c = evaluates c.args.expr.now c.in_ok-id.id (λ entries. makes_term _ _ _ c.in_ok-id.id (term_of entries c.args.expr.now) c.requires refl refl refl refl (meaning_adds c.in_ok-id.ensures entries))
+pub returns-clause-keeps : goal.returns-clause-keeps
+returns-clause-keeps c = only_keeps c.requires (only_terms _ _ c.in_ok-id.ensures.grown refl refl refl)
+
+pub returns-clause-makes : goal.returns-clause-makes
+returns-clause-makes c = λ entries. only_makes c.requires (only_terms _ _ c.in_ok-id.ensures.grown refl refl refl) (term_of c.args.program.now entries c.args.expr.now) (c.in_ok-id.ensures.made entries).tree

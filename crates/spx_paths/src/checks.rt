@@ -1,0 +1,227 @@
+// The steps that the checks of expressions add to a path.
+ghost use Rattle.std.specs.Prelude.{◌≡◌, List, IfOk, OnOk};
+ghost use Rattle.spx_core.specs.declared.entity.VarId.{VarId};
+ghost use Rattle.spx_core.specs.Places.{place_of};
+ghost use Rattle.spx_term.specs.declared.term.Term.{Term};
+ghost use Rattle.spx_meaning.specs.Literals.{base_of};
+ghost use Rattle.spx_paths.specs.Checks.{base_check, checked_under, checks, divisor_check, exponent_check, operation_check, right_lefts, sign_check};
+ghost use Rattle.spx_paths.specs.Terms.{term_of};
+ghost use Rattle.spx_paths.specs.Prefixes.{Walked};
+
+use crate::goals::{guarded, in_range, one_goal};
+use crate::literals::{base_of, literal};
+use crate::steps::check;
+use crate::terms::term_of;
+use spx_core::{CoreExpr, Program};
+use spx_term::{CondKind, PathStep, Term, TermOp, TermPrefix, copy_all};
+use spx_text::Place;
+use spx_tree::{InfixOp, PrefixOp};
+use sqlite_items::Items;
+use std::alloc::{AllocError, Global};
+
+/// Adds a check that stands under these left sides.
+fn check_under(
+    alloc: Global,
+    steps: &mut Items<PathStep>,
+    lefts: &[Term],
+    kind: CondKind,
+    place: Place,
+    goals: Items<Term>,
+) -> Result<(), AllocError>
+    ensures { OnOk result (Walked steps.old steps.new (checked_under lefts.now kind place goals)) }
+{
+    let goals = guarded(alloc, lefts, goals)?;
+    check(alloc, steps, kind, place, goals)?;
+    Ok(())
+}
+
+/// Adds that the result of an operation lies in the range of its base type.
+fn check_base(
+    alloc: Global,
+    program: &Program,
+    steps: &mut Items<PathStep>,
+    lefts: &[Term],
+    whole: &CoreExpr,
+) -> Result<(), AllocError>
+    ensures { OnOk result ((entered : VarId → Term) → Walked steps.old steps.new (base_check lefts.now (base_of whole.now) (place_of whole.now) (term_of program.now entered whole.now))) }
+{
+    let base = base_of(whole);
+    let number = term_of(alloc, program, whole)?;
+    let goals = in_range(alloc, base.first, base.last, &number)?;
+    check_under(
+        alloc,
+        steps,
+        lefts,
+        CondKind::Overflow,
+        whole.place(),
+        goals,
+    )?;
+    Ok(())
+}
+
+/// Adds that the divisor of the operation at the place is not 0.
+fn check_divisor(
+    alloc: Global,
+    program: &Program,
+    steps: &mut Items<PathStep>,
+    lefts: &[Term],
+    place: Place,
+    divisor: &CoreExpr,
+) -> Result<(), AllocError>
+    ensures { OnOk result ((entered : VarId → Term) → Walked steps.old steps.new (divisor_check lefts.now place (term_of program.now entered divisor.now))) }
+{
+    let number = term_of(alloc, program, divisor)?;
+    let goals = one_goal(alloc, &number, TermOp::NotEqual, 0)?;
+    check_under(alloc, steps, lefts, CondKind::Division, place, goals)?;
+    Ok(())
+}
+
+/// Adds that the exponent at the place is not negative.
+fn check_exponent(
+    alloc: Global,
+    program: &Program,
+    steps: &mut Items<PathStep>,
+    lefts: &[Term],
+    place: Place,
+    exponent: &CoreExpr,
+) -> Result<(), AllocError>
+    ensures { OnOk result ((entered : VarId → Term) → Walked steps.old steps.new (exponent_check lefts.now place (term_of program.now entered exponent.now))) }
+{
+    let number = term_of(alloc, program, exponent)?;
+    let goals = one_goal(alloc, &number, TermOp::GreaterOrEqual, 0)?;
+    check_under(alloc, steps, lefts, CondKind::Range, place, goals)?;
+    Ok(())
+}
+
+/// Adds the checks of an operation, after those of its operands.
+fn check_operation(
+    alloc: Global,
+    program: &Program,
+    steps: &mut Items<PathStep>,
+    lefts: &[Term],
+    op: InfixOp,
+    right: &CoreExpr,
+    whole: &CoreExpr,
+) -> Result<(), AllocError>
+    ensures { OnOk result ((entered : VarId → Term) → Walked steps.old steps.new (operation_check lefts.now op (base_of whole.now) (place_of whole.now) (place_of right.now) (term_of program.now entered right.now) (term_of program.now entered whole.now))) }
+{
+    match op {
+        InfixOp::Add | InfixOp::Subtract | InfixOp::Multiply => {
+            check_base(alloc, program, steps, lefts, whole)?;
+            Ok(())
+        }
+        InfixOp::Divide => {
+            check_divisor(alloc, program, steps, lefts, whole.place(), right)?;
+            check_base(alloc, program, steps, lefts, whole)?;
+            Ok(())
+        }
+        InfixOp::Mod | InfixOp::Rem => {
+            check_divisor(alloc, program, steps, lefts, whole.place(), right)?;
+            Ok(())
+        }
+        InfixOp::Power => {
+            check_exponent(alloc, program, steps, lefts, right.place(), right)?;
+            check_base(alloc, program, steps, lefts, whole)?;
+            Ok(())
+        }
+        _ => Ok(()),
+    }
+}
+
+/// Adds the check of an operation on one operand, after those of the operand.
+fn check_sign(
+    alloc: Global,
+    program: &Program,
+    steps: &mut Items<PathStep>,
+    lefts: &[Term],
+    op: PrefixOp,
+    whole: &CoreExpr,
+) -> Result<(), AllocError>
+    ensures { OnOk result ((entered : VarId → Term) → Walked steps.old steps.new (sign_check lefts.now op (base_of whole.now) (place_of whole.now) (term_of program.now entered whole.now))) }
+{
+    match op {
+        PrefixOp::Plus => Ok(()),
+        PrefixOp::Minus => {
+            check_base(alloc, program, steps, lefts, whole)?;
+            Ok(())
+        }
+        PrefixOp::Abs => {
+            check_base(alloc, program, steps, lefts, whole)?;
+            Ok(())
+        }
+        PrefixOp::Not => Ok(()),
+    }
+}
+
+/// The left sides under which the right operand of an operation stands.
+fn right_lefts(
+    alloc: Global,
+    program: &Program,
+    op: InfixOp,
+    lefts: &[Term],
+    left: &CoreExpr,
+) -> Result<Items<Term>, AllocError>
+    ensures { (entered : VarId → Term) → IfOk result (λ all. all ≡ right_lefts op lefts.now (term_of program.now entered left.now)) }
+{
+    let mut all = copy_all(alloc, lefts)?;
+    match op {
+        InfixOp::AndThen => {
+            all.push(term_of(alloc, program, left)?)?;
+            Ok(all)
+        }
+        InfixOp::OrElse => {
+            let holds = term_of(alloc, program, left)?;
+            all.push(Term::prefix(alloc, TermPrefix::Not, holds)?)?;
+            Ok(all)
+        }
+        _ => Ok(all),
+    }
+}
+
+/// Adds the checks of an expression, from left to right. A static one has none.
+#[cycle(check_expr)]
+#[tactic(auto, using(crate::proofs::CheckLaws::check_laws))]
+pub(crate) fn check_expr(
+    alloc: Global,
+    program: &Program,
+    steps: &mut Items<PathStep>,
+    lefts: &[Term],
+    expr: &CoreExpr,
+) -> Result<(), AllocError>
+    ensures { OnOk result ((entered : VarId → Term) → Walked steps.old steps.new (checks program.now entered lefts.now expr.now)) }
+{
+    if literal(expr).is_some() {
+        return Ok(());
+    }
+    match expr {
+        CoreExpr::Number(_, _) => Ok(()),
+        CoreExpr::Name(_) => Ok(()),
+        CoreExpr::Attribute(_, _) => Ok(()),
+        CoreExpr::Parenthesized(_, inner) => {
+            check_expr(alloc, program, steps, lefts, inner.get())?;
+            Ok(())
+        }
+        CoreExpr::Prefix(op, _, operand) => {
+            check_expr(alloc, program, steps, lefts, operand.get())?;
+            check_sign(alloc, program, steps, lefts, *op, expr)?;
+            Ok(())
+        }
+        CoreExpr::Infix(op, _, left, right) => {
+            check_expr(alloc, program, steps, lefts, left.get())?;
+            let guards = right_lefts(alloc, program, *op, lefts, left.get())?;
+            check_expr(alloc, program, steps, guards.as_slice(), right.get())?;
+            check_operation(alloc, program, steps, lefts, *op, right.get(), expr)?;
+            Ok(())
+        }
+        CoreExpr::InType(_, _, tested, _) => {
+            check_expr(alloc, program, steps, lefts, tested.get())?;
+            Ok(())
+        }
+        CoreExpr::InRange(_, _, tested, low, high) => {
+            check_expr(alloc, program, steps, lefts, tested.get())?;
+            check_expr(alloc, program, steps, lefts, low.get())?;
+            check_expr(alloc, program, steps, lefts, high.get())?;
+            Ok(())
+        }
+    }
+}

@@ -1,0 +1,151 @@
+// What names denote, or the first rule that is broken in them (Ada 95 RM 4.1, 8.3).
+ghost use Rattle.std.specs.Prelude.{◌≡◌, ok_or};
+ghost use Rattle.spx_core.specs.Judged as rules;
+
+use crate::types::has_numbers;
+use crate::values::position_in;
+use spx_core::{
+    Breach, CoreName, Entity, ExprType, Object, Reference, RuleName, Step, Subtype, Typing,
+};
+use spx_text::{Place, Text};
+use spx_tree::Identifier;
+
+/// Whether a rule is kept at the place: its breach, where it is not.
+pub fn keeps(rule: RuleName, place: Place, kept: bool) -> Result<(), Breach>
+    ensures { result ≡ rules.keeps rule place kept }
+{
+    if kept {
+        Ok(())
+    } else {
+        Err(Breach { rule, place })
+    }
+}
+
+/// What a name denotes, which has to be something.
+fn entity_of(name: &CoreName) -> Result<Entity, Breach>
+    ensures { result ≡ ok_or name.now.entity (record { rule = RuleName.N1; place = name.now.name.place }) }
+{
+    name.entity.ok_or(Breach {
+        rule: RuleName::N1,
+        place: name.name.place,
+    })
+}
+
+/// The type that a name denotes.
+fn named_type(name: &CoreName) -> Result<Subtype, Breach>
+    ensures { result ≡ rules.named_type name.now }
+{
+    match entity_of(name)? {
+        Entity::TypeName(subtype) => Ok(subtype),
+        _ => Err(Breach {
+            rule: RuleName::N3,
+            place: name.name.place,
+        }),
+    }
+}
+
+/// The object that a name denotes.
+fn named_object(name: &CoreName) -> Result<Object, Breach>
+    ensures { result ≡ rules.named_object name.now }
+{
+    match entity_of(name)? {
+        Entity::Variable(_, object) => Ok(object),
+        _ => Err(Breach {
+            rule: RuleName::N3,
+            place: name.name.place,
+        }),
+    }
+}
+
+/// The value that a name denotes: an object has one, and a literal is one.
+pub fn named_value(name: &CoreName) -> Result<Typing, Breach>
+    ensures { result ≡ rules.named_value name.now }
+{
+    let place = name.name.place;
+    match entity_of(name)? {
+        Entity::Variable(_, object) => Ok(Typing {
+            of: ExprType::Of(object.subtype.base),
+            value: None,
+            place,
+        }),
+        Entity::Literal(subtype, position) => Ok(Typing {
+            of: ExprType::Of(subtype.base),
+            value: Some(position_in(subtype.base.class, position)),
+            place,
+        }),
+        _ => Err(Breach {
+            rule: RuleName::N3,
+            place,
+        }),
+    }
+}
+
+fn is_whole(way: &[Step]) -> bool
+    ensures { result ≡ rules.is_whole way.now }
+{
+    matches!(way, [])
+}
+
+/// Nothing may follow the identifier.
+fn whole(reference: &Reference) -> Result<(), Breach>
+    ensures { result ≡ rules.whole reference.now }
+{
+    let kept = is_whole(reference.way.as_slice());
+    keeps(RuleName::N3, reference.root.name.place, kept)
+}
+
+/// The type that a whole name denotes.
+pub fn referred_type(reference: &Reference) -> Result<Subtype, Breach>
+    ensures { result ≡ rules.referred_type reference.now }
+{
+    let subtype = named_type(&reference.root)?;
+    whole(reference)?;
+    Ok(subtype)
+}
+
+/// The object that a whole name denotes.
+pub fn referred_object(reference: &Reference) -> Result<Object, Breach>
+    ensures { result ≡ rules.referred_object reference.now }
+{
+    let object = named_object(&reference.root)?;
+    whole(reference)?;
+    Ok(object)
+}
+
+fn is_first(designator: &Text) -> bool
+    ensures { result ≡ rules.is_first designator.now }
+{
+    designator.as_bytes().eq_ignore_ascii_case(b"first")
+}
+
+fn is_attribute(designator: &Text) -> bool
+    ensures { result ≡ rules.is_attribute designator.now }
+{
+    is_first(designator) || designator.as_bytes().eq_ignore_ascii_case(b"last")
+}
+
+/// The value of `'First` or `'Last`.
+fn attribute_of(subtype: Subtype, designator: &Text) -> i128
+    ensures { result ≡ rules.attribute_of subtype designator.now }
+{
+    if is_first(designator) {
+        subtype.first
+    } else {
+        subtype.last
+    }
+}
+
+/// The value of an attribute of an integer type.
+pub fn attribute(prefix: &CoreName, designator: &Identifier) -> Result<Typing, Breach>
+    ensures { result ≡ rules.attribute prefix.now designator.now }
+{
+    let place = prefix.name.place;
+    let subtype = named_type(prefix)?;
+    let kept = has_numbers(subtype.base.class) && is_attribute(&designator.text);
+    keeps(RuleName::N3, place, kept)?;
+    Ok(Typing {
+        of: ExprType::Of(subtype.base),
+        value: Some(attribute_of(subtype, &designator.text)),
+        place,
+    })
+}

@@ -1,0 +1,168 @@
+-- What the start of a body adds, and assignments; and all claims of a body.
+use Rattle.std.proofs.Common.{get_or, drop, drop-cons, add-one, zero, suc, flat_map, append-nil, ◌≡◌, ℕ, ◌+◌, ◌<◌, true, Bool, List, [], ◌∷◌, ◌++◌, length, map, Option, Some, refl, sym, ap, ◌∙◌, subst, arith}
+use Rattle.spx_text.specs.declared.place.Place.{Place}
+use Rattle.spx_core.specs.declared.entity.Class.{Class}
+use Rattle.spx_core.specs.declared.entity.Class.TheVariants as class
+use Rattle.spx_core.specs.declared.entity.Subtype.{Subtype}
+use Rattle.spx_core.specs.declared.entity.VarId.{VarId}
+use Rattle.spx_core.specs.declared.expression.CoreExpr.{CoreExpr}
+use Rattle.spx_core.specs.declared.name.Reference.{Reference}
+use Rattle.spx_core.specs.declared.program.Program.{Program}
+use Rattle.spx_core.specs.declared.subprogram.CorePrecondition.{CorePrecondition}
+use Rattle.spx_core.specs.declared.subprogram.Sub.{Sub}
+use Rattle.spx_core.specs.Commands.{Set, Skip, Then, commands}
+use Rattle.spx_core.specs.Dependency.{exports}
+use Rattle.spx_core.specs.Formals.{formals}
+use Rattle.spx_core.specs.Places.{place_of}
+use Rattle.spx_core.specs.Uses.{variable_of}
+use Rattle.spx_term.specs.declared.condition.CondKind.TheVariants.{Range}
+use Rattle.spx_term.specs.declared.term.Name.{Name}
+use Rattle.spx_term.specs.declared.term.Term.{Term}
+use Rattle.spx_term.specs.declared.term.Term.TheVariants.{Variable}
+use Rattle.spx_term.specs.Conjuncts.{conjuncts}
+use Rattle.spx_term.specs.Steps.{Tree, Assume, Assign, assume_all, assume_parts, Cut, tidy, claims_of}
+use Rattle.spx_meaning.specs.Stores.{type_of}
+use Rattle.spx_paths.specs.Checks.{checked_under, checks, in_type}
+use Rattle.spx_paths.specs.Conditions.{body_claims}
+use Rattle.spx_paths.specs.Prefixes.{entered, known_of}
+use Rattle.spx_paths.specs.Terms.{now, entry, now_term, entry_term, term_of}
+use Rattle.spx_paths.specs.Walks.{assigned, checked_in, ending, entering, first_facts, import_facts, pre_facts, range_check, start_tree, walk}
+use Rattle.spx_arena.specs.declared.terms.TermId.{TermId}
+use Rattle.spx_arena.specs.Claims.{AreIds, AreLists, AreClaims, trees_at, claims_at}
+use Rattle.spx_arena.specs.Facts.{facts_at}
+use Rattle.spx_arena.specs.Sharing.{tree_at}
+use Rattle.spx_vcg.specs.declared.walk.Walk.{Walk}
+use Rattle.spx_vcg.specs.ConditionWalk.{State, applied, forward}
+use Rattle.spx_vcg.specs.States.{AreValues, given, state_in}
+use Rattle.spx_vcg.specs.WalkSteps.{Evaluates, Goes, Keeps, Makes, MeanAll, Means, Walks, Whole, claims_from, state}
+use Rattle.spx_vcg.specs.PathWalk.{Comes, HasParts, Passes}
+use Rattle.spx_vcg.proofs.ConditionForward.{forward_from_start}
+use Rattle.spx_vcg.proofs.SharedSteps.{goes_of, goes_twice, means_kept, state_same, walks_along, walks_not, walks_twice}
+
+-- ---- assignments
+pub assign_checked : {w x y : Walk} {id : TermId} (p : Program) (place : Place) (v : VarId) (target : Option VarId) (subtype : Subtype) (name : Name) (t : Term) → Whole w → Keeps w x → id.0 < length w.terms → Means w id t
+    → ((t : Term) → Means w id t → Walks w x (range_check subtype place t)) → ((t : Term) → Means x id t → Goes x y (Assign name t))
+    → subtype ≡ type_of p v → name ≡ now p v → target ≡ Some v → Goes w y (assigned p place target t)
+assign_checked {w} {x} {y} {id} p place v target subtype name t whole k within m check set st nm tg =
+    let done : Goes w y (λ rest. range_check subtype place t (Assign name t rest)) = goes_twice (goes_of k (check t m)) (set t (means_kept whole k within m)) in
+    subst (λ o. Goes w y (assigned p place o t)) (sym tg)
+    (subst (λ (n : Name). Goes w y (λ rest. range_check (type_of p v) place t (Assign n t rest))) nm (subst (λ (s : Subtype). Goes w y (λ rest. range_check s place t (Assign name t rest))) st done))
+
+pub no_lefts : (w : Walk) → MeanAll w [] []
+no_lefts w = record { trees = refl }
+
+pub after_assignment : {w x y : Walk} {id : TermId} (p : Program) (e : CoreExpr) (place : Place) (target : Reference) → Keeps w x → Evaluates p [] w x e id → place ≡ place_of e
+    → ((t : Term) → Means x id t → Goes x y (assigned p place (variable_of target.root.entity) t)) → Passes p w y (Set target e)
+after_assignment {w} {x} {y} {id} p e place target k v at a =
+    let along : (entries : VarId → Term) → Goes w y (λ rest. checks p entries [] e (assigned p (place_of e) (variable_of target.root.entity) (term_of p entries e) rest)) =
+    λ entries.
+    let m = v.makes entries [] (no_lefts w) in
+    subst (λ q. Goes w y (λ rest. checks p entries [] e (assigned p q (variable_of target.root.entity) (term_of p entries e) rest))) at (goes_twice (goes_of k m.walks) (a (term_of p entries e) m.means)) in
+    record { whole = (along (now_term p)).whole; adds = (along (now_term p)).adds; goes = λ sub. along (entry_term p sub) }
+
+pub as_integer : {w x : Walk} (subtype : Subtype) (place : Place) (t : Term) → subtype.base.class ≡ class.Integer → Walks w x (checked_under [] Range place (in_type subtype t)) → Walks w x (range_check subtype place t)
+as_integer {w} {x} subtype place t is walks = walks_along (λ rest. ap (λ (c : Class). checked_in c subtype place t rest) is) walks
+
+pub as_truth : {w : Walk} (subtype : Subtype) (place : Place) (t : Term) → subtype.base.class ≡ class.Boolean → Walks w w (range_check subtype place t)
+as_truth {w} subtype place t is = walks_along (λ rest. ap (λ (c : Class). checked_in c subtype place t rest) is) (walks_not w)
+
+-- ---- parts
+pub after_split : {w x y : Walk} {id : TermId} {parts ids : List TermId} (t : Term) → Whole w → Keeps w x → Makes w x (λ rest. rest) id t → trees_at x.terms parts ≡ conjuncts (tree_at x.terms id) → ids ≡ parts → HasParts (state w) t
+    → ((ts : List Term) → MeanAll x ids ts → Walks x y (assume_all ts)) → Walks w y (assume_parts t)
+after_split {w} {x} {y} {id} {parts} {ids} t whole k m trees same has facts =
+    let s = state_same whole k in
+    let all : MeanAll x ids (conjuncts t) = record {
+      trees = ap (trees_at x.terms) same ∙ trees ∙ ap conjuncts m.means.tree ∙ ap (λ (u : State). conjuncts (applied u t)) s ∙ has.parts ∙ ap (λ (u : State). map (applied u) (conjuncts t)) (sym s);
+    } in
+    walks_twice m.walks (facts (conjuncts t) all)
+
+-- ---- the start
+pub after_enter : {old mid new : Walk} {id : TermId} (p : Program) (v : VarId) (b : Bool) (first name : Name) → Keeps old mid → Makes old mid (λ rest. rest) id (Variable first)
+    → ((t : Term) → Means mid id t → Goes mid new (Assign name t)) → first ≡ entry p v → name ≡ now p v → b ≡ true → Goes old new (entered p b v)
+after_enter {old} {mid} {new} {id} p v b first name k m set fs nm is =
+    let done : Goes old new (Assign name (Variable first)) = goes_twice (goes_of k m.walks) (set (Variable first) m.means) in
+    subst (λ b. Goes old new (entered p b v)) (sym is) (subst (λ (n : Name). Goes old new (Assign n (Variable (entry p v)))) nm (subst (λ (n : Name). Goes old new (Assign name (Variable n))) fs done))
+
+pub after_import : {old mid new : Walk} {id : TermId} (p : Program) (v : VarId) (b : Bool) (subtype : Subtype) (name : Name) → Keeps old mid → Makes old mid (λ rest. rest) id (Variable name) → Keeps mid new
+    → ((t : Term) → Means mid id t → Walks mid new (assume_all (in_type subtype t))) → subtype ≡ type_of p v → name ≡ now p v → b ≡ true → Goes old new (assume_all (known_of p b v))
+after_import {old} {mid} {new} {id} p v b subtype name k m l facts st nm is =
+    let done : Goes old new (assume_all (in_type subtype (Variable name))) = goes_twice (goes_of k m.walks) (goes_of l (facts (Variable name) m.means)) in
+    subst (λ b. Goes old new (assume_all (known_of p b v))) (sym is)
+    (subst (λ (n : Name). Goes old new (assume_all (in_type (type_of p v) (Variable n)))) nm (subst (λ (s : Subtype). Goes old new (assume_all (in_type s (Variable name)))) st done))
+
+pub after_pre : {old new : Walk} (p : Program) (sub : Sub) (pre : Option CorePrecondition) (e : CoreExpr) → Keeps old new → ((entries : VarId → Term) → Walks old new (assume_parts (term_of p entries e)))
+    → pre_facts p sub pre ≡ conjuncts (term_of p (entry_term p sub) e) → Goes old new (assume_all (pre_facts p sub pre))
+after_pre {old} {new} p sub pre e k walks is = subst (λ ts. Goes old new (assume_all ts)) (sym is) (goes_of k (walks (entry_term p sub)))
+
+pub assume_all-append : (ts us : List Term) (rest : Tree) → assume_all (ts ++ us) rest ≡ assume_all ts (assume_all us rest)
+assume_all-append [] us rest = refl
+assume_all-append (t ∷ ts) us rest = ap (Assume t) (assume_all-append ts us rest)
+
+-- ---- the end
+pub record Starts (w : Walk) : Type 0 where
+  pub values : w.values ≡ []
+  pub keys : w.facts.present.keys ≡ []
+  pub lists : w.facts.lists ≡ [] ∷ []
+  pub at : w.facts.at.0 ≡ 0
+  pub claims : w.claims ≡ []
+
+pub start_whole : (w : Walk) → Starts w → Whole w
+start_whole w s = record {
+  values = subst (AreValues (length w.terms)) (sym s.values) (record { ids = λ x id e. none_given x id e });
+  facts = subst (AreIds (length w.terms)) (sym s.keys) tt;
+  lists = subst (AreLists (length w.terms)) (sym s.lists) (record { each = λ id. none_in (length w.terms) id.0 });
+  stands = record {
+    within = subst (λ (ls : List (List TermId)). w.facts.at.0 < length ls) (sym s.lists) (omega (arith, s.at));
+    here = (λ i. facts_at (s.lists i) (record { 0 = s.at i })) ∙ sym s.keys;
+  };
+  claims = subst (AreClaims (length w.terms) (length w.facts.lists)) (sym s.claims) tt;
+}
+  where
+    none_given : {n : ℕ} (x : Name) (id : TermId) → given [] x ≡ Some id → id.0 < n
+    none_given x id e = absurd (cc)
+
+    none_in : (n k : ℕ) → AreIds n (facts_at ([] ∷ []) (record { 0 = k }))
+    none_in n zero = tt
+    none_in n (suc k) = tt
+
+claims_start : (w : Walk) (tree : Tree) → Starts w → claims_from w tree ≡ forward Variable [] tree
+unfolding claims_from
+claims_start w tree s = λ i. claims_at w.terms (s.lists i) (s.claims i) ++ forward (ap (state_in w.terms) s.values i) (trees_at w.terms (s.keys i)) tree
+
+pub claims_end : (w : Walk) → claims_from w Cut ≡ claims_at w.terms w.facts.lists w.claims
+unfolding claims_from
+claims_end w = append-nil (claims_at w.terms w.facts.lists w.claims)
+
+pub all_claims : (a b c d e : Walk) (p : Program) (sub : Sub) → Starts a
+    → Goes a b (entering p sub (formals sub)) → Goes b c (assume_all (flat_map (import_facts p sub) (formals sub))) → Goes c d (assume_all (pre_facts p sub sub.pre)) → Comes p d e (Then (commands sub.statements) Skip) Skip
+    → claims_at e.terms e.facts.lists e.claims ≡ map tidy (body_claims p sub)
+all_claims a b c d e p sub starts enter import require body =
+    let rest = walk p sub (commands sub.statements) ending ending 0 in
+    sym (claims_end e)
+    ∙ sym (body.same sub 0)
+    ∙ sym (require.same rest)
+    ∙ sym (import.same (assume_all (pre_facts p sub sub.pre) rest))
+    ∙ ap (claims_from b) (sym (assume_all-append (flat_map (import_facts p sub) (formals sub)) (pre_facts p sub sub.pre) rest))
+    ∙ sym (enter.same (assume_all (first_facts p sub) rest))
+    ∙ claims_start a (start_tree p sub) starts
+    ∙ forward_from_start (start_tree p sub)
+    ∙ ap (map tidy) (sym (append-nil (claims_of (start_tree p sub))))
+
+pub import_step : (a b c : Walk) (p : Program) (sub : Sub) (vs : List VarId) (i : ℕ) (v d : VarId) → i < length vs → v ≡ get_or vs i d
+    → ((rest : Tree) → claims_from a (assume_all (flat_map (import_facts p sub) vs) rest) ≡ claims_from b (assume_all (flat_map (import_facts p sub) (drop i vs)) rest))
+    → Goes b c (assume_all (import_facts p sub v))
+    → (rest : Tree) → claims_from a (assume_all (flat_map (import_facts p sub) vs) rest) ≡ claims_from c (assume_all (flat_map (import_facts p sub) (drop (i + 1) vs)) rest)
+import_step a b c p sub vs i v d within is before g rest =
+    before rest
+    ∙ ap (λ us. claims_from b (assume_all (flat_map (import_facts p sub) us) rest)) (drop-cons vs i d within ∙ (λ k. sym is k ∷ drop (sym (add-one i) k) vs))
+    ∙ ap (claims_from b) (assume_all-append (import_facts p sub v) (flat_map (import_facts p sub) (drop (i + 1) vs)) rest)
+    ∙ g.same (assume_all (flat_map (import_facts p sub) (drop (i + 1) vs)) rest)
+
+pub enter_step : (a b c : Walk) (p : Program) (sub : Sub) (vs : List VarId) (i : ℕ) (v d : VarId) → i < length vs → v ≡ get_or vs i d
+    → ((rest : Tree) → claims_from a (entering p sub vs rest) ≡ claims_from b (entering p sub (drop i vs) rest))
+    → Goes b c (entered p (exports v sub) v)
+    → (rest : Tree) → claims_from a (entering p sub vs rest) ≡ claims_from c (entering p sub (drop (i + 1) vs) rest)
+enter_step a b c p sub vs i v d within is before g rest =
+    before rest
+    ∙ ap (λ us. claims_from b (entering p sub us rest)) (drop-cons vs i d within ∙ (λ k. sym is k ∷ drop (sym (add-one i) k) vs))
+    ∙ g.same (entering p sub (drop (i + 1) vs) rest)

@@ -1,0 +1,99 @@
+// What is known at the start of a body.
+ghost use Rattle.std.specs.Prelude.{◌≡◌, flat_map, IfOk, OnOk};
+ghost use Rattle.spx_core.specs.Formals.{formals};
+ghost use Rattle.spx_core.specs.Mirror.VarSets.{holds};
+ghost use Rattle.spx_term.specs.Steps.{assume_all};
+ghost use Rattle.spx_paths.specs.Prefixes.{entered, known_of};
+ghost use Rattle.spx_paths.specs.Walks.{entering, import_facts, pre_facts};
+ghost use Rattle.spx_vcg.specs.WalkSteps.{Goes, Whole};
+
+use crate::names::{entry, now};
+use crate::walk::Walk;
+use spx_core::{Program, Sub, VarId, VarSet};
+use spx_meaning::type_of;
+use std::alloc::{AllocError, Global};
+
+impl Walk {
+    /// An export begins with its entry value.
+    fn enter(&mut self, program: &Program, exports: &VarSet, var: VarId) -> Result<(), AllocError>
+        requires { Whole self.old }
+        ensures { OnOk result (Goes self.old self.new (entered program.now (holds exports.now var) var)) }
+    {
+        if exports.contains(var) {
+            let value = self.value_id(entry(program, var))?;
+            self.set_value(now(program, var), value)?;
+            return Ok(());
+        }
+        Ok(())
+    }
+
+    /// Each export among the formals begins with its entry value.
+    pub fn enter_all(
+        &mut self,
+        alloc: Global,
+        program: &Program,
+        sub: &Sub,
+    ) -> Result<(), AllocError>
+        requires { Whole self.old }
+        ensures { OnOk result (Goes self.old self.new (entering program.now sub.now (formals sub.now))) }
+    {
+        let exports = VarSet::exports(alloc, sub)?;
+        for var in sub.formals() {
+            self.enter(program, &exports, *var)?;
+        }
+        Ok(())
+    }
+
+    /// An import lies in its type.
+    fn assume_import(
+        &mut self,
+        alloc: Global,
+        program: &Program,
+        imports: &VarSet,
+        var: VarId,
+    ) -> Result<(), AllocError>
+        requires { Whole self.old }
+        ensures { OnOk result (Goes self.old self.new (assume_all (known_of program.now (holds imports.now var) var))) }
+    {
+        if imports.contains(var) {
+            let value = self.value_id(now(program, var))?;
+            self.assume_type(alloc, type_of(program, var), value)?;
+            return Ok(());
+        }
+        Ok(())
+    }
+
+    /// Each import among the formals lies in its type.
+    pub fn assume_imports(
+        &mut self,
+        alloc: Global,
+        program: &Program,
+        sub: &Sub,
+    ) -> Result<(), AllocError>
+        requires { Whole self.old }
+        ensures { OnOk result (Goes self.old self.new (assume_all (flat_map (import_facts program.now sub.now) (formals sub.now)))) }
+    {
+        let imports = VarSet::imports(alloc, sub)?;
+        for var in sub.formals() {
+            self.assume_import(alloc, program, &imports, *var)?;
+        }
+        Ok(())
+    }
+
+    /// Each part of the precondition is true.
+    pub fn assume_pre(
+        &mut self,
+        alloc: Global,
+        program: &Program,
+        sub: &Sub,
+    ) -> Result<(), AllocError>
+        requires { Whole self.old }
+        ensures { OnOk result (Goes self.old self.new (assume_all (pre_facts program.now sub.now sub.now.pre))) }
+    {
+        if let Some(pre) = &sub.pre {
+            self.assume_parts(alloc, program, &pre.condition)?;
+            return Ok(());
+        }
+        Ok(())
+    }
+}

@@ -1,0 +1,6 @@
+procedure Divides (A, B : in Integer; X : out Boolean)
+--# derives X from A, B;
+is
+begin
+   X := B /= 0 and then A rem B = 0;
+end Divides;

@@ -1,0 +1,6 @@
+procedure Test (A : in Boolean; X : out Boolean)
+--# derives X from A;
+is
+begin
+   X := A not in Natural;
+end Test;

@@ -1,0 +1,6 @@
+procedure Less (A, B : in Boolean; X : out Boolean)
+--# derives X from A, B;
+is
+begin
+   X := A < B;
+end Less;

@@ -1,0 +1,6 @@
+procedure Copy (Natural : in Integer; X : out Integer)
+--# derives X from Natural;
+is
+begin
+   X := Natural;
+end Copy;

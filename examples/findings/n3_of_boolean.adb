@@ -1,0 +1,6 @@
+procedure Clear (X : out Boolean)
+--# derives X from;
+is
+begin
+   X := Boolean'First;
+end Clear;
