@@ -1,6 +1,4 @@
 // Expected tokens and faults are read off the rules of the language by hand.
-ghost use Rattle.std.specs.Prelude.{◌≤◌, length};
-
 use spx_lexer::{LexFault, MOST_TOKENS, lex};
 use spx_text::Place;
 use spx_tree::Kind;
@@ -9,11 +7,15 @@ use std::fmt::Write;
 use std::str;
 use std::test::Fail;
 
+/// As many bytes as a file may have.
+const MOST_BYTES: usize = 4194304;
+
 // Each token as its place, `#` where it is annotation text, its kind, its spelling and the value of a number; and the
 // end. Or the fault.
-fn shown(alloc: Global, text: &str) -> Result<String, Fail>
-    requires { length text.now ≤ 4194304 }
-{
+fn shown(alloc: Global, text: &str) -> Result<String, Fail> {
+    if text.len() > MOST_BYTES {
+        return Ok(format!(in alloc; "too long")?);
+    }
     let tokens = match lex(alloc, 0, text.as_bytes()) {
         Ok(tokens) => tokens,
         Err(LexFault::BadByte(at)) => {
@@ -43,10 +45,33 @@ fn shown(alloc: Global, text: &str) -> Result<String, Fail>
     Ok(shown)
 }
 
+// Those of the texts that are shown otherwise, each with what is shown.
+fn wrong(alloc: Global, cases: &[(&str, &str)]) -> Result<String, Fail> {
+    let mut found = String::new(alloc);
+    for (text, expected) in cases {
+        let shown = shown(alloc, text)?;
+        if shown.as_str() != *expected {
+            writeln!(found, "{text:?}: {shown}")?;
+        }
+    }
+    Ok(found)
+}
+
+// Whether a number is the greatest, and the next one too wide.
+fn is_greatest(alloc: Global, greatest: &str, next: &str) -> Result<bool, Fail> {
+    let Some(after) = greatest.len().checked_add(1) else {
+        return Ok(false);
+    };
+    let number = format!(in alloc; "1:1 Number {greatest} = {}, 1:{after}", i128::MAX)?;
+    Ok(
+        shown(alloc, greatest)?.as_str() == number.as_str()
+            && shown(alloc, next)?.as_str() == "too wide 1:1",
+    )
+}
+
 #[test]
-fn texts_have_their_tokens_or_a_fault(rt: HostRuntime) -> Result<(), Fail> {
+fn places_separators_and_letter_case(rt: HostRuntime) -> Result<(), Fail> {
     let cases = [
-        // Places, separators, letter case.
         ("", "1:1"),
         (
             "procedure\tInc\r\n",
@@ -56,7 +81,14 @@ fn texts_have_their_tokens_or_a_fault(rt: HostRuntime) -> Result<(), Fail> {
             "PROCEDURE Pre_1A",
             "1:1 Procedure PROCEDURE, 1:11 Identifier Pre_1A, 1:17",
         ),
-        // Marks and comments.
+    ];
+    assert_eq!(rt; wrong(rt.alloc(), &cases)?.as_str(), "");
+    Ok(())
+}
+
+#[test]
+fn marks_and_comments(rt: HostRuntime) -> Result<(), Fail> {
+    let cases = [
         (
             "--# derives X;\nderives",
             "1:5# Derives derives, 1:13# Identifier X, 1:14# Semicolon ;, 2:1 Identifier derives, 2:8",
@@ -67,7 +99,14 @@ fn texts_have_their_tokens_or_a_fault(rt: HostRuntime) -> Result<(), Fail> {
             "1:5# Identifier X, 2:1 Identifier Y, 2:2",
         ),
         ("X --#PRE", "1:1 Identifier X, 1:6# Pre PRE, 1:9"),
-        // Lexemes are maximal.
+    ];
+    assert_eq!(rt; wrong(rt.alloc(), &cases)?.as_str(), "");
+    Ok(())
+}
+
+#[test]
+fn lexemes_are_maximal(rt: HostRuntime) -> Result<(), Fail> {
+    let cases = [
         (
             "A..B:=<>=/=**",
             "1:1 Identifier A, 1:2 DoubleDot .., 1:4 Identifier B, 1:5 Assignment :=, 1:7 Diamond <>, 1:9 Equal =, 1:10 NotEqual /=, 1:12 DoubleAsterisk **, 1:14",
@@ -88,7 +127,14 @@ fn texts_have_their_tokens_or_a_fault(rt: HostRuntime) -> Result<(), Fail> {
             "170141183460469231731687303715884105727",
             "1:1 Number 170141183460469231731687303715884105727 = 170141183460469231731687303715884105727, 1:40",
         ),
-        // Numbers: underscores, bases, exponents.
+    ];
+    assert_eq!(rt; wrong(rt.alloc(), &cases)?.as_str(), "");
+    Ok(())
+}
+
+#[test]
+fn numbers_have_underscores_bases_and_exponents(rt: HostRuntime) -> Result<(), Fail> {
+    let cases = [
         (
             "0_0 1_000 1_2_3",
             "1:1 Number 0_0 = 0, 1:5 Number 1_000 = 1000, 1:11 Number 1_2_3 = 123, 1:16",
@@ -113,13 +159,27 @@ fn texts_have_their_tokens_or_a_fault(rt: HostRuntime) -> Result<(), Fail> {
             "0E99999999999999999999 2#0#E128 1E38 2#1#E126 16#1#E31",
             "1:1 Number 0E99999999999999999999 = 0, 1:24 Number 2#0#E128 = 0, 1:33 Number 1E38 = 100000000000000000000000000000000000000, 1:38 Number 2#1#E126 = 85070591730234615865843651857942052864, 1:47 Number 16#1#E31 = 21267647932558653966460912964485513216, 1:55",
         ),
-        // Faults.
+    ];
+    assert_eq!(rt; wrong(rt.alloc(), &cases)?.as_str(), "");
+    Ok(())
+}
+
+#[test]
+fn faults_are_at_their_first_byte(rt: HostRuntime) -> Result<(), Fail> {
+    let cases = [
         ("A__B", "bad byte 1:2"),
         ("A\n B_", "bad byte 2:3"),
         ("derives [", "bad byte 1:9"),
         ("\n 170141183460469231731687303715884105728", "too wide 2:2"),
         ("170141183460469231731687303715884105728x", "bad number 1:1"),
-        // Each way to pass the greatest value.
+    ];
+    assert_eq!(rt; wrong(rt.alloc(), &cases)?.as_str(), "");
+    Ok(())
+}
+
+#[test]
+fn numbers_may_pass_the_greatest_value(rt: HostRuntime) -> Result<(), Fail> {
+    let cases = [
         ("2E38", "too wide 1:1"),
         ("1E39", "too wide 1:1"),
         ("1E99999999999999999999", "too wide 1:1"),
@@ -128,10 +188,14 @@ fn texts_have_their_tokens_or_a_fault(rt: HostRuntime) -> Result<(), Fail> {
         ("2#1#E128", "too wide 1:1"),
         ("1E340282366920938463463374607431768211456", "too wide 1:1"),
         ("2#1#E127E", "bad number 1:1"),
-        // Each way to spoil a number.
-        ("_1", "bad byte 1:1"),
-        ("1__0", "bad number 1:1"),
-        ("1_", "bad number 1:1"),
+    ];
+    assert_eq!(rt; wrong(rt.alloc(), &cases)?.as_str(), "");
+    Ok(())
+}
+
+#[test]
+fn digits_and_bases_spoil_numbers(rt: HostRuntime) -> Result<(), Fail> {
+    let cases = [
         ("16#FG#", "bad number 1:1"),
         ("16#F", "bad number 1:1"),
         ("16##", "bad number 1:1"),
@@ -146,8 +210,14 @@ fn texts_have_their_tokens_or_a_fault(rt: HostRuntime) -> Result<(), Fail> {
         ("17#0#", "bad number 1:1"),
         ("2#2#", "bad number 1:1"),
         ("10#A#", "bad number 1:1"),
-        ("3_#1#", "bad number 1:1"),
-        ("1_0_#1#", "bad number 1:1"),
+    ];
+    assert_eq!(rt; wrong(rt.alloc(), &cases)?.as_str(), "");
+    Ok(())
+}
+
+#[test]
+fn exponents_spoil_numbers(rt: HostRuntime) -> Result<(), Fail> {
+    let cases = [
         ("1E", "bad number 1:1"),
         ("1E-3", "bad number 1:1"),
         ("1E+", "bad number 1:1"),
@@ -157,95 +227,147 @@ fn texts_have_their_tokens_or_a_fault(rt: HostRuntime) -> Result<(), Fail> {
         ("1E3E3", "bad number 1:1"),
         ("16#F#E", "bad number 1:1"),
         ("16#F#EF", "bad number 1:1"),
+    ];
+    assert_eq!(rt; wrong(rt.alloc(), &cases)?.as_str(), "");
+    Ok(())
+}
+
+#[test]
+fn underscores_and_letters_spoil_numbers(rt: HostRuntime) -> Result<(), Fail> {
+    let cases = [
+        ("_1", "bad byte 1:1"),
+        ("1__0", "bad number 1:1"),
+        ("1_", "bad number 1:1"),
+        ("3_#1#", "bad number 1:1"),
+        ("1_0_#1#", "bad number 1:1"),
         ("1X", "bad number 1:1"),
         ("X 1_000.5", "bad number 1:3"),
         ("1.5", "bad number 1:1"),
     ];
-    for (text, expected) in cases {
-        assert!(rt; text.len() <= 4194304);
-        assert_eq!(rt; shown(rt.alloc(), text)?.as_str(), expected, "in {text:?}");
-    }
+    assert_eq!(rt; wrong(rt.alloc(), &cases)?.as_str(), "");
     Ok(())
 }
 
-// The greatest number and the next one, in each base.
 #[test]
-fn a_number_is_at_most_the_greatest(rt: HostRuntime) -> Result<(), Fail> {
-    let cases = [
-        (
-            "2#1111111111111111111111111111111111111111111111111111111111111111111111111111111111111111111111111111111111111111111111111111111#",
-            "2#10000000000000000000000000000000000000000000000000000000000000000000000000000000000000000000000000000000000000000000000000000000#",
-        ),
-        (
-            "3#101100201022001010121000102002120122110122221010202000122201220121120010200022001#",
-            "3#101100201022001010121000102002120122110122221010202000122201220121120010200022002#",
-        ),
-        (
-            "4#1333333333333333333333333333333333333333333333333333333333333333#",
-            "4#2000000000000000000000000000000000000000000000000000000000000000#",
-        ),
-        (
-            "5#3013030220323124042102424341431241221233040112312340402#",
-            "5#3013030220323124042102424341431241221233040112312340403#",
-        ),
-        (
-            "6#11324454543055553250455021551551121442554522203131#",
-            "6#11324454543055553250455021551551121442554522203132#",
-        ),
-        (
-            "7#1406241064412313155000336513424310163013142501#",
-            "7#1406241064412313155000336513424310163013142502#",
-        ),
-        (
-            "8#1777777777777777777777777777777777777777777#",
-            "8#2000000000000000000000000000000000000000000#",
-        ),
-        (
-            "9#11321261117012076573587122018656546120261#",
-            "9#11321261117012076573587122018656546120262#",
-        ),
-        (
-            "10#170141183460469231731687303715884105727#",
-            "10#170141183460469231731687303715884105728#",
-        ),
-        (
-            "11#555A8020989A11327710815513A946A188726#",
-            "11#555A8020989A11327710815513A946A188727#",
-        ),
-        (
-            "12#2A695925806818735399A37A20A31B3534A7#",
-            "12#2A695925806818735399A37A20A31B3534A8#",
-        ),
-        (
-            "13#2373464C8A3CB25BA2B7C6382B2963BB71A#",
-            "13#2373464C8A3CB25BA2B7C6382B2963BB71B#",
-        ),
-        (
-            "14#27C22D5B9734A1517BB1DC612904A79D71#",
-            "14#27C22D5B9734A1517BB1DC612904A79D72#",
-        ),
-        (
-            "15#3E2480B3404D8BB9BCA3084369BA3E187#",
-            "15#3E2480B3404D8BB9BCA3084369BA3E188#",
-        ),
-        (
-            "16#7FFFFFFFFFFFFFFFFFFFFFFFFFFFFFFF#",
-            "16#80000000000000000000000000000000#",
-        ),
-    ];
+fn the_greatest_number_in_bases_2_to_5(rt: HostRuntime) -> Result<(), Fail> {
     let alloc = rt.alloc();
-    for (greatest, wide) in cases {
-        assert!(rt; greatest.len() <= 4194304);
-        assert!(rt; wide.len() <= 4194304);
-        let after = greatest.len() + 1;
-        let number = format!(in alloc; "1:1 Number {greatest} = {}, 1:{after}", i128::MAX)?;
-        assert_eq!(rt;
-            shown(alloc, greatest)?.as_str(),
-            number.as_str(),
-            "in {greatest:?}"
-        );
-        assert_eq!(rt; shown(alloc, wide)?.as_str(), "too wide 1:1", "in {wide:?}");
-    }
+    assert!(rt;
+        is_greatest(
+            alloc,
+            "2#1111111111111111111111111111111111111111111111111111111111111111111111111111111111111111111111111111111111111111111111111111111#",
+            "2#10000000000000000000000000000000000000000000000000000000000000000000000000000000000000000000000000000000000000000000000000000000#"
+        )?
+    );
+    assert!(rt;
+        is_greatest(
+            alloc,
+            "3#101100201022001010121000102002120122110122221010202000122201220121120010200022001#",
+            "3#101100201022001010121000102002120122110122221010202000122201220121120010200022002#"
+        )?
+    );
+    assert!(rt;
+        is_greatest(
+            alloc,
+            "4#1333333333333333333333333333333333333333333333333333333333333333#",
+            "4#2000000000000000000000000000000000000000000000000000000000000000#"
+        )?
+    );
+    assert!(rt;
+        is_greatest(
+            alloc,
+            "5#3013030220323124042102424341431241221233040112312340402#",
+            "5#3013030220323124042102424341431241221233040112312340403#"
+        )?
+    );
+    Ok(())
+}
+
+#[test]
+fn the_greatest_number_in_bases_6_to_10(rt: HostRuntime) -> Result<(), Fail> {
+    let alloc = rt.alloc();
+    assert!(rt;
+        is_greatest(
+            alloc,
+            "6#11324454543055553250455021551551121442554522203131#",
+            "6#11324454543055553250455021551551121442554522203132#"
+        )?
+    );
+    assert!(rt;
+        is_greatest(
+            alloc,
+            "7#1406241064412313155000336513424310163013142501#",
+            "7#1406241064412313155000336513424310163013142502#"
+        )?
+    );
+    assert!(rt;
+        is_greatest(
+            alloc,
+            "8#1777777777777777777777777777777777777777777#",
+            "8#2000000000000000000000000000000000000000000#"
+        )?
+    );
+    assert!(rt;
+        is_greatest(
+            alloc,
+            "9#11321261117012076573587122018656546120261#",
+            "9#11321261117012076573587122018656546120262#"
+        )?
+    );
+    assert!(rt;
+        is_greatest(
+            alloc,
+            "10#170141183460469231731687303715884105727#",
+            "10#170141183460469231731687303715884105728#"
+        )?
+    );
+    Ok(())
+}
+
+#[test]
+fn the_greatest_number_in_bases_11_to_16(rt: HostRuntime) -> Result<(), Fail> {
+    let alloc = rt.alloc();
+    assert!(rt;
+        is_greatest(
+            alloc,
+            "11#555A8020989A11327710815513A946A188726#",
+            "11#555A8020989A11327710815513A946A188727#"
+        )?
+    );
+    assert!(rt;
+        is_greatest(
+            alloc,
+            "12#2A695925806818735399A37A20A31B3534A7#",
+            "12#2A695925806818735399A37A20A31B3534A8#"
+        )?
+    );
+    assert!(rt;
+        is_greatest(
+            alloc,
+            "13#2373464C8A3CB25BA2B7C6382B2963BB71A#",
+            "13#2373464C8A3CB25BA2B7C6382B2963BB71B#"
+        )?
+    );
+    assert!(rt;
+        is_greatest(
+            alloc,
+            "14#27C22D5B9734A1517BB1DC612904A79D71#",
+            "14#27C22D5B9734A1517BB1DC612904A79D72#"
+        )?
+    );
+    assert!(rt;
+        is_greatest(
+            alloc,
+            "15#3E2480B3404D8BB9BCA3084369BA3E187#",
+            "15#3E2480B3404D8BB9BCA3084369BA3E188#"
+        )?
+    );
+    assert!(rt;
+        is_greatest(
+            alloc,
+            "16#7FFFFFFFFFFFFFFFFFFFFFFFFFFFFFFF#",
+            "16#80000000000000000000000000000000#"
+        )?
+    );
     Ok(())
 }
 
@@ -254,7 +376,7 @@ fn a_number_is_at_most_the_greatest(rt: HostRuntime) -> Result<(), Fail> {
 fn a_text_has_a_million_tokens_at_most(rt: HostRuntime) -> Result<(), Fail> {
     let alloc = rt.alloc();
     let most = vec![in alloc; b';'; MOST_TOKENS]?;
-    assert!(rt; most.len() <= 4194304);
+    assert!(rt; most.len() <= MOST_BYTES);
     let count = match lex(alloc, 0, most.as_slice()) {
         Ok(tokens) => tokens.list.len(),
         Err(_) => 0,
@@ -262,7 +384,7 @@ fn a_text_has_a_million_tokens_at_most(rt: HostRuntime) -> Result<(), Fail> {
     assert_eq!(rt; count, MOST_TOKENS);
 
     let more = vec![in alloc; b';'; MOST_TOKENS + 1]?;
-    assert!(rt; more.len() <= 4194304);
+    assert!(rt; more.len() <= MOST_BYTES);
     assert!(rt; matches!(lex(alloc, 0, more.as_slice()), Err(LexFault::TooMany)));
     Ok(())
 }

@@ -14,8 +14,16 @@ mod numbers;
 #[cfg(test)]
 mod outside;
 #[cfg(test)]
+mod resolving;
+#[cfg(test)]
+mod scopes;
+#[cfg(test)]
 mod sequents;
 #[cfg(test)]
 mod sharing;
 #[cfg(test)]
+mod stores;
+#[cfg(test)]
 mod trees;
+#[cfg(test)]
+mod units;

@@ -1,8 +1,8 @@
 // Copies of trees.
 use spx_text::{Place, Text};
 use spx_tree::{
-    Arm, Closing, Decl, Derives, DerivesItem, Expr, FormalPart, Identifier, Imports, InfixOp, Name,
-    Param, Precondition, PrefixOp, Stmt, Subprogram, Unit, WrittenMode,
+    Arm, Closing, Decl, Derives, DerivesItem, Exports, Expr, FormalPart, Identifier, Imports,
+    InfixOp, Name, Param, Precondition, PrefixOp, Stmt, Subprogram, Unit, WrittenMode,
 };
 use sqlite_items::{Boxed, Items};
 use std::alloc::{AllocError, Global};
@@ -57,7 +57,7 @@ fn condition(alloc: Global) -> Result<Expr, AllocError> {
 
 // derives X from *
 fn derives(alloc: Global) -> Result<Derives, AllocError> {
-    let exports = names(alloc, "X")?;
+    let exports = Exports::Names(names(alloc, "X")?);
     let imports = Imports {
         itself: Some(at(20)),
         names: Items::new(alloc),
@@ -74,7 +74,7 @@ fn formal_part(alloc: Global) -> Result<FormalPart, AllocError> {
     let mut params = Items::new(alloc);
     params.push(Param {
         names: identifiers(alloc, "X")?,
-        mode: WrittenMode::InOut,
+        mode: WrittenMode::InOut(at(20)),
         type_name: name(alloc, "Integer")?,
     })?;
     Ok(FormalPart {

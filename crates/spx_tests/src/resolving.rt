@@ -1,0 +1,93 @@
+// Programs that are made from units.
+use spx_core::{CoreDecl, CoreStmt, Entity, INTEGER, VarId, variable_of};
+use spx_resolve::make_program;
+use spx_text::{Place, Text};
+use spx_tree::{
+    Decl, Expr, FormalPart, Identifier, Name, Param, Stmt, Subprogram, Unit, WrittenMode,
+};
+use sqlite_items::Items;
+use std::alloc::{AllocError, Global};
+use std::test::Fail;
+
+fn here() -> Place {
+    Place {
+        file: 0,
+        line: 1,
+        column: 1,
+    }
+}
+
+fn identifier(alloc: Global, text: &str) -> Result<Identifier, AllocError> {
+    let text = Text::new(alloc, text.as_bytes())?;
+    Ok(Identifier {
+        text,
+        place: here(),
+    })
+}
+
+fn identifiers(alloc: Global, text: &str) -> Result<Items<Identifier>, AllocError> {
+    let mut one = Items::new(alloc);
+    one.push(identifier(alloc, text)?)?;
+    Ok(one)
+}
+
+// (X : in out Integer)
+fn formal_part(alloc: Global) -> Result<FormalPart, AllocError> {
+    let mut params = Items::new(alloc);
+    params.push(Param {
+        names: identifiers(alloc, "X")?,
+        mode: WrittenMode::InOut(here()),
+        type_name: Name::Simple(identifier(alloc, "INTEGER")?),
+    })?;
+    Ok(FormalPart {
+        place: here(),
+        params,
+    })
+}
+
+// procedure Set (X : in out Integer) is x : Integer; begin x := 7; end;
+fn units(alloc: Global) -> Result<Items<Unit>, AllocError> {
+    let mut declarations = Items::new(alloc);
+    let type_name = Name::Simple(identifier(alloc, "Integer")?);
+    declarations.push(Decl::Variables(identifiers(alloc, "x")?, type_name))?;
+    let mut statements = Items::new(alloc);
+    let target = Name::Simple(identifier(alloc, "x")?);
+    statements.push(Stmt::Assignment(target, Expr::Number(7, here())))?;
+    let mut units = Items::new(alloc);
+    units.push(Unit::Subprogram(Subprogram {
+        place: here(),
+        name: identifier(alloc, "Set")?,
+        formal_part: Some(formal_part(alloc)?),
+        derives: None,
+        pre: None,
+        declarations,
+        statements,
+        end: here(),
+        end_name: None,
+    }))?;
+    Ok(units)
+}
+
+#[test]
+fn a_program_is_made(rt: HostRuntime) -> Result<(), Fail> {
+    let units = units(rt.alloc())?;
+    let program = make_program(rt.alloc(), units.as_slice())?;
+    assert_eq!(rt; program.vars.len(), 2);
+    assert_eq!(rt; program.subs.len(), 1);
+    assert_eq!(rt; program.bodies.len(), 1);
+    assert_eq!(rt; program.units.len(), 1);
+    for sub in program.subs.as_slice() {
+        assert_eq!(rt; sub.formal_count, 1);
+        for decl in sub.declarations.as_slice() {
+            let CoreDecl::Variables(names, type_name) = decl;
+            assert!(rt; names.as_slice().iter().all(|name| name.again));
+            assert_eq!(rt; type_name.root.entity, Some(Entity::TypeName(INTEGER)));
+        }
+        for stmt in sub.statements.as_slice() {
+            if let CoreStmt::Assignment(target, _) = stmt {
+                assert_eq!(rt; variable_of(target.root.entity), Some(VarId(0)));
+            }
+        }
+    }
+    Ok(())
+}

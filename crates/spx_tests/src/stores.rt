@@ -1,0 +1,55 @@
+// Stores.
+ghost use Rattle.std.specs.Prelude.{◌≡◌, length, IfOk};
+
+use spx_core::{INTEGER, Mode, Program, Var, VarId, VarKind};
+use spx_meaning::{Store, Value};
+use spx_text::Text;
+use sqlite_items::Items;
+use std::alloc::{AllocError, Global};
+use std::test::Fail;
+
+const X: VarId = VarId(0);
+
+const Y: VarId = VarId(1);
+
+fn var(alloc: Global, name: &str, kind: VarKind) -> Result<Var, AllocError> {
+    Ok(Var {
+        name: Text::new(alloc, name.as_bytes())?,
+        kind,
+        type_id: INTEGER.id,
+    })
+}
+
+fn program(alloc: Global) -> Result<Program, AllocError>
+    ensures { IfOk result (λ p. length p.vars ≡ 2) }
+{
+    let mut vars = Items::new(alloc);
+    vars.push(var(alloc, "X", VarKind::Formal(Mode::InOut))?)?;
+    vars.push(var(alloc, "Y", VarKind::Local)?)?;
+    Ok(Program {
+        units: Items::new(alloc),
+        types: Items::new(alloc),
+        vars,
+        subs: Items::new(alloc),
+        bodies: Items::new(alloc),
+    })
+}
+
+#[test]
+fn a_store_keeps_what_it_is_given(rt: HostRuntime) -> Result<(), Fail> {
+    let alloc = rt.alloc();
+    let mut store = Store::new(alloc, &program(alloc)?)?;
+    assert_eq!(rt; store.get(X), None);
+    assert_eq!(rt; store.get(Y), None);
+    store.set(X, Value::Number(7));
+    assert_eq!(rt; store.get(X), Some(Value::Number(7)));
+    assert_eq!(rt; store.get(Y), None);
+    let copied = store.copy(alloc)?;
+    store.set(Y, Value::Truth(true));
+    store.unset(X);
+    assert_eq!(rt; store.get(X), None);
+    assert_eq!(rt; store.get(Y), Some(Value::Truth(true)));
+    assert_eq!(rt; copied.get(X), Some(Value::Number(7)));
+    assert_eq!(rt; copied.get(Y), None);
+    Ok(())
+}
