@@ -60,7 +60,7 @@ LEFT = re.compile(r'<([0-9]+[dor](?:,[0-9]+[dor])*)>')
 
 
 def left_at(name, text, total, named='Inc'):
-    """So many conditions of one procedure. Those that are left stand in the text, in front of what they are on.
+    """So many conditions of one procedure. Those that are left stand in the text, before what they are on.
 
     Each is a number and the first letter of its kind: `X := X <1d,2o>/ Y;` for a division and an overflow.
     """
