@@ -4,10 +4,15 @@ use Rattle.spx_tree.specs.declared.expression.Layer.{Layer}
 use Rattle.spx_tree.specs.declared.expression.Expr.{Expr}
 use Rattle.spx_tree.specs.declared.statement.Stmt.{Stmt, Stmt-F, out-Stmt}
 use Rattle.spx_tree.specs.declared.statement.Arm.{Arm, out-Arm}
+use Rattle.spx_tree.specs.declared.declaration.Decl.{Decl}
+use Rattle.spx_tree.specs.declared.declaration.Decl.TheVariants as decl
+use Rattle.spx_tree.specs.declared.declaration.Range.{Range}
+use Rattle.spx_tree.specs.declared.declaration.TypeDef.{TypeDef}
+use Rattle.spx_tree.specs.declared.declaration.TypeDef.TheVariants as definition
 use Rattle.spx_tree.specs.declared.annotation.Precondition.{Precondition}
 use Rattle.spx_tree.specs.declared.subprogram.Unit.{Unit}
 use Rattle.spx_tree.specs.declared.subprogram.Unit.TheVariants as unit
-use Rattle.spx_tree.specs.Grammar.{Each, OneOrMore, OfLayer, IsArm, IsFormed, Within, IsStmt, IsStmts, IsPrecondition, IfThere, IsUnit, IsFile}
+use Rattle.spx_tree.specs.Grammar.{Each, OneOrMore, OfLayer, IsArm, IsFormed, Within, IsStmt, IsStmts, IsPrecondition, IfThere, IsDecl, IsDefinition, IsRange, IsUnit, IsFile}
 
 each_more : {A : Type 0} (P Q : A → Type 0) → ((x : A) → P x → Q x) → (xs : List A) → Each P xs → Each Q xs
 each_more P Q h [] f = tt
@@ -51,8 +56,21 @@ module _ (m n : ℕ) (le : m ≤ n) where
   pre_more None f = tt
   pre_more (Some p) f = layer_more m n le _ p.condition f
 
+  range_more : (x : Range) → IsRange m x → IsRange n x
+  range_more x f = record { low = layer_more m n le _ x.low f.low; high = layer_more m n le _ x.high f.high }
+
+  definition_more : (x : TypeDef) → IsDefinition m x → IsDefinition n x
+  definition_more (definition.Integer range) f = range_more range f
+  definition_more (definition.Enumeration place literals) f = f
+
+  decl_more : (x : Decl) → IsDecl m x → IsDecl n x
+  decl_more (decl.Variables names type_name) f = f
+  decl_more (decl.Constants names type_name value) f = (f.0, layer_more m n le _ value f.1)
+  decl_more (decl.FullType name definition) f = definition_more definition f
+  decl_more (decl.Subtype name parent range) f = there_more (IsRange m) (IsRange n) range_more range f
+
   unit_more : (x : Unit) → IsUnit m x → IsUnit n x
-  unit_more (unit.Subprogram x) f = record { formal_part = f.formal_part; derives = f.derives; pre = pre_more x.pre f.pre; declarations = f.declarations; statements = stmts_more x.statements f.statements }
+  unit_more (unit.Subprogram x) f = record { formal_part = f.formal_part; derives = f.derives; pre = pre_more x.pre f.pre; declarations = each_more (IsDecl m) (IsDecl n) decl_more x.declarations f.declarations; statements = stmts_more x.statements f.statements }
 
   pub file_more : (xs : List Unit) → IsFile m xs → IsFile n xs
   file_more xs f = each_more (IsUnit m) (IsUnit n) unit_more xs f

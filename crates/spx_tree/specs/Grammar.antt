@@ -11,7 +11,10 @@ use Rattle.spx_tree.specs.declared.expression.Name.{Name}
 use Rattle.spx_tree.specs.declared.expression.Expr.{Expr}
 use Rattle.spx_tree.specs.declared.expression.Expr.TheVariants as expr
 use Rattle.spx_tree.specs.declared.declaration.Decl.{Decl}
-use Rattle.spx_tree.specs.declared.declaration.Decl.TheVariants.{Variables}
+use Rattle.spx_tree.specs.declared.declaration.Decl.TheVariants as decl
+use Rattle.spx_tree.specs.declared.declaration.Range.{Range}
+use Rattle.spx_tree.specs.declared.declaration.TypeDef.{TypeDef}
+use Rattle.spx_tree.specs.declared.declaration.TypeDef.TheVariants as definition
 use Rattle.spx_tree.specs.declared.statement.Stmt.{Stmt, Stmt-F, out-Stmt}
 use Rattle.spx_tree.specs.declared.statement.Arm.{Arm, Arm-F, out-Arm}
 use Rattle.spx_tree.specs.declared.annotation.Exports.{Exports}
@@ -180,9 +183,23 @@ IsExpr = OfLayer layer.Expression
 
 -- Declarations (Ada 95 RM 3).
 
--- identifiers ":" name ";" (Ada 95 RM 3.3.1)
-abbrev pub IsDecl : Decl → Type 0
-IsDecl (Variables names type_name) = IsIdentifiers names
+-- sum ".." sum (Ada 95 RM 3.5)
+pub record IsRange (levels : ℕ) (range : Range) : Type 0 where
+  pub low : OfLayer layer.Sum levels range.low
+  pub high : OfLayer layer.Sum levels range.high
+
+-- "range" range (Ada 95 RM 3.5.4) | "(" identifiers ")" (3.5.1)
+abbrev pub IsDefinition : ℕ → TypeDef → Type 0
+IsDefinition levels (definition.Integer range) = IsRange levels range
+IsDefinition levels (definition.Enumeration place literals) = IsIdentifiers literals
+
+-- identifiers ":" name ";" | identifiers ":" "constant" [name] ":=" expression ";" (Ada 95 RM 3.3.1, 3.3.2)
+-- | "type" identifier "is" definition ";" (3.2.1) | "subtype" identifier "is" name ["range" range] ";" (3.2.2)
+abbrev pub IsDecl : ℕ → Decl → Type 0
+IsDecl levels (decl.Variables names type_name) = IsIdentifiers names
+IsDecl levels (decl.Constants names type_name value) = IsIdentifiers names × IsExpr levels value
+IsDecl levels (decl.FullType name definition) = IsDefinition levels definition
+IsDecl levels (decl.Subtype name parent range) = IfThere (IsRange levels) range
 
 -- Statements (Ada 95 RM 5).
 
@@ -242,7 +259,7 @@ pub record IsSubprogram (levels : ℕ) (sub : Subprogram) : Type 0 where
   pub formal_part : IfThere IsFormalPart sub.formal_part
   pub derives : IfThere IsDerives sub.derives
   pub pre : IfThere (IsPrecondition levels) sub.pre
-  pub declarations : Each IsDecl sub.declarations
+  pub declarations : Each (IsDecl levels) sub.declarations
   pub statements : IsStmts levels sub.statements
 
 -- a subprogram (Ada 95 RM 10.1.1)

@@ -16,7 +16,10 @@ use Rattle.spx_tree.specs.declared.expression.Expr.{Expr, end_of-Expr, more_of-E
 use Rattle.spx_tree.specs.declared.expression.Expr.TheVariants as expr
 use Rattle.spx_tree.specs.declared.expression.Expr.TheVariants.{Parenthesized', Prefix', Infix', InType', InRange'}
 use Rattle.spx_tree.specs.declared.declaration.Decl.{Decl}
-use Rattle.spx_tree.specs.declared.declaration.Decl.TheVariants.{Variables}
+use Rattle.spx_tree.specs.declared.declaration.Decl.TheVariants as decl
+use Rattle.spx_tree.specs.declared.declaration.Range.{Range}
+use Rattle.spx_tree.specs.declared.declaration.TypeDef.{TypeDef}
+use Rattle.spx_tree.specs.declared.declaration.TypeDef.TheVariants as definition
 use Rattle.spx_tree.specs.declared.statement.Stmt.{Stmt, Stmt-F, fold-Stmt}
 use Rattle.spx_tree.specs.declared.statement.Arm.{Arm, Arm-F, fold-Arm}
 use Rattle.spx_tree.specs.declared.annotation.Exports.{Exports}
@@ -157,9 +160,28 @@ written_expr marked (in_range op place tested low high) =
 
 -- Declarations (Ada 95 RM 3).
 
--- identifiers ":" name ";"
+-- expression ".." expression
+abbrev pub written_range : Range → List Form
+written_range range = written_expr program range.low ++ bare program k.DoubleDot ∷ written_expr program range.high
+
+-- "range" range
+abbrev pub written_constraint : Range → List Form
+written_constraint range = bare program k.Range ∷ written_range range
+
+-- "range" range | "(" identifiers ")"
+abbrev pub written_definition : TypeDef → List Form
+written_definition (definition.Integer range) = written_constraint range
+written_definition (definition.Enumeration place literals) = placed program k.LeftParenthesis place ∷ (written_identifiers program literals ++ bare program k.RightParenthesis ∷ [])
+
+-- identifiers ":" name ";" | identifiers ":" "constant" [name] ":=" expression ";" | "type" identifier "is" definition ";" | "subtype" identifier "is" name ["range" range] ";"
 abbrev pub written_decl : Decl → List Form
-written_decl (Variables names type_name) = written_identifiers program names ++ bare program k.Colon ∷ (written_name program type_name ++ bare program k.Semicolon ∷ [])
+written_decl (decl.Variables names type_name) = written_identifiers program names ++ bare program k.Colon ∷ (written_name program type_name ++ bare program k.Semicolon ∷ [])
+written_decl (decl.Constants names type_name value) =
+    written_identifiers program names
+    ++ bare program k.Colon ∷ bare program k.Constant ∷ (optional (written_name program) type_name ++ bare program k.Assignment ∷ (written_expr program value ++ bare program k.Semicolon ∷ []))
+written_decl (decl.FullType name definition) = bare program k.Type ∷ named program name ∷ bare program k.Is ∷ (written_definition definition ++ bare program k.Semicolon ∷ [])
+written_decl (decl.Subtype name parent range) =
+    bare program k.Subtype ∷ named program name ∷ bare program k.Is ∷ (written_name program parent ++ (optional written_constraint range ++ bare program k.Semicolon ∷ []))
 
 -- {declaration}
 abbrev pub written_decls : List Decl → List Form

@@ -13,7 +13,7 @@ mod subprogram;
 mod token;
 
 pub use annotation::{Derives, DerivesItem, Exports, Imports, Precondition};
-pub use declaration::Decl;
+pub use declaration::{Decl, Range, TypeDef};
 pub use expression::{
     Expr, Identifier, InfixOp, Layer, MemberOp, Name, PrefixOp, copy_identifiers,
 };
