@@ -36,7 +36,7 @@ use Rattle.spx_core.specs.declared.rule.Typing.{Typing}
 use Rattle.spx_core.specs.Commands.{Command, Skip, Set, Then, Choose, commands}
 use Rattle.spx_core.specs.Dependency.{relation}
 use Rattle.spx_core.specs.HasType.{HasType}
-use Rattle.spx_core.specs.Judged.{Judged, ◌>>=◌, attribute, condition, each, expr_step, if_there, integer_type, is_attribute, is_whole, judged, keeps, member_of_range, member_of_type, named_object, named_type, named_value, object_at, operand_of, operation, referred_object, referred_type, sign, type_at, value_at, whole}
+use Rattle.spx_core.specs.Judged.{Judged, ◌>>=◌, attribute, condition, each, expr_step, if_there, ordered_type, is_attribute, is_whole, judged, keeps, member_of_range, member_of_type, named_object, named_type, named_value, object_at, operand_of, operation, referred_object, referred_type, sign, type_at, value_at, whole}
 use Rattle.spx_core.specs.NameBreaches as broken
 use Rattle.spx_core.specs.NameBreaches.{BreaksCommand, BreaksCondition, BreaksExpr, BreaksName, BreaksProgram, BreaksReference, BreaksSub, IsObject, IsType, IsValue}
 use Rattle.spx_core.specs.Resolved.{declared_by, formal_names, local_names, params_of, resolved}
@@ -161,7 +161,7 @@ referred_is reference subtype h = type_is reference.root.name.place reference.ro
 same_type_named : (reference : Reference) (s subtype : Subtype) → referred_type reference ≡ Ok s → reference.root.entity ≡ Some (entity.TypeName subtype) → s ≡ subtype
 same_type_named reference s subtype h is = ok_is (sym (reference_is IsType (named_type reference.root) reference s h).0 ∙ ap (type_at reference.root.name.place) is)
 
-integer_is : (reference : Reference) (subtype : Subtype) → integer_type reference ≡ Ok subtype → (reference.root.entity ≡ Some (entity.TypeName subtype)) × (referred_type reference ≡ Ok subtype) × (has_numbers subtype.base.class ≡ true)
+integer_is : (reference : Reference) (subtype : Subtype) → ordered_type reference ≡ Ok subtype → (reference.root.entity ≡ Some (entity.TypeName subtype)) × (referred_type reference ≡ Ok subtype) × (has_numbers subtype.base.class ≡ true)
 integer_is reference subtype h =
     let s = bound (referred_type reference) _ subtype h in
     let n = bound (keeps N10 reference.root.name.place (has_numbers s.0.base.class)) _ subtype s.2 in
@@ -206,15 +206,15 @@ operation_found op at a c l r d f b h =
     by_part (keeps N12 at held) _ b h (λ e. by_test Breaks N12 at held b e (λ out. broken.result_out_of_range op at a c l r d f (and_left held lies out))) (λ _ _ h.
     by_part (keeps N12 at lies) _ b h (λ e. by_test Breaks N12 at lies b e (λ out. broken.result_out_of_range op at a c l r d f (and_right held lies out))) (λ _ _ h. absurd cc)))))
 
-member_of_type_found : (op : MemberOp) (at : Place) (a : CoreExpr) (name : Reference) (o : Typing) → HasType a o → (b : Breach) → (integer_type name >>= λ s. member_of_type op at o s) ≡ Err b → At (BreaksExpr (expr.InType op at a name)) b
+member_of_type_found : (op : MemberOp) (at : Place) (a : CoreExpr) (name : Reference) (o : Typing) → HasType a o → (b : Breach) → (ordered_type name >>= λ s. member_of_type op at o s) ≡ Err b → At (BreaksExpr (expr.InType op at a name)) b
 member_of_type_found op at a name o d b h =
     let Breaks = BreaksExpr (expr.InType op at a name) in
-    by_part (integer_type name) _ b h (λ e. type_at_fault e) (λ subtype is h.
+    by_part (ordered_type name) _ b h (λ e. type_at_fault e) (λ subtype is h.
     let named = (integer_is name subtype is).0 in
     by_part (keeps N10 at (is_of subtype.base o.of)) _ b h (λ e. by_test Breaks N10 at (is_of subtype.base o.of) b e (broken.tested_of_another_type op at a name subtype o named d)) (λ _ _ h.
     by_part (keeps N12 o.place (lies_in (Of subtype.base) o.value)) _ b h (λ e. by_test Breaks N12 o.place (lies_in (Of subtype.base) o.value) b e (broken.tested_out_of_type op at a name subtype o named d)) (λ _ _ h. absurd cc)))
   where
-    type_at_fault : integer_type name ≡ Err b → At (BreaksExpr (expr.InType op at a name)) b
+    type_at_fault : ordered_type name ≡ Err b → At (BreaksExpr (expr.InType op at a name)) b
     type_at_fault e =
         by_part (referred_type name) _ b e (λ e. broken.of_type op at a name b.rule b.place (type_reference_found name b e)) (λ subtype is e.
         by_part (keeps N10 name.root.name.place (has_numbers subtype.base.class)) _ b e
@@ -299,9 +299,9 @@ record PassesType (name : Reference) (subtype : Subtype) (o : Typing) : Type 0 w
   same_type : is_of subtype.base o.of ≡ true
   type_lies : lies_in (Of subtype.base) o.value ≡ true
 
-member_of_type_passes : (op : MemberOp) (at : Place) (name : Reference) (o t : Typing) → (integer_type name >>= λ s. member_of_type op at o s) ≡ Ok t → (subtype : Subtype) × PassesType name subtype o
+member_of_type_passes : (op : MemberOp) (at : Place) (name : Reference) (o t : Typing) → (ordered_type name >>= λ s. member_of_type op at o s) ≡ Ok t → (subtype : Subtype) × PassesType name subtype o
 member_of_type_passes op at name o t h =
-    let s = bound (integer_type name) _ t h in
+    let s = bound (ordered_type name) _ t h in
     let is = integer_is name s.0 s.1 in
     let a = bound (keeps N10 at (is_of s.0.base o.of)) _ t s.2 in
     let b = bound (keeps N12 o.place (lies_in (Of s.0.base) o.value)) _ t a.2 in
@@ -341,7 +341,7 @@ operated_passes op at a c l r t d f h =
 -- what is tested, where the name is known to denote this type
 in_type_passes : (op : MemberOp) (at : Place) (a : CoreExpr) (name : Reference) (subtype : Subtype) (o t : Typing) → name.root.entity ≡ Some (entity.TypeName subtype) → HasType a o → judged (expr.InType op at a name) ≡ Ok t → PassesType name subtype o
 in_type_passes op at a name subtype o t is d h =
-    let first = joined (λ o. integer_type name >>= λ s. member_of_type op at o s) (complete a o d) in
+    let first = joined (λ o. ordered_type name >>= λ s. member_of_type op at o s) (complete a o d) in
     let p = member_of_type_passes op at name o t (sym first ∙ sym (fold-InType expr_step op at a name) ∙ h) in
     subst (λ s. PassesType name s o) (same_type_named name p.0 subtype p.1.referred is) p.1
 

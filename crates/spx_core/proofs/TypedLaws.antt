@@ -2,7 +2,7 @@
 use Rattle.std.proofs.Common.{◌≡◌, ◌∙◌, sym, subst, Ok}
 use Rattle.spx_core.specs.declared.expression.CoreExpr.{CoreExpr}
 use Rattle.spx_core.specs.declared.rule.Typing.{Typing}
-use Rattle.spx_core.specs.Judged.{◌>>=◌, expr_step, integer_type, judged, member_of_range, member_of_type, operation, sign}
+use Rattle.spx_core.specs.Judged.{◌>>=◌, expr_step, ordered_type, judged, member_of_range, member_of_type, operation, sign}
 use Rattle.spx_core.specs.HasType.{HasType, number, name, attribute_of, parenthesized, signed, operated, in_type, in_range}
 use Rattle.spx_core.proofs.Judgements.{bound, joined, ok_is}
 use Rattle.spx_core.proofs.Callers.Expressions.{Cases, induct, fold-Number, fold-Name, fold-Attribute, fold-Parenthesized, fold-Prefix, fold-Infix, fold-InType, fold-InRange}
@@ -23,7 +23,7 @@ sound_cases = record {
       operated op place a b l.0 r.0 t (p l.0 l.1) (q r.0 r.1) r.2;
   in_type = λ op place a type_name p t h.
       let o = bound (judged a) _ t (sym (fold-InType expr_step op place a type_name) ∙ h) in
-      let s = bound (integer_type type_name) _ t o.2 in
+      let s = bound (ordered_type type_name) _ t o.2 in
       in_type op place a type_name o.0 t s.0 (p o.0 o.1) s.1 s.2;
   in_range = λ op place a low high p q r t h.
       let o = bound (judged a) _ t (sym (fold-InRange expr_step op place a low high) ∙ h) in
@@ -44,7 +44,7 @@ complete _ _ (signed op place e o t d h) = fold-Prefix expr_step op place e ∙ 
 complete _ _ (operated op place a b l r t d c h) =
     fold-Infix expr_step op place a b ∙ joined (λ l. judged b >>= λ r. operation op place l r) (complete a l d) ∙ joined (operation op place l) (complete b r c) ∙ h
 complete _ _ (in_type op place a type_name o t subtype d named h) =
-    fold-InType expr_step op place a type_name ∙ joined (λ o. integer_type type_name >>= λ s. member_of_type op place o s) (complete a o d) ∙ joined (member_of_type op place o) named ∙ h
+    fold-InType expr_step op place a type_name ∙ joined (λ o. ordered_type type_name >>= λ s. member_of_type op place o s) (complete a o d) ∙ joined (member_of_type op place o) named ∙ h
 complete _ _ (in_range op place a low high o l u t d c b h) =
     fold-InRange expr_step op place a low high ∙ joined (λ o. judged low >>= λ l. judged high >>= λ u. member_of_range op place o l u) (complete a o d)
     ∙ joined (λ l. judged high >>= λ u. member_of_range op place o l u) (complete low l c) ∙ joined (member_of_range op place o l) (complete high u b) ∙ h

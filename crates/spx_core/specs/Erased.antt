@@ -7,6 +7,9 @@ use Rattle.spx_tree.specs.declared.expression.Expr.{Expr}
 use Rattle.spx_tree.specs.declared.expression.Expr.TheVariants as expr
 use Rattle.spx_tree.specs.declared.declaration.Decl.{Decl}
 use Rattle.spx_tree.specs.declared.declaration.Decl.TheVariants as decl
+use Rattle.spx_tree.specs.declared.declaration.Range.{Range}
+use Rattle.spx_tree.specs.declared.declaration.TypeDef.{TypeDef}
+use Rattle.spx_tree.specs.declared.declaration.TypeDef.TheVariants as definition
 use Rattle.spx_tree.specs.declared.statement.Stmt.{Stmt}
 use Rattle.spx_tree.specs.declared.statement.Stmt.TheVariants as stmt
 use Rattle.spx_tree.specs.declared.statement.Arm.{Arm}
@@ -29,7 +32,10 @@ use Rattle.spx_core.specs.declared.expression.CoreExpr.{CoreExpr, CoreExpr-F, fo
 use Rattle.spx_core.specs.declared.statement.CoreStmt.{CoreStmt, CoreStmt-F, fold-CoreStmt}
 use Rattle.spx_core.specs.declared.statement.CoreArm.{CoreArm, CoreArm-F, fold-CoreArm}
 use Rattle.spx_core.specs.declared.statement.CoreDecl.{CoreDecl}
-use Rattle.spx_core.specs.declared.statement.CoreDecl.TheVariants.{Variables}
+use Rattle.spx_core.specs.declared.statement.CoreDecl.TheVariants as core_decl
+use Rattle.spx_core.specs.declared.statement.CoreRange.{CoreRange}
+use Rattle.spx_core.specs.declared.statement.CoreTypeDef.{CoreTypeDef}
+use Rattle.spx_core.specs.declared.statement.CoreTypeDef.TheVariants as core_definition
 use Rattle.spx_core.specs.declared.dependency.CoreDerivesItem.{CoreDerivesItem}
 use Rattle.spx_core.specs.declared.dependency.CoreDerives.{CoreDerives}
 use Rattle.spx_core.specs.declared.subprogram.CoreParam.{CoreParam}
@@ -83,8 +89,18 @@ erased_stmt = fold-CoreStmt Stmt Arm erased_stmt_step erased_arm_step
 abbrev pub erased_arm : CoreArm → Arm
 erased_arm = fold-CoreArm Stmt Arm erased_stmt_step erased_arm_step
 
+abbrev pub erased_range : CoreRange → Range
+erased_range range = record { low = erased_expr range.low; high = erased_expr range.high }
+
+abbrev pub erased_definition : CoreTypeDef → TypeDef
+erased_definition (core_definition.Integer range) = definition.Integer (erased_range range)
+erased_definition (core_definition.Enumeration place literals) = definition.Enumeration place (map erased_defining literals)
+
 abbrev pub erased_decl : CoreDecl → Decl
-erased_decl (Variables names type_name) = decl.Variables (map erased_defining names) (erased_reference type_name)
+erased_decl (core_decl.Variables names type_name) = decl.Variables (map erased_defining names) (erased_reference type_name)
+erased_decl (core_decl.Constants names type_name value) = decl.Constants (map erased_defining names) (option_map erased_reference type_name) (erased_expr value)
+erased_decl (core_decl.FullType name definition) = decl.FullType (erased_defining name) (erased_definition definition)
+erased_decl (core_decl.Subtype name parent range) = decl.Subtype (erased_defining name) (erased_reference parent) (option_map erased_range range)
 
 abbrev pub erased_exports : Option Place → List Reference → Exports
 erased_exports None names = exported.Names (erased_references names)

@@ -12,7 +12,7 @@ use Rattle.spx_core.specs.declared.expression.CoreExpr.{CoreExpr}
 use Rattle.spx_core.specs.declared.expression.CoreExpr.TheVariants as expr
 use Rattle.spx_core.specs.declared.rule.ExprType.TheVariants.{Universal}
 use Rattle.spx_core.specs.declared.rule.Typing.{Typing}
-use Rattle.spx_core.specs.Judged.{attribute, integer_type, member_of_range, member_of_type, named_value, operation, sign, typing}
+use Rattle.spx_core.specs.Judged.{attribute, ordered_type, member_of_range, member_of_type, named_value, operation, sign, typing}
 
 pub data HasType : CoreExpr → Typing → Type 0 where
   number : (n : ℤ) (place : Place) → HasType (expr.Number n place) (typing Universal (Some n) place)
@@ -21,5 +21,5 @@ pub data HasType : CoreExpr → Typing → Type 0 where
   parenthesized : (place : Place) (e : CoreExpr) (t : Typing) → HasType e t → HasType (expr.Parenthesized place e) (typing t.of t.value place)
   signed : (op : PrefixOp) (place : Place) (e : CoreExpr) (o t : Typing) → HasType e o → sign op place o ≡ Ok t → HasType (expr.Prefix op place e) t
   operated : (op : InfixOp) (place : Place) (a b : CoreExpr) (l r t : Typing) → HasType a l → HasType b r → operation op place l r ≡ Ok t → HasType (expr.Infix op place a b) t
-  in_type : (op : MemberOp) (place : Place) (a : CoreExpr) (name : Reference) (o t : Typing) (subtype : Subtype) → HasType a o → integer_type name ≡ Ok subtype → member_of_type op place o subtype ≡ Ok t → HasType (expr.InType op place a name) t
+  in_type : (op : MemberOp) (place : Place) (a : CoreExpr) (name : Reference) (o t : Typing) (subtype : Subtype) → HasType a o → ordered_type name ≡ Ok subtype → member_of_type op place o subtype ≡ Ok t → HasType (expr.InType op place a name) t
   in_range : (op : MemberOp) (place : Place) (a low high : CoreExpr) (o l h t : Typing) → HasType a o → HasType low l → HasType high h → member_of_range op place o l h ≡ Ok t → HasType (expr.InRange op place a low high) t

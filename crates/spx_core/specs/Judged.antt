@@ -6,7 +6,7 @@ use Rattle.spx_tree.specs.declared.expression.Identifier.{Identifier}
 use Rattle.spx_tree.specs.declared.expression.InfixOp.{InfixOp}
 use Rattle.spx_tree.specs.declared.expression.PrefixOp.{PrefixOp}
 use Rattle.spx_tree.specs.declared.expression.MemberOp.{MemberOp}
-use Rattle.spx_core.specs.declared.entity.TheConstants.{BOOLEAN}
+use Rattle.spx_core.specs.declared.entity.TheConstants.{BOOLEAN, UNIVERSAL}
 use Rattle.spx_core.specs.declared.entity.Subtype.{Subtype}
 use Rattle.spx_core.specs.declared.entity.Object.{Object}
 use Rattle.spx_core.specs.declared.entity.Entity.{Entity}
@@ -66,6 +66,17 @@ type_at place (Some other) = Err (record { rule = N3; place = place })
 abbrev pub named_type : CoreName → Judged Subtype
 named_type name = type_at name.name.place name.entity
 
+-- what an assignment may name is needed: a variable, or, as far as names and types go, a constant
+abbrev pub target_at : Place → Option Entity → Judged Subtype
+target_at place None = Err (record { rule = N1; place = place })
+target_at place (Some (entity.Variable v object)) = Ok object.subtype
+target_at place (Some (entity.Constant subtype value)) = Ok subtype
+target_at place (Some (entity.NamedNumber value)) = Ok UNIVERSAL
+target_at place (Some other) = Err (record { rule = N3; place = place })
+
+abbrev pub named_target : CoreName → Judged Subtype
+named_target name = target_at name.name.place name.entity
+
 -- an object is needed
 abbrev pub object_at : Place → Option Entity → Judged Object
 object_at place None = Err (record { rule = N1; place = place })
@@ -95,22 +106,30 @@ referred_object reference = do
   _ ← whole reference
   Ok object
 
+abbrev pub referred_target : Reference → Judged Subtype
+referred_target reference = do
+  subtype ← named_target reference.root
+  _ ← whole reference
+  Ok subtype
+
 -- ---- expressions (Ada 95 RM 4.4, 4.5, 4.9)
 
 abbrev pub typing : ExprType → Option ℤ → Place → Typing
 typing of value place = record { of = of; value = value; place = place }
 
--- a value is needed: an object has one, and a literal is one
+-- a value is needed: an object has one, a constant and a named number stand for one, and a literal is one
 abbrev pub value_at : Place → Option Entity → Judged Typing
 value_at place None = Err (record { rule = N1; place = place })
 value_at place (Some (entity.Variable v object)) = Ok (typing (Of object.subtype.base) None place)
+value_at place (Some (entity.Constant subtype n)) = Ok (typing (Of subtype.base) (Some (position_in subtype.base.class n)) place)
+value_at place (Some (entity.NamedNumber n)) = Ok (typing Universal (Some n) place)
 value_at place (Some (entity.Literal subtype position)) = Ok (typing (Of subtype.base) (Some (position_in subtype.base.class position)) place)
 value_at place (Some other) = Err (record { rule = N3; place = place })
 
 abbrev pub named_value : CoreName → Judged Typing
 named_value name = value_at name.name.place name.entity
 
--- the attributes of an integer type (Ada 95 RM 3.5)
+-- the attributes of a type that has an order (Ada 95 RM 3.5)
 abbrev pub is_first : List ℕ → Bool
 is_first designator = str_eq_ignore_ascii_case designator (codes "first")
 
@@ -152,9 +171,9 @@ operation op place left right = do
   _ ← keeps N12 place (lies_in (result_type op (left_type op left.of right.of right.value)) (result_of op left.value right.value))
   Ok (typing (result_type op (left_type op left.of right.of right.value)) (result_of op left.value right.value) place)
 
--- an integer type is needed
-abbrev pub integer_type : Reference → Judged Subtype
-integer_type reference = do
+-- a type that has an order is needed
+abbrev pub ordered_type : Reference → Judged Subtype
+ordered_type reference = do
   subtype ← referred_type reference
   _ ← keeps N10 reference.root.name.place (has_numbers subtype.base.class)
   Ok subtype
@@ -181,7 +200,7 @@ expr_step (CoreExpr-F.Attribute prefix designator) = attribute prefix designator
 expr_step (CoreExpr-F.Parenthesized place inner) = inner >>= λ e. Ok (typing e.of e.value place)
 expr_step (CoreExpr-F.Prefix op place operand) = operand >>= λ e. sign op place e
 expr_step (CoreExpr-F.Infix op place left right) = left >>= λ l. right >>= λ r. operation op place l r
-expr_step (CoreExpr-F.InType op place tested type_name) = tested >>= λ t. integer_type type_name >>= λ subtype. member_of_type op place t subtype
+expr_step (CoreExpr-F.InType op place tested type_name) = tested >>= λ t. ordered_type type_name >>= λ subtype. member_of_type op place t subtype
 expr_step (CoreExpr-F.InRange op place tested low high) = tested >>= λ t. low >>= λ l. high >>= λ h. member_of_range op place t l h
 
 abbrev pub judged : CoreExpr → Judged Typing

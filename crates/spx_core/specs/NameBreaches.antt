@@ -1,12 +1,14 @@
 -- What breaks each rule on names and types, and where: one case for each rule and each kind of part (Ada 95 RM 3.5, 4.1, 4.5, 4.9, 5.2, 5.3, 6.3, 8.3).
 -- Nothing here says in which order the parts are looked at.
-use Rattle.std.specs.Prelude.{◌≡◌, ◌⊎◌, ℤ, ◌&&◌, true, false, List, ◌++◌, Contains, Some, None}
+use Rattle.std.specs.Prelude.{◌≡◌, ◌⊎◌, ℤ, Bool, ◌&&◌, true, false, int_le, List, ◌++◌, Contains, Option, Some, None}
 use Rattle.std.specs.Str.{str_eq_ignore_ascii_case}
 use Rattle.spx_text.specs.declared.place.Place.{Place}
 use Rattle.spx_tree.specs.declared.expression.Identifier.{Identifier}
 use Rattle.spx_tree.specs.declared.expression.InfixOp.{InfixOp}
 use Rattle.spx_tree.specs.declared.expression.PrefixOp.{PrefixOp}
 use Rattle.spx_tree.specs.declared.expression.MemberOp.{MemberOp}
+use Rattle.spx_core.specs.declared.entity.TheConstants.{UNIVERSAL, WIDEST_FIRST, WIDEST_LAST}
+use Rattle.spx_core.specs.declared.entity.BaseType.{BaseType}
 use Rattle.spx_core.specs.declared.entity.Entity.{Entity}
 use Rattle.spx_core.specs.declared.entity.Entity.TheVariants as entity
 use Rattle.spx_core.specs.declared.entity.Object.{Object}
@@ -18,14 +20,18 @@ use Rattle.spx_core.specs.declared.name.Reference.{Reference}
 use Rattle.spx_core.specs.declared.name.Step.{Step}
 use Rattle.spx_core.specs.declared.expression.CoreExpr.{CoreExpr}
 use Rattle.spx_core.specs.declared.expression.CoreExpr.TheVariants as expr
-use Rattle.spx_core.specs.declared.statement.CoreDecl.TheVariants.{Variables}
+use Rattle.spx_core.specs.declared.statement.CoreDecl.{CoreDecl}
+use Rattle.spx_core.specs.declared.statement.CoreDecl.TheVariants as decl
+use Rattle.spx_core.specs.declared.statement.CoreRange.{CoreRange}
+use Rattle.spx_core.specs.declared.statement.CoreTypeDef.TheVariants as definition
 use Rattle.spx_core.specs.declared.dependency.CoreDerivesItem.{CoreDerivesItem}
 use Rattle.spx_core.specs.declared.subprogram.CoreParam.{CoreParam}
 use Rattle.spx_core.specs.declared.subprogram.CorePrecondition.{CorePrecondition}
 use Rattle.spx_core.specs.declared.subprogram.Sub.{Sub}
 use Rattle.spx_core.specs.declared.program.Program.{Program}
 use Rattle.spx_core.specs.declared.rule.RuleName.{RuleName}
-use Rattle.spx_core.specs.declared.rule.RuleName.TheVariants.{N1, N2, N3, N5, N10, N12}
+use Rattle.spx_core.specs.declared.rule.RuleName.TheVariants.{N1, N2, N3, N5, N10, N11, N12, N13}
+use Rattle.spx_core.specs.declared.rule.ExprType.{ExprType}
 use Rattle.spx_core.specs.declared.rule.ExprType.TheVariants.{Of}
 use Rattle.spx_core.specs.declared.rule.Typing.{Typing}
 use Rattle.spx_core.specs.Commands.{Command, Set, Then, Choose, commands}
@@ -33,16 +39,29 @@ use Rattle.spx_core.specs.Dependency.{relation}
 use Rattle.spx_core.specs.HasType.{HasType}
 use Rattle.spx_core.specs.Judged.{is_attribute}
 use Rattle.spx_core.specs.Resolved.{formal_names, local_names, params_of}
-use Rattle.spx_core.specs.Types.{both_held, has_numbers, is_boolean, is_held, is_of, left_type, lies_in, met, operand_fits, operands_fit, result_of, result_type, right_type, signed_result, three_fit}
+use Rattle.spx_core.specs.Types.{both_held, has_numbers, is_between, is_boolean, is_held, is_number, is_of, left_type, lies_in, met, operand_fits, operands_fit, result_of, result_type, right_type, signed_result, three_fit}
 
 -- ---- names
 
 abbrev pub IsObject : Entity → Type 0
 IsObject e = (v : VarId) × (object : Object) × (e ≡ entity.Variable v object)
 
--- what has a value: an object or a literal
+-- what has a value: an object, a constant, a named number or a literal
+abbrev pub IsConstant : Entity → Type 0
+IsConstant e = ((subtype : Subtype) × (n : ℤ) × (e ≡ entity.Constant subtype n)) ⊎ ((n : ℤ) × (e ≡ entity.NamedNumber n))
+
 abbrev pub IsValue : Entity → Type 0
-IsValue e = IsObject e ⊎ ((subtype : Subtype) × (position : ℤ) × (e ≡ entity.Literal subtype position))
+IsValue e = IsObject e ⊎ (IsConstant e ⊎ ((subtype : Subtype) × (position : ℤ) × (e ≡ entity.Literal subtype position)))
+
+-- what an assignment may name as far as rules on names go, and the type of it: an object, or a constant
+abbrev pub assigned_type : Entity → Option Subtype
+assigned_type (entity.Variable v object) = Some object.subtype
+assigned_type (entity.Constant subtype n) = Some subtype
+assigned_type (entity.NamedNumber n) = Some UNIVERSAL
+assigned_type _ = None
+
+abbrev pub IsTarget : Entity → Type 0
+IsTarget e = (subtype : Subtype) × (assigned_type e ≡ Some subtype)
 
 abbrev pub IsType : Entity → Type 0
 IsType e = (subtype : Subtype) × (e ≡ entity.TypeName subtype)
@@ -64,7 +83,7 @@ pub data BreaksReference (IsNeeded : Entity → Type 0) (reference : Reference) 
 pub data BreaksExpr : CoreExpr → RuleName → Place → Type 0 where
   -- an object or a literal is needed
   name : (name : CoreName) (rule : RuleName) (place : Place) → BreaksName IsValue name rule place → BreaksExpr (expr.Name name) rule place
-  -- an integer type is needed before the apostrophe, and `First` or `Last` after it
+  -- a type that has an order is needed before the apostrophe, and `First` or `Last` after it
   prefix : (prefix : CoreName) (designator : Identifier) (rule : RuleName) (place : Place) → BreaksName IsType prefix rule place → BreaksExpr (expr.Attribute prefix designator) rule place
   no_attribute : (prefix : CoreName) (designator : Identifier) → is_attribute designator.text ≡ false → BreaksExpr (expr.Attribute prefix designator) N3 prefix.name.place
   no_attribute_of_type : (prefix : CoreName) (designator : Identifier) (subtype : Subtype) → prefix.entity ≡ Some (entity.TypeName subtype) → has_numbers subtype.base.class ≡ false → BreaksExpr (expr.Attribute prefix designator) N3 prefix.name.place
@@ -89,11 +108,11 @@ pub data BreaksExpr : CoreExpr → RuleName → Place → Type 0 where
   -- there is no static result, since a divisor is 0, an exponent is negative or 128 bits do not hold it, or it lies outside its type
   result_out_of_range : (op : InfixOp) (at : Place) (a b : CoreExpr) (l r : Typing) → HasType a l → HasType b r
       → (both_held l.value r.value (result_of op l.value r.value) && lies_in (result_type op (left_type op l.of r.of r.value)) (result_of op l.value r.value)) ≡ false → BreaksExpr (expr.Infix op at a b) N12 at
-  -- the type of a membership test has no numbers, or what is tested is of another type, or lies outside its base type
+  -- the type of a membership test has no order, or what is tested is of another type, or lies outside its base type
   no_integer_type : (op : MemberOp) (at : Place) (a : CoreExpr) (name : Reference) (subtype : Subtype) → name.root.entity ≡ Some (entity.TypeName subtype) → has_numbers subtype.base.class ≡ false → BreaksExpr (expr.InType op at a name) N10 name.root.name.place
   tested_of_another_type : (op : MemberOp) (at : Place) (a : CoreExpr) (name : Reference) (subtype : Subtype) (o : Typing) → name.root.entity ≡ Some (entity.TypeName subtype) → HasType a o → is_of subtype.base o.of ≡ false → BreaksExpr (expr.InType op at a name) N10 at
   tested_out_of_type : (op : MemberOp) (at : Place) (a : CoreExpr) (name : Reference) (subtype : Subtype) (o : Typing) → name.root.entity ≡ Some (entity.TypeName subtype) → HasType a o → lies_in (Of subtype.base) o.value ≡ false → BreaksExpr (expr.InType op at a name) N12 o.place
-  -- the three of a test for a range are not numbers of one type, or one lies outside it
+  -- the three of a test for a range are not values of one type that has an order, or one lies outside it
   no_three : (op : MemberOp) (at : Place) (a low high : CoreExpr) (o l h : Typing) → HasType a o → HasType low l → HasType high h → three_fit o.of l.of h.of ≡ false → BreaksExpr (expr.InRange op at a low high) N10 at
   one_of_three : (op : MemberOp) (at : Place) (a low high : CoreExpr) (o l h t : Typing) → HasType a o → HasType low l → HasType high h → (t ≡ o) ⊎ ((t ≡ l) ⊎ (t ≡ h)) → lies_in (met (met o.of l.of) h.of) t.value ≡ false
       → BreaksExpr (expr.InRange op at a low high) N12 t.place
@@ -106,13 +125,13 @@ pub data BreaksCondition (e : CoreExpr) : RuleName → Place → Type 0 where
 -- ---- statements
 
 pub data BreaksCommand : Command → RuleName → Place → Type 0 where
-  target : (target : Reference) (value : CoreExpr) (rule : RuleName) (place : Place) → BreaksReference IsObject target rule place → BreaksCommand (Set target value) rule place
+  target : (target : Reference) (value : CoreExpr) (rule : RuleName) (place : Place) → BreaksReference IsTarget target rule place → BreaksCommand (Set target value) rule place
   value : (target : Reference) (value : CoreExpr) (rule : RuleName) (place : Place) → BreaksExpr value rule place → BreaksCommand (Set target value) rule place
   -- the value is of another type, or static and outside the base type of the target
-  of_another_type : (target : Reference) (value : CoreExpr) (v : VarId) (object : Object) (t : Typing) → target.root.entity ≡ Some (entity.Variable v object) → HasType value t
-      → is_of object.subtype.base t.of ≡ false → BreaksCommand (Set target value) N10 t.place
-  out_of_range : (target : Reference) (value : CoreExpr) (v : VarId) (object : Object) (t : Typing) → target.root.entity ≡ Some (entity.Variable v object) → HasType value t
-      → lies_in (Of object.subtype.base) t.value ≡ false → BreaksCommand (Set target value) N12 t.place
+  of_another_type : (target : Reference) (value : CoreExpr) (e : Entity) (subtype : Subtype) (t : Typing) → target.root.entity ≡ Some e → assigned_type e ≡ Some subtype → HasType value t
+      → is_of subtype.base t.of ≡ false → BreaksCommand (Set target value) N10 t.place
+  out_of_range : (target : Reference) (value : CoreExpr) (e : Entity) (subtype : Subtype) (t : Typing) → target.root.entity ≡ Some e → assigned_type e ≡ Some subtype → HasType value t
+      → lies_in (Of subtype.base) t.value ≡ false → BreaksCommand (Set target value) N12 t.place
   -- a part of it breaks a rule
   first : (a b : Command) (rule : RuleName) (place : Place) → BreaksCommand a rule place → BreaksCommand (Then a b) rule place
   second : (a b : Command) (rule : RuleName) (place : Place) → BreaksCommand b rule place → BreaksCommand (Then a b) rule place
@@ -120,13 +139,55 @@ pub data BreaksCommand : Command → RuleName → Place → Type 0 where
   arm : (at : Place) (c : CoreExpr) (a b : Command) (rule : RuleName) (place : Place) → BreaksCommand a rule place → BreaksCommand (Choose at c a b) rule place
   otherwise : (at : Place) (c : CoreExpr) (a b : Command) (rule : RuleName) (place : Place) → BreaksCommand b rule place → BreaksCommand (Choose at c a b) rule place
 
+-- ---- declarations
+
+-- what the bounds of a new type, or those of a subtype of this base type, must be
+abbrev pub bound_fits : Option BaseType → ExprType → Bool
+bound_fits None of = is_number of
+bound_fits (Some base) of = is_of base of
+
+-- a static value is needed
+pub data BreaksStatic (fits : ExprType → Bool) (e : CoreExpr) : RuleName → Place → Type 0 where
+  itself : (rule : RuleName) (place : Place) → BreaksExpr e rule place → BreaksStatic fits e rule place
+  no_fit : (t : Typing) → HasType e t → fits t.of ≡ false → BreaksStatic fits e N10 t.place
+  not_static : (t : Typing) → HasType e t → t.value ≡ None → BreaksStatic fits e N11 t.place
+
+-- the range of a new type, or of a subtype of this base type, whose parent has these ends
+pub data BreaksRange (base : Option BaseType) (first last : ℤ) (range : CoreRange) : RuleName → Place → Type 0 where
+  low : (rule : RuleName) (place : Place) → BreaksStatic (bound_fits base) range.low rule place → BreaksRange base first last range rule place
+  high : (rule : RuleName) (place : Place) → BreaksStatic (bound_fits base) range.high rule place → BreaksRange base first last range rule place
+  -- a bound lies outside the base type
+  bound_out_of_range : (b : BaseType) (e : CoreExpr) (t : Typing) (n : ℤ) → base ≡ Some b → (e ≡ range.low) ⊎ (e ≡ range.high) → HasType e t → t.value ≡ Some n → is_between b.first b.last n ≡ false
+      → BreaksRange base first last range N12 t.place
+  -- the range is empty, or reaches past the ends
+  bad_range : (l h : Typing) (m n : ℤ) → HasType range.low l → HasType range.high h → l.value ≡ Some m → h.value ≡ Some n → (int_le m n && (int_le first m && int_le n last)) ≡ false
+      → BreaksRange base first last range N13 l.place
+
+pub data BreaksDecl : CoreDecl → RuleName → Place → Type 0 where
+  type_name : (names : List Defining) (type_name : Reference) (rule : RuleName) (place : Place) → BreaksReference IsType type_name rule place → BreaksDecl (decl.Variables names type_name) rule place
+  -- the value of a named number is a static number
+  named_number : (names : List Defining) (value : CoreExpr) (rule : RuleName) (place : Place) → BreaksStatic is_number value rule place → BreaksDecl (decl.Constants names None value) rule place
+  -- that of a constant is a static one of its type
+  constant_type : (names : List Defining) (type_name : Reference) (value : CoreExpr) (rule : RuleName) (place : Place) → BreaksReference IsType type_name rule place → BreaksDecl (decl.Constants names (Some type_name) value) rule place
+  constant : (names : List Defining) (type_name : Reference) (value : CoreExpr) (subtype : Subtype) (rule : RuleName) (place : Place) → type_name.root.entity ≡ Some (entity.TypeName subtype)
+      → BreaksStatic (is_of subtype.base) value rule place → BreaksDecl (decl.Constants names (Some type_name) value) rule place
+  constant_out_of_range : (names : List Defining) (type_name : Reference) (value : CoreExpr) (subtype : Subtype) (t : Typing) (n : ℤ) → type_name.root.entity ≡ Some (entity.TypeName subtype) → HasType value t → t.value ≡ Some n
+      → is_between subtype.first subtype.last n ≡ false → BreaksDecl (decl.Constants names (Some type_name) value) N12 t.place
+  -- the range of a new type has a base range
+  integer_range : (name : Defining) (range : CoreRange) (rule : RuleName) (place : Place) → BreaksRange None WIDEST_FIRST WIDEST_LAST range rule place → BreaksDecl (decl.FullType name (definition.Integer range)) rule place
+  -- that of a subtype lies in its parent, which has an order
+  parent : (name : Defining) (parent : Reference) (range : Option CoreRange) (rule : RuleName) (place : Place) → BreaksReference IsType parent rule place → BreaksDecl (decl.Subtype name parent range) rule place
+  no_order : (name : Defining) (parent : Reference) (range : CoreRange) (subtype : Subtype) → parent.root.entity ≡ Some (entity.TypeName subtype) → has_numbers subtype.base.class ≡ false → BreaksDecl (decl.Subtype name parent (Some range)) N10 parent.root.name.place
+  constraint : (name : Defining) (parent : Reference) (range : CoreRange) (subtype : Subtype) (rule : RuleName) (place : Place) → parent.root.entity ≡ Some (entity.TypeName subtype)
+      → BreaksRange (Some subtype.base) subtype.first subtype.last range rule place → BreaksDecl (decl.Subtype name parent (Some range)) rule place
+
 -- ---- subprograms and programs
 
 pub data BreaksSub (sub : Sub) : RuleName → Place → Type 0 where
-  -- a formal or a local is declared before, in the same region or everywhere
+  -- a name is declared before, in the same region or everywhere
   declared_again : (d : Defining) → Contains (formal_names sub ++ local_names sub) d → d.again ≡ true → BreaksSub sub N2 d.name.place
   param_type : (param : CoreParam) (rule : RuleName) (place : Place) → Contains (params_of sub.formal_part) param → BreaksReference IsType param.type_name rule place → BreaksSub sub rule place
-  local_type : (names : List Defining) (type_name : Reference) (rule : RuleName) (place : Place) → Contains sub.declarations (Variables names type_name) → BreaksReference IsType type_name rule place → BreaksSub sub rule place
+  declaration : (d : CoreDecl) (rule : RuleName) (place : Place) → Contains sub.declarations d → BreaksDecl d rule place → BreaksSub sub rule place
   exported : (item : CoreDerivesItem) (name : Reference) (rule : RuleName) (place : Place) → Contains (relation sub) item → Contains item.exports name → BreaksReference IsObject name rule place → BreaksSub sub rule place
   imported : (item : CoreDerivesItem) (name : Reference) (rule : RuleName) (place : Place) → Contains (relation sub) item → Contains item.imports name → BreaksReference IsObject name rule place → BreaksSub sub rule place
   precondition : (pre : CorePrecondition) (rule : RuleName) (place : Place) → sub.pre ≡ Some pre → BreaksCondition pre.condition rule place → BreaksSub sub rule place

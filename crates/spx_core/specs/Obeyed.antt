@@ -139,7 +139,12 @@ reads_import sub name = keeps U11 name.name.place (variable_passes (λ v. import
 abbrev pub obeyed_pre : Sub → CorePrecondition → Judged ⊤
 obeyed_pre sub pre = each (reads_import sub) (names_read pre.condition)
 
--- ---- U2: no formal of mode `in` is assigned
+-- ---- U2: no formal of mode `in` is assigned, and no constant
+
+abbrev pub is_constant : Option Entity → Bool
+is_constant (Some (entity.Constant subtype value)) = true
+is_constant (Some (entity.NamedNumber value)) = true
+is_constant _ = false
 
 abbrev pub may_be_assigned : Option Mode → Bool
 may_be_assigned (Some In) = false
@@ -147,7 +152,7 @@ may_be_assigned _ = true
 
 abbrev pub obeyed_command : Command → Judged ⊤
 obeyed_command Skip = Ok tt
-obeyed_command (Set target value) = keeps U2 target.root.name.place (may_be_assigned (mode_named target.root))
+obeyed_command (Set target value) = keeps U2 target.root.name.place (may_be_assigned (mode_named target.root) && not (is_constant target.root.entity))
 obeyed_command (Then a b) = obeyed_command a >>= λ _. obeyed_command b
 obeyed_command (Choose place condition a b) = obeyed_command a >>= λ _. obeyed_command b
 

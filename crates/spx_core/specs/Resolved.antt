@@ -1,6 +1,6 @@
 -- The program that units are: each name stands with what it denotes at its place, and each declared name with what it declares.
 -- This is total: a name that no visible declaration explains stands with nothing.
-use Rattle.std.specs.Prelude.{ℕ, ◌+◌, List, [], ◌∷◌, ◌++◌, length, map, Option, Some, None, option_map, codes}
+use Rattle.std.specs.Prelude.{ℕ, ◌+◌, ℤ, pos, ◌-ℤ◌, Bool, ◌&&◌, if◌then◌else◌, List, [], ◌∷◌, ◌++◌, length, map, Option, Some, None, option_map, Ok, Err, codes}
 use Rattle.std.specs.List.{flat_map, range_with_len}
 use Rattle.spx_tree.specs.declared.expression.Identifier.{Identifier}
 use Rattle.spx_tree.specs.declared.expression.Name.{Name}
@@ -8,6 +8,9 @@ use Rattle.spx_tree.specs.declared.expression.Name.TheVariants.{Simple, Attribut
 use Rattle.spx_tree.specs.declared.expression.Expr.{Expr, Expr-F, fold-Expr}
 use Rattle.spx_tree.specs.declared.declaration.Decl.{Decl}
 use Rattle.spx_tree.specs.declared.declaration.Decl.TheVariants as written_decl
+use Rattle.spx_tree.specs.declared.declaration.Range.{Range}
+use Rattle.spx_tree.specs.declared.declaration.TypeDef.{TypeDef}
+use Rattle.spx_tree.specs.declared.declaration.TypeDef.TheVariants as written_definition
 use Rattle.spx_tree.specs.declared.statement.Stmt.{Stmt, Stmt-F, fold-Stmt}
 use Rattle.spx_tree.specs.declared.statement.Arm.{Arm, Arm-F, fold-Arm}
 use Rattle.spx_text.specs.declared.place.Place.{Place}
@@ -23,7 +26,12 @@ use Rattle.spx_tree.specs.declared.subprogram.FormalPart.{FormalPart}
 use Rattle.spx_tree.specs.declared.subprogram.Subprogram.{Subprogram}
 use Rattle.spx_tree.specs.declared.subprogram.Unit.{Unit}
 use Rattle.spx_tree.specs.declared.subprogram.Unit.TheVariants as unit
-use Rattle.spx_core.specs.declared.entity.TheConstants.{BOOLEAN, INTEGER, NATURAL, POSITIVE, UNIVERSAL}
+use Rattle.spx_core.specs.declared.entity.TheConstants.{BOOLEAN, INTEGER, NATURAL, POSITIVE, UNIVERSAL, WIDEST_FIRST, WIDEST_LAST}
+use Rattle.spx_core.specs.declared.entity.BaseType.{BaseType}
+use Rattle.spx_core.specs.declared.entity.Class.TheVariants as class
+use Rattle.spx_core.specs.declared.entity.Meaning.{Meaning}
+use Rattle.spx_core.specs.declared.entity.Meaning.TheVariants as meaning
+use Rattle.spx_core.specs.declared.entity.TypeId.{TypeId}
 use Rattle.spx_core.specs.declared.entity.SubId.{SubId}
 use Rattle.spx_core.specs.declared.entity.VarId.{VarId}
 use Rattle.spx_core.specs.declared.entity.Subtype.{Subtype}
@@ -45,6 +53,9 @@ use Rattle.spx_core.specs.declared.statement.CoreArm.{CoreArm}
 use Rattle.spx_core.specs.declared.statement.CoreStmt.TheVariants as stmt
 use Rattle.spx_core.specs.declared.statement.CoreDecl.{CoreDecl}
 use Rattle.spx_core.specs.declared.statement.CoreDecl.TheVariants as decl
+use Rattle.spx_core.specs.declared.statement.CoreRange.{CoreRange}
+use Rattle.spx_core.specs.declared.statement.CoreTypeDef.{CoreTypeDef}
+use Rattle.spx_core.specs.declared.statement.CoreTypeDef.TheVariants as definition
 use Rattle.spx_core.specs.declared.dependency.CoreDerivesItem.{CoreDerivesItem}
 use Rattle.spx_core.specs.declared.dependency.CoreDerives.{CoreDerives}
 use Rattle.spx_core.specs.declared.subprogram.CoreParam.{CoreParam}
@@ -55,6 +66,9 @@ use Rattle.spx_core.specs.declared.program.CoreUnit.TheVariants as core_unit
 use Rattle.spx_core.specs.declared.program.TypeRow.{TypeRow}
 use Rattle.spx_core.specs.declared.program.Var.{Var}
 use Rattle.spx_core.specs.declared.program.Program.{Program}
+use Rattle.spx_core.specs.declared.rule.Typing.{Typing}
+use Rattle.spx_core.specs.Judged.{Judged, judged}
+use Rattle.spx_core.specs.Types.{is_between}
 use Rattle.spx_core.specs.Regions.{Region, Regions, denoted, hidden, is_declared, standard, with_declaration}
 
 -- ---- names and expressions
@@ -84,6 +98,9 @@ expr_step regions (Expr-F.InRange op place tested low high) = expr.InRange op pl
 
 abbrev pub resolved_expr : Regions → Expr → CoreExpr
 resolved_expr regions = fold-Expr CoreExpr (expr_step regions)
+
+abbrev pub resolved_range : Regions → Range → CoreRange
+resolved_range regions range = record { low = resolved_expr regions range.low; high = resolved_expr regions range.high }
 
 -- ---- statements and annotations
 
@@ -141,6 +158,12 @@ object_of kind type_name = record { kind = kind; subtype = subtype_of type_name.
 abbrev pub variable_at : ℕ → Object → Entity
 variable_at position object = entity.Variable (record { 0 = position }) object
 
+-- what the name at this position denotes
+abbrev pub meant_at : Meaning → ℕ → Entity
+meant_at (meaning.Variables object) position = variable_at position object
+meant_at (meaning.Literals subtype) position = entity.Literal subtype (pos position)
+meant_at (meaning.Each entity) position = entity
+
 -- a name that is declared in a region
 abbrev pub defining : Region → Entity → Identifier → Defining
 defining region entity name = record { name = name; entity = entity; again = is_declared region name.text }
@@ -153,11 +176,68 @@ abbrev pub declaring_all : Region → List Defining → Region
 declaring_all region [] = region
 declaring_all region (d ∷ ds) = declaring_all (declaring region d) ds
 
--- names of variables, the first of which has this position
-abbrev pub defining_all : Region → Object → ℕ → List Identifier → List Defining
-defining_all region object position [] = []
-defining_all region object position (name ∷ names) =
-    defining region (variable_at position object) name ∷ defining_all (declaring region (defining region (variable_at position object) name)) object (position + 1) names
+-- the names of a declaration, the first of which has this position
+abbrev pub defining_all : Region → Meaning → ℕ → List Identifier → List Defining
+defining_all region meaning position [] = []
+defining_all region meaning position (name ∷ names) =
+    defining region (meant_at meaning position) name ∷ defining_all (declaring region (defining region (meant_at meaning position) name)) meaning (position + 1) names
+
+-- ---- declared types and values (Ada 95 RM 3.2.2, 3.3, 3.5)
+
+-- the value of an expression that breaks no rule, if it is static
+abbrev pub value_in : Judged Typing → Option ℤ
+value_in (Ok t) = t.value
+value_in (Err breach) = None
+
+abbrev pub static_value : CoreExpr → Option ℤ
+static_value e = value_in (judged e)
+
+-- the type at this position
+abbrev pub id_at : ℕ → TypeId
+id_at position = record { 0 = position }
+
+abbrev pub is_in_integer : ℤ → Bool
+is_in_integer n = is_between INTEGER.first INTEGER.last n
+
+-- a type has the base range of `Integer`, or, where that is too small, the widest one
+abbrev pub integer_base : TypeId → ℤ → ℤ → BaseType
+integer_base id first last =
+    if is_in_integer first && is_in_integer last
+    then record { id = id; class = class.Integer; first = INTEGER.first; last = INTEGER.last }
+    else record { id = id; class = class.Integer; first = WIDEST_FIRST; last = WIDEST_LAST }
+
+-- a new type of the numbers between two; where one of them is not static, a rule is broken, and it counts as that of universal numbers
+abbrev pub integer_type : ℕ → Option ℤ → Option ℤ → Subtype
+integer_type position (Some first) (Some last) = record { id = id_at position; base = integer_base (id_at position) first last; first = first; last = last }
+integer_type position low high = UNIVERSAL
+
+-- a new type of so many literals
+abbrev pub enumeration_base : TypeId → ℕ → BaseType
+enumeration_base id count = record { id = id; class = class.Enumeration; first = pos 0; last = pos count -ℤ pos 1 }
+
+abbrev pub enumeration_type : ℕ → ℕ → Subtype
+enumeration_type position count =
+    record { id = id_at position; base = enumeration_base (id_at position) count; first = pos 0; last = pos count -ℤ pos 1 }
+
+-- the values of a base type between two
+abbrev pub bounded : ℕ → BaseType → Option ℤ → Option ℤ → Subtype
+bounded position base (Some first) (Some last) = record { id = id_at position; base = base; first = first; last = last }
+bounded position base low high = UNIVERSAL
+
+-- a subtype of this one: with its values, or those of a range
+abbrev pub narrowed : ℕ → Subtype → Option CoreRange → Subtype
+narrowed position parent None = record { id = id_at position; base = parent.base; first = parent.first; last = parent.last }
+narrowed position parent (Some range) = bounded position parent.base (static_value range.low) (static_value range.high)
+
+-- what is not static breaks a rule, and counts as 0
+abbrev pub or_zero : Option ℤ → ℤ
+or_zero (Some n) = n
+or_zero None = pos 0
+
+-- what constants with this type name denote, if there is one
+abbrev pub constant_of : Option Reference → Option ℤ → Entity
+constant_of None value = entity.NamedNumber (or_zero value)
+constant_of (Some type_name) value = entity.Constant (subtype_of type_name.root.entity) (or_zero value)
 
 -- ---- declarations
 
@@ -168,39 +248,104 @@ mode_of (written.In place) = mode.In
 mode_of written.Out = mode.Out
 mode_of (written.InOut place) = mode.InOut
 
--- the names that a declaration declares
+-- the names that a declaration declares, in their order
+abbrev pub declared_by_definition : CoreTypeDef → List Defining
+declared_by_definition (definition.Integer range) = []
+declared_by_definition (definition.Enumeration place literals) = literals
+
 abbrev pub declared_by : CoreDecl → List Defining
 declared_by (decl.Variables names type_name) = names
+declared_by (decl.Constants names type_name value) = names
+declared_by (decl.FullType name definition) = name ∷ declared_by_definition definition
+declared_by (decl.Subtype name parent range) = name ∷ []
+
+-- those of them that are variables
+abbrev pub variables_by : CoreDecl → List Defining
+variables_by (decl.Variables names type_name) = names
+variables_by _ = []
+
+-- the row of the table of types that a name of a type has
+abbrev pub row_of : Defining → TypeRow
+row_of d = record { name = d.name.text; subtype = subtype_of (Some d.entity) }
+
+abbrev pub rows_by : CoreDecl → List TypeRow
+rows_by (decl.FullType name definition) = row_of name ∷ []
+rows_by (decl.Subtype name parent range) = row_of name ∷ []
+rows_by _ = []
+
+-- how many variables and types stand before a declaration
+pub record Counts : Type 0 where
+  pub vars : ℕ
+  pub types : ℕ
+
+abbrev pub counted : Counts → CoreDecl → Counts
+counted before d = record { vars = before.vars + length (variables_by d); types = before.types + length (rows_by d) }
 
 -- formals with this type name
 abbrev pub param_of : Region → ℕ → Param → Reference → CoreParam
 param_of region position param type_name =
-    record { names = defining_all region (object_of (Formal (mode_of param.mode)) type_name) position param.names; mode = param.mode; type_name = type_name }
+    record { names = defining_all region (meaning.Variables (object_of (Formal (mode_of param.mode)) type_name)) position param.names; mode = param.mode; type_name = type_name }
 
 -- variables with this type name
 abbrev pub variables_of : Region → ℕ → List Identifier → Reference → CoreDecl
-variables_of region position names type_name = decl.Variables (defining_all region (object_of Local type_name) position names) type_name
+variables_of region position names type_name = decl.Variables (defining_all region (meaning.Variables (object_of Local type_name)) position names) type_name
 
--- The declarations of a region inside others: each sees those before it, and not itself. The first variable has this position.
+-- constants of this value
+abbrev pub constants_of : Region → List Identifier → Option Reference → CoreExpr → CoreDecl
+constants_of region names type_name value = decl.Constants (defining_all region (meaning.Each (constant_of type_name (static_value value))) 0 names) type_name value
+
+-- a type of the numbers of a range
+abbrev pub integer_decl : Region → ℕ → Identifier → CoreRange → CoreDecl
+integer_decl region position name range =
+    decl.FullType (defining region (entity.TypeName (integer_type position (static_value range.low) (static_value range.high))) name) (definition.Integer range)
+
+-- a type of these literals, the name of which is declared before them
+abbrev pub literals_of : Region → Defining → Subtype → Place → List Identifier → CoreDecl
+literals_of region name subtype place literals =
+    decl.FullType name (definition.Enumeration place (defining_all (declaring region name) (meaning.Literals subtype) 0 literals))
+
+abbrev pub enumeration_decl : Region → ℕ → Identifier → Place → List Identifier → CoreDecl
+enumeration_decl region position name place literals =
+    literals_of region (defining region (entity.TypeName (enumeration_type position (length literals))) name) (enumeration_type position (length literals)) place literals
+
+-- a subtype of the one that is named
+abbrev pub subtype_decl : Region → ℕ → Identifier → Reference → Option CoreRange → CoreDecl
+subtype_decl region position name parent range =
+    decl.Subtype (defining region (entity.TypeName (narrowed position (subtype_of parent.root.entity) range)) name) parent range
+
+-- The declarations of a region inside others: each sees those before it, and not itself.
 module _ (outer : Regions) where
-  abbrev pub resolved_param : Region → ℕ → Param → CoreParam
-  resolved_param region position param = param_of region position param (resolved_reference (hidden param.names ∷ region ∷ outer) param.type_name)
+  -- around what a declaration of these names says
+  abbrev pub around_names : Region → List Identifier → Regions
+  around_names region names = hidden names ∷ region ∷ outer
 
+  abbrev pub resolved_param : Region → ℕ → Param → CoreParam
+  resolved_param region position param = param_of region position param (resolved_reference (around_names region param.names) param.type_name)
+
+  -- the first variable has this position
   abbrev pub resolved_params : Region → ℕ → List Param → List CoreParam
   resolved_params region position [] = []
   resolved_params region position (p ∷ ps) =
       resolved_param region position p
       ∷ resolved_params (declaring_all region (resolved_param region position p).names) (position + length (resolved_param region position p).names) ps
 
-  abbrev pub resolved_decl : Region → ℕ → Decl → CoreDecl
-  resolved_decl region position (written_decl.Variables names type_name) =
-      variables_of region position names (resolved_reference (hidden names ∷ region ∷ outer) type_name)
+  abbrev pub resolved_type : Region → Counts → Identifier → TypeDef → CoreDecl
+  resolved_type region before name (written_definition.Integer range) = integer_decl region before.types name (resolved_range (around_names region (name ∷ [])) range)
+  resolved_type region before name (written_definition.Enumeration place literals) = enumeration_decl region before.types name place literals
 
-  abbrev pub resolved_decls : Region → ℕ → List Decl → List CoreDecl
-  resolved_decls region position [] = []
-  resolved_decls region position (d ∷ ds) =
-      resolved_decl region position d
-      ∷ resolved_decls (declaring_all region (declared_by (resolved_decl region position d))) (position + length (declared_by (resolved_decl region position d))) ds
+  abbrev pub resolved_decl : Region → Counts → Decl → CoreDecl
+  resolved_decl region before (written_decl.Variables names type_name) = variables_of region before.vars names (resolved_reference (around_names region names) type_name)
+  resolved_decl region before (written_decl.Constants names type_name value) =
+      constants_of region names (option_map (resolved_reference (around_names region names)) type_name) (resolved_expr (around_names region names) value)
+  resolved_decl region before (written_decl.FullType name definition) = resolved_type region before name definition
+  resolved_decl region before (written_decl.Subtype name parent range) =
+      subtype_decl region before.types name (resolved_reference (around_names region (name ∷ [])) parent) (option_map (resolved_range (around_names region (name ∷ []))) range)
+
+  abbrev pub resolved_decls : Region → Counts → List Decl → List CoreDecl
+  resolved_decls region before [] = []
+  resolved_decls region before (d ∷ ds) =
+      resolved_decl region before d
+      ∷ resolved_decls (declaring_all region (declared_by (resolved_decl region before d))) (counted before (resolved_decl region before d)) ds
 
 -- what these declare
 abbrev pub declared_by_params : List CoreParam → List Defining
@@ -208,6 +353,12 @@ declared_by_params params = flat_map (λ (param : CoreParam). param.names) param
 
 abbrev pub declared_by_decls : List CoreDecl → List Defining
 declared_by_decls decls = flat_map declared_by decls
+
+abbrev pub variables_by_decls : List CoreDecl → List Defining
+variables_by_decls decls = flat_map variables_by decls
+
+abbrev pub rows_by_decls : List CoreDecl → List TypeRow
+rows_by_decls decls = flat_map rows_by decls
 
 -- ---- subprograms
 
@@ -220,6 +371,9 @@ formal_names sub = declared_by_params (params_of sub.formal_part)
 
 abbrev pub local_names : Sub → List Defining
 local_names sub = declared_by_decls sub.declarations
+
+abbrev pub local_variables : Sub → List Defining
+local_variables sub = variables_by_decls sub.declarations
 
 -- so many variables, from this position on
 abbrev pub positions : ℕ → List Defining → List VarId
@@ -237,6 +391,10 @@ around_body name = declaring [] name ∷ standard ∷ []
 abbrev pub resolved_formal_part : Identifier → ℕ → FormalPart → CoreFormalPart
 resolved_formal_part name position part = record { place = part.place; params = resolved_params (around_formals name) [] position part.params }
 
+-- how many variables and types stand before its declarations
+abbrev pub after_formals : Counts → Option CoreFormalPart → Counts
+after_formals before part = record { vars = before.vars + length (declared_by_params (params_of part)); types = before.types }
+
 -- the subprogram of which these parts are resolved, and whose first variable has this position
 abbrev pub sub_of : Defining → ℕ → Subprogram → Option CoreFormalPart → List CoreDecl → Sub
 sub_of name position s part decls = record {
@@ -249,18 +407,17 @@ sub_of name position s part decls = record {
   statements = map (resolved_stmt (declaring_all [] (declared_by_params (params_of part) ++ declared_by_decls decls) ∷ around_body name)) s.statements;
   end = s.end;
   end_name = s.end_name;
-  vars = positions position (declared_by_params (params_of part) ++ declared_by_decls decls);
+  vars = positions position (declared_by_params (params_of part) ++ variables_by_decls decls);
   formal_count = length (declared_by_params (params_of part));
 }
 
 -- its declarations are seen after the formals
-abbrev pub with_formals : Defining → ℕ → Subprogram → Option CoreFormalPart → Sub
-with_formals name position s part =
-    sub_of name position s part
-    (resolved_decls (around_body name) (declaring_all [] (declared_by_params (params_of part))) (position + length (declared_by_params (params_of part))) s.declarations)
+abbrev pub with_formals : Defining → Counts → Subprogram → Option CoreFormalPart → Sub
+with_formals name before s part =
+    sub_of name before.vars s part (resolved_decls (around_body name) (declaring_all [] (declared_by_params (params_of part))) (after_formals before part) s.declarations)
 
-abbrev pub resolved_sub : Defining → ℕ → Subprogram → Sub
-resolved_sub name position s = with_formals name position s (option_map (resolved_formal_part s.name position) s.formal_part)
+abbrev pub resolved_sub : Defining → Counts → Subprogram → Sub
+resolved_sub name before s = with_formals name before s (option_map (resolved_formal_part s.name before.vars) s.formal_part)
 
 -- ---- programs
 
@@ -273,18 +430,26 @@ abbrev pub var_of : Defining → Var
 var_of d = var_in d.name.text d.entity
 
 abbrev pub own_vars : Sub → List Var
-own_vars sub = map var_of (formal_names sub ++ local_names sub)
+own_vars sub = map var_of (formal_names sub ++ local_variables sub)
+
+-- the rows of the types that it declares
+abbrev pub own_types : Sub → List TypeRow
+own_types sub = rows_by_decls sub.declarations
+
+-- how many stand before the next subprogram
+abbrev pub counted_sub : Counts → Sub → Counts
+counted_sub before sub = record { vars = before.vars + length (own_vars sub); types = before.types + length (own_types sub) }
 
 -- the name of the unit at this position, after those before it
 abbrev pub unit_name : Region → ℕ → Subprogram → Defining
 unit_name library position s = defining library (entity.Subprogram (record { 0 = position })) s.name
 
--- the units from a position on, whose variables stand after so many; the library has the names of the units before them
-abbrev pub resolved_subs : Region → ℕ → ℕ → List Unit → List Sub
-resolved_subs library position first [] = []
-resolved_subs library position first (unit.Subprogram s ∷ units) =
-    resolved_sub (unit_name library position s) first s
-    ∷ resolved_subs (declaring library (unit_name library position s)) (position + 1) (first + length (own_vars (resolved_sub (unit_name library position s) first s))) units
+-- the units from a position on, after so many variables and types; the library has the names of the units before them
+abbrev pub resolved_subs : Region → ℕ → Counts → List Unit → List Sub
+resolved_subs library position before [] = []
+resolved_subs library position before (unit.Subprogram s ∷ units) =
+    resolved_sub (unit_name library position s) before s
+    ∷ resolved_subs (declaring library (unit_name library position s)) (position + 1) (counted_sub before (resolved_sub (unit_name library position s) before s)) units
 
 -- the predefined types, each at the position that is its id
 abbrev pub standard_types : List TypeRow
@@ -308,11 +473,15 @@ sub_ids subs = map sub_at (range_with_len 0 (length subs))
 abbrev pub program_of : List Sub → Program
 program_of subs = record {
   units = map core_unit.Subprogram (sub_ids subs);
-  types = standard_types;
+  types = standard_types ++ flat_map own_types subs;
   vars = flat_map own_vars subs;
   subs = subs;
   bodies = sub_ids subs;
 }
 
+-- before the first unit, only predefined types
+abbrev pub at_start : Counts
+at_start = record { vars = 0; types = length standard_types }
+
 abbrev pub resolved : List Unit → Program
-resolved units = program_of (resolved_subs [] 0 0 units)
+resolved units = program_of (resolved_subs [] 0 at_start units)

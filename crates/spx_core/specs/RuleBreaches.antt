@@ -1,6 +1,6 @@
 -- What breaks each rule on variables, and where: one case for each rule (Barnes, High Integrity Software).
 -- Nothing here says in which order the rules are looked at.
-use Rattle.std.specs.Prelude.{◌≡◌, ◌⊎◌, false, List, ◌∷◌, ◌++◌, Contains, IsSome, Some}
+use Rattle.std.specs.Prelude.{◌≡◌, ◌⊎◌, true, false, List, ◌∷◌, ◌++◌, Contains, IsSome, Some}
 use Rattle.std.specs.List.{flat_map}
 use Rattle.spx_text.specs.declared.place.Place.{Place}
 use Rattle.spx_core.specs.declared.entity.VarId.{VarId}
@@ -19,7 +19,7 @@ use Rattle.spx_core.specs.Reads.{names_read}
 use Rattle.spx_core.specs.Uses.{variable_of}
 use Rattle.spx_core.specs.Dependency.{exports, imports, relation, variables}
 use Rattle.spx_core.specs.Formals.{formals, is_formal, mode_of}
-use Rattle.spx_core.specs.Obeyed.{mode_named, place_or, unused_imports}
+use Rattle.spx_core.specs.Obeyed.{is_constant, mode_named, place_or, unused_imports}
 use Rattle.spx_core.specs.Rules.{agrees}
 
 -- ---- U7
@@ -72,4 +72,5 @@ pub data BreaksRule (p : Program) (sub : Sub) : RuleName → Place → Type 0 wh
   bad_derives : HasBadDerives sub → BreaksRule p sub U7 (place_or sub.place sub.derives)
   mode_disagrees : (name : Reference) (v : VarId) → IsInRelation sub name → IsVariable name.root v → Disagrees p sub v → BreaksRule p sub U8 name.root.name.place
   not_imported : (pre : CorePrecondition) (name : CoreName) (v : VarId) → sub.pre ≡ Some pre → Contains (names_read pre.condition) name → IsVariable name v → imports v sub ≡ false → BreaksRule p sub U11 name.name.place
+  constant_assigned : (target : Reference) → Assigns (commands sub.statements) target → is_constant target.root.entity ≡ true → BreaksRule p sub U2 target.root.name.place
   input_assigned : (target : Reference) → Assigns (commands sub.statements) target → mode_named target.root ≡ Some In → BreaksRule p sub U2 target.root.name.place

@@ -1,23 +1,32 @@
 -- The static rules on declarations, statements, subprograms and programs, in the order of the text.
-use Rattle.std.specs.Prelude.{◌≡◌, ⊤, not, List, Option, Ok}
+use Rattle.std.specs.Prelude.{◌≡◌, ⊤, ℤ, not, ◌&&◌, int_le, List, Option, Some, None, Ok, Err}
 use Rattle.std.specs.Str.{str_eq_ignore_ascii_case}
+use Rattle.spx_text.specs.declared.place.Place.{Place}
 use Rattle.spx_tree.specs.declared.expression.Identifier.{Identifier}
+use Rattle.spx_core.specs.declared.entity.TheConstants.{WIDEST_FIRST, WIDEST_LAST}
+use Rattle.spx_core.specs.declared.entity.BaseType.{BaseType}
+use Rattle.spx_core.specs.declared.entity.Subtype.{Subtype}
 use Rattle.spx_core.specs.declared.name.Defining.{Defining}
 use Rattle.spx_core.specs.declared.name.Reference.{Reference}
 use Rattle.spx_core.specs.declared.expression.CoreExpr.{CoreExpr}
 use Rattle.spx_core.specs.declared.statement.CoreDecl.{CoreDecl}
-use Rattle.spx_core.specs.declared.statement.CoreDecl.TheVariants.{Variables}
+use Rattle.spx_core.specs.declared.statement.CoreDecl.TheVariants as decl
+use Rattle.spx_core.specs.declared.statement.CoreRange.{CoreRange}
+use Rattle.spx_core.specs.declared.statement.CoreTypeDef.{CoreTypeDef}
+use Rattle.spx_core.specs.declared.statement.CoreTypeDef.TheVariants as definition
 use Rattle.spx_core.specs.declared.dependency.CoreDerivesItem.{CoreDerivesItem}
 use Rattle.spx_core.specs.declared.subprogram.CoreParam.{CoreParam}
 use Rattle.spx_core.specs.declared.subprogram.CorePrecondition.{CorePrecondition}
 use Rattle.spx_core.specs.declared.subprogram.Sub.{Sub}
 use Rattle.spx_core.specs.declared.program.Program.{Program}
 use Rattle.spx_core.specs.declared.rule.Breach.{Breach}
-use Rattle.spx_core.specs.declared.rule.RuleName.TheVariants.{N2, N5}
+use Rattle.spx_core.specs.declared.rule.RuleName.TheVariants.{N2, N5, N10, N11, N12, N13}
+use Rattle.spx_core.specs.declared.rule.Typing.{Typing}
 use Rattle.spx_core.specs.Commands.{Command, Skip, Set, Then, Choose, commands}
 use Rattle.spx_core.specs.Dependency.{relation}
-use Rattle.spx_core.specs.Judged.{Judged, ◌>>=◌, breach_in, condition, each, if_there, judged, keeps, operand_of, referred_object, referred_type}
+use Rattle.spx_core.specs.Judged.{Judged, ◌>>=◌, breach_in, condition, each, if_there, judged, keeps, operand_of, referred_object, referred_target, referred_type}
 use Rattle.spx_core.specs.Resolved.{params_of, resolved}
+use Rattle.spx_core.specs.Types.{has_numbers, is_between, is_number, is_of}
 use Rattle.spx_tree.specs.declared.subprogram.Unit.{Unit}
 
 -- ---- declarations (Ada 95 RM 3.3, 8.3)
@@ -32,8 +41,64 @@ declared names type_name = each declared_once names >>= λ _. referred_type type
 abbrev pub judged_param : CoreParam → Judged ⊤
 judged_param param = declared param.names param.type_name
 
+-- a static value is needed
+abbrev pub static_at : Place → Option ℤ → Judged ℤ
+static_at place (Some n) = Ok n
+static_at place None = Err (record { rule = N11; place = place })
+
+-- a static number of any integer type is needed
+abbrev pub static_number : Typing → Judged ℤ
+static_number e = do
+  _ ← keeps N10 e.place (is_number e.of)
+  static_at e.place e.value
+
+-- a static value of this base type is needed, between two of its values
+abbrev pub static_between : BaseType → (first last : ℤ) → Typing → Judged ℤ
+static_between base first last e = do
+  _ ← keeps N10 e.place (is_of base e.of)
+  n ← static_at e.place e.value
+  _ ← keeps N12 e.place (is_between first last n)
+  Ok n
+
+-- a bound: of a new type, a number of any integer type (RM 3.5.4); of a subtype, a value of the base type (RM 3.2.2)
+abbrev pub bound : Option BaseType → Typing → Judged ℤ
+bound None e = static_number e
+bound (Some base) e = static_between base base.first base.last e
+
+-- the range is not empty, and lies between two ends
+abbrev pub range_within : Option BaseType → (first last : ℤ) → CoreRange → Judged ⊤
+range_within base first last range = do
+  l ← judged range.low
+  low ← bound base l
+  h ← judged range.high
+  high ← bound base h
+  keeps N13 l.place (int_le low high && (int_le first low && int_le high last))
+
+-- the numbers of a range, in the widest base range (RM 3.5.4), or literals, each of which is a name (RM 3.5.1)
+abbrev pub judged_definition : CoreTypeDef → Judged ⊤
+judged_definition (definition.Integer range) = range_within None WIDEST_FIRST WIDEST_LAST range
+judged_definition (definition.Enumeration place literals) = each declared_once literals
+
+-- a subtype of this one, which is named at the place; for a range it must have an order (RM 3.2.2)
+abbrev pub judged_constraint : Place → Subtype → Option CoreRange → Judged ⊤
+judged_constraint place parent None = Ok tt
+judged_constraint place parent (Some range) = do
+  _ ← keeps N10 place (has_numbers parent.base.class)
+  range_within (Some parent.base) parent.first parent.last range
+
+-- the value of a named number is a static number (RM 3.3.2), that of a constant a static one of its type (RM 3.3.1)
+abbrev pub judged_value : Option Reference → CoreExpr → Judged ℤ
+judged_value None value = judged value >>= static_number
+judged_value (Some type_name) value = do
+  subtype ← referred_type type_name
+  e ← judged value
+  static_between subtype.base subtype.first subtype.last e
+
 abbrev pub judged_decl : CoreDecl → Judged ⊤
-judged_decl (Variables names type_name) = declared names type_name
+judged_decl (decl.Variables names type_name) = declared names type_name
+judged_decl (decl.Constants names type_name value) = each declared_once names >>= λ _. judged_value type_name value >>= λ _. Ok tt
+judged_decl (decl.FullType name definition) = declared_once name >>= λ _. judged_definition definition
+judged_decl (decl.Subtype name parent range) = declared_once name >>= λ _. referred_type parent >>= λ subtype. judged_constraint parent.root.name.place subtype range
 
 -- ---- annotations
 
@@ -54,9 +119,9 @@ judged_pre pre = test pre.condition
 
 abbrev pub assignment : Reference → CoreExpr → Judged ⊤
 assignment target value = do
-  object ← referred_object target
+  subtype ← referred_target target
   v ← judged value
-  operand_of object.subtype v
+  operand_of subtype v
 
 abbrev pub judged_command : Command → Judged ⊤
 judged_command Skip = Ok tt

@@ -18,19 +18,34 @@ use Rattle.spx_core.specs.declared.rule.ExprType.TheVariants.{Universal, Of}
 
 -- ---- where expressions of a type fit
 
--- numbers are the values
-abbrev pub has_numbers : Class → Bool
-has_numbers class.Integer = true
-has_numbers class.Boolean = false
+-- the values are numbers, with arithmetic
+abbrev pub is_numeric : Class → Bool
+is_numeric class.Integer = true
+is_numeric class.Boolean = false
+is_numeric class.Enumeration = false
 
--- truth values are
+-- the values are literals
+abbrev pub has_literals : Class → Bool
+has_literals class.Integer = false
+has_literals class.Boolean = false
+has_literals class.Enumeration = true
+
+-- the values are truth values
 abbrev pub has_truths : Class → Bool
 has_truths class.Integer = false
 has_truths class.Boolean = true
+has_truths class.Enumeration = false
+
+-- numbers stand for the values: a literal is its position
+abbrev pub has_numbers : Class → Bool
+has_numbers class.Integer = true
+has_numbers class.Boolean = false
+has_numbers class.Enumeration = true
 
 abbrev pub same_class : Class → Class → Bool
-same_class class.Integer other = has_numbers other
+same_class class.Integer other = is_numeric other
 same_class class.Boolean other = has_truths other
+same_class class.Enumeration other = has_literals other
 
 -- one base type has one id, and one class
 abbrev pub same_base : BaseType → BaseType → Bool
@@ -38,12 +53,17 @@ same_base a b = a.id.0 == b.id.0 && same_class a.class b.class
 
 -- a universal number is of any integer type
 abbrev pub is_of : BaseType → ExprType → Bool
-is_of base Universal = has_numbers base.class
+is_of base Universal = is_numeric base.class
 is_of base (Of other) = same_base base other
 
 abbrev pub is_number : ExprType → Bool
 is_number Universal = true
-is_number (Of base) = has_numbers base.class
+is_number (Of base) = is_numeric base.class
+
+-- the values have an order, and an end on each side: all but truth values (Ada 95 RM 3.5)
+abbrev pub is_ordered : ExprType → Bool
+is_ordered Universal = true
+is_ordered (Of base) = has_numbers base.class
 
 abbrev pub is_boolean : ExprType → Bool
 is_boolean Universal = false
@@ -64,6 +84,10 @@ abbrev pub operands_fit : InfixOp → ExprType → ExprType → Bool
 operands_fit op.Power left right = is_number left && is_of INTEGER.base right
 operands_fit op.Equal left right = meet left right
 operands_fit op.NotEqual left right = meet left right
+operands_fit op.Less left right = is_ordered left && meet left right
+operands_fit op.LessOrEqual left right = is_ordered left && meet left right
+operands_fit op.Greater left right = is_ordered left && meet left right
+operands_fit op.GreaterOrEqual left right = is_ordered left && meet left right
 operands_fit op.And left right = is_boolean left && is_boolean right
 operands_fit op.Or left right = is_boolean left && is_boolean right
 operands_fit op.Xor left right = is_boolean left && is_boolean right
@@ -90,9 +114,9 @@ abbrev pub operand_fits : PrefixOp → ExprType → Bool
 operand_fits sign.Not operand = is_boolean operand
 operand_fits _ operand = is_number operand
 
--- three numbers of one type
+-- three values of one type that has an order
 abbrev pub three_fit : ExprType → ExprType → ExprType → Bool
-three_fit first second third = is_number first && (meet first second && meet (met first second) third)
+three_fit first second third = is_ordered first && (meet first second && meet (met first second) third)
 
 -- ---- values
 
@@ -124,6 +148,7 @@ is_true n = not (int_eq n (pos 0))
 abbrev pub position_in : Class → ℤ → ℤ
 position_in class.Integer n = n
 position_in class.Boolean n = truth (is_true n)
+position_in class.Enumeration n = n
 
 -- the value of an operation; numbers have no bound
 abbrev pub operated : InfixOp → ℤ → ℤ → ℤ

@@ -1,6 +1,7 @@
 // What names denote (Ada 95 RM 3.1, 8.3).
 ghost use Rattle.std.specs.Prelude.{◌≡◌};
 ghost use Rattle.spx_core.specs.Uses.{variable_of};
+ghost use Rattle.spx_core.specs.Resolved.{meant_at};
 
 /// A variable, by its position in the program's list.
 #[derive(Clone, Copy, Debug, PartialEq, Eq, Hash)]
@@ -21,6 +22,8 @@ pub enum Class {
     Integer,
     /// Truth values (RM 3.5.3). The position of `False` is 0, that of `True` is 1.
     Boolean,
+    /// The literals of an enumeration type (RM 3.5.1), each by its position, from 0.
+    Enumeration,
 }
 
 /// A base type: the values of its class from `first` to `last`, which are numbers or positions (Ada 95 RM 3.5).
@@ -103,6 +106,11 @@ pub const POSITIVE: Subtype = Subtype {
     last: INTEGER_LAST,
 };
 
+/// The first number of the widest base type (Ada 95 RM 3.5.4).
+pub const WIDEST_FIRST: i128 = -9223372036854775808;
+/// The last number of the widest base type.
+pub const WIDEST_LAST: i128 = 9223372036854775807;
+
 /// The mode of a formal parameter (Ada 95 RM 6.1).
 #[derive(Clone, Copy, Debug, PartialEq, Eq)]
 pub enum Mode {
@@ -132,9 +140,37 @@ pub struct Object {
 pub enum Entity {
     TypeName(Subtype),
     Variable(VarId, Object),
+    /// A constant of this type, by its value, which is static (RM 3.3.1, 4.9). A value of no number is its position.
+    Constant(Subtype, i128),
+    /// A named number, which is of a universal type (RM 3.3.2).
+    NamedNumber(i128),
     /// An enumeration literal of this type, by its position (Ada 95 RM 3.5.1).
     Literal(Subtype, i128),
     Subprogram(SubId),
+}
+
+/// What the names of one declaration denote.
+#[derive(Clone, Copy, Debug, PartialEq, Eq)]
+pub enum Meaning {
+    /// Variables, one after another.
+    Variables(Object),
+    /// The literals of an enumeration type, in their order.
+    Literals(Subtype),
+    /// All the same.
+    Each(Entity),
+}
+
+impl Meaning {
+    /// What the name at this position denotes. The positions of variables are those in the program's list.
+    pub fn at(&self, position: usize) -> Entity
+        ensures { result ≡ meant_at self.now position }
+    {
+        match self {
+            Meaning::Variables(object) => Entity::Variable(VarId(position), *object),
+            Meaning::Literals(subtype) => Entity::Literal(*subtype, position as i128),
+            Meaning::Each(entity) => *entity,
+        }
+    }
 }
 
 /// The variable that is denoted, if it is one.

@@ -20,13 +20,14 @@ mod vars;
 
 pub use dependency::{CoreDerives, CoreDerivesItem};
 pub use entity::{
-    BOOLEAN, BaseType, Class, Entity, INTEGER, INTEGER_FIRST, INTEGER_LAST, Mode, NATURAL, Object,
-    POSITIVE, SubId, Subtype, TypeId, UNIVERSAL, VarId, VarKind, variable_of,
+    BOOLEAN, BaseType, Class, Entity, INTEGER, INTEGER_FIRST, INTEGER_LAST, Meaning, Mode, NATURAL,
+    Object, POSITIVE, SubId, Subtype, TypeId, UNIVERSAL, VarId, VarKind, WIDEST_FIRST, WIDEST_LAST,
+    variable_of,
 };
 pub use expression::CoreExpr;
 pub use name::{CoreName, Defining, Reference, Step};
 pub use program::{CoreUnit, Program, TypeRow, Var};
 pub use rule::{Breach, ExprType, RuleName, Typing};
-pub use statement::{CoreArm, CoreDecl, CoreStmt};
+pub use statement::{CoreArm, CoreDecl, CoreRange, CoreStmt, CoreTypeDef};
 pub use subprogram::{CoreFormalPart, CoreParam, CorePrecondition, Sub};
 pub use vars::VarSet;

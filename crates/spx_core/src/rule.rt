@@ -28,6 +28,8 @@ pub enum RuleName {
     N11,
     /// A static value lies outside its range (Ada 95 RM 4.9).
     N12,
+    /// A range of a declaration is empty, exceeds that of its parent, or is wider than any base type (Ada 95 RM 3.2.2, 3.5.4).
+    N13,
     /// A target that cannot be assigned.
     U2,
     /// A faulty dependency relation.

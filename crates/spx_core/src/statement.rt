@@ -5,11 +5,33 @@ use spx_text::Place;
 use spx_tree::Closing;
 use sqlite_items::Items;
 
+/// `low .. high`
+#[derive(Debug, Drop)]
+pub struct CoreRange {
+    pub low: CoreExpr,
+    pub high: CoreExpr,
+}
+
+/// What a type is declared as.
+#[derive(Debug, Drop)]
+pub enum CoreTypeDef {
+    /// `range low .. high`
+    Integer(CoreRange),
+    /// `( literals )`, at the parenthesis.
+    Enumeration(Place, Items<Defining>),
+}
+
 /// A declaration in the declarative part of a body.
 #[derive(Debug, Drop)]
 pub enum CoreDecl {
     /// `names : type_name`
     Variables(Items<Defining>, Reference),
+    /// `names : constant [type_name] := value`
+    Constants(Items<Defining>, Option<Reference>, CoreExpr),
+    /// `type name is definition`
+    FullType(Defining, CoreTypeDef),
+    /// `subtype name is parent [range low .. high]`
+    Subtype(Defining, Reference, Option<CoreRange>),
 }
 
 /// A statement whose names stand with what they denote.

@@ -56,7 +56,7 @@ judged_one o subtype = fold-Prefix expr_step o (place 1 3) (Name (b_at subtype 1
 judged_in_natural : (o : MemberOp) → judged (in_natural o) ≡ of_type BOOLEAN (place 1 3)
 judged_in_natural o =
     fold-InType expr_step o (place 1 3) (Name (a_at INTEGER 1)) natural_named
-    ∙ ap (λ j. j >>= λ t. rules.integer_type natural_named >>= λ subtype. rules.member_of_type o (place 1 3) t subtype) (fold-Name expr_step (a_at INTEGER 1))
+    ∙ ap (λ j. j >>= λ t. rules.ordered_type natural_named >>= λ subtype. rules.member_of_type o (place 1 3) t subtype) (fold-Name expr_step (a_at INTEGER 1))
 
 pub judged_static : (o : InfixOp) (m n : ℤ) → judged (static o m n) ≡ operating o (place 1 3) (Ok (typing Universal (Some m) (place 1 1))) (Ok (typing Universal (Some n) (place 1 12)))
 judged_static o m n =

@@ -26,7 +26,7 @@ use Rattle.spx_core.specs.declared.rule.ExprType.TheVariants.{Universal, Of}
 use Rattle.spx_core.specs.declared.rule.RuleName.{RuleName}
 use Rattle.spx_core.specs.declared.rule.RuleName.TheVariants.{N10}
 use Rattle.spx_core.specs.declared.rule.Typing.{Typing}
-use Rattle.spx_core.specs.Judged.{Judged, ◌>>=◌, keeps, named_object, each, if_there, typing, attribute_of, is_attribute, named_type, named_value, value_at, integer_type, member_of_range, member_of_type, object_at, operand_of, referred_object, referred_type, type_at, whole, condition, sign, operation, expr_step, judged}
+use Rattle.spx_core.specs.Judged.{Judged, ◌>>=◌, keeps, named_object, each, if_there, typing, attribute_of, is_attribute, named_type, named_value, value_at, ordered_type, member_of_range, member_of_type, object_at, operand_of, referred_object, referred_type, type_at, whole, condition, sign, operation, expr_step, judged}
 use Rattle.spx_core.specs.Commands.{Command, Set, Then, Choose, commands}
 use Rattle.spx_core.specs.Dependency.{relation}
 use Rattle.spx_core.specs.Resolved.{params_of}
@@ -154,7 +154,7 @@ object_referred name object h =
     (denotes.0, denotes.1 ∙ ap (λ (o : Object). Some (entity.Variable denotes.0 o)) (given_is named.0 object rest.2))
 
 -- the type of a membership test has numbers
-integer_named : (name : Reference) (subtype : Subtype) → integer_type name ≡ Ok subtype → (name.root.entity ≡ Some (entity.TypeName subtype)) × (has_numbers subtype.base.class ≡ true)
+integer_named : (name : Reference) (subtype : Subtype) → ordered_type name ≡ Ok subtype → (name.root.entity ≡ Some (entity.TypeName subtype)) × (has_numbers subtype.base.class ≡ true)
 integer_named name subtype h =
     let referred = bound (referred_type name) (λ s. keeps N10 name.root.name.place (has_numbers s.base.class) >>= λ _. Ok s) subtype h in
     let numbers = kept N10 name.root.name.place (has_numbers referred.0.base.class) (λ _. Ok referred.0) subtype referred.2 in
@@ -220,8 +220,8 @@ module _ (P : CoreExpr → Typing → Type 0) (c : Cases P) where
         let parts = operation_parts op place l r t right.2 in
         typing_is (Infix op place a b) t (joined op place l r) parts.1 (c.«infix» op place a b l r parts.0 (h ∙ sym parts.1) (p l left.1) (q r right.1));
     in_type = λ op place a name p t h.
-        let operand = bound (judged a) (λ o. integer_type name >>= λ subtype. member_of_type op place o subtype) t (sym (fold-InType expr_step op place a name) ∙ h) in
-        let mark = bound (integer_type name) (λ subtype. member_of_type op place operand.0 subtype) t operand.2 in
+        let operand = bound (judged a) (λ o. ordered_type name >>= λ subtype. member_of_type op place o subtype) t (sym (fold-InType expr_step op place a name) ∙ h) in
+        let mark = bound (ordered_type name) (λ subtype. member_of_type op place operand.0 subtype) t operand.2 in
         let named = integer_named name mark.0 mark.1 in
         let parts = in_type_parts op place operand.0 mark.0 t mark.2 in
         typing_is (InType op place a name) t (tested_in op place operand.0 mark.0) parts.1 (c.in_type op place a name operand.0 mark.0 named.0 named.1 parts.0 (h ∙ sym parts.1) (p operand.0 operand.1));

@@ -3,7 +3,7 @@ ghost use Rattle.std.specs.Prelude.{◌≡◌};
 ghost use Rattle.spx_core.specs.Judged as rules;
 ghost use Rattle.spx_types.specs.TypeIds.{base_id, static, type_id};
 
-use crate::membership::{integer_type, member_of_range, member_of_type};
+use crate::membership::{ordered_type, member_of_range, member_of_type};
 use crate::names::{attribute, keeps, named_value};
 use crate::types::{
     is_boolean, is_of, left_type, operand_fits, operands_fit, result_type, right_type,
@@ -87,7 +87,7 @@ pub fn judge(expr: &CoreExpr) -> Result<Typing, Breach>
         }
         CoreExpr::InType(op, place, tested, type_name) => {
             let tested = judge(tested.get())?;
-            member_of_type(*op, *place, tested, integer_type(type_name)?)
+            member_of_type(*op, *place, tested, ordered_type(type_name)?)
         }
         CoreExpr::InRange(op, place, tested, low, high) => {
             let tested = judge(tested.get())?;

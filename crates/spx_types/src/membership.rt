@@ -10,8 +10,8 @@ use spx_text::Place;
 use spx_tree::MemberOp;
 
 /// The integer type that a whole name denotes.
-pub fn integer_type(reference: &Reference) -> Result<Subtype, Breach>
-    ensures { result ≡ rules.integer_type reference.now }
+pub fn ordered_type(reference: &Reference) -> Result<Subtype, Breach>
+    ensures { result ≡ rules.ordered_type reference.now }
 {
     let subtype = referred_type(reference)?;
     let kept = has_numbers(subtype.base.class);
