@@ -2,7 +2,7 @@
 use Rattle.std.specs.Prelude.{ℕ, zero, suc, ℤ, Bool, true, false, ◌&&◌, int_le, List, [], ◌∷◌, Option, Some, None, slice_get}
 use Rattle.spx_core.specs.declared.entity.TheConstants.{UNIVERSAL}
 use Rattle.spx_core.specs.declared.entity.Class.{Class}
-use Rattle.spx_core.specs.declared.entity.Class.TheVariants.{Integer, Boolean}
+use Rattle.spx_core.specs.declared.entity.Class.TheVariants.{Integer, Boolean, Enumeration}
 use Rattle.spx_core.specs.declared.entity.Subtype.{Subtype}
 use Rattle.spx_core.specs.declared.entity.VarId.{VarId}
 use Rattle.spx_core.specs.declared.program.TypeRow.{TypeRow}
@@ -17,6 +17,8 @@ is_within Integer first last (Number n) = int_le first n && int_le n last
 is_within Integer first last (Truth b) = false
 is_within Boolean first last (Number n) = false
 is_within Boolean first last (Truth b) = true
+is_within Enumeration first last (Number n) = int_le first n && int_le n last
+is_within Enumeration first last (Truth b) = false
 
 -- whether a value is one of the type (Ada 95 RM 3.5)
 abbrev pub is_in : Subtype → Value → Bool
@@ -26,6 +28,7 @@ is_in subtype x = is_within subtype.base.class subtype.first subtype.last x
 abbrev pub first_of_class : Class → ℤ → Value
 first_of_class Integer first = Number first
 first_of_class Boolean first = Truth false
+first_of_class Enumeration first = Number first
 
 abbrev pub first_value : Subtype → Value
 first_value subtype = first_of_class subtype.base.class subtype.first

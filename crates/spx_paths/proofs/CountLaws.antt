@@ -72,6 +72,7 @@ unless (Some x) h = itself
 in_class : (class : Class) (subtype : Subtype) (place : Place) (t : Term) (rest : Tree) → AsMany (checked_in class subtype place t rest) rest
 in_class class.Integer subtype place t rest = record { same = count_check Range place (in_type subtype t) rest }
 in_class class.Boolean subtype place t rest = itself
+in_class class.Enumeration subtype place t rest = record { same = count_check Range place (in_type subtype t) rest }
 
 assigns : (p : Program) (place : Place) (o : Option VarId) (t : Term) (rest : Tree) → AsMany (assigned p place o t rest) rest
 assigns p place None t rest = itself

@@ -41,6 +41,7 @@ in_range first last t = term.Infix operator.GreaterOrEqual t (term.Number first)
 abbrev pub in_class : Class → (first last : ℤ) → Term → List Term
 in_class class.Integer first last t = in_range first last t
 in_class class.Boolean first last t = []
+in_class class.Enumeration first last t = in_range first last t
 
 abbrev pub in_type : Subtype → Term → List Term
 in_type subtype t = in_class subtype.base.class subtype.first subtype.last t

@@ -42,6 +42,7 @@ use Rattle.spx_meaning.specs.Stores.{type_of}
 abbrev pub sort_of_class : Class → Sort
 sort_of_class class.Integer = sort.Integer
 sort_of_class class.Boolean = sort.Boolean
+sort_of_class class.Enumeration = sort.Integer
 
 -- the sort of the values of a variable
 abbrev pub sort_of_var : Program → VarId → Sort

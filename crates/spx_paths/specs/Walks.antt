@@ -27,6 +27,7 @@ use Rattle.spx_core.specs.declared.entity.Subtype.{Subtype}
 abbrev pub checked_in : Class → Subtype → Place → Term → Tree → Tree
 checked_in class.Integer subtype place t rest = check Range place (in_type subtype t) rest
 checked_in class.Boolean subtype place t rest = rest
+checked_in class.Enumeration subtype place t rest = check Range place (in_type subtype t) rest
 
 abbrev pub range_check : Subtype → Place → Term → Tree → Tree
 range_check subtype place t rest = checked_in subtype.base.class subtype place t rest

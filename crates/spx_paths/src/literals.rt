@@ -13,7 +13,7 @@ fn value_of(of: ExprType, value: i128) -> Value
     match of {
         ExprType::Universal => Value::Number(value),
         ExprType::Of(base) => match base.class {
-            Class::Integer => Value::Number(value),
+            Class::Integer | Class::Enumeration => Value::Number(value),
             Class::Boolean => Value::Truth(value != 0),
         },
     }

@@ -108,7 +108,7 @@ fn check_range(
     ensures { OnOk result (Walked steps.old steps.new (range_check subtype place value.now)) }
 {
     match subtype.base.class {
-        Class::Integer => {
+        Class::Integer | Class::Enumeration => {
             let goals = in_type(alloc, subtype, value)?;
             check(alloc, steps, CondKind::Range, place, goals)?;
             Ok(())

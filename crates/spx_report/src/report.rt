@@ -64,6 +64,7 @@ pub(crate) fn code(rule: RuleName) -> &'static [u8]
         RuleName::N10 => b"N10",
         RuleName::N11 => b"N11",
         RuleName::N12 => b"N12",
+        RuleName::N13 => b"N13",
         RuleName::U2 => b"U2",
         RuleName::U7 => b"U7",
         RuleName::U8 => b"U8",

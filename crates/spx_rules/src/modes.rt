@@ -137,7 +137,17 @@ fn may_be_assigned(mode: Option<Mode>) -> bool
     !matches!(mode, Some(Mode::In))
 }
 
-/// The first assignment to a formal of mode `in` among statements.
+fn is_constant(entity: Option<Entity>) -> bool
+    ensures { result ≡ rules.is_constant entity }
+{
+    match entity {
+        Some(Entity::Constant(_, _)) => true,
+        Some(Entity::NamedNumber(_)) => true,
+        _ => false,
+    }
+}
+
+/// The first assignment to a formal of mode `in`, or to a constant, among statements.
 #[cycle(obey_stmt)]
 pub fn obey_stmts(stmts: &[CoreStmt]) -> Result<(), Breach>
     ensures { result ≡ rules.obeyed_command (commands stmts.now) }
@@ -166,8 +176,8 @@ fn obey_stmt(stmt: &CoreStmt) -> Result<(), Breach>
     match stmt {
         CoreStmt::Null(_) => Ok(()),
         CoreStmt::Assignment(target, _) => {
-            let assigned = may_be_assigned(mode_named(&target.root));
-            keeps(RuleName::U2, target.root.name.place, assigned)
+            let kept = may_be_assigned(mode_named(&target.root)) && !is_constant(target.root.entity);
+            keeps(RuleName::U2, target.root.name.place, kept)
         }
         CoreStmt::If(arms, None, _) => obey_arms(arms.as_slice()),
         CoreStmt::If(arms, Some(stmts), _) => {

@@ -1,22 +1,16 @@
 -- The base type of an expression, by its id; and its value, where one is needed that is static.
-use Rattle.std.specs.Prelude.{ℤ, Option, Some, None, Ok, Err}
+use Rattle.std.specs.Prelude.{ℤ, Ok}
 use Rattle.spx_core.specs.declared.entity.TheConstants.{UNIVERSAL}
 use Rattle.spx_core.specs.declared.entity.TypeId.{TypeId}
 use Rattle.spx_core.specs.declared.expression.CoreExpr.{CoreExpr}
 use Rattle.spx_core.specs.declared.rule.ExprType.{ExprType}
 use Rattle.spx_core.specs.declared.rule.ExprType.TheVariants.{Universal, Of}
-use Rattle.spx_core.specs.declared.rule.RuleName.TheVariants.{N11}
-use Rattle.spx_text.specs.declared.place.Place.{Place}
 use Rattle.spx_core.specs.Judged.{Judged, ◌>>=◌, judged}
-
--- the value, or N11 at the expression that is not static (Ada 95 RM 4.9)
-abbrev pub static_or : Place → Option ℤ → Judged ℤ
-static_or place (Some value) = Ok value
-static_or place None = Err (record { rule = N11; place = place })
+use Rattle.spx_core.specs.Statements.{static_at}
 
 -- what is judged, by its value
 abbrev pub static : CoreExpr → Judged ℤ
-static e = judged e >>= λ t. static_or t.place t.value
+static e = judged e >>= λ t. static_at t.place t.value
 
 abbrev pub base_id : ExprType → TypeId
 base_id Universal = UNIVERSAL.base.id

@@ -3,7 +3,8 @@ ghost use Rattle.std.specs.Prelude.{◌≡◌};
 ghost use Rattle.spx_core.specs.Judged as rules;
 ghost use Rattle.spx_types.specs.TypeIds.{base_id, static, type_id};
 
-use crate::membership::{ordered_type, member_of_range, member_of_type};
+use crate::declaration::static_at;
+use crate::membership::{member_of_range, member_of_type, ordered_type};
 use crate::names::{attribute, keeps, named_value};
 use crate::types::{
     is_boolean, is_of, left_type, operand_fits, operands_fit, result_type, right_type,
@@ -122,11 +123,5 @@ pub fn static_value(_program: &Program, expr: &CoreExpr, _declaring: bool) -> Re
     ensures { result ≡ static expr.now }
 {
     let typing = judge(expr)?;
-    match typing.value {
-        Some(value) => Ok(value),
-        None => Err(Breach {
-            rule: RuleName::N11,
-            place: typing.place,
-        }),
-    }
+    static_at(typing.place, typing.value)
 }

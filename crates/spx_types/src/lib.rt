@@ -2,13 +2,15 @@
 //! the text (Ada 95 RM 3, 4, 5, 6, 8.3).
 //!
 //! Each function mirrors the definition that its contract cites: `Ok` says what a node is, `Err` which rule is broken
-//! first in it. No function allocates.
+//! first in it. Only `type_row` allocates.
 #![tactic(auto)]
 
+mod declaration;
 mod expression;
 mod membership;
 mod names;
 mod program;
+mod row;
 mod statement;
 mod types;
 mod values;
@@ -16,3 +18,4 @@ mod values;
 pub use expression::{judge, static_value, type_of};
 pub use names::keeps;
 pub use program::judge_program;
+pub use row::{TypeFault, type_row};

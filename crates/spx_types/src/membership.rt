@@ -9,7 +9,7 @@ use spx_core::{BOOLEAN, Breach, ExprType, Reference, RuleName, Subtype, Typing};
 use spx_text::Place;
 use spx_tree::MemberOp;
 
-/// The integer type that a whole name denotes.
+/// The type that a whole name denotes, which has to have an order.
 pub fn ordered_type(reference: &Reference) -> Result<Subtype, Breach>
     ensures { result ≡ rules.ordered_type reference.now }
 {

@@ -1,11 +1,13 @@
 // What names denote, or the first rule that is broken in them (Ada 95 RM 4.1, 8.3).
-ghost use Rattle.std.specs.Prelude.{◌≡◌, ok_or};
+ghost use Rattle.std.specs.Prelude.{◌≡◌, Some, ok_or};
+ghost use Rattle.spx_core.specs.declared.rule.ExprType.TheVariants.{Of};
 ghost use Rattle.spx_core.specs.Judged as rules;
+ghost use Rattle.spx_core.specs.Types.{position_in};
 
 use crate::types::has_numbers;
 use crate::values::position_in;
 use spx_core::{
-    Breach, CoreName, Entity, ExprType, Object, Reference, RuleName, Step, Subtype, Typing,
+    Breach, CoreName, Entity, ExprType, Object, Reference, RuleName, Step, Subtype, Typing, UNIVERSAL,
 };
 use spx_text::{Place, Text};
 use spx_tree::Identifier;
@@ -57,7 +59,33 @@ fn named_object(name: &CoreName) -> Result<Object, Breach>
     }
 }
 
-/// The value that a name denotes: an object has one, and a literal is one.
+/// The type of what an assignment may name: a variable, or, as far as names and types go, a constant.
+fn named_target(name: &CoreName) -> Result<Subtype, Breach>
+    ensures { result ≡ rules.named_target name.now }
+{
+    match entity_of(name)? {
+        Entity::Variable(_, object) => Ok(object.subtype),
+        Entity::Constant(subtype, _) => Ok(subtype),
+        Entity::NamedNumber(_) => Ok(UNIVERSAL),
+        _ => Err(Breach {
+            rule: RuleName::N3,
+            place: name.name.place,
+        }),
+    }
+}
+
+/// What stands for a static value of a type: that of a Boolean type is a position.
+fn static_of(subtype: Subtype, n: i128, place: Place) -> Typing
+    ensures { result ≡ rules.typing (Of subtype.base) (Some (position_in subtype.base.class n)) place }
+{
+    Typing {
+        of: ExprType::Of(subtype.base),
+        value: Some(position_in(subtype.base.class, n)),
+        place,
+    }
+}
+
+/// The value that a name denotes: an object has one, a constant and a named number stand for one, and a literal is one.
 pub fn named_value(name: &CoreName) -> Result<Typing, Breach>
     ensures { result ≡ rules.named_value name.now }
 {
@@ -68,9 +96,11 @@ pub fn named_value(name: &CoreName) -> Result<Typing, Breach>
             value: None,
             place,
         }),
-        Entity::Literal(subtype, position) => Ok(Typing {
-            of: ExprType::Of(subtype.base),
-            value: Some(position_in(subtype.base.class, position)),
+        Entity::Constant(subtype, n) => Ok(static_of(subtype, n, place)),
+        Entity::Literal(subtype, position) => Ok(static_of(subtype, position, place)),
+        Entity::NamedNumber(n) => Ok(Typing {
+            of: ExprType::Universal,
+            value: Some(n),
             place,
         }),
         _ => Err(Breach {
@@ -112,6 +142,15 @@ pub fn referred_object(reference: &Reference) -> Result<Object, Breach>
     Ok(object)
 }
 
+/// The type of what a whole name denotes, which an assignment may name.
+pub fn referred_target(reference: &Reference) -> Result<Subtype, Breach>
+    ensures { result ≡ rules.referred_target reference.now }
+{
+    let subtype = named_target(&reference.root)?;
+    whole(reference)?;
+    Ok(subtype)
+}
+
 fn is_first(designator: &Text) -> bool
     ensures { result ≡ rules.is_first designator.now }
 {
@@ -135,7 +174,7 @@ fn attribute_of(subtype: Subtype, designator: &Text) -> i128
     }
 }
 
-/// The value of an attribute of an integer type.
+/// The value of an attribute of a type that has an order.
 pub fn attribute(prefix: &CoreName, designator: &Identifier) -> Result<Typing, Breach>
     ensures { result ≡ rules.attribute prefix.now designator.now }
 {

@@ -4,10 +4,9 @@ ghost use Rattle.spx_core.specs.Judged.{each, if_there};
 ghost use Rattle.spx_core.specs.Resolved.{params_of};
 ghost use Rattle.spx_core.specs.Statements as rules;
 
+use crate::declaration::{declared_once, judge_decl, judge_param};
 use crate::names::keeps;
-use crate::statement::{
-    declared_once, judge_decl, judge_item, judge_param, judge_pre, judge_stmts,
-};
+use crate::statement::{judge_item, judge_pre, judge_stmts};
 use spx_core::{
     Breach, CoreDecl, CoreDerivesItem, CoreFormalPart, CoreParam, CorePrecondition, Defining,
     Program, RuleName, Sub,

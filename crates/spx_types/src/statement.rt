@@ -1,4 +1,4 @@
-// The rules on declarations, annotations and statements (Ada 95 RM 3.3, 5.2, 5.3, 8.3).
+// The rules on annotations and statements (Ada 95 RM 5.2, 5.3, 8.3).
 ghost use Rattle.std.specs.Prelude.{◌≡◌};
 ghost use Rattle.spx_core.specs.declared.statement.CoreArm.{out-CoreArm};
 ghost use Rattle.spx_core.specs.Commands.{command, commands};
@@ -7,52 +7,10 @@ ghost use Rattle.spx_core.specs.Statements as rules;
 ghost use Rattle.spx_types.specs.Arms.{FoundInArms};
 
 use crate::expression::{condition, judge, operand_of};
-use crate::names::{keeps, referred_object, referred_type};
+use crate::names::{referred_object, referred_target};
 use spx_core::{
-    Breach, CoreArm, CoreDecl, CoreDerivesItem, CoreExpr, CoreParam, CorePrecondition, CoreStmt,
-    Defining, Reference, RuleName,
+    Breach, CoreArm, CoreDerivesItem, CoreExpr, CorePrecondition, CoreStmt, Reference,
 };
-
-/// The name may not be declared before.
-pub fn declared_once(name: &Defining) -> Result<(), Breach>
-    ensures { result ≡ rules.declared_once name.now }
-{
-    keeps(RuleName::N2, name.name.place, !name.again)
-}
-
-fn all_declared_once(names: &[Defining]) -> Result<(), Breach>
-    ensures { result ≡ each rules.declared_once names.now }
-{
-    for name in names {
-        declared_once(name)?;
-    }
-    Ok(())
-}
-
-/// Names, and then their type.
-fn declared(names: &[Defining], type_name: &Reference) -> Result<(), Breach>
-    ensures { result ≡ rules.declared names.now type_name.now }
-{
-    all_declared_once(names)?;
-    referred_type(type_name)?;
-    Ok(())
-}
-
-/// The first broken rule in formal parameters that are declared together.
-pub fn judge_param(param: &CoreParam) -> Result<(), Breach>
-    ensures { result ≡ rules.judged_param param.now }
-{
-    declared(param.names.as_slice(), &param.type_name)
-}
-
-/// The first broken rule in a declaration.
-pub fn judge_decl(decl: &CoreDecl) -> Result<(), Breach>
-    ensures { result ≡ rules.judged_decl decl.now }
-{
-    match decl {
-        CoreDecl::Variables(names, type_name) => declared(names.as_slice(), type_name),
-    }
-}
 
 fn judge_variable(reference: &Reference) -> Result<(), Breach>
     ensures { result ≡ rules.judged_variable reference.now }
@@ -95,8 +53,8 @@ pub fn judge_pre(pre: &CorePrecondition) -> Result<(), Breach>
 fn assignment(target: &Reference, value: &CoreExpr) -> Result<(), Breach>
     ensures { result ≡ rules.assignment target.now value.now }
 {
-    let object = referred_object(target)?;
-    operand_of(object.subtype, judge(value)?)
+    let subtype = referred_target(target)?;
+    operand_of(subtype, judge(value)?)
 }
 
 /// The first broken rule in statements.

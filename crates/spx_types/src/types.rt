@@ -5,32 +5,41 @@ ghost use Rattle.spx_core.specs.Types as is;
 use spx_core::{BOOLEAN, BaseType, Class, ExprType, INTEGER};
 use spx_tree::{InfixOp, PrefixOp};
 
-/// Numbers are the values.
-pub fn has_numbers(class: Class) -> bool
-    ensures { result ≡ is.has_numbers class }
+/// The values are numbers, with arithmetic.
+fn is_numeric(class: Class) -> bool
+    ensures { result ≡ is.is_numeric class }
 {
-    match class {
-        Class::Integer => true,
-        Class::Boolean => false,
-    }
+    matches!(class, Class::Integer)
 }
 
-/// Truth values are the values.
+/// The values are literals.
+fn has_literals(class: Class) -> bool
+    ensures { result ≡ is.has_literals class }
+{
+    matches!(class, Class::Enumeration)
+}
+
+/// The values are truth values.
 fn has_truths(class: Class) -> bool
     ensures { result ≡ is.has_truths class }
 {
-    match class {
-        Class::Integer => false,
-        Class::Boolean => true,
-    }
+    matches!(class, Class::Boolean)
+}
+
+/// Numbers stand for the values: a literal is its position.
+pub fn has_numbers(class: Class) -> bool
+    ensures { result ≡ is.has_numbers class }
+{
+    matches!(class, Class::Integer | Class::Enumeration)
 }
 
 fn same_class(class: Class, other: Class) -> bool
     ensures { result ≡ is.same_class class other }
 {
     match class {
-        Class::Integer => has_numbers(other),
+        Class::Integer => is_numeric(other),
         Class::Boolean => has_truths(other),
+        Class::Enumeration => has_literals(other),
     }
 }
 
@@ -45,7 +54,7 @@ pub fn is_of(base: BaseType, of: ExprType) -> bool
     ensures { result ≡ is.is_of base of }
 {
     match of {
-        ExprType::Universal => has_numbers(base.class),
+        ExprType::Universal => is_numeric(base.class),
         ExprType::Of(other) => same_base(base, other),
     }
 }
@@ -53,6 +62,16 @@ pub fn is_of(base: BaseType, of: ExprType) -> bool
 /// Whether an expression of this type is a number.
 pub fn is_number(of: ExprType) -> bool
     ensures { result ≡ is.is_number of }
+{
+    match of {
+        ExprType::Universal => true,
+        ExprType::Of(base) => is_numeric(base.class),
+    }
+}
+
+/// Whether the values of this type have an order: all but truth values.
+fn is_ordered(of: ExprType) -> bool
+    ensures { result ≡ is.is_ordered of }
 {
     match of {
         ExprType::Universal => true,
@@ -97,6 +116,10 @@ pub fn operands_fit(op: InfixOp, left: ExprType, right: ExprType) -> bool
     match op {
         InfixOp::Power => is_number(left) && is_of(INTEGER.base, right),
         InfixOp::Equal | InfixOp::NotEqual => meet(left, right),
+        InfixOp::Less
+        | InfixOp::LessOrEqual
+        | InfixOp::Greater
+        | InfixOp::GreaterOrEqual => is_ordered(left) && meet(left, right),
         InfixOp::And | InfixOp::Or | InfixOp::Xor | InfixOp::AndThen | InfixOp::OrElse => {
             is_boolean(left) && is_boolean(right)
         }
@@ -145,11 +168,11 @@ pub fn operand_fits(op: PrefixOp, operand: ExprType) -> bool
     }
 }
 
-/// Whether three operands are numbers of one type.
+/// Whether three operands are values of one type that has an order.
 pub fn three_fit(first: ExprType, second: ExprType, third: ExprType) -> bool
     ensures { result ≡ is.three_fit first second third }
 {
-    is_number(first) && meet(first, second) && meet(met(first, second), third)
+    is_ordered(first) && meet(first, second) && meet(met(first, second), third)
 }
 
 /// The type of an operation whose left operand has this type.

@@ -10,7 +10,7 @@ use spx_core::{Class, ExprType};
 use spx_num::{Op, checked, modulo, power, quot, rem};
 use spx_tree::{InfixOp, MemberOp, PrefixOp};
 
-fn is_between(first: i128, last: i128, n: i128) -> bool
+pub fn is_between(first: i128, last: i128, n: i128) -> bool
     ensures { result ≡ is.is_between first last n }
 {
     first <= n && n <= last
@@ -55,7 +55,7 @@ pub fn position_in(class: Class, position: i128) -> i128
     ensures { result ≡ is.position_in class position }
 {
     match class {
-        Class::Integer => position,
+        Class::Integer | Class::Enumeration => position,
         Class::Boolean => truth(is_true(position)),
     }
 }

@@ -77,6 +77,7 @@ applied-in_range s first last t =
 applied-in_class : (s : State) (c : Class) (first last : ℤ) (t : Term) → map (applied s) (in_class c first last t) ≡ in_class c first last (applied s t)
 applied-in_class s class.Integer first last t = applied-in_range s first last t
 applied-in_class s class.Boolean first last t = refl
+applied-in_class s class.Enumeration first last t = applied-in_range s first last t
 
 pub applied-in_type : (s : State) (subtype : Subtype) (t : Term) → map (applied s) (in_type subtype t) ≡ in_type subtype (applied s t)
 applied-in_type s subtype t = applied-in_class s subtype.base.class subtype.first subtype.last t

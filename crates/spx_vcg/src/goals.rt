@@ -66,7 +66,7 @@ pub fn in_type(
     ensures { IfOk result (λ facts. AddsAll terms.old terms.new facts (in_type subtype (tree_at terms.old value))) }
 {
     match subtype.base.class {
-        Class::Integer => {
+        Class::Integer | Class::Enumeration => {
             let facts = in_range(alloc, terms, subtype.first, subtype.last, value)?;
             Ok(facts)
         }

@@ -10,7 +10,7 @@ fn sort_of_class(class: Class) -> Sort
     ensures { result ≡ sort_of_class class }
 {
     match class {
-        Class::Integer => Sort::Integer,
+        Class::Integer | Class::Enumeration => Sort::Integer,
         Class::Boolean => Sort::Boolean,
     }
 }

@@ -130,7 +130,7 @@ impl Walk {
         ensures walks { OnOk result ((t : Term) → Means self.old value t → Walks self.old self.new (range_check subtype place t)) }
     {
         match subtype.base.class {
-            Class::Integer => {
+            Class::Integer | Class::Enumeration => {
                 let goals = in_type(alloc, &mut self.terms, subtype, value)?;
                 self.check(alloc, &[], CondKind::Range, place, goals)?;
                 Ok(())
