@@ -1,5 +1,5 @@
 -- The variables that a subprogram declares are consecutive, each with a row that says of which kind and type it is.
-use Rattle.std.proofs.Common.{◌≡◌, ℕ, ◌+◌, ◌<◌, false, List, [], ◌∷◌, ◌++◌, length, map, take, drop, Option, Some, None, option_map, refl, sym, ap, subst, ◌∙◌, inl, inr, append_assoc, arith}
+use Rattle.std.proofs.Common.{◌≡◌, ◌⊎◌, ℕ, ℤ, ◌+◌, ◌<◌, false, List, [], ◌∷◌, ◌++◌, length, map, take, drop, Option, Some, None, option_map, refl, sym, ap, subst, ◌∙◌, inl, inr, append_assoc, length-append, arith}
 use Rattle.std.specs.Prelude.{◌==◌, Bool, true, ⊤, option_and_then, slice_get}
 use Rattle.std.specs.List.{AllByRecursion, IsDistinct}
 use Rattle.std.proofs.lemmas.Bool.{eq-eqb, ne_eqb, eqb-true, or_cases, or_left, or_right}
@@ -8,23 +8,33 @@ use Rattle.spx_tree.specs.declared.expression.Identifier.{Identifier}
 use Rattle.spx_tree.specs.declared.expression.Name.{Name}
 use Rattle.spx_tree.specs.declared.declaration.Decl.{Decl}
 use Rattle.spx_tree.specs.declared.declaration.Decl.TheVariants as decl
+use Rattle.spx_tree.specs.declared.declaration.TypeDef.{TypeDef}
+use Rattle.spx_tree.specs.declared.declaration.TypeDef.TheVariants as definition
 use Rattle.spx_tree.specs.declared.subprogram.Param.{Param}
 use Rattle.spx_tree.specs.declared.subprogram.FormalPart.{FormalPart}
 use Rattle.spx_core.specs.declared.entity.VarId.{VarId}
+use Rattle.spx_core.specs.declared.entity.TheConstants.{UNIVERSAL}
+use Rattle.spx_core.specs.declared.entity.BaseType.{BaseType}
+use Rattle.spx_core.specs.declared.entity.Meaning.{Meaning}
+use Rattle.spx_core.specs.declared.entity.Meaning.TheVariants as meaning
+use Rattle.spx_core.specs.declared.entity.TypeId.{TypeId}
 use Rattle.spx_core.specs.declared.entity.Subtype.{Subtype}
 use Rattle.spx_core.specs.declared.entity.Mode.{Mode}
 use Rattle.spx_core.specs.declared.entity.VarKind.{VarKind}
 use Rattle.spx_core.specs.declared.entity.VarKind.TheVariants.{Formal, Local}
 use Rattle.spx_core.specs.declared.entity.Object.{Object}
 use Rattle.spx_core.specs.declared.name.Defining.{Defining}
+use Rattle.spx_core.specs.declared.name.Reference.{Reference}
+use Rattle.spx_core.specs.declared.statement.CoreRange.{CoreRange}
 use Rattle.spx_core.specs.declared.program.TypeRow.{TypeRow}
 use Rattle.spx_core.specs.declared.program.Var.{Var}
 use Rattle.spx_core.specs.declared.program.Program.{Program}
 use Rattle.spx_core.specs.Formals.{stands_in}
 use Rattle.spx_core.specs.Regions.{Region, Regions, hidden}
-use Rattle.spx_core.specs.Resolved.{around_formals, declared_by_decls, declared_by_params, declaring, declaring_all, defining, defining_all, mode_of, object_of, params_of, positions, resolved_decls, resolved_formal_part, resolved_param, resolved_params, resolved_reference, standard_types, subtype_of, var_in, var_of, variable_at}
+use Rattle.spx_core.specs.Resolved.{around_formals, around_names, bounded, constant_of, counted, Counts, declared_by, declared_by_decls, declared_by_params, declaring, declaring_all, defining, defining_all, enumeration_type, id_at, integer_type, meant_at, mode_of, narrowed, object_of, params_of, positions, resolved_decl, resolved_decls, resolved_expr, resolved_formal_part, resolved_param, resolved_params, resolved_range, resolved_reference, resolved_type, rows_by, rows_by_decls, standard_types, static_value, subtype_of, var_in, var_of, variable_at, variables_by, variables_by_decls}
 use Rattle.spx_core.specs.Scopes.{object_declared, object_in}
-use Rattle.spx_core.proofs.RegionLaws.{AllHold, HasRow, Holds, HoldsIn, declaring_all_holds, hidden_holds, root_holds, standard_holds, subtype_has_row}
+use Rattle.spx_core.proofs.RegionLaws.{AllHold, HasRow, Holds, HoldsIn, row_at, declaring_all_holds, hidden_holds, root_holds, standard_holds, subtype_has_row}
+use Rattle.spx_core.proofs.Callers.ListTests.{each_append, each_split}
 use Rattle.spx_core.proofs.Callers.Variables.{same_var}
 
 -- these declare variables of such a kind, at this position and the next ones
@@ -43,54 +53,144 @@ consecutive_append K position [] b left right = subst (λ n. Consecutive K n b) 
 consecutive_append K position (d ∷ a) b left right =
     (left.0, consecutive_append K (position + 1) a b left.1 (subst (λ n. Consecutive K n b) (let e : position + length (d ∷ a) ≡ position + 1 + length a = omega arith in e) right))
 
-defining_consecutive : (K : Object → Type 0) (region : Region) (object : Object) (position : ℕ) (names : List Identifier) → K object → Consecutive K position (defining_all region object position names)
+defining_consecutive : (K : Object → Type 0) (region : Region) (object : Object) (position : ℕ) (names : List Identifier) → K object
+    → Consecutive K position (defining_all region (meaning.Variables object) position names)
 defining_consecutive K region object position [] is = tt
 defining_consecutive K region object position (name ∷ names) is =
     ((object, is, refl), defining_consecutive K (declaring region (defining region (variable_at position object) name)) object (position + 1) names is)
 
-abbrev pub IsFormal : Object → Type 0
-IsFormal object = ((mode : Mode) × (object.kind ≡ Formal mode)) × HasRow object.subtype
+abbrev pub IsFormal : List TypeRow → Object → Type 0
+IsFormal more object = ((mode : Mode) × (object.kind ≡ Formal mode)) × HasRow more object.subtype
 
-abbrev pub IsLocal : Object → Type 0
-IsLocal object = (object.kind ≡ Local) × HasRow object.subtype
+abbrev pub IsLocal : List TypeRow → Object → Type 0
+IsLocal more object = (object.kind ≡ Local) × HasRow more object.subtype
 
 -- any variable, so that only types are asked for their rows
 abbrev pub Any : VarId → Object → Type 0
 Any v object = ⊤
 
-consecutive_known : (K : Object → Type 0) (position : ℕ) (ds : List Defining) → Consecutive K position ds → AllHold Any ds
-consecutive_known K position [] each = tt
-consecutive_known K position (d ∷ ds) each = (subst (λ e. Holds Any (Some e)) (sym each.0.2) tt, consecutive_known K (position + 1) ds each.1)
+-- ---- the rows of declared types
 
-module _ (outer : Regions) (known : AllByRecursion (HoldsIn Any) outer) where
-  type_has_row : (region : Region) (names : List Identifier) (type_name : Name) → HoldsIn Any region → HasRow (subtype_of (resolved_reference (hidden names ∷ region ∷ outer) type_name).root.entity)
-  type_has_row region names type_name own = subtype_has_row Any _ (root_holds Any (hidden names ∷ region ∷ outer) (hidden_holds Any names, (own, known)) type_name)
+-- a subtype of this id, or the one that stands for a faulty declaration
+abbrev IsNew : ℕ → Subtype → Type 0
+IsNew position subtype = (subtype.id ≡ id_at position) ⊎ (subtype ≡ UNIVERSAL)
 
-  params_consecutive : (region : Region) (position : ℕ) (params : List Param) → HoldsIn Any region → Consecutive IsFormal position (declared_by_params (resolved_params outer region position params))
-  params_consecutive region position [] own = tt
-  params_consecutive region position (p ∷ ps) own =
-      let param = resolved_param outer region position p in
-      let first =
-      defining_consecutive IsFormal region (object_of (Formal (mode_of p.mode)) param.type_name) position p.names ((mode_of p.mode, refl), type_has_row region p.names p.type_name own) in
-      consecutive_append IsFormal position param.names _ first
-      (params_consecutive (declaring_all region param.names) (position + length param.names) ps (declaring_all_holds Any region param.names own (consecutive_known IsFormal position param.names first)))
+integer_is_new : (position : ℕ) (low high : Option ℤ) → IsNew position (integer_type position low high)
+integer_is_new position (Some first) (Some last) = inl refl
+integer_is_new position (Some first) None = inr refl
+integer_is_new position None high = inr refl
 
-  pub decls_consecutive : (region : Region) (position : ℕ) (ds : List Decl) → HoldsIn Any region → Consecutive IsLocal position (declared_by_decls (resolved_decls outer region position ds))
-  decls_consecutive region position [] own = tt
-  decls_consecutive region position (decl.Variables names type_name ∷ ds) own =
-      let object = object_of Local (resolved_reference (hidden names ∷ region ∷ outer) type_name) in
-      let declared = defining_all region object position names in
-      let first = defining_consecutive IsLocal region object position names (refl, type_has_row region names type_name own) in
-      consecutive_append IsLocal position declared _ first
-      (decls_consecutive (declaring_all region declared) (position + length declared) ds (declaring_all_holds Any region declared own (consecutive_known IsLocal position declared first)))
+bounded_is_new : (position : ℕ) (base : BaseType) (low high : Option ℤ) → IsNew position (bounded position base low high)
+bounded_is_new position base (Some first) (Some last) = inl refl
+bounded_is_new position base (Some first) None = inr refl
+bounded_is_new position base None high = inr refl
 
-pub formals_consecutive : (name : Identifier) (position : ℕ) (part : Option FormalPart) → Consecutive IsFormal position (declared_by_params (params_of (option_map (resolved_formal_part name position) part)))
-formals_consecutive name position None = tt
-formals_consecutive name position (Some part) = params_consecutive (around_formals name) (hidden_holds Any (name ∷ []), (standard_holds Any, tt)) [] position part.params tt
+narrowed_is_new : (position : ℕ) (parent : Subtype) (range : Option CoreRange) → IsNew position (narrowed position parent range)
+narrowed_is_new position parent None = inl refl
+narrowed_is_new position parent (Some range) = bounded_is_new position parent.base (static_value range.low) (static_value range.high)
 
--- what is seen where the locals of a subprogram with these formals are declared
-pub formals_known : (position : ℕ) (ds : List Defining) → Consecutive IsFormal position ds → HoldsIn Any (declaring_all [] ds)
-formals_known position ds each = declaring_all_holds Any [] ds tt (consecutive_known IsFormal position ds each)
+seam : {X : Type 0} (xs : List X) (y : X) (ys : List X) → slice_get (xs ++ y ∷ ys) (length xs) ≡ Some y
+seam [] y ys = refl
+seam (x ∷ xs) y ys = seam xs y ys
+
+module _ (more : List TypeRow) where
+  -- the row after these stands in the table at the next position
+  row_stands : (front back : List TypeRow) (row : TypeRow) (position : ℕ) → length (standard_types ++ front) ≡ position → more ≡ front ++ row ∷ back → row_at more position ≡ Some row
+  row_stands front back row position at is =
+      ap (λ (rows : List TypeRow). slice_get (standard_types ++ rows) position) is
+      ∙ ap (slice_get (standard_types ++ (front ++ row ∷ back))) (sym at)
+      ∙ ap (λ (rows : List TypeRow). slice_get rows (length (standard_types ++ front))) (sym (append_assoc standard_types front (row ∷ back)))
+      ∙ seam (standard_types ++ front) row back
+
+  new_has_row : (front back : List TypeRow) (position : ℕ) (name : List ℕ) (subtype : Subtype) → length (standard_types ++ front) ≡ position → more ≡ front ++ (record { name = name; subtype = subtype }) ∷ back
+      → IsNew position subtype → HasRow more subtype
+  new_has_row front back position name subtype at is (inl new) =
+      ap (λ (id : TypeId). option_map (λ (r : TypeRow). r.subtype) (row_at more id.0)) new ∙ ap (option_map (λ (r : TypeRow). r.subtype)) (row_stands front back (record { name = name; subtype = subtype }) position at is)
+  new_has_row front back position name subtype at is (inr universal) = subst (HasRow more) (sym universal) refl
+
+  -- ---- what declarations declare
+
+  pub consecutive_known : (K : Object → Type 0) (position : ℕ) (ds : List Defining) → Consecutive K position ds → AllHold more Any ds
+  consecutive_known K position [] each = tt
+  consecutive_known K position (d ∷ ds) each = (subst (λ e. Holds more Any (Some e)) (sym each.0.2) tt, consecutive_known K (position + 1) ds each.1)
+
+  -- names of which none denotes a variable or a type
+  others_hold : (P : VarId → Object → Type 0) (region : Region) (meaning : Meaning) (position : ℕ) (names : List Identifier) → ((k : ℕ) → Holds more P (Some (meant_at meaning k)))
+      → AllHold more P (defining_all region meaning position names)
+  others_hold P region meaning position [] each = tt
+  others_hold P region meaning position (name ∷ names) each = (each position, others_hold P (declaring region (defining region (meant_at meaning position) name)) meaning (position + 1) names each)
+
+  constants_hold : (P : VarId → Object → Type 0) (type_name : Option Reference) (value : Option ℤ) → Holds more P (Some (constant_of type_name value))
+  constants_hold P None value = tt
+  constants_hold P (Some type_name) value = tt
+
+  -- the variables among what is declared are consecutive, and what holds of them holds of all of it: types have their rows
+  pub record Known (position : ℕ) (variables all : List Defining) : Type 1 where
+    pub consecutive : Consecutive (IsLocal more) position variables
+    pub holds : (P : VarId → Object → Type 0) → AllHold more P variables → AllHold more P all
+
+  module _ (outer : Regions) (known : AllByRecursion (HoldsIn more Any) outer) where
+    type_has_row : (region : Region) (names : List Identifier) (type_name : Name) → HoldsIn more Any region → HasRow more (subtype_of (resolved_reference (around_names outer region names) type_name).root.entity)
+    type_has_row region names type_name own = subtype_has_row more Any _ (root_holds more Any (around_names outer region names) (hidden_holds more Any names, (own, known)) type_name)
+
+    params_consecutive : (region : Region) (position : ℕ) (params : List Param) → HoldsIn more Any region → Consecutive (IsFormal more) position (declared_by_params (resolved_params outer region position params))
+    params_consecutive region position [] own = tt
+    params_consecutive region position (p ∷ ps) own =
+        let param = resolved_param outer region position p in
+        let first =
+        defining_consecutive (IsFormal more) region (object_of (Formal (mode_of p.mode)) param.type_name) position p.names ((mode_of p.mode, refl), type_has_row region p.names p.type_name own) in
+        consecutive_append (IsFormal more) position param.names _ first
+        (params_consecutive (declaring_all region param.names) (position + length param.names) ps (declaring_all_holds more Any region param.names own (consecutive_known (IsFormal more) position param.names first)))
+
+    -- the rows of a declaration follow these
+    abbrev Stands : Counts → List TypeRow → List TypeRow → List TypeRow → Type 0
+    Stands before front rows back = (length (standard_types ++ front) ≡ before.types) × (more ≡ front ++ (rows ++ back))
+
+    type_known : (region : Region) (before : Counts) (name : Identifier) (d : TypeDef) (front back : List TypeRow) → Stands before front (rows_by (resolved_type outer region before name d)) back
+        → Known before.vars (variables_by (resolved_type outer region before name d)) (declared_by (resolved_type outer region before name d))
+    type_known region before name (definition.Integer range) front back stands =
+        let r = resolved_range (around_names outer region (name ∷ [])) range in
+        record { consecutive = tt; holds = λ P h. (new_has_row front back before.types name.text _ stands.0 stands.1 (integer_is_new before.types (static_value r.low) (static_value r.high)), tt) }
+    type_known region before name (definition.Enumeration place literals) front back stands =
+        record { consecutive = tt; holds = λ P h. (new_has_row front back before.types name.text _ stands.0 stands.1 (inl refl), others_hold P _ (meaning.Literals (enumeration_type before.types (length literals))) 0 literals (λ k. tt)) }
+
+    decl_known : (region : Region) (before : Counts) (d : Decl) (front back : List TypeRow) → HoldsIn more Any region → Stands before front (rows_by (resolved_decl outer region before d)) back
+        → Known before.vars (variables_by (resolved_decl outer region before d)) (declared_by (resolved_decl outer region before d))
+    decl_known region before (decl.Variables names type_name) front back own stands =
+        record { consecutive = defining_consecutive (IsLocal more) region (object_of Local (resolved_reference (around_names outer region names) type_name)) before.vars names (refl, type_has_row region names type_name own); holds = λ P h. h }
+    decl_known region before (decl.Constants names type_name value) front back own stands =
+        record { consecutive = tt; holds = λ P h. others_hold P region _ 0 names (λ k. constants_hold P (option_map (resolved_reference (around_names outer region names)) type_name) (static_value (resolved_expr (around_names outer region names) value))) }
+    decl_known region before (decl.FullType name d) front back own stands = type_known region before name d front back stands
+    decl_known region before (decl.Subtype name parent range) front back own stands =
+        let around = around_names outer region (name ∷ []) in
+        record { consecutive = tt; holds = λ P h. (new_has_row front back before.types name.text _ stands.0 stands.1 (narrowed_is_new before.types (subtype_of (resolved_reference around parent).root.entity) (option_map (resolved_range around) range)), tt) }
+
+    pub decls_known : (region : Region) (before : Counts) (ds : List Decl) (front back : List TypeRow) → HoldsIn more Any region → Stands before front (rows_by_decls (resolved_decls outer region before ds)) back
+        → Known before.vars (variables_by_decls (resolved_decls outer region before ds)) (declared_by_decls (resolved_decls outer region before ds))
+    decls_known region before [] front back own stands = record { consecutive = tt; holds = λ P h. h }
+    decls_known region before (d ∷ ds) front back own stands =
+        let one = resolved_decl outer region before d in
+        let next = declaring_all region (declared_by one) in
+        let later = resolved_decls outer next (counted before one) ds in
+        let first = decl_known region before d front (rows_by_decls later ++ back) own (stands.0, stands.1 ∙ ap (λ (rows : List TypeRow). front ++ rows) (append_assoc (rows_by one) (rows_by_decls later) back)) in
+        let along = declaring_all_holds more Any region (declared_by one) own (first.holds Any (consecutive_known (IsLocal more) before.vars (variables_by one) first.consecutive)) in
+        let count = length-append standard_types front in
+        let rest = decls_known next (counted before one) ds (front ++ rows_by one) back along (
+          ap length (sym (append_assoc standard_types front (rows_by one))) ∙ length-append (standard_types ++ front) (rows_by one) ∙ ap (λ n. n + length (rows_by one)) stands.0,
+          stands.1 ∙ ap (λ (rows : List TypeRow). front ++ rows) (append_assoc (rows_by one) (rows_by_decls later) back) ∙ sym (append_assoc front (rows_by one) (rows_by_decls later ++ back)),
+        ) in
+        record {
+          consecutive = consecutive_append (IsLocal more) before.vars (variables_by one) (variables_by_decls later) first.consecutive rest.consecutive;
+          holds = λ P h. let parts = each_split (λ (x : Defining). Holds more P (Some x.entity)) (variables_by one) (variables_by_decls later) h in each_append (λ (x : Defining). Holds more P (Some x.entity)) (declared_by one) (declared_by_decls later) (first.holds P parts.0) (rest.holds P parts.1);
+        }
+
+  pub formals_consecutive : (name : Identifier) (position : ℕ) (part : Option FormalPart) → Consecutive (IsFormal more) position (declared_by_params (params_of (option_map (resolved_formal_part name position) part)))
+  formals_consecutive name position None = tt
+  formals_consecutive name position (Some part) = params_consecutive (around_formals name) (hidden_holds more Any (name ∷ []), (standard_holds more Any, tt)) [] position part.params tt
+
+  -- what is seen where the locals of a subprogram with these formals are declared
+  pub formals_known : (position : ℕ) (ds : List Defining) → Consecutive (IsFormal more) position ds → HoldsIn more Any (declaring_all [] ds)
+  formals_known position ds each = declaring_all_holds more Any [] ds tt (consecutive_known (IsFormal more) position ds each)
 
 -- ---- their positions
 
@@ -115,42 +215,38 @@ last_positions position (d ∷ a) b =
 
 -- ---- their rows
 
-slice_get_seam : (xs : List Var) (y : Var) (ys : List Var) → slice_get (xs ++ y ∷ ys) (length xs) ≡ Some y
-slice_get_seam [] y ys = refl
-slice_get_seam (x ∷ xs) y ys = slice_get_seam xs y ys
-
 typed_row : (kind : VarKind) (row : Option TypeRow) (subtype : Subtype) → option_map (λ (r : TypeRow). r.subtype) row ≡ Some subtype
     → option_map (λ (r : TypeRow). let o : Object = record { kind = kind; subtype = r.subtype } in o) row ≡ Some (record { kind = kind; subtype = subtype })
 typed_row kind (Some row) subtype is = ap (λ s. Some (record { kind = kind; subtype = s })) (let e : row.subtype ≡ subtype = cc in e)
 typed_row kind None subtype is = absurd cc
 
-module _ (p : Program) (types : p.types ≡ standard_types) (K : Object → Type 0) (typed : (object : Object) → K object → HasRow object.subtype) where
-  row_at : (before : List Var) (position : ℕ) (d : Defining) (after : List Var) (object : Object) → K object → length before ≡ position → p.vars ≡ before ++ var_of d ∷ after
+module _ (p : Program) (more : List TypeRow) (types : p.types ≡ standard_types ++ more) (K : Object → Type 0) (typed : (object : Object) → K object → HasRow more object.subtype) where
+  row_is : (before : List Var) (position : ℕ) (d : Defining) (after : List Var) (object : Object) → K object → length before ≡ position → p.vars ≡ before ++ var_of d ∷ after
       → d.entity ≡ variable_at position object → object_declared p (record { 0 = position }) ≡ Some object
-  row_at before position d after object k len vars is =
+  row_is before position d after object k len vars is =
       ap (λ (ws : List Var). option_and_then (object_in p) (slice_get ws position)) vars
       ∙ ap (λ n. option_and_then (object_in p) (slice_get (before ++ var_of d ∷ after) n)) (sym len)
-      ∙ ap (option_and_then (object_in p)) (slice_get_seam before (var_of d) after)
+      ∙ ap (option_and_then (object_in p)) (seam before (var_of d) after)
       ∙ ap (λ e. object_in p (var_in d.name.text e)) is
       ∙ ap (λ (rows : List TypeRow). option_map (λ (r : TypeRow). let o : Object = record { kind = object.kind; subtype = r.subtype } in o) (slice_get rows object.subtype.id.0)) types
-      ∙ typed_row object.kind (slice_get standard_types object.subtype.id.0) object.subtype (typed object k)
+      ∙ typed_row object.kind (row_at more object.subtype.id.0) object.subtype (typed object k)
 
   -- what follows from their kinds, positions and rows holds of them
   pub rows : (P : VarId → Object → Type 0) (before : List Var) (position : ℕ) (ds : List Defining) (after : List Var) → length before ≡ position → p.vars ≡ before ++ (map var_of ds ++ after)
-      → Consecutive K position ds → ((v : VarId) (object : Object) → K object → is_at v position ds ≡ true → object_declared p v ≡ Some object → P v object) → AllHold P ds
+      → Consecutive K position ds → ((v : VarId) (object : Object) → K object → is_at v position ds ≡ true → object_declared p v ≡ Some object → P v object) → AllHold more P ds
   rows P before position [] after len vars each follows = tt
   rows P before position (d ∷ ds) after len vars each follows =
       let at = or_left (position == position) (is_at (record { 0 = position }) (position + 1) ds) (eq-eqb position position refl) in
-      let here = follows (record { 0 = position }) each.0.0 each.0.1 at (row_at before position d (map var_of ds ++ after) each.0.0 each.0.1 len vars each.0.2) in (
-        subst (λ e. Holds P (Some e)) (sym each.0.2) here,
+      let here = follows (record { 0 = position }) each.0.0 each.0.1 at (row_is before position d (map var_of ds ++ after) each.0.0 each.0.1 len vars each.0.2) in (
+        subst (λ e. Holds more P (Some e)) (sym each.0.2) here,
         rows P (before ++ var_of d ∷ []) (position + 1) ds after (length_push before (var_of d) ∙ ap (λ n. n + 1) len) (vars ∙ sym (append_assoc before (var_of d ∷ []) (map var_of ds ++ after))) each.1
             (λ v object kind at row. follows v object kind (or_right (position == v.0) (is_at v (position + 1) ds) at) row),
       )
 
-  pub at_position : (P : VarId → Object → Type 0) (v : VarId) (position : ℕ) (ds : List Defining) → Consecutive K position ds → AllHold P ds → is_at v position ds ≡ true → (object : Object) × P v object
+  pub at_position : (P : VarId → Object → Type 0) (v : VarId) (position : ℕ) (ds : List Defining) → Consecutive K position ds → AllHold more P ds → is_at v position ds ≡ true → (object : Object) × P v object
   at_position P v position [] each all h = absurd cc
   at_position P v position (d ∷ ds) each all h =
       elim (or_cases (position == v.0) (is_at v (position + 1) ds) h) [
-        | inl here ↦ (each.0.0, subst (λ u. P u each.0.0) (same_var (record { 0 = position }) v (eqb-true position v.0 here)) (subst (λ e. Holds P (Some e)) each.0.2 all.0))
+        | inl here ↦ (each.0.0, subst (λ u. P u each.0.0) (same_var (record { 0 = position }) v (eqb-true position v.0 here)) (subst (λ e. Holds more P (Some e)) each.0.2 all.0))
         | inr later ↦ at_position P v (position + 1) ds each.1 all.1 later
       ]

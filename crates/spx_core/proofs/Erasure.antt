@@ -8,6 +8,10 @@ use Rattle.spx_tree.specs.declared.expression.Expr.{Expr, Expr-F, roll-Expr, map
 use Rattle.spx_tree.specs.declared.expression.Expr.TheVariants as expr
 use Rattle.spx_tree.specs.declared.declaration.Decl.{Decl}
 use Rattle.spx_tree.specs.declared.declaration.Decl.TheVariants as decl
+use Rattle.spx_tree.specs.declared.declaration.Range.{Range}
+use Rattle.spx_tree.specs.declared.declaration.TypeDef.{TypeDef}
+use Rattle.spx_tree.specs.declared.declaration.TypeDef.TheVariants as definition
+use Rattle.spx_core.specs.declared.entity.Meaning.{Meaning}
 use Rattle.spx_tree.specs.declared.statement.Stmt.{Stmt, Stmt-F, map-Stmt, roll-Stmt, ind-Stmt, fold-roll-Stmt}
 use Rattle.spx_tree.specs.declared.statement.Stmt.TheVariants as stmt
 use Rattle.spx_tree.specs.declared.statement.Arm.{Arm, Arm-F, map-Arm, roll-Arm, fold-roll-Arm}
@@ -27,13 +31,13 @@ use Rattle.spx_core.specs.declared.statement.CoreStmt.{CoreStmt, CoreStmt-F, map
 use Rattle.spx_core.specs.declared.statement.CoreArm.{CoreArm, fold-roll-CoreArm}
 use Rattle.spx_core.specs.declared.program.Program.{Program}
 use Rattle.spx_core.specs.Regions.{Region, Regions, hidden}
-use Rattle.spx_core.specs.Erased.{Visible, erased, erased_arm, erased_arm_step, erased_decl, erased_defining, erased_derives, erased_exports, erased_expr, erased_formal_part, erased_item, erased_param, erased_pre, erased_reference, erased_step, erased_stmt, erased_stmt_step, erased_sub, unit_of}
+use Rattle.spx_core.specs.Erased.{Visible, erased, erased_arm, erased_arm_step, erased_decl, erased_range, erased_defining, erased_derives, erased_exports, erased_expr, erased_formal_part, erased_item, erased_param, erased_pre, erased_reference, erased_step, erased_stmt, erased_stmt_step, erased_sub, unit_of}
 use Rattle.spx_core.specs.Judged.{breach_in}
 use Rattle.spx_core.specs.Statements.{Typed, first_name_breach, judged_program}
 use Rattle.spx_core.proofs.Callers.Bodies.{all_are_units}
 use Rattle.spx_core.proofs.Judgements.{unbroken}
 use Rattle.spx_core.specs.Resolved as resolved
-use Rattle.spx_core.specs.Resolved.{around_body, around_formals, declared_by, declaring, declaring_all, defining, defining_all, exported_names, formal_names, local_names, own_vars, place_of_null, resolved_arm, resolved_decl, resolved_decls, resolved_derives, resolved_expr, resolved_formal_part, resolved_item, resolved_name, resolved_param, resolved_params, resolved_pre, resolved_reference, resolved_stmt, resolved_sub, resolved_subs, unit_name, variable_at}
+use Rattle.spx_core.specs.Resolved.{after_formals, around_body, around_formals, around_names, at_start, counted, counted_sub, Counts, declared_by, declaring, declaring_all, defining, defining_all, exported_names, formal_names, local_names, meant_at, place_of_null, resolved_arm, resolved_decl, resolved_decls, resolved_derives, resolved_expr, resolved_formal_part, resolved_item, resolved_name, resolved_param, resolved_params, resolved_pre, resolved_range, resolved_reference, resolved_stmt, resolved_sub, resolved_subs, resolved_type, unit_name}
 
 -- ---- names and expressions
 
@@ -83,10 +87,10 @@ kept_if_there : {T C : Type 0} (back : C → T) (core : T → C) → ((t : T) �
 kept_if_there back core kept None = refl
 kept_if_there back core kept (Some t) = ap Some (kept t)
 
-kept_names : (region : Region) (object : Object) (position : ℕ) (names : List Identifier) → map erased_defining (defining_all region object position names) ≡ names
-kept_names region object position [] = refl
-kept_names region object position (name ∷ names) =
-    ap (λ rest. name ∷ rest) (kept_names (declaring region (defining region (variable_at position object) name)) object (position + 1) names)
+kept_names : (region : Region) (meaning : Meaning) (position : ℕ) (names : List Identifier) → map erased_defining (defining_all region meaning position names) ≡ names
+kept_names region meaning position [] = refl
+kept_names region meaning position (name ∷ names) =
+    ap (λ rest. name ∷ rest) (kept_names (declaring region (defining region (meant_at meaning position) name)) meaning (position + 1) names)
 
 -- ---- statements and annotations
 
@@ -167,12 +171,29 @@ module _ (outer : Regions) where
   kept_params region position [] = refl
   kept_params region position (p ∷ ps) = ap₂ (λ (x : Param) (xs : List Param). x ∷ xs) (kept_param region position p) (kept_params (declaring_all region (resolved_param outer region position p).names) (position + length (resolved_param outer region position p).names) ps)
 
-  kept_decl : (region : Region) (position : ℕ) (d : Decl) → erased_decl (resolved_decl outer region position d) ≡ d
-  kept_decl region position (decl.Variables names type_name) = ap₂ decl.Variables (kept_names region _ position names) (kept_reference (hidden names ∷ region ∷ outer) type_name)
+  kept_range : (regions : Regions) (range : Range) → erased_range (resolved_range regions range) ≡ range
+  kept_range regions range = ap₂ (λ (low high : Expr). let x : Range = record { low = low; high = high } in x) (kept_expr regions range.low) (kept_expr regions range.high)
 
-  kept_decls : (region : Region) (position : ℕ) (ds : List Decl) → map erased_decl (resolved_decls outer region position ds) ≡ ds
-  kept_decls region position [] = refl
-  kept_decls region position (d ∷ ds) = ap₂ (λ (x : Decl) (xs : List Decl). x ∷ xs) (kept_decl region position d) (kept_decls (declaring_all region (declared_by (resolved_decl outer region position d))) (position + length (declared_by (resolved_decl outer region position d))) ds)
+  kept_type : (region : Region) (before : Counts) (name : Identifier) (d : TypeDef) → erased_decl (resolved_type outer region before name d) ≡ decl.FullType name d
+  kept_type region before name (definition.Integer range) = ap (λ (r : Range). decl.FullType name (definition.Integer r)) (kept_range (around_names outer region (name ∷ [])) range)
+  kept_type region before name (definition.Enumeration place literals) = ap (λ (names : List Identifier). decl.FullType name (definition.Enumeration place names)) (kept_names _ _ 0 literals)
+
+  kept_decl : (region : Region) (before : Counts) (d : Decl) → erased_decl (resolved_decl outer region before d) ≡ d
+  kept_decl region before (decl.Variables names type_name) = ap₂ decl.Variables (kept_names region _ before.vars names) (kept_reference (around_names outer region names) type_name)
+  kept_decl region before (decl.Constants names type_name value) =
+      let around = around_names outer region names in
+      ap (λ (ns : List Identifier). decl.Constants ns (option_map erased_reference (option_map (resolved_reference around) type_name)) (erased_expr (resolved_expr around value))) (kept_names region _ 0 names)
+      ∙ ap₂ (decl.Constants names) (kept_if_there erased_reference (resolved_reference around) (kept_reference around) type_name) (kept_expr around value)
+  kept_decl region before (decl.FullType name definition) = kept_type region before name definition
+  kept_decl region before (decl.Subtype name parent range) =
+      let around = around_names outer region (name ∷ []) in
+      ap₂ (decl.Subtype name) (kept_reference around parent) (kept_if_there erased_range (resolved_range around) (kept_range around) range)
+
+  kept_decls : (region : Region) (before : Counts) (ds : List Decl) → map erased_decl (resolved_decls outer region before ds) ≡ ds
+  kept_decls region before [] = refl
+  kept_decls region before (d ∷ ds) =
+      let one = resolved_decl outer region before d in
+      ap₂ (λ (x : Decl) (xs : List Decl). x ∷ xs) (kept_decl region before d) (kept_decls (declaring_all region (declared_by one)) (counted before one) ds)
 
 -- ---- subprograms and units
 
@@ -180,28 +201,29 @@ kept_formal_part : (name : Identifier) (position : ℕ) (part : FormalPart) → 
 kept_formal_part name position part =
     ap (λ (params : List Param). let x : FormalPart = record { place = part.place; params = params } in x) (kept_params (around_formals name) [] position part.params)
 
-kept_sub : (library : Region) (position first : ℕ) (s : Subprogram) → erased_sub (resolved_sub (unit_name library position s) first s) ≡ s
-kept_sub library position first s =
+kept_sub : (library : Region) (position : ℕ) (before : Counts) (s : Subprogram) → erased_sub (resolved_sub (unit_name library position s) before s) ≡ s
+kept_sub library position before s =
     let name = unit_name library position s in
-    let sub = resolved_sub name first s in
+    let sub = resolved_sub name before s in
     let annotations = declaring_all [] (formal_names sub) ∷ around_body name in
     let body = declaring_all [] (formal_names sub ++ local_names sub) ∷ around_body name in
-    let part = kept_if_there erased_formal_part (resolved_formal_part s.name first) (kept_formal_part s.name first) s.formal_part in
+    let part = kept_if_there erased_formal_part (resolved_formal_part s.name before.vars) (kept_formal_part s.name before.vars) s.formal_part in
     let derives = kept_if_there erased_derives (resolved_derives annotations) (kept_derives annotations) s.derives in
     let pre = kept_if_there erased_pre (resolved_pre annotations) (kept_pre annotations) s.pre in
-    let decls = kept_decls (around_body name) (declaring_all [] (formal_names sub)) (first + length (formal_names sub)) s.declarations in
+    let decls = kept_decls (around_body name) (declaring_all [] (formal_names sub)) (after_formals before sub.formal_part) s.declarations in
     let stmts = kept_each erased_stmt (resolved_stmt body) (kept_stmt body) s.statements in
     let all : erased_sub sub ≡ record { place = s.place; name = s.name; formal_part = s.formal_part; derives = s.derives; pre = s.pre; declarations = s.declarations; statements = s.statements; end = s.end; end_name = s.end_name } = cc in
     all
 
-kept_units : (library : Region) (position first : ℕ) (units : List Unit) → map unit_of (resolved_subs library position first units) ≡ units
-kept_units library position first [] = refl
-kept_units library position first (unit.Subprogram s ∷ units) =
-    ap₂ (λ (x : Unit) (xs : List Unit). x ∷ xs) (ap unit.Subprogram (kept_sub library position first s)) (kept_units (declaring library (unit_name library position s)) (position + 1) (first + length (own_vars (resolved_sub (unit_name library position s) first s))) units)
+kept_units : (library : Region) (position : ℕ) (before : Counts) (units : List Unit) → map unit_of (resolved_subs library position before units) ≡ units
+kept_units library position before [] = refl
+kept_units library position before (unit.Subprogram s ∷ units) =
+    ap₂ (λ (x : Unit) (xs : List Unit). x ∷ xs) (ap unit.Subprogram (kept_sub library position before s))
+    (kept_units (declaring library (unit_name library position s)) (position + 1) (counted_sub before (resolved_sub (unit_name library position s) before s)) units)
 
 -- without what its names denote, the program is the units that it comes from
 pub keeps_units : (units : List Unit) → erased (resolved.resolved units) ≡ units
-keeps_units units = all_are_units (resolved_subs [] 0 0 units) ∙ kept_units [] 0 0 units
+keeps_units units = all_are_units (resolved_subs [] 0 at_start units) ∙ kept_units [] 0 at_start units
 
 pub visible : (units : List Unit) → Visible (resolved.resolved units)
 visible units = ap resolved.resolved (sym (keeps_units units))

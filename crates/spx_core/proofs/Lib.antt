@@ -10,3 +10,5 @@ mod RuleLaws
 mod RuleBreachLaws
 mod VarSetLaws
 mod NameBreachLaws
+mod DeclarationBreachLaws
+mod ProgramBreachLaws

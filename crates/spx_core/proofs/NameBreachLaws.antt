@@ -1,4 +1,4 @@
--- What is reported of a rule on names or types is broken at that place, and where nothing is reported no rule is broken.
+-- What is reported of a rule on names or types in expressions and statements is broken at that place, and where nothing is reported no rule is broken.
 -- Of each kind of part, a lemma `.._found` says the first, and a lemma `no_..` the second.
 use Rattle.std.proofs.Common.{◌≡◌, ◌⊎◌, true, false, not, ◌&&◌, List, [], ◌∷◌, Option, Some, None, Ok, Err, refl, sym, ap, subst, ◌∙◌, inl, inr, ⊎_elim}
 use Rattle.std.specs.Prelude.{Contains}
@@ -21,8 +21,6 @@ use Rattle.spx_core.specs.declared.name.Reference.{Reference}
 use Rattle.spx_core.specs.declared.name.Step.{Step}
 use Rattle.spx_core.specs.declared.expression.CoreExpr.{CoreExpr}
 use Rattle.spx_core.specs.declared.expression.CoreExpr.TheVariants as expr
-use Rattle.spx_core.specs.declared.statement.CoreDecl.{CoreDecl}
-use Rattle.spx_core.specs.declared.statement.CoreDecl.TheVariants.{Variables}
 use Rattle.spx_core.specs.declared.dependency.CoreDerivesItem.{CoreDerivesItem}
 use Rattle.spx_core.specs.declared.subprogram.CoreParam.{CoreParam}
 use Rattle.spx_core.specs.declared.subprogram.CorePrecondition.{CorePrecondition}
@@ -36,21 +34,21 @@ use Rattle.spx_core.specs.declared.rule.Typing.{Typing}
 use Rattle.spx_core.specs.Commands.{Command, Skip, Set, Then, Choose, commands}
 use Rattle.spx_core.specs.Dependency.{relation}
 use Rattle.spx_core.specs.HasType.{HasType}
-use Rattle.spx_core.specs.Judged.{Judged, ◌>>=◌, attribute, condition, each, expr_step, if_there, ordered_type, is_attribute, is_whole, judged, keeps, member_of_range, member_of_type, named_object, named_type, named_value, object_at, operand_of, operation, referred_object, referred_type, sign, type_at, value_at, whole}
+use Rattle.spx_core.specs.Judged.{Judged, ◌>>=◌, attribute, condition, each, expr_step, if_there, ordered_type, is_attribute, is_whole, judged, keeps, member_of_range, member_of_type, named_object, named_target, named_type, named_value, object_at, operand_of, operation, referred_object, referred_target, referred_type, sign, target_at, type_at, value_at, whole}
 use Rattle.spx_core.specs.NameBreaches as broken
-use Rattle.spx_core.specs.NameBreaches.{BreaksCommand, BreaksCondition, BreaksExpr, BreaksName, BreaksProgram, BreaksReference, BreaksSub, IsObject, IsType, IsValue}
+use Rattle.spx_core.specs.NameBreaches.{BreaksCommand, BreaksCondition, BreaksExpr, BreaksName, BreaksProgram, BreaksReference, BreaksSub, IsObject, IsTarget, IsType, IsValue, assigned_type}
 use Rattle.spx_core.specs.Resolved.{declared_by, formal_names, local_names, params_of, resolved}
 use Rattle.spx_core.specs.Statements.{assignment, declared, declared_once, first_name_breach, judged_command, judged_decl, judged_end, judged_item, judged_name, judged_param, judged_pre, judged_program, judged_sub, judged_variable, test}
 use Rattle.spx_core.specs.Types.{both_held, has_numbers, is_boolean, is_held, is_of, left_type, lies_in, met, operand_fits, operands_fit, result_of, result_type, right_type, signed_result, three_fit}
 use Rattle.spx_core.proofs.Elements.{in_all, in_first, in_none, in_part}
-use Rattle.spx_core.proofs.Judgements.{bound, by_part, by_test, each_broken, joined, kept, ok_is, passes_at, reported, unbroken}
+use Rattle.spx_core.proofs.Judgements.{bound, by_part, by_test, joined, kept, ok_is, some_is}
 use Rattle.spx_core.proofs.TypedLaws.{complete, sound}
 use Rattle.spx_core.proofs.Callers.Expressions.{Cases, induct, fold-Number, fold-Name, fold-Attribute, fold-Parenthesized, fold-Prefix, fold-Infix, fold-InType, fold-InRange}
 
 -- ---- names
 
 -- what the breach says is broken there
-abbrev At : (RuleName → Place → Type 0) → Breach → Type 0
+abbrev pub At : (RuleName → Place → Type 0) → Breach → Type 0
 At Breaks b = Breaks b.rule b.place
 
 told : {A : Type 0} (Breaks : RuleName → Place → Type 0) (rule : RuleName) (place : Place) (b : Breach) → ◌≡◌ {A = Judged A} (Err (record { rule = rule; place = place })) (Err b) → Breaks rule place → At Breaks b
@@ -60,27 +58,53 @@ object_found : (name : CoreName) (e : Option Entity) (b : Breach) → name.entit
 object_found name None b is h = told (BreaksName IsObject name) N1 name.name.place b h (broken.undeclared is)
 object_found name (Some (entity.Variable v object)) b is h = absurd cc
 object_found name (Some (entity.TypeName subtype)) b is h = told (BreaksName IsObject name) N3 name.name.place b h (broken.of_another_kind (entity.TypeName subtype) is (λ o. let e = o.2 in cc))
+object_found name (Some (entity.Constant subtype n)) b is h = told (BreaksName IsObject name) N3 name.name.place b h (broken.of_another_kind (entity.Constant subtype n) is (λ o. let e = o.2 in cc))
+object_found name (Some (entity.NamedNumber n)) b is h = told (BreaksName IsObject name) N3 name.name.place b h (broken.of_another_kind (entity.NamedNumber n) is (λ o. let e = o.2 in cc))
 object_found name (Some (entity.Literal subtype position)) b is h = told (BreaksName IsObject name) N3 name.name.place b h (broken.of_another_kind (entity.Literal subtype position) is (λ o. let e = o.2 in cc))
 object_found name (Some (entity.Subprogram s)) b is h = told (BreaksName IsObject name) N3 name.name.place b h (broken.of_another_kind (entity.Subprogram s) is (λ o. let e = o.2 in cc))
 
 value_found : (name : CoreName) (e : Option Entity) (b : Breach) → name.entity ≡ e → value_at name.name.place e ≡ Err b → At (BreaksName IsValue name) b
 value_found name None b is h = told (BreaksName IsValue name) N1 name.name.place b h (broken.undeclared is)
 value_found name (Some (entity.Variable v object)) b is h = absurd cc
+value_found name (Some (entity.Constant subtype n)) b is h = absurd cc
+value_found name (Some (entity.NamedNumber n)) b is h = absurd cc
 value_found name (Some (entity.Literal subtype position)) b is h = absurd cc
-value_found name (Some (entity.TypeName subtype)) b is h = told (BreaksName IsValue name) N3 name.name.place b h (broken.of_another_kind (entity.TypeName subtype) is (⊎_elim (λ o. let e = o.2 in cc) (λ l. let e = l.2 in cc)))
-value_found name (Some (entity.Subprogram s)) b is h = told (BreaksName IsValue name) N3 name.name.place b h (broken.of_another_kind (entity.Subprogram s) is (⊎_elim (λ o. let e = o.2 in cc) (λ l. let e = l.2 in cc)))
+value_found name (Some (entity.TypeName subtype)) b is h = told (BreaksName IsValue name) N3 name.name.place b h (broken.of_another_kind (entity.TypeName subtype) is (⊎_elim (λ o. let e = o.2 in cc) (⊎_elim (⊎_elim (λ c. let e = c.2 in cc) (λ n. let e = n.1 in cc)) (λ l. let e = l.2 in cc))))
+value_found name (Some (entity.Subprogram s)) b is h = told (BreaksName IsValue name) N3 name.name.place b h (broken.of_another_kind (entity.Subprogram s) is (⊎_elim (λ o. let e = o.2 in cc) (⊎_elim (⊎_elim (λ c. let e = c.2 in cc) (λ n. let e = n.1 in cc)) (λ l. let e = l.2 in cc))))
 
 type_found : (name : CoreName) (e : Option Entity) (b : Breach) → name.entity ≡ e → type_at name.name.place e ≡ Err b → At (BreaksName IsType name) b
 type_found name None b is h = told (BreaksName IsType name) N1 name.name.place b h (broken.undeclared is)
 type_found name (Some (entity.TypeName subtype)) b is h = absurd cc
 type_found name (Some (entity.Variable v object)) b is h = told (BreaksName IsType name) N3 name.name.place b h (broken.of_another_kind (entity.Variable v object) is (λ o. let e = o.1 in cc))
+type_found name (Some (entity.Constant subtype n)) b is h = told (BreaksName IsType name) N3 name.name.place b h (broken.of_another_kind (entity.Constant subtype n) is (λ o. let e = o.1 in cc))
+type_found name (Some (entity.NamedNumber n)) b is h = told (BreaksName IsType name) N3 name.name.place b h (broken.of_another_kind (entity.NamedNumber n) is (λ o. let e = o.1 in cc))
 type_found name (Some (entity.Literal subtype position)) b is h = told (BreaksName IsType name) N3 name.name.place b h (broken.of_another_kind (entity.Literal subtype position) is (λ o. let e = o.1 in cc))
 type_found name (Some (entity.Subprogram s)) b is h = told (BreaksName IsType name) N3 name.name.place b h (broken.of_another_kind (entity.Subprogram s) is (λ o. let e = o.1 in cc))
+
+target_found : (name : CoreName) (e : Option Entity) (b : Breach) → name.entity ≡ e → target_at name.name.place e ≡ Err b → At (BreaksName IsTarget name) b
+target_found name None b is h = told (BreaksName IsTarget name) N1 name.name.place b h (broken.undeclared is)
+target_found name (Some (entity.Variable v object)) b is h = absurd cc
+target_found name (Some (entity.Constant subtype n)) b is h = absurd cc
+target_found name (Some (entity.NamedNumber n)) b is h = absurd cc
+target_found name (Some (entity.TypeName subtype)) b is h = told (BreaksName IsTarget name) N3 name.name.place b h (broken.of_another_kind (entity.TypeName subtype) is (λ o. let e = o.1 in cc))
+target_found name (Some (entity.Literal subtype position)) b is h = told (BreaksName IsTarget name) N3 name.name.place b h (broken.of_another_kind (entity.Literal subtype position) is (λ o. let e = o.1 in cc))
+target_found name (Some (entity.Subprogram s)) b is h = told (BreaksName IsTarget name) N3 name.name.place b h (broken.of_another_kind (entity.Subprogram s) is (λ o. let e = o.1 in cc))
+
+target_is : (place : Place) (e : Option Entity) (subtype : Subtype) → target_at place e ≡ Ok subtype → (x : Entity) × (e ≡ Some x) × (assigned_type x ≡ Some subtype)
+target_is place None subtype h = absurd cc
+target_is place (Some (entity.Variable v object)) subtype h = (entity.Variable v object, refl, ap Some (ok_is h))
+target_is place (Some (entity.Constant s n)) subtype h = (entity.Constant s n, refl, ap Some (ok_is h))
+target_is place (Some (entity.NamedNumber n)) subtype h = (entity.NamedNumber n, refl, ap Some (ok_is h))
+target_is place (Some (entity.TypeName s)) subtype h = absurd cc
+target_is place (Some (entity.Literal s position)) subtype h = absurd cc
+target_is place (Some (entity.Subprogram s)) subtype h = absurd cc
 
 object_is : (place : Place) (e : Option Entity) (object : Object) → object_at place e ≡ Ok object → (v : VarId) × (e ≡ Some (entity.Variable v object))
 object_is place None object h = absurd cc
 object_is place (Some (entity.Variable v o)) object h = (v, ap (λ (x : Object). Some (entity.Variable v x)) (ok_is h))
 object_is place (Some (entity.TypeName subtype)) object h = absurd cc
+object_is place (Some (entity.Constant subtype n)) object h = absurd cc
+object_is place (Some (entity.NamedNumber n)) object h = absurd cc
 object_is place (Some (entity.Literal subtype position)) object h = absurd cc
 object_is place (Some (entity.Subprogram s)) object h = absurd cc
 
@@ -88,13 +112,17 @@ type_is : (place : Place) (e : Option Entity) (subtype : Subtype) → type_at pl
 type_is place None subtype h = absurd cc
 type_is place (Some (entity.TypeName s)) subtype h = ap (λ (x : Subtype). Some (entity.TypeName x)) (ok_is h)
 type_is place (Some (entity.Variable v o)) subtype h = absurd cc
+type_is place (Some (entity.Constant s n)) subtype h = absurd cc
+type_is place (Some (entity.NamedNumber n)) subtype h = absurd cc
 type_is place (Some (entity.Literal s position)) subtype h = absurd cc
 type_is place (Some (entity.Subprogram s)) subtype h = absurd cc
 
 value_is : (place : Place) (e : Option Entity) (t : Typing) → value_at place e ≡ Ok t → (entity : Entity) × (e ≡ Some entity) × IsValue entity
 value_is place None t h = absurd cc
 value_is place (Some (entity.Variable v object)) t h = (entity.Variable v object, refl, inl (v, object, refl))
-value_is place (Some (entity.Literal subtype position)) t h = (entity.Literal subtype position, refl, inr (subtype, position, refl))
+value_is place (Some (entity.Constant subtype n)) t h = (entity.Constant subtype n, refl, inr (inl (inl (subtype, n, refl))))
+value_is place (Some (entity.NamedNumber n)) t h = (entity.NamedNumber n, refl, inr (inl (inr (n, refl))))
+value_is place (Some (entity.Literal subtype position)) t h = (entity.Literal subtype position, refl, inr (inr (subtype, position, refl)))
 value_is place (Some (entity.TypeName s)) t h = absurd cc
 value_is place (Some (entity.Subprogram s)) t h = absurd cc
 
@@ -105,6 +133,9 @@ no_name IsNeeded name e is needed _ _ (broken.of_another_kind other at unneeded)
 
 no_object_name : (name : CoreName) (object : Object) → named_object name ≡ Ok object → (rule : RuleName) (place : Place) → ¬ BreaksName IsObject name rule place
 no_object_name name object h = let o = object_is name.name.place name.entity object h in no_name IsObject name (entity.Variable o.0 object) o.1 (o.0, object, refl)
+
+no_target_name : (name : CoreName) (subtype : Subtype) → named_target name ≡ Ok subtype → (rule : RuleName) (place : Place) → ¬ BreaksName IsTarget name rule place
+no_target_name name subtype h = let t = target_is name.name.place name.entity subtype h in no_name IsTarget name t.0 t.1 (subtype, t.2)
 
 no_value_name : (name : CoreName) (t : Typing) → named_value name ≡ Ok t → (rule : RuleName) (place : Place) → ¬ BreaksName IsValue name rule place
 no_value_name name t h = let v = value_is name.name.place name.entity t h in no_name IsValue name v.0 v.1 v.2
@@ -138,27 +169,35 @@ module _ {A : Type 0} (IsNeeded : Entity → Type 0) (needed : Judged A) (refere
   no_reference ends named _ _ (broken.root rule place h) = named rule place h
   no_reference ends named _ _ (broken.not_whole step is) = no_step reference.way step ends is
 
-object_reference_found : (reference : Reference) (b : Breach) → referred_object reference ≡ Err b → At (BreaksReference IsObject reference) b
+pub object_reference_found : (reference : Reference) (b : Breach) → referred_object reference ≡ Err b → At (BreaksReference IsObject reference) b
 object_reference_found reference b h = reference_found IsObject (named_object reference.root) reference b (object_found reference.root _ b refl) h
 
-type_reference_found : (reference : Reference) (b : Breach) → referred_type reference ≡ Err b → At (BreaksReference IsType reference) b
+pub type_reference_found : (reference : Reference) (b : Breach) → referred_type reference ≡ Err b → At (BreaksReference IsType reference) b
 type_reference_found reference b h = reference_found IsType (named_type reference.root) reference b (type_found reference.root _ b refl) h
 
-no_object_reference : (reference : Reference) (object : Object) → referred_object reference ≡ Ok object → (rule : RuleName) (place : Place) → ¬ BreaksReference IsObject reference rule place
+target_reference_found : (reference : Reference) (b : Breach) → referred_target reference ≡ Err b → At (BreaksReference IsTarget reference) b
+target_reference_found reference b h = reference_found IsTarget (named_target reference.root) reference b (target_found reference.root _ b refl) h
+
+pub no_object_reference : (reference : Reference) (object : Object) → referred_object reference ≡ Ok object → (rule : RuleName) (place : Place) → ¬ BreaksReference IsObject reference rule place
 no_object_reference reference object h =
     let is = reference_is IsObject (named_object reference.root) reference object h in
     no_reference IsObject (named_object reference.root) reference is.1 (no_object_name reference.root object is.0)
 
-no_type_reference : (reference : Reference) (subtype : Subtype) → referred_type reference ≡ Ok subtype → (rule : RuleName) (place : Place) → ¬ BreaksReference IsType reference rule place
+no_target_reference : (reference : Reference) (subtype : Subtype) → referred_target reference ≡ Ok subtype → (rule : RuleName) (place : Place) → ¬ BreaksReference IsTarget reference rule place
+no_target_reference reference subtype h =
+    let is = reference_is IsTarget (named_target reference.root) reference subtype h in
+    no_reference IsTarget (named_target reference.root) reference is.1 (no_target_name reference.root subtype is.0)
+
+pub no_type_reference : (reference : Reference) (subtype : Subtype) → referred_type reference ≡ Ok subtype → (rule : RuleName) (place : Place) → ¬ BreaksReference IsType reference rule place
 no_type_reference reference subtype h =
     let is = reference_is IsType (named_type reference.root) reference subtype h in
     no_reference IsType (named_type reference.root) reference is.1 (no_type_name reference.root subtype is.0)
 
-referred_is : (reference : Reference) (subtype : Subtype) → referred_type reference ≡ Ok subtype → reference.root.entity ≡ Some (entity.TypeName subtype)
+pub referred_is : (reference : Reference) (subtype : Subtype) → referred_type reference ≡ Ok subtype → reference.root.entity ≡ Some (entity.TypeName subtype)
 referred_is reference subtype h = type_is reference.root.name.place reference.root.entity subtype (reference_is IsType (named_type reference.root) reference subtype h).0
 
 -- a name denotes one type
-same_type_named : (reference : Reference) (s subtype : Subtype) → referred_type reference ≡ Ok s → reference.root.entity ≡ Some (entity.TypeName subtype) → s ≡ subtype
+pub same_type_named : (reference : Reference) (s subtype : Subtype) → referred_type reference ≡ Ok s → reference.root.entity ≡ Some (entity.TypeName subtype) → s ≡ subtype
 same_type_named reference s subtype h is = ok_is (sym (reference_is IsType (named_type reference.root) reference s h).0 ∙ ap (type_at reference.root.name.place) is)
 
 integer_is : (reference : Reference) (subtype : Subtype) → ordered_type reference ≡ Ok subtype → (reference.root.entity ≡ Some (entity.TypeName subtype)) × (referred_type reference ≡ Ok subtype) × (has_numbers subtype.base.class ≡ true)
@@ -250,7 +289,7 @@ found_cases = record {
       member_of_range_found op at a low high o l u (sound a o first) (sound low l second) (sound high u third) b e)));
 }
 
-expr_found : (e : CoreExpr) → Found e
+pub expr_found : (e : CoreExpr) → Found e
 expr_found = induct Found found_cases
 
 -- what an attribute passes that gives something
@@ -350,7 +389,7 @@ in_range_passes op at a low high o l u t d c f h =
     let all = joined (λ o. judged low >>= λ l. judged high >>= λ u. member_of_range op at o l u) (complete a o d) ∙ joined (λ l. judged high >>= λ u. member_of_range op at o l u) (complete low l c) ∙ joined (member_of_range op at o l) (complete high u f) in
     member_of_range_passes op at o l u t (sym all ∙ sym (fold-InRange expr_step op at a low high) ∙ h)
 
-no_expr : (e : CoreExpr) (rule : RuleName) (place : Place) → BreaksExpr e rule place → (t : Typing) → judged e ≡ Ok t → ⊥
+pub no_expr : (e : CoreExpr) (rule : RuleName) (place : Place) → BreaksExpr e rule place → (t : Typing) → judged e ≡ Ok t → ⊥
 no_expr _ _ _ (broken.name n rule place h) t ok = no_value_name n t (sym (fold-Name expr_step n) ∙ ok) rule place h
 no_expr _ _ _ (broken.prefix n designator rule place h) t ok = let b = attribute_passes n designator t (sym (fold-Attribute expr_step n designator) ∙ ok) in no_type_name n b.0 b.1 rule place h
 no_expr _ _ _ (broken.no_attribute n designator unknown) t ok =
@@ -398,11 +437,11 @@ no_expr _ _ _ (broken.one_of_three op at a low high o l u one d c f is fails) t 
 
 -- ---- conditions
 
-condition_found : (e : CoreExpr) (b : Breach) → test e ≡ Err b → At (BreaksCondition e) b
+pub condition_found : (e : CoreExpr) (b : Breach) → test e ≡ Err b → At (BreaksCondition e) b
 condition_found e b h =
     by_part (judged e) _ b h (λ inside. broken.itself b.rule b.place (expr_found e b inside)) (λ t is h. by_test (BreaksCondition e) N10 t.place (is_boolean t.of) b h (broken.no_truth t (sound e t is)))
 
-no_condition : (e : CoreExpr) (rule : RuleName) (place : Place) → BreaksCondition e rule place → test e ≡ Ok tt → ⊥
+pub no_condition : (e : CoreExpr) (rule : RuleName) (place : Place) → BreaksCondition e rule place → test e ≡ Ok tt → ⊥
 no_condition e _ _ (broken.itself rule place h) ok = let b = bound (judged e) _ tt ok in no_expr e rule place h b.0 b.1
 no_condition e _ _ (broken.no_truth t d fails) ok = both_ways _ fails (kept N10 t.place _ (sym (joined condition (complete e t d)) ∙ ok))
 
@@ -411,13 +450,13 @@ no_condition e _ _ (broken.no_truth t d fails) ok = both_ways _ fails (kept N10 
 assignment_found : (target : Reference) (value : CoreExpr) (b : Breach) → assignment target value ≡ Err b → At (BreaksCommand (Set target value)) b
 assignment_found target value b h =
     let Breaks = BreaksCommand (Set target value) in
-    by_part (referred_object target) _ b h (λ e. broken.target target value b.rule b.place (object_reference_found target b e)) (λ object is h.
+    by_part (referred_target target) _ b h (λ e. broken.target target value b.rule b.place (target_reference_found target b e)) (λ subtype is h.
     by_part (judged value) _ b h (λ e. broken.value target value b.rule b.place (expr_found value b e)) (λ t has h.
-    let o = object_is target.root.name.place target.root.entity object (reference_is IsObject (named_object target.root) target object is).0 in
-    by_part (keeps N10 t.place (is_of object.subtype.base t.of)) _ b h (λ e. by_test Breaks N10 t.place (is_of object.subtype.base t.of) b e (broken.of_another_type target value o.0 object t o.1 (sound value t has))) (λ _ _ e.
-    by_test Breaks N12 t.place (lies_in (Of object.subtype.base) t.value) b e (broken.out_of_range target value o.0 object t o.1 (sound value t has)))))
+    let o = target_is target.root.name.place target.root.entity subtype (reference_is IsTarget (named_target target.root) target subtype is).0 in
+    by_part (keeps N10 t.place (is_of subtype.base t.of)) _ b h (λ e. by_test Breaks N10 t.place (is_of subtype.base t.of) b e (broken.of_another_type target value o.0 subtype t o.1 o.2 (sound value t has))) (λ _ _ e.
+    by_test Breaks N12 t.place (lies_in (Of subtype.base) t.value) b e (broken.out_of_range target value o.0 subtype t o.1 o.2 (sound value t has)))))
 
-command_found : (c : Command) (b : Breach) → judged_command c ≡ Err b → At (BreaksCommand c) b
+pub command_found : (c : Command) (b : Breach) → judged_command c ≡ Err b → At (BreaksCommand c) b
 command_found Skip b h = absurd cc
 command_found (Set target value) b h = assignment_found target value b h
 command_found (Then first second) b h =
@@ -427,23 +466,25 @@ command_found (Choose at e arm otherwise) b h =
     by_part (judged_command arm) (λ _. judged_command otherwise) b h (λ is. broken.arm at e arm otherwise b.rule b.place (command_found arm b is)) (λ _ _ is. broken.otherwise at e arm otherwise b.rule b.place (command_found otherwise b is)))
 
 -- what the value of an assignment passes that breaks no rule
-assigned_passes : (target : Reference) (value : CoreExpr) (v : VarId) (object : Object) (t : Typing) → target.root.entity ≡ Some (entity.Variable v object) → HasType value t → assignment target value ≡ Ok tt
-    → (is_of object.subtype.base t.of ≡ true) × (lies_in (Of object.subtype.base) t.value ≡ true)
-assigned_passes target value v object t is d ok =
-    let o = bound (referred_object target) _ tt ok in
-    let same : o.0 ≡ object = ok_is (sym (reference_is IsObject (named_object target.root) target o.0 o.1).0 ∙ ap (object_at target.root.name.place) is) in
-    let h : operand_of object.subtype t ≡ Ok tt = subst (λ (x : Object). operand_of x.subtype t ≡ Ok tt) same (sym (joined (operand_of o.0.subtype) (complete value t d)) ∙ o.2) in
-    let k = bound (keeps N10 t.place (is_of object.subtype.base t.of)) _ tt h in
+assigned_passes : (target : Reference) (value : CoreExpr) (e : Entity) (subtype : Subtype) (t : Typing) → target.root.entity ≡ Some e → assigned_type e ≡ Some subtype → HasType value t → assignment target value ≡ Ok tt
+    → (is_of subtype.base t.of ≡ true) × (lies_in (Of subtype.base) t.value ≡ true)
+assigned_passes target value e subtype t is its d ok =
+    let o = bound (referred_target target) _ tt ok in
+    let x = target_is target.root.name.place target.root.entity o.0 (reference_is IsTarget (named_target target.root) target o.0 o.1).0 in
+    let one : x.0 ≡ e = some_is (sym x.1 ∙ is) in
+    let same : o.0 ≡ subtype = some_is (sym x.2 ∙ ap assigned_type one ∙ its) in
+    let h : operand_of subtype t ≡ Ok tt = subst (λ (x : Subtype). operand_of x t ≡ Ok tt) same (sym (joined (operand_of o.0) (complete value t d)) ∙ o.2) in
+    let k = bound (keeps N10 t.place (is_of subtype.base t.of)) _ tt h in
     (kept N10 t.place _ k.1, kept N12 t.place _ k.2)
 
-no_command : (c : Command) (rule : RuleName) (place : Place) → BreaksCommand c rule place → judged_command c ≡ Ok tt → ⊥
-no_command _ _ _ (broken.target target value rule place h) ok = let o = bound (referred_object target) _ tt ok in no_object_reference target o.0 o.1 rule place h
+pub no_command : (c : Command) (rule : RuleName) (place : Place) → BreaksCommand c rule place → judged_command c ≡ Ok tt → ⊥
+no_command _ _ _ (broken.target target value rule place h) ok = let o = bound (referred_target target) _ tt ok in no_target_reference target o.0 o.1 rule place h
 no_command _ _ _ (broken.value target value rule place h) ok =
-    let o = bound (referred_object target) _ tt ok in
+    let o = bound (referred_target target) _ tt ok in
     let t = bound (judged value) _ tt o.2 in
     no_expr value rule place h t.0 t.1
-no_command _ _ _ (broken.of_another_type target value v object t is d fails) ok = both_ways _ fails (assigned_passes target value v object t is d ok).0
-no_command _ _ _ (broken.out_of_range target value v object t is d fails) ok = both_ways _ fails (assigned_passes target value v object t is d ok).1
+no_command _ _ _ (broken.of_another_type target value e subtype t is its d fails) ok = both_ways _ fails (assigned_passes target value e subtype t is its d ok).0
+no_command _ _ _ (broken.out_of_range target value e subtype t is its d fails) ok = both_ways _ fails (assigned_passes target value e subtype t is its d ok).1
 no_command _ _ _ (broken.first a b rule place h) ok = no_command a rule place h (bound (judged_command a) (λ _. judged_command b) tt ok).1
 no_command _ _ _ (broken.second a b rule place h) ok = no_command b rule place h (bound (judged_command a) (λ _. judged_command b) tt ok).2
 no_command _ _ _ (broken.condition at e a b rule place h) ok = no_condition e rule place h (bound (test e) (λ _. judged_command a >>= λ _. judged_command b) tt ok).1
@@ -453,131 +494,3 @@ no_command _ _ _ (broken.arm at e a b rule place h) ok =
 no_command _ _ _ (broken.otherwise at e a b rule place h) ok =
     let rest = bound (test e) (λ _. judged_command a >>= λ _. judged_command b) tt ok in
     no_command b rule place h (bound (judged_command a) (λ _. judged_command b) tt rest.2).2
-
--- ---- declarations and annotations
-
-module _ (names : List Defining) (type_name : Reference) where
-  declared_found : (Breaks : RuleName → Place → Type 0) (b : Breach) → ((d : Defining) → Contains names d → d.again ≡ true → Breaks N2 d.name.place)
-      → ((rule : RuleName) (place : Place) → BreaksReference IsType type_name rule place → Breaks rule place) → declared names type_name ≡ Err b → At Breaks b
-  declared_found Breaks b again of_type h =
-      by_part (each declared_once names) _ b h
-      (λ e. let d = each_broken declared_once names b e in by_test Breaks N2 d.0.name.place (not d.0.again) b d.2 (λ no. again d.0 d.1 (not-false d.0.again no))) (λ _ _ h.
-      by_part (referred_type type_name) _ b h (λ e. of_type b.rule b.place (type_reference_found type_name b e)) (λ _ _ e. absurd cc))
-
-  not_again : declared names type_name ≡ Ok tt → (d : Defining) → Contains names d → d.again ≡ true → ⊥
-  not_again ok d is again = both_ways d.again (not-true d.again (kept N2 d.name.place _ (passes_at declared_once names (bound (each declared_once names) _ tt ok).1 d is))) again
-
-  no_declared_type : declared names type_name ≡ Ok tt → (rule : RuleName) (place : Place) → ¬ BreaksReference IsType type_name rule place
-  no_declared_type ok = let t = bound (referred_type type_name) _ tt (bound (each declared_once names) _ tt ok).2 in no_type_reference type_name t.0 t.1
-
-variable_found : (reference : Reference) (b : Breach) → judged_variable reference ≡ Err b → At (BreaksReference IsObject reference) b
-variable_found reference b h = by_part (referred_object reference) _ b h (object_reference_found reference b) (λ _ _ e. absurd cc)
-
-no_variable : (reference : Reference) → judged_variable reference ≡ Ok tt → (rule : RuleName) (place : Place) → ¬ BreaksReference IsObject reference rule place
-no_variable reference ok = let o = bound (referred_object reference) _ tt ok in no_object_reference reference o.0 o.1
-
--- ---- subprograms
-
-module _ (sub : Sub) where
-  param_found : (param : CoreParam) → Contains (params_of sub.formal_part) param → (b : Breach) → judged_param param ≡ Err b → At (BreaksSub sub) b
-  param_found param is b h =
-      declared_found param.names param.type_name (BreaksSub sub) b
-      (λ d at again. broken.declared_again d (Contains-append_left (formal_names sub) (local_names sub) d (in_all (λ (param : CoreParam). param.names) (params_of sub.formal_part) param d is at)) again)
-      (λ rule place e. broken.param_type param rule place is e) h
-
-  decl_found : (decl : CoreDecl) → Contains sub.declarations decl → (b : Breach) → judged_decl decl ≡ Err b → At (BreaksSub sub) b
-  decl_found (Variables names type_name) is b h =
-      declared_found names type_name (BreaksSub sub) b
-      (λ d at again. broken.declared_again d (Contains-append_right (formal_names sub) (local_names sub) d (in_all declared_by sub.declarations (Variables names type_name) d is at)) again)
-      (λ rule place e. broken.local_type names type_name rule place is e) h
-
-  item_found : (item : CoreDerivesItem) → Contains (relation sub) item → (b : Breach) → judged_item item ≡ Err b → At (BreaksSub sub) b
-  item_found item is b h =
-      by_part (each judged_variable item.exports) _ b h
-      (λ e. let n = each_broken judged_variable item.exports b e in broken.exported item n.0 b.rule b.place is n.1 (variable_found n.0 b n.2))
-      (λ _ _ e. let n = each_broken judged_variable item.imports b e in broken.imported item n.0 b.rule b.place is n.1 (variable_found n.0 b n.2))
-
-  pre_found : (o : Option CorePrecondition) → sub.pre ≡ o → (b : Breach) → if_there judged_pre o ≡ Err b → At (BreaksSub sub) b
-  pre_found None is b h = absurd cc
-  pre_found (Some pre) is b h = broken.precondition pre b.rule b.place is (condition_found pre.condition b h)
-
-  end_found : (o : Option Identifier) → sub.end_name ≡ o → (b : Breach) → if_there (judged_end sub.name) o ≡ Err b → At (BreaksSub sub) b
-  end_found None is b h = absurd cc
-  end_found (Some name) is b h = by_test (BreaksSub sub) N5 name.place _ b h (broken.end_differs name is)
-
-  sub_found : (b : Breach) → judged_sub sub ≡ Err b → At (BreaksSub sub) b
-  sub_found b h =
-      by_part (each judged_param (params_of sub.formal_part)) _ b h (λ e. let x = each_broken judged_param (params_of sub.formal_part) b e in param_found x.0 x.1 b x.2) (λ _ _ h.
-      by_part (each judged_item (relation sub)) _ b h (λ e. let x = each_broken judged_item (relation sub) b e in item_found x.0 x.1 b x.2) (λ _ _ h.
-      by_part (if_there judged_pre sub.pre) _ b h (pre_found sub.pre refl b) (λ _ _ h.
-      by_part (each judged_decl sub.declarations) _ b h (λ e. let x = each_broken judged_decl sub.declarations b e in decl_found x.0 x.1 b x.2) (λ _ _ h.
-      by_part (judged_command (commands sub.statements)) _ b h (λ e. broken.statements b.rule b.place (command_found (commands sub.statements) b e)) (λ _ _ h.
-      end_found sub.end_name refl b h)))))
-
-  -- the parts of a subprogram that breaks no rule
-  record Parts : Type 0 where
-    params : each judged_param (params_of sub.formal_part) ≡ Ok tt
-    items : each judged_item (relation sub) ≡ Ok tt
-    pre : if_there judged_pre sub.pre ≡ Ok tt
-    declarations : each judged_decl sub.declarations ≡ Ok tt
-    statements : judged_command (commands sub.statements) ≡ Ok tt
-    end_name : if_there (judged_end sub.name) sub.end_name ≡ Ok tt
-
-  parts : judged_sub sub ≡ Ok tt → Parts
-  parts ok =
-      let a = bound (each judged_param (params_of sub.formal_part)) _ tt ok in
-      let b = bound (each judged_item (relation sub)) _ tt a.2 in
-      let c = bound (if_there judged_pre sub.pre) _ tt b.2 in
-      let d = bound (each judged_decl sub.declarations) _ tt c.2 in
-      let e = bound (judged_command (commands sub.statements)) _ tt d.2 in
-      record { params = a.1; items = b.1; pre = c.1; declarations = d.1; statements = e.1; end_name = e.2 }
-
-  decl_not_again : (decl : CoreDecl) → judged_decl decl ≡ Ok tt → (d : Defining) → Contains (declared_by decl) d → d.again ≡ true → ⊥
-  decl_not_again (Variables names type_name) ok d is again = not_again names type_name ok d is again
-
-  no_sub : Parts → (rule : RuleName) (place : Place) → ¬ BreaksSub sub rule place
-  no_sub ok _ _ (broken.declared_again d is again) = ⊎_elim
-      (λ formal.
-      let x = in_part (λ (param : CoreParam). param.names) (params_of sub.formal_part) d formal in
-      not_again x.0.names x.0.type_name (passes_at judged_param (params_of sub.formal_part) ok.params x.0 x.1) d x.2 again)
-      (λ «local».
-      let x = in_part declared_by sub.declarations d «local» in
-      decl_not_again x.0 (passes_at judged_decl sub.declarations ok.declarations x.0 x.1) d x.2 again)
-      (Contains-append_cases (formal_names sub) (local_names sub) d is)
-  no_sub ok _ _ (broken.param_type param rule place is h) = no_declared_type param.names param.type_name (passes_at judged_param (params_of sub.formal_part) ok.params param is) rule place h
-  no_sub ok _ _ (broken.local_type names type_name rule place is h) = no_declared_type names type_name (passes_at judged_decl sub.declarations ok.declarations (Variables names type_name) is) rule place h
-  no_sub ok _ _ (broken.exported item name rule place is at h) =
-      let here = passes_at judged_item (relation sub) ok.items item is in
-      no_variable name (passes_at judged_variable item.exports (bound (each judged_variable item.exports) _ tt here).1 name at) rule place h
-  no_sub ok _ _ (broken.imported item name rule place is at h) =
-      let here = passes_at judged_item (relation sub) ok.items item is in
-      no_variable name (passes_at judged_variable item.imports (bound (each judged_variable item.exports) _ tt here).2 name at) rule place h
-  no_sub ok _ _ (broken.precondition pre rule place is h) = no_condition pre.condition rule place h (ap (if_there judged_pre) (sym is) ∙ ok.pre)
-  no_sub ok _ _ (broken.statements rule place h) = no_command (commands sub.statements) rule place h ok.statements
-  no_sub ok _ _ (broken.end_differs name is differs) = both_ways _ differs (kept N5 name.place _ (ap (if_there (judged_end sub.name)) (sym is) ∙ ok.end_name))
-
--- ---- programs
-
-pub found_in : (p : Program) (b : Breach) → judged_program p ≡ Err b → BreaksProgram p b.rule b.place
-found_in p b h =
-    by_part (each judged_name p.subs) _ b h
-    (λ e. let x = each_broken judged_name p.subs b e in by_test (BreaksProgram p) N2 x.0.name.name.place (not x.0.name.again) b x.2 (λ no. broken.unit_declared_again x.0 x.1 (not-false x.0.name.again no)))
-    (λ _ _ e. let x = each_broken judged_sub p.subs b e in broken.within x.0 b.rule b.place x.1 (sub_found x.0 b x.2))
-
-pub none_missed : (p : Program) → judged_program p ≡ Ok tt → (rule : RuleName) (place : Place) → ¬ BreaksProgram p rule place
-none_missed p ok _ _ (broken.unit_declared_again sub is again) =
-    let names = (bound (each judged_name p.subs) _ tt ok).1 in
-    both_ways sub.name.again (not-true sub.name.again (kept N2 sub.name.name.place _ (passes_at judged_name p.subs names sub is))) again
-none_missed p ok _ _ (broken.within sub rule place is h) =
-    let subs = (bound (each judged_name p.subs) _ tt ok).2 in
-    no_sub sub (parts sub (passes_at judged_sub p.subs subs sub is)) rule place h
-
--- ---- units
-
-pub found : (units : List Unit) (b : Breach) → first_name_breach units ≡ Some b → BreaksProgram (resolved units) b.rule b.place
-unfolding first_name_breach
-found units b e = found_in (resolved units) b (reported (judged_program (resolved units)) b e)
-
-pub missed : (units : List Unit) → first_name_breach units ≡ None → (rule : RuleName) (place : Place) → ¬ BreaksProgram (resolved units) rule place
-unfolding first_name_breach
-missed units e = none_missed (resolved units) (unbroken (judged_program (resolved units)) e).1

@@ -29,43 +29,49 @@ either : {X : Type 0} (Q : X → Type 0) (b : Bool) (x y : X) → Q x → Q y �
 either Q true x y left right = left
 either Q false x y left right = right
 
+-- the subtype's row, where these follow those of the predefined types
+abbrev pub row_at : List TypeRow → ℕ → Option TypeRow
+row_at more position = slice_get (standard_types ++ more) position
+
 -- the row of the table of types at the subtype's id is its own
-abbrev pub HasRow : Subtype → Type 0
-HasRow subtype = option_map (λ (row : TypeRow). row.subtype) (slice_get standard_types subtype.id.0) ≡ Some subtype
+abbrev pub HasRow : List TypeRow → Subtype → Type 0
+HasRow more subtype = option_map (λ (row : TypeRow). row.subtype) (row_at more subtype.id.0) ≡ Some subtype
 
 -- of what is denoted: such a variable, or a subtype that has a row
-abbrev pub Holds : (VarId → Object → Type 0) → Option Entity → Type 0
-Holds P (Some (entity.Variable v object)) = P v object
-Holds P (Some (entity.TypeName subtype)) = HasRow subtype
-Holds P other = ⊤
+abbrev pub Holds : List TypeRow → (VarId → Object → Type 0) → Option Entity → Type 0
+Holds more P (Some (entity.Variable v object)) = P v object
+Holds more P (Some (entity.TypeName subtype)) = HasRow more subtype
+Holds more P other = ⊤
 
 -- what a name of a type denotes has a row, and so has what counts as denoted where there is none
-pub subtype_has_row : (P : VarId → Object → Type 0) (o : Option Entity) → Holds P o → HasRow (subtype_of o)
-subtype_has_row P (Some (entity.TypeName subtype)) h = h
-subtype_has_row P (Some (entity.Variable v object)) h = refl
-subtype_has_row P (Some (entity.Literal subtype position)) h = refl
-subtype_has_row P (Some (entity.Subprogram sub)) h = refl
-subtype_has_row P None h = refl
+pub subtype_has_row : (more : List TypeRow) (P : VarId → Object → Type 0) (o : Option Entity) → Holds more P o → HasRow more (subtype_of o)
+subtype_has_row more P (Some (entity.TypeName subtype)) h = h
+subtype_has_row more P (Some (entity.Variable v object)) h = refl
+subtype_has_row more P (Some (entity.Constant subtype n)) h = refl
+subtype_has_row more P (Some (entity.NamedNumber n)) h = refl
+subtype_has_row more P (Some (entity.Literal subtype position)) h = refl
+subtype_has_row more P (Some (entity.Subprogram sub)) h = refl
+subtype_has_row more P None h = refl
 
-module _ (P : VarId → Object → Type 0) where
+module _ (more : List TypeRow) (P : VarId → Object → Type 0) where
   abbrev pub AllHold : List Defining → Type 0
-  AllHold ds = AllByRecursion (λ (d : Defining). Holds P (Some d.entity)) ds
+  AllHold ds = AllByRecursion (λ (d : Defining). Holds more P (Some d.entity)) ds
 
   abbrev pub HoldsIn : Region → Type 0
-  HoldsIn region = AllByRecursion (λ (d : Declaration). Holds P d.entity) region
+  HoldsIn region = AllByRecursion (λ (d : Declaration). Holds more P d.entity) region
 
   -- ---- regions
 
-  found_holds : (region : Region) (word : List ℕ) (outer : Option Entity) → HoldsIn region → Holds P outer → Holds P (unwrap_or (declared_in region word) outer)
+  found_holds : (region : Region) (word : List ℕ) (outer : Option Entity) → HoldsIn region → Holds more P outer → Holds more P (unwrap_or (declared_in region word) outer)
   found_holds [] word outer all h = h
   found_holds (d ∷ ds) word outer all h =
-      either (λ o. Holds P (unwrap_or o outer)) (str_eq_ignore_ascii_case word d.word) (Some d.entity) (declared_in ds word) all.0 (found_holds ds word outer all.1 h)
+      either (λ o. Holds more P (unwrap_or o outer)) (str_eq_ignore_ascii_case word d.word) (Some d.entity) (declared_in ds word) all.0 (found_holds ds word outer all.1 h)
 
-  denoted_holds : (regions : Regions) (word : List ℕ) → AllByRecursion HoldsIn regions → Holds P (denoted regions word)
+  denoted_holds : (regions : Regions) (word : List ℕ) → AllByRecursion HoldsIn regions → Holds more P (denoted regions word)
   denoted_holds [] word all = tt
   denoted_holds (region ∷ outer) word all = found_holds region word (denoted outer word) all.0 (denoted_holds outer word all.1)
 
-  declaring_holds : (region : Region) (d : Defining) → HoldsIn region → Holds P (Some d.entity) → HoldsIn (declaring region d)
+  declaring_holds : (region : Region) (d : Defining) → HoldsIn region → Holds more P (Some d.entity) → HoldsIn (declaring region d)
   declaring_holds region d all h =
       let new : Region = record { word = d.name.text; entity = Some d.entity } ∷ [] in
       either HoldsIn (is_some (declared_in region d.name.text)) region (region ++ new) all (each_append _ region new all (h, tt))
@@ -82,20 +88,22 @@ module _ (P : VarId → Object → Type 0) where
   unfolding standard
   standard_holds = (refl, (tt, (tt, (refl, (refl, (refl, tt))))))
 
-  pub around_holds : (name : Defining) → Holds P (Some name.entity) → AllByRecursion HoldsIn (around_body name)
+  pub around_holds : (name : Defining) → Holds more P (Some name.entity) → AllByRecursion HoldsIn (around_body name)
   around_holds name h = (declaring_holds [] name tt h, (standard_holds, tt))
 
   -- inside a subprogram that declares these
-  pub inside_holds : (name : Defining) (ds : List Defining) → Holds P (Some name.entity) → AllHold ds → AllByRecursion HoldsIn (declaring_all [] ds ∷ around_body name)
+  pub inside_holds : (name : Defining) (ds : List Defining) → Holds more P (Some name.entity) → AllHold ds → AllByRecursion HoldsIn (declaring_all [] ds ∷ around_body name)
   inside_holds name ds h all = (declaring_all_holds [] ds tt all, around_holds name h)
 
   -- ---- names and expressions
 
-  denoted_variable : (v : VarId) (o : Option Entity) → Holds P o → is_same v (variable_of o) ≡ true → (object : Object) × (o ≡ Some (entity.Variable v object)) × P v object
+  denoted_variable : (v : VarId) (o : Option Entity) → Holds more P o → is_same v (variable_of o) ≡ true → (object : Object) × (o ≡ Some (entity.Variable v object)) × P v object
   denoted_variable v (Some (entity.Variable w object)) h is =
       let e = same_var w v (eqb-true w.0 v.0 is) in
       (object, ap (λ u. Some (entity.Variable u object)) e, subst (λ u. P u object) e h)
   denoted_variable v (Some (entity.TypeName subtype)) h is = absurd cc
+  denoted_variable v (Some (entity.Constant subtype n)) h is = absurd cc
+  denoted_variable v (Some (entity.NamedNumber n)) h is = absurd cc
   denoted_variable v (Some (entity.Literal subtype position)) h is = absurd cc
   denoted_variable v (Some (entity.Subprogram sub)) h is = absurd cc
   denoted_variable v None h is = absurd cc
@@ -112,14 +120,14 @@ module _ (P : VarId → Object → Type 0) where
         let known = reference_variable v one.0 one.1 in
         (known.0, known.2)
 
-    pub root_holds : (name : Name) → Holds P (resolved_reference regions name).root.entity
+    pub root_holds : (name : Name) → Holds more P (resolved_reference regions name).root.entity
     root_holds (Simple name) = denoted_holds regions name.text all
     root_holds (Attribute prefix designator) = denoted_holds regions prefix.text all
 
     -- ---- the names that an expression reads
 
     abbrev pub AreKnown : List CoreName → Type 0
-    AreKnown names = AllByRecursion (λ (name : CoreName). Holds P name.entity) names
+    AreKnown names = AllByRecursion (λ (name : CoreName). Holds more P name.entity) names
 
     abbrev ReadsKnown : Expr → Type 0
     ReadsKnown e = AreKnown (names_read (resolved_expr regions e))

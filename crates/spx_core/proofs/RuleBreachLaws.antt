@@ -2,7 +2,7 @@
 use Rattle.std.proofs.Common.{◌≡◌, ◌⊎◌, Bool, true, false, not, ◌&&◌, ◌||◌, List, [], ◌∷◌, ◌++◌, Option, Some, None, Ok, Err, is_some, refl, sym, ap, ap₂, subst, ◌∙◌, inl, inr, ⊎_elim, arith}
 use Rattle.std.specs.Prelude.{All, Any, Contains, ◌==◌}
 use Rattle.std.specs.List.{cons_option, flat_map, list_all, list_any}
-use Rattle.std.proofs.lemmas.Bool.{and_cases, and_from, and_left, and_parts, and_right, eq-eqb, eqb-true, not-false, not_from_true, or_cases, or_from, or_left, or_parts, or_right}
+use Rattle.std.proofs.lemmas.Bool.{and_cases, and_from, and_left, and_parts, and_right, both_ways, eq-eqb, eqb-true, not-false, not-true, not_from_true, or_cases, or_from, or_left, or_parts, or_right}
 use Rattle.std.proofs.lemmas.List.Elements.{All-contains, Contains-append_right}
 use Rattle.std.proofs.lemmas.List.Folds.{list_all_at, list_any-append}
 use Rattle.spx_text.specs.declared.place.Place.{Place}
@@ -27,9 +27,9 @@ use Rattle.spx_core.specs.Dependency.{exports, imports, relation, variables}
 use Rattle.spx_core.specs.Mirror.DerivesItems.{has_export, has_import}
 use Rattle.spx_core.specs.Formals.{formals, is_formal, stands_in}
 use Rattle.spx_core.specs.Judged.{◌>>=◌, each, if_there, keeps}
-use Rattle.spx_core.specs.Obeyed.{Obeys, export_agrees, exports_once, first_rule_breach, import_agrees, is_among, is_export_of, is_exported, is_imported, is_listed, is_right_relation, may_be_assigned, mode_denoted, mode_named, names_formal, names_formals, names_once, obeyed, obeyed_command, obeyed_export, obeyed_import, obeyed_item, obeyed_pre, obeyed_relation, obeyed_sub, pairs_once, place_or, reads_import, unused_imports, variable_is, variable_passes}
+use Rattle.spx_core.specs.Obeyed.{Obeys, export_agrees, exports_once, first_rule_breach, import_agrees, is_among, is_constant, is_export_of, is_exported, is_imported, is_listed, is_right_relation, may_be_assigned, mode_denoted, mode_named, names_formal, names_formals, names_once, obeyed, obeyed_command, obeyed_export, obeyed_import, obeyed_item, obeyed_pre, obeyed_relation, obeyed_sub, pairs_once, place_or, reads_import, unused_imports, variable_is, variable_passes}
 use Rattle.spx_core.specs.Rules.{ObeysRules, agrees}
-use Rattle.spx_core.specs.RuleBreaches.{Assigns, BreaksRule, Disagrees, HasBadDerives, IsInRelation, IsVariable, StandsTwice, exports_named, bad_derives, mode_disagrees, not_imported, input_assigned, export_twice, import_twice, unused_twice, import_beside_star, formal_left_out, no_formal}
+use Rattle.spx_core.specs.RuleBreaches.{Assigns, BreaksRule, Disagrees, HasBadDerives, IsInRelation, IsVariable, StandsTwice, exports_named, bad_derives, mode_disagrees, not_imported, constant_assigned, input_assigned, export_twice, import_twice, unused_twice, import_beside_star, formal_left_out, no_formal}
 use Rattle.spx_core.specs.Scopes.{HasItsMode, HaveTheirModes, Scoped}
 use Rattle.spx_core.specs.Erased.{Visible}
 use Rattle.spx_core.proofs.Judgements.{bound, broken_in, each_broken, each_passes, kept, not_kept, passes_at, reported, unbroken}
@@ -337,11 +337,26 @@ is_input : (o : Option Mode) → may_be_assigned o ≡ false → o ≡ Some In
 is_input (Some In) h = refl
 is_input _ h = absurd (cc)
 
-assigned_input : (c : Command) (b : Breach) → obeyed_command c ≡ Err b → (target : Reference) × Assigns c target × (mode_named target.root ≡ Some In) × (◌≡◌ {A = Breach} (record { rule = U2; place = target.root.name.place }) b)
+-- a target that is not assigned: a formal of mode `in`, or a constant
+abbrev IsInput : Reference → Type 0
+IsInput target = (mode_named target.root ≡ Some In) ⊎ (is_constant target.root.entity ≡ true)
+
+abbrev may_assign : Reference → Bool
+may_assign target = may_be_assigned (mode_named target.root) && not (is_constant target.root.entity)
+
+refused_target : (target : Reference) → may_assign target ≡ false → IsInput target
+refused_target target h = ⊎_elim (λ m. inl (is_input (mode_named target.root) m)) (λ c. inr (not-false (is_constant target.root.entity) c)) (and_cases (may_be_assigned (mode_named target.root)) (not (is_constant target.root.entity)) h)
+
+no_refused_target : (target : Reference) → may_assign target ≡ true → IsInput target → ⊥
+no_refused_target target h is =
+    let parts = and_parts (may_be_assigned (mode_named target.root)) (not (is_constant target.root.entity)) h in
+    ⊎_elim (λ m. let e = sym parts.0 ∙ ap may_be_assigned m in absurd cc) (λ c. both_ways (is_constant target.root.entity) (not-true (is_constant target.root.entity) parts.1) c) is
+
+assigned_input : (c : Command) (b : Breach) → obeyed_command c ≡ Err b → (target : Reference) × Assigns c target × IsInput target × (◌≡◌ {A = Breach} (record { rule = U2; place = target.root.name.place }) b)
 assigned_input Skip b e = absurd (cc)
 assigned_input (Set target value) b e =
-    let k = not_kept U2 target.root.name.place (may_be_assigned (mode_named target.root)) b e in
-    (target, refl, is_input (mode_named target.root) k.0, k.1)
+    let k = not_kept U2 target.root.name.place (may_assign target) b e in
+    (target, refl, refused_target target k.0, k.1)
 assigned_input (Then first second) b e =
     ⊎_elim (λ l. let w = assigned_input first b l in (w.0, inl w.1, w.2, w.3)) (λ r. let w = assigned_input second b r.2 in (w.0, inr w.1, w.2, w.3))
     (broken_in (obeyed_command first) (λ _. obeyed_command second) b e)
@@ -349,11 +364,9 @@ assigned_input (Choose place condition first second) b e =
     ⊎_elim (λ l. let w = assigned_input first b l in (w.0, inl w.1, w.2, w.3)) (λ r. let w = assigned_input second b r.2 in (w.0, inr w.1, w.2, w.3))
     (broken_in (obeyed_command first) (λ _. obeyed_command second) b e)
 
-no_input : (c : Command) (target : Reference) → Assigns c target → obeyed_command c ≡ Ok tt → mode_named target.root ≡ Some In → ⊥
+no_input : (c : Command) (target : Reference) → Assigns c target → obeyed_command c ≡ Ok tt → IsInput target → ⊥
 no_input Skip target assigns ok is = assigns
-no_input (Set other value) target assigns ok is =
-    let e = sym (kept U2 other.root.name.place (may_be_assigned (mode_named other.root)) ok) ∙ ap may_be_assigned (ap (λ (n : Reference). mode_named n.root) assigns ∙ is) in
-    absurd (cc)
+no_input (Set other value) target assigns ok is = no_refused_target other (kept U2 other.root.name.place (may_assign other) ok) (subst IsInput (sym assigns) is)
 no_input (Then a b) target assigns ok is =
     let parts = bound (obeyed_command a) (λ _. obeyed_command b) tt ok in
     ⊎_elim (λ l. no_input a target l parts.1 is) (λ r. no_input b target r parts.2 is) assigns
@@ -367,7 +380,7 @@ module _ (p : Program) (sub : Sub) (scoped : Scoped p sub) where
   command_breaks : (b : Breach) → obeyed_command (commands sub.statements) ≡ Err b → IsBroken p sub b
   command_breaks b e =
       let w = assigned_input (commands sub.statements) b e in
-      subst (IsBroken p sub) w.3 (input_assigned w.0 w.1 w.2)
+      subst (IsBroken p sub) w.3 (⊎_elim (input_assigned w.0 w.1) (constant_assigned w.0 w.1) w.2)
 
   relation_breaks : (b : Breach) → obeyed_relation sub ≡ Err b → IsBroken p sub b
   relation_breaks b e =
@@ -413,7 +426,8 @@ module _ (p : Program) (sub : Sub) (scoped : Scoped p sub) where
         let passes = variable_passes (λ w. imports w sub) in
         let e = sym other ∙ (sym (ap passes its) ∙ kept U11 name.name.place (passes (variable_of name.entity)) ok_here) in
         absurd (cc)
-    none_broken _ _ (input_assigned target assigns is) = no_input (commands sub.statements) target assigns rest_passes.1 is
+    none_broken _ _ (input_assigned target assigns is) = no_input (commands sub.statements) target assigns rest_passes.1 (inl is)
+    none_broken _ _ (constant_assigned target assigns is) = no_input (commands sub.statements) target assigns rest_passes.1 (inr is)
 
 -- ---- programs
 

@@ -1,5 +1,5 @@
 -- What a program that breaks no rule on variables is.
-use Rattle.std.proofs.Common.{◌≡◌, ◌≢◌, ◌⊎◌, Bool, true, false, ◌||◌, Some, Ok, is_some, refl, sym, ap, ap₂, subst, ◌∙◌, inl, inr, ⊎_elim}
+use Rattle.std.proofs.Common.{◌≡◌, ◌≢◌, ◌⊎◌, Bool, true, false, ◌||◌, Some, Ok, is_some, refl, sym, ap, ap₂, subst, ◌∙◌, inl, inr, ⊎_elim, not}
 use Rattle.std.specs.Prelude.{All, ◌&&◌, ◌==◌}
 use Rattle.std.specs.List.{list_all}
 use Rattle.std.proofs.lemmas.Bool.{and_parts, eqb-true, or_cases}
@@ -22,7 +22,7 @@ use Rattle.spx_core.specs.Commands.{Command, Skip, Set, Then, Choose, commands}
 use Rattle.spx_core.specs.Effects.{effect, sets}
 use Rattle.spx_core.specs.Formals.{formals, is_formal, mode_of}
 use Rattle.spx_core.specs.Judged.{each, if_there}
-use Rattle.spx_core.specs.Obeyed.{Obeys, export_agrees, exports_once, import_agrees, is_imported, is_exported, is_listed, is_right_relation, may_be_assigned, mode_named, names_formals, names_once, obeyed_export, obeyed_import, obeyed_item, obeyed_pre, obeyed_relation, obeyed_command, obeyed_sub, pairs_once, place_or, reads_import, unused_imports, variable_is, variable_passes}
+use Rattle.spx_core.specs.Obeyed.{Obeys, export_agrees, exports_once, import_agrees, is_imported, is_exported, is_constant, is_listed, is_right_relation, may_be_assigned, mode_named, names_formals, names_once, obeyed_export, obeyed_import, obeyed_item, obeyed_pre, obeyed_relation, obeyed_command, obeyed_sub, pairs_once, place_or, reads_import, unused_imports, variable_is, variable_passes}
 use Rattle.spx_core.specs.Rules.{ObeysRules, agrees}
 use Rattle.spx_core.specs.Scopes.{HasItsMode, HaveTheirModes, Scoped, TargetsHaveTheirModes}
 use Rattle.spx_core.specs.Erased.{Visible}
@@ -43,7 +43,7 @@ no_input p v (Choose place condition a b) its h set is =
     let parts = bound (obeyed_command a) (λ _. obeyed_command b) tt h in
     ⊎_elim (λ first. no_input p v a its.0 parts.1 first is) (λ second. no_input p v b its.1 parts.2 second is) (or_cases (sets v (effect a)) (sets v (effect b)) set)
 no_input p v (Set target value) its h set is =
-    let e = sym (kept U2 target.root.name.place (may_be_assigned (mode_named target.root)) h) ∙ ap may_be_assigned (its v set ∙ is) in
+    let e = sym (and_parts (may_be_assigned (mode_named target.root)) (not (is_constant target.root.entity)) (kept U2 target.root.name.place _ h)).0 ∙ ap may_be_assigned (its v set ∙ is) in
     absurd (cc)
 
 -- ---- U8

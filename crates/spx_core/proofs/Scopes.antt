@@ -44,7 +44,7 @@ use Rattle.spx_core.specs.Formals.{is_formal, is_local, mode_in, mode_of, stands
 use Rattle.spx_core.specs.Effects.{effect, is_read, reads, reads_of, sets}
 use Rattle.spx_core.specs.Obeyed.{mode_denoted}
 use Rattle.spx_core.specs.Regions.{Region, Regions}
-use Rattle.spx_core.specs.Resolved.{around_body, declaring, declaring_all, exported_names, formal_names, local_names, own_vars, resolved_derives, resolved_item, resolved_expr, resolved_arm, resolved_pre, resolved_reference, resolved_stmt, resolved_sub, resolved_subs, standard_types, unit_name, var_of}
+use Rattle.spx_core.specs.Resolved.{after_formals, around_body, at_start, counted_sub, Counts, declaring, declaring_all, exported_names, formal_names, local_names, local_variables, own_types, own_vars, resolved_arm, resolved_derives, resolved_expr, resolved_item, resolved_pre, resolved_reference, resolved_stmt, resolved_sub, resolved_subs, standard_types, unit_name, var_of}
 use Rattle.spx_core.specs.Resolved as resolved
 use Rattle.spx_core.specs.Erased.{Visible, erased}
 use Rattle.spx_core.specs.Scopes.{AreAsDeclared, HasItsMode, HaveTheirModes, IsAsDeclared, Scoped, TargetsHaveTheirModes, kind_of, object_declared, object_in}
@@ -52,7 +52,7 @@ use Rattle.spx_core.proofs.Callers.Pairs.{exports_are, imports_are}
 use Rattle.spx_core.proofs.Callers.ListTests.{each_append, some_mapped}
 use Rattle.spx_core.proofs.Callers.FlowLaws.{reads_uses}
 use Rattle.spx_core.proofs.RegionLaws.{AllHold, Holds, HoldsIn, around_holds, inside_holds, mentioned_variable, read_known, reference_variable, root_holds, used_variable}
-use Rattle.spx_core.proofs.Consecutive.{Any, Consecutive, positions_differ, IsFormal, IsLocal, at_position, decls_consecutive, first_positions, formals_consecutive, formals_known, is_at, last_positions, rows}
+use Rattle.spx_core.proofs.Consecutive.{Any, Consecutive, Known, positions_differ, IsFormal, IsLocal, at_position, decls_known, first_positions, formals_consecutive, formals_known, is_at, last_positions, rows}
 
 mode_in_row : (kind : VarKind) (row : Option Var) → option_map (λ (var : Var). var.kind) row ≡ Some kind → option_and_then (λ (var : Var). mode_in var.kind) row ≡ mode_in kind
 mode_in_row kind (Some var) is = ap mode_in (let e : var.kind ≡ kind = cc in e)
@@ -140,10 +140,10 @@ stmts_resolve : (regions : Regions) (stmts : List Stmt) → Resolves regions (co
 stmts_resolve regions [] = tt
 stmts_resolve regions (s ∷ stmts) = (stmt_resolves regions s, stmts_resolve regions stmts)
 
-module _ (P : VarId → Object → Type 0) (regions : Regions) (all : AllByRecursion (HoldsIn P) regions) (v : VarId) where
+module _ (more : List TypeRow) (P : VarId → Object → Type 0) (regions : Regions) (all : AllByRecursion (HoldsIn more P) regions) (v : VarId) where
   imported_variable : (item : DerivesItem) → has_import v (resolved_item regions item) ≡ true → (object : Object) × P v object
   imported_variable item h =
-      ⊎_elim (mentioned_variable P regions all v item.imports.names) (λ itself. mentioned_variable P regions all v (exported_names item.exports) (and_parts (is_some item.imports.itself) (has_export v (resolved_item regions item)) itself).1)
+      ⊎_elim (mentioned_variable more P regions all v item.imports.names) (λ itself. mentioned_variable more P regions all v (exported_names item.exports) (and_parts (is_some item.imports.itself) (has_export v (resolved_item regions item)) itself).1)
       (or_cases (mentions v (map (resolved_reference regions) item.imports.names)) (is_some item.imports.itself && has_export v (resolved_item regions item)) h)
 
   in_relation : (test : CoreDerivesItem → Bool) → ((item : DerivesItem) → test (resolved_item regions item) ≡ true → (object : Object) × P v object)
@@ -152,12 +152,12 @@ module _ (P : VarId → Object → Type 0) (regions : Regions) (all : AllByRecur
   in_relation test known (Some derives) h = let one = some_mapped test (resolved_item regions) derives.items h in known one.0 one.1
 
   value_variable : (value : CoreExpr) → IsValueIn regions value → is_read v (reads_of value) ≡ true → (object : Object) × P v object
-  value_variable value written h = used_variable P regions all v written.0 (ap (uses v) (sym written.1) ∙ sym (reads_uses v value) ∙ h)
+  value_variable value written h = used_variable more P regions all v written.0 (ap (uses v) (sym written.1) ∙ sym (reads_uses v value) ∙ h)
 
   assigned_variable : (c : Command) → Resolves regions c → sets v (effect c) ≡ true → (object : Object) × P v object
   assigned_variable Skip written h = absurd cc
   assigned_variable (Set target value) written h =
-      let known = reference_variable P regions all v written.0.0 (ap (λ (name : Reference). denotes v name.root) (sym written.0.1) ∙ h) in (known.0, known.2)
+      let known = reference_variable more P regions all v written.0.0 (ap (λ (name : Reference). denotes v name.root) (sym written.0.1) ∙ h) in (known.0, known.2)
   assigned_variable (Then a b) written h = ⊎_elim (assigned_variable a written.0) (assigned_variable b written.1) (or_cases (sets v (effect a)) (sets v (effect b)) h)
   assigned_variable (Choose place condition a b) written h = ⊎_elim (assigned_variable a written.1) (assigned_variable b written.2) (or_cases (sets v (effect a)) (sets v (effect b)) h)
 
@@ -170,10 +170,10 @@ module _ (P : VarId → Object → Type 0) (regions : Regions) (all : AllByRecur
       (λ arms. ⊎_elim (read_variable a written.1) (read_variable b written.2) (or_cases (reads v (effect a)) (reads v (effect b)) arms))
       (or_cases (is_read v (reads_of condition)) (reads v (effect a) || reads v (effect b)) h)
 
-module _ (p : Program) (P : VarId → Object → Type 0) (row : (v : VarId) (object : Object) → P v object → object_declared p v ≡ Some object) (regions : Regions) (all : AllByRecursion (HoldsIn P) regions) where
+module _ (p : Program) (more : List TypeRow) (P : VarId → Object → Type 0) (row : (v : VarId) (object : Object) → P v object → object_declared p v ≡ Some object) (regions : Regions) (all : AllByRecursion (HoldsIn more P) regions) where
   has_its_mode : (name : Name) → HasItsMode p (resolved_reference regions name)
   has_its_mode name v is =
-      let known = reference_variable P regions all v name is in
+      let known = reference_variable more P regions all v name is in
       ap mode_denoted known.1 ∙ sym (mode_is p v known.0.kind (kind_is p v known.0 (row v known.0 known.2)))
 
   have_their_modes : (names : List Name) → All (HasItsMode p) (map (resolved_reference regions) names)
@@ -192,20 +192,20 @@ module _ (p : Program) (P : VarId → Object → Type 0) (row : (v : VarId) (obj
 
   -- ---- what is declared of the variables that names denote
 
-  as_declared : (name : CoreName) → Holds P name.entity → IsAsDeclared p name
-  as_declared name h v object is = row v object (subst (Holds P) is h)
+  as_declared : (name : CoreName) → Holds more P name.entity → IsAsDeclared p name
+  as_declared name h v object is = row v object (subst (Holds more P) is h)
 
-  all_as_declared : (names : List CoreName) → AllByRecursion (λ (name : CoreName). Holds P name.entity) names → AllByRecursion (IsAsDeclared p) names
+  all_as_declared : (names : List CoreName) → AllByRecursion (λ (name : CoreName). Holds more P name.entity) names → AllByRecursion (IsAsDeclared p) names
   all_as_declared [] known = tt
   all_as_declared (name ∷ names) known = (as_declared name known.0, all_as_declared names known.1)
 
   read_as_declared : (value : CoreExpr) → IsValueIn regions value → All (IsAsDeclared p) (names_read value)
   read_as_declared value written =
       subst (λ e. All (IsAsDeclared p) (names_read e)) (sym written.1)
-      (All-from_recursion (IsAsDeclared p) _ (all_as_declared (names_read (resolved_expr regions written.0)) (read_known P regions all written.0)))
+      (All-from_recursion (IsAsDeclared p) _ (all_as_declared (names_read (resolved_expr regions written.0)) (read_known more P regions all written.0)))
 
   target_as_declared : (target : Reference) → IsTargetIn regions target → IsAsDeclared p target.root
-  target_as_declared target written = subst (λ (r : Reference). IsAsDeclared p r.root) (sym written.1) (as_declared (resolved_reference regions written.0).root (root_holds P regions all written.0))
+  target_as_declared target written = subst (λ (r : Reference). IsAsDeclared p r.root) (sym written.1) (as_declared (resolved_reference regions written.0).root (root_holds more P regions all written.0))
 
   command_as_declared : (c : Command) → Resolves regions c → AreAsDeclared p c
   command_as_declared Skip written = tt
@@ -219,20 +219,26 @@ module _ (p : Program) (P : VarId → Object → Type 0) (row : (v : VarId) (obj
 
 -- ---- subprograms
 
-module _ (p : Program) (types : p.types ≡ standard_types) where
-  -- the unit at this position, whose variables stand between these rows
-  module _ (library : Region) (position first : ℕ) (s : Subprogram) (before after : List Var) (len : length before ≡ first) where
+module _ (p : Program) (more : List TypeRow) (types : p.types ≡ standard_types ++ more) where
+  -- the unit at this position, whose variables and types stand between these rows
+  module _ (library : Region) (position : ℕ) (counts : Counts) (s : Subprogram) (before after : List Var) (len : length before ≡ counts.vars) where
+    abbrev first : ℕ
+    first = counts.vars
+
     abbrev name : Defining
     name = unit_name library position s
 
     abbrev sub : Sub
-    sub = resolved_sub name first s
+    sub = resolved_sub name counts s
 
     abbrev its_formals : List Defining
     its_formals = formal_names sub
 
+    abbrev its_names : List Defining
+    its_names = local_names sub
+
     abbrev its_locals : List Defining
-    its_locals = local_names sub
+    its_locals = local_variables sub
 
     formal_positions : (v : VarId) → is_formal v sub ≡ is_at v first its_formals
     formal_positions v = ap (stands_in v) (first_positions first its_formals its_locals)
@@ -240,17 +246,14 @@ module _ (p : Program) (types : p.types ≡ standard_types) where
     local_positions : (v : VarId) → is_local v sub ≡ is_at v (first + length its_formals) its_locals
     local_positions v = ap (stands_in v) (last_positions first its_formals its_locals)
 
-    formals_are : Consecutive IsFormal first its_formals
-    formals_are = formals_consecutive s.name first s.formal_part
-
-    locals_are : Consecutive IsLocal (first + length its_formals) its_locals
-    locals_are = decls_consecutive (around_body name) (around_holds Any name tt) (declaring_all [] its_formals) (first + length its_formals) s.declarations (formals_known first its_formals formals_are)
+    formals_are : Consecutive (IsFormal more) first its_formals
+    formals_are = formals_consecutive more s.name first s.formal_part
 
     abbrev annotations : Regions
     annotations = declaring_all [] its_formals ∷ around_body name
 
     abbrev body : Regions
-    body = declaring_all [] (its_formals ++ its_locals) ∷ around_body name
+    body = declaring_all [] (its_formals ++ its_names) ∷ around_body name
 
     -- a formal whose row says what is declared of it, and any variable of the subprogram
     abbrev FormalRow : VarId → Object → Type 0
@@ -259,72 +262,85 @@ module _ (p : Program) (types : p.types ≡ standard_types) where
     abbrev Own : VarId → Object → Type 0
     Own v object = ((is_formal v sub || is_local v sub) ≡ true) × (object_declared p v ≡ Some object)
 
-    module _ (vars : p.vars ≡ before ++ (own_vars sub ++ after)) where
+    module _ (vars : p.vars ≡ before ++ (own_vars sub ++ after)) (front back : List TypeRow) (count : length (standard_types ++ front) ≡ counts.types) (rows_are : more ≡ front ++ (own_types sub ++ back)) where
+      names_known : Known more (first + length its_formals) its_locals its_names
+      names_known = decls_known more (around_body name) (around_holds more Any name tt) (declaring_all [] its_formals) (after_formals counts sub.formal_part) s.declarations front back (formals_known more first its_formals formals_are) (count, rows_are)
+
+      locals_are : Consecutive (IsLocal more) (first + length its_formals) its_locals
+      locals_are = names_known.consecutive
+
       vars_are : p.vars ≡ before ++ (map var_of its_formals ++ (map var_of its_locals ++ after))
       vars_are = vars ∙ ap (λ ws. before ++ (ws ++ after)) (map-append var_of its_formals its_locals) ∙ ap (λ ws. before ++ ws) (append_assoc (map var_of its_formals) (map var_of its_locals) after)
 
-      formal_rows : (P : VarId → Object → Type 0) → ((v : VarId) (object : Object) → IsFormal object → is_formal v sub ≡ true → object_declared p v ≡ Some object → P v object) → AllHold P its_formals
+      formal_rows : (P : VarId → Object → Type 0) → ((v : VarId) (object : Object) → IsFormal more object → is_formal v sub ≡ true → object_declared p v ≡ Some object → P v object) → AllHold more P its_formals
       formal_rows P follows =
-          rows p types IsFormal (λ object k. k.1) P before first its_formals (map var_of its_locals ++ after) len vars_are formals_are (λ v object kind at row. follows v object kind (formal_positions v ∙ at) row)
+          rows p more types (IsFormal more) (λ object k. k.1) P before first its_formals (map var_of its_locals ++ after) len vars_are formals_are (λ v object kind at row. follows v object kind (formal_positions v ∙ at) row)
 
-      local_rows : (P : VarId → Object → Type 0) → ((v : VarId) (object : Object) → IsLocal object → is_local v sub ≡ true → object_declared p v ≡ Some object → P v object) → AllHold P its_locals
+      local_rows : (P : VarId → Object → Type 0) → ((v : VarId) (object : Object) → IsLocal more object → is_local v sub ≡ true → object_declared p v ≡ Some object → P v object) → AllHold more P its_locals
       local_rows P follows =
-          rows p types IsLocal (λ object k. k.1) P (before ++ map var_of its_formals) (first + length its_formals) its_locals after
+          rows p more types (IsLocal more) (λ object k. k.1) P (before ++ map var_of its_formals) (first + length its_formals) its_locals after
           (length-append before (map var_of its_formals) ∙ ap₂ ◌+◌ len (length-map its_formals var_of)) (vars_are ∙ sym (append_assoc before (map var_of its_formals) (map var_of its_locals ++ after))) locals_are
           (λ v object kind at row. follows v object kind (local_positions v ∙ at) row)
 
-      in_annotations : AllByRecursion (HoldsIn FormalRow) annotations
-      in_annotations = inside_holds FormalRow name its_formals tt (formal_rows FormalRow (λ v object kind formal row. (formal, row)))
+      in_annotations : AllByRecursion (HoldsIn more FormalRow) annotations
+      in_annotations = inside_holds more FormalRow name its_formals tt (formal_rows FormalRow (λ v object kind formal row. (formal, row)))
 
-      in_body : AllByRecursion (HoldsIn Own) body
+      in_body : AllByRecursion (HoldsIn more Own) body
       in_body =
-          inside_holds Own name (its_formals ++ its_locals) tt
-          (each_append _ its_formals its_locals (formal_rows Own (λ v object kind formal row. (or_left (is_formal v sub) (is_local v sub) formal, row))) (local_rows Own (λ v object kind local row. (or_right (is_formal v sub) (is_local v sub) local, row))))
+          inside_holds more Own name (its_formals ++ its_names) tt
+          (each_append _ its_formals its_names (formal_rows Own (λ v object kind formal row. (or_left (is_formal v sub) (is_local v sub) formal, row)))
+          (names_known.holds Own (local_rows Own (λ v object kind local row. (or_right (is_formal v sub) (is_local v sub) local, row)))))
 
       formal_kind : (v : VarId) → is_formal v sub ≡ true → (mode : Mode) × (kind_of p v ≡ Some (Formal mode))
       formal_kind v h =
           let P : VarId → Object → Type 0 = λ v object. (mode : Mode) × (kind_of p v ≡ Some (Formal mode)) in
-          (at_position p types IsFormal (λ object k. k.1) P v first its_formals formals_are (formal_rows P (λ v object kind formal row. (kind.0.0, kind_is p v object row ∙ ap Some kind.0.1))) (sym (formal_positions v) ∙ h)).1
+          (at_position p more types (IsFormal more) (λ object k. k.1) P v first its_formals formals_are (formal_rows P (λ v object kind formal row. (kind.0.0, kind_is p v object row ∙ ap Some kind.0.1))) (sym (formal_positions v) ∙ h)).1
 
       local_kind : (v : VarId) → is_local v sub ≡ true → kind_of p v ≡ Some Local
       local_kind v h =
           let P : VarId → Object → Type 0 = λ v object. kind_of p v ≡ Some Local in
-          (at_position p types IsLocal (λ object k. k.1) P v (first + length its_formals) its_locals locals_are (local_rows P (λ v object kind local row. kind_is p v object row ∙ ap Some kind.0)) (sym (local_positions v) ∙ h)).1
+          (at_position p more types (IsLocal more) (λ object k. k.1) P v (first + length its_formals) its_locals locals_are (local_rows P (λ v object kind local row. kind_is p v object row ∙ ap Some kind.0)) (sym (local_positions v) ∙ h)).1
 
       no_local : (v : VarId) → is_formal v sub ≡ true → is_local v sub ≡ false
       no_local v h = false_from_ne_true (is_local v sub) (λ l. let kind = formal_kind v h in let other = local_kind v l in absurd (let e : Formal kind.0 ≡ Local = cc in cc))
 
       scoped_sub : Scoped p sub
       scoped_sub = record {
-        targets = λ v h. (assigned_variable Own body in_body v (commands sub.statements) (stmts_resolve body s.statements) h).1.0;
-        read = λ v h. (read_variable Own body in_body v (commands sub.statements) (stmts_resolve body s.statements) h).1.0;
-        exported = λ v h. (in_relation FormalRow annotations in_annotations v (has_export v) (λ item. mentioned_variable FormalRow annotations in_annotations v (exported_names item.exports)) s.derives (sym (exports_are v sub) ∙ h)).1.0;
-        imported = λ v h. (in_relation FormalRow annotations in_annotations v (has_import v) (imported_variable FormalRow annotations in_annotations v) s.derives (sym (imports_are v sub) ∙ h)).1.0;
+        targets = λ v h. (assigned_variable more Own body in_body v (commands sub.statements) (stmts_resolve body s.statements) h).1.0;
+        read = λ v h. (read_variable more Own body in_body v (commands sub.statements) (stmts_resolve body s.statements) h).1.0;
+        exported = λ v h. (in_relation more FormalRow annotations in_annotations v (has_export v) (λ item. mentioned_variable more FormalRow annotations in_annotations v (exported_names item.exports)) s.derives (sym (exports_are v sub) ∙ h)).1.0;
+        imported = λ v h. (in_relation more FormalRow annotations in_annotations v (has_import v) (imported_variable more FormalRow annotations in_annotations v) s.derives (sym (imports_are v sub) ∙ h)).1.0;
         formal_kinds = formal_kind;
         local_kinds = local_kind;
         once = positions_differ first (its_formals ++ its_locals);
         apart = no_local;
-        relation_modes = relation_has_modes p FormalRow (λ v object h. h.1) annotations in_annotations s.derives;
-        target_modes = targets_have_modes p Own (λ v object h. h.1) body in_body (commands sub.statements) (stmts_resolve body s.statements);
-        body_names = command_as_declared p Own (λ v object h. h.1) body in_body (commands sub.statements) (stmts_resolve body s.statements);
-        pre_names = pre_as_declared p FormalRow (λ v object h. h.1) annotations in_annotations s.pre;
+        relation_modes = relation_has_modes p more FormalRow (λ v object h. h.1) annotations in_annotations s.derives;
+        target_modes = targets_have_modes p more Own (λ v object h. h.1) body in_body (commands sub.statements) (stmts_resolve body s.statements);
+        body_names = command_as_declared p more Own (λ v object h. h.1) body in_body (commands sub.statements) (stmts_resolve body s.statements);
+        pre_names = pre_as_declared p more FormalRow (λ v object h. h.1) annotations in_annotations s.pre;
       }
 
   -- ---- programs
 
-  scoped_subs : (library : Region) (position first : ℕ) (before : List Var) (units : List Unit) → length before ≡ first → p.vars ≡ before ++ flat_map own_vars (resolved_subs library position first units)
-      → AllByRecursion (Scoped p) (resolved_subs library position first units)
-  scoped_subs library position first before [] len vars = tt
-  scoped_subs library position first before (unit.Subprogram s ∷ units) len vars =
-      let one = resolved_sub (unit_name library position s) first s in
+  scoped_subs : (library : Region) (position : ℕ) (counts : Counts) (before : List Var) (front : List TypeRow) (units : List Unit) → length before ≡ counts.vars → length (standard_types ++ front) ≡ counts.types
+      → p.vars ≡ before ++ flat_map own_vars (resolved_subs library position counts units) → more ≡ front ++ flat_map own_types (resolved_subs library position counts units)
+      → AllByRecursion (Scoped p) (resolved_subs library position counts units)
+  scoped_subs library position counts before front [] len count vars rows_are = tt
+  scoped_subs library position counts before front (unit.Subprogram s ∷ units) len count vars rows_are =
+      let one = resolved_sub (unit_name library position s) counts s in
       let next = declaring library (unit_name library position s) in
-      let after = flat_map own_vars (resolved_subs next (position + 1) (first + length (own_vars one)) units) in (
-        scoped_sub library position first s before after len vars,
-        scoped_subs next (position + 1) (first + length (own_vars one)) (before ++ own_vars one) units (length-append before (own_vars one) ∙ ap (λ n. n + length (own_vars one)) len)
-            (vars ∙ sym (append_assoc before (own_vars one) after)),
+      let later = resolved_subs next (position + 1) (counted_sub counts one) units in
+      let after = flat_map own_vars later in
+      let back = flat_map own_types later in (
+        scoped_sub library position counts s before after len vars front back count rows_are,
+        scoped_subs next (position + 1) (counted_sub counts one) (before ++ own_vars one) (front ++ own_types one) units
+            (length-append before (own_vars one) ∙ ap (λ n. n + length (own_vars one)) len)
+            (ap length (sym (append_assoc standard_types front (own_types one))) ∙ length-append (standard_types ++ front) (own_types one) ∙ ap (λ n. n + length (own_types one)) count)
+            (vars ∙ sym (append_assoc before (own_vars one) after))
+            (rows_are ∙ sym (append_assoc front (own_types one) back)),
       )
 
 pub all_scoped : (p : Program) → Visible p → All (Scoped p) p.subs
 all_scoped p is =
-    subst (λ q. All (Scoped q) q.subs) (sym is)
-    (All-from_recursion (Scoped (resolved.resolved (erased p))) (resolved.resolved (erased p)).subs (scoped_subs (resolved.resolved (erased p)) refl [] 0 0 [] (erased p) refl refl))
+    let q = resolved.resolved (erased p) in
+    subst (λ q. All (Scoped q) q.subs) (sym is) (All-from_recursion (Scoped q) q.subs (scoped_subs q (flat_map own_types q.subs) refl [] 0 at_start [] [] (erased p) refl refl refl refl))

@@ -20,6 +20,10 @@ module _ {X : Type 0} where
   each_append P [] ys left right = right
   each_append P (x ∷ xs) ys left right = (left.0, each_append P xs ys left.1 right)
 
+  pub each_split : (P : X → Type 0) (xs ys : List X) → AllByRecursion P (xs ++ ys) → AllByRecursion P xs × AllByRecursion P ys
+  each_split P [] ys all = (tt, all)
+  each_split P (x ∷ xs) ys all = let parts = each_split P xs ys all.1 in ((all.0, parts.0), parts.1)
+
   -- one of which the test of what it is mapped to passes
   pub some_mapped : {Y : Type 0} (p : X → Bool) (f : Y → X) (ys : List Y) → list_any p (map f ys) ≡ true → (y : Y) × (p (f y) ≡ true)
   some_mapped p f [] h = absurd cc
