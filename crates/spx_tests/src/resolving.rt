@@ -1,10 +1,12 @@
 // Programs that are made from units.
-use spx_core::{CoreDecl, CoreStmt, Entity, INTEGER, VarId, variable_of};
+use spx_core::{Breach, CoreDecl, CoreStmt, Entity, INTEGER, RuleName, VarId, variable_of};
 use spx_resolve::make_program;
 use spx_text::{Place, Text};
 use spx_tree::{
-    Decl, Expr, FormalPart, Identifier, Name, Param, Stmt, Subprogram, Unit, WrittenMode,
+    Decl, Expr, FormalPart, Identifier, Name, Param, Range, Stmt, Subprogram, TypeDef, Unit,
+    WrittenMode,
 };
+use spx_types::{TypeFault, type_row};
 use sqlite_items::Items;
 use std::alloc::{AllocError, Global};
 use std::test::Fail;
@@ -45,9 +47,32 @@ fn formal_part(alloc: Global) -> Result<FormalPart, AllocError> {
     })
 }
 
-// procedure Set (X : in out Integer) is x : Integer; begin x := 7; end;
-fn units(alloc: Global) -> Result<Items<Unit>, AllocError> {
+fn range(low: i128, high: i128) -> Range {
+    Range {
+        low: Expr::Number(low, here()),
+        high: Expr::Number(high, here()),
+    }
+}
+
+// type Count is range 0 .. 10; type Colour is (Red); subtype Few is Count range 1 .. 5; Five : constant Few := 5;
+fn types(alloc: Global) -> Result<Items<Decl>, AllocError> {
     let mut declarations = Items::new(alloc);
+    let count = TypeDef::Integer(range(0, 10));
+    declarations.push(Decl::FullType(identifier(alloc, "Count")?, count))?;
+    let colour = TypeDef::Enumeration(here(), identifiers(alloc, "Red")?);
+    declarations.push(Decl::FullType(identifier(alloc, "Colour")?, colour))?;
+    let few = identifier(alloc, "Few")?;
+    let count = Name::Simple(identifier(alloc, "Count")?);
+    declarations.push(Decl::Subtype(few, count, Some(range(1, 5))))?;
+    let few = Some(Name::Simple(identifier(alloc, "Few")?));
+    let five = identifiers(alloc, "Five")?;
+    declarations.push(Decl::Constants(five, few, Expr::Number(5, here())))?;
+    Ok(declarations)
+}
+
+// procedure Set (X : in out Integer) is (the types) x : Integer; begin x := 7; end;
+fn units(alloc: Global) -> Result<Items<Unit>, AllocError> {
+    let mut declarations = types(alloc)?;
     let type_name = Name::Simple(identifier(alloc, "Integer")?);
     declarations.push(Decl::Variables(identifiers(alloc, "x")?, type_name))?;
     let mut statements = Items::new(alloc);
@@ -73,19 +98,57 @@ fn a_program_is_made(rt: HostRuntime) -> Result<(), Fail> {
     let units = units(rt.alloc())?;
     let program = make_program(rt.alloc(), units.as_slice())?;
     assert_eq!(rt; program.vars.len(), 2);
+    assert_eq!(rt; program.types.len(), 8);
     assert_eq!(rt; program.subs.len(), 1);
     assert_eq!(rt; program.bodies.len(), 1);
     assert_eq!(rt; program.units.len(), 1);
     for sub in program.subs.as_slice() {
         assert_eq!(rt; sub.formal_count, 1);
         for decl in sub.declarations.as_slice() {
-            let CoreDecl::Variables(names, type_name) = decl;
-            assert!(rt; names.as_slice().iter().all(|name| name.again));
-            assert_eq!(rt; type_name.root.entity, Some(Entity::TypeName(INTEGER)));
+            if let CoreDecl::Variables(names, type_name) = decl {
+                assert!(rt; names.as_slice().iter().all(|name| name.again));
+                assert_eq!(rt; type_name.root.entity, Some(Entity::TypeName(INTEGER)));
+            }
         }
         for stmt in sub.statements.as_slice() {
             if let CoreStmt::Assignment(target, _) = stmt {
                 assert_eq!(rt; variable_of(target.root.entity), Some(VarId(0)));
+            }
+        }
+    }
+    Ok(())
+}
+
+#[test]
+fn a_declared_type_has_a_row(rt: HostRuntime) -> Result<(), Fail> {
+    let units = units(rt.alloc())?;
+    let program = make_program(rt.alloc(), units.as_slice())?;
+    let rows = program.types.as_slice();
+    for sub in program.subs.as_slice() {
+        for (decl, row) in sub.declarations.as_slice().iter().zip(&rows[5..]) {
+            let made = type_row(rt.alloc(), &program, decl).ok();
+            let subtype = made.as_ref().map(|made| made.subtype);
+            assert_eq!(rt; subtype, Some(row.subtype));
+            let is_named = made.is_some_and(|made| made.name.is_same_word(&row.name));
+            assert!(rt; is_named);
+        }
+    }
+    Ok(())
+}
+
+#[test]
+fn a_constant_has_no_row(rt: HostRuntime) -> Result<(), Fail> {
+    let units = units(rt.alloc())?;
+    let program = make_program(rt.alloc(), units.as_slice())?;
+    let breach = Breach {
+        rule: RuleName::N3,
+        place: here(),
+    };
+    for sub in program.subs.as_slice() {
+        for decl in sub.declarations.as_slice() {
+            if let CoreDecl::Constants(_, _, _) = decl {
+                let refused = type_row(rt.alloc(), &program, decl).err();
+                assert_eq!(rt; refused, Some(TypeFault::Breach(breach)));
             }
         }
     }

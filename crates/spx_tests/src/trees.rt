@@ -2,7 +2,8 @@
 use spx_text::{Place, Text};
 use spx_tree::{
     Arm, Closing, Decl, Derives, DerivesItem, Exports, Expr, FormalPart, Identifier, Imports,
-    InfixOp, Name, Param, Precondition, PrefixOp, Stmt, Subprogram, Unit, WrittenMode,
+    InfixOp, Name, Param, Precondition, PrefixOp, Range, Stmt, Subprogram, TypeDef, Unit,
+    WrittenMode,
 };
 use sqlite_items::{Boxed, Items};
 use std::alloc::{AllocError, Global};
@@ -83,10 +84,28 @@ fn formal_part(alloc: Global) -> Result<FormalPart, AllocError> {
     })
 }
 
+// -(X) .. 7
+fn range(alloc: Global) -> Result<Range, AllocError> {
+    Ok(Range {
+        low: negative(alloc)?,
+        high: Expr::Number(7, at(9)),
+    })
+}
+
 fn declarations(alloc: Global) -> Result<Items<Decl>, AllocError> {
     let mut decls = Items::new(alloc);
     let names = identifiers(alloc, "T")?;
     decls.push(Decl::Variables(names, name(alloc, "Integer")?))?;
+    let limit = identifiers(alloc, "Limit")?;
+    let integer = Some(name(alloc, "Integer")?);
+    decls.push(Decl::Constants(limit, integer, negative(alloc)?))?;
+    let count = TypeDef::Integer(range(alloc)?);
+    decls.push(Decl::FullType(identifier(alloc, "Count")?, count))?;
+    let colour = TypeDef::Enumeration(at(30), identifiers(alloc, "Red")?);
+    decls.push(Decl::FullType(identifier(alloc, "Colour")?, colour))?;
+    let few = identifier(alloc, "Few")?;
+    let range = Some(range(alloc)?);
+    decls.push(Decl::Subtype(few, name(alloc, "Count")?, range))?;
     Ok(decls)
 }
 
@@ -148,7 +167,7 @@ fn a_unit_is_copied(rt: HostRuntime) -> Result<(), Fail> {
     assert!(rt; copied.formal_part.is_some());
     assert!(rt; copied.derives.is_some());
     assert!(rt; copied.pre.is_some());
-    assert_eq!(rt; copied.declarations.len(), 1);
+    assert_eq!(rt; copied.declarations.len(), 5);
     assert_eq!(rt; copied.statements.len(), 3);
     assert!(rt; copied.end_name.is_some());
     assert_eq!(rt; copied.end, at(3));
