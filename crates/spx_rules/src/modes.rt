@@ -176,7 +176,8 @@ fn obey_stmt(stmt: &CoreStmt) -> Result<(), Breach>
     match stmt {
         CoreStmt::Null(_) => Ok(()),
         CoreStmt::Assignment(target, _) => {
-            let kept = may_be_assigned(mode_named(&target.root)) && !is_constant(target.root.entity);
+            let kept = may_be_assigned(mode_named(&target.root))
+                && !is_constant(target.root.entity);
             keeps(RuleName::U2, target.root.name.place, kept)
         }
         CoreStmt::If(arms, None, _) => obey_arms(arms.as_slice()),

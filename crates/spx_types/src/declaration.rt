@@ -111,11 +111,7 @@ fn judge_definition(definition: &CoreTypeDef) -> Result<(), Breach>
 }
 
 /// The first broken rule in the range of a subtype of this one, which is named at the place.
-fn judge_constraint(
-    place: Place,
-    parent: Subtype,
-    range: &Option<CoreRange>,
-) -> Result<(), Breach>
+fn judge_constraint(place: Place, parent: Subtype, range: &Option<CoreRange>) -> Result<(), Breach>
     ensures { result ≡ rules.judged_constraint place parent range.now }
 {
     let Some(range) = range else {

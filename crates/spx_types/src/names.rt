@@ -7,7 +7,8 @@ ghost use Rattle.spx_core.specs.Types.{position_in};
 use crate::types::has_numbers;
 use crate::values::position_in;
 use spx_core::{
-    Breach, CoreName, Entity, ExprType, Object, Reference, RuleName, Step, Subtype, Typing, UNIVERSAL,
+    Breach, CoreName, Entity, ExprType, Object, Reference, RuleName, Step, Subtype, Typing,
+    UNIVERSAL,
 };
 use spx_text::{Place, Text};
 use spx_tree::Identifier;

@@ -5,7 +5,9 @@ ghost use Rattle.spx_types.specs.Rows.{Gives, row_declared};
 ghost use Rattle.spx_core.specs.Resolved.{row_of, subtype_of};
 
 use crate::declaration::judge_decl;
-use spx_core::{Breach, CoreDecl, Defining, Entity, Program, RuleName, Subtype, TypeRow, UNIVERSAL};
+use spx_core::{
+    Breach, CoreDecl, Defining, Entity, Program, RuleName, Subtype, TypeRow, UNIVERSAL,
+};
 use std::alloc::{AllocError, Global};
 use thiserror::Error;
 

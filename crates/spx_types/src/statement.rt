@@ -8,9 +8,7 @@ ghost use Rattle.spx_types.specs.Arms.{FoundInArms};
 
 use crate::expression::{condition, judge, operand_of};
 use crate::names::{referred_object, referred_target};
-use spx_core::{
-    Breach, CoreArm, CoreDerivesItem, CoreExpr, CorePrecondition, CoreStmt, Reference,
-};
+use spx_core::{Breach, CoreArm, CoreDerivesItem, CoreExpr, CorePrecondition, CoreStmt, Reference};
 
 fn judge_variable(reference: &Reference) -> Result<(), Breach>
     ensures { result ≡ rules.judged_variable reference.now }

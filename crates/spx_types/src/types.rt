@@ -116,10 +116,8 @@ pub fn operands_fit(op: InfixOp, left: ExprType, right: ExprType) -> bool
     match op {
         InfixOp::Power => is_number(left) && is_of(INTEGER.base, right),
         InfixOp::Equal | InfixOp::NotEqual => meet(left, right),
-        InfixOp::Less
-        | InfixOp::LessOrEqual
-        | InfixOp::Greater
-        | InfixOp::GreaterOrEqual => is_ordered(left) && meet(left, right),
+        InfixOp::Less | InfixOp::LessOrEqual | InfixOp::Greater | InfixOp::GreaterOrEqual =>
+            is_ordered(left) && meet(left, right),
         InfixOp::And | InfixOp::Or | InfixOp::Xor | InfixOp::AndThen | InfixOp::OrElse => {
             is_boolean(left) && is_boolean(right)
         }
