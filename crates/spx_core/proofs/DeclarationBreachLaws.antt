@@ -1,5 +1,5 @@
 -- What is reported of a rule on names or types in declarations is broken at that place, and where nothing is reported no rule is broken.
-use Rattle.std.proofs.Common.{◌≡◌, ◌⊎◌, ℤ, Bool, true, false, not, ◌&&◌, List, [], ◌∷◌, Option, Some, None, Ok, Err, refl, sym, ap, subst, ◌∙◌, inl, inr, ⊎_elim}
+use Rattle.std.proofs.Common.{◌≡◌, ◌⊎◌, ℤ, Bool, true, false, not, ◌&&◌, List, [], Option, Some, None, Ok, Err, refl, sym, ap, subst, ◌∙◌, inl, inr, ⊎_elim}
 use Rattle.std.specs.Prelude.{Contains, int_le}
 use Rattle.std.proofs.lemmas.Bool.{both_ways, not-false, not-true}
 use Rattle.spx_text.specs.declared.place.Place.{Place}
@@ -21,7 +21,7 @@ use Rattle.spx_core.specs.declared.rule.RuleName.{RuleName}
 use Rattle.spx_core.specs.declared.rule.RuleName.TheVariants.{N2, N10, N11, N12, N13}
 use Rattle.spx_core.specs.declared.rule.Typing.{Typing}
 use Rattle.spx_core.specs.HasType.{HasType}
-use Rattle.spx_core.specs.Judged.{Judged, ◌>>=◌, each, judged, keeps, referred_type}
+use Rattle.spx_core.specs.Judged.{each, judged, keeps, referred_type}
 use Rattle.spx_core.specs.NameBreaches as broken
 use Rattle.spx_core.specs.NameBreaches.{BreaksDecl, BreaksRange, BreaksReference, BreaksStatic, IsType, bound_fits}
 use Rattle.spx_core.specs.Resolved.{declared_by, declared_by_definition}
@@ -29,7 +29,7 @@ use Rattle.spx_core.specs.Statements.{declared, declared_once, judged_constraint
 use Rattle.spx_core.specs.Statements as statements
 use Rattle.spx_core.specs.Types.{has_numbers, is_between, is_number, is_of}
 use Rattle.spx_core.proofs.Elements.{in_cases, in_first, in_none, in_rest}
-use Rattle.spx_core.proofs.Judgements.{bound, by_part, by_test, each_broken, joined, kept, not_kept, ok_is, passes_at, some_is}
+use Rattle.spx_core.proofs.Judgements.{bound, by_part, by_test, each_broken, kept, not_kept, ok_is, passes_at, some_is}
 use Rattle.spx_core.proofs.TypedLaws.{complete, sound}
 use Rattle.spx_core.proofs.NameBreachLaws.{At, expr_found, no_expr, no_type_reference, referred_is, same_type_named, type_reference_found}
 

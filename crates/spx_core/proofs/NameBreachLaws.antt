@@ -1,46 +1,36 @@
 -- What is reported of a rule on names or types in expressions and statements is broken at that place, and where nothing is reported no rule is broken.
 -- Of each kind of part, a lemma `.._found` says the first, and a lemma `no_..` the second.
-use Rattle.std.proofs.Common.{◌≡◌, ◌⊎◌, true, false, not, ◌&&◌, List, [], ◌∷◌, Option, Some, None, Ok, Err, refl, sym, ap, subst, ◌∙◌, inl, inr, ⊎_elim}
+use Rattle.std.proofs.Common.{◌≡◌, ◌⊎◌, true, false, ◌&&◌, List, [], ◌∷◌, Option, Some, None, Ok, Err, refl, sym, ap, subst, ◌∙◌, inl, inr, ⊎_elim}
 use Rattle.std.specs.Prelude.{Contains}
-use Rattle.std.proofs.lemmas.Bool.{and_cases, and_from, and_left, and_parts, and_right, both_ways, not-false, not-true}
-use Rattle.std.proofs.lemmas.List.Elements.{Contains-append_left, Contains-append_right, Contains-append_cases}
+use Rattle.std.proofs.lemmas.Bool.{and_cases, and_from, and_left, and_parts, and_right, both_ways}
 use Rattle.spx_text.specs.declared.place.Place.{Place}
 use Rattle.spx_tree.specs.declared.expression.Identifier.{Identifier}
 use Rattle.spx_tree.specs.declared.expression.InfixOp.{InfixOp}
 use Rattle.spx_tree.specs.declared.expression.MemberOp.{MemberOp}
 use Rattle.spx_tree.specs.declared.expression.PrefixOp.{PrefixOp}
-use Rattle.spx_tree.specs.declared.subprogram.Unit.{Unit}
 use Rattle.spx_core.specs.declared.entity.Entity.{Entity}
 use Rattle.spx_core.specs.declared.entity.Entity.TheVariants as entity
 use Rattle.spx_core.specs.declared.entity.Object.{Object}
 use Rattle.spx_core.specs.declared.entity.Subtype.{Subtype}
 use Rattle.spx_core.specs.declared.entity.VarId.{VarId}
 use Rattle.spx_core.specs.declared.name.CoreName.{CoreName}
-use Rattle.spx_core.specs.declared.name.Defining.{Defining}
 use Rattle.spx_core.specs.declared.name.Reference.{Reference}
 use Rattle.spx_core.specs.declared.name.Step.{Step}
 use Rattle.spx_core.specs.declared.expression.CoreExpr.{CoreExpr}
 use Rattle.spx_core.specs.declared.expression.CoreExpr.TheVariants as expr
-use Rattle.spx_core.specs.declared.dependency.CoreDerivesItem.{CoreDerivesItem}
-use Rattle.spx_core.specs.declared.subprogram.CoreParam.{CoreParam}
-use Rattle.spx_core.specs.declared.subprogram.CorePrecondition.{CorePrecondition}
-use Rattle.spx_core.specs.declared.subprogram.Sub.{Sub}
-use Rattle.spx_core.specs.declared.program.Program.{Program}
 use Rattle.spx_core.specs.declared.rule.Breach.{Breach}
 use Rattle.spx_core.specs.declared.rule.RuleName.{RuleName}
-use Rattle.spx_core.specs.declared.rule.RuleName.TheVariants.{N1, N2, N3, N5, N10, N12}
+use Rattle.spx_core.specs.declared.rule.RuleName.TheVariants.{N1, N3, N10, N12}
 use Rattle.spx_core.specs.declared.rule.ExprType.TheVariants.{Of}
 use Rattle.spx_core.specs.declared.rule.Typing.{Typing}
-use Rattle.spx_core.specs.Commands.{Command, Skip, Set, Then, Choose, commands}
-use Rattle.spx_core.specs.Dependency.{relation}
+use Rattle.spx_core.specs.Commands.{Command, Skip, Set, Then, Choose}
 use Rattle.spx_core.specs.HasType.{HasType}
-use Rattle.spx_core.specs.Judged.{Judged, ◌>>=◌, attribute, condition, each, expr_step, if_there, ordered_type, is_attribute, is_whole, judged, keeps, member_of_range, member_of_type, named_object, named_target, named_type, named_value, object_at, operand_of, operation, referred_object, referred_target, referred_type, sign, target_at, type_at, value_at, whole}
+use Rattle.spx_core.specs.Judged.{Judged, ◌>>=◌, attribute, condition, expr_step, ordered_type, is_attribute, is_whole, judged, keeps, member_of_range, member_of_type, named_object, named_target, named_type, named_value, object_at, operand_of, operation, referred_object, referred_target, referred_type, sign, target_at, type_at, value_at, whole}
 use Rattle.spx_core.specs.NameBreaches as broken
 use Rattle.spx_core.specs.NameBreaches.{BreaksCommand, BreaksCondition, BreaksExpr, BreaksName, BreaksProgram, BreaksReference, BreaksSub, IsObject, IsTarget, IsType, IsValue, assigned_type}
-use Rattle.spx_core.specs.Resolved.{declared_by, formal_names, local_names, params_of, resolved}
-use Rattle.spx_core.specs.Statements.{assignment, declared, declared_once, first_name_breach, judged_command, judged_decl, judged_end, judged_item, judged_name, judged_param, judged_pre, judged_program, judged_sub, judged_variable, test}
+use Rattle.spx_core.specs.Statements.{assignment, judged_command, test}
 use Rattle.spx_core.specs.Types.{both_held, has_numbers, is_boolean, is_held, is_of, left_type, lies_in, met, operand_fits, operands_fit, result_of, result_type, right_type, signed_result, three_fit}
-use Rattle.spx_core.proofs.Elements.{in_all, in_first, in_none, in_part}
+use Rattle.spx_core.proofs.Elements.{in_first, in_none}
 use Rattle.spx_core.proofs.Judgements.{bound, by_part, by_test, joined, kept, ok_is, some_is}
 use Rattle.spx_core.proofs.TypedLaws.{complete, sound}
 use Rattle.spx_core.proofs.Callers.Expressions.{Cases, induct, fold-Number, fold-Name, fold-Attribute, fold-Parenthesized, fold-Prefix, fold-Infix, fold-InType, fold-InRange}

@@ -1,12 +1,11 @@
 -- What is reported of a rule on names or types in a program is broken at that place, and where nothing is reported no rule is broken.
-use Rattle.std.proofs.Common.{◌≡◌, ◌⊎◌, true, false, not, List, Option, Some, None, Ok, Err, refl, sym, ap, ◌∙◌, ⊎_elim}
+use Rattle.std.proofs.Common.{◌≡◌, not, List, Option, Some, None, Ok, Err, refl, sym, ap, ◌∙◌, ⊎_elim}
 use Rattle.std.specs.Prelude.{Contains}
 use Rattle.std.proofs.lemmas.Bool.{both_ways, not-false, not-true}
 use Rattle.std.proofs.lemmas.List.Elements.{Contains-append_left, Contains-append_right, Contains-append_cases}
 use Rattle.spx_text.specs.declared.place.Place.{Place}
 use Rattle.spx_tree.specs.declared.expression.Identifier.{Identifier}
 use Rattle.spx_tree.specs.declared.subprogram.Unit.{Unit}
-use Rattle.spx_core.specs.declared.name.Defining.{Defining}
 use Rattle.spx_core.specs.declared.name.Reference.{Reference}
 use Rattle.spx_core.specs.declared.statement.CoreDecl.{CoreDecl}
 use Rattle.spx_core.specs.declared.dependency.CoreDerivesItem.{CoreDerivesItem}
@@ -19,7 +18,7 @@ use Rattle.spx_core.specs.declared.rule.RuleName.{RuleName}
 use Rattle.spx_core.specs.declared.rule.RuleName.TheVariants.{N2, N5}
 use Rattle.spx_core.specs.Commands.{commands}
 use Rattle.spx_core.specs.Dependency.{relation}
-use Rattle.spx_core.specs.Judged.{◌>>=◌, each, if_there, referred_object}
+use Rattle.spx_core.specs.Judged.{each, if_there, referred_object}
 use Rattle.spx_core.specs.NameBreaches as broken
 use Rattle.spx_core.specs.NameBreaches.{BreaksProgram, BreaksReference, BreaksSub, IsObject}
 use Rattle.spx_core.specs.Resolved.{declared_by, formal_names, local_names, params_of, resolved}
