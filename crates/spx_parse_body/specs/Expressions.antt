@@ -242,6 +242,10 @@ at_layer marked levels layer = read marked (below marked levels) levels layer
 unfoldable pub expression : Bool → ℕ → Reader Expr
 expression marked levels = at_layer marked levels layer.Expression >>= λ t. pure t.expr
 
+-- sum
+unfoldable pub simple_expression : Bool → ℕ → Reader Expr
+simple_expression marked levels = at_layer marked levels layer.Sum >>= λ t. pure t.expr
+
 -- expression one level down
 unfoldable pub expression_below : Bool → ℕ → Reader Expr
 expression_below marked levels = below marked levels layer.Expression >>= λ t. pure t.expr

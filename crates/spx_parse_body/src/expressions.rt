@@ -527,3 +527,17 @@ pub fn expression(
     let tall = at_layer(alloc, cursor, levels, marked, Layer::Expression)?;
     Ok(tall.expr)
 }
+
+/// Reads a sum, which Ada 95 calls a simple expression.
+#[tactic(auto, unfolding(crate::specs::Expressions::simple_expression))]
+pub fn simple_expression(
+    alloc: Global,
+    cursor: &mut Cursor<'_>,
+    levels: u32,
+    marked: bool,
+) -> Result<Expr, Stop>
+    ensures { Reads (read.simple_expression marked levels cursor.old) result cursor.new }
+{
+    let tall = at_layer(alloc, cursor, levels, marked, Layer::Sum)?;
+    Ok(tall.expr)
+}

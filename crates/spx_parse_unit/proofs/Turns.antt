@@ -11,7 +11,7 @@ use Rattle.spx_tree.specs.Form.{Form}
 use Rattle.spx_tree.specs.Written.{program, annotation}
 use Rattle.spx_parse_body.specs.Reading.{◌>>◌, sees, expect, identifier, loop, item_step}
 use Rattle.spx_parse_body.specs.Expressions.{name}
-use Rattle.spx_parse_unit.specs.Units.{more_identifiers, more_names, item, more_derives, param, more_params, declaration, more_declarations, unit_at, more_units}
+use Rattle.spx_parse_unit.specs.Units.{more_identifiers, more_names, item, more_derives, param, more_params, declaration, sees_declaration, more_declarations, unit_at, more_units}
 use Rattle.spx_parse_body.proofs.Callers.Turns.{items_by, items_is, next_by, next_is}
 use Rattle.spx_parse_unit.proofs.UnitsGood.{identifiers_shrinks, names_shrinks, derives_shrinks, params_shrinks, declarations_shrinks, units_shrinks}
 
@@ -39,9 +39,9 @@ more_params_is found fs =
     items_is (sees program k.Semicolon) (expect program k.Semicolon >> param) params_shrinks found fs
     ∙ next_is program k.Semicolon param (loop (sees program k.Semicolon) (item_step (expect program k.Semicolon >> param))) found (sees program k.Semicolon fs) fs
 
-pub more_declarations_is : (found : List Decl) (fs : List Form) → more_declarations found fs ≡ items_by declaration more_declarations found (sees program k.Identifier fs) fs
+pub more_declarations_is : (levels : ℕ) (found : List Decl) (fs : List Form) → more_declarations levels found fs ≡ items_by (declaration levels) (more_declarations levels) found (sees_declaration fs) fs
 unfolding more_declarations
-more_declarations_is found fs = items_is (sees program k.Identifier) declaration declarations_shrinks found fs
+more_declarations_is levels found fs = items_is sees_declaration (declaration levels) (declarations_shrinks levels) found fs
 
 pub more_units_is : (levels : ℕ) (found : List Unit) (fs : List Form) → more_units levels found fs ≡ items_by (unit_at levels) (more_units levels) found (sees program k.Procedure fs) fs
 unfolding more_units

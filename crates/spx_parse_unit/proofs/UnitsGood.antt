@@ -7,24 +7,25 @@ use Rattle.spx_tree.specs.declared.token.Kind.{Kind}
 use Rattle.spx_tree.specs.declared.token.Kind.TheVariants as k
 use Rattle.spx_tree.specs.declared.expression.Identifier.{Identifier}
 use Rattle.spx_tree.specs.declared.expression.Name.{Name}
-use Rattle.spx_tree.specs.declared.declaration.Decl.TheVariants.{Variables}
+use Rattle.spx_tree.specs.declared.declaration.Decl.TheVariants as decl
+use Rattle.spx_tree.specs.declared.declaration.TypeDef.TheVariants as defined
 use Rattle.spx_tree.specs.declared.annotation.Exports.TheVariants as exported
 use Rattle.spx_tree.specs.declared.annotation.Imports.{Imports}
 use Rattle.spx_tree.specs.declared.subprogram.WrittenMode.TheVariants as modes
 use Rattle.spx_tree.specs.declared.subprogram.Unit.TheVariants as unit
 use Rattle.spx_tree.specs.Form.{Form, bare, placed, named}
-use Rattle.spx_tree.specs.Written.{program, annotation, following, separated, optional, written_identifier, written_identifiers, written_name, written_names, written_decl, written_decls, written_stmts, written_imports, written_item, written_derives, written_pre, written_mode, written_param, written_params, written_formal_part, written_subprogram, written_unit, written}
-use Rattle.spx_tree.specs.Grammar.{Each, OneOrMore, IfThere, IsIdentifiers, IsNames, IsDecl, IsStmts, IsItem, IsDerives, IsPrecondition, IsParam, IsFormalPart, IsSubprogram, IsUnit, IsFile}
+use Rattle.spx_tree.specs.Written.{program, annotation, following, separated, optional, written_identifier, written_identifiers, written_name, written_names, written_range, written_constraint, written_definition, written_decl, written_decls, written_stmts, written_imports, written_item, written_derives, written_pre, written_mode, written_param, written_params, written_formal_part, written_subprogram, written_unit, written}
+use Rattle.spx_tree.specs.Grammar.{Each, OneOrMore, IfThere, IsIdentifiers, IsNames, IsRange, IsDefinition, IsDecl, IsStmts, IsItem, IsDerives, IsPrecondition, IsParam, IsFormalPart, IsSubprogram, IsUnit, IsFile}
 use Rattle.spx_parse_body.specs.Reading.{◌>>◌, peek, sees, expect, identifier, item_step}
 use Rattle.spx_parse_body.specs.Expressions.{name}
 use Rattle.spx_parse_unit.specs.declared.subprograms.HeadingParts.{HeadingParts}
 use Rattle.spx_parse_unit.specs.declared.subprograms.BodyParts.{BodyParts}
-use Rattle.spx_parse_unit.specs.Units.{more_identifiers, identifiers, more_names, names, starred, unstarred, imports_by, imports, named_item, null_item, item_by, item, more_derives, items, derives, precondition, in_by, following_in, mode_by, mode, param, more_params, params, formal_part, declaration, more_declarations, declarations, heading, body, whole, subprogram, unit_at, more_units, file}
+use Rattle.spx_parse_unit.specs.Units.{more_identifiers, identifiers, more_names, names, starred, unstarred, imports_by, imports, named_item, null_item, item_by, item, more_derives, items, derives, precondition, in_by, following_in, mode_by, mode, param, more_params, params, formal_part, range, constraint, integer, enumeration, definition_by, definition, full_type, subtype, variables, constants, objects_by, objects_after, objects, declaration_by, declaration, starts_declaration, sees_declaration, more_declarations, declarations, heading, body, whole, subprogram, unit_at, more_units, file}
 use Rattle.spx_parse_body.proofs.Callers.Loops.{Shrinks}
 use Rattle.spx_parse_body.proofs.Callers.Lawful.{Ends, Any, Sees, Always}
-use Rattle.spx_parse_body.proofs.Callers.Good.{Good, Starts, Case, Adds, absent, present, good_bind, good_pure, good_refuse, good_fewer, good_choose, good_before, good_given, good_expect, good_expect_place, good_identifier, good_option, good_more, list_shrinks, starts_bind, starts_expect, starts_place, starts_identifier}
+use Rattle.spx_parse_body.proofs.Callers.Good.{Good, Starts, Case, Adds, absent, present, good_bind, good_as, good_pure, good_refuse, good_fewer, good_choose, good_before, good_given, good_expect, good_expect_place, good_identifier, good_option, good_more, list_shrinks, starts_bind, starts_choose, starts_expect, starts_place, starts_identifier}
 use Rattle.spx_parse_body.proofs.Callers.Separated.{sees_kind, all_added, joined_added, next, following_added, separated_adds, next_starts, good_separated, separated_shrinks, good_items, items_shrinks, good_if_seen}
-use Rattle.spx_parse_body.proofs.Callers.ExpressionsGood.{name_starts, name_good, expression_good}
+use Rattle.spx_parse_body.proofs.Callers.ExpressionsGood.{name_starts, name_good, expression_good, simple_expression_good}
 use Rattle.spx_parse_body.proofs.Callers.StatementsGood.{stmts_good}
 
 -- ---- identifiers
@@ -207,21 +208,131 @@ formal_part_starts here =
 
 -- ---- declarations
 
-declaration_starts : {L P : Type 0} {on : List Form → Type 0} → ((fs : List Form) → on fs → peek program fs ≡ Some k.Identifier) → Starts L P written_decl IsDecl [] on declaration declaration
-unfolding declaration
-declaration_starts here =
+range_good : {L P : Type 0} (levels : ℕ) → Good L P written_range (IsRange levels) [] Any (range levels) (range (suc levels))
+unfolding range
+range_good levels =
+    good_bind (simple_expression_good program levels) (λ low.
+    good_bind (good_expect program k.DoubleDot) (λ u.
+    good_bind (simple_expression_good program levels) (λ high.
+    good_pure (record { low = low; high = high }) (λ l w. simp append_assoc) (λ l w. record { low = w.0.0.1; high = w.1 }))))
+
+constraint_starts : {L P : Type 0} {on : List Form → Type 0} (levels : ℕ) → ((fs : List Form) → on fs → peek program fs ≡ Some k.Range) → Starts L P written_constraint (IsRange levels) [] on (constraint levels) (constraint (suc levels))
+unfolding constraint
+constraint_starts levels here = starts_bind (starts_expect program k.Range here refl) (λ u. good_as (λ l w x f. (refl, f)) (range_good levels))
+
+integer_starts : {L P : Type 0} {on : List Form → Type 0} (levels : ℕ) → ((fs : List Form) → on fs → peek program fs ≡ Some k.Range) → Starts L P written_definition (IsDefinition levels) [] on (integer levels) (integer (suc levels))
+unfolding integer
+integer_starts levels here = starts_bind (constraint_starts levels here) (λ range. good_pure (defined.Integer range) (λ l w. refl) (λ l w. w.1))
+
+enumeration_starts : {L P : Type 0} {on : List Form → Type 0} (levels : ℕ) → ((fs : List Form) → on fs → peek program fs ≡ Some k.LeftParenthesis) → Starts L P written_definition (IsDefinition levels) [] on enumeration enumeration
+unfolding enumeration
+enumeration_starts levels here =
+    starts_bind (starts_place program k.LeftParenthesis here refl) (λ place.
+    good_bind (identifiers_good program) (λ literals.
+    good_bind (good_expect program k.RightParenthesis) (λ u.
+    good_pure (defined.Enumeration place literals) (λ l w. refl) (λ l w. w.0.1))))
+
+definition_ends : (levels : ℕ) → Ends written_definition (IsDefinition levels) []
+definition_ends levels = ((enumeration_starts {L = ⊤} {P = ⊤} {on = λ fs. peek program fs ≡ Some k.LeftParenthesis} levels (λ fs here. here)).good.law tt tt).ends
+
+definition_case : {L P : Type 0} (levels : ℕ) (kind : Option Kind) → Good L P written_definition (IsDefinition levels) [] (Sees (peek program) kind) (definition_by levels kind) (definition_by (suc levels) kind)
+definition_case levels (Some k.Range) = (integer_starts levels (λ fs here. here)).good
+definition_case levels (Some k.LeftParenthesis) = (enumeration_starts levels (λ fs here. here)).good
+definition_case levels _ = good_refuse (λ l w. definition_ends levels)
+
+definition_good : {L P : Type 0} (levels : ℕ) → Good L P written_definition (IsDefinition levels) [] Any (definition levels) (definition (suc levels))
+unfolding definition
+definition_good levels = good_choose (peek program) (λ t xs ys. refl) (definition_by levels) (definition_by (suc levels)) refl refl (definition_case levels)
+
+full_type_starts : {L P : Type 0} {on : List Form → Type 0} (levels : ℕ) → ((fs : List Form) → on fs → peek program fs ≡ Some k.Type) → Starts L P written_decl (IsDecl levels) [] on (full_type levels) (full_type (suc levels))
+unfolding full_type
+full_type_starts levels here =
+    starts_bind (starts_expect program k.Type here refl) (λ u.
+    good_bind (good_identifier program) (λ name.
+    good_bind (good_expect program k.Is) (λ v.
+    good_bind (definition_good levels) (λ definition.
+    good_bind (good_expect program k.Semicolon) (λ w.
+    good_pure (decl.FullType name definition) (λ l w. refl) (λ l w. w.0.1))))))
+
+subtype_starts : {L P : Type 0} {on : List Form → Type 0} (levels : ℕ) → ((fs : List Form) → on fs → peek program fs ≡ Some k.Subtype) → Starts L P written_decl (IsDecl levels) [] on (subtype levels) (subtype (suc levels))
+unfolding subtype
+subtype_starts levels here =
+    starts_bind (starts_expect program k.Subtype here refl) (λ u.
+    good_bind (good_identifier program) (λ subject.
+    good_bind (good_expect program k.Is) (λ v.
+    good_bind (name_good program) (λ parent.
+    good_bind (good_if_seen written_constraint (IsRange levels) program k.Range (constraint_starts levels (sees_kind program k.Range))) (λ range.
+    good_bind (good_expect program k.Semicolon) (λ w.
+    good_pure (decl.Subtype subject parent range) (λ l w. simp append_assoc) (λ l w. w.0.1)))))))
+
+-- identifiers and ":"
+abbrev named_text : List Identifier → List Form
+named_text names = written_identifiers program names ++ bare program k.Colon ∷ []
+
+variables_starts : {L P : Type 0} {on : List Form → Type 0} (levels : ℕ) (names : List Identifier) → (P → IsIdentifiers names) → ((fs : List Form) → on fs → peek program fs ≡ Some k.Identifier)
+    → Starts L P written_decl (IsDecl levels) (named_text names) on (variables names) (variables names)
+unfolding variables
+variables_starts levels names f here =
+    starts_bind (name_starts program here) (λ type_name.
+    good_bind (good_expect program k.Semicolon) (λ u.
+    good_pure (decl.Variables names type_name) (λ l w. simp append_assoc) (λ l w. f w.0.0)))
+
+constants_starts : {L P : Type 0} {on : List Form → Type 0} (levels : ℕ) (names : List Identifier) → (P → IsIdentifiers names) → ((fs : List Form) → on fs → peek program fs ≡ Some k.Constant)
+    → Starts L P written_decl (IsDecl levels) (named_text names) on (constants levels names) (constants (suc levels) names)
+unfolding constants
+constants_starts levels names f here =
+    starts_bind (starts_expect program k.Constant here refl) (λ u.
+    good_bind (good_if_seen (written_name program) Always program k.Identifier (name_starts program (sees_kind program k.Identifier))) (λ type_name.
+    good_bind (good_expect program k.Assignment) (λ v.
+    good_bind (expression_good program levels) (λ value.
+    good_bind (good_expect program k.Semicolon) (λ s.
+    good_pure (decl.Constants names type_name value) (λ l w. simp append_assoc) (λ l w. (f w.0.0.0.0.0, w.0.1)))))))
+
+objects_end : (levels : ℕ) (names : List Identifier) → IsIdentifiers names → Ends written_decl (IsDecl levels) (named_text names)
+objects_end levels names f = ((variables_starts {L = ⊤} {P = ⊤} {on = λ fs. peek program fs ≡ Some k.Identifier} levels names (λ w. f) (λ fs here. here)).good.law tt tt).ends
+
+objects_case : {L P : Type 0} (levels : ℕ) (names : List Identifier) → (P → IsIdentifiers names) → (kind : Option Kind) → Good L P written_decl (IsDecl levels) (named_text names) (Sees (peek program) kind) (objects_by levels names kind) (objects_by (suc levels) names kind)
+objects_case levels names f (Some k.Identifier) = (variables_starts levels names f (λ fs here. here)).good
+objects_case levels names f (Some k.Constant) = (constants_starts levels names f (λ fs here. here)).good
+objects_case levels names f _ = good_refuse (λ l w. objects_end levels names (f w))
+
+objects_after_good : {L P : Type 0} (levels : ℕ) (names : List Identifier) → (P → IsIdentifiers names) → Good L P written_decl (IsDecl levels) (named_text names) Any (objects_after levels names) (objects_after (suc levels) names)
+unfolding objects_after
+objects_after_good levels names f = good_choose (peek program) (λ t xs ys. refl) (objects_by levels names) (objects_by (suc levels) names) refl refl (objects_case levels names f)
+
+objects_start : {L P : Type 0} {on : List Form → Type 0} (levels : ℕ) → ((fs : List Form) → on fs → peek program fs ≡ Some k.Identifier) → Starts L P written_decl (IsDecl levels) [] on (objects levels) (objects (suc levels))
+unfolding objects
+objects_start levels here =
     starts_bind (identifiers_starts program here) (λ names.
-    good_bind (good_expect program k.Colon) (λ u.
-    good_bind (name_good program) (λ type_name.
-    good_bind (good_expect program k.Semicolon) (λ v.
-    good_pure (Variables names type_name) (λ l w. simp append_assoc) (λ l w. w.0.0.0.1)))))
+    good_bind (good_expect program k.Colon) (λ u. objects_after_good levels names (λ w. w.0.1)))
 
-pub declarations_shrinks : Shrinks (sees program k.Identifier) (item_step declaration)
-declarations_shrinks = items_shrinks written_decl IsDecl (sees program k.Identifier) (λ t xs ys. refl) refl {L = ⊤} (declaration_starts (sees_kind program k.Identifier)) tt
+declaration_ends : (levels : ℕ) → Ends written_decl (IsDecl levels) []
+declaration_ends levels = ((objects_start {L = ⊤} {P = ⊤} {on = λ fs. peek program fs ≡ Some k.Identifier} levels (λ fs here. here)).good.law tt tt).ends
 
-declarations_good : {L P : Type 0} → Good L P written_decls (Each IsDecl) [] Any declarations declarations
+declaration_case : {L P : Type 0} (levels : ℕ) (kind : Option Kind) → Good L P written_decl (IsDecl levels) [] (Sees (peek program) kind) (declaration_by levels kind) (declaration_by (suc levels) kind)
+declaration_case levels (Some k.Identifier) = (objects_start levels (λ fs here. here)).good
+declaration_case levels (Some k.Type) = (full_type_starts levels (λ fs here. here)).good
+declaration_case levels (Some k.Subtype) = (subtype_starts levels (λ fs here. here)).good
+declaration_case levels _ = good_refuse (λ l w. declaration_ends levels)
+
+begun_case : {L P : Type 0} (levels : ℕ) (kind : Option Kind) → starts_declaration kind ≡ true → Starts L P written_decl (IsDecl levels) [] (Sees (peek program) kind) (declaration_by levels kind) (declaration_by (suc levels) kind)
+begun_case levels (Some k.Identifier) e = objects_start levels (λ fs here. here)
+begun_case levels (Some k.Type) e = full_type_starts levels (λ fs here. here)
+begun_case levels (Some k.Subtype) e = subtype_starts levels (λ fs here. here)
+begun_case levels _ e = absurd cc
+
+declaration_starts : {L P : Type 0} (levels : ℕ) → Starts L P written_decl (IsDecl levels) [] (Sees sees_declaration true) (declaration levels) (declaration (suc levels))
+unfolding declaration
+declaration_starts levels =
+    starts_choose (peek program) (λ t xs ys. refl) (declaration_by levels) (declaration_by (suc levels)) (good_choose (peek program) (λ t xs ys. refl) (declaration_by levels) (declaration_by (suc levels)) refl refl (declaration_case levels))
+    (λ fs here. begun_case levels (peek program fs) here)
+
+pub declarations_shrinks : (levels : ℕ) → Shrinks sees_declaration (item_step (declaration levels))
+declarations_shrinks levels = items_shrinks written_decl (IsDecl levels) sees_declaration (λ t xs ys. refl) refl {L = ⊤} (declaration_starts levels) tt
+
+declarations_good : {L P : Type 0} (levels : ℕ) → Good L P written_decls (Each (IsDecl levels)) [] Any (declarations levels) (declarations (suc levels))
 unfolding declarations more_declarations
-declarations_good = good_items written_decl IsDecl (sees program k.Identifier) (λ t xs ys. refl) refl (declaration_starts (sees_kind program k.Identifier))
+declarations_good levels = good_items written_decl (IsDecl levels) sees_declaration (λ t xs ys. refl) refl (declaration_starts levels)
 
 -- ---- subprograms and units
 
@@ -242,7 +353,7 @@ pub record IsHeading (levels : ℕ) (h : HeadingParts) : Type 0 where
   pub pre : IfThere (IsPrecondition levels) h.pre
 
 pub record IsBody (levels : ℕ) (b : BodyParts) : Type 0 where
-  pub declarations : Each IsDecl b.declarations
+  pub declarations : Each (IsDecl levels) b.declarations
   pub statements : IsStmts levels b.statements
 
 heading_flat : (p n f d q : List Form) → (((p ++ n) ++ f) ++ d) ++ q ≡ p ++ (n ++ (f ++ (d ++ q)))
@@ -270,7 +381,7 @@ body_good : {L P : Type 0} (levels : ℕ) → Good L P written_body (IsBody leve
 unfolding body
 body_good levels =
     good_bind (good_expect program k.Is) (λ u1.
-    good_bind declarations_good (λ declarations.
+    good_bind (declarations_good levels) (λ declarations.
     good_bind (good_expect program k.Begin) (λ u2.
     good_bind (stmts_good levels) (λ statements.
     good_bind (good_expect_place program k.End) (λ end.

@@ -7,7 +7,11 @@ use Rattle.spx_tree.specs.declared.token.Kind.TheVariants as k
 use Rattle.spx_tree.specs.declared.expression.Identifier.{Identifier}
 use Rattle.spx_tree.specs.declared.expression.Name.{Name}
 use Rattle.spx_tree.specs.declared.declaration.Decl.{Decl}
-use Rattle.spx_tree.specs.declared.declaration.Decl.TheVariants.{Variables}
+use Rattle.spx_tree.specs.declared.declaration.Decl.TheVariants as decl
+use Rattle.spx_tree.specs.declared.declaration.Range.{Range}
+use Rattle.spx_tree.specs.declared.declaration.TypeDef.{TypeDef}
+use Rattle.spx_tree.specs.declared.declaration.TypeDef.TheVariants as defined
+use Rattle.spx_tree.specs.declared.expression.Layer.TheVariants as layer
 use Rattle.spx_tree.specs.declared.annotation.Exports.{Exports}
 use Rattle.spx_tree.specs.declared.annotation.Exports.TheVariants as exported
 use Rattle.spx_tree.specs.declared.annotation.Imports.{Imports}
@@ -22,16 +26,17 @@ use Rattle.spx_tree.specs.declared.subprogram.Subprogram.{Subprogram}
 use Rattle.spx_tree.specs.declared.subprogram.Unit.{Unit}
 use Rattle.spx_tree.specs.declared.subprogram.Unit.TheVariants as unit
 use Rattle.spx_tree.specs.Form.{Form, bare, placed, named}
-use Rattle.spx_tree.specs.Written.{program, annotation, following, separated, optional, written_identifier, written_identifiers, written_name, written_names, written_expr, written_decl, written_decls, written_stmts, written_imports, written_item, written_derives, written_pre, written_mode, written_param, written_params, written_formal_part, written_subprogram, written_unit, written}
-use Rattle.spx_tree.specs.Grammar.{Each, OneOrMore, IfThere, IsIdentifiers, IsNames, IsDecl, HasImportsFor, IsItem, IsDerives, IsPrecondition, IsParam, IsFormalPart, IsSubprogram, IsUnit, IsFile}
-use Rattle.spx_parse_body.specs.Reading.{pure, peek, sees, identifier, if_seen}
+use Rattle.spx_tree.specs.Written.{program, annotation, following, separated, optional, written_identifier, written_identifiers, written_name, written_names, written_expr, written_range, written_constraint, written_definition, written_decl, written_decls, written_stmts, written_imports, written_item, written_derives, written_pre, written_mode, written_param, written_params, written_formal_part, written_subprogram, written_unit, written}
+use Rattle.spx_tree.specs.Grammar.{Each, OneOrMore, IfThere, IsIdentifiers, IsNames, IsRange, IsDefinition, IsDecl, HasImportsFor, IsItem, IsDerives, IsPrecondition, IsParam, IsFormalPart, IsSubprogram, IsUnit, IsFile}
+use Rattle.spx_parse_body.specs.Reading.{pure, peek, is_kind, sees, identifier, optional_by, if_seen}
+use Rattle.spx_parse_body.specs.Expressions.{name}
 use Rattle.spx_parse_unit.specs.declared.subprograms.HeadingParts.{HeadingParts}
 use Rattle.spx_parse_unit.specs.declared.subprograms.BodyParts.{BodyParts}
-use Rattle.spx_parse_unit.specs.Units.{more_identifiers, identifiers, more_names, names, starred, unstarred, imports_by, imports, named_item, null_item, item_by, item, more_derives, items, derives, precondition, in_by, following_in, mode_by, mode, param, more_params, params, formal_part, declaration, more_declarations, declarations, heading, body, subprogram, unit_at, more_units, file}
+use Rattle.spx_parse_unit.specs.Units.{more_identifiers, identifiers, more_names, names, starred, unstarred, imports_by, imports, named_item, null_item, item_by, item, more_derives, items, derives, precondition, in_by, following_in, mode_by, mode, param, more_params, params, formal_part, range, constraint, integer, enumeration, definition_by, definition, full_type, subtype, variables, constants, objects_by, objects_after, objects, declaration_by, declaration, sees_declaration, more_declarations, declarations, heading, body, subprogram, unit_at, more_units, file}
 use Rattle.spx_parse_body.proofs.Callers.Shaped.{kind_self}
 use Rattle.spx_parse_body.proofs.Callers.Separated.{Lacks, not_seen, sees_front, reaches_following, reaches_separated, reaches_if_seen}
 use Rattle.spx_parse_body.proofs.Callers.Reaches.{Reaches, reaches_is, reaches_bind, reaches_pure, reaches_choose, reaches_expect, reaches_expect_place, reaches_identifier, reaches_items, peek_front}
-use Rattle.spx_parse_body.proofs.Callers.ExpressionsReach.{name_again, name_front, expression_again, semicolon_free}
+use Rattle.spx_parse_body.proofs.Callers.ExpressionsReach.{Free, name_again, name_front, expression_again, simple_expression_again, semicolon_free, sum_free, double_dot_free}
 use Rattle.spx_parse_body.proofs.Callers.StatementsReach.{stmts_again}
 use Rattle.spx_parse_unit.proofs.UnitsGood.{identifiers_shrinks, names_shrinks, derives_shrinks, params_shrinks, declarations_shrinks, units_shrinks}
 
@@ -187,23 +192,124 @@ formal_part_again x fs zs f h =
 
 -- ---- declarations
 
-declaration_again : (x : Decl) (fs zs : List Form) → IsDecl x → fs ≡ written_decl x ++ zs → Reaches declaration fs x zs
-unfolding declaration
-declaration_again (Variables names type_name) fs zs f h =
-    let flat : (written_identifiers program names ++ bare program k.Colon ∷ (written_name program type_name ++ bare program k.Semicolon ∷ [])) ++ zs ≡ written_identifiers program names ++ bare program k.Colon ∷ (written_name program type_name ++ bare program k.Semicolon ∷ zs) = simp append_assoc in
-    reaches_bind _ (identifiers_again program names fs (bare program k.Colon ∷ (written_name program type_name ++ bare program k.Semicolon ∷ zs)) f (λ e. cc) (h ∙ flat)) (λ us a.
-    reaches_bind _ (reaches_expect program k.Colon a) (λ vs b.
-    reaches_bind _ (name_again program type_name vs (bare program k.Semicolon ∷ zs) (λ e. cc) b) (λ ws d.
-    reaches_bind _ (reaches_expect program k.Semicolon d) (λ xs e. reaches_pure e))))
+range_again : (levels : ℕ) (x : Range) (fs zs : List Form) → IsRange levels x → Free layer.Sum (peek program zs) → fs ≡ written_range x ++ zs → Reaches (range levels) fs x zs
+unfolding range
+range_again levels x fs zs f free h =
+    let flat = h ∙ append_assoc (written_expr program x.low) (bare program k.DoubleDot ∷ written_expr program x.high) zs in
+    reaches_bind _ (simple_expression_again program levels x.low fs (bare program k.DoubleDot ∷ (written_expr program x.high ++ zs)) f.low (double_dot_free program (written_expr program x.high ++ zs)) flat) (λ us a.
+    reaches_bind _ (reaches_expect program k.DoubleDot a) (λ vs b.
+    reaches_bind _ (simple_expression_again program levels x.high vs zs f.high free b) (λ ws d. reaches_pure d)))
 
-declaration_seen : (x : Decl) (ws : List Form) → IsDecl x → sees program k.Identifier (written_decl x ++ ws) ≡ true
-declaration_seen (Variables [] type_name) ws f = absurd f
-declaration_seen (Variables (name ∷ names) type_name) ws f = kind_self k.Identifier
+-- no sum goes on with a semicolon
+semicolon_ends : (zs : List Form) → Free layer.Sum (peek program (bare program k.Semicolon ∷ zs))
+semicolon_ends zs = sum_free (peek program (bare program k.Semicolon ∷ zs)) (semicolon_free program zs)
 
-declarations_again : (xs : List Decl) (fs zs : List Form) → Each IsDecl xs → Lacks program k.Identifier zs → fs ≡ written_decls xs ++ zs → Reaches declarations fs xs zs
+constraint_again : (levels : ℕ) (x : Range) (fs zs : List Form) → IsRange levels x → fs ≡ written_constraint x ++ bare program k.Semicolon ∷ zs → Reaches (constraint levels) fs x (bare program k.Semicolon ∷ zs)
+unfolding constraint
+constraint_again levels x fs zs f h = reaches_bind _ (reaches_expect program k.Range h) (λ us a. range_again levels x us (bare program k.Semicolon ∷ zs) f (semicolon_ends zs) a)
+
+constraint_option : (levels : ℕ) (x : Option Range) (fs zs : List Form) → IfThere (IsRange levels) x → fs ≡ optional written_constraint x ++ bare program k.Semicolon ∷ zs → Reaches (if_seen program k.Range (constraint levels)) fs x (bare program k.Semicolon ∷ zs)
+unfolding if_seen
+constraint_option levels None fs zs f h = reaches_choose (sees program k.Range) (optional_by (constraint levels)) false (ap (sees program k.Range) h ∙ not_seen program k.Range (bare program k.Semicolon ∷ zs) (λ e. cc)) (reaches_pure h)
+constraint_option levels (Some x) fs zs f h = reaches_choose (sees program k.Range) (optional_by (constraint levels)) true (ap (sees program k.Range) h ∙ kind_self k.Range) (reaches_bind _ (constraint_again levels x fs zs f h) (λ us a. reaches_pure a))
+
+-- the type of a constant, before ":="
+type_option : (x : Option Name) (fs zs : List Form) → fs ≡ optional (written_name program) x ++ bare program k.Assignment ∷ zs → Reaches (if_seen program k.Identifier (name program)) fs x (bare program k.Assignment ∷ zs)
+unfolding if_seen
+type_option None fs zs h = reaches_choose (sees program k.Identifier) (optional_by (name program)) false (ap (sees program k.Identifier) h ∙ not_seen program k.Identifier (bare program k.Assignment ∷ zs) (λ e. cc)) (reaches_pure h)
+type_option (Some x) fs zs h =
+    reaches_choose (sees program k.Identifier) (optional_by (name program)) true (ap (sees program k.Identifier) h ∙ ap (is_kind k.Identifier) (name_front program x (bare program k.Assignment ∷ zs)) ∙ kind_self k.Identifier)
+    (reaches_bind _ (name_again program x fs (bare program k.Assignment ∷ zs) (λ e. cc) h) (λ us a. reaches_pure a))
+
+definition_again : (levels : ℕ) (x : TypeDef) (fs zs : List Form) → IsDefinition levels x → fs ≡ written_definition x ++ bare program k.Semicolon ∷ zs → Reaches (definition levels) fs x (bare program k.Semicolon ∷ zs)
+unfolding definition integer enumeration
+definition_again levels (defined.Integer x) fs zs f h =
+    reaches_choose (peek program) (definition_by levels) (Some k.Range) (peek_front program fs h)
+    (reaches_bind _ (constraint_again levels x fs zs f h) (λ us a. reaches_pure a))
+definition_again levels (defined.Enumeration place literals) fs zs f h =
+    let flat = h ∙ ap (λ (us : List Form). placed program k.LeftParenthesis place ∷ us) (append_assoc (written_identifiers program literals) (bare program k.RightParenthesis ∷ []) (bare program k.Semicolon ∷ zs)) in
+    reaches_choose (peek program) (definition_by levels) (Some k.LeftParenthesis) (peek_front program fs h)
+    (reaches_bind _ (reaches_expect_place program k.LeftParenthesis flat) (λ us a.
+    reaches_bind _ (identifiers_again program literals us (bare program k.RightParenthesis ∷ bare program k.Semicolon ∷ zs) f (λ e. cc) a) (λ vs b.
+    reaches_bind _ (reaches_expect program k.RightParenthesis b) (λ ws d. reaches_pure d))))
+
+-- identifiers come first
+names_first : (names : List Identifier) (ws : List Form) → IsIdentifiers names → peek program (written_identifiers program names ++ ws) ≡ Some k.Identifier
+names_first [] ws f = absurd f
+names_first (name ∷ names) ws f = refl
+
+-- what stands after identifiers and ":"
+objects_again : (levels : ℕ) (names : List Identifier) (x : Decl) (fs ws zs : List Form) → IsIdentifiers names → fs ≡ written_identifiers program names ++ bare program k.Colon ∷ ws
+    → ((us : List Form) → us ≡ ws → Reaches (objects_after levels names) us x zs) → Reaches (declaration levels) fs x zs
+unfolding declaration objects
+objects_again levels names x fs ws zs f h again =
+    reaches_choose (peek program) (declaration_by levels) (Some k.Identifier) (peek_front program fs h ∙ names_first names (bare program k.Colon ∷ ws) f)
+    (reaches_bind _ (identifiers_again program names fs (bare program k.Colon ∷ ws) f (λ e. cc) h) (λ us a.
+    reaches_bind _ (reaches_expect program k.Colon a) again))
+
+variables_text : (n t zs : List Form) → (n ++ bare program k.Colon ∷ (t ++ bare program k.Semicolon ∷ [])) ++ zs ≡ n ++ bare program k.Colon ∷ (t ++ bare program k.Semicolon ∷ zs)
+variables_text n t zs = simp append_assoc
+
+constants_text : (n t v zs : List Form) → (n ++ bare program k.Colon ∷ bare program k.Constant ∷ (t ++ bare program k.Assignment ∷ (v ++ bare program k.Semicolon ∷ []))) ++ zs
+    ≡ n ++ bare program k.Colon ∷ bare program k.Constant ∷ (t ++ bare program k.Assignment ∷ (v ++ bare program k.Semicolon ∷ zs))
+constants_text n t v zs = simp append_assoc
+
+subtype_text : (p r zs : List Form) → (p ++ (r ++ bare program k.Semicolon ∷ [])) ++ zs ≡ p ++ (r ++ bare program k.Semicolon ∷ zs)
+subtype_text p r zs = simp append_assoc
+
+-- what stands after the name of a subtype does not go on with it
+constraint_apart : (x : Option Range) (zs : List Form) → Apart program (optional written_constraint x ++ bare program k.Semicolon ∷ zs)
+constraint_apart None zs e = cc
+constraint_apart (Some x) zs e = cc
+
+declaration_again : (levels : ℕ) (x : Decl) (fs zs : List Form) → IsDecl levels x → fs ≡ written_decl x ++ zs → Reaches (declaration levels) fs x zs
+unfolding declaration objects_after variables constants full_type subtype
+declaration_again levels (decl.Variables names type_name) fs zs f h =
+    objects_again levels names (decl.Variables names type_name) fs (written_name program type_name ++ bare program k.Semicolon ∷ zs) zs f (h ∙ variables_text (written_identifiers program names) (written_name program type_name) zs) (λ us a.
+    reaches_choose (peek program) (objects_by levels names) (Some k.Identifier) (peek_front program us a ∙ name_front program type_name (bare program k.Semicolon ∷ zs))
+    (reaches_bind _ (name_again program type_name us (bare program k.Semicolon ∷ zs) (λ e. cc) a) (λ vs b.
+    reaches_bind _ (reaches_expect program k.Semicolon b) (λ ws d. reaches_pure d))))
+declaration_again levels (decl.Constants names type_name value) fs zs f h =
+    let after : List Form = written_expr program value ++ bare program k.Semicolon ∷ zs in
+    objects_again levels names (decl.Constants names type_name value) fs (bare program k.Constant ∷ (optional (written_name program) type_name ++ bare program k.Assignment ∷ after)) zs f.0
+    (h ∙ constants_text (written_identifiers program names) (optional (written_name program) type_name) (written_expr program value) zs) (λ us a.
+    reaches_choose (peek program) (objects_by levels names) (Some k.Constant) (peek_front program us a)
+    (reaches_bind _ (reaches_expect program k.Constant a) (λ vs b.
+    reaches_bind _ (type_option type_name vs after b) (λ ws d.
+    reaches_bind _ (reaches_expect program k.Assignment d) (λ t1 a1.
+    reaches_bind _ (expression_again program levels value t1 (bare program k.Semicolon ∷ zs) f.1 (semicolon_free program zs) a1) (λ t2 a2.
+    reaches_bind _ (reaches_expect program k.Semicolon a2) (λ t3 a3. reaches_pure a3)))))))
+declaration_again levels (decl.FullType name definition) fs zs f h =
+    let flat = h ∙ ap (λ (us : List Form). bare program k.Type ∷ named program name ∷ bare program k.Is ∷ us) (append_assoc (written_definition definition) (bare program k.Semicolon ∷ []) zs) in
+    reaches_choose (peek program) (declaration_by levels) (Some k.Type) (peek_front program fs flat)
+    (reaches_bind _ (reaches_expect program k.Type flat) (λ us a.
+    reaches_bind _ (reaches_identifier program a) (λ vs b.
+    reaches_bind _ (reaches_expect program k.Is b) (λ ws d.
+    reaches_bind _ (definition_again levels definition ws zs f d) (λ t1 a1.
+    reaches_bind _ (reaches_expect program k.Semicolon a1) (λ t2 a2. reaches_pure a2))))))
+declaration_again levels (decl.Subtype subject parent range) fs zs f h =
+    let after : List Form = optional written_constraint range ++ bare program k.Semicolon ∷ zs in
+    let flat = h ∙ ap (λ (us : List Form). bare program k.Subtype ∷ named program subject ∷ bare program k.Is ∷ us) (subtype_text (written_name program parent) (optional written_constraint range) zs) in
+    reaches_choose (peek program) (declaration_by levels) (Some k.Subtype) (peek_front program fs flat)
+    (reaches_bind _ (reaches_expect program k.Subtype flat) (λ us a.
+    reaches_bind _ (reaches_identifier program a) (λ vs b.
+    reaches_bind _ (reaches_expect program k.Is b) (λ ws d.
+    reaches_bind _ (name_again program parent ws after (constraint_apart range zs) d) (λ t1 a1.
+    reaches_bind _ (constraint_option levels range t1 zs f a1) (λ t2 a2.
+    reaches_bind _ (reaches_expect program k.Semicolon a2) (λ t3 a3. reaches_pure a3)))))))
+
+declaration_seen : (levels : ℕ) (x : Decl) (ws : List Form) → IsDecl levels x → sees_declaration (written_decl x ++ ws) ≡ true
+declaration_seen levels (decl.Variables [] type_name) ws f = absurd f
+declaration_seen levels (decl.Variables (name ∷ names) type_name) ws f = refl
+declaration_seen levels (decl.Constants [] type_name value) ws f = absurd f.0
+declaration_seen levels (decl.Constants (name ∷ names) type_name value) ws f = refl
+declaration_seen levels (decl.FullType name definition) ws f = refl
+declaration_seen levels (decl.Subtype name parent range) ws f = refl
+
+declarations_again : (levels : ℕ) (xs : List Decl) (fs zs : List Form) → Each (IsDecl levels) xs → sees_declaration zs ≡ false → fs ≡ written_decls xs ++ zs → Reaches (declarations levels) fs xs zs
 unfolding declarations more_declarations
-declarations_again xs fs zs f over h =
-    reaches_items written_decl IsDecl (sees program k.Identifier) declaration declarations_shrinks declaration_seen declaration_again [] xs fs zs f (not_seen program k.Identifier zs over) h
+declarations_again levels xs fs zs f over h =
+    reaches_items written_decl (IsDecl levels) sees_declaration (declaration levels) (declarations_shrinks levels) (declaration_seen levels) (declaration_again levels) [] xs fs zs f over h
 
 -- ---- subprograms and units
 
@@ -279,7 +385,7 @@ module _ (levels : ℕ) (x : Subprogram) (zs : List Form) where
   unfolding body body_of from_end from_is
   body_again fs f h =
       reaches_bind _ (reaches_expect program k.Is h) (λ t6 a6.
-      reaches_bind _ (declarations_again x.declarations t6 _ f.declarations (λ e. cc) a6) (λ t7 a7.
+      reaches_bind _ (declarations_again levels x.declarations t6 _ f.declarations refl a6) (λ t7 a7.
       reaches_bind _ (reaches_expect program k.Begin a7) (λ t8 a8.
       reaches_bind _ (stmts_again levels x.statements t8 from_end f.statements refl a8) (λ t9 a9.
       reaches_bind _ (reaches_expect_place program k.End a9) (λ t10 a10.

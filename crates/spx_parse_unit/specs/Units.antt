@@ -1,12 +1,15 @@
 -- Reading declarations, annotations, subprograms and units (Ada 95 RM 3, 6 and 10.1; Barnes, High Integrity Software).
-use Rattle.std.specs.Prelude.{ℕ, Bool, List, [], ◌∷◌, Option, Some, None}
+use Rattle.std.specs.Prelude.{ℕ, Bool, true, false, List, [], ◌∷◌, Option, Some, None}
 use Rattle.spx_text.specs.declared.place.Place.{Place}
 use Rattle.spx_tree.specs.declared.token.Kind.{Kind}
 use Rattle.spx_tree.specs.declared.token.Kind.TheVariants as k
 use Rattle.spx_tree.specs.declared.expression.Identifier.{Identifier}
 use Rattle.spx_tree.specs.declared.expression.Name.{Name}
 use Rattle.spx_tree.specs.declared.declaration.Decl.{Decl}
-use Rattle.spx_tree.specs.declared.declaration.Decl.TheVariants.{Variables}
+use Rattle.spx_tree.specs.declared.declaration.Decl.TheVariants as decl
+use Rattle.spx_tree.specs.declared.declaration.Range.{Range}
+use Rattle.spx_tree.specs.declared.declaration.TypeDef.{TypeDef}
+use Rattle.spx_tree.specs.declared.declaration.TypeDef.TheVariants as defined
 use Rattle.spx_tree.specs.declared.annotation.Exports.TheVariants as exported
 use Rattle.spx_tree.specs.declared.annotation.Imports.{Imports}
 use Rattle.spx_tree.specs.declared.annotation.DerivesItem.{DerivesItem}
@@ -19,11 +22,12 @@ use Rattle.spx_tree.specs.declared.subprogram.FormalPart.{FormalPart}
 use Rattle.spx_tree.specs.declared.subprogram.Subprogram.{Subprogram}
 use Rattle.spx_tree.specs.declared.subprogram.Unit.{Unit}
 use Rattle.spx_tree.specs.declared.subprogram.Unit.TheVariants as unit
+use Rattle.spx_tree.specs.Form.{Form}
 use Rattle.spx_tree.specs.Written.{program, annotation}
 use Rattle.spx_parse_unit.specs.declared.subprograms.HeadingParts.{HeadingParts}
 use Rattle.spx_parse_unit.specs.declared.subprograms.BodyParts.{BodyParts}
 use Rattle.spx_parse_body.specs.Reading.{Reader, ◌>>=◌, ◌>>◌, pure, refuse, peek, sees, expect, expect_place, identifier, if_seen, more_items}
-use Rattle.spx_parse_body.specs.Expressions.{name, expression}
+use Rattle.spx_parse_body.specs.Expressions.{name, expression, simple_expression}
 use Rattle.spx_parse_body.specs.Statements.{stmts}
 
 -- ---- names
@@ -160,21 +164,120 @@ formal_part = do
 
 -- ---- declarations
 
--- identifiers ":" name ";"
-unfoldable pub declaration : Reader Decl
-declaration = do
-  names ← identifiers program
-  expect program k.Colon
+-- sum ".." sum
+unfoldable pub range : ℕ → Reader Range
+range levels = do
+  low ← simple_expression program levels
+  expect program k.DoubleDot
+  high ← simple_expression program levels
+  pure (record { low = low; high = high })
+
+-- "range" range
+unfoldable pub constraint : ℕ → Reader Range
+constraint levels = expect program k.Range >> range levels
+
+-- "range" range
+unfoldable pub integer : ℕ → Reader TypeDef
+integer levels = constraint levels >>= λ range. pure (defined.Integer range)
+
+-- "(" identifiers ")"
+unfoldable pub enumeration : Reader TypeDef
+enumeration = do
+  place ← expect_place program k.LeftParenthesis
+  literals ← identifiers program
+  expect program k.RightParenthesis
+  pure (defined.Enumeration place literals)
+
+abbrev pub definition_by : ℕ → Option Kind → Reader TypeDef
+definition_by levels (Some k.Range) = integer levels
+definition_by levels (Some k.LeftParenthesis) = enumeration
+definition_by levels _ = refuse
+
+-- "range" range | "(" identifiers ")"
+unfoldable pub definition : ℕ → Reader TypeDef
+definition levels = λ fs. definition_by levels (peek program fs) fs
+
+-- "type" identifier "is" definition ";"
+unfoldable pub full_type : ℕ → Reader Decl
+full_type levels = do
+  expect program k.Type
+  name ← identifier program
+  expect program k.Is
+  definition ← definition levels
+  expect program k.Semicolon
+  pure (decl.FullType name definition)
+
+-- "subtype" identifier "is" name ["range" range] ";"
+unfoldable pub subtype : ℕ → Reader Decl
+subtype levels = do
+  expect program k.Subtype
+  subject ← identifier program
+  expect program k.Is
+  parent ← name program
+  range ← if_seen program k.Range (constraint levels)
+  expect program k.Semicolon
+  pure (decl.Subtype subject parent range)
+
+-- name ";"
+unfoldable pub variables : List Identifier → Reader Decl
+variables names = do
   type_name ← name program
   expect program k.Semicolon
-  pure (Variables names type_name)
+  pure (decl.Variables names type_name)
 
-unfoldable pub more_declarations : List Decl → Reader (List Decl)
-more_declarations found = more_items (sees program k.Identifier) declaration found
+-- "constant" [name] ":=" expression ";"
+unfoldable pub constants : ℕ → List Identifier → Reader Decl
+constants levels names = do
+  expect program k.Constant
+  type_name ← if_seen program k.Identifier (name program)
+  expect program k.Assignment
+  value ← expression program levels
+  expect program k.Semicolon
+  pure (decl.Constants names type_name value)
+
+abbrev pub objects_by : ℕ → List Identifier → Option Kind → Reader Decl
+objects_by levels names (Some k.Identifier) = variables names
+objects_by levels names (Some k.Constant) = constants levels names
+objects_by levels names _ = refuse
+
+-- what stands after identifiers and ":"
+unfoldable pub objects_after : ℕ → List Identifier → Reader Decl
+objects_after levels names = λ fs. objects_by levels names (peek program fs) fs
+
+-- identifiers ":" name ";" | identifiers ":" "constant" [name] ":=" expression ";"
+unfoldable pub objects : ℕ → Reader Decl
+objects levels = do
+  names ← identifiers program
+  expect program k.Colon
+  objects_after levels names
+
+abbrev pub declaration_by : ℕ → Option Kind → Reader Decl
+declaration_by levels (Some k.Identifier) = objects levels
+declaration_by levels (Some k.Type) = full_type levels
+declaration_by levels (Some k.Subtype) = subtype levels
+declaration_by levels _ = refuse
+
+-- objects | full type | subtype
+unfoldable pub declaration : ℕ → Reader Decl
+declaration levels = λ fs. declaration_by levels (peek program fs) fs
+
+-- a declaration starts with a form of this kind
+abbrev pub starts_declaration : Option Kind → Bool
+starts_declaration (Some k.Identifier) = true
+starts_declaration (Some k.Type) = true
+starts_declaration (Some k.Subtype) = true
+starts_declaration _ = false
+
+-- a declaration comes next
+abbrev pub sees_declaration : List Form → Bool
+sees_declaration fs = starts_declaration (peek program fs)
+
+unfoldable pub more_declarations : ℕ → List Decl → Reader (List Decl)
+more_declarations levels found = more_items sees_declaration (declaration levels) found
 
 -- {declaration}
-unfoldable pub declarations : Reader (List Decl)
-declarations = more_declarations []
+unfoldable pub declarations : ℕ → Reader (List Decl)
+declarations levels = more_declarations levels []
 
 -- ---- subprograms and units
 
@@ -192,7 +295,7 @@ heading levels = do
 unfoldable pub body : ℕ → Reader BodyParts
 body levels = do
   expect program k.Is
-  declarations ← declarations
+  declarations ← declarations levels
   expect program k.Begin
   statements ← stmts levels
   end ← expect_place program k.End

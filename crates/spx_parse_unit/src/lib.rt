@@ -1,10 +1,11 @@
-//! The parser: from the tokens of a file to its units (Ada 95 RM 4 to 6 and 10.1; Barnes, High Integrity Software).
+//! The parser: from the tokens of a file to its units (Ada 95 RM 3 to 6 and 10.1; Barnes, High Integrity Software).
 //!
 //! A layer above may rely on this: what is read is the one list of units that is written with the tokens, and a refusal
 //! stands at the token with which no file of the grammar goes on.
 #![tactic(auto)]
 
 mod annotations;
+mod declarative;
 mod laws;
 mod parse;
 mod subprograms;

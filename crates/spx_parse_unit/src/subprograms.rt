@@ -1,4 +1,4 @@
-// From tokens to subprograms and units (Ada 95 RM 3, 6 and 10.1).
+// From tokens to subprograms and units (Ada 95 RM 6 and 10.1).
 ghost use Rattle.std.specs.Prelude.{◌≡◌};
 ghost use Rattle.spx_tree.specs.Written.{program};
 ghost use Rattle.spx_tree.specs.declared.token.Kind.TheVariants as k;
@@ -7,6 +7,7 @@ ghost use Rattle.spx_parse_unit.specs.Units as read;
 ghost use Rattle.spx_parse_body.specs.Answers.{Reads};
 
 use crate::annotations::{identifiers, optional_derives, optional_pre};
+use crate::declarative::declarations;
 use spx_parse_body::{Cursor, PROGRAM, Stop, name, stmts};
 use spx_text::Place;
 use spx_tree::{
@@ -119,30 +120,6 @@ fn optional_formal_part(alloc: Global, cursor: &mut Cursor<'_>) -> Result<Option
     Ok(None)
 }
 
-// declaration = identifiers ":" name ";"
-#[tactic(auto, unfolding(crate::specs::Units::declaration))]
-fn declaration(alloc: Global, cursor: &mut Cursor<'_>) -> Result<Decl, Stop>
-    ensures { Reads (read.declaration cursor.old) result cursor.new }
-{
-    let names = identifiers(alloc, cursor, PROGRAM)?;
-    cursor.expect(PROGRAM, Kind::Colon)?;
-    let type_name = name(alloc, cursor, PROGRAM)?;
-    cursor.expect(PROGRAM, Kind::Semicolon)?;
-    Ok(Decl::Variables(names, type_name))
-}
-
-// declarations = {declaration}
-#[tactic(auto, using(crate::proofs::Turns::more_declarations_is), unfolding(crate::specs::Units::declarations))]
-fn declarations(alloc: Global, cursor: &mut Cursor<'_>) -> Result<Items<Decl>, Stop>
-    ensures { Reads (read.declarations cursor.old) result cursor.new }
-{
-    let mut declarations = Items::new(alloc);
-    'more: while cursor.sees(PROGRAM, Kind::Identifier) {
-        declarations.push(declaration(alloc, cursor)?)?;
-    }
-    Ok(declarations)
-}
-
 // [identifier]
 #[tactic(auto, unfolding(spx_parse_body::specs::Reading::if_seen))]
 fn end_name(alloc: Global, cursor: &mut Cursor<'_>) -> Result<Option<Identifier>, Stop>
@@ -179,7 +156,7 @@ fn body(alloc: Global, cursor: &mut Cursor<'_>, levels: u32) -> Result<BodyParts
     ensures { Reads (read.body levels cursor.old) result cursor.new }
 {
     cursor.expect(PROGRAM, Kind::Is)?;
-    let declarations = declarations(alloc, cursor)?;
+    let declarations = declarations(alloc, cursor, levels)?;
     cursor.expect(PROGRAM, Kind::Begin)?;
     let statements = stmts(alloc, cursor, levels)?;
     let end = cursor.expect_place(PROGRAM, Kind::End)?;

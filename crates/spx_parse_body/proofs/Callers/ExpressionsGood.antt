@@ -22,7 +22,7 @@ use Rattle.spx_tree.specs.Form.{Form, bare, placed, named}
 use Rattle.spx_tree.specs.Goes.{Expected}
 use Rattle.spx_tree.specs.Written as written
 use Rattle.spx_tree.specs.Written.{sign_kind, operator_kind, second_word, written_operator, written_member, written_name, written_expr, parenthesized}
-use Rattle.spx_tree.specs.Grammar.{height, layer_of, layer_before, layer_in, rank, right_layer, operand_layer, HasOperator, FitsLeft, LeftFits, IsUpTo, Layered, IsExpr}
+use Rattle.spx_tree.specs.Grammar.{height, layer_of, layer_before, layer_in, rank, right_layer, operand_layer, HasOperator, FitsLeft, LeftFits, IsUpTo, Layered, OfLayer, IsExpr}
 use Rattle.spx_parse_body.specs.declared.expressions.Tall.{Tall}
 use Rattle.spx_parse_body.specs.declared.operators.Chain.{Chain}
 use Rattle.spx_parse_body.specs.declared.operators.Chain.TheVariants as chain
@@ -30,7 +30,7 @@ use Rattle.spx_parse_body.specs.declared.operators.Relator.{Relator}
 use Rattle.spx_parse_body.specs.declared.operators.Relator.TheVariants as relators
 use Rattle.spx_parse_body.specs.Reading.{Reader, ◌>>=◌, pure, refuse, peek}
 use Rattle.spx_parse_body.specs.Operators.{sign_of, abs_or_not, power_of, relator_of, logical, short_circuit, goes_on, second, whole_by, whole_operator}
-use Rattle.spx_parse_body.specs.Expressions.{leaf, enclosed, prefixed, joined, in_type, in_range, plain_name, name_by, name, literal, in_parentheses, primary_by, primary, operated, joined_by, power_by, power, factor_by, factor, step_by, chain_step, chained, term, signed_by, signed, sum, type_by, member_by, member, inside, outside, relation_by, relation, combined, opening_by, opening, combination_by, combination, read, below, at_layer, expression, expression_below}
+use Rattle.spx_parse_body.specs.Expressions.{leaf, enclosed, prefixed, joined, in_type, in_range, plain_name, name_by, name, literal, in_parentheses, primary_by, primary, operated, joined_by, power_by, power, factor_by, factor, step_by, chain_step, chained, term, signed_by, signed, sum, type_by, member_by, member, inside, outside, relation_by, relation, combined, opening_by, opening, combination_by, combination, read, below, at_layer, expression, simple_expression, expression_below}
 use Rattle.spx_parse_body.proofs.Callers.Lawful.{Ends, Any, Sees, Always, ends_here}
 use Rattle.spx_parse_body.proofs.Callers.Loops.{Shrinks}
 use Rattle.spx_parse_body.proofs.Callers.Good.{Good, no_level, Turn, Case, absent, present, good_before, good_bind, good_pure, good_refuse, good_given, good_fewer, good_weaken, good_expect, good_expect_place, good_identifier, good_choose, good_option, good_loop, shrinks, Starts, starts_bind, starts_expect, starts_identifier, starts_number, starts_open}
@@ -519,15 +519,20 @@ at_layer_good : (marked : Bool) (levels : ℕ) (layer : Layer) → Good ⊤ ⊤ 
 unfolding at_layer
 at_layer_good marked levels layer = read_good marked (below marked levels) (below marked (suc levels)) levels (below_good marked levels) layer
 
-expression_is : (levels : ℕ) (m : Tall) → IsTall levels layer.Expression m → IsExpr levels m.expr
-expression_is levels m f = record { low = let a = f.low in let b = f.measured in omega arith; layered = f.layered; of_layer = f.of_layer }
+of_layer_is : (levels : ℕ) (layer : Layer) (m : Tall) → IsTall levels layer m → OfLayer layer levels m.expr
+of_layer_is levels layer m f = record { low = let a = f.low in let b = f.measured in omega arith; layered = f.layered; of_layer = f.of_layer }
 
 pub expression_good : {L P : Type 0} (marked : Bool) (levels : ℕ) → Good L P (written_expr marked) (IsExpr levels) [] Any (expression marked levels) (expression marked (suc levels))
 unfolding expression
 expression_good marked levels =
-    good_bind (good_given (λ l. tt) (λ l w. tt) (at_layer_good marked levels layer.Expression)) (λ m. good_pure m.expr (λ l w. refl) (λ l w. expression_is levels m w.1))
+    good_bind (good_given (λ l. tt) (λ l w. tt) (at_layer_good marked levels layer.Expression)) (λ m. good_pure m.expr (λ l w. refl) (λ l w. of_layer_is levels layer.Expression m w.1))
+
+pub simple_expression_good : {L P : Type 0} (marked : Bool) (levels : ℕ) → Good L P (written_expr marked) (OfLayer layer.Sum levels) [] Any (simple_expression marked levels) (simple_expression marked (suc levels))
+unfolding simple_expression
+simple_expression_good marked levels =
+    good_bind (good_given (λ l. tt) (λ l w. tt) (at_layer_good marked levels layer.Sum)) (λ m. good_pure m.expr (λ l w. refl) (λ l w. of_layer_is levels layer.Sum m w.1))
 
 pub expression_below_good : {P : Type 0} (marked : Bool) (levels : ℕ) → Good (0 < levels) P (written_expr marked) (IsExpr (levels - 1)) [] Any (expression_below marked levels) (expression_below marked (suc levels))
 unfolding expression_below
 expression_below_good marked levels =
-    good_bind (good_given (λ l. l) (λ l w. tt) (below_good marked levels layer.Expression)) (λ m. good_pure m.expr (λ l w. refl) (λ l w. expression_is (levels - 1) m w.1))
+    good_bind (good_given (λ l. l) (λ l w. tt) (below_good marked levels layer.Expression)) (λ m. good_pure m.expr (λ l w. refl) (λ l w. of_layer_is (levels - 1) layer.Expression m w.1))

@@ -21,7 +21,7 @@ use Rattle.spx_tree.specs.declared.expression.Expr.TheVariants as expr
 use Rattle.spx_tree.specs.Form.{Form, Kept, Nothing, Where, Spelled, Valued, placed, bare, named}
 use Rattle.spx_tree.specs.Written as written
 use Rattle.spx_tree.specs.Written.{parenthesized, sign_kind, operator_kind, second_word, written_operator, written_member, written_name, written_expr}
-use Rattle.spx_tree.specs.Grammar.{height, layer_of, layer_before, layer_in, rank, right_layer, operand_layer, HasOperator, FitsLeft, IsUpTo, Layered, IsExpr}
+use Rattle.spx_tree.specs.Grammar.{height, layer_of, layer_before, layer_in, rank, right_layer, operand_layer, HasOperator, FitsLeft, IsUpTo, Layered, OfLayer, IsExpr}
 use Rattle.spx_parse_body.specs.declared.expressions.Tall.{Tall}
 use Rattle.spx_parse_body.specs.declared.operators.Chain.{Chain}
 use Rattle.spx_parse_body.specs.declared.operators.Chain.TheVariants as chain
@@ -29,7 +29,7 @@ use Rattle.spx_parse_body.specs.declared.operators.Relator.{Relator}
 use Rattle.spx_parse_body.specs.declared.operators.Relator.TheVariants as relators
 use Rattle.spx_parse_body.specs.Reading.{Outcome, Reader, and_then, peek}
 use Rattle.spx_parse_body.specs.Operators.{sign_of, abs_or_not, power_of, multiplying, adding, relator_of, logical, if_then, if_else, same_logical, goes_on, second, whole_by, whole_operator}
-use Rattle.spx_parse_body.specs.Expressions.{name_by, name, literal, in_parentheses, primary_by, primary, operated, joined_by, power_by, power, factor_by, factor, step_by, chain_step, chained, term, signed_by, signed, sum, type_by, member_by, member, inside, outside, relation_by, relation, combined, opening_by, opening, combination_by, combination, read, below, at_layer, expression, expression_below}
+use Rattle.spx_parse_body.specs.Expressions.{name_by, name, literal, in_parentheses, primary_by, primary, operated, joined_by, power_by, power, factor_by, factor, step_by, chain_step, chained, term, signed_by, signed, sum, type_by, member_by, member, inside, outside, relation_by, relation, combined, opening_by, opening, combination_by, combination, read, below, at_layer, expression, simple_expression, expression_below}
 use Rattle.spx_parse_body.proofs.Callers.Loops.{Shrinks}
 use Rattle.spx_parse_body.proofs.Callers.Reaches.{Reaches, reaches_bind, reaches_pure, reaches_choose, reaches_deeper, reaches_expect, reaches_expect_place, reaches_identifier, reaches_number, peek_front, loop_turn, loop_over}
 use Rattle.spx_parse_body.proofs.Callers.Operators.{chain_layer}
@@ -730,6 +730,10 @@ pub expression_again : (marked : Bool) (levels : ℕ) (x : Expr) (fs zs : List F
 unfolding expression
 expression_again marked levels x fs zs fit free e = reaches_bind _ (at_layer_again marked levels layer.Expression x fs zs fit.low fit.layered fit.of_layer free e) (λ us a. reaches_pure a)
 
+pub simple_expression_again : (marked : Bool) (levels : ℕ) (x : Expr) (fs zs : List Form) → OfLayer layer.Sum levels x → Free layer.Sum (peek marked zs) → fs ≡ written_expr marked x ++ zs → Reaches (simple_expression marked levels) fs x zs
+unfolding simple_expression
+simple_expression_again marked levels x fs zs fit free e = reaches_bind _ (at_layer_again marked levels layer.Sum x fs zs fit.low fit.layered fit.of_layer free e) (λ us a. reaches_pure a)
+
 pub expression_below_again : (marked : Bool) (levels : ℕ) → 0 < levels → (x : Expr) (fs zs : List Form) → IsExpr (levels - 1) x → Free layer.Expression (peek marked zs) → fs ≡ written_expr marked x ++ zs → Reaches (expression_below marked levels) fs x zs
 unfolding expression_below
 expression_below_again marked levels some x fs zs fit free e = reaches_bind _ (below_again marked levels some layer.Expression x fs zs fit.low fit.layered fit.of_layer free e) (λ us a. reaches_pure a)
@@ -741,3 +745,11 @@ semicolon_free marked zs = bare_free marked k.Semicolon zs refl
 -- nor with the word "then"
 pub then_free : (marked : Bool) (zs : List Form) → Free layer.Expression (peek marked (bare marked k.Then ∷ zs))
 then_free marked zs = bare_free marked k.Then zs refl
+
+-- what goes on with no expression goes on with no sum
+pub sum_free : (kind : Option Kind) → Free layer.Expression kind → Free layer.Sum kind
+sum_free kind free = omega arith
+
+-- no sum goes on with a double dot
+pub double_dot_free : (marked : Bool) (zs : List Form) → Free layer.Sum (peek marked (bare marked k.DoubleDot ∷ zs))
+double_dot_free marked zs = let e = ap strength (peek_here marked k.DoubleDot Nothing zs) in omega arith

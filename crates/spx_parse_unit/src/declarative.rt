@@ -1,0 +1,212 @@
+// From tokens to declarations (Ada 95 RM 3).
+ghost use Rattle.std.specs.Prelude.{◌≡◌};
+ghost use Rattle.spx_tree.specs.Written.{program};
+ghost use Rattle.spx_tree.specs.declared.token.Kind.TheVariants as k;
+ghost use Rattle.spx_parse_body.specs.Reading as reading;
+ghost use Rattle.spx_parse_body.specs.Expressions as expressions;
+ghost use Rattle.spx_parse_unit.specs.Units as read;
+ghost use Rattle.spx_parse_body.specs.Answers.{Reads};
+
+use crate::annotations::identifiers;
+use spx_parse_body::{Cursor, PROGRAM, Stop, expression, name, simple_expression};
+use spx_tree::{Decl, Identifier, Kind, Name, Range, TypeDef};
+use sqlite_items::Items;
+use std::alloc::Global;
+
+// range = sum ".." sum
+#[tactic(auto, unfolding(crate::specs::Units::range))]
+fn range(alloc: Global, cursor: &mut Cursor<'_>, levels: u32) -> Result<Range, Stop>
+    ensures { Reads (read.range levels cursor.old) result cursor.new }
+{
+    let low = simple_expression(alloc, cursor, levels, PROGRAM)?;
+    cursor.expect(PROGRAM, Kind::DoubleDot)?;
+    let high = simple_expression(alloc, cursor, levels, PROGRAM)?;
+    Ok(Range { low, high })
+}
+
+// constraint = "range" range
+#[tactic(auto, unfolding(crate::specs::Units::constraint))]
+fn constraint(alloc: Global, cursor: &mut Cursor<'_>, levels: u32) -> Result<Range, Stop>
+    ensures { Reads (read.constraint levels cursor.old) result cursor.new }
+{
+    cursor.expect(PROGRAM, Kind::Range)?;
+    range(alloc, cursor, levels)
+}
+
+// [constraint]
+#[tactic(auto, unfolding(spx_parse_body::specs::Reading::if_seen))]
+fn optional_constraint(
+    alloc: Global,
+    cursor: &mut Cursor<'_>,
+    levels: u32,
+) -> Result<Option<Range>, Stop>
+    ensures { Reads (reading.if_seen program k.Range (read.constraint levels) cursor.old) result cursor.new }
+{
+    if cursor.sees(PROGRAM, Kind::Range) {
+        return Ok(Some(constraint(alloc, cursor, levels)?));
+    }
+    Ok(None)
+}
+
+// [name]
+#[tactic(auto, unfolding(spx_parse_body::specs::Reading::if_seen))]
+fn optional_name(alloc: Global, cursor: &mut Cursor<'_>) -> Result<Option<Name>, Stop>
+    ensures { Reads (reading.if_seen program k.Identifier (expressions.name program) cursor.old) result cursor.new }
+{
+    if cursor.sees(PROGRAM, Kind::Identifier) {
+        return Ok(Some(name(alloc, cursor, PROGRAM)?));
+    }
+    Ok(None)
+}
+
+// integer = constraint
+#[tactic(auto, unfolding(crate::specs::Units::integer))]
+fn integer(alloc: Global, cursor: &mut Cursor<'_>, levels: u32) -> Result<TypeDef, Stop>
+    ensures { Reads (read.integer levels cursor.old) result cursor.new }
+{
+    Ok(TypeDef::Integer(constraint(alloc, cursor, levels)?))
+}
+
+// enumeration = "(" identifiers ")"
+#[tactic(auto, unfolding(crate::specs::Units::enumeration))]
+fn enumeration(alloc: Global, cursor: &mut Cursor<'_>) -> Result<TypeDef, Stop>
+    ensures { Reads (read.enumeration cursor.old) result cursor.new }
+{
+    let place = cursor.expect_place(PROGRAM, Kind::LeftParenthesis)?;
+    let literals = identifiers(alloc, cursor, PROGRAM)?;
+    cursor.expect(PROGRAM, Kind::RightParenthesis)?;
+    Ok(TypeDef::Enumeration(place, literals))
+}
+
+// definition = integer | enumeration
+#[tactic(auto, unfolding(crate::specs::Units::definition))]
+fn definition(alloc: Global, cursor: &mut Cursor<'_>, levels: u32) -> Result<TypeDef, Stop>
+    ensures { Reads (read.definition levels cursor.old) result cursor.new }
+{
+    match cursor.peek(PROGRAM) {
+        Some(Kind::Range) => integer(alloc, cursor, levels),
+        Some(Kind::LeftParenthesis) => enumeration(alloc, cursor),
+        _ => Err(cursor.expected()),
+    }
+}
+
+// full_type = "type" identifier "is" definition ";"
+#[tactic(auto, unfolding(crate::specs::Units::full_type))]
+fn full_type(alloc: Global, cursor: &mut Cursor<'_>, levels: u32) -> Result<Decl, Stop>
+    ensures { Reads (read.full_type levels cursor.old) result cursor.new }
+{
+    cursor.expect(PROGRAM, Kind::Type)?;
+    let name = cursor.identifier(alloc, PROGRAM)?;
+    cursor.expect(PROGRAM, Kind::Is)?;
+    let definition = definition(alloc, cursor, levels)?;
+    cursor.expect(PROGRAM, Kind::Semicolon)?;
+    Ok(Decl::FullType(name, definition))
+}
+
+// subtype = "subtype" identifier "is" name [constraint] ";"
+#[tactic(auto, unfolding(crate::specs::Units::subtype))]
+fn subtype(alloc: Global, cursor: &mut Cursor<'_>, levels: u32) -> Result<Decl, Stop>
+    ensures { Reads (read.subtype levels cursor.old) result cursor.new }
+{
+    cursor.expect(PROGRAM, Kind::Subtype)?;
+    let subject = cursor.identifier(alloc, PROGRAM)?;
+    cursor.expect(PROGRAM, Kind::Is)?;
+    let parent = name(alloc, cursor, PROGRAM)?;
+    let range = optional_constraint(alloc, cursor, levels)?;
+    cursor.expect(PROGRAM, Kind::Semicolon)?;
+    Ok(Decl::Subtype(subject, parent, range))
+}
+
+// variables = name ";"
+#[tactic(auto, unfolding(crate::specs::Units::variables))]
+fn variables(alloc: Global, cursor: &mut Cursor<'_>, names: Items<Identifier>) -> Result<Decl, Stop>
+    ensures { Reads (read.variables names cursor.old) result cursor.new }
+{
+    let type_name = name(alloc, cursor, PROGRAM)?;
+    cursor.expect(PROGRAM, Kind::Semicolon)?;
+    Ok(Decl::Variables(names, type_name))
+}
+
+// constants = "constant" [name] ":=" expression ";"
+#[tactic(auto, unfolding(crate::specs::Units::constants))]
+fn constants(
+    alloc: Global,
+    cursor: &mut Cursor<'_>,
+    levels: u32,
+    names: Items<Identifier>,
+) -> Result<Decl, Stop>
+    ensures { Reads (read.constants levels names cursor.old) result cursor.new }
+{
+    cursor.expect(PROGRAM, Kind::Constant)?;
+    let type_name = optional_name(alloc, cursor)?;
+    cursor.expect(PROGRAM, Kind::Assignment)?;
+    let value = expression(alloc, cursor, levels, PROGRAM)?;
+    cursor.expect(PROGRAM, Kind::Semicolon)?;
+    Ok(Decl::Constants(names, type_name, value))
+}
+
+// variables | constants
+#[tactic(auto, unfolding(crate::specs::Units::objects_after))]
+fn objects_after(
+    alloc: Global,
+    cursor: &mut Cursor<'_>,
+    levels: u32,
+    names: Items<Identifier>,
+) -> Result<Decl, Stop>
+    ensures { Reads (read.objects_after levels names cursor.old) result cursor.new }
+{
+    match cursor.peek(PROGRAM) {
+        Some(Kind::Identifier) => variables(alloc, cursor, names),
+        Some(Kind::Constant) => constants(alloc, cursor, levels, names),
+        _ => Err(cursor.expected()),
+    }
+}
+
+// objects = identifiers ":" (variables | constants)
+#[tactic(auto, unfolding(crate::specs::Units::objects))]
+fn objects(alloc: Global, cursor: &mut Cursor<'_>, levels: u32) -> Result<Decl, Stop>
+    ensures { Reads (read.objects levels cursor.old) result cursor.new }
+{
+    let names = identifiers(alloc, cursor, PROGRAM)?;
+    cursor.expect(PROGRAM, Kind::Colon)?;
+    objects_after(alloc, cursor, levels, names)
+}
+
+// declaration = objects | full_type | subtype
+#[tactic(auto, unfolding(crate::specs::Units::declaration))]
+fn declaration(alloc: Global, cursor: &mut Cursor<'_>, levels: u32) -> Result<Decl, Stop>
+    ensures { Reads (read.declaration levels cursor.old) result cursor.new }
+{
+    match cursor.peek(PROGRAM) {
+        Some(Kind::Identifier) => objects(alloc, cursor, levels),
+        Some(Kind::Type) => full_type(alloc, cursor, levels),
+        Some(Kind::Subtype) => subtype(alloc, cursor, levels),
+        _ => Err(cursor.expected()),
+    }
+}
+
+/// Whether a declaration comes next.
+fn sees_declaration(cursor: &Cursor<'_>) -> bool
+    ensures { result ≡ read.sees_declaration cursor.now }
+{
+    match cursor.peek(PROGRAM) {
+        Some(Kind::Identifier | Kind::Type | Kind::Subtype) => true,
+        _ => false,
+    }
+}
+
+/// Reads declarations, as many as there are.
+#[tactic(auto, using(crate::proofs::Turns::more_declarations_is), unfolding(crate::specs::Units::declarations))]
+pub fn declarations(
+    alloc: Global,
+    cursor: &mut Cursor<'_>,
+    levels: u32,
+) -> Result<Items<Decl>, Stop>
+    ensures { Reads (read.declarations levels cursor.old) result cursor.new }
+{
+    let mut declarations = Items::new(alloc);
+    'more: while sees_declaration(cursor) {
+        declarations.push(declaration(alloc, cursor, levels)?)?;
+    }
+    Ok(declarations)
+}
