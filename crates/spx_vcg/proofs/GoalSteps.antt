@@ -1,5 +1,5 @@
 -- Goals by their ids.
-use Rattle.std.proofs.Common.{◌≡◌, ◌<◌, ◌≤◌, ℤ, List, [], ◌∷◌, length, refl, sym, ap, ◌∙◌, subst, arith}
+use Rattle.std.proofs.Common.{◌≡◌, ◌⊎◌, inl, inr, ◌<◌, ◌≤◌, ℤ, List, [], ◌∷◌, length, refl, sym, ap, ◌∙◌, subst, arith}
 use Rattle.spx_core.specs.declared.entity.Class.{Class}
 use Rattle.spx_core.specs.declared.entity.Class.TheVariants as class
 use Rattle.spx_core.specs.declared.entity.Subtype.{Subtype}
@@ -45,8 +45,9 @@ all_none old is = record { grown = grows_not old; within = subst (AreIds (length
 pub all_along : {old new : List Term} {ids : List TermId} {ts us : List Term} → AddsAll old new ids ts → ts ≡ us → AddsAll old new ids us
 all_along {old} {new} {ids} a e = subst (λ xs. AddsAll old new ids xs) e a
 
-pub of_integer : (subtype : Subtype) (t : Term) → subtype.base.class ≡ class.Integer → in_range subtype.first subtype.last t ≡ in_type subtype t
-of_integer subtype t is = ap (λ (c : Class). in_class c subtype.first subtype.last t) (sym is)
+pub of_numbers : (subtype : Subtype) (t : Term) → (subtype.base.class ≡ class.Integer) ⊎ (subtype.base.class ≡ class.Enumeration) → in_range subtype.first subtype.last t ≡ in_type subtype t
+of_numbers subtype t (inl is) = ap (λ (c : Class). in_class c subtype.first subtype.last t) (sym is)
+of_numbers subtype t (inr is) = ap (λ (c : Class). in_class c subtype.first subtype.last t) (sym is)
 
 pub of_truth : (subtype : Subtype) (t : Term) → subtype.base.class ≡ class.Boolean → [] ≡ in_type subtype t
 of_truth subtype t is = ap (λ (c : Class). in_class c subtype.first subtype.last t) (sym is)

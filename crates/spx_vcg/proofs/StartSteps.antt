@@ -1,5 +1,5 @@
 -- What the start of a body adds, and assignments; and all claims of a body.
-use Rattle.std.proofs.Common.{get_or, drop, drop-cons, add-one, zero, suc, flat_map, append-nil, ◌≡◌, ℕ, ◌+◌, ◌<◌, true, Bool, List, [], ◌∷◌, ◌++◌, length, map, Option, Some, refl, sym, ap, ◌∙◌, subst, arith}
+use Rattle.std.proofs.Common.{get_or, drop, drop-cons, add-one, zero, suc, flat_map, append-nil, ◌≡◌, ◌⊎◌, inl, inr, ℕ, ◌+◌, ◌<◌, true, Bool, List, [], ◌∷◌, ◌++◌, length, map, Option, Some, refl, sym, ap, ◌∙◌, subst, arith}
 use Rattle.spx_text.specs.declared.place.Place.{Place}
 use Rattle.spx_core.specs.declared.entity.Class.{Class}
 use Rattle.spx_core.specs.declared.entity.Class.TheVariants as class
@@ -60,8 +60,9 @@ after_assignment {w} {x} {y} {id} p e place target k v at a =
     subst (λ q. Goes w y (λ rest. checks p entries [] e (assigned p q (variable_of target.root.entity) (term_of p entries e) rest))) at (goes_twice (goes_of k m.walks) (a (term_of p entries e) m.means)) in
     record { whole = (along (now_term p)).whole; adds = (along (now_term p)).adds; goes = λ sub. along (entry_term p sub) }
 
-pub as_integer : {w x : Walk} (subtype : Subtype) (place : Place) (t : Term) → subtype.base.class ≡ class.Integer → Walks w x (checked_under [] Range place (in_type subtype t)) → Walks w x (range_check subtype place t)
-as_integer {w} {x} subtype place t is walks = walks_along (λ rest. ap (λ (c : Class). checked_in c subtype place t rest) is) walks
+pub as_numbers : {w x : Walk} (subtype : Subtype) (place : Place) (t : Term) → (subtype.base.class ≡ class.Integer) ⊎ (subtype.base.class ≡ class.Enumeration) → Walks w x (checked_under [] Range place (in_type subtype t)) → Walks w x (range_check subtype place t)
+as_numbers {w} {x} subtype place t (inl is) walks = walks_along (λ rest. ap (λ (c : Class). checked_in c subtype place t rest) is) walks
+as_numbers {w} {x} subtype place t (inr is) walks = walks_along (λ rest. ap (λ (c : Class). checked_in c subtype place t rest) is) walks
 
 pub as_truth : {w : Walk} (subtype : Subtype) (place : Place) (t : Term) → subtype.base.class ≡ class.Boolean → Walks w w (range_check subtype place t)
 as_truth {w} subtype place t is = walks_along (λ rest. ap (λ (c : Class). checked_in c subtype place t rest) is) (walks_not w)
