@@ -55,7 +55,6 @@ use Rattle.spx_term.proofs.PlainLaws.{plain_valid}
 use Rattle.spx_term.proofs.Terms as terms
 use Rattle.spx_meaning.specs.Literals.{base_of, literal}
 use Rattle.spx_meaning.specs.Stores.{type_of}
-use Rattle.spx_meaning.proofs.Callers.Types.{type_is}
 use Rattle.spx_paths.specs.Terms.{now, now_term, entry, entry_term, sort_of_class, sort_of_var, term_of}
 use Rattle.spx_paths.specs.Checks.{in_class, in_range, in_type, under, guarded, checked_under, base_check, divisor_check, exponent_check, operation_check, right_lefts, sign_check, unless_static, checks, checks-Parenthesized, checks-Prefix, checks-Infix, checks-InType, checks-InRange, checks-Number, checks-Name, checks-Attribute}
 use Rattle.spx_paths.specs.Walks.{assigned, checked_in, walk, entering, import_facts, pre_facts, first_facts, ending, start_tree, trees_of}
@@ -63,7 +62,7 @@ use Rattle.spx_paths.specs.Conditions.{body_claims, numbered, conditions_of, Are
 use Rattle.spx_paths.specs.Fit.{IsValid, HasValidConditions, Fit, Clean}
 use Rattle.spx_core.proofs.Callers.ListTests.{each_append}
 use Rattle.spx_sound.proofs.Typings.{Cases, typed_induct, tested, right_side, IsTyped, both_typed, arms_typed, TypedSub, typed_subs}
-use Rattle.spx_sound.proofs.SortedTerms.{AreDeclared, HasSortOf, sort_of_type, boolean_sort, compared_sorted, declared-Infix, declared-InRange, declared-InType, declared-Parenthesized, declared-Prefix, is_of_sort, is_sorted, not_sorted, number_sort, numbers, raised_sort, sorted_cases}
+use Rattle.spx_sound.proofs.SortedTerms.{AreDeclared, HasSortOf, sort_of_type, boolean_sort, compared_sorted, declared-Infix, declared-InRange, declared-InType, declared-Parenthesized, declared-Prefix, is_of_sort, is_sorted, not_sorted, number_sort, numbers, raised_sort, right_sort, sorted_cases}
 use Rattle.spx_sound.proofs.NeverBadTrees.{each_flat_map, each_without_doubles}
 use Rattle.spx_sound.proofs.NeverBadBodies.{same_name-Decides}
 
@@ -98,6 +97,7 @@ in_range_sorted first last t h = (
 in_class_sorted : (c : Class) (first last : ℤ) (t : Term) → HasSortOf (sort_of_class c) t → AreFormulas (in_class c first last t)
 in_class_sorted class.Integer first last t h = in_range_sorted first last t h
 in_class_sorted class.Boolean first last t h = tt
+in_class_sorted class.Enumeration first last t h = in_range_sorted first last t h
 
 in_type_sorted : (of : Subtype) (t : Term) → HasSortOf (sort_of_class of.base.class) t → AreFormulas (in_type of t)
 in_type_sorted of t h = in_class_sorted of.base.class of.first of.last t h
@@ -199,8 +199,12 @@ module _ (p : Program) (entered : VarId → Term) where
       sorted = is_sorted p entered (Name name) (typing (Of object.subtype.base) None name.name.place) typed d;
       checks = λ lefts f rest k. subst IsSortedTree (sym (checks-Name p entered lefts name rest)) k;
     };
-    literal = λ name subtype n is typed d. record {
-      sorted = (sorted_cases p entered).literal name subtype n is typed d;
+    static = λ name subtype n typed d. record {
+      sorted = (sorted_cases p entered).static name subtype n typed d;
+      checks = λ lefts f rest k. subst IsSortedTree (sym (checks-Name p entered lefts name rest)) k;
+    };
+    named_number = λ name n typed d. record {
+      sorted = (sorted_cases p entered).named_number name n typed d;
       checks = λ lefts f rest k. subst IsSortedTree (sym (checks-Name p entered lefts name rest)) k;
     };
     attribute = λ prefix designator base n has typed d. record {
@@ -280,9 +284,11 @@ module _ (p : Program) (entered : VarId → Term) where
 checked_in_sorted : (c : Class) (of : Subtype) (place : Place) (t : Term) (rest : Tree) → HasSortOf (sort_of_class of.base.class) t → IsSortedTree rest → IsSortedTree (checked_in c of place t rest)
 checked_in_sorted class.Integer of place t rest h k = check_sorted Range place (in_type of t) rest (in_type_sorted of t h) k
 checked_in_sorted class.Boolean of place t rest h k = k
+checked_in_sorted class.Enumeration of place t rest h k = check_sorted Range place (in_type of t) rest (in_type_sorted of t h) k
 
-assigned_sorted : (p : Program) (place : Place) (v : VarId) (t : Term) (rest : Tree) → HasSortOf (sort_of_var p v) t → IsSortedTree rest → IsSortedTree (assigned p place (Some v) t rest)
-assigned_sorted p place v t rest h k = checked_in_sorted (type_of p v).base.class (type_of p v) place t (Assign (now p v) t rest) h (h, k)
+assigned_sorted : (p : Program) (place : Place) (o : Option VarId) (t : Term) (rest : Tree) → ((v : VarId) → o ≡ Some v → HasSortOf (sort_of_var p v) t) → IsSortedTree rest → IsSortedTree (assigned p place o t rest)
+assigned_sorted p place (Some v) t rest h k = let sorted = h v refl in checked_in_sorted (type_of p v).base.class (type_of p v) place t (Assign (now p v) t rest) sorted (sorted, k)
+assigned_sorted p place None t rest h k = k
 
 -- ---- commands
 
@@ -297,9 +303,8 @@ module _ (p : Program) (sub : Sub) where
       let t = term_of p (entry_term p sub) e in
       let right = right_side target e typed in
       let whole = checks_sorted p (entry_term p sub) e right.typing right.typed (recursion_from_All (IsAsDeclared p) (names_read e) declared.1) in
-      let sorted = whole.sorted ∙ ap Some (is_of_sort right.object.subtype.base right.typing.of right.fits ∙ ap (λ (of : Subtype). sort_of_class of.base.class) (sym (type_is p right.var right.object (declared.0 right.var right.object right.denotes)))) in
-      whole.checks [] tt (assigned p (place_of e) (variable_of target.root.entity) t rest)
-      (subst (λ (o : Option VarId). IsSortedTree (assigned p (place_of e) o t rest)) (sym (ap variable_of right.denotes)) (assigned_sorted p (place_of e) right.var t rest sorted k))
+      let o = variable_of target.root.entity in
+      whole.checks [] tt (assigned p (place_of e) o t rest) (assigned_sorted p (place_of e) o t rest (λ v is. whole.sorted ∙ ap Some (right_sort p target e declared.0 right v is)) k)
 
   walk_sorted : (c : Command) (rest leave : ℕ → Tree) → IsTyped c → AreAsDeclared p c → AreSortedTrees rest → AreSortedTrees leave → AreSortedTrees (walk p sub c rest leave)
   walk_sorted Skip rest leave typed declared k l made = k made

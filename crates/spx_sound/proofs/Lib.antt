@@ -1,3 +1,4 @@
+pub mod Classes
 pub mod Typings
 pub mod NeverBadTrees
 pub mod SortedTerms

@@ -79,10 +79,13 @@ has_class class.Integer first last (value.Number n) h = refl
 has_class class.Integer first last (value.Truth b) h = absurd (cc)
 has_class class.Boolean first last (value.Number n) h = absurd (cc)
 has_class class.Boolean first last (value.Truth b) h = refl
+has_class class.Enumeration first last (value.Number n) h = refl
+has_class class.Enumeration first last (value.Truth b) h = absurd (cc)
 
 first_has_class : (c : Class) (first : _) → of_sort (sort_of_class c) (first_of_class c first) ≡ first_of_class c first
 first_has_class class.Integer first = refl
 first_has_class class.Boolean first = refl
+first_has_class class.Enumeration first = refl
 
 -- each variable that is set has a value of its type
 abbrev AreInTypes : Program → Store → Type 0

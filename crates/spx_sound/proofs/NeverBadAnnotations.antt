@@ -17,14 +17,15 @@ use Rattle.spx_core.specs.declared.entity.Class.{Class}
 use Rattle.spx_core.specs.declared.entity.Class.TheVariants as class
 use Rattle.spx_core.specs.declared.entity.Entity.{Entity}
 use Rattle.spx_core.specs.declared.entity.VarId.{VarId}
+use Rattle.spx_core.specs.declared.name.CoreName.{CoreName}
 use Rattle.spx_core.specs.declared.expression.CoreExpr.{CoreExpr}
 use Rattle.spx_core.specs.declared.expression.CoreExpr.TheVariants.{Name, Attribute, Prefix, Infix, InType, InRange}
 use Rattle.spx_core.specs.declared.rule.ExprType.{ExprType}
 use Rattle.spx_core.specs.declared.rule.ExprType.TheVariants.{Universal, Of}
 use Rattle.spx_core.specs.declared.rule.Typing.{Typing}
-use Rattle.spx_core.specs.Judged.{Judged, expr_step, judged}
+use Rattle.spx_core.specs.Judged.{Judged, expr_step, judged, typing}
 use Rattle.spx_core.specs.Resolved.{subtype_of}
-use Rattle.spx_core.specs.Types.{has_numbers, has_truths, is_between, is_boolean, is_defined, is_number, is_of, is_true, left_type, meet, member_value, met, operand_fits, operands_fit, operated, position_in, raised_type, result_of, result_type, same_class, signed, signed_result, tested, three_fit, truth}
+use Rattle.spx_core.specs.Types.{has_numbers, has_truths, is_between, is_boolean, is_defined, is_number, is_of, is_ordered, is_true, left_type, meet, member_value, met, operand_fits, operands_fit, operated, position_in, raised_type, result_of, result_type, same_class, signed, signed_result, tested, three_fit, truth}
 use Rattle.spx_core.specs.Uses.{variable_of}
 use Rattle.spx_term.specs.declared.term.Term.{Term}
 use Rattle.spx_term.specs.declared.term.Term.TheVariants as term
@@ -39,6 +40,7 @@ use Rattle.spx_meaning.specs.Evaluation.{applied, applied_sign, first_in, last_i
 use Rattle.spx_meaning.specs.Annotations.{meant, meant_step, reading_of, value_or, value_or_zero}
 use Rattle.spx_paths.specs.Terms.{first_term, last_term, member_term, named, now_term, literal_or, signed_term, term_of, term_with-Parenthesized, term_with-Prefix, term_with-Infix, term_with-InType, term_with-InRange, term_with-Name, term_with-Attribute}
 use Rattle.spx_core.proofs.Callers.Expressions.{Cases, induct, fold-Number, fold-Name, fold-Attribute, fold-Parenthesized, fold-Prefix, fold-Infix, fold-InType, fold-InRange}
+use Rattle.spx_sound.proofs.Classes.{number_is_ordered, numbers_are_ordered, numeric_has_numbers, same_numbers}
 use Rattle.spx_sound.proofs.Typings as typed
 use Rattle.spx_sound.proofs.NeverBadExpressions.{static_term_value, signed_term_value, member_type_value, member_value as member_term_value, value-Number, named_value, value-named, AgreesWith}
 
@@ -47,40 +49,39 @@ use Rattle.spx_sound.proofs.NeverBadExpressions.{static_term_value, signed_term_
 no_truths : (c : Class) → has_numbers c ≡ true → has_truths c ≡ true → ⊥
 no_truths class.Integer h k = cc
 no_truths class.Boolean h k = cc
-
-same_numbers : (a b : Class) → has_numbers a ≡ true → same_class a b ≡ true → has_numbers b ≡ true
-same_numbers class.Integer b h k = k
-same_numbers class.Boolean b h k = absurd (cc)
+no_truths class.Enumeration h k = cc
 
 same_truths : (a b : Class) → has_truths a ≡ true → same_class a b ≡ true → has_truths b ≡ true
 same_truths class.Integer b h k = absurd (cc)
 same_truths class.Boolean b h k = k
+same_truths class.Enumeration b h k = absurd (cc)
 
-right_number : (l r : ExprType) → is_number l ≡ true → meet l r ≡ true → is_number r ≡ true
-right_number Universal r number h = h
-right_number (Of base) Universal number h = refl
-right_number (Of base) (Of other) number h = same_numbers base.class other.class number (and_parts _ _ h).1
+right_ordered : (l r : ExprType) → is_ordered l ≡ true → meet l r ≡ true → is_ordered r ≡ true
+right_ordered Universal r ordered h = number_is_ordered r h
+right_ordered (Of base) Universal ordered h = refl
+right_ordered (Of base) (Of other) ordered h = same_numbers base.class other.class ordered (and_parts _ _ h).1
 
 right_truth : (base : BaseType) (r : ExprType) → has_truths base.class ≡ true → is_of base r ≡ true → is_boolean r ≡ true
-right_truth base Universal truths h = absurd (no_truths base.class h truths)
+right_truth base Universal truths h = absurd (no_truths base.class (numeric_has_numbers base.class h) truths)
 right_truth base (Of other) truths h = same_truths base.class other.class truths (and_parts _ _ h).1
 
-met_number : (l r : ExprType) → is_number l ≡ true → meet l r ≡ true → is_number (met l r) ≡ true
-met_number Universal r number h = h
-met_number (Of base) r number h = number
+met_ordered : (l r : ExprType) → is_ordered l ≡ true → meet l r ≡ true → is_ordered (met l r) ≡ true
+met_ordered Universal r ordered h = number_is_ordered r h
+met_ordered (Of base) r ordered h = ordered
 
-raised_number : (l : ExprType) (n : Option ℤ) → is_number l ≡ true → is_number (raised_type l n) ≡ true
-raised_number Universal (Some n) number = refl
-raised_number Universal None number = refl
-raised_number (Of base) n number = number
+raised_ordered : (l : ExprType) (n : Option ℤ) → is_ordered l ≡ true → is_ordered (raised_type l n) ≡ true
+raised_ordered Universal (Some n) ordered = refl
+raised_ordered Universal None ordered = refl
+raised_ordered (Of base) n ordered = ordered
 
 -- ---- static values
 
 class_value : (c : Class) (n : ℤ) → has_numbers c ≡ true → (if has_truths c then value.Truth (is_true n) else value.Number n) ≡ value.Number n
 class_value class.Integer n h = refl
 class_value class.Boolean n h = absurd (cc)
+class_value class.Enumeration n h = refl
 
-number_value : (of : ExprType) (n : ℤ) → is_number of ≡ true → value_in of n ≡ value.Number n
+number_value : (of : ExprType) (n : ℤ) → is_ordered of ≡ true → value_in of n ≡ value.Number n
 number_value Universal n h = refl
 number_value (Of base) n h = class_value base.class n h
 
@@ -98,16 +99,17 @@ truth_value of b h = sym (boolean_value of (truth b) h ∙ ap value.Truth (truth
 abbrev IsPosition : ExprType → ℤ → Type 0
 IsPosition of n = is_boolean of ≡ true → n ≡ truth (is_true n)
 
-no_position : (of : ExprType) (n : ℤ) → is_number of ≡ true → IsPosition of n
-no_position Universal n number truths = absurd (cc)
-no_position (Of base) n number truths = absurd (no_truths base.class number truths)
+no_position : (of : ExprType) (n : ℤ) → is_ordered of ≡ true → IsPosition of n
+no_position Universal n ordered truths = absurd (cc)
+no_position (Of base) n ordered truths = absurd (no_truths base.class ordered truths)
 
 truth_position : (of : ExprType) (b : Bool) → IsPosition of (truth b)
 truth_position of b truths = sym (ap truth (truth_at b))
 
-literal_position : (c : Class) (n : ℤ) → has_truths c ≡ true → position_in c n ≡ truth (is_true (position_in c n))
-literal_position class.Integer n h = absurd (cc)
-literal_position class.Boolean n h = sym (ap truth (truth_at (is_true n)))
+class_position : (c : Class) (n : ℤ) → has_truths c ≡ true → position_in c n ≡ truth (is_true (position_in c n))
+class_position class.Integer n h = absurd (cc)
+class_position class.Boolean n h = sym (ap truth (truth_at (is_true n)))
+class_position class.Enumeration n h = absurd (cc)
 
 -- the value is this static one
 pub record Stands (w : Value) (of : ExprType) (n : ℤ) : Type 0 where
@@ -128,8 +130,8 @@ fitting_static w of n is = by_width (fits n)
 
 -- ---- operations on static values
 
-as_number_is : (w : Value) (of : ExprType) (n : ℤ) → is_number of ≡ true → Stands w of n → w ≡ value.Number n
-as_number_is w of n number is = is.is ∙ number_value of n number
+as_number_is : (w : Value) (of : ExprType) (n : ℤ) → is_ordered of ≡ true → Stands w of n → w ≡ value.Number n
+as_number_is w of n ordered is = is.is ∙ number_value of n ordered
 
 as_truth_is : (w : Value) (of : ExprType) (n : ℤ) → is_boolean of ≡ true → Stands w of n → w ≡ value.Truth (is_true n)
 as_truth_is w of n truths is = is.is ∙ boolean_value of n truths
@@ -148,12 +150,16 @@ equal_truths l r x y m n left right p q =
     ap₂ same_value (as_truth_is x l m left p) (as_truth_is y r n right q) ∙ same_positions (is_true m) (is_true n) ∙ ap₂ int_eq (sym (p.position left)) (sym (q.position right))
 
 equal_values : (l r : ExprType) (x y : Value) (m n : ℤ) → meet l r ≡ true → Stands x l m → Stands y r n → same_value x y ≡ int_eq m n
-equal_values Universal r x y m n h p q = equal_numbers x y m n p.is (as_number_is y r n h q)
+equal_values Universal r x y m n h p q = equal_numbers x y m n p.is (as_number_is y r n (number_is_ordered r h) q)
 equal_values (Of base) r x y m n h p q = by_class base.class refl
   where
+    by_numbers : has_numbers base.class ≡ true → same_value x y ≡ int_eq m n
+    by_numbers has = equal_numbers x y m n (as_number_is x (Of base) m has p) (as_number_is y r n (right_ordered (Of base) r has h) q)
+
     by_class : (c : Class) → base.class ≡ c → same_value x y ≡ int_eq m n
-    by_class class.Integer is = equal_numbers x y m n (as_number_is x (Of base) m (ap has_numbers is) p) (as_number_is y r n (right_number (Of base) r (ap has_numbers is) h) q)
+    by_class class.Integer is = by_numbers (ap has_numbers is)
     by_class class.Boolean is = equal_truths (Of base) r x y m n (ap has_truths is) (right_truth base r (ap has_truths is) h) p q
+    by_class class.Enumeration is = by_numbers (ap has_numbers is)
 
 abbrev Boolean : ExprType
 Boolean = Of BOOLEAN.base
@@ -163,21 +169,24 @@ stands_true : (w : Value) (b : Bool) → w ≡ value.Truth b → Stands w Boolea
 stands_true w b is = record { is = is ∙ truth_value Boolean b refl; position = truth_position Boolean b }
 
 -- a result that is a number
-stands_number : (w : Value) (of : ExprType) (n : ℤ) → is_number of ≡ true → w ≡ value.Number n → Stands w of n
-stands_number w of n number is = record { is = is ∙ sym (number_value of n number); position = no_position of n number }
+stands_number : (w : Value) (of : ExprType) (n : ℤ) → is_ordered of ≡ true → w ≡ value.Number n → Stands w of n
+stands_number w of n ordered is = record { is = is ∙ sym (number_value of n ordered); position = no_position of n ordered }
 
--- of numbers
-module _ (o : InfixOp) (l r : ExprType) (x y : Value) (m n : ℤ) (fit : (is_number l && meet l r) ≡ true) (p : Stands x l m) (q : Stands y r n) where
+-- of values that are numbers
+module _ (o : InfixOp) (l r : ExprType) (x y : Value) (m n : ℤ) (fit : (is_ordered l && meet l r) ≡ true) (p : Stands x l m) (q : Stands y r n) where
   both_are : (k : Value) → applied o (value.Number m) (value.Number n) ≡ k → applied o x y ≡ k
   both_are k is =
-      let parts = and_parts (is_number l) (meet l r) fit in
-      ap₂ (applied o) (as_number_is x l m parts.0 p) (as_number_is y r n (right_number l r parts.0 parts.1) q) ∙ is
-
-  arithmetic_stands : (k : ℤ) → applied o (value.Number m) (value.Number n) ≡ value.Number k → Stands (applied o x y) (met l r) k
-  arithmetic_stands k is = let parts = and_parts (is_number l) (meet l r) fit in stands_number (applied o x y) (met l r) k (met_number l r parts.0 parts.1) (both_are (value.Number k) is)
+      let parts = and_parts (is_ordered l) (meet l r) fit in
+      ap₂ (applied o) (as_number_is x l m parts.0 p) (as_number_is y r n (right_ordered l r parts.0 parts.1) q) ∙ is
 
   comparison_stands : (b : Bool) → applied o (value.Number m) (value.Number n) ≡ value.Truth b → Stands (applied o x y) Boolean (truth b)
   comparison_stands b is = stands_true (applied o x y) b (both_are (value.Truth b) is)
+
+arithmetic_stands : (o : InfixOp) (l r : ExprType) (x y : Value) (m n : ℤ) → (is_number l && meet l r) ≡ true → Stands x l m → Stands y r n → (k : ℤ) → applied o (value.Number m) (value.Number n) ≡ value.Number k → Stands (applied o x y) (met l r) k
+arithmetic_stands o l r x y m n fit p q k is =
+    let both = numbers_are_ordered l r fit in
+    let parts = and_parts (is_ordered l) (meet l r) both in
+    stands_number (applied o x y) (met l r) k (met_ordered l r parts.0 parts.1) (both_are o l r x y m n both p q (value.Number k) is)
 
 -- of truth values
 module _ (o : InfixOp) (l r : ExprType) (x y : Value) (m n : ℤ) (fit : (is_boolean l && is_boolean r) ≡ true) (p : Stands x l m) (q : Stands y r n) where
@@ -196,8 +205,9 @@ operated_stands op.Mod l r e x y m n fit p q = arithmetic_stands op.Mod l r x y 
 operated_stands op.Rem l r e x y m n fit p q = arithmetic_stands op.Rem l r x y m n fit p q (or_zero remainder m n) refl
 operated_stands op.Power l r e x y m n fit p q =
     let parts = and_parts (is_number l) (is_of INTEGER.base r) fit in
-    stands_number (applied op.Power x y) (raised_type l e) (raised m n) (raised_number l e parts.0)
-    (ap₂ (applied op.Power) (as_number_is x l m parts.0 p) (as_number_is y r n (right_number (Of INTEGER.base) r refl parts.1) q))
+    let left = number_is_ordered l parts.0 in
+    stands_number (applied op.Power x y) (raised_type l e) (raised m n) (raised_ordered l e left)
+    (ap₂ (applied op.Power) (as_number_is x l m left p) (as_number_is y r n (right_ordered (Of INTEGER.base) r refl parts.1) q))
 operated_stands op.Equal l r e x y m n fit p q = stands_true (applied op.Equal x y) (int_eq m n) (ap value.Truth (equal_values l r x y m n fit p q))
 operated_stands op.NotEqual l r e x y m n fit p q = stands_true (applied op.NotEqual x y) (not (int_eq m n)) (ap (λ b. value.Truth (not b)) (equal_values l r x y m n fit p q))
 operated_stands op.Less l r e x y m n fit p q = comparison_stands op.Less l r x y m n fit p q (int_lt m n) refl
@@ -227,8 +237,10 @@ operated_static o l r None b x y fit p q = tt
 signed_stands : (o : PrefixOp) (of : ExprType) (x : Value) (n : ℤ) → operand_fits o of ≡ true → Stands x of n → Stands (applied_sign o x) of (signed o n)
 unfolding value_of_prefix
 signed_stands prefix.Plus of x n fit p = p
-signed_stands prefix.Minus of x n fit p = stands_number (applied_sign prefix.Minus x) of (pos 0 -ℤ n) fit (ap (applied_sign prefix.Minus) (as_number_is x of n fit p))
-signed_stands prefix.Abs of x n fit p = stands_number (applied_sign prefix.Abs x) of (absolute n) fit (ap (applied_sign prefix.Abs) (as_number_is x of n fit p))
+signed_stands prefix.Minus of x n fit p =
+    let ordered = number_is_ordered of fit in stands_number (applied_sign prefix.Minus x) of (pos 0 -ℤ n) ordered (ap (applied_sign prefix.Minus) (as_number_is x of n ordered p))
+signed_stands prefix.Abs of x n fit p =
+    let ordered = number_is_ordered of fit in stands_number (applied_sign prefix.Abs x) of (absolute n) ordered (ap (applied_sign prefix.Abs) (as_number_is x of n ordered p))
 signed_stands prefix.Not of x n fit p = record {
   is = ap (applied_sign prefix.Not) (as_truth_is x of n fit p) ∙ truth_value of (not (is_true n)) fit;
   position = truth_position of (not (is_true n));
@@ -249,37 +261,39 @@ member_stands : (o : MemberOp) (x y z : Value) (n low high : ℤ) → x ≡ valu
 member_stands o x y z n low high p q r =
     stands_true (member o x y z) (tested o (is_between low high n)) (ap (λ w. member o w y z) p ∙ ap₂ (member o (value.Number n)) q r ∙ member_is o n low high)
 
-in_type_static : (o : MemberOp) (of : ExprType) (a : Option ℤ) (x y z : Value) (low high : ℤ) → is_number of ≡ true → IsStatic x of a → y ≡ value.Number low → z ≡ value.Number high → IsStatic (member o x y z) Boolean (member_value o a (Some low) (Some high))
-in_type_static o of (Some n) x y z low high number is q r = member_stands o x y z n low high (as_number_is x of n number is) q r
-in_type_static o of None x y z low high number is q r = tt
+in_type_static : (o : MemberOp) (of : ExprType) (a : Option ℤ) (x y z : Value) (low high : ℤ) → is_ordered of ≡ true → IsStatic x of a → y ≡ value.Number low → z ≡ value.Number high → IsStatic (member o x y z) Boolean (member_value o a (Some low) (Some high))
+in_type_static o of (Some n) x y z low high ordered is q r = member_stands o x y z n low high (as_number_is x of n ordered is) q r
+in_type_static o of None x y z low high ordered is q r = tt
 
 in_range_static : (o : MemberOp) (l m r : ExprType) (a b c : Option ℤ) (x y z : Value) → three_fit l m r ≡ true → IsStatic x l a → IsStatic y m b → IsStatic z r c → IsStatic (member o x y z) Boolean (member_value o a b c)
 in_range_static o l m r (Some n) (Some low) (Some high) x y z fit p q s =
-    let parts = and_parts (is_number l) (meet l m && meet (met l m) r) fit in
+    let parts = and_parts (is_ordered l) (meet l m && meet (met l m) r) fit in
     let both = and_parts (meet l m) (meet (met l m) r) parts.1 in
-    member_stands o x y z n low high (as_number_is x l n parts.0 p) (as_number_is y m low (right_number l m parts.0 both.0) q)
-    (as_number_is z r high (right_number (met l m) r (met_number l m parts.0 both.0) both.1) s)
+    member_stands o x y z n low high (as_number_is x l n parts.0 p) (as_number_is y m low (right_ordered l m parts.0 both.0) q)
+    (as_number_is z r high (right_ordered (met l m) r (met_ordered l m parts.0 both.0) both.1) s)
 in_range_static o l m r (Some n) (Some low) None x y z fit p q s = tt
 in_range_static o l m r (Some n) None c x y z fit p q s = tt
 in_range_static o l m r None b c x y z fit p q s = tt
 
 -- ---- expressions
 
-number_tested : (base : BaseType) (of : ExprType) → has_numbers base.class ≡ true → is_of base of ≡ true → is_number of ≡ true
-number_tested base of number h = right_number (Of base) of number h
-
 module _ (f : Frame) (s : Store) where
   abbrev MeansStatic : CoreExpr → Typing → Type 0
   MeansStatic e t = IsStatic (meant f s e) t.of t.value
+
+  -- a name that is judged to be static means its value
+  name_means_static : (name : CoreName) (t : Typing) (n : ℤ) → t.value ≡ Some n → judged (Name name) ≡ Ok t → meant f s (Name name) ≡ value_in t.of n
+  name_means_static name t n is judges =
+      fold-Name (meant_step f s) name
+      ∙ ap (λ j. value_or (literal_in j) (reading_of f.program s (variable_of name.entity))) (sym (fold-Name expr_step name) ∙ judges)
+      ∙ ap (λ v. value_or (option_map (value_in t.of) v) (reading_of f.program s (variable_of name.entity))) is
 
   static_cases : typed.Cases MeansStatic
   static_cases = record {
     number = λ n place. record { is = fold-Number (meant_step f s) n place; position = no_position Universal n refl };
     object = λ name v object is judges. tt;
-    literal = λ name subtype n is judges. record {
-      is = fold-Name (meant_step f s) name ∙ ap (λ j. value_or (literal_in j) (reading_of f.program s (variable_of name.entity))) (sym (fold-Name expr_step name) ∙ judges);
-      position = literal_position subtype.base.class n;
-    };
+    static = λ name subtype n judges. record { is = name_means_static name (typed.standing subtype n name.name.place) _ refl judges; position = class_position subtype.base.class n };
+    named_number = λ name n judges. record { is = name_means_static name (typing Universal (Some n) name.name.place) n refl judges; position = no_position Universal n refl };
     attribute = λ prefix designator base n number judges. record {
       is = fold-Attribute (meant_step f s) prefix designator ∙ ap (λ j. value_or_zero (literal_in j)) (sym (fold-Attribute expr_step prefix designator) ∙ judges);
       position = no_position (Of base) n number;
@@ -293,7 +307,7 @@ module _ (f : Frame) (s : Store) where
         (operated_static op l.of r.of l.value r.value (meant f s a) (meant f s b) fit g h);
     in_type = λ op place a name o subtype is number fit judges g.
         subst (λ w. IsStatic w Boolean (member_value op o.value (Some subtype.first) (Some subtype.last))) (sym (fold-InType (meant_step f s) op place a name))
-        (in_type_static op o.of o.value (meant f s a) (first_in name) (last_in name) subtype.first subtype.last (number_tested subtype.base o.of number fit) g
+        (in_type_static op o.of o.value (meant f s a) (first_in name) (last_in name) subtype.first subtype.last (right_ordered (Of subtype.base) o.of number fit) g
         (ap (λ (e : Option Entity). value.Number (subtype_of e).first) is) (ap (λ (e : Option Entity). value.Number (subtype_of e).last) is));
     in_range = λ op place a low high o l h fit judges g k m.
         subst (λ w. IsStatic w Boolean (member_value op o.value l.value h.value)) (sym (fold-InRange (meant_step f s) op place a low high))

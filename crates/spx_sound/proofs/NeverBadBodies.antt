@@ -1,5 +1,5 @@
 -- A command whose tree is safe runs into no check that fails, but for reads of unset variables.
-use Rattle.std.proofs.Common.{◌≡◌, ℕ, ℤ, Bool, true, false, ◌==◌, if◌then◌else◌, [], Option, Some, refl, sym, ap, ◌∙◌, subst, inl, inr, Decides}
+use Rattle.std.proofs.Common.{◌≡◌, ℕ, ℤ, Bool, true, false, ◌==◌, if◌then◌else◌, [], Option, Some, None, refl, sym, ap, ◌∙◌, subst, inl, inr, Decides}
 use Rattle.std.proofs.lemmas.Bool.{false_from_ne_true}
 use Rattle.std.proofs.lemmas.Bool.Decides.{eqb_tells}
 use Rattle.std.proofs.lemmas.List.Elements.{recursion_from_All}
@@ -17,7 +17,7 @@ use Rattle.spx_core.specs.Reads.{names_read}
 use Rattle.spx_core.specs.Scopes.{AreAsDeclared, IsAsDeclared}
 use Rattle.spx_core.specs.Uses.{variable_of}
 use Rattle.spx_term.specs.declared.condition.CondKind.TheVariants.{Range as RangeCheck}
-use Rattle.spx_term.specs.declared.term.Sort.TheVariants.{Boolean}
+use Rattle.spx_term.specs.declared.term.Sort.TheVariants.{Integer, Boolean}
 use Rattle.spx_term.specs.declared.term.Symbol.TheVariants as symbol
 use Rattle.spx_term.specs.declared.term.Name.{Name as Symbolic}
 use Rattle.spx_term.specs.declared.term.Term.{Term}
@@ -27,7 +27,7 @@ use Rattle.spx_term.specs.declared.value.Value.{Value}
 use Rattle.spx_term.specs.declared.value.Value.TheVariants as value
 use Rattle.spx_term.specs.Conjuncts.{conjuncts}
 use Rattle.spx_term.specs.Meaning.{as_truth, HasSort, Respects, Valuation, value_step, value_of}
-use Rattle.spx_term.specs.Steps.{Tree, Assign, Assume, Split, assume_parts, same_name}
+use Rattle.spx_term.specs.Steps.{Tree, Assign, Assume, Split, assume_parts, check, same_name}
 use Rattle.spx_term.specs.contracts.term.Name as symbolic
 use Rattle.spx_term.proofs.ConjunctLaws.{parts_hold}
 use Rattle.spx_term.proofs.Equality.{same_by-Decides}
@@ -39,12 +39,11 @@ use Rattle.spx_meaning.specs.Evaluation.{eval}
 use Rattle.spx_meaning.specs.Annotations.{reading, seen}
 use Rattle.spx_meaning.specs.Runs.{demand, assign, run}
 use Rattle.spx_meaning.proofs.Callers.Stores.{look-put_either}
-use Rattle.spx_meaning.proofs.Callers.Types.{type_is}
 use Rattle.spx_paths.specs.Terms.{now, entry_term, sort_of_class, sort_of_var, term_of}
-use Rattle.spx_paths.specs.Checks.{in_class, in_type}
+use Rattle.spx_paths.specs.Checks.{in_class, in_range, in_type}
 use Rattle.spx_paths.specs.Walks.{assigned, checked_in, range_check, walk}
 use Rattle.spx_sound.proofs.Typings.{IsTyped, RightSide, right_side, both_typed, arms_typed}
-use Rattle.spx_sound.proofs.SortedTerms.{HasSortOf, integer_is, is_of_sort, is_sorted, value_sorted}
+use Rattle.spx_sound.proofs.SortedTerms.{HasSortOf, integer_is, is_sorted, right_sort, value_sorted}
 use Rattle.spx_sound.proofs.NeverBadTrees.{AllHold, assumed, changed, Safe}
 use Rattle.spx_sound.proofs.NeverBadRuns.{IsUnset, Good, good_then, good_use, good_if}
 use Rattle.spx_sound.proofs.NeverBadExpressions.{false_holds, truth_from, past_check, within_range, AgreesWith, eval_good}
@@ -104,12 +103,17 @@ truth_within first last (value.Number n) sorted = absurd sorted
 past_range : (v : Valuation) (of : Subtype) (place : Place) (t : Term) (rest : Tree) → HasSort (sort_of_class of.base.class) (value_of v t) → Safe (range_check of place t rest) v → (is_in of (value_of v t) ≡ true) × Safe rest v
 past_range v of place t rest sorted safe = by_class of.base.class refl sorted safe
   where
-    by_class : (c : Class) → of.base.class ≡ c → HasSort (sort_of_class c) (value_of v t) → Safe (checked_in c of place t rest) v → (is_within c of.first of.last (value_of v t) ≡ true) × Safe rest v
-    by_class class.Integer is sorted safe =
+    past_number : in_type of t ≡ in_range of.first of.last t → HasSort Integer (value_of v t) → Safe (check RangeCheck place (in_type of t) rest) v
+        → (n : ℤ) × (value_of v t ≡ value.Number n) × (is_within class.Integer of.first of.last (value.Number n) ≡ true) × Safe rest v
+    past_number is sorted safe =
         let number = integer_is (value_of v t) sorted in
         let past = past_check v [] RangeCheck place (in_type of t) rest tt safe in
-        (ap (is_within class.Integer of.first of.last) number.1 ∙ within_range v of.first of.last t number.0 number.1 (subst (λ (c : Class). AllHold v (in_class c of.first of.last t)) is past.0), past.1)
+        (number.0, number.1, within_range v of.first of.last t number.0 number.1 (subst (AllHold v) is past.0), past.1)
+
+    by_class : (c : Class) → of.base.class ≡ c → HasSort (sort_of_class c) (value_of v t) → Safe (checked_in c of place t rest) v → (is_within c of.first of.last (value_of v t) ≡ true) × Safe rest v
+    by_class class.Integer is sorted safe = let past = past_number (ap (λ (c : Class). in_class c of.first of.last t) is) sorted safe in (ap (is_within class.Integer of.first of.last) past.1 ∙ past.2, past.3)
     by_class class.Boolean is sorted safe = (truth_within of.first of.last (value_of v t) sorted, safe)
+    by_class class.Enumeration is sorted safe = let past = past_number (ap (λ (c : Class). in_class c of.first of.last t) is) sorted safe in (ap (is_within class.Enumeration of.first of.last) past.1 ∙ past.2, past.3)
 
 -- ---- commands
 
@@ -123,31 +127,31 @@ module _ (f : Frame) (n : ℕ) where
       (rest leave : ℕ → Tree) (made : ℕ) (s : Store) (v : Valuation) → IsTyped c → AreAsDeclared f.program c → Fits f.program s v → Safe (walk f.program f.sub c rest leave made) v
       → Good IsUnset (run f n s c) (Reaches f.program rest) (Reaches f.program leave)
 
-  assign_good : (place : Place) (x : VarId) (t : Term) (rest leave : ℕ → Tree) (made : ℕ) (s : Store) (v : Valuation) → Fits f.program s v → HasSort (sort_of_var f.program x) (value_of v t) → Safe (assigned f.program place (Some x) t (rest made)) v
-      → Good IsUnset (assign f.program place (Some x) s (value_of v t)) (Reaches f.program rest) (Reaches f.program leave)
-  assign_good place x t rest leave made s v fits sorted safe =
+  -- where the target is no variable, nothing is done
+  assign_good : (place : Place) (o : Option VarId) (t : Term) (rest leave : ℕ → Tree) (made : ℕ) (s : Store) (v : Valuation) → Fits f.program s v → ((x : VarId) → o ≡ Some x → HasSort (sort_of_var f.program x) (value_of v t))
+      → Safe (assigned f.program place o t (rest made)) v → Good IsUnset (assign f.program place o s (value_of v t)) (Reaches f.program rest) (Reaches f.program leave)
+  assign_good place (Some x) t rest leave made s v fits sorted safe =
       let w = value_of v t in
-      let past = past_range v (type_of f.program x) place t (Assign (now f.program x) t (rest made)) sorted safe in
+      let past = past_range v (type_of f.program x) place t (Assign (now f.program x) t (rest made)) (sorted x refl) safe in
       subst (λ b. Good IsUnset (demand b Range place (put s x (Some w))) (Reaches f.program rest) (Reaches f.program leave)) (sym past.0)
-      (record { valuation = changed v (now f.program x) w; made = made; fits = put_fits f.program s x w v sorted fits; safe = past.1 })
+      (record { valuation = changed v (now f.program x) w; made = made; fits = put_fits f.program s x w v (sorted x refl) fits; safe = past.1 })
+  assign_good place None t rest leave made s v fits sorted safe = record { valuation = v; made = made; fits = fits; safe = safe }
 
   -- the right side has the sort of the target
-  right_sorted : (target : Reference) (e : CoreExpr) → AreAsDeclared f.program (Set target e) → (right : RightSide target e) → HasSortOf (sort_of_var f.program right.var) (the_term e)
-  right_sorted target e declared right =
+  right_sorted : (target : Reference) (e : CoreExpr) → AreAsDeclared f.program (Set target e) → RightSide target e → (x : VarId) → variable_of target.root.entity ≡ Some x → HasSortOf (sort_of_var f.program x) (the_term e)
+  right_sorted target e declared right x is =
       is_sorted f.program (entry_term f.program f.sub) e right.typing right.typed (recursion_from_All (IsAsDeclared f.program) (names_read e) declared.1)
-      ∙ ap Some (is_of_sort right.object.subtype.base right.typing.of right.fits ∙ ap (λ (of : Subtype). sort_of_class of.base.class) (sym (type_is f.program right.var right.object (declared.0 right.var right.object right.denotes))))
+      ∙ ap Some (right_sort f.program target e declared.0 right x is)
 
   set_good : (target : Reference) (e : CoreExpr) → GoesOn (Set target e)
   set_good target e rest leave made s v typed declared fits safe =
       let t = the_term e in
       let o = variable_of target.root.entity in
       let after = assigned f.program (place_of e) o t (rest made) in
-      let right = right_side target e typed in
-      let sorted = value_sorted v fits.respects t (sort_of_var f.program right.var) (right_sorted target e declared right) in
+      let right = right_sorted target e declared (right_side target e typed) in
       good_use IsUnset (eval f n s e) (assign f.program (place_of e) o s) (value_of v t) (Safe after v) (Reaches f.program rest) (Reaches f.program leave)
       (eval_good f n s v fits.agrees (entry_term f.program f.sub) e [] tt after safe)
-      (subst (λ (target : Option VarId). Safe (assigned f.program (place_of e) target t (rest made)) v → Good IsUnset (assign f.program (place_of e) target s (value_of v t)) (Reaches f.program rest) (Reaches f.program leave))
-      (sym (ap variable_of right.denotes)) (assign_good (place_of e) right.var t rest leave made s v fits sorted))
+      (assign_good (place_of e) o t rest leave made s v fits (λ x is. value_sorted v fits.respects t (sort_of_var f.program x) (right x is)))
 
   choose_good : (place : Place) (e : CoreExpr) (a b : Command) → GoesOn a → GoesOn b → GoesOn (Choose place e a b)
   choose_good place e a b first second rest leave made s v typed declared fits safe =

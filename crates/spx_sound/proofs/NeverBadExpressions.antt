@@ -149,6 +149,8 @@ module _ (v : Valuation) where
   class_facts class.Integer first last t (value.Number n) is within = range_facts first last t n is within
   class_facts class.Integer first last t (value.Truth b) is within = absurd (cc)
   class_facts class.Boolean first last t w is within = tt
+  class_facts class.Enumeration first last t (value.Number n) is within = range_facts first last t n is within
+  class_facts class.Enumeration first last t (value.Truth b) is within = absurd (cc)
 
   -- what says that a term lies in a type holds where its value is of the type
   pub type_facts : (of : Subtype) (t : Term) (w : Value) → value_of v t ≡ w → is_in of w ≡ true → AllHold v (in_type of t)

@@ -16,8 +16,10 @@ use Rattle.spx_core.specs.declared.entity.Class.{Class}
 use Rattle.spx_core.specs.declared.entity.Class.TheVariants as class
 use Rattle.spx_core.specs.declared.entity.Entity.TheVariants as entity
 use Rattle.spx_core.specs.declared.entity.Object.{Object}
+use Rattle.spx_core.specs.declared.entity.Subtype.{Subtype}
 use Rattle.spx_core.specs.declared.entity.VarId.{VarId}
 use Rattle.spx_core.specs.declared.name.CoreName.{CoreName}
+use Rattle.spx_core.specs.declared.name.Reference.{Reference}
 use Rattle.spx_core.specs.declared.program.Program.{Program}
 use Rattle.spx_core.specs.declared.expression.CoreExpr.{CoreExpr}
 use Rattle.spx_core.specs.declared.expression.CoreExpr.TheVariants.{Name, Attribute, Parenthesized, Prefix, Infix, InType, InRange}
@@ -27,7 +29,7 @@ use Rattle.spx_core.specs.declared.rule.Typing.{Typing}
 use Rattle.spx_core.specs.Judged.{judged, typing}
 use Rattle.spx_core.specs.Reads.{names_read, names_step}
 use Rattle.spx_core.specs.Scopes.{IsAsDeclared}
-use Rattle.spx_core.specs.Types.{has_numbers, has_truths, is_boolean, is_number, is_of, is_true, left_type, meet, met, operand_fits, operands_fit, position_in, raised_type, result_type, same_class, signed_result, three_fit}
+use Rattle.spx_core.specs.Types.{has_numbers, has_truths, is_boolean, is_number, is_of, is_ordered, is_true, left_type, meet, met, operand_fits, operands_fit, position_in, raised_type, result_type, same_class, signed_result, three_fit}
 use Rattle.spx_core.specs.Uses.{variable_of}
 use Rattle.spx_core.proofs.Callers.Expressions.{fold-Name, fold-Parenthesized, fold-Prefix, fold-Infix, fold-InType, fold-InRange}
 use Rattle.spx_term.specs.declared.term.Sort.{Sort}
@@ -47,8 +49,9 @@ use Rattle.spx_term.proofs.FoldingLaws.{sorted_value}
 use Rattle.spx_meaning.specs.Evaluation.{term_op}
 use Rattle.spx_meaning.specs.Literals.{literal, literal_in, value_of as value_in}
 use Rattle.spx_meaning.proofs.Callers.Types.{type_is}
-use Rattle.spx_paths.specs.Terms.{between, first_term, last_term, literal_or, member_term, named, now, now_term, signed_term, sort_of_class, term_of, term_with-Parenthesized, term_with-Prefix, term_with-Infix, term_with-InType, term_with-InRange, term_with-Number, term_with-Name, term_with-Attribute}
-use Rattle.spx_sound.proofs.Typings.{joined, tested_in, tested_between, Cases, typed_induct}
+use Rattle.spx_paths.specs.Terms.{between, first_term, last_term, literal_or, member_term, named, now, now_term, signed_term, sort_of_class, sort_of_var, term_of, term_with-Parenthesized, term_with-Prefix, term_with-Infix, term_with-InType, term_with-InRange, term_with-Number, term_with-Name, term_with-Attribute}
+use Rattle.spx_sound.proofs.Classes.{literals_have_numbers, number_is_ordered, numbers_are_ordered, numeric_has_numbers}
+use Rattle.spx_sound.proofs.Typings.{joined, tested_in, tested_between, variable_named, Cases, typed_induct, RightSide}
 
 abbrev pub HasSortOf : Sort → Term → Type 0
 HasSortOf s t = sort_of t ≡ Some s
@@ -63,25 +66,31 @@ sort_of_type (type.Of base) = sort_of_class base.class
 class_number : (c : Class) → has_numbers c ≡ true → sort_of_class c ≡ Integer
 class_number class.Integer h = refl
 class_number class.Boolean h = absurd (cc)
+class_number class.Enumeration h = refl
 
 class_truth : (c : Class) → has_truths c ≡ true → sort_of_class c ≡ Boolean
 class_truth class.Integer h = absurd (cc)
 class_truth class.Boolean h = refl
+class_truth class.Enumeration h = absurd (cc)
 
 class_same : (a b : Class) → same_class a b ≡ true → sort_of_class b ≡ sort_of_class a
-class_same class.Integer b h = class_number b h
+class_same class.Integer b h = class_number b (numeric_has_numbers b h)
 class_same class.Boolean b h = class_truth b h
+class_same class.Enumeration b h = class_number b (literals_have_numbers b h)
+
+ordered_sort : (of : ExprType) → is_ordered of ≡ true → sort_of_type of ≡ Integer
+ordered_sort type.Universal h = refl
+ordered_sort (type.Of base) h = class_number base.class h
 
 pub number_sort : (of : ExprType) → is_number of ≡ true → sort_of_type of ≡ Integer
-number_sort type.Universal h = refl
-number_sort (type.Of base) h = class_number base.class h
+number_sort of h = ordered_sort of (number_is_ordered of h)
 
 pub boolean_sort : (of : ExprType) → is_boolean of ≡ true → sort_of_type of ≡ Boolean
 boolean_sort type.Universal h = absurd (cc)
 boolean_sort (type.Of base) h = class_truth base.class h
 
 pub is_of_sort : (base : BaseType) (of : ExprType) → is_of base of ≡ true → sort_of_type of ≡ sort_of_class base.class
-is_of_sort base type.Universal h = sym (class_number base.class h)
+is_of_sort base type.Universal h = sym (class_number base.class (numeric_has_numbers base.class h))
 is_of_sort base (type.Of other) h = class_same base.class other.class (and_parts _ _ h).1
 
 meet_sort : (l r : ExprType) → meet l r ≡ true → sort_of_type r ≡ sort_of_type l
@@ -99,23 +108,26 @@ raised_sort (type.Of base) exponent h = h
 
 -- ---- sorts of operations
 
--- both are numbers, and so is what they have together
+-- the values of both are numbers, and so are those of what they have together
 pub record Numbers (l r : ExprType) : Type 0 where
   pub left : sort_of_type l ≡ Integer
   pub right : sort_of_type r ≡ Integer
   pub both : sort_of_type (met l r) ≡ Integer
 
-pub numbers : (l r : ExprType) → (is_number l && meet l r) ≡ true → Numbers l r
-numbers l r h =
-    let parts = and_parts (is_number l) (meet l r) h in
-    let left = number_sort l parts.0 in
+ordered : (l r : ExprType) → (is_ordered l && meet l r) ≡ true → Numbers l r
+ordered l r h =
+    let parts = and_parts (is_ordered l) (meet l r) h in
+    let left = ordered_sort l parts.0 in
     record { left = left; right = meet_sort l r parts.1 ∙ left; both = met_sort l r parts.1 ∙ left }
+
+pub numbers : (l r : ExprType) → (is_number l && meet l r) ≡ true → Numbers l r
+numbers l r h = ordered l r (numbers_are_ordered l r h)
 
 pub three_numbers : (a b c : ExprType) → three_fit a b c ≡ true → (sort_of_type a ≡ Integer) × (sort_of_type b ≡ Integer) × (sort_of_type c ≡ Integer)
 three_numbers a b c h =
-    let first = and_parts (is_number a) (meet a b && meet (met a b) c) h in
+    let first = and_parts (is_ordered a) (meet a b && meet (met a b) c) h in
     let rest = and_parts (meet a b) (meet (met a b) c) first.1 in
-    let one = number_sort a first.0 in
+    let one = ordered_sort a first.0 in
     (one, meet_sort a b rest.0 ∙ one, meet_sort (met a b) c rest.1 ∙ met_sort a b rest.0 ∙ one)
 
 both_integers : (result : Sort) (a b : Sort) → a ≡ Integer → b ≡ Integer → integers result a b ≡ Some result
@@ -134,8 +146,8 @@ both_alike a b e = ap (alike Boolean a) e ∙ one_sort a
 arithmetic : (l r : ExprType) → (is_number l && meet l r) ≡ true → integers Integer (sort_of_type l) (sort_of_type r) ≡ Some (sort_of_type (met l r))
 arithmetic l r h = let n = numbers l r h in both_integers Integer (sort_of_type l) (sort_of_type r) n.left n.right ∙ ap Some (sym n.both)
 
-comparison : (l r : ExprType) → (is_number l && meet l r) ≡ true → integers Boolean (sort_of_type l) (sort_of_type r) ≡ Some Boolean
-comparison l r h = let n = numbers l r h in both_integers Boolean (sort_of_type l) (sort_of_type r) n.left n.right
+comparison : (l r : ExprType) → (is_ordered l && meet l r) ≡ true → integers Boolean (sort_of_type l) (sort_of_type r) ≡ Some Boolean
+comparison l r h = let n = ordered l r h in both_integers Boolean (sort_of_type l) (sort_of_type r) n.left n.right
 
 equality : (l r : ExprType) → meet l r ≡ true → alike Boolean (sort_of_type l) (sort_of_type r) ≡ Some Boolean
 equality l r h = both_alike (sort_of_type l) (sort_of_type r) (meet_sort l r h)
@@ -211,6 +223,7 @@ member_sorted (member_op.NotIn place) t low high p q r = not_sorted (between t l
 literal_of_class : (c : Class) (n : ℤ) → HasSortOf (sort_of_class c) (static_term (if has_truths c then value.Truth (is_true n) else value.Number n))
 literal_of_class class.Integer n = terms.fold-Number sort_step n
 literal_of_class class.Boolean n = terms.fold-Truth sort_step (is_true n)
+literal_of_class class.Enumeration n = terms.fold-Number sort_step n
 
 literal_of_type : (of : ExprType) (n : ℤ) → HasSortOf (sort_of_type of) (static_term (value_in of n))
 literal_of_type type.Universal n = terms.fold-Number sort_step n
@@ -279,7 +292,8 @@ module _ (p : Program) where
       object = λ name v object is typed d.
           sorted_or (Name name) (named (now_term p) (variable_of name.entity)) (typing (type.Of object.subtype.base) None name.name.place) (term_with-Name (now_term p) entered name) typed
           (object_sorted name v object is (declared-Name name d));
-      literal = λ name subtype n is typed d. sorted_as (Name name) (named (now_term p) (variable_of name.entity)) (type.Of subtype.base) (position_in subtype.base.class n) name.name.place (term_with-Name (now_term p) entered name) typed;
+      static = λ name subtype n typed d. sorted_as (Name name) (named (now_term p) (variable_of name.entity)) (type.Of subtype.base) (position_in subtype.base.class n) name.name.place (term_with-Name (now_term p) entered name) typed;
+      named_number = λ name n typed d. sorted_as (Name name) (named (now_term p) (variable_of name.entity)) type.Universal n name.name.place (term_with-Name (now_term p) entered name) typed;
       attribute = λ prefix designator base n has typed d.
           sorted_as (Attribute prefix designator) (term.Number (pos 0)) (type.Of base) n prefix.name.place (term_with-Attribute (now_term p) entered prefix designator) typed;
       parenthesized = λ place a o h d. ap sort_of (term_with-Parenthesized (now_term p) entered place a) ∙ h (declared-Parenthesized place a d);
@@ -304,6 +318,12 @@ module _ (p : Program) where
     -- the term of an expression that breaks no rule has the sort of its type
     pub is_sorted : (e : CoreExpr) (t : Typing) → judged e ≡ Ok t → AreDeclared p e → HasSortOf (sort_of_type t.of) (term_of p entered e)
     is_sorted = typed_induct IsSorted sorted_cases
+
+-- the right side of an assignment has the sort of the variable that the target denotes
+pub right_sort : (p : Program) (target : Reference) (e : CoreExpr) → IsAsDeclared p target.root → (right : RightSide target e) → (v : VarId) → variable_of target.root.entity ≡ Some v → sort_of_type right.typing.of ≡ sort_of_var p v
+right_sort p target e declared right v is =
+    let object = variable_named target.root.entity v is in
+    is_of_sort object.0.subtype.base right.typing.of (right.fits v object.0 object.1) ∙ ap (λ (of : Subtype). sort_of_class of.base.class) (sym (type_is p v object.0 (declared v object.0 object.1)))
 
 -- the value of a term has the term's sort
 pub value_sorted : (v : Valuation) → Respects v → (a : Term) (s : Sort) → HasSortOf s a → HasSort s (value_of v a)

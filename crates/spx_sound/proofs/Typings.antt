@@ -26,12 +26,13 @@ use Rattle.spx_core.specs.declared.rule.ExprType.TheVariants.{Universal, Of}
 use Rattle.spx_core.specs.declared.rule.RuleName.{RuleName}
 use Rattle.spx_core.specs.declared.rule.RuleName.TheVariants.{N10}
 use Rattle.spx_core.specs.declared.rule.Typing.{Typing}
-use Rattle.spx_core.specs.Judged.{Judged, ◌>>=◌, keeps, named_object, each, if_there, typing, attribute_of, is_attribute, named_type, named_value, value_at, ordered_type, member_of_range, member_of_type, object_at, operand_of, referred_object, referred_type, type_at, whole, condition, sign, operation, expr_step, judged}
+use Rattle.spx_core.specs.Judged.{Judged, ◌>>=◌, keeps, named_target, each, if_there, typing, attribute_of, is_attribute, named_type, named_value, value_at, ordered_type, member_of_range, member_of_type, operand_of, referred_target, referred_type, target_at, type_at, whole, condition, sign, operation, expr_step, judged}
 use Rattle.spx_core.specs.Commands.{Command, Set, Then, Choose, commands}
 use Rattle.spx_core.specs.Dependency.{relation}
 use Rattle.spx_core.specs.Resolved.{params_of}
 use Rattle.spx_core.specs.Statements.{judged_param, judged_item, judged_pre, judged_decl, judged_command, judged_name, judged_sub, test, Typed}
 use Rattle.spx_core.specs.Types.{both_held, has_numbers, is_held, is_of, is_boolean, left_type, lies_in, member_value, met, operand_fits, operands_fit, position_in, result_of, result_type, right_type, signed_result, three_fit}
+use Rattle.spx_core.specs.Uses.{variable_of}
 use Rattle.spx_core.proofs.Callers.Expressions as every
 use Rattle.spx_core.proofs.Callers.Expressions.{fold-Number, fold-Name, fold-Attribute, fold-Parenthesized, fold-Prefix, fold-Infix, fold-InType, fold-InRange}
 
@@ -104,10 +105,15 @@ in_range_parts op place o l h t e =
     let high = kept _ h.place (lies_in of h.value) _ t low.1 in
     (fits.0, high.1)
 
--- what a name of a value denotes
+-- the typing of a literal or a constant
+abbrev pub standing : Subtype → ℤ → Place → Typing
+standing subtype n place = typing (Of subtype.base) (Some (position_in subtype.base.class n)) place
+
+-- what a name of a value denotes: an object, a literal or a constant of a type, or a named number
 pub data Denotes (name : CoreName) (t : Typing) : Type 0 where
   of_object : (v : VarId) (object : Object) → name.entity ≡ Some (entity.Variable v object) → AreOne (typing (Of object.subtype.base) None name.name.place) t → Denotes name t
-  of_literal : (subtype : Subtype) (position : ℤ) → name.entity ≡ Some (entity.Literal subtype position) → AreOne (typing (Of subtype.base) (Some (position_in subtype.base.class position)) name.name.place) t → Denotes name t
+  of_static : (subtype : Subtype) (n : ℤ) → AreOne (standing subtype n name.name.place) t → Denotes name t
+  of_number : (n : ℤ) → AreOne (typing Universal (Some n) name.name.place) t → Denotes name t
 
 denoted_by : (name : CoreName) (t : Typing) → named_value name ≡ Ok t → Denotes name t
 denoted_by name t h = by_entity name.entity refl h
@@ -115,7 +121,9 @@ denoted_by name t h = by_entity name.entity refl h
     by_entity : (e : Option Entity) → name.entity ≡ e → value_at name.name.place e ≡ Ok t → Denotes name t
     by_entity None is h = absurd (cc)
     by_entity (Some (entity.Variable v o)) is h = of_object v o is h
-    by_entity (Some (entity.Literal subtype n)) is h = of_literal subtype n is h
+    by_entity (Some (entity.Constant subtype n)) is h = of_static subtype n h
+    by_entity (Some (entity.NamedNumber n)) is h = of_number n h
+    by_entity (Some (entity.Literal subtype n)) is h = of_static subtype n h
     by_entity (Some (entity.TypeName subtype)) is h = absurd (cc)
     by_entity (Some (entity.Subprogram id)) is h = absurd (cc)
 
@@ -124,15 +132,10 @@ type_named : (place : Place) (e : Option Entity) (subtype : Subtype) → type_at
 type_named place None subtype h = absurd (cc)
 type_named place (Some (entity.TypeName other)) subtype h = let one : other ≡ subtype = cc in ap (λ (s : Subtype). Some (entity.TypeName s)) one
 type_named place (Some (entity.Variable v o)) subtype h = absurd (cc)
+type_named place (Some (entity.Constant other n)) subtype h = absurd (cc)
+type_named place (Some (entity.NamedNumber n)) subtype h = absurd (cc)
 type_named place (Some (entity.Literal other n)) subtype h = absurd (cc)
 type_named place (Some (entity.Subprogram id)) subtype h = absurd (cc)
-
-object_named : (place : Place) (e : Option Entity) (o : Object) → object_at place e ≡ Ok o → (v : VarId) × (e ≡ Some (entity.Variable v o))
-object_named place None o h = absurd (cc)
-object_named place (Some (entity.Variable v other)) o h = let one : other ≡ o = cc in (v, ap (λ (x : Object). Some (entity.Variable v x)) one)
-object_named place (Some (entity.TypeName subtype)) o h = absurd (cc)
-object_named place (Some (entity.Literal subtype n)) o h = absurd (cc)
-object_named place (Some (entity.Subprogram id)) o h = absurd (cc)
 
 abbrev IsGiven : {A : Type 0} → A → A → Type 0
 IsGiven {A} x y = ◌≡◌ {A = Judged A} (Ok x) (Ok y)
@@ -146,16 +149,26 @@ type_referred name subtype h =
     let rest = bound (whole name) (λ _. Ok named.0) subtype named.2 in
     type_named name.root.name.place name.root.entity named.0 named.1 ∙ ap (λ (s : Subtype). Some (entity.TypeName s)) (given_is named.0 subtype rest.2)
 
-pub object_referred : (name : Reference) (object : Object) → referred_object name ≡ Ok object → (v : VarId) × (name.root.entity ≡ Some (entity.Variable v object))
-object_referred name object h =
-    let named = bound (named_object name.root) (λ o. whole name >>= λ _. Ok o) object h in
-    let rest = bound (whole name) (λ _. Ok named.0) object named.2 in
-    let denotes = object_named name.root.name.place name.root.entity named.0 named.1 in
-    (denotes.0, denotes.1 ∙ ap (λ (o : Object). Some (entity.Variable denotes.0 o)) (given_is named.0 object rest.2))
+-- a target that denotes a variable has its subtype
+target_referred : (target : Reference) (subtype : Subtype) (v : VarId) (object : Object) → referred_target target ≡ Ok subtype → target.root.entity ≡ Some (entity.Variable v object) → object.subtype ≡ subtype
+target_referred target subtype v object h denotes =
+    let named = bound (named_target target.root) (λ s. whole target >>= λ _. Ok s) subtype h in
+    let rest = bound (whole target) (λ _. Ok named.0) subtype named.2 in
+    given_is object.subtype named.0 (sym (ap (target_at target.root.name.place) denotes) ∙ named.1) ∙ given_is named.0 subtype rest.2
 
--- the type of a membership test has numbers
-integer_named : (name : Reference) (subtype : Subtype) → ordered_type name ≡ Ok subtype → (name.root.entity ≡ Some (entity.TypeName subtype)) × (has_numbers subtype.base.class ≡ true)
-integer_named name subtype h =
+-- a name that denotes a variable stands with an object
+pub variable_named : (e : Option Entity) (v : VarId) → variable_of e ≡ Some v → (object : Object) × (e ≡ Some (entity.Variable v object))
+variable_named None v h = absurd (cc)
+variable_named (Some (entity.Variable w object)) v h = let one : w ≡ v = cc in (object, ap (λ (x : VarId). Some (entity.Variable x object)) one)
+variable_named (Some (entity.Constant subtype n)) v h = absurd (cc)
+variable_named (Some (entity.NamedNumber n)) v h = absurd (cc)
+variable_named (Some (entity.Literal subtype n)) v h = absurd (cc)
+variable_named (Some (entity.TypeName subtype)) v h = absurd (cc)
+variable_named (Some (entity.Subprogram id)) v h = absurd (cc)
+
+-- the type of a membership test has an order
+ordered_named : (name : Reference) (subtype : Subtype) → ordered_type name ≡ Ok subtype → (name.root.entity ≡ Some (entity.TypeName subtype)) × (has_numbers subtype.base.class ≡ true)
+ordered_named name subtype h =
     let referred = bound (referred_type name) (λ s. keeps N10 name.root.name.place (has_numbers s.base.class) >>= λ _. Ok s) subtype h in
     let numbers = kept N10 name.root.name.place (has_numbers referred.0.base.class) (λ _. Ok referred.0) subtype referred.2 in
     let one = given_is referred.0 subtype numbers.1 in
@@ -166,8 +179,8 @@ pub record Cases (P : CoreExpr → Typing → Type 0) : Type 0 where
   pub number : (n : ℤ) (place : Place) → P (Number n place) (typing Universal (Some n) place)
   pub object : (name : CoreName) (v : VarId) (object : Object) → name.entity ≡ Some (entity.Variable v object) → judged (Name name) ≡ Ok (typing (Of object.subtype.base) None name.name.place)
       → P (Name name) (typing (Of object.subtype.base) None name.name.place)
-  pub literal : (name : CoreName) (subtype : Subtype) (position : ℤ) → name.entity ≡ Some (entity.Literal subtype position) → judged (Name name) ≡ Ok (typing (Of subtype.base) (Some (position_in subtype.base.class position)) name.name.place)
-      → P (Name name) (typing (Of subtype.base) (Some (position_in subtype.base.class position)) name.name.place)
+  pub static : (name : CoreName) (subtype : Subtype) (n : ℤ) → judged (Name name) ≡ Ok (standing subtype n name.name.place) → P (Name name) (standing subtype n name.name.place)
+  pub named_number : (name : CoreName) (n : ℤ) → judged (Name name) ≡ Ok (typing Universal (Some n) name.name.place) → P (Name name) (typing Universal (Some n) name.name.place)
   pub attribute : (prefix : CoreName) (designator : Identifier) (base : BaseType) (n : ℤ) → has_numbers base.class ≡ true → judged (Attribute prefix designator) ≡ Ok (typing (Of base) (Some n) prefix.name.place)
       → P (Attribute prefix designator) (typing (Of base) (Some n) prefix.name.place)
   pub parenthesized : (place : Place) (a : CoreExpr) (o : Typing) → P a o → P (Parenthesized place a) (typing o.of o.value place)
@@ -191,7 +204,8 @@ module _ (P : CoreExpr → Typing → Type 0) (c : Cases P) where
     where
       by_entity : Denotes name t → P (Name name) t
       by_entity (of_object v o is one) = typing_is (Name name) t (typing (Of o.subtype.base) None name.name.place) one (c.object name v o is (h ∙ sym one))
-      by_entity (of_literal subtype n is one) = typing_is (Name name) t (typing (Of subtype.base) (Some (position_in subtype.base.class n)) name.name.place) one (c.literal name subtype n is (h ∙ sym one))
+      by_entity (of_static subtype n one) = typing_is (Name name) t (standing subtype n name.name.place) one (c.static name subtype n (h ∙ sym one))
+      by_entity (of_number n one) = typing_is (Name name) t (typing Universal (Some n) name.name.place) one (c.named_number name n (h ∙ sym one))
 
   shown_cases : every.Cases Shown
   shown_cases = record {
@@ -222,7 +236,7 @@ module _ (P : CoreExpr → Typing → Type 0) (c : Cases P) where
     in_type = λ op place a name p t h.
         let operand = bound (judged a) (λ o. ordered_type name >>= λ subtype. member_of_type op place o subtype) t (sym (fold-InType expr_step op place a name) ∙ h) in
         let mark = bound (ordered_type name) (λ subtype. member_of_type op place operand.0 subtype) t operand.2 in
-        let named = integer_named name mark.0 mark.1 in
+        let named = ordered_named name mark.0 mark.1 in
         let parts = in_type_parts op place operand.0 mark.0 t mark.2 in
         typing_is (InType op place a name) t (tested_in op place operand.0 mark.0) parts.1 (c.in_type op place a name operand.0 mark.0 named.0 named.1 parts.0 (h ∙ sym parts.1) (p operand.0 operand.1));
     in_range = λ op place a low high p q r t h.
@@ -239,27 +253,21 @@ module _ (P : CoreExpr → Typing → Type 0) (c : Cases P) where
 
 -- ---- commands and subprograms
 
--- the target of an assignment denotes an object, and the right side is of its type
+-- the right side of an assignment is of the type of the variable that the target denotes, if it denotes one
 pub record RightSide (target : Reference) (e : CoreExpr) : Type 0 where
   pub typing : Typing
   pub typed : judged e ≡ Ok typing
-  pub var : VarId
-  pub object : Object
-  pub denotes : target.root.entity ≡ Some (entity.Variable var object)
-  pub fits : is_of object.subtype.base typing.of ≡ true
+  pub fits : (v : VarId) (object : Object) → target.root.entity ≡ Some (entity.Variable v object) → is_of object.subtype.base typing.of ≡ true
 
 pub right_side : (target : Reference) (e : CoreExpr) → judged_command (Set target e) ≡ Ok tt → RightSide target e
 right_side target e h =
-    let object = bound (referred_object target) _ tt h in
-    let right = bound (judged e) (operand_of object.0.subtype) tt object.2 in
-    let denotes = object_referred target object.0 object.1 in
+    let subtype = bound (referred_target target) _ tt h in
+    let right = bound (judged e) (operand_of subtype.0) tt subtype.2 in
+    let fits = (kept _ right.0.place (is_of subtype.0.base right.0.of) _ tt right.2).0 in
     record {
       typing = right.0;
       typed = right.1;
-      var = denotes.0;
-      object = object.0;
-      denotes = denotes.1;
-      fits = (kept _ right.0.place (is_of object.0.subtype.base right.0.of) _ tt right.2).0;
+      fits = λ v object denotes. ap (λ (s : Subtype). is_of s.base right.0.of) (target_referred target subtype.0 v object subtype.1 denotes) ∙ fits;
     }
 
 -- a test is a truth value
