@@ -1,3 +1,4 @@
 pub mod Declared
+pub mod Declarations
 pub mod Subprograms
 pub mod Programs

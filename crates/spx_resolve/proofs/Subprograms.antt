@@ -1,6 +1,6 @@
 -- The parts of a subprogram make it.
-use Rattle.std.proofs.Common.{◌≡◌, ℕ, ◌+◌, ◌-◌, List, [], ◌∷◌, ◌++◌, length, map, Option, option_map, sym, ap, ◌∙◌, arith, length-append, append_assoc}
-use Rattle.std.proofs.lemmas.List.{length-map, map-append}
+use Rattle.std.proofs.Common.{◌≡◌, ℕ, ◌+◌, ◌-◌, List, [], ◌∷◌, ◌++◌, length, map, Option, option_map, sym, ap, ◌∙◌, arith, append_assoc}
+use Rattle.std.proofs.lemmas.List.{map-append}
 use Rattle.spx_tree.specs.declared.expression.Identifier.{Identifier}
 use Rattle.spx_tree.specs.declared.subprogram.Subprogram.{Subprogram}
 use Rattle.spx_core.specs.declared.entity.VarId.{VarId}
@@ -11,16 +11,14 @@ use Rattle.spx_core.specs.declared.dependency.CoreDerives.{CoreDerives}
 use Rattle.spx_core.specs.declared.subprogram.CoreFormalPart.{CoreFormalPart}
 use Rattle.spx_core.specs.declared.subprogram.CorePrecondition.{CorePrecondition}
 use Rattle.spx_core.specs.declared.subprogram.Sub.{Sub}
+use Rattle.spx_core.specs.declared.program.TypeRow.{TypeRow}
 use Rattle.spx_core.specs.declared.program.Var.{Var}
 use Rattle.spx_core.specs.Regions.{Region}
-use Rattle.spx_core.specs.Resolved.{around_body, declared_by_decls, declared_by_params, declaring_all, own_vars, params_of, positions, resolved_decls, resolved_derives, resolved_formal_part, resolved_pre, resolved_stmt, resolved_sub, sub_of, var_of, with_formals}
+use Rattle.spx_core.specs.Resolved.{Counts, after_formals, around_body, declared_by_decls, declared_by_params, declaring_all, own_types, own_vars, params_of, positions, resolved_decls, resolved_derives, resolved_formal_part, resolved_pre, resolved_stmt, resolved_sub, rows_by_decls, sub_of, var_of, variables_by_decls, with_formals}
 use Rattle.spx_resolve.specs.Ids.{ids_from}
-use Rattle.spx_resolve.proofs.Declared.{declaring_append, positions_are}
+use Rattle.spx_resolve.proofs.Declared.{declaring_append, length_after, positions_are}
 
 -- ---- the variables of a subprogram, after those of the subprograms before it
-
-length_after : (vars : List Var) (ds : List Defining) → length (vars ++ map var_of ds) ≡ length vars + length ds
-length_after vars ds = length-append vars (map var_of ds) ∙ ap (λ n. length vars + n) (length-map ds var_of)
 
 ids_after : (vars : List Var) (ds : List Defining) → ids_from (length vars) (length (vars ++ map var_of ds) - length vars) ≡ positions (length vars) ds
 ids_after vars ds =
@@ -49,30 +47,34 @@ sub_with name s part decls derives pre statements end_name vars count = record {
   formal_count = count;
 }
 
-module _ (name : Defining) (s : Subprogram) (first : ℕ) (part : Option CoreFormalPart) (decls : List CoreDecl) where
+module _ (name : Defining) (s : Subprogram) (before : Counts) (part : Option CoreFormalPart) (decls : List CoreDecl) where
   sub_is : (derives : Option CoreDerives) (pre : Option CorePrecondition) (statements : List CoreStmt) (end_name : Option Identifier) (vars : List VarId) (count : ℕ)
       → derives ≡ option_map (resolved_derives (declaring_all [] (declared_by_params (params_of part)) ∷ around_body name)) s.derives
       → pre ≡ option_map (resolved_pre (declaring_all [] (declared_by_params (params_of part)) ∷ around_body name)) s.pre
       → statements ≡ map (resolved_stmt (declaring_all [] (declared_by_params (params_of part) ++ declared_by_decls decls) ∷ around_body name)) s.statements
       → end_name ≡ s.end_name
-      → vars ≡ positions first (declared_by_params (params_of part) ++ declared_by_decls decls)
+      → vars ≡ positions before.vars (declared_by_params (params_of part) ++ variables_by_decls decls)
       → count ≡ length (declared_by_params (params_of part))
-      → sub_with name s part decls derives pre statements end_name vars count ≡ sub_of name first s part decls
+      → sub_with name s part decls derives pre statements end_name vars count ≡ sub_of name before.vars s part decls
   sub_is derives pre statements end_name vars count is_derives is_pre are_statements is_end_name are_vars is_count =
       ap (λ x. sub_with name s part decls x pre statements end_name vars count) is_derives
-      ∙ ap (λ x. sub_with name s part decls (sub_of name first s part decls).derives x statements end_name vars count) is_pre
-      ∙ ap (λ x. sub_with name s part decls (sub_of name first s part decls).derives (sub_of name first s part decls).pre x end_name vars count) are_statements
-      ∙ ap (λ x. sub_with name s part decls (sub_of name first s part decls).derives (sub_of name first s part decls).pre (sub_of name first s part decls).statements x vars count) is_end_name
-      ∙ ap (λ x. sub_with name s part decls (sub_of name first s part decls).derives (sub_of name first s part decls).pre (sub_of name first s part decls).statements s.end_name x count) are_vars
-      ∙ ap (λ x. sub_with name s part decls (sub_of name first s part decls).derives (sub_of name first s part decls).pre (sub_of name first s part decls).statements s.end_name (sub_of name first s part decls).vars x) is_count
+      ∙ ap (λ x. sub_with name s part decls (sub_of name before.vars s part decls).derives x statements end_name vars count) is_pre
+      ∙ ap (λ x. sub_with name s part decls (sub_of name before.vars s part decls).derives (sub_of name before.vars s part decls).pre x end_name vars count) are_statements
+      ∙ ap (λ x. sub_with name s part decls (sub_of name before.vars s part decls).derives (sub_of name before.vars s part decls).pre (sub_of name before.vars s part decls).statements x vars count) is_end_name
+      ∙ ap (λ x. sub_with name s part decls (sub_of name before.vars s part decls).derives (sub_of name before.vars s part decls).pre (sub_of name before.vars s part decls).statements s.end_name x count) are_vars
+      ∙ ap (λ x. sub_with name s part decls (sub_of name before.vars s part decls).derives (sub_of name before.vars s part decls).pre (sub_of name before.vars s part decls).statements s.end_name (sub_of name before.vars s part decls).vars x) is_count
 
-  sub_is_resolved : part ≡ option_map (resolved_formal_part s.name first) s.formal_part
-      → decls ≡ resolved_decls (around_body name) (declaring_all [] (declared_by_params (params_of part))) (first + length (declared_by_params (params_of part))) s.declarations
-      → sub_of name first s part decls ≡ resolved_sub name first s
-  sub_is_resolved is_part are_decls = ap (sub_of name first s part) are_decls ∙ ap (with_formals name first s) is_part
+  sub_is_resolved : part ≡ option_map (resolved_formal_part s.name before.vars) s.formal_part
+      → decls ≡ resolved_decls (around_body name) (declaring_all [] (declared_by_params (params_of part))) (after_formals before part) s.declarations
+      → sub_of name before.vars s part decls ≡ resolved_sub name before s
+  sub_is_resolved is_part are_decls = ap (sub_of name before.vars s part) are_decls ∙ ap (with_formals name before s) is_part
+
+-- so many variables and types
+abbrev so_many : List Var → List TypeRow → Counts
+so_many vars types = record { vars = length vars; types = length types }
 
 -- what its functions give is the subprogram
-pub whole : (name : Defining) (s : Subprogram) (before mid after : List Var) (first middle end : ℕ) (formals : Region) (part : Option CoreFormalPart)
+pub whole : (name : Defining) (s : Subprogram) (before mid after : List Var) (types types' : List TypeRow) (first middle end : ℕ) (formals : Region) (part : Option CoreFormalPart)
     (decls : List CoreDecl) (derives : Option CoreDerives) (pre : Option CorePrecondition) (statements : List CoreStmt) (end_name : Option Identifier) (vars : List VarId)
     → first ≡ length before → middle ≡ length mid → end ≡ length after
     → (part ≡ option_map (resolved_formal_part s.name (length before)) s.formal_part)
@@ -80,30 +82,34 @@ pub whole : (name : Defining) (s : Subprogram) (before mid after : List Var) (fi
     × (mid ≡ before ++ map var_of (declared_by_params (params_of part)))
     → derives ≡ option_map (resolved_derives (formals ∷ around_body name)) s.derives
     → pre ≡ option_map (resolved_pre (formals ∷ around_body name)) s.pre
-    → decls ≡ resolved_decls (around_body name) formals (length mid) s.declarations
+    → decls ≡ resolved_decls (around_body name) formals (so_many mid types) s.declarations
     → statements ≡ map (resolved_stmt (declaring_all formals (declared_by_decls decls) ∷ around_body name)) s.statements
-    → after ≡ mid ++ map var_of (declared_by_decls decls)
+    → after ≡ mid ++ map var_of (variables_by_decls decls)
+    → types' ≡ types ++ rows_by_decls decls
     → end_name ≡ s.end_name
     → vars ≡ ids_from first (end - first)
-    → (sub_with name s part decls derives pre statements end_name vars (middle - first) ≡ resolved_sub name (length before) s)
+    → (sub_with name s part decls derives pre statements end_name vars (middle - first) ≡ resolved_sub name (so_many before types) s)
     × (after ≡ before ++ own_vars (sub_with name s part decls derives pre statements end_name vars (middle - first)))
-whole name s before mid after first middle end formals part decls derives pre statements end_name vars is_first is_middle is_end (is_part, are_formals, is_mid) is_derives is_pre are_decls are_statements is_after is_end_name are_vars =
+    × (types' ≡ types ++ own_types (sub_with name s part decls derives pre statements end_name vars (middle - first)))
+whole name s before mid after types types' first middle end formals part decls derives pre statements end_name vars is_first is_middle is_end (is_part, are_formals, is_mid) is_derives is_pre are_decls are_statements is_after are_types is_end_name are_vars =
     let ds = declared_by_params (params_of part) in
-    let es = declared_by_decls decls in
+    let es = variables_by_decls decls in
     let made : after ≡ before ++ map var_of (ds ++ es) = vars_after before mid after ds es is_mid is_after in
     let length_mid : length mid ≡ length before + length ds = ap length is_mid ∙ length_after before ds in
     let count : middle - first ≡ length ds = omega (arith, is_first, is_middle, length_mid) in
     let ids : vars ≡ positions (length before) (ds ++ es) =
     are_vars ∙ ap (λ n. ids_from n (end - n)) is_first ∙ ap (λ n. ids_from (length before) (n - length before)) (is_end ∙ ap length made) ∙ ids_after before (ds ++ es) in
-    let region : declaring_all formals es ≡ declaring_all [] (ds ++ es) = ap (λ r. declaring_all r es) are_formals ∙ sym (declaring_append [] ds es) in
-    let decls_are : decls ≡ resolved_decls (around_body name) (declaring_all [] ds) (length before + length ds) s.declarations =
-    are_decls ∙ ap (λ r. resolved_decls (around_body name) r (length mid) s.declarations) are_formals
-    ∙ ap (λ n. resolved_decls (around_body name) (declaring_all [] ds) n s.declarations) length_mid in (
-      sub_is name s (length before) part decls derives pre statements end_name vars (middle - first)
+    let region : declaring_all formals (declared_by_decls decls) ≡ declaring_all [] (ds ++ declared_by_decls decls) =
+    ap (λ r. declaring_all r (declared_by_decls decls)) are_formals ∙ sym (declaring_append [] ds (declared_by_decls decls)) in
+    let decls_are : decls ≡ resolved_decls (around_body name) (declaring_all [] ds) (after_formals (so_many before types) part) s.declarations =
+    are_decls ∙ ap (λ r. resolved_decls (around_body name) r (so_many mid types) s.declarations) are_formals
+    ∙ ap (λ n. resolved_decls (around_body name) (declaring_all [] ds) (record { vars = n; types = length types }) s.declarations) length_mid in (
+      sub_is name s (so_many before types) part decls derives pre statements end_name vars (middle - first)
           (is_derives ∙ ap (λ r. option_map (resolved_derives (r ∷ around_body name)) s.derives) are_formals)
           (is_pre ∙ ap (λ r. option_map (resolved_pre (r ∷ around_body name)) s.pre) are_formals)
           (are_statements ∙ ap (λ r. map (resolved_stmt (r ∷ around_body name)) s.statements) region)
           is_end_name ids count
-          ∙ sub_is_resolved name s (length before) part decls is_part decls_are,
+          ∙ sub_is_resolved name s (so_many before types) part decls is_part decls_are,
       made,
+      are_types,
     )

@@ -1,3 +1,4 @@
 pub mod Ids
 pub mod Units
 pub mod Explains
+pub mod Counting

@@ -1,59 +1,20 @@
-// Declarations: each sees those before it, and not itself.
-ghost use Rattle.std.specs.Prelude.{◌≡◌, ◌∷◌, ◌++◌, [], IfOk, length, map};
-ghost use Rattle.spx_core.specs.Regions.{hidden};
-ghost use Rattle.spx_core.specs.Resolved.{declared_by, declared_by_decls, declared_by_params, declaring, declaring_all, defining, defining_all, mode_of, object_of, resolved_decl, resolved_decls, resolved_param, resolved_params, resolved_reference, subtype_of, var_of, variable_at};
+// Formals and declarations: each sees those before it, and not itself.
+ghost use Rattle.std.specs.Prelude.{◌≡◌, ◌++◌, IfOk, length, map};
+ghost use Rattle.spx_core.specs.declared.entity.Meaning.TheVariants as meaning;
+ghost use Rattle.spx_core.specs.Resolved.{around_names, declared_by, declared_by_decls, declared_by_params, declaring_all, defining_all, resolved_decl, resolved_decls, resolved_param, resolved_params, resolved_reference, resolved_type, rows_by, rows_by_decls, var_of, variables_by, variables_by_decls, variables_of};
 ghost use Rattle.spx_scope.specs.Seen.{seen};
+ghost use Rattle.spx_resolve.specs.Counting.{counts_of};
 
-use crate::expression::resolve_reference;
-use spx_core::{
-    CoreDecl, CoreParam, Defining, Entity, Mode, Object, Reference, Subtype, UNIVERSAL, Var, VarId,
-    VarKind,
-};
+use crate::meaning::{mode_of, object_of};
+use crate::names::declare_all;
+use crate::parts::resolve_type_name;
+use crate::tables::{Tables, add_variables};
+use crate::types::{resolve_constants, resolve_enumeration, resolve_integer, resolve_subtype};
+use spx_core::{CoreDecl, CoreParam, Defining, Meaning, Object, Var, VarKind};
 use spx_scope::{Region, Scope};
-use spx_tree::{Decl, Identifier, Name, Param, WrittenMode};
+use spx_tree::{Decl, Identifier, Name, Param, TypeDef};
 use sqlite_items::Items;
 use std::alloc::{AllocError, Global};
-
-/// Declares a name.
-pub fn declare(
-    alloc: Global,
-    region: &mut Region,
-    outer: &Scope<'_>,
-    entity: Entity,
-    name: &Identifier,
-) -> Result<Defining, AllocError>
-    ensures { IfOk result (λ d. (d ≡ defining region.old entity name.now) × (region.new ≡ declaring region.old d)) }
-{
-    let again = region.get(&name.text).is_some() || outer.is_predefined(&name.text);
-    let name = name.copy(alloc)?;
-    region.declare(name.text.copy(alloc)?, entity)?;
-    Ok(Defining {
-        name,
-        entity,
-        again,
-    })
-}
-
-/// Declares a variable, which comes after those before it.
-fn declare_variable(
-    alloc: Global,
-    region: &mut Region,
-    vars: &mut Items<Var>,
-    outer: &Scope<'_>,
-    object: Object,
-    name: &Identifier,
-) -> Result<Defining, AllocError>
-    ensures { IfOk result (λ d. (d ≡ defining region.old (variable_at (length vars.old) object) name.now) × (region.new ≡ declaring region.old d) × (vars.new ≡ vars.old ++ var_of d ∷ [])) }
-{
-    let entity = Entity::Variable(VarId(vars.len()), object);
-    let defined = declare(alloc, region, outer, entity, name)?;
-    vars.push(Var {
-        name: name.text.copy(alloc)?,
-        kind: object.kind,
-        type_id: object.subtype.id,
-    })?;
-    Ok(defined)
-}
 
 /// Declares variables, one after another.
 fn declare_variables(
@@ -64,59 +25,13 @@ fn declare_variables(
     object: Object,
     names: &[Identifier],
 ) -> Result<Items<Defining>, AllocError>
-    ensures { IfOk result (λ ds. (ds ≡ defining_all region.old object (length vars.old) names.now) × (region.new ≡ declaring_all region.old ds) × (vars.new ≡ vars.old ++ map var_of ds)) }
+    ensures { IfOk result (λ ds. (ds ≡ defining_all region.old (meaning.Variables object) (length vars.old) names.now) × (region.new ≡ declaring_all region.old ds) × (vars.new ≡ vars.old ++ map var_of ds)) }
 {
-    let mut defined = Items::new(alloc);
-    for name in names {
-        defined.push(declare_variable(alloc, region, vars, outer, object, name)?)?;
-    }
+    let first = vars.as_slice().len();
+    let meaning = Meaning::Variables(object);
+    let defined = declare_all(alloc, region, outer, meaning, first, names)?;
+    add_variables(alloc, vars, defined.as_slice())?;
     Ok(defined)
-}
-
-/// The subtype that a name denotes; where it denotes none, a rule is broken, and it counts as that of universal numbers.
-fn subtype_of(entity: Option<Entity>) -> Subtype
-    ensures { result ≡ subtype_of entity }
-{
-    match entity {
-        Some(Entity::TypeName(subtype)) => subtype,
-        _ => UNIVERSAL,
-    }
-}
-
-/// What is declared of the objects of a declaration with this type name.
-fn object_of(kind: VarKind, type_name: &Reference) -> Object
-    ensures { result ≡ object_of kind type_name.now }
-{
-    Object {
-        kind,
-        subtype: subtype_of(type_name.root.entity),
-    }
-}
-
-/// No mode means `in` (Ada 95 RM 6.1).
-fn mode_of(mode: WrittenMode) -> Mode
-    ensures { result ≡ mode_of mode }
-{
-    match mode {
-        WrittenMode::Unwritten => Mode::In,
-        WrittenMode::In(_) => Mode::In,
-        WrittenMode::Out => Mode::Out,
-        WrittenMode::InOut(_) => Mode::InOut,
-    }
-}
-
-/// The type name of a declaration of these names.
-fn resolve_type_name(
-    alloc: Global,
-    region: &Region,
-    outer: &Scope<'_>,
-    names: &[Identifier],
-    type_name: &Name,
-) -> Result<Reference, AllocError>
-    ensures { IfOk result (λ r. r ≡ resolved_reference (hidden names.now ∷ region.now ∷ seen outer.now) type_name.now) }
-{
-    let scope = Scope::inside(region, outer);
-    Ok(resolve_reference(alloc, type_name, &Scope::hiding(names, &scope))?)
 }
 
 fn resolve_param(
@@ -157,40 +72,92 @@ pub fn resolve_params(
     Ok(resolved)
 }
 
-fn resolve_decl(
+fn resolve_variables(
     alloc: Global,
     region: &mut Region,
     vars: &mut Items<Var>,
     outer: &Scope<'_>,
+    names: &[Identifier],
+    type_name: &Name,
+) -> Result<CoreDecl, AllocError>
+    ensures { IfOk result (λ d. (d ≡ variables_of region.old (length vars.old) names.now (resolved_reference (around_names (seen outer.now) region.old names.now) type_name.now)) × (region.new ≡ declaring_all region.old (declared_by d)) × (vars.new ≡ vars.old ++ map var_of (variables_by d))) }
+{
+    let type_name = resolve_type_name(alloc, region, outer, names, type_name)?;
+    let object = object_of(VarKind::Local, &type_name);
+    let names = declare_variables(alloc, region, vars, outer, object, names)?;
+    Ok(CoreDecl::Variables(names, type_name))
+}
+
+/// The declaration of a type.
+fn resolve_type(
+    alloc: Global,
+    region: &mut Region,
+    tables: &mut Tables,
+    outer: &Scope<'_>,
+    name: &Identifier,
+    definition: &TypeDef,
+) -> Result<CoreDecl, AllocError>
+    ensures decl { IfOk result (λ d. d ≡ resolved_type (seen outer.now) region.old (counts_of tables.old) name.now definition.now) }
+    ensures region { IfOk result (λ d. region.new ≡ declaring_all region.old (declared_by d)) }
+    ensures vars { IfOk result (λ d. tables.new.vars ≡ tables.old.vars ++ map var_of (variables_by d)) }
+    ensures types { IfOk result (λ d. tables.new.types ≡ tables.old.types ++ rows_by d) }
+{
+    let types = &mut tables.types;
+    match definition {
+        TypeDef::Integer(range) => Ok(resolve_integer(alloc, region, types, outer, name, range)?),
+        TypeDef::Enumeration(place, literals) => {
+            let literals = literals.as_slice();
+            Ok(resolve_enumeration(alloc, region, types, outer, name, *place, literals)?)
+        }
+    }
+}
+
+fn resolve_decl(
+    alloc: Global,
+    region: &mut Region,
+    tables: &mut Tables,
+    outer: &Scope<'_>,
     decl: &Decl,
 ) -> Result<CoreDecl, AllocError>
-    ensures { IfOk result (λ d. (d ≡ resolved_decl (seen outer.now) region.old (length vars.old) decl.now) × (region.new ≡ declaring_all region.old (declared_by d)) × (vars.new ≡ vars.old ++ map var_of (declared_by d))) }
+    ensures decl { IfOk result (λ d. d ≡ resolved_decl (seen outer.now) region.old (counts_of tables.old) decl.now) }
+    ensures region { IfOk result (λ d. region.new ≡ declaring_all region.old (declared_by d)) }
+    ensures vars { IfOk result (λ d. tables.new.vars ≡ tables.old.vars ++ map var_of (variables_by d)) }
+    ensures types { IfOk result (λ d. tables.new.types ≡ tables.old.types ++ rows_by d) }
 {
     match decl {
         Decl::Variables(names, type_name) => {
-            let names = names.as_slice();
-            let type_name = resolve_type_name(alloc, region, outer, names, type_name)?;
-            let object = object_of(VarKind::Local, &type_name);
-            let names = declare_variables(alloc, region, vars, outer, object, names)?;
-            Ok(CoreDecl::Variables(names, type_name))
+            let vars = &mut tables.vars;
+            Ok(resolve_variables(alloc, region, vars, outer, names.as_slice(), type_name)?)
+        }
+        Decl::Constants(names, type_name, value) => {
+            Ok(resolve_constants(alloc, region, outer, names.as_slice(), type_name, value)?)
+        }
+        Decl::FullType(name, definition) => {
+            Ok(resolve_type(alloc, region, tables, outer, name, definition)?)
+        }
+        Decl::Subtype(name, parent, range) => {
+            let types = &mut tables.types;
+            Ok(resolve_subtype(alloc, region, types, outer, name, parent, range)?)
         }
     }
 }
 
 /// The declarations of a body.
-#[tactic(auto, using(std::proofs::lemmas::Grind::common_steps, crate::proofs::Declared::declaring_append))]
 pub fn resolve_decls(
     alloc: Global,
     region: &mut Region,
-    vars: &mut Items<Var>,
+    tables: &mut Tables,
     outer: &Scope<'_>,
     decls: &[Decl],
 ) -> Result<Items<CoreDecl>, AllocError>
-    ensures { IfOk result (λ ds. (ds ≡ resolved_decls (seen outer.now) region.old (length vars.old) decls.now) × (region.new ≡ declaring_all region.old (declared_by_decls ds)) × (vars.new ≡ vars.old ++ map var_of (declared_by_decls ds))) }
+    ensures decls { IfOk result (λ ds. ds ≡ resolved_decls (seen outer.now) region.old (counts_of tables.old) decls.now) }
+    ensures region { IfOk result (λ ds. region.new ≡ declaring_all region.old (declared_by_decls ds)) }
+    ensures vars { IfOk result (λ ds. tables.new.vars ≡ tables.old.vars ++ map var_of (variables_by_decls ds)) }
+    ensures types { IfOk result (λ ds. tables.new.types ≡ tables.old.types ++ rows_by_decls ds) }
 {
     let mut resolved = Items::new(alloc);
     for decl in decls {
-        resolved.push(resolve_decl(alloc, region, vars, outer, decl)?)?;
+        resolved.push(resolve_decl(alloc, region, tables, outer, decl)?)?;
     }
     Ok(resolved)
 }

@@ -9,8 +9,13 @@
 mod declaration;
 mod expression;
 mod fault;
+mod meaning;
+mod names;
+mod parts;
 mod resolution;
 mod statement;
+mod tables;
+mod types;
 mod unit;
 
 pub use fault::ResolveFault;

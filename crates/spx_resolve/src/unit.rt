@@ -1,19 +1,20 @@
 // Subprograms and programs.
-ghost use Rattle.std.specs.Prelude.{◌≡◌, ◌∷◌, ◌++◌, ◌-◌, [], IfOk, OnOk, length, map, option_map};
+ghost use Rattle.std.specs.Prelude.{◌≡◌, ◌∷◌, ◌++◌, ◌-◌, [], IfOk, length, map, option_map};
 ghost use Rattle.std.specs.List.{flat_map, range_with_len};
-ghost use Rattle.spx_core.specs.Resolved.{around_body, declared_by_decls, declared_by_params, declaring, declaring_all, own_vars, params_of, resolved, resolved_decls, resolved_derives, resolved_formal_part, resolved_pre, resolved_stmt, resolved_sub, resolved_subs, standard_types, sub_at, var_of};
+ghost use Rattle.spx_core.specs.Resolved.{around_body, declared_by_decls, declared_by_params, declaring, declaring_all, own_types, own_vars, params_of, resolved, resolved_decls, resolved_derives, resolved_formal_part, resolved_pre, resolved_stmt, resolved_sub, resolved_subs, rows_by_decls, sub_at, var_of, variables_by_decls};
+ghost use Rattle.spx_resolve.specs.Counting.{counts_of};
 ghost use Rattle.spx_resolve.specs.Ids.{ids_from};
 ghost use Rattle.spx_resolve.specs.Units.{subprogram_of};
 
-use crate::declaration::{declare, resolve_decls, resolve_params};
+use crate::declaration::{resolve_decls, resolve_params};
+use crate::names::declare;
 use crate::statement::{resolve_derives, resolve_precondition, resolve_stmts};
+use crate::tables::Tables;
 use spx_core::{
-    BOOLEAN, CoreDecl, CoreDerives, CoreFormalPart, CorePrecondition, CoreStmt, CoreUnit, Defining,
-    Entity, INTEGER, NATURAL, POSITIVE, Program, Sub, SubId, Subtype, TypeRow, UNIVERSAL, Var,
-    VarId,
+    CoreDecl, CoreDerives, CoreFormalPart, CorePrecondition, CoreStmt, CoreUnit, Defining, Entity,
+    Program, Sub, SubId, Var, VarId,
 };
 use spx_scope::{Region, Scope, Standard};
-use spx_text::Text;
 use spx_tree::{Identifier, Subprogram, Unit};
 use sqlite_items::Items;
 use std::alloc::{AllocError, Global};
@@ -76,16 +77,17 @@ struct Inner {
 fn resolve_inner(
     alloc: Global,
     formals: Region,
-    vars: &mut Items<Var>,
+    tables: &mut Tables,
     everywhere: &Standard,
     name: &Defining,
     subprogram: &Subprogram,
 ) -> Result<Inner, AllocError>
     ensures derives { IfOk result (λ r. r.derives ≡ option_map (resolved_derives (formals ∷ around_body name.now)) subprogram.now.derives) }
     ensures pre { IfOk result (λ r. r.pre ≡ option_map (resolved_pre (formals ∷ around_body name.now)) subprogram.now.pre) }
-    ensures declarations { IfOk result (λ r. r.declarations ≡ resolved_decls (around_body name.now) formals (length vars.old) subprogram.now.declarations) }
+    ensures declarations { IfOk result (λ r. r.declarations ≡ resolved_decls (around_body name.now) formals (counts_of tables.old) subprogram.now.declarations) }
     ensures statements { IfOk result (λ r. r.statements ≡ map (resolved_stmt (declaring_all formals (declared_by_decls r.declarations) ∷ around_body name.now)) subprogram.now.statements) }
-    ensures vars { IfOk result (λ r. vars.new ≡ vars.old ++ map var_of (declared_by_decls r.declarations)) }
+    ensures vars { IfOk result (λ r. tables.new.vars ≡ tables.old.vars ++ map var_of (variables_by_decls r.declarations)) }
+    ensures types { IfOk result (λ r. tables.new.types ≡ tables.old.types ++ rows_by_decls r.declarations) }
 {
     let outermost = Scope::outermost(everywhere);
     let own_name = region_of(alloc, name)?;
@@ -95,7 +97,7 @@ fn resolve_inner(
     let derives = resolve_derives(alloc, &subprogram.derives, &scope)?;
     let pre = resolve_precondition(alloc, &subprogram.pre, &scope)?;
     let declarations = subprogram.declarations.as_slice();
-    let declarations = resolve_decls(alloc, &mut region, vars, &outer, declarations)?;
+    let declarations = resolve_decls(alloc, &mut region, tables, &outer, declarations)?;
     let scope = Scope::inside(&region, &outer);
     let statements = resolve_stmts(alloc, subprogram.statements.as_slice(), &scope)?;
     Ok(Inner {
@@ -118,20 +120,21 @@ fn copy_end_name(alloc: Global, name: &Option<Identifier>) -> Result<Option<Iden
 /// A subprogram, of which the name is declared.
 fn resolve_subprogram(
     alloc: Global,
-    vars: &mut Items<Var>,
+    tables: &mut Tables,
     everywhere: &Standard,
     name: Defining,
     subprogram: &Subprogram,
 ) -> Result<Sub, AllocError>
-    ensures { IfOk result (λ sub. (sub ≡ resolved_sub name (length vars.old) subprogram.now) × (vars.new ≡ vars.old ++ own_vars sub)) }
+    ensures { IfOk result (λ sub. (sub ≡ resolved_sub name (counts_of tables.old) subprogram.now) × (tables.new.vars ≡ tables.old.vars ++ own_vars sub) × (tables.new.types ≡ tables.old.types ++ own_types sub)) }
 {
-    let first = vars.len();
+    let first = tables.vars.len();
     let mut formals = Region::new(alloc);
+    let vars = &mut tables.vars;
     let formal_part = resolve_formal_part(alloc, &mut formals, vars, everywhere, subprogram)?;
-    let formal_count = vars.len() - first;
-    let inner = resolve_inner(alloc, formals, vars, everywhere, &name, subprogram)?;
+    let formal_count = tables.vars.len() - first;
+    let inner = resolve_inner(alloc, formals, tables, everywhere, &name, subprogram)?;
     let end_name = copy_end_name(alloc, &subprogram.end_name)?;
-    let vars = ids_between(alloc, first, vars.len())?;
+    let vars = ids_between(alloc, first, tables.vars.len())?;
     Ok(Sub {
         place: subprogram.place,
         name,
@@ -158,11 +161,11 @@ fn subprogram_of(unit: &Unit) -> &Subprogram
 /// The subprograms of the units. Each name is declared in the library only so that a second one is found (`again`).
 fn resolve_units(
     alloc: Global,
-    vars: &mut Items<Var>,
+    tables: &mut Tables,
     everywhere: &Standard,
     units: &[Unit],
 ) -> Result<Items<Sub>, AllocError>
-    ensures { IfOk result (λ subs. (subs ≡ resolved_subs [] 0 (length vars.old) units.now) × (vars.new ≡ vars.old ++ flat_map own_vars subs)) }
+    ensures { IfOk result (λ subs. (subs ≡ resolved_subs [] 0 (counts_of tables.old) units.now) × (tables.new.vars ≡ tables.old.vars ++ flat_map own_vars subs) × (tables.new.types ≡ tables.old.types ++ flat_map own_types subs)) }
 {
     let outermost = Scope::outermost(everywhere);
     let mut library = Region::new(alloc);
@@ -171,36 +174,9 @@ fn resolve_units(
         let subprogram = subprogram_of(unit);
         let entity = Entity::Subprogram(SubId(subs.len()));
         let name = declare(alloc, &mut library, &outermost, entity, &subprogram.name)?;
-        subs.push(resolve_subprogram(alloc, vars, everywhere, name, subprogram)?)?;
+        subs.push(resolve_subprogram(alloc, tables, everywhere, name, subprogram)?)?;
     }
     Ok(subs)
-}
-
-/// One more predefined type.
-fn add_type(
-    alloc: Global,
-    types: &mut Items<TypeRow>,
-    name: &[u8],
-    subtype: Subtype,
-) -> Result<(), AllocError>
-    ensures { OnOk result (types.new ≡ types.old ++ (record { name = name.now; subtype = subtype }) ∷ []) }
-{
-    let name = Text::new(alloc, name)?;
-    types.push(TypeRow { name, subtype })?;
-    Ok(())
-}
-
-/// The table of the predefined types, each at the position that is its id.
-fn predefined_types(alloc: Global) -> Result<Items<TypeRow>, AllocError>
-    ensures { IfOk result (λ types. types ≡ standard_types) }
-{
-    let mut types = Items::new(alloc);
-    add_type(alloc, &mut types, b"universal_integer", UNIVERSAL)?;
-    add_type(alloc, &mut types, b"Boolean", BOOLEAN)?;
-    add_type(alloc, &mut types, b"Integer", INTEGER)?;
-    add_type(alloc, &mut types, b"Natural", NATURAL)?;
-    add_type(alloc, &mut types, b"Positive", POSITIVE)?;
-    Ok(types)
 }
 
 /// An id for each of so many subprograms, in their order.
@@ -231,14 +207,13 @@ pub fn make_program(alloc: Global, units: &[Unit]) -> Result<Program, AllocError
     ensures { IfOk result (λ program. program ≡ resolved units.now) }
 {
     let everywhere = Standard::new(alloc)?;
-    let types = predefined_types(alloc)?;
-    let mut vars = Items::new(alloc);
-    let subs = resolve_units(alloc, &mut vars, &everywhere, units)?;
+    let mut tables = Tables::new(alloc)?;
+    let subs = resolve_units(alloc, &mut tables, &everywhere, units)?;
     let bodies = sub_ids(alloc, subs.len())?;
     Ok(Program {
         units: units_of(alloc, bodies.as_slice())?,
-        types,
-        vars,
+        types: tables.types,
+        vars: tables.vars,
         subs,
         bodies,
     })

@@ -1,0 +1,167 @@
+// What declared names denote (Ada 95 RM 3.2, 3.3, 3.5).
+ghost use Rattle.std.specs.Prelude.{◌≡◌};
+ghost use Rattle.spx_core.specs.Resolved.{bounded, constant_of, enumeration_type, integer_base, integer_type, is_in_integer, mode_of, narrowed, object_of, static_value, subtype_of};
+
+use spx_core::{
+    BaseType, Class, CoreExpr, CoreRange, Entity, INTEGER, Mode, Object, Reference, Subtype,
+    TypeId, UNIVERSAL, VarKind, WIDEST_FIRST, WIDEST_LAST,
+};
+use spx_tree::WrittenMode;
+use spx_types::judge;
+
+/// The subtype that a name denotes; where it denotes none, a rule is broken, and it counts as that of universal numbers.
+pub fn subtype_of(entity: Option<Entity>) -> Subtype
+    ensures { result ≡ subtype_of entity }
+{
+    match entity {
+        Some(Entity::TypeName(subtype)) => subtype,
+        _ => UNIVERSAL,
+    }
+}
+
+/// What is declared of the objects of a declaration with this type name.
+pub fn object_of(kind: VarKind, type_name: &Reference) -> Object
+    ensures { result ≡ object_of kind type_name.now }
+{
+    Object {
+        kind,
+        subtype: subtype_of(type_name.root.entity),
+    }
+}
+
+/// No mode means `in` (Ada 95 RM 6.1).
+pub fn mode_of(mode: WrittenMode) -> Mode
+    ensures { result ≡ mode_of mode }
+{
+    match mode {
+        WrittenMode::Unwritten => Mode::In,
+        WrittenMode::In(_) => Mode::In,
+        WrittenMode::Out => Mode::Out,
+        WrittenMode::InOut(_) => Mode::InOut,
+    }
+}
+
+/// The value of an expression that breaks no rule, if it is static.
+pub fn static_value(expr: &CoreExpr) -> Option<i128>
+    ensures { result ≡ static_value expr.now }
+{
+    match judge(expr) {
+        Ok(typing) => typing.value,
+        Err(_) => None,
+    }
+}
+
+fn is_in_integer(n: i128) -> bool
+    ensures { result ≡ is_in_integer n }
+{
+    INTEGER.first <= n && n <= INTEGER.last
+}
+
+/// A type has the base range of `Integer`, or, where that is too small, the widest one.
+fn integer_base(id: TypeId, first: i128, last: i128) -> BaseType
+    ensures { result ≡ integer_base id first last }
+{
+    if is_in_integer(first) && is_in_integer(last) {
+        BaseType { id, ..INTEGER.base }
+    } else {
+        BaseType {
+            id,
+            class: Class::Integer,
+            first: WIDEST_FIRST,
+            last: WIDEST_LAST,
+        }
+    }
+}
+
+/// A new type of the numbers between two; where one of them is not static, a rule is broken, and it counts as that of
+/// universal numbers.
+fn integer_type(position: usize, low: Option<i128>, high: Option<i128>) -> Subtype
+    ensures { result ≡ integer_type position low high }
+{
+    let Some(first) = low else {
+        return UNIVERSAL;
+    };
+    let Some(last) = high else {
+        return UNIVERSAL;
+    };
+    let id = TypeId(position);
+    Subtype {
+        id,
+        base: integer_base(id, first, last),
+        first,
+        last,
+    }
+}
+
+/// A new type of the numbers of a range.
+pub fn range_type(position: usize, range: &CoreRange) -> Subtype
+    ensures { result ≡ integer_type position (static_value range.now.low) (static_value range.now.high) }
+{
+    let low = static_value(&range.low);
+    integer_type(position, low, static_value(&range.high))
+}
+
+/// A new type of so many literals.
+pub fn enumeration_type(position: usize, count: usize) -> Subtype
+    ensures { result ≡ enumeration_type position count }
+{
+    let id = TypeId(position);
+    let last = count as i128 - 1;
+    let base = BaseType {
+        id,
+        class: Class::Enumeration,
+        first: 0,
+        last,
+    };
+    Subtype {
+        id,
+        base,
+        first: 0,
+        last,
+    }
+}
+
+/// The values of a base type between two.
+fn bounded(position: usize, base: BaseType, low: Option<i128>, high: Option<i128>) -> Subtype
+    ensures { result ≡ bounded position base low high }
+{
+    let Some(first) = low else {
+        return UNIVERSAL;
+    };
+    let Some(last) = high else {
+        return UNIVERSAL;
+    };
+    Subtype {
+        id: TypeId(position),
+        base,
+        first,
+        last,
+    }
+}
+
+/// A subtype of this one: with its values, or those of a range.
+pub fn narrowed(position: usize, parent: Subtype, range: &Option<CoreRange>) -> Subtype
+    ensures { result ≡ narrowed position parent range.now }
+{
+    match range {
+        None => Subtype {
+            id: TypeId(position),
+            ..parent
+        },
+        Some(range) => {
+            let low = static_value(&range.low);
+            bounded(position, parent.base, low, static_value(&range.high))
+        }
+    }
+}
+
+/// What constants with this type name denote, if there is one. A value that is not static breaks a rule, and counts as 0.
+pub fn constant_of(type_name: &Option<Reference>, value: Option<i128>) -> Entity
+    ensures { result ≡ constant_of type_name.now value }
+{
+    let value = value.unwrap_or(0);
+    match type_name {
+        None => Entity::NamedNumber(value),
+        Some(type_name) => Entity::Constant(subtype_of(type_name.root.entity), value),
+    }
+}

@@ -1,0 +1,85 @@
+// Parts of a declaration: in each, the names that it declares are hidden (Ada 95 RM 8.3).
+ghost use Rattle.std.specs.Prelude.{◌≡◌, IfOk, option_map};
+ghost use Rattle.spx_core.specs.Resolved.{around_names, resolved_expr, resolved_range, resolved_reference};
+ghost use Rattle.spx_scope.specs.Seen.{seen};
+
+use crate::expression::{resolve_expr, resolve_reference};
+use spx_core::{CoreExpr, CoreRange, Reference};
+use spx_scope::{Region, Scope};
+use spx_tree::{Expr, Identifier, Name, Range};
+use std::alloc::{AllocError, Global};
+
+/// The type name of a declaration of these names.
+pub fn resolve_type_name(
+    alloc: Global,
+    region: &Region,
+    outer: &Scope<'_>,
+    names: &[Identifier],
+    type_name: &Name,
+) -> Result<Reference, AllocError>
+    ensures { IfOk result (λ r. r ≡ resolved_reference (around_names (seen outer.now) region.now names.now) type_name.now) }
+{
+    let scope = Scope::inside(region, outer);
+    Ok(resolve_reference(alloc, type_name, &Scope::hiding(names, &scope))?)
+}
+
+/// The type name of constants, if there is one.
+pub fn resolve_type_mark(
+    alloc: Global,
+    region: &Region,
+    outer: &Scope<'_>,
+    names: &[Identifier],
+    type_name: &Option<Name>,
+) -> Result<Option<Reference>, AllocError>
+    ensures { IfOk result (λ r. r ≡ option_map (resolved_reference (around_names (seen outer.now) region.now names.now)) type_name.now) }
+{
+    match type_name {
+        Some(name) => Ok(Some(resolve_type_name(alloc, region, outer, names, name)?)),
+        None => Ok(None),
+    }
+}
+
+/// The value of constants, or a bound.
+pub fn resolve_value(
+    alloc: Global,
+    region: &Region,
+    outer: &Scope<'_>,
+    names: &[Identifier],
+    value: &Expr,
+) -> Result<CoreExpr, AllocError>
+    ensures { IfOk result (λ r. r ≡ resolved_expr (around_names (seen outer.now) region.now names.now) value.now) }
+{
+    let scope = Scope::inside(region, outer);
+    Ok(resolve_expr(alloc, value, &Scope::hiding(names, &scope))?)
+}
+
+/// The range of a type.
+pub fn resolve_range(
+    alloc: Global,
+    region: &Region,
+    outer: &Scope<'_>,
+    names: &[Identifier],
+    range: &Range,
+) -> Result<CoreRange, AllocError>
+    ensures { IfOk result (λ r. r ≡ resolved_range (around_names (seen outer.now) region.now names.now) range.now) }
+{
+    let low = resolve_value(alloc, region, outer, names, &range.low)?;
+    let high = resolve_value(alloc, region, outer, names, &range.high)?;
+    Ok(CoreRange { low, high })
+}
+
+/// The range of a subtype, if it has one.
+pub fn resolve_constraint(
+    alloc: Global,
+    region: &Region,
+    outer: &Scope<'_>,
+    names: &[Identifier],
+    range: &Option<Range>,
+) -> Result<Option<CoreRange>, AllocError>
+    ensures { IfOk result (λ r. r ≡ option_map (resolved_range (around_names (seen outer.now) region.now names.now)) range.now) }
+{
+    match range {
+        Some(range) => Ok(Some(resolve_range(alloc, region, outer, names, range)?)),
+        None => Ok(None),
+    }
+}

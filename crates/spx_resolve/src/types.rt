@@ -1,0 +1,125 @@
+// Declarations of types, subtypes and constants: none sees itself (Ada 95 RM 3.2, 3.3, 3.5).
+ghost use Rattle.std.specs.Prelude.{◌≡◌, ◌∷◌, ◌++◌, [], IfOk, length, option_map};
+ghost use Rattle.spx_core.specs.declared.entity.Entity.TheVariants as entity;
+ghost use Rattle.spx_core.specs.Resolved.{around_names, constants_of, declared_by, declaring, declaring_all, defining, enumeration_decl, integer_decl, resolved_expr, resolved_range, resolved_reference, row_of, rows_by, subtype_decl};
+ghost use Rattle.spx_scope.specs.Seen.{seen};
+
+use crate::meaning::{
+    constant_of, enumeration_type, narrowed, range_type, static_value, subtype_of,
+};
+use crate::names::{declare, declare_all};
+use crate::parts::{
+    resolve_constraint, resolve_range, resolve_type_mark, resolve_type_name, resolve_value,
+};
+use crate::tables::add_row;
+use spx_core::{CoreDecl, CoreRange, CoreTypeDef, Defining, Entity, Meaning, Subtype, TypeRow};
+use spx_scope::{Region, Scope};
+use spx_text::Place;
+use spx_tree::{Expr, Identifier, Name, Range};
+use sqlite_items::Items;
+use std::alloc::{AllocError, Global};
+use std::slice;
+
+/// Declares the name of a type, which comes after those before it.
+fn declare_type(
+    alloc: Global,
+    region: &mut Region,
+    types: &mut Items<TypeRow>,
+    outer: &Scope<'_>,
+    subtype: Subtype,
+    name: &Identifier,
+) -> Result<Defining, AllocError>
+    ensures { IfOk result (λ d. (d ≡ defining region.old (entity.TypeName subtype) name.now) × (region.new ≡ declaring region.old d) × (types.new ≡ types.old ++ row_of d ∷ [])) }
+{
+    let defined = declare(alloc, region, outer, Entity::TypeName(subtype), name)?;
+    add_row(alloc, types, &defined)?;
+    Ok(defined)
+}
+
+/// A type of the numbers of a resolved range.
+fn declare_integer(
+    alloc: Global,
+    region: &mut Region,
+    types: &mut Items<TypeRow>,
+    outer: &Scope<'_>,
+    name: &Identifier,
+    range: CoreRange,
+) -> Result<CoreDecl, AllocError>
+    ensures { IfOk result (λ d. (d ≡ integer_decl region.old (length types.old) name.now range) × (region.new ≡ declaring_all region.old (declared_by d)) × (types.new ≡ types.old ++ rows_by d)) }
+{
+    let subtype = range_type(types.len(), &range);
+    let name = declare_type(alloc, region, types, outer, subtype, name)?;
+    Ok(CoreDecl::FullType(name, CoreTypeDef::Integer(range)))
+}
+
+/// A type of the numbers of a range.
+pub fn resolve_integer(
+    alloc: Global,
+    region: &mut Region,
+    types: &mut Items<TypeRow>,
+    outer: &Scope<'_>,
+    name: &Identifier,
+    range: &Range,
+) -> Result<CoreDecl, AllocError>
+    ensures { IfOk result (λ d. (d ≡ integer_decl region.old (length types.old) name.now (resolved_range (around_names (seen outer.now) region.old (name.now ∷ [])) range.now)) × (region.new ≡ declaring_all region.old (declared_by d)) × (types.new ≡ types.old ++ rows_by d)) }
+{
+    let range = resolve_range(alloc, region, outer, slice::from_ref(name), range)?;
+    Ok(declare_integer(alloc, region, types, outer, name, range)?)
+}
+
+/// A type of these literals, the name of which is declared before them.
+pub fn resolve_enumeration(
+    alloc: Global,
+    region: &mut Region,
+    types: &mut Items<TypeRow>,
+    outer: &Scope<'_>,
+    name: &Identifier,
+    place: Place,
+    literals: &[Identifier],
+) -> Result<CoreDecl, AllocError>
+    ensures { IfOk result (λ d. (d ≡ enumeration_decl region.old (length types.old) name.now place literals.now) × (region.new ≡ declaring_all region.old (declared_by d)) × (types.new ≡ types.old ++ rows_by d)) }
+{
+    let subtype = enumeration_type(types.len(), literals.len());
+    let name = declare_type(alloc, region, types, outer, subtype, name)?;
+    let meaning = Meaning::Literals(subtype);
+    let literals = declare_all(alloc, region, outer, meaning, 0, literals)?;
+    Ok(CoreDecl::FullType(name, CoreTypeDef::Enumeration(place, literals)))
+}
+
+/// A subtype of the one that is named.
+pub fn resolve_subtype(
+    alloc: Global,
+    region: &mut Region,
+    types: &mut Items<TypeRow>,
+    outer: &Scope<'_>,
+    name: &Identifier,
+    parent: &Name,
+    range: &Option<Range>,
+) -> Result<CoreDecl, AllocError>
+    ensures { IfOk result (λ d. (d ≡ subtype_decl region.old (length types.old) name.now (resolved_reference (around_names (seen outer.now) region.old (name.now ∷ [])) parent.now) (option_map (resolved_range (around_names (seen outer.now) region.old (name.now ∷ []))) range.now)) × (region.new ≡ declaring_all region.old (declared_by d)) × (types.new ≡ types.old ++ rows_by d)) }
+{
+    let hidden = slice::from_ref(name);
+    let parent = resolve_type_name(alloc, region, outer, hidden, parent)?;
+    let range = resolve_constraint(alloc, region, outer, hidden, range)?;
+    let subtype = narrowed(types.len(), subtype_of(parent.root.entity), &range);
+    let name = declare_type(alloc, region, types, outer, subtype, name)?;
+    Ok(CoreDecl::Subtype(name, parent, range))
+}
+
+/// Constants of this value.
+pub fn resolve_constants(
+    alloc: Global,
+    region: &mut Region,
+    outer: &Scope<'_>,
+    names: &[Identifier],
+    type_name: &Option<Name>,
+    value: &Expr,
+) -> Result<CoreDecl, AllocError>
+    ensures { IfOk result (λ d. (d ≡ constants_of region.old names.now (option_map (resolved_reference (around_names (seen outer.now) region.old names.now)) type_name.now) (resolved_expr (around_names (seen outer.now) region.old names.now) value.now)) × (region.new ≡ declaring_all region.old (declared_by d))) }
+{
+    let type_name = resolve_type_mark(alloc, region, outer, names, type_name)?;
+    let value = resolve_value(alloc, region, outer, names, value)?;
+    let meaning = Meaning::Each(constant_of(&type_name, static_value(&value)));
+    let names = declare_all(alloc, region, outer, meaning, 0, names)?;
+    Ok(CoreDecl::Constants(names, type_name, value))
+}
