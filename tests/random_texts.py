@@ -10,7 +10,8 @@ import math
 import random
 import re
 import sys
-from dataclasses import dataclass
+from dataclasses import dataclass, field
+from typing import Optional
 
 from reading import ANNOTATION, RESERVED, examine
 from table import CASES, answer, can_stand, entry, longer
@@ -44,13 +45,26 @@ PIECES = tuple(piece.encode('ascii') for piece in (
     '+(', "'First", '(X = X)', 'if', 'then', 'elsif', 'else', 'end if', 'if X > 0 then', 'elsif X < 0 then', 'end if;',
     '   if X > 0 then X := X - 1; end if;\n', '**', '/', 'mod', 'rem', 'abs', 'not', 'and', 'or', 'xor', 'and then', 'or else', 'then', 'else',
     'in', 'not in', 'in 1 .. 5', 'in Natural', 'Boolean', 'Natural', 'Positive', 'True', 'False', 'null from', '& null from X', ' * 2', ' / X',
-    ' mod 3', ' ** 2', 'abs (X)', 'not (', ' and X > 0', ' and then X > 0', ' or else X /= 0'))
+    ' mod 3', ' ** 2', 'abs (X)', 'not (', ' and X > 0', ' and then X > 0', ' or else X /= 0', 'type', 'subtype', 'constant', 'range', 'range 1 .. 5',
+    '   type S is range 0 .. 9;\n', '   type Hue is (Red, Green);\n', '   subtype S is Integer range 1 .. 5;\n', '   C : constant Integer := 5;\n',
+    '   C, D : constant := 2;\n', '   V : S;\n', 'C', 'Red', ' + C', ': constant', ':= 5', '(Red)'))
 # Bytes that are apt to end a lexeme, a line or a text.
 EDGES = b'\0\t\n\v\f\r -#0A_\x80\xa0\xff'
 
 # A word that is a name wherever it stands, and the names that one is exchanged for.
 NAME = re.compile(rb'[A-Za-z](?:_?[A-Za-z0-9])*')
-OTHER_NAMES = tuple(name.encode('ascii') for name in ('X', 'x', 'A', 'B', 'Y', 'T', 'U', 'Inc', 'Dec', 'Integer', 'Natural', 'Positive', 'Boolean', 'True'))
+OTHER_NAMES = tuple(name.encode('ascii') for name in ('X', 'x', 'A', 'B', 'Y', 'T', 'U', 'Inc', 'Dec', 'Integer', 'Natural', 'Positive', 'Boolean', 'True',
+                                                       'Small', 'Hue', 'Red', 'C'))
+
+# Names of types, of literals and of constants, and the bounds of types. Any of the last may be a value of a constant.
+TYPE_NAMES = ('Small', 'Hue', 'S', 'Low', 'Wide', 'Gear', 'Flag', 'Own')
+LITERAL_NAMES = ('Red', 'Green', 'Blue', 'Up', 'Down', 'On', 'Off', 'First')
+CONSTANT_NAMES = ('C', 'D', 'N', 'Top', 'Two', 'Least')
+BOUNDS = ((0, 10), (0, 9), (1, 5), (-5, 5), (5, 5), (0, 100), (-7, -2), (0, 2**31 - 1), (0, 2**31), (-2**31, 2**31 - 1), (-2**31 - 1, 0), (-2**31, 0),
+          (-2**63, 2**63 - 1), (0, 2**63 - 1), (0, 2**40), (2**31, 2**31 + 5))
+ODD_BOUNDS = ((1, 0), (0, 2**63), (-2**63 - 1, 0), (10, 5), (2**64, 2**65))
+ODD_STATIC = ('1 / 0', "Integer'Last + 1", '2 ** 127', '2147483648', "Natural'Last")
+NAMED_VALUES = (0, 1, 2, 2, 3, 5, 10, -1, 31, 100, 2**31 - 1, 2**31, 2**40, 2**100)
 
 # The texts of the table of the grammar: those whose conditions are made, and those with other findings.
 STOPPED = re.compile(r':\d+: (?:L\d|P1) ')
@@ -76,6 +90,161 @@ def is_import(formal, sources):
 def is_name(piece):
     """Whether a piece is a word that is reserved nowhere."""
     return bool(NAME.fullmatch(piece)) and piece.decode('ascii').lower() not in RESERVED + ANNOTATION
+
+
+@dataclass(frozen=True)
+class Type:
+    """A type: its name, that of the type it is made of, and its bounds, if it has any. Those of literals are positions."""
+    name: str
+    base: str
+    low: Optional[int] = None
+    high: Optional[int] = None
+
+
+PREDEFINED = (Type('Integer', 'Integer', -2**31, 2**31 - 1), Type('Natural', 'Integer', 0, 2**31 - 1), Type('Positive', 'Integer', 1, 2**31 - 1),
+              Type('Boolean', 'Boolean'))
+
+
+@dataclass
+class Declared:
+    """What stands before the statements of a procedure: the declarations as they are written, and what they declare.
+
+    A constant has a name, its base type, and its value; that of a named number is none.
+    """
+    lines: list = field(default_factory=list)
+    types: list = field(default_factory=lambda: list(PREDEFINED))
+    literals: dict = field(default_factory=dict)
+    constants: list = field(default_factory=list)
+
+    def own_types(self):
+        """The types that are declared here."""
+        return self.types[len(PREDEFINED):]
+
+    def of_base(self, base):
+        """The types that are made of one."""
+        return [found for found in self.types if found.base == base]
+
+
+class Declarer:
+    """Makes declarations of types, subtypes and constants that mostly fit together."""
+
+    def __init__(self, chance, formals):
+        self.random = chance
+        self.formals = formals
+        self.slips = chance.choice((0, 0, 0.03, 0.08))
+        self.declared = Declared()
+        self.free = {names: list(names) for names in (TYPE_NAMES, LITERAL_NAMES, CONSTANT_NAMES)}
+
+    def run(self):
+        """Some declarations."""
+        forms = (self.range_type, self.enumeration, self.subtype, self.constant, self.named_numbers)
+        for _ in range(self.random.choice((1, 2, 3, 3, 4, 5, 6))):
+            form = self.random.choices(forms, (28, 20, 22, 22, 8))[0]
+            self.declared.lines.append(form())
+        return self.declared
+
+    def name(self, names):
+        """A name that is not there yet, or rarely another one."""
+        if self.random.random() < self.slips / 4 or not self.free[names]:
+            return self.random.choice(names + self.formals + ('Natural', 'Inc'))
+        return self.free[names].pop(self.random.randrange(len(self.free[names])))
+
+    def is_odd(self):
+        """Whether something does not fit here. In half of all procedures everything does."""
+        return self.random.random() < self.slips
+
+    def odd(self, name):
+        """What mostly is no static value of the type that is wanted."""
+        variables = self.formals or ('X',)
+        literals = tuple(literal for found in self.declared.literals.values() for literal in found) or ('True',)
+        attributes = tuple(f"{found.name}'First" for found in self.declared.types)
+        kind = self.random.random()
+        if kind < 0.5:
+            return self.random.choice(variables) + self.random.choice(('', '', ' + 1'))
+        if kind < 0.7:
+            return self.random.choice(literals + attributes + ('True', '(1 = 1)', '5'))
+        return self.random.choice((name, 'Y', 'Integer') if kind < 0.8 else ODD_STATIC)
+
+    def range_type(self):
+        """A type of numbers of its own."""
+        name = self.name(TYPE_NAMES)
+        low, high = self.random.choice(ODD_BOUNDS if self.random.random() < 2 * self.slips else BOUNDS)
+        line = f'type {name} is range {self.value(name, low)} .. {self.value(name, high)}'
+        self.declared.types.append(Type(name, name, low, high))
+        return line
+
+    def enumeration(self):
+        """A type of one literal or more."""
+        name = self.name(TYPE_NAMES)
+        literals = [self.name(LITERAL_NAMES) for _ in range(self.random.choice((1, 2, 2, 3, 3)))]
+        self.declared.types.append(Type(name, name, 0, len(literals) - 1))
+        self.declared.literals[name] = literals
+        return f'type {name} is ({", ".join(literals)})'
+
+    def subtype(self):
+        """A type that is made of another one, mostly with a range."""
+        name, parent = self.name(TYPE_NAMES), self.random.choice(self.declared.own_types() * 2 + self.declared.types)
+        mark = self.random.choice(('X', name, 'Y', 'Inc')) if self.random.random() < self.slips / 2 else parent.name
+        is_whole = parent.base == 'Boolean' and not self.is_odd()
+        if is_whole or self.random.random() < 0.2:
+            self.declared.types.append(Type(name, parent.base, parent.low, parent.high))
+            return f'subtype {name} is {mark}'
+        low, high = self.within(parent)
+        line = f'subtype {name} is {mark} range {self.value(name, low, parent.base)} .. {self.value(name, high, parent.base)}'
+        self.declared.types.append(Type(name, parent.base, low, high))
+        return line
+
+    def within(self, parent):
+        """Bounds within a type, often its own ones, and rarely one that is past them."""
+        if parent.low is None:
+            return 0, 1
+        low, high = min(parent.low, parent.high), max(parent.low, parent.high)
+        ends = sorted(self.random.choice((low, high, self.random.randint(low, high), min(high, low + 1))) for _ in range(2))
+        if self.random.random() < 2 * self.slips:
+            ends = self.random.choice(((ends[1] + 1, ends[0]), (low - 1, high), (low, high + 1), (low, high + 2**32)))
+        return ends
+
+    def constant(self):
+        """Constants of a type."""
+        names = [self.name(CONSTANT_NAMES) for _ in range(self.random.choice((1, 1, 1, 2)))]
+        found = self.random.choice(self.declared.own_types() * 2 + self.declared.types)
+        low, high = self.within(found)
+        value = self.random.choice((low, high))
+        line = f'{", ".join(names)} : constant {found.name} := {self.value(names[0], value, found.base)}'
+        self.declared.constants += [(name, found.base, value) for name in names]
+        return line
+
+    def named_numbers(self):
+        """Constants without a type."""
+        names = [self.name(CONSTANT_NAMES) for _ in range(self.random.choice((1, 1, 2)))]
+        value = self.random.choice(NAMED_VALUES)
+        line = f'{", ".join(names)} : constant := {self.value(names[0], value)}'
+        self.declared.constants += [(name, None, value) for name in names]
+        return line
+
+    def value(self, name, value, base=None):
+        """A value as a static expression of a type, or of any type of numbers; rarely something else."""
+        if self.is_odd():
+            return self.odd(name)
+        return self.random.choice(self.spellings(value, base))
+
+    def spellings(self, value, base):
+        """Some expressions of this value."""
+        if base == 'Boolean':
+            return ['True', 'not True', '1 < 2', 'False', "Integer'Last in Natural"]
+        known = [constant for constant, of, found in self.declared.constants if found == value and self.fits(of, base)]
+        known += [f"{found.name}'{end}" for found in self.declared.types for end, bound in (('First', found.low), ('Last', found.high))
+                  if bound == value and self.fits(found.base, base)]
+        if base in self.declared.literals:
+            literals = self.declared.literals[base]
+            return known * 2 + [literals[value % len(literals)]] * 2
+        size = self.random.choice((1, 2, 7))
+        return known * 3 + [str(value)] * 4 + [f'{value - size} + {size}', f'{value + size} - {size}', f'({value})']
+
+    def fits(self, of, base):
+        """Whether what is of one base type, or a named number, may stand where another one is wanted."""
+        is_number = of is None or (of not in self.declared.literals and of != 'Boolean')
+        return of == base or (is_number and (base is None or of is None) and base not in self.declared.literals)
 
 
 @dataclass
@@ -136,6 +305,9 @@ class Writer:
     def __init__(self, seed):
         self.random = random.Random(seed)
         self.types = {}
+        self.bases = {}
+        self.declared = Declared()
+        self.base = 'Integer'
         self.ignored = []
 
     def text(self):
@@ -156,10 +328,15 @@ class Writer:
         return ''.join(self.procedure(name) for name in names).encode('ascii')
 
     def procedure(self, name):
-        """A procedure of random parts that mostly fit together, and at times one without formals."""
+        """A procedure of random parts that mostly fit together, and at times one without formals, or one of few statements."""
+        if self.random.random() < 0.25:
+            return self.short_procedure(name)
         formals = self.random.choice(FORMALS) if self.random.random() < 0.96 else ()
         locals_ = self.random.choice(LOCALS if self.random.random() < 0.98 else ODD_LOCALS)
-        self.types = {name: self.random.choices(TYPES, (60, 13, 7, 20))[0] for name in formals + locals_}
+        self.declared = Declarer(self.random, formals).run() if self.random.random() < 0.6 else Declared()
+        if self.declared.lines and self.random.random() < 0.7:
+            locals_ = self.random.choice((('T',), ('T', 'U'), ('T', 'U', 'V')))
+        self.choose_types(formals, locals_)
         statements = self.statements(formals, locals_)
         if formals and self.random.random() < 0.55:
             statements = self.branched(statements, formals, locals_)
@@ -168,10 +345,108 @@ class Writer:
         if inputs and self.random.random() < 0.12:
             target = self.random.choice(inputs)
             self.insert(statements, (target, self.right_side(formals, target, target)))
-        first = next((value for target, value in assignments(statements) if self.types[target] != 'Boolean'), self.value())
-        pre = self.precondition(formals, sources, first) if self.random.random() < 0.75 else None
+        if self.declared.constants and self.random.random() < 0.12:
+            self.insert(statements, self.to_a_constant(formals))
+        declared = self.declared.lines + self.declarations(locals_)
+        if self.random.random() < 0.02:
+            self.random.shuffle(declared)
+        pre = self.precondition_before(formals, sources, statements) if self.random.random() < 0.75 else None
         return longer(self.params(formals, sources), self.items(formals, sources), *self.spelled(statements),
-                      pre=pre, declared=self.declarations(locals_), name=name)
+                      pre=pre, declared=declared, name=name)
+
+    def short_procedure(self, name):
+        """A procedure in which variables of declared types decide what a formal is. It mostly keeps all rules."""
+        formals, locals_ = ('A', 'X'), self.random.choice((('T',), ('T',), ('T', 'U')))
+        self.declared = Declarer(self.random, formals).run()
+        self.choose_types(formals, locals_)
+        for formal in formals:
+            self.types[formal], self.bases[formal] = self.random.choice(('Integer', 'Integer', 'Natural')), 'Integer'
+        statements = [statement for local in locals_ for statement in self.uses(local)]
+        conditions = [f'{local} {self.relation_of(local)} {self.near(local)}' for local in locals_]
+        bodies = [[('X', self.random.choice(('A', 'A', '0', '1', '5') + self.constants()))] for _ in range(2)]
+        statements.append(Branch([(f' {self.random.choice(LOGICAL)} '.join(conditions), bodies[0])], bodies[1]))
+        if self.declared.constants and self.random.random() < 0.2:
+            self.insert(statements, self.to_a_constant(formals))
+        sources = self.sources(formals, locals_, statements)
+        pre = self.random.choice((None, None, 'A > 0', 'A in 1 .. 100'))
+        return longer(self.params(formals, sources), self.items(formals, sources), *self.spelled(statements), pre=pre,
+                      declared=self.declared.lines + self.declarations(locals_), name=name)
+
+    def uses(self, local):
+        """Statements that set a variable, on one way or on two, and at times once more."""
+        found = [(local, self.near(local))]
+        if self.random.random() < 0.4:
+            condition = f'A {self.random.choice(RELATIONS)} {self.random.choice(("0", "1", "100"))}'
+            found = [Branch([(condition, found)], [(local, self.near(local))])]
+        if self.is_of_numbers(local) and self.random.random() < 0.6:
+            operation = self.random.choice(('{} + 1', '{} - 1', '-{}', 'abs {}', '{} * 2', '{} / 2', '{} mod 3', '{} ** 2', '{} * {}', '2 * {} - 1',
+                                            '{} ** 62'))
+            found.append((local, operation.replace('{}', local)))
+        return found
+
+    def relation_of(self, local):
+        """A relation, which truth values have two of."""
+        return self.random.choice(RELATIONS if self.base_of(local) != 'Boolean' else RELATIONS[:2])
+
+    def is_of_numbers(self, local):
+        """Whether a variable is a number."""
+        return self.base_of(local) != 'Boolean' and not self.is_literal(self.base_of(local))
+
+    def near(self, local):
+        """A value in the type of a variable, mostly at one of its ends."""
+        found = next(found for found in self.declared.types if found.name == self.types[local])
+        if found.base == 'Boolean':
+            return self.random.choice(('True', 'False', '(A > 0)'))
+        value = self.random.choice((found.low, found.high, found.high, self.random.randint(min(found.low, found.high), max(found.low, found.high))))
+        if self.is_literal(found.base):
+            literals = self.declared.literals[found.base]
+            return self.random.choice((literals[value % len(literals)], f"{found.name}'First", f"{found.name}'Last"))
+        return f'({value})' if value < 0 else str(value)
+
+    def choose_types(self, formals, locals_):
+        """A type for each variable. Those of formals are predefined, but for some."""
+        own = self.declared.own_types()
+        self.types = {name: self.random.choices(TYPES, (60, 13, 7, 20))[0] for name in formals + locals_}
+        chosen = locals_ if self.random.random() < 0.99 else formals
+        for name in chosen:
+            if own and self.random.random() < 0.8:
+                self.types[name] = self.random.choice(own).name
+        bases = {found.name: found.base for found in self.declared.types}
+        self.bases = {name: bases[mark] for name, mark in self.types.items()}
+
+    def base_of(self, name):
+        """The base type of a variable, which is Integer for one that is not there."""
+        return self.bases.get(name, 'Integer')
+
+    def over(self, base, make, *arguments):
+        """What is made where numbers, and literals, are of this base type."""
+        before, self.base = self.base, base
+        made = make(*arguments)
+        self.base = before
+        return made
+
+    def is_literal(self, base):
+        """Whether a base type has literals."""
+        return base in self.declared.literals
+
+    def to_a_constant(self, formals):
+        """An assignment to a constant, mostly of its own type."""
+        name, base, _ = self.random.choice(self.declared.constants)
+        if base == 'Boolean':
+            return name, self.truth(formals, 0)
+        return name, self.over(base or 'Integer', self.sum, formals, self.over(base or 'Integer', self.value))
+
+    def precondition_before(self, formals, sources, statements):
+        """A precondition. What is declared in the body cannot be seen in it."""
+        names = [name for name, _, _ in self.declared.constants] + [found.name for found in self.declared.own_types()] + list(self.types)
+        hidden = '|'.join(name for name in names if name not in formals) or 'None'
+        integers = (value for target, value in assignments(statements) if self.base_of(target) == 'Integer' and not re.search(rf'\b(?:{hidden})\b', value))
+        before = self.declared
+        if self.random.random() < 0.98:
+            self.declared = Declared()
+        made = self.precondition(formals, sources, next(integers, self.value()))
+        self.declared = before
+        return made
 
     def branched(self, statements, formals, locals_):
         """The statements with some of them in arms, and some more; mostly such that what one arm sets, each sets."""
@@ -225,14 +500,15 @@ class Writer:
         return self.truth(readable, self.random.choices((0, 1, 2), (60, 30, 10))[0])
 
     def numbers(self, variables):
-        """Those of the variables that are numbers; rarely all."""
+        """Those of the variables that are numbers, or literals, of the base type that is wanted; rarely all."""
         is_odd = self.random.random() < 0.004
-        return tuple(name for name in variables if is_odd or self.types.get(name) != 'Boolean')
+        return tuple(name for name in variables if is_odd or self.base_of(name) == self.base)
 
     def truths(self, variables):
         """Those of the variables that are truth values; rarely all."""
         is_odd = self.random.random() < 0.004
-        return tuple(name for name in variables if is_odd or self.types.get(name) == 'Boolean')
+        constants = tuple(name for name, base, _ in self.declared.constants if base == 'Boolean')
+        return tuple(name for name in variables if is_odd or self.base_of(name) == 'Boolean') + constants
 
     def number_in(self, variables):
         """A variable that is a number, if there is one, or a value."""
@@ -245,6 +521,9 @@ class Writer:
             return self.logical(variables, depth)
         if kind < 0.06:
             return self.random.choice(STATIC_CONDITIONS)
+        others = [name for name in variables if self.base_of(name) not in ('Integer', 'Boolean')]
+        if others and self.base == 'Integer' and self.random.random() < 0.6:
+            return self.over(self.base_of(self.random.choice(others)), self.truth, variables, depth)
         truths = self.truths(variables)
         if truths and kind < 0.4:
             name = self.random.choice(truths)
@@ -252,7 +531,8 @@ class Writer:
                                        f'{name} /= {self.random.choice(truths + ("(1 < 2)",))}'))
         if kind < 0.55:
             return self.membership(variables)
-        left = self.number_in(variables) if self.random.random() < 0.7 else self.sum(variables, self.number_in(variables))
+        is_short = self.random.random() < 0.7 or self.is_literal(self.base)
+        left = self.number_in(variables) if is_short else self.sum(variables, self.number_in(variables))
         sides = [left, self.random.choice(self.numbers(variables) + (self.value(),) * 5)]
         if self.random.random() < 0.2:
             sides.reverse()
@@ -263,7 +543,7 @@ class Writer:
         kind = self.random.random()
         if kind < 0.15:
             return f'not ({self.truth(variables, depth - 1)})'
-        if kind < 0.4:
+        if kind < 0.4 and self.base == 'Integer':
             return self.guard(variables)
         operator = self.random.choice(LOGICAL[:2] if kind < 0.6 else LOGICAL)
         parts = [self.truth(variables, depth - 1) for _ in range(self.random.choice((2, 2, 2, 3)))]
@@ -288,14 +568,20 @@ class Writer:
 
     def membership(self, variables):
         """A membership test, in a type or in a range."""
-        tested = self.number_in(variables) if self.random.random() < 0.8 else self.sum(variables, self.number_in(variables))
+        is_short = self.random.random() < 0.8 or self.is_literal(self.base)
+        tested = self.number_in(variables) if is_short else self.sum(variables, self.number_in(variables))
         word = self.random.choice(('in', 'in', 'not in'))
         kind = self.random.random()
         if kind < 0.3:
-            return f'{tested} {word} {self.random.choices(TYPES, (30, 35, 34, 1))[0]}'
-        ends = ('0', '1', '-5', '5', '100', "Integer'Last")
+            return f'{tested} {word} {self.type_mark()}'
+        ends = ('0', '1', '-5', '5', '100', "Integer'Last") if self.base == 'Integer' else tuple(self.value() for _ in range(3))
         bounds = [self.number_in(variables) if self.random.random() < 0.3 else self.random.choice(ends) for _ in range(2)]
         return f'{tested} {word} {bounds[0]} .. {bounds[1]}'
+
+    def type_mark(self):
+        """A type of what is tested, or rarely another one."""
+        fitting = self.declared.of_base(self.base) if self.random.random() < 0.98 else []
+        return self.random.choice(fitting or self.declared.types).name
 
     def insert(self, statements, statement):
         """Puts a statement somewhere, also into an arm."""
@@ -325,8 +611,9 @@ class Writer:
         return text + 'end if'
 
     def declarations(self, locals_):
-        """A declaration for each local, or one for all."""
-        if self.random.random() < 0.5:
+        """A declaration for each local, or one for all, which then mostly have one type."""
+        is_one = len({self.types[name] for name in locals_}) == 1 or self.random.random() < 0.05
+        if is_one and self.random.random() < 0.5:
             locals_ = (', '.join(locals_),) if locals_ else ()
         return [f'{names} : {self.types.get(names, self.types[names.split(",")[0]])}' for names in locals_]
 
@@ -335,27 +622,49 @@ class Writer:
         readable, found = formals, []
         if not formals:
             return found
-        for local in locals_:
+        for at, local in enumerate(locals_):
             if self.random.random() < 0.93:
-                found.append((local, self.right_side(readable, found[-1][0] if found else local, local)))
+                found.append(self.setting(readable, locals_[at - 1] if found else local, local))
             readable += (local,)
         for _ in range(self.random.choice((1, 1, 2, 2, 3, 4))):
             target = self.random.choice(formals + locals_ if self.random.random() < 0.1 else formals)
-            is_after_local = found and found[-1][0] in locals_
-            found.append((target, self.right_side(readable, found[-1][0] if is_after_local else target, target)))
+            is_after_local = found and len(found) == len(locals_)
+            found.append(self.setting(readable, locals_[-1] if is_after_local else target, target))
         return found
+
+    def setting(self, variables, usual, target):
+        """An assignment, mostly with the usual variable; or where that is of another type, mostly an `if` over it with two."""
+        base = self.base_of(usual)
+        if base in ('Integer', 'Boolean', self.base_of(target)) or usual not in variables or self.random.random() < 0.05:
+            return (target, self.right_side(variables, usual, target))
+        condition = f'{usual} {self.random.choice(RELATIONS)} {self.over(base, self.value)}'
+        if self.random.random() < 0.4:
+            condition = self.over(base, self.truth, (usual,), self.random.choice((0, 1)))
+        bodies = [[(target, self.right_side(variables, target, target))] for _ in range(2)]
+        return Branch([(condition, bodies[0])], bodies[1] if self.random.random() < 0.9 else None)
 
     def right_side(self, variables, usual, target):
         """A value of the type of the target, mostly with the usual variable, where it may be read; and rarely another one."""
-        is_truth = self.types.get(target) == 'Boolean'
+        base = self.base_of(target)
+        is_truth = base == 'Boolean'
         if self.random.random() < 0.01:
             is_truth = not is_truth
+        if base not in ('Boolean', 'Integer') and self.random.random() < 0.99:
+            return self.over(base, self.of_declared_type, variables, usual)
         if is_truth:
             value = self.truth(variables, self.random.choice((0, 0, 1, 1, 2)))
-            is_fit = usual in variables and self.types.get(usual) == 'Boolean' and self.random.random() < 0.5
+            is_fit = usual in variables and self.base_of(usual) == 'Boolean' and self.random.random() < 0.5
             return f'({value}) {self.random.choice(LOGICAL)} {usual}' if is_fit else value
         is_usual = usual in self.numbers(variables) and self.random.random() < 0.7
         return self.sum(variables, usual if is_usual else self.number_in(variables))
+
+    def of_declared_type(self, variables, usual):
+        """A value of the base type that is wanted, mostly with the usual variable, where it is of that type."""
+        is_usual = usual in self.numbers(variables) and self.random.random() < 0.5
+        first = usual if is_usual else self.number_in(variables)
+        if self.is_literal(self.base) and self.random.random() < 0.97:
+            return first if self.random.random() < 0.9 else f'({first})'
+        return first if self.random.random() < 0.4 else self.sum(variables, first)
 
     def sum(self, variables, first):
         """A sum of mostly few operands, with a sign at times, and of some two hundred levels at times."""
@@ -374,10 +683,10 @@ class Writer:
         if kind < 0.12:
             return f'({self.sum(variables, operand)})'
         if kind < 0.27 and (operand in variables or kind < 0.16):
-            factors = [self.random.choice(self.numbers(variables) * 2 + FACTORS) for _ in range(self.random.choice((1, 1, 2)))]
+            factors = [self.random.choice(self.numbers(variables) * 2 + self.constants() + FACTORS) for _ in range(self.random.choice((1, 1, 2)))]
             return operand + ''.join(f' {self.random.choice(PRODUCTS)} {factor}' for factor in factors)
         if 0.27 <= kind < 0.31:
-            exponents = ('0', '1', '2') + (('3', '31', '(-1)', self.number_in(variables)) if operand in variables else ())
+            exponents = ('0', '1', '2') + (('3', '31', '(-1)', self.over('Integer', self.number_in, variables)) if operand in variables else ())
             return f'{operand} ** {self.random.choice(exponents)}'
         return f'abs {operand}' if 0.31 <= kind < 0.35 else operand
 
@@ -388,12 +697,35 @@ class Writer:
                                    '-(' * (levels // 2) + operand + ')' * (levels // 2), operand + ' * 1' * levels,
                                    'abs (' * (levels // 2) + operand + ')' * (levels // 2)))
 
+    def constants(self):
+        """The constants of the base type that is wanted, and the named numbers that mostly fit it."""
+        fitting = [name for name, base, value in self.declared.constants if base is None and abs(value) < 2**31 and not self.is_literal(self.base)]
+        return tuple(fitting + [name for name, base, _ in self.declared.constants if base == self.base])
+
     def value(self):
-        """An attribute or a number that lies in Integer, or something else at times."""
+        """An attribute or a number that lies in the base type that is wanted, or a constant of it; or something else at times."""
         kind = self.random.random()
+        if kind < 0.02:
+            return self.random.choice(ODD_VALUES + tuple(name for name, _, _ in self.declared.constants))
+        if self.constants() and self.random.random() < 0.3:
+            return self.random.choice(self.constants())
+        if self.base not in ('Integer', 'Boolean') and not self.is_literal(self.base) and kind < 0.5:
+            return self.random.choice(('0', '1', '1', '2', '3', '(-1)'))
+        types = [found for found in self.declared.of_base(self.base) if found not in PREDEFINED]
+        if types and (self.base != 'Integer' or kind < 0.2):
+            return self.declared_value(self.random.choice(types))
         if kind < 0.03:
             return self.random.choice(ODD_VALUES)
         return self.number(self.random.randrange(2**31)) if kind < 0.2 else self.random.choice(VALUES)
+
+    def declared_value(self, found):
+        """An attribute of a type, a literal, or a number at its bounds or near them."""
+        if self.is_literal(found.base) and self.random.random() < 0.7:
+            return self.random.choice(self.declared.literals[found.base])
+        if self.is_literal(found.base) or self.random.random() < 0.4:
+            return f"{found.name}'{self.random.choice(('First', 'Last'))}"
+        value = self.random.choice((found.low, found.high, found.high, 1, 1, 0, 2, found.high + 1 if self.random.random() < 0.1 else found.low))
+        return f'({value})' if value < 0 else str(value)
 
     def number(self, value):
         """The number of this value: with underscores, in a base, with an exponent, or as its digits; at times spoiled."""

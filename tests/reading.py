@@ -12,6 +12,8 @@ from typing import Optional, Union
 
 INTEGER_FIRST = -2**31
 INTEGER_LAST = 2**31 - 1
+LONG_FIRST = -2**63
+LONG_LAST = 2**63 - 1
 WIDE = 2**127
 MOST_BYTES = 4194304
 MOST_TOKENS = 1000000
@@ -24,11 +26,6 @@ USAGE = ('usage: check [--proofs FILE] FILE... | conditions FILE... | '
 
 # A term is as deep as the right sides that it is made of are together.
 sys.setrecursionlimit(20000)
-
-
-def in_integer(number):
-    """Whether a number lies in the type Integer, which is also its base range."""
-    return INTEGER_FIRST <= number <= INTEGER_LAST
 
 
 def fits(number):
@@ -90,7 +87,9 @@ TEXTS = {
     'N3': 'name of another kind',
     'N5': 'end name differs',
     'N10': 'types do not match',
+    'N11': 'not static',
     'N12': 'static value out of range',
+    'N13': 'bad range',
     'U2': 'target cannot be assigned',
     'U7': 'bad derives annotation',
     'U8': 'mode disagrees with derives',
@@ -288,35 +287,66 @@ class Attribute:
     prefix: Name
     designator: Name
 
+    @property
+    def place(self):
+        """The place of the prefix."""
+        return self.prefix.place
+
+
+@dataclass(frozen=True, eq=False)
+class Kind:
+    """What types have that match one another: their values are 'numbers', 'truths' or 'literals', and its base range.
+
+    Each declaration of a type makes one, and no two are the same. Truth values have no range.
+    """
+    values: str
+    first: Optional[int] = None
+    last: Optional[int] = None
+
+    def has(self, value):
+        """Whether a value lies in the base range."""
+        return self.values == 'truths' or self.first <= value <= self.last
+
+
+# That of numbers, which have at most 128 bits; and those that are declared everywhere.
+UNIVERSAL = Kind('numbers', -WIDE, WIDE - 1)
+INTEGER = Kind('numbers', INTEGER_FIRST, INTEGER_LAST)
+BOOLEAN = Kind('truths')
+
 
 @dataclass(frozen=True)
 class Subtype:
-    """A type by its word: its values lie between its first and its last one. Those of Boolean have no bounds."""
-    word: str
-    kind: str
+    """A type of a kind: its values lie between its first and its last one. Those of truth values have no bounds."""
+    kind: Kind
     first: Optional[int] = None
     last: Optional[int] = None
+
+    def has(self, value):
+        """Whether a value lies in the type."""
+        return self.kind is BOOLEAN or self.first <= value <= self.last
 
 
 @dataclass(frozen=True)
 class Variable:
-    """A variable, by its word in small letters, where it is named, of its kind."""
+    """A variable, by its word in small letters, where it is named, of its kind. As a target it may be a constant."""
     word: str
     place: Place
-    kind: str
+    kind: Kind
     value = None
 
 
 @dataclass(frozen=True)
 class Static:
-    """A number, which is universal, an attribute, or a truth value: its value, where it stands, of its kind."""
+    """A number, an attribute, a literal, or a constant: its value, where it stands, of its kind.
+
+    A value is a number, or a truth value. That of another literal is its position, from 0.
+    """
     value: Union[int, bool]
-    kind: str
+    kind: Kind
     place: Place
 
 
-# The kind of an expression is 'universal', 'Integer' or 'Boolean', and its value is there where it is static. As they are
-# read, the nodes below have neither.
+# An expression has a kind, and a value where it is static. As they are read, the nodes below have neither.
 
 @dataclass(frozen=True)
 class Operation:
@@ -326,7 +356,7 @@ class Operation:
     left: 'Expression'
     right: 'Expression'
     levels: int
-    kind: Optional[str] = None
+    kind: Optional[Kind] = None
     value: Union[int, bool, None] = None
 
 
@@ -337,7 +367,7 @@ class Prefix:
     place: Place
     operand: 'Expression'
     levels: int
-    kind: Optional[str] = None
+    kind: Optional[Kind] = None
     value: Union[int, bool, None] = None
 
 
@@ -351,7 +381,7 @@ class Membership:
     high: Optional['Expression']
     type_mark: Union[Name, Attribute, Subtype, None]
     levels: int
-    kind: Optional[str] = None
+    kind: Optional[Kind] = None
     value: Optional[bool] = None
 
 
@@ -361,7 +391,7 @@ class Parenthesized:
     place: Place
     inner: 'Expression'
     levels: int
-    kind: Optional[str] = None
+    kind: Optional[Kind] = None
     value: Union[int, bool, None] = None
 
 
@@ -408,10 +438,42 @@ class Param:
 
 
 @dataclass(frozen=True)
-class Declaration:
+class VariableDeclaration:
     """`names : type_mark;`"""
     names: list
     type_mark: Union[Name, Attribute]
+
+
+@dataclass(frozen=True)
+class ConstantDeclaration:
+    """`names : constant type_mark := value;`, or without a type mark, which makes named numbers."""
+    names: list
+    type_mark: Union[Name, Attribute, None]
+    value: Expression
+
+
+@dataclass(frozen=True)
+class RangeDeclaration:
+    """`type name is range low .. high;`"""
+    name: Name
+    low: Expression
+    high: Expression
+
+
+@dataclass(frozen=True)
+class EnumerationDeclaration:
+    """`type name is (literals);`"""
+    name: Name
+    literals: list
+
+
+@dataclass(frozen=True)
+class SubtypeDeclaration:
+    """`subtype name is parent;`, or with `range low .. high` after the parent."""
+    name: Name
+    parent: Union[Name, Attribute]
+    low: Optional[Expression]
+    high: Optional[Expression]
 
 
 @dataclass(frozen=True)
@@ -441,8 +503,8 @@ class Derives:
 class Procedure:
     """A procedure, which stands at its word.
 
-    As it is read, it has names, parameters and declarations; then what the names denote, formals, the words of locals,
-    and of each variable its type, and how it is spelled where it is declared.
+    As it is read, it has names, parameters and declarations; then what the names denote, formals, the words of local
+    variables and of constants, and of each variable its type, and how it is spelled where it is declared.
     """
     place: Place
     name: Name
@@ -455,13 +517,14 @@ class Procedure:
     end_name: Optional[Name]
     spelled: Optional[dict] = None
     subtypes: Optional[dict] = None
+    constants: Optional[list] = None
 
     def items(self):
         """The items of `derives`, if it is there."""
         return self.derives.items if self.derives else []
 
     def words(self):
-        """The words of the formals, and then of the locals."""
+        """The words of the variables: of the formals, and then of the locals."""
         return [formal.word for formal in self.formals] + self.locals
 
 
@@ -603,14 +666,50 @@ class Parser:
         return condition
 
     def declarations(self):
-        """{ids ":" name ";"}"""
+        """{declaration}"""
         declarations = []
-        while self.next_is('identifier'):
-            names = self.identifiers()
-            self.take(':')
-            declarations.append(Declaration(names, self.name()))
+        while any(self.next_is(kind) for kind in ('identifier', 'type', 'subtype')):
+            declarations.append(self.declaration())
             self.take(';')
         return declarations
+
+    def declaration(self):
+        """A declaration of a type, a subtype, variables or constants, up to its semicolon"""
+        if self.take_if('type'):
+            return self.type_declaration()
+        if self.take_if('subtype'):
+            return self.subtype_declaration()
+        names = self.identifiers()
+        self.take(':')
+        if not self.take_if('constant'):
+            return VariableDeclaration(names, self.name())
+        type_mark = self.name_if()
+        self.take(':=')
+        return ConstantDeclaration(names, type_mark, self.expression(False, 0))
+
+    def type_declaration(self):
+        """id "is" ("range" sum ".." sum | "(" ids ")")"""
+        name = self.identifier()
+        self.take('is')
+        if self.take_if('range'):
+            return RangeDeclaration(name, *self.range())
+        self.take('(')
+        literals = self.identifiers()
+        self.take(')')
+        return EnumerationDeclaration(name, literals)
+
+    def subtype_declaration(self):
+        """id "is" name ["range" sum ".." sum]"""
+        name = self.identifier()
+        self.take('is')
+        parent = self.name()
+        return SubtypeDeclaration(name, parent, *(self.range() if self.take_if('range') else (None, None)))
+
+    def range(self):
+        """sum ".." sum"""
+        low = self.sum(False, 0)
+        self.take('..')
+        return low, self.sum(False, 0)
 
     def statements(self, above):
         """statement {statement}, under so many levels"""
@@ -735,7 +834,7 @@ class Parser:
             self.take(')', marked)
             return Parenthesized(parenthesis.place, inner, levels_of(inner) + 1)
         number = self.take_if('number', marked)
-        return Static(number_value(number.text), 'universal', number.place) if number else self.name(marked)
+        return Static(number_value(number.text), UNIVERSAL, number.place) if number else self.name(marked)
 
     def name_if(self, marked=False):
         """A name, if one comes next."""
@@ -861,7 +960,7 @@ def applied(expression, values):
         if expression.operator == '**' and values[1] < 0:
             raise Fault('range', expression.right.place)
     value = computed_value(expression, values)
-    if is_number(value) and not in_integer(value):
+    if not expression.kind.has(value):
         raise Fault('overflow', expression.place)
     return value
 
@@ -890,64 +989,77 @@ def stated(expression, store):
 
 # ---------------------------------------------------------------- types and static values
 
-INTEGER = Subtype('integer', 'Integer', INTEGER_FIRST, INTEGER_LAST)
-TYPES = {subtype.word: subtype for subtype in (
-    INTEGER, Subtype('natural', 'Integer', 0, INTEGER_LAST), Subtype('positive', 'Integer', 1, INTEGER_LAST),
-    Subtype('boolean', 'Boolean'))}
-TRUTHS = {'true': True, 'false': False}
+def common_kind(kinds):
+    """The one kind that all of these are, if there is one; a universal number is of any other kind of numbers too."""
+    others = set(kinds)
+    is_universal = UNIVERSAL in others
+    others.discard(UNIVERSAL)
+    kind = others.pop() if others else UNIVERSAL
+    return None if others or (is_universal and kind.values != 'numbers') else kind
 
 
-def meets_integer(expression):
-    """N12: a universal value lies in Integer where it meets it."""
-    require('N12', expression.place, expression.kind != 'universal' or in_integer(expression.value))
+def meets(expression, kind):
+    """N12: a universal value lies in the base range of the kind that it meets."""
+    require('N12', expression.place, expression.kind is not UNIVERSAL or kind.has(expression.value))
 
 
-def meet_each_other(operands):
-    """N12: where one of the operands is an Integer, each universal one lies in it."""
-    if any(operand.kind == 'Integer' for operand in operands):
-        for operand in operands:
-            meets_integer(operand)
+def must_match(expression, kind):
+    """N10: the expression is of this kind, or universal where that is one of numbers. N12: it lies in its base range then."""
+    require('N10', expression.place, common_kind((expression.kind, kind)) is kind)
+    meets(expression, kind)
+
+
+def met_kind(tree, values, others=()):
+    """N10: all operands, and these others, are of one kind, which has such values. N12: a universal one lies in it."""
+    operands = parts_of(tree)
+    kind = common_kind(part.kind for part in operands + others)
+    require('N10', tree.place, kind is not None and kind.values in values)
+    for operand in operands:
+        meets(operand, kind)
+    return kind
+
+
+def taken_by(operator):
+    """The values that an operator takes, of which both operands are."""
+    if operator.split()[0] in LOGICAL:
+        return ('truths',)
+    if operator in ('=', '/='):
+        return ('truths', 'numbers', 'literals')
+    return ('numbers', 'literals') if operator in RELATIONS else ('numbers',)
 
 
 def kind_of_operation(tree):
-    """N10: the operands fit the operator. N12: a universal operand beside an Integer lies in it. The kind of the result."""
-    operands, kinds = parts_of(tree), {part.kind for part in parts_of(tree)}
-    if tree.operator.split()[0] in LOGICAL:
-        require('N10', tree.place, kinds == {'Boolean'})
-        return 'Boolean'
-    is_equality = tree.operator in ('=', '/=')
-    require('N10', tree.place, 'Boolean' not in kinds or (is_equality and kinds == {'Boolean'}))
+    """What the operands are, but for relations, which are Boolean."""
     if tree.operator == '**':
         return kind_of_power(tree)
-    meet_each_other(operands)
-    if tree.operator in RELATIONS:
-        return 'Boolean'
-    return 'universal' if kinds == {'universal'} else 'Integer'
+    kind = met_kind(tree, taken_by(tree.operator))
+    return BOOLEAN if tree.operator in RELATIONS else kind
 
 
 def kind_of_power(tree):
-    """N12: a universal operand is an Integer where the exponent is not static, and a universal exponent always is one."""
-    is_static = tree.right.value is not None
-    if not is_static:
-        meets_integer(tree.left)
-    meets_integer(tree.right)
-    return tree.left.kind if is_static else 'Integer'
+    """N10: the base is a number, and the exponent an Integer.
+
+    N12: a universal base is an Integer where the exponent is not static, and a universal exponent always is one.
+    """
+    base, exponent = tree.left, tree.right
+    require('N10', tree.place, base.kind.values == 'numbers' and exponent.kind in (UNIVERSAL, INTEGER))
+    is_universal = base.kind is UNIVERSAL and exponent.value is not None
+    if not is_universal:
+        meets(base, INTEGER)
+    meets(exponent, INTEGER)
+    return INTEGER if base.kind is UNIVERSAL and not is_universal else base.kind
 
 
 def kind_of_prefix(tree):
     """N10: the operand fits the operator. The kind of the result is that of the operand."""
-    require('N10', tree.place, (tree.operand.kind == 'Boolean') == (tree.operator == 'not'))
+    require('N10', tree.place, tree.operand.kind.values == ('truths' if tree.operator == 'not' else 'numbers'))
     return tree.operand.kind
 
 
 def kind_of_membership(tree):
-    """N10: all operands are numbers. N12: a universal one that meets Integer lies in it."""
-    operands = parts_of(tree)
-    require('N10', tree.place, all(operand.kind != 'Boolean' for operand in operands))
-    if tree.type_mark:
-        meets_integer(tree.tested)
-    meet_each_other(operands)
-    return 'Boolean'
+    """Boolean: what is tested has no truth values, and is of the kind of the bounds, or of the type."""
+    met_kind(tree, ('numbers', 'literals'), (tree.type_mark,) if tree.type_mark else ())
+    return BOOLEAN
 
 
 KINDS = {Operation: kind_of_operation, Prefix: kind_of_prefix, Membership: kind_of_membership,
@@ -957,8 +1069,7 @@ KINDS = {Operation: kind_of_operation, Prefix: kind_of_prefix, Membership: kind_
 def judged(tree):
     """The expression with its kind, and with its value where it is static; all that is known of its parts.
 
-    N12: an operation on static operands fails no check; its value has at most 128 bits where it is universal, and else lies
-    in Integer.
+    N12: an operation on static operands fails no check, and its value lies in the base range of its kind.
     """
     kind = KINDS[type(tree)](tree)
     values = [part.value for part in parts_of(tree)]
@@ -968,96 +1079,185 @@ def judged(tree):
         require('N12', tree.place, tree.operator not in DIVISIONS or values[1] != 0)
         require('N12', tree.place, tree.operator != '**' or values[1] >= 0)
     value = computed_value(tree, values)
-    lies = fits if kind == 'universal' else in_integer
-    require('N12', tree.place, kind == 'Boolean' or lies(value))
+    require('N12', tree.place, kind.has(value))
     return replace(tree, kind=kind, value=value)
 
 
 # ---------------------------------------------------------------- the walk of names and types
 
+@dataclass(frozen=True)
+class Entity:
+    """What a word denotes: a 'type', a 'variable', a 'constant', a 'literal' or a 'subprogram'.
+
+    All but the last have a type, and constants and literals a value. The type of a named number is that of all numbers.
+    """
+    sort: str
+    subtype: Optional[Subtype] = None
+    value: Union[int, bool, None] = None
+
+
+NUMBERS = Subtype(UNIVERSAL, UNIVERSAL.first, UNIVERSAL.last)
+TRUTHS = Subtype(BOOLEAN)
+# What is declared everywhere.
+EVERYWHERE = {
+    'integer': Entity('type', Subtype(INTEGER, INTEGER_FIRST, INTEGER_LAST)),
+    'natural': Entity('type', Subtype(INTEGER, 0, INTEGER_LAST)),
+    'positive': Entity('type', Subtype(INTEGER, 1, INTEGER_LAST)),
+    'boolean': Entity('type', TRUTHS),
+    'false': Entity('literal', TRUTHS, False),
+    'true': Entity('literal', TRUTHS, True),
+}
+
+
 class Resolver:
-    """Puts in the place of each name of a procedure what it denotes, in the order of the walk, up to a first breach."""
+    """Puts in the place of each name of a procedure what it denotes, in the order of the walk, up to a first breach.
+
+    The scope has what each word of the procedure denotes, and nothing for one whose declaration is not over yet. That hides
+    what is declared outside.
+    """
 
     def __init__(self, tree):
         self.tree = tree
         self.formals = []
-        self.locals = []
+        self.scope = {}
         self.spelled = {}
-        self.subtypes = {}
-        self.hidden = set()
-        self.around = None
+        self.outer = EVERYWHERE
 
     def run(self):
         """The procedure with what its names denote. Annotations see the formals and not the locals."""
         for param in self.tree.formals:
             self.param(param)
+        self.outer = EVERYWHERE | {self.tree.name.word(): Entity('subprogram')}
         derives = self.tree.derives and self.derives(self.tree.derives)
         pre = self.tree.pre and self.condition(self.tree.pre)
         for declaration in self.tree.locals:
             self.declaration(declaration)
         statements = self.statements(self.tree.statements)
         self.end_name()
-        return replace(self.tree, formals=self.formals, derives=derives, pre=pre, locals=self.locals,
-                       statements=statements, spelled=self.spelled, subtypes=self.subtypes)
+        formals = [formal.word for formal in self.formals]
+        return replace(self.tree, formals=self.formals, derives=derives, pre=pre, statements=statements,
+                       locals=[word for word in self.words('variable') if word not in formals],
+                       constants=self.words('constant'), spelled=self.spelled,
+                       subtypes={word: self.scope[word].subtype for word in self.words('variable')})
+
+    def words(self, sort):
+        """The words of the procedure that are declared as such ones."""
+        return [word for word, entity in self.scope.items() if entity.sort == sort]
 
     def param(self, param):
-        """A type mark sees the formals before it. Its own ones, and the procedure, are hidden there."""
-        for name in param.names:
-            self.declare(name)
-        self.type_mark(param, self.tree.name.word())
-        self.formals += [Formal(name.word(), param.mode, self.subtypes[name.word()]) for name in param.names]
+        """A type mark sees the formals before it. Its own ones are hidden there, and so is the procedure in all of them."""
+        self.begin(param.names)
+        subtype = self.subtype(param.type_mark)
+        self.end(param.names, Entity('variable', subtype))
+        self.formals += [Formal(name.word(), param.mode, subtype) for name in param.names]
 
     def declaration(self, declaration):
-        """A type mark sees the procedure, the formals and the locals before it. Its own ones are hidden there."""
-        for name in declaration.names:
-            self.declare(name)
-            self.locals.append(name.word())
-        self.type_mark(declaration)
+        """Each kind of declaration sees the procedure, the formals, and what is declared before it."""
+        of_kinds = {VariableDeclaration: self.variables, ConstantDeclaration: self.constants, RangeDeclaration: self.range_type,
+                    EnumerationDeclaration: self.enumeration, SubtypeDeclaration: self.subtype_of}
+        of_kinds[type(declaration)](declaration)
 
-    def type_mark(self, declaration, around=None):
-        """The type mark of a declaration, whose names are hidden in it; and so is the procedure, `around` it."""
-        self.hidden, self.around = {name.word() for name in declaration.names}, around
-        subtype = self.subtype(declaration.type_mark)
-        self.hidden, self.around = set(), None
-        for name in declaration.names:
-            self.subtypes[name.word()] = subtype
+    def variables(self, declaration):
+        """Variables of a type."""
+        self.begin(declaration.names)
+        self.end(declaration.names, Entity('variable', self.subtype(declaration.type_mark)))
 
-    def declare(self, name):
-        """N2: no two formals and locals are the same word, and none is named as what is declared everywhere."""
-        require('N2', name.place, not is_everywhere(name) and name.word() not in self.spelled)
-        self.spelled[name.word()] = name.text
+    def constants(self, declaration):
+        """Constants of a type, or named numbers. N10, N11: the value is of the type and static. N12: it lies in the type.
+
+        The value of a named number is a number of any type.
+        """
+        self.begin(declaration.names)
+        subtype = self.subtype(declaration.type_mark) if declaration.type_mark else NUMBERS
+        value = self.static(declaration.value, subtype.kind if declaration.type_mark else None)
+        require('N12', value.place, subtype.has(value.value))
+        self.end(declaration.names, Entity('constant', subtype, value.value))
+
+    def range_type(self, declaration):
+        """A type of its own kind, whose base range is that of Integer where its bounds lie in that, and else a longer one.
+
+        N13: the bounds are in order, and lie in the longer one.
+        """
+        self.begin([declaration.name])
+        low, high = self.static(declaration.low), self.static(declaration.high)
+        require('N13', low.place, LONG_FIRST <= low.value <= high.value <= LONG_LAST)
+        is_short = INTEGER.has(low.value) and INTEGER.has(high.value)
+        kind = Kind('numbers', INTEGER_FIRST, INTEGER_LAST) if is_short else Kind('numbers', LONG_FIRST, LONG_LAST)
+        self.end([declaration.name], Entity('type', Subtype(kind, low.value, high.value)))
+
+    def enumeration(self, declaration):
+        """A type of its own kind, and its literals, by their positions."""
+        self.begin([declaration.name] + declaration.literals)
+        last = len(declaration.literals) - 1
+        subtype = Subtype(Kind('literals', 0, last), 0, last)
+        self.end([declaration.name], Entity('type', subtype))
+        for position, literal in enumerate(declaration.literals):
+            self.end([literal], Entity('literal', subtype, position))
+
+    def subtype_of(self, declaration):
+        """A type of the same kind, with the same bounds where it has none itself. N10: Boolean types have none.
+
+        N13: the bounds are in order, and lie in the type.
+        """
+        self.begin([declaration.name])
+        subtype = self.subtype(declaration.parent)
+        if declaration.low:
+            require('N10', declaration.parent.place, subtype.kind is not BOOLEAN)
+            low, high = self.bound(declaration.low, subtype), self.bound(declaration.high, subtype)
+            require('N13', low.place, subtype.first <= low.value <= high.value <= subtype.last)
+            subtype = Subtype(subtype.kind, low.value, high.value)
+        self.end([declaration.name], Entity('type', subtype))
+
+    def bound(self, tree, subtype):
+        """A bound of a range of a type. N12: it lies in its base range."""
+        found = self.static(tree, subtype.kind)
+        meets(found, subtype.kind)
+        return found
+
+    def static(self, tree, kind=None):
+        """An expression of a kind, or a number of any one. N10: it is such a one. N11: it is static."""
+        found = self.expression(tree)
+        is_fit = common_kind((found.kind, kind)) is kind if kind else found.kind.values == 'numbers'
+        require('N10', found.place, is_fit)
+        require('N11', found.place, found.value is not None)
+        return found
+
+    def begin(self, names):
+        """From its own name on, a declaration hides what is declared outside, and is hidden itself.
+
+        N2: no two names of a procedure are the same word, and none is that of what is declared everywhere.
+        """
+        for name in names:
+            require('N2', name.place, name.word() not in EVERYWHERE and name.word() not in self.scope)
+            self.scope[name.word()] = None
+            self.spelled[name.word()] = name.text
+
+    def end(self, names, entity):
+        """From the end of its declaration on, each name denotes this."""
+        for name in names:
+            self.scope[name.word()] = entity
 
     def denoted(self, name):
-        """The innermost region that declares a word has it: variables, the procedure, what is declared everywhere."""
-        if name.word() in self.hidden:
-            return None
-        if name.word() in self.spelled:
-            return 'variable'
-        if name.word() == self.tree.name.word():
-            return None if name.word() == self.around else 'subprogram'
-        if name.word() in TYPES:
-            return 'type'
-        return 'truth' if name.word() in TRUTHS else None
+        """The innermost region that declares a word has it: the procedure, its name, what is declared everywhere."""
+        word = name.word()
+        return self.scope[word] if word in self.scope else self.outer.get(word)
 
-    def must_denote(self, name, entity, is_fit=True):
-        """N1: the name denotes something. N3: it is what its place asks for."""
-        require('N1', name.place, self.denoted(name) is not None)
-        require('N3', name.place, self.denoted(name) == entity and is_fit)
-
-    def need(self, name, entity):
-        """A name that stands for a variable or a type, which no attribute is."""
+    def must_denote(self, name, *sorts):
+        """N1: the name denotes something. N3: it is of a sort that its place asks for, which no attribute is."""
         is_attribute = isinstance(name, Attribute)
-        self.must_denote(name.prefix if is_attribute else name, entity, not is_attribute)
+        entity = self.denoted(name.prefix if is_attribute else name)
+        require('N1', name.place, entity is not None)
+        require('N3', name.place, entity.sort in sorts and not is_attribute)
+        return entity
 
-    def variable(self, name):
-        """N3: operands, targets and `derives` name variables."""
-        self.need(name, 'variable')
-        return Variable(name.word(), name.place, self.subtypes[name.word()].kind)
+    def variable(self, name, *others):
+        """N3: operands, targets and `derives` name variables. A name at some places may be of other sorts too."""
+        entity = self.must_denote(name, 'variable', *others)
+        return Variable(name.word(), name.place, entity.subtype.kind)
 
     def subtype(self, name):
         """N3: what a type is needed of names one."""
-        self.need(name, 'type')
-        return TYPES[name.word()]
+        return self.must_denote(name, 'type').subtype
 
     def derives(self, tree):
         """The annotation over what its names denote."""
@@ -1072,7 +1272,7 @@ class Resolver:
     def condition(self, tree):
         """N10: a precondition, and the condition of an `if`, is Boolean."""
         found = self.expression(tree)
-        require('N10', found.place, found.kind == 'Boolean')
+        require('N10', found.place, found.kind is BOOLEAN)
         return found
 
     def statements(self, trees):
@@ -1085,14 +1285,13 @@ class Resolver:
         return Arm(tree.place, condition, self.statements(tree.statements))
 
     def statement(self, tree):
-        """N10: a right side is Boolean where its target is, and else is not. N12: it lies in Integer where it is universal."""
+        """A right side matches its target, which may be a constant up to here."""
         if isinstance(tree, Null):
             return tree
         if isinstance(tree, If):
             return If([self.arm(arm) for arm in tree.arms], self.statements(tree.otherwise))
-        target, value = self.variable(tree.target), self.expression(tree.value)
-        require('N10', value.place, (value.kind == 'Boolean') == (target.kind == 'Boolean'))
-        meets_integer(value)
+        target, value = self.variable(tree.target, 'constant'), self.expression(tree.value)
+        must_match(value, target.kind)
         return Assignment(target, value)
 
     def expression(self, tree):
@@ -1110,9 +1309,10 @@ class Resolver:
         return self.name(tree) if isinstance(tree, Name) else tree
 
     def name(self, tree):
-        """A truth value, or a variable."""
-        if self.denoted(tree) == 'truth':
-            return Static(TRUTHS[tree.word()], 'Boolean', tree.place)
+        """A literal or a constant, which is its value, or a variable."""
+        entity = self.denoted(tree)
+        if entity and entity.sort in ('literal', 'constant'):
+            return Static(entity.value, entity.subtype.kind, tree.place)
         return self.variable(tree)
 
     def membership(self, tree):
@@ -1121,16 +1321,15 @@ class Resolver:
         if not tree.type_mark:
             return replace(tree, tested=tested, low=self.expression(tree.low), high=self.expression(tree.high))
         subtype = self.subtype(tree.type_mark)
-        require('N10', tree.type_mark.place, subtype.kind != 'Boolean')
+        require('N10', tree.type_mark.place, subtype.kind is not BOOLEAN)
         return replace(tree, tested=tested, type_mark=subtype)
 
     def attribute(self, tree):
-        """N3: a type of numbers is named before `'`, and `First` or `Last` comes after it."""
-        prefix, designator = tree.prefix, tree.designator.word()
-        subtype = TYPES.get(prefix.word())
-        has_bounds = subtype is not None and subtype.kind == 'Integer'
-        self.must_denote(prefix, 'type', has_bounds and designator in ('first', 'last'))
-        return Static(subtype.first if designator == 'first' else subtype.last, 'Integer', prefix.place)
+        """N3: a type that has bounds is named before `'`, and `First` or `Last` comes after it."""
+        subtype = self.must_denote(tree.prefix, 'type').subtype
+        designator = tree.designator.word()
+        require('N3', tree.place, subtype.kind is not BOOLEAN and designator in ('first', 'last'))
+        return Static(subtype.first if designator == 'first' else subtype.last, subtype.kind, tree.place)
 
     def end_name(self):
         """N5: the name after `end`, if there is one, is the procedure's."""
@@ -1139,16 +1338,11 @@ class Resolver:
             require('N5', name.place, name.word() == self.tree.name.word())
 
 
-def is_everywhere(name):
-    """Whether a name is declared everywhere."""
-    return name.word() in TYPES or name.word() in TRUTHS
-
-
 def resolved(trees):
     """The procedures with what their names denote. N2: no two have the same name, nor that of what is declared everywhere."""
     words = [tree.name.word() for tree in trees]
     for at, tree in enumerate(trees):
-        require('N2', tree.name.place, not is_everywhere(tree.name) and words[at] not in words[:at])
+        require('N2', tree.name.place, words[at] not in EVERYWHERE and words[at] not in words[:at])
     return [Resolver(tree).run() for tree in trees]
 
 
@@ -1237,8 +1431,8 @@ def u11(procedure, relation):
 
 
 def u2(procedure):
-    """U2: no target is a formal of mode `in`."""
-    read_only = {formal.word for formal in procedure.formals if formal.mode == 'in'}
+    """U2: no target is a formal of mode `in`, nor a constant."""
+    read_only = {formal.word for formal in procedure.formals if formal.mode == 'in'} | set(procedure.constants)
     for statement in assignments(procedure.statements):
         require('U2', statement.target.place, statement.target.word not in read_only)
 
@@ -1386,7 +1580,7 @@ class TruthTerm:
 class EntryTerm:
     """The value of a variable on entry, also of one that has none: a truth value, or a number."""
     word: str
-    kind: str
+    is_truth: bool
 
 
 @dataclass(frozen=True, eq=False)
@@ -1496,8 +1690,8 @@ def between(term, low, high):
 
 
 def bounds_of(subtype, term):
-    """The term lies in a type, which says nothing of a truth value."""
-    return between(term, number(subtype.first), number(subtype.last)) if subtype.kind == 'Integer' else ()
+    """The term lies in a type, or in a base range, which says nothing of a truth value."""
+    return () if subtype.first is None else between(term, number(subtype.first), number(subtype.last))
 
 
 def with_facts(facts, more):
@@ -1507,7 +1701,7 @@ def with_facts(facts, more):
 
 def entry_values(procedure):
     """At the start each variable stands for its value on entry."""
-    return {word: entry(word, procedure.subtypes[word].kind) for word in procedure.words()}
+    return {word: entry(word, procedure.subtypes[word].kind is BOOLEAN) for word in procedure.words()}
 
 
 def first_facts(procedure):
@@ -1549,7 +1743,7 @@ def own_checks(expression, values):
         found.append(Check('range', expression.right.place, (infix('>=', exponent, number(0)),)))
     is_sign = isinstance(expression, Prefix) and operator in ('-', 'abs')
     if is_sign or (isinstance(expression, Operation) and operator in ('+', '-', '*', '/', '**')):
-        found.append(Check('overflow', expression.place, bounds_of(INTEGER, term_of(expression, values))))
+        found.append(Check('overflow', expression.place, bounds_of(expression.kind, term_of(expression, values))))
     return found
 
 
@@ -1669,7 +1863,7 @@ def is_of_numbers(comparison):
     """Whether a comparison is one of numbers."""
     left = comparison.left
     if isinstance(left, EntryTerm):
-        return left.kind == 'Integer'
+        return not left.is_truth
     if isinstance(left, PrefixTerm):
         return left.operator != 'not'
     is_logical = isinstance(left, InfixTerm) and (left.operator in RELATIONS or left.operator in OF_TRUTHS)

@@ -100,7 +100,9 @@ TEXTS = {
     'N3': 'name of another kind',
     'N5': 'end name differs',
     'N10': 'types do not match',
+    'N11': 'not static',
     'N12': 'static value out of range',
+    'N13': 'bad range',
     'U2': 'target cannot be assigned',
     'U7': 'bad derives annotation',
     'U8': 'mode disagrees with derives',
@@ -468,7 +470,53 @@ IF_TOKENS = (
     *plain('\n end Lim ;'),
 )
 
-TOKEN_LISTS = (TOKENS, LOCAL_TOKENS, ATTRIBUTE_TOKENS, SKIP_TOKENS, IF_TOKENS)
+# A text with declarations of types, subtypes and constants.
+DECLARED_TOKENS = (
+    *plain('procedure Dcl ( X : out Integer ) \n--# derives X from ; \n is \n'),
+    ('word_type', 'type', 'new'),
+    ('declared_type', 'Small', '1'),
+    ('is_of_a_type', 'is', ':'),
+    ('range_of_a_type', 'range', 'delta'),
+    ('low_bound', '0', 'others'),
+    ('dots', '..', ':'),
+    ('high_bound', '9', 'null'),
+    ('semicolon_of_a_type', ';', ','),
+    *plain('\n type Hue is'),
+    ('parenthesis_of_literals', '(', '<'),
+    ('literal', 'Red', '1'),
+    ('comma_of_literals', ',', ';'),
+    ('second_literal', 'Green', 'all'),
+    ('parenthesis_after_literals', ')', '..'),
+    ('semicolon_of_literals', ';', ':'),
+    *plain('\n'),
+    ('word_subtype', 'subtype', 'body'),
+    ('declared_subtype', 'Low', '2'),
+    ('is_of_a_subtype', 'is', 'of'),
+    ('parent', 'Small', '('),
+    ('range_of_a_subtype', 'range', 'in'),
+    ('low_bound_of_a_subtype', '0', 'and'),
+    ('dots_of_a_subtype', '..', ','),
+    ('high_bound_of_a_subtype', '5', ')'),
+    ('semicolon_of_a_subtype', ';', '.'),
+    *plain('\n'),
+    ('constant', 'Top', '9'),
+    ('colon_of_a_constant', ':', ';'),
+    ('word_constant', 'constant', 'in'),
+    ('type_of_a_constant', 'Small', '+'),
+    ('becomes_of_a_constant', ':=', '='),
+    ('value_of_a_constant', '9', 'is'),
+    ('semicolon_of_a_constant', ';', ','),
+    *plain('\n'),
+    ('named_number', 'Two', '1'),
+    ('comma_of_named_numbers', ',', ';'),
+    ('second_named_number', 'Three', 'or'),
+    *plain(':'),
+    ('word_constant_of_numbers', 'constant', 'array'),
+    ('becomes_of_named_numbers', ':=', ':'),
+    *plain('2 ; \n begin \n X := Two ; \n end Dcl ;'),
+)
+
+TOKEN_LISTS = (TOKENS, LOCAL_TOKENS, ATTRIBUTE_TOKENS, SKIP_TOKENS, IF_TOKENS, DECLARED_TOKENS)
 
 # What a text is without a token: which token after it is unexpected, if not the next one; or a finding, and the token
 # at which it stands; or that it is accepted.
@@ -479,6 +527,9 @@ MISSING = {'in': ('U8', 'import'), 'out': ('U8', 'export'), 'import': ('U8', 'ex
            'parenthesis_of_a_sum': 4, 'parenthesis_that_closes_a_sum': 3,
            # the condition begins as a target does; two statements in a row; another `if`
            'if': 2, 'elsif': 2, 'else': lambda name, text: accepted(name, text, 3, named='Lim'), 'end_of_an_if': 2,
+           # a name and `is`; a name and `:=`; a named number
+           'word_type': 2, 'word_subtype': 2, 'word_constant': 2,
+           'type_of_a_constant': lambda name, text: accepted(name, text, 1, named='Dcl'),
            # see `missing_signs`
            'sign': None, 'sign_in_pre': None, 'first_held_operand': None}
 # What a text is with a token doubled: which token after the second one is unexpected, if not that one.
@@ -1053,6 +1104,7 @@ def tokens():
     yield refused('form_with_attributes.adb', spelled(ATTRIBUTE_TOKENS).replace('in Integer', 'in @Integer'), 'N3')
     yield accepted('form_without_formals.adb', spelled(SKIP_TOKENS), 0, named='Skip')
     yield accepted('form_with_if.adb', spelled(IF_TOKENS), 3, named='Lim')
+    yield accepted('form_with_declarations.adb', spelled(DECLARED_TOKENS), 1, named='Dcl')
     for listed in TOKEN_LISTS:
         for at, (label, token, other) in enumerate(listed):
             if label:
@@ -1840,12 +1892,12 @@ def declared_locals():
                   with_local(first='@T := X') + longer(X, 'X from X', 'T := X', 'X := T', declared=T, name='Same'),
                   'N1')
     for name, declared in {'of_mode_in': 'T : @in Integer', 'of_mode_out': 'T : @out Integer',
-                           'with_a_value': 'T : Integer @:= 0', 'that_is_constant': 'T : @constant Integer',
+                           'with_a_value': 'T : Integer @:= 0', 'that_is_constant': 'T : constant Integer@',
                            'without_type': 'T@', 'with_two_types': 'T : Integer @Integer',
                            'and_a_comma': 'T : Integer@, U : Integer', 'behind_a_comma': '@, T : Integer',
                            'before_a_comma': 'T, @: Integer', 'of_no_name': '@: Integer', 'that_is_missing': '@',
                            'of_a_number': 'T : @1', 'in_parentheses': '@(T : Integer)',
-                           'that_is_a_type': '@type T is new Integer', 'that_is_null': '@null',
+                           'that_is_a_type': 'type T is @new Integer', 'that_is_null': '@null',
                            'that_is_marked': '--# @T : Integer', 'with_a_marked_colon': 'T --# @:\nInteger',
                            'that_begins_marked_text': 'T : Integer --# @'}.items():
         yield unexpected(f'local_{name}.adb', with_local(declared))
@@ -3979,6 +4031,548 @@ def nodes_of_operators():
         yield too_large(f'{name}_of_1000001_nodes.adb', doublings_and_increments_in(f'if {condition} then', larger).replace('@', ''))
 
 
+# ---------------------------------------------------------------- types, subtypes and constants
+
+SMALL = 'type Small is range 0 .. 10'
+LONG = 'type Long is range -2 ** 63 .. 2 ** 63 - 1'
+HUE = 'type Hue is (Red, Yellow, Green, Blue)'
+WARM = f'{HUE}; subtype Warm is Hue range Red .. Yellow'
+FORMALS = 'A : in Integer; B : in Boolean; X : in out Integer'
+FROM_ALL = 'X from X, A, B'
+
+
+def declaring(declared, *statements, params=FORMALS, derives=FROM_ALL, pre=None):
+    """The text of a procedure with these declarations, which stand in one line. X comes from A and B, or by these statements."""
+    return longer(params, derives, *(statements or ['if B then X := A; end if']), pre=pre, declared=[declared])
+
+
+def declared_well(name, declared):
+    """The declarations break no rule. There is one condition, on the statement."""
+    return accepted(name, declaring(declared), 1)
+
+
+def deciding(declared, *statements, by, params=OUT_X, derives='X from'):
+    """The text of a procedure in which, after these statements, X is 1 where something is true, and else 0: two conditions more."""
+    return longer(params, derives, *statements, f'if {by} then X := 1; else X := 0; end if', declared=[declared])
+
+
+def falsified(declared, condition):
+    """The text of a procedure in which X + 1 is closed where this is false. It has two conditions."""
+    return longer(X, 'X from X', f'if {condition} then X := X + 1; end if', declared=[declared])
+
+
+def ranges_of_types():
+    """`type T is range L .. U`: T comes first, then L, then U, and last both together."""
+    for name, bounds in {
+            'all_of_integer_by_numbers': '-2147483648 .. 2147483647', 'past_integer': '0 .. 2147483648',
+            'below_integer': '-2147483649 .. 0', 'all_of_64_bits': '-2 ** 63 .. 2 ** 63 - 1',
+            'two_types': "Natural'First .. 2 ** 40"}.items():
+        yield declared_well(f'type_by_{name}.adb', f'type T is range {bounds}')
+    yield declared_well('type_by_bounds_of_two_others.adb', f"{SMALL}; {LONG}; type T is range Small'First .. Long'Last")
+    for name, (rule, bounds) in {
+            'bounds_in_the_other_order': ('N13', '@1 .. 0'), 'a_sum_past_the_last': ('N13', '1 @+ 1 .. 1'),
+            'one_past_64_bits': ('N13', '@0 .. 2 ** 63'), 'one_below_64_bits': ('N13', '@-9223372036854775809 .. 0'),
+            'the_widest': ('N13', f'@0 .. {WIDEST}'), 'a_truth_value': ('N10', '@True .. 5'), 'a_comparison': ('N10', '@(1 = 1) .. 5'),
+            'a_last_boolean_variable': ('N10', '0 .. @B'), 'a_variable': ('N11', '@A .. 5'), 'a_last_variable': ('N11', '0 .. @A'),
+            'a_sum_of_a_variable': ('N11', 'A @+ 1 .. 5'), 'a_product_of_zero': ('N11', '0 .. A @* 0'),
+            'abs_of_a_variable': ('N11', '@abs A .. 5'), 'a_static_sum_past_its_type': ('N12', f'0 .. {LAST} @+ 1'),
+            'a_number_past_128_bits': ('N12', '0 .. 2 @** 127'), 'a_wide_number_beside_a_variable': ('N12', 'A + @2147483648 .. 5'),
+            'a_type': ('N3', '@Integer .. 5'), 'an_attribute_that_is_none': ('N3', "0 .. @Integer'Size"),
+            # the first bound comes first, and both together last
+            'a_variable_and_no_name': ('N11', '@A .. Y'), 'a_great_number_and_a_variable': ('N11', '2 ** 64 .. @A'),
+            'a_comparison_of_variables': ('N10', '@(A = A) .. 5')}.items():
+        yield refused(f'type_by_{name}.adb', declaring(f'type T is range {bounds}'), rule)
+    for name, (rule, declared) in {
+            'a_literal': ('N10', f'{HUE}; type T is range @Red .. 5'),
+            'a_local_of_another_type': ('N11', f'{SMALL}; V : Small; type T is range @V .. 5')}.items():
+        yield refused(f'type_by_{name}.adb', declaring(declared), rule)
+
+
+def names_of_declarations():
+    """N2 at each name that is there already, and what is hidden in a declaration or by it."""
+    forms = {
+        'type': 'type @{} is range Y .. 5', 'enumeration': 'type @{} is (Up, Up)', 'literal': 'type T is (Up, @{})',
+        'subtype': 'subtype @{} is Y',
+        'constant': '@{} : constant Y := 1', 'second_constant': 'C, @{} : constant Y := 1', 'named_number': '@{} : constant := Y',
+        'second_named_number': 'C, @{} : constant := Y'}
+    others = {'v': 'V : Integer', 'Small': SMALL, 'yellow': HUE, 'top': 'Top : constant := 1'}
+    for (name, declared), (word, other) in zip(forms.items(), 2 * tuple(others.items())):
+        everywhere = name in ('type', 'literal', 'second_constant', 'named_number')
+        yield refused(f'{name}_named_before.adb', declaring(declared.format('Natural' if everywhere else 'a')), 'N2')
+        yield refused(f'{name}_named_{word}_after_it.adb', declaring(f'{other}; {declared.format(word)}'), 'N2')
+    for name, declared in {
+            'variable_named_as_a_literal': f'{HUE}; V, @Blue : Integer',
+            'variable_named_as_a_constant': 'C : constant := 1; @C : Integer', 'literal_named_as_its_type': 'type T is (Red, @T)',
+            'literal_twice': 'type T is (Red, Green, @RED)'}.items():
+        yield refused(f'{name}.adb', declaring(declared), 'N2')
+    for name, declared in {
+            'subtype_of_itself': 'subtype S is @S', 'constant_of_itself': 'C : constant Integer := @C',
+            'subtype_of_the_hidden_procedure': 'subtype Inc is @Inc', 'constant_of_its_own_type': 'C : constant @C := 1',
+            'constant_of_the_next_one': 'C, D : constant Integer := @D', 'named_number_of_the_hidden_procedure': 'Inc : constant := @Inc',
+            'type_of_a_later_declaration': f'V : @Small; {SMALL}'}.items():
+        yield refused(f'{name}.adb', declaring(declared), 'N1')
+    # what a declaration of the procedure's name hides
+    for name, declared, statement, total in (
+            ('type', 'type Inc is range 0 .. 5; V : Inc', 'V := 3', 3),
+            ('subtype', 'subtype Inc is Integer range 0 .. 5; V : Inc', "V := Inc'Last", 3),
+            ('literal', 'type T is (Skip, Inc); V : T', 'V := Inc', 3),
+            ('constant', 'Inc : constant Integer := 3; V : Integer', 'V := Inc', 3),
+            ('named_number', 'Inc : constant := 3; V : Integer', 'V := Inc + inc', 3),
+            ('enumeration', 'type Inc is (Red, Green); V : Inc', "V := Inc'First", 3)):
+        decided = {'literal': 'Inc', 'enumeration': 'Green'}.get(name, '1')
+        yield accepted(f'procedure_hidden_by_a_{name}.adb', deciding(declared, statement, by=f'V = {decided}'), total)
+    for name, (rule, declared, statement) in {
+            'type': ('N3', 'type Inc is range 0 .. 5', 'X := @Inc'), 'literal': ('N10', 'type T is (Inc)', 'X := @Inc'),
+            'constant': ('U2', 'Inc : constant Integer := 3', '@Inc := X')}.items():
+        yield refused(f'procedure_hidden_by_a_{name}_and_a_slip.adb', longer(X, 'X from X', statement, declared=[declared]), rule)
+    # annotations do not see what is declared in the body, and neither does another procedure
+    for name, (rule, declared, pre) in {
+            'type': ('N1', SMALL, "X < @Small'Last"), 'constant': ('N1', 'C : constant Integer := 5', 'X < @C'),
+            'literal': ('N1', HUE, '@Red = Red'), 'constant_that_hides_the_procedure': ('N3', 'Inc : constant Integer := 5', 'X < @Inc'),
+            'type_of_a_test': ('N1', SMALL, 'X in @Small')}.items():
+        yield refused(f'declared_{name}_in_pre.adb', longer(X, 'X from X', 'X := 1', pre=pre, declared=[declared]), rule)
+    yield refused('constant_in_derives.adb', longer(X, 'X from X, @C', 'X := 1', declared=['C : constant := 1']), 'N1')
+    yield refused('local_type_of_a_formal.adb', longer('X : in out @Small', 'X from X', 'X := 1', declared=[SMALL]), 'N1')
+    yield refused('type_of_another_procedure.adb',
+                  longer(X, 'X from X', 'X := X', declared=[SMALL]) + longer(None, None, 'null', declared=['V : @Small'], name='Same'), 'N1')
+    yield examined('declarations_of_two_procedures.adb',
+                   longer(X, 'X from X', 'X := X', declared=[WARM]) + longer(None, None, 'null', declared=[WARM], name='Red'),
+                   ('Inc', 1), ('Red', 0))
+    for word in ('own', 'check', 'some'):
+        yield declared_well(f'type_named_{word}.adb', f'type {word} is range 0 .. 5; V : {word}')
+
+
+def declared_subtypes():
+    """`subtype S is P range L .. U`: S comes first, then P, L and U, and last both bounds together."""
+    for name, declared in {
+            'integer': 'subtype S is Integer', 'boolean': 'subtype S is Boolean; V : S',
+            'all_of_a_type': f'{SMALL}; subtype S is Small range 0 .. 10',
+            'a_subtype': f'{WARM}; subtype S is Warm range Yellow .. Yellow',
+            'literals': f'{HUE}; subtype S is Hue range Yellow .. Green',
+            'a_subtype_of_a_boolean_subtype': 'subtype S is Boolean; subtype R is S; C : constant R := True'}.items():
+        yield declared_well(f'subtype_of_{name}.adb', declared)
+    for name, (rule, declared) in {
+            'a_variable': ('N3', 'subtype S is @A'), 'a_literal': ('N3', f'{HUE}; subtype S is @Red'),
+            'an_attribute': ('N3', "subtype S is @Integer'First"),
+            'a_boolean_subtype_with_a_range': ('N10', 'subtype R is Boolean; subtype S is @R range False .. True'),
+            'integer_by_a_truth_value': ('N10', 'subtype S is Integer range @True .. 5'),
+            'integer_by_another_type': ('N10', f"{SMALL}; subtype S is Integer range @Small'First .. 5"),
+            'literals_by_a_number': ('N10', f'{HUE}; subtype S is Hue range @0 .. Blue'),
+            'literals_by_other_ones': ('N10', f'{HUE}; type T is (Up, Down); subtype S is Hue range Red .. @Down'),
+            'integer_by_a_variable': ('N11', 'subtype S is Integer range @A .. 5'),
+            'a_type_by_its_variable': ('N11', f'{SMALL}; V : Small; subtype S is Small range @V .. 5'),
+            'integer_past_its_base_range': ('N12', 'subtype S is Integer range 0 .. @2147483648'),
+            'a_type_past_its_base_range': ('N12', f'{SMALL}; subtype S is Small range 0 .. 2 @** 40'),
+            'a_long_type_past_its_base_range': ('N12', f'{LONG}; subtype S is Long range 0 .. 2 @** 63'),
+            'bounds_in_the_other_order': ('N13', 'subtype S is Integer range @5 .. 4'),
+            'literals_in_the_other_order': ('N13', f'{HUE}; subtype S is Hue range @Blue .. Green'),
+            'a_type_past_its_last': ('N13', f'{SMALL}; subtype S is Small range @0 .. 11'),
+            'a_subtype_past_its_last': ('N13', f'{WARM}; subtype S is Warm range @Red .. Green'),
+            'a_subtype_below_its_first': ('N13', f'{SMALL}; subtype R is Small range 2 .. 5; subtype S is R range 1 @+ 0 .. 5'),
+            # the parent comes first, then the first bound, the last one, and both together
+            'no_name_by_no_name': ('N1', 'subtype S is Integer range @Y .. Z'),
+            'a_variable_by_no_name': ('N11', 'subtype S is Integer range @A .. Y'),
+            'a_great_number_by_no_name': ('N12', 'subtype S is Integer range @2147483648 .. Y'),
+            'low_number_and_a_great_one': ('N12', 'subtype S is Natural range -1 .. @2147483648')}.items():
+        yield refused(f'subtype_of_{name}.adb', declaring(declared), rule)
+
+
+def declared_constants():
+    """`C, D : constant T := E`, and named numbers, which have no type mark."""
+    for name, declared in {
+            'integer': 'C : constant Integer := 5', 'boolean': 'C : constant Boolean := 1 < 2',
+            'a_subtype': f'{WARM}; C : constant Warm := Yellow',
+            'several_names': 'C, D, E : constant Integer := 1; F : constant Integer := C + D + E'}.items():
+        yield declared_well(f'constant_of_{name}.adb', declared)
+    for name, (rule, declared) in {
+            'a_variable_for_its_type': ('N3', 'C : constant @A := Y'),
+            'an_attribute_for_its_type': ('N3', "C : constant @Integer'First := 1"),
+            'a_literal_for_its_type': ('N3', f'{HUE}; C : constant @Red := Red'),
+            'a_truth_value': ('N10', 'C : constant Integer := @True'), 'a_comparison': ('N10', 'C : constant Integer := 1 @= 1'),
+            'another_type': ('N10', f"{SMALL}; C : constant Integer := @Small'Last"),
+            'a_number_for_a_literal': ('N10', f'{HUE}; C : constant Hue := @0'),
+            'a_typed_constant_of_another_type': ('N10', f'{SMALL}; C : constant Integer := 1; D : constant Small := @C'),
+            'a_variable': ('N11', 'C : constant Integer := @A'), 'a_test_of_a_variable': ('N11', 'C : constant Boolean := A @in Integer'),
+            'a_form_that_a_variable_does_not_decide': ('N11', 'C : constant Boolean := False @and then B'),
+            'a_positive_zero': ('N12', 'C, D : constant Positive := @0'),
+            'a_value_past_its_type': ('N12', f'{SMALL}; C : constant Small := @11'),
+            'a_sum_past_its_type': ('N12', f"{SMALL}; C : constant Small := Small'Last @+ 1"),
+            'a_literal_past_its_subtype': ('N12', f'{WARM}; C : constant Warm := @Green'),
+            'a_fault_that_is_not_needed': ('N12', 'C : constant Boolean := True or else 1 @/ 0 = 1'),
+            'a_boolean_variable_for_a_number': ('N10', 'C : constant Natural := @B')}.items():
+        yield refused(f'constant_of_{name}.adb', declaring(declared), rule)
+    for name, declared in {
+            'sum': 'C : constant := 2 ** 100 + 1', 'several_names': 'C, D : constant := 1; E : constant := C + D',
+            'sum_past_integer': f"C : constant := {LAST}; D : constant := C + 1; type T is range 0 .. D",
+            'least_number': f'C : constant := -{WIDEST} - 1'}.items():
+        yield declared_well(f'named_number_by_a_{name}.adb', declared)
+    for name, (rule, declared) in {
+            'truth_value': ('N10', 'C : constant := @True'), 'literal': ('N10', f'{HUE}; C : constant := @Red'),
+            'variable': ('N11', 'C : constant := @A'), 'power_of_a_variable': ('N11', 'C : constant := 2 @** A'),
+            'no_name': ('N1', 'C : constant := @Y'), 'sum_past_128_bits': ('N12', f'C : constant := {WIDEST} @+ 1'),
+            'wide_number_beside_a_constant': ('N12', 'C : constant Integer := 1; D : constant := C + @2147483648')}.items():
+        yield refused(f'named_number_by_a_{name}.adb', declaring(declared), rule)
+
+
+def assigned_constants():
+    """Targets that are constants break U2, after the rules on names; literals and types break N3."""
+    types = (f'{SMALL}; {HUE}; C : constant Integer := 1; N : constant := 2; S : constant Small := 3; H : constant Hue := Red; '
+             'F : constant Boolean := True')
+
+    def body(*statements):
+        return declaring(types, *statements)
+
+    for name, statement in {
+            'constant': '@C := 5', 'constant_to_a_variable': '@C := A + 1', 'constant_past_its_type': '@S := 11',
+            'named_number': '@N := 5', 'named_number_to_a_wide_one': '@N := 2 ** 100', 'truth_constant': '@F := X > A',
+            'constant_after_else': 'if B then X := A; else @N := 1; end if', 'constant_before_a_formal': '@C := 1; A := 1',
+            'formal_before_a_constant': '@A := 1; C := 1'}.items():
+        yield refused(f'assignment_to_a_{name}.adb', body(statement), 'U2')
+    for name, (rule, statement) in {
+            'literal': ('N3', '@Red := Red'), 'type': ('N3', '@Small := 1'), 'attribute_of_a_constant': ('N3', "@C'First := 1"),
+            'constant_of_a_truth_value': ('N10', 'C := @True'), 'constant_of_another_type': ('N10', 'C := @S'),
+            'constant_past_integer': ('N12', 'C := @2147483648'), 'small_constant_past_its_base_range': ('N12', 'S := 2 @** 31'),
+            'named_number_of_an_integer': ('N10', 'N := @C'), 'named_number_of_an_attribute': ('N10', "N := @Integer'Last"),
+            'named_number_of_a_truth_value': ('N10', 'N := 1 @= 1'), 'named_number_past_128_bits': ('N12', 'N := 2 @** 127'),
+            'literal_constant_of_a_number': ('N10', 'H := @0'), 'truth_constant_of_a_number': ('N10', 'F := @1'),
+            'constant_and_a_later_name': ('N1', 'C := 1; X := @Y')}.items():
+        yield refused(f'assignment_to_a_{name}_and_a_slip.adb', body(statement), rule)
+    constant = ['C : constant Integer := 1']
+    yield refused('assignment_to_a_constant_and_a_lost_value.adb',
+                  longer(X, 'X from X', 'V := 1', '@C := 1', declared=[*constant, 'V : Integer']), 'U2')
+    yield refused('assignment_to_a_constant_after_u7.adb', at_derives(longer(X, 'X from X, X', 'C := 1', declared=constant)), 'U7')
+    yield refused('assignment_to_a_constant_after_u8.adb', longer('X : in Integer', '@X from', 'C := 1', declared=constant), 'U8')
+    yield refused('assignment_to_a_constant_after_u11.adb', longer(OUT_X, 'X from', 'C := 1', pre='@X > 0', declared=constant), 'U11')
+    yield refused('assignment_to_a_constant_and_a_later_procedure.adb',
+                  longer(X, 'X from X', '@C := 1', declared=constant) + renamed(procedure('1')), 'U2')
+    yield refused('assignment_to_a_constant_and_a_name_in_a_later_procedure.adb',
+                  longer(X, 'X from X', 'C := 1', declared=constant) + renamed(procedure('@Y')), 'N1')
+
+
+def matching_types():
+    """Types match where their base types are one; universal numbers fit types of numbers, within their base range."""
+    types = (f'{SMALL}; {LONG}; subtype Low is Small range 1 .. 5; type Same is range 0 .. 10; Big : constant := 2 ** 40; '
+             'V : Small; W : Low; L : Long; O : Same')
+
+    def body(*statements):
+        return declaring(types, *statements)
+
+    for name, (rule, statement) in {
+            'a_type_and_integer': ('N10', 'X := @V'), 'integer_and_a_type': ('N10', 'V := @X'), 'two_types': ('N10', 'V := @O'),
+            'a_sum': ('N10', 'V := V @+ X'), 'a_mod': ('N10', 'V := V @mod O'),
+            'a_comparison_of_two_types': ('N10', 'if V @= O then X := A; end if'),
+            'a_test_in_a_type': ('N10', 'if X @in Small then X := A; end if'),
+            'a_test_in_another_type': ('N10', 'if V @not in Same then X := A; end if'),
+            'a_test_in_a_range_of_two': ('N10', "if 1 @in Small'First .. Integer'Last then X := A; end if"),
+            'an_exponent': ('N10', 'V := V @** V'), 'a_static_exponent': ('N10', "V := V @** Small'First"),
+            'a_power_of_an_integer': ('N10', 'V := X @** 2'),
+            # within the base range
+            'a_number_past_the_long_base_range': ('N12', 'L := @9223372036854775808'),
+            'a_number_beside_a_type': ('N12', 'V := V + @2147483648'),
+            'a_number_before_a_long_type': ('N12', 'L := @9223372036854775808 - L'),
+            'a_number_tested': ('N12', 'if @2147483648 in Small then X := A; end if'),
+            'a_bound_of_a_test': ('N12', 'if V in 0 .. @2147483648 then X := A; end if'),
+            'a_static_sum': ('N12', "V := Small'Last @+ 2147483638"), 'an_exponent_past_integer': ('N12', 'L := L ** @2147483648'),
+            'a_static_long_sum': ('N12', "L := Long'Last @+ 1")}.items():
+        yield refused(f'types_and_{name}.adb', body(statement), rule)
+    # the left operand, the right one, and then the operator
+    for name, (rule, statement) in {
+            'a_type_for_its_target': ('N12', 'X := V + @2147483648'),
+            'a_tested_number': ('N10', 'if 2147483648 @in V .. X then X := A; end if'),
+            'a_test_in_no_type': ('N3', 'if V in @V then X := A; end if'),
+            'a_test_in_a_constant': ('N3', 'if V in @Big then X := A; end if')}.items():
+        yield refused(f'order_of_types_and_{name}.adb', body(statement), rule)
+    for name, statement, by, total in (
+            ('a_subtype', 'V := 3; W := V', 'W = V', 4), ('the_type_of_a_subtype', 'W := 1; V := W', 'V + W > 1', 5),
+            ('universal_numbers', 'V := 5; L := 2147483648', 'V > 2 and L > 2147483647', 4),
+            ('a_power', 'V := 3; V := V ** 2 - 1', 'V = 8', 7), ('a_range_of_subtypes', 'V := 2', "V in Low'First .. Small'Last", 3),
+            ('a_named_number', 'L := Big', 'L = Big', 3), ('a_long_value_tested', 'V := 1', '2147483648 in Long and V = 1', 3)):
+        yield accepted(f'types_match_by_{name}.adb', deciding(types, statement, by=by), total)
+    yield accepted('types_match_by_a_boolean_subtype.adb',
+                   deciding('subtype Flag is Boolean; F : Flag; G : Boolean', 'G := True; F := G', by='F and not (G = F)'), 2)
+
+
+def enumerations():
+    """Literals and variables of enumeration types: what takes them, and what does not."""
+    types = f'{WARM}; type Gear is (Up, Down); V, W : Hue; S : Warm; G : Gear; F : Boolean'
+
+    def body(statement):
+        return declaring(types, statement)
+
+    for name, condition in {
+            'order_and_a_number': 'V @< 1', 'equality_and_a_number': 'V @= 0', 'order_of_two_types': 'V @>= Down',
+            'equality_with_a_truth_value': 'B @= V', 'not': '@not V', 'test_in_numbers': 'V @in Natural', 'test_of_a_number': '1 @in Hue',
+            'range_of_two_types': 'V @in Red .. Up', 'range_up_to_a_number': 'V @in Red .. 3'}.items():
+        yield refused(f'literals_in_{name}.adb', body(f'if {condition} then X := A; end if'), 'N10')
+    for name, (rule, statement) in {
+            'sum': ('N10', 'V := V @+ 1'), 'mod': ('N10', 'V := V @mod W'), 'power': ('N10', 'V := V @** 2'),
+            'minus': ('N10', 'V := @-V'), 'value_of_a_number': ('N10', 'X := @V'), 'number_for_a_value': ('N10', 'V := @1'),
+            'literal_of_another_type': ('N10', 'V := @Up'), 'value_for_a_truth_value': ('N10', 'F := @Red'),
+            'fault_beside_a_literal': ('N12', 'V := Red + 1 @/ 0'), 'attribute_that_is_none': ('N3', "V := @Hue'Pos"),
+            'attribute_of_a_literal': ('N3', "V := @Red'Last"), 'literal_for_a_type': ('N3', 'if V in @Red then X := A; end if'),
+            'no_literal': ('N1', 'V := @Pink')}.items():
+        yield refused(f'literals_and_{name}.adb', body(statement), rule)
+    for name, statement, by, total in (
+            ('in_order', 'V := Yellow', "V < Blue and V >= Red and V > Red and V <= Hue'Last", 3),
+            ('tested_in_a_subtype', 'V := Green', 'V not in Warm', 3),
+            ('tested_in_a_range_of_a_subtype', 'V := Blue', "V in Warm'First .. Warm'Last", 3),
+            ('tested_in_a_range_of_a_variable', 'V := Green; W := Red', 'V in W .. Blue', 4),
+            ('of_a_subtype', 'S := Red; V := S', 'V = S', 4), ('compared_for_a_truth_value', 'F := Red < Blue', 'F', 2),
+            ('of_two_types', 'V := Red; G := Down', 'V = Red and G > Up', 4)):
+        yield accepted(f'literals_{name}.adb', deciding(types, statement, by=by), total)
+    yield accepted('literal_of_one_type.adb', deciding('type One is (Only); V : One', "V := One'Last", by='V = Only'), 3)
+
+
+VALUES = (f'{SMALL}; type Wide is range -5 .. 2 ** 40; {WARM}; subtype Cool is Hue range Green .. Blue; '
+          'subtype Low is Small range 2 .. 5; subtype Lower is Low range 2 .. 3; subtype Same is Low; subtype Flag is Boolean; '
+          "subtype Few is Integer range -3 .. 3; Top : constant Low := 5; Half, Other : constant := Low'Last / 2; "
+          'On : constant Boolean := Half = 2; Off : constant Flag := not On; Best : constant Warm := Yellow; '
+          'Neg : constant Wide := -5; Last : constant Integer := Half ** 31 - 1')
+
+
+def values_of_declarations():
+    """What is static has its exact value: each of these is false, so that a sum after it is never reached."""
+    for name, condition in {
+            'last_of_a_type': "Small'Last /= 10", 'last_of_a_long_type': "Wide'Last /= 1099511627776",
+            'first_of_a_subtype': "Low'First /= 2", 'last_of_a_subtype': "Low'Last /= 5",
+            'last_of_a_subtype_of_a_subtype': "Lower'Last /= 3", 'last_literal': "Hue'Last /= Blue",
+            'first_literal_of_a_subtype': "Cool'First /= Green", 'last_literal_of_a_subtype': "Warm'Last /= Yellow",
+            'literals_not_in_order': 'Red >= Yellow', 'literal_in_a_range': 'Red in Green .. Blue',
+            'literal_in_an_empty_range': 'Blue in Blue .. Green', 'literal_in_a_subtype': 'Green in Warm',
+            'constant_literal': 'Best /= Yellow', 'constant': 'Top /= 5', 'named_number': 'Half /= 2',
+            'power_of_named_numbers': 'Half ** Other /= 4', 'last_integer': f'Last /= {LAST}', 'truth_constant': 'not On',
+            'mod_below_zero': 'Neg mod 3 /= 1', 'power_below_zero': 'Neg ** 3 /= -125', 'number_in_a_subtype': '6 in Low',
+            'attribute_in_its_type': "Low'First not in Small"}.items():
+        yield accepted(f'value_of_{name}.adb', falsified(VALUES, condition), 2)
+    for name, condition in {
+            'last_of_a_type': "Small'Last = 10", 'literal_in_order': 'Red < Yellow', 'constant': 'Top = 5', 'truth_constant': 'On',
+            'literal_in_a_subtype': 'Red in Warm', 'last_literal_of_a_subtype': "Warm'Last = Yellow"}.items():
+        yield examined(f'true_value_of_{name}.adb', falsified(VALUES, condition).replace('X + 1', 'X @+ 1'), ('Inc', 2, 1))
+
+
+def conditions_of_types():
+    """Overflow is looked at by the base range of the type, and what is assigned by the range of the target."""
+    short, long = 'type T is range 0 .. 2147483647; V, W : T', 'type T is range 0 .. 2147483648; V, W : T'
+    low, lower = 'type T is range -2147483648 .. 0; V, W : T', 'type T is range -2147483649 .. 0; V, W : T'
+    longest, one = 'type T is range -2 ** 63 .. 2 ** 63 - 1; V, W : T', 'type T is range 5 .. 5; V : T'
+    few = 'type T is range 0 .. 10; subtype S is T range 2 .. 5; C : constant T := 10; V : T; W : S'
+    for name, declared, statement, total in (
+            ('sum_past_its_type', few, 'V := 10; V := V <3r>+ 1', 5), ('sum_past_integer', short, 'V := 2147483647; V := V <2o>+ 1', 5),
+            ('sum_past_integer_of_a_long_type', long, 'V := 2147483647; V := V + 1', 5),
+            ('sum_past_a_long_type', long, 'V := 2147483648; V := V <3r>+ 1', 5),
+            ('sum_past_64_bits', longest, "V := T'Last; V := V <2o>+ 1", 5),
+            ('difference_below_integer', low, "V := T'First; V := V <2o>- 1", 5),
+            ('difference_below_integer_of_a_long_type', lower, 'V := -2147483648; V := V - 1', 5),
+            ('difference_below_64_bits', longest, "V := T'First; V := V <2o>- 1", 5),
+            ('minus_of_the_least', low, "V := T'First; V := <2o>-V", 5),
+            ('minus_of_the_least_integer_of_a_long_type', lower, 'V := -2147483648; V := <3r>-V', 5),
+            ('minus_of_the_least_of_64_bits', longest, "V := T'First; V := <2o>-V", 5),
+            ('abs_of_the_least_of_64_bits', longest, "V := T'First; V := <2o>abs V", 5),
+            ('product_past_a_long_type', long, 'V := 46341; V := V <3r>* V', 5),
+            ('product_past_64_bits', longest, 'V := 3037000500; V := V <2o>* V', 5),
+            ('product_within_64_bits', longest, 'V := 3037000499; V := V * V', 5),
+            ('quotient_past_a_long_type', lower, 'V := -2147483648; W := -1; V := V <5r>/ W', 7),
+            ('power_past_integer', short, 'V := 2; V := V <3o>** 31', 6), ('power_past_64_bits', longest, 'V := 2; V := V <3o>** 63', 6),
+            ('power_within_64_bits', longest, 'V := 2; V := V ** 62', 6),
+            ('power_of_a_negative_number', longest, 'V := -2; V := V ** 63', 6), ('number_past_its_type', few, 'V := <1r>11', 3),
+            ('static_sum_past_its_type', few, "V := T'Last <1r>+ 1", 3), ('constant_past_its_type', few, 'V := C <1r>+ 1', 3),
+            ('one_value_and_one_more', one, 'V := <1r>6', 3), ('one_value_more', one, 'V := 5; V := V <3r>+ 1', 5),
+            ('one_value_more_and_less', one, 'V := 5; V := V + 1 - 1', 6), ('subtype_at_its_last', few, 'V := 5; W := V', 4),
+            ('subtype_past_its_last', few, 'V := 6; W := <2r>V', 4), ('type_of_a_subtype', few, 'W := 2; V := W', 4)):
+        by = 'V > 0 and W > 0' if 'W :=' in statement else 'V > 0'
+        yield left_at(f'{name}_of_a_type.adb', deciding(declared, statement, by=by), total)
+    for name, by in {'guarded': 'V /= 0 and then 10 / V > 2', 'guarded_by_a_subtype': 'V in S and then 10 / V > 2',
+                     'unguarded': '10 <2d>/ V > 2'}.items():
+        yield left_at(f'quotient_{name}_of_a_type.adb', deciding(few, 'V := 0', by=by), 5)
+
+
+
+def powers_of_types():
+    """What is known of a value that is not static: the bounds of its type, and of its base range."""
+    def power(bounds, value, *more, by='V > 0'):
+        declared = f'type T is range {bounds}; C : constant T := 2; subtype S is T range 3 .. 5; V, W : T'
+        return deciding(declared, f'V := {value}', *more, by=by, params='N : in Natural; X : out Integer', derives='X from N')
+
+    last_digit = 'C <2o>** N mod 10'
+    for name, bounds, value, total in (
+            ('mod_within_its_type', '0 .. 9', last_digit, 6), ('mod_past_its_type', '0 .. 8', 'C <2o>** N <4r>mod 10', 6),
+            ('mod_below_its_type', '1 .. 9', 'C <2o>** N <4r>mod 10', 6), ('of_integer', '-2147483648 .. 2147483647', 'C <2o>** N', 5),
+            ('of_64_bits', '-2 ** 63 .. 2 ** 63 - 1', 'C <2o>** N', 5),
+            ('of_a_long_type', '-2147483648 .. 2147483648', 'C <2o,3r>** N', 5),
+            ('less_of_64_bits', '-2 ** 63 .. 2 ** 63 - 1', 'C <2o>** N <3o>- 1', 6),
+            ('quotient_past_its_type', '-2 ** 62 .. 2 ** 62', 'C <2o>** N <4o,5r>/ 2', 7),
+            ('rem_below_its_type', '-3 .. 5', 'C <2o>** N <4r>rem 5', 6)):
+        yield left_at(f'power_{name}.adb', power(bounds, value), total)
+    for name, bounds, more, by, total in (
+            ('one_more_past', '0 .. 9', 'W := V <6r>+ 1', 'W > 0', 8),
+            ('one_more_below_a_bound', '0 .. 9', 'if V < 9 then W := V + 1; else W := 0; end if', 'W > 3', 11),
+            ('one_more_up_to_a_bound', '0 .. 9', 'if V <= 9 then W := V <6r>+ 1; else W := 0; end if', 'W > 3', 11),
+            ('less_in_a_subtype', '0 .. 9', 'if V in S then W := V - 3; else W := 0; end if', 'W > 0', 11),
+            ('less_in_a_wider_range', '0 .. 9', 'if V in 2 .. 5 then W := V <6r>- 3; else W := 0; end if', 'W > 0', 11),
+            ('less_where_it_is_in_no_subtype', '0 .. 9', 'if V not in S then W := V <6r>- 3; else W := 0; end if', 'W > 0', 11)):
+        yield left_at(f'digit_{name}.adb', power(bounds, last_digit, more, by=by), total)
+
+
+def conditions_of_enumerations():
+    """What is assigned to a variable of an enumeration type lies in its range, by the positions of the literals."""
+    declared, params, relation = f'{WARM}; V : Hue; S : Warm', 'B : in Boolean; X : out Integer', 'X from B'
+    for name, statement, by, total in (
+            ('subtype_at_its_last', 'V := Yellow; S := V', 'S = V', 4), ('subtype_past_its_last', 'V := Green; S := <2r>V', 'S = V', 4),
+            ('literal_past_its_subtype', 'S := <1r>Green', 'S = Red', 3),
+            ('attribute_past_its_subtype', "S := <1r>Hue'Last", 'S = Red', 3), ('type_of_a_subtype', 'S := Yellow; V := S', 'V = S', 4)):
+        yield left_at(f'{name}_of_literals.adb', deciding(declared, statement, by=by), total)
+    chosen = 'if B then V := Red; else V := Green; end if'
+    yield left_at('subtype_on_one_of_two_paths_of_literals.adb',
+                  deciding(declared, chosen, 'S := <6r>V', by='S = Red', params=params, derives=relation), 8)
+    for name, condition, is_left in (
+            ('subtype', 'V in Warm', False), ('range', "V in Red .. Warm'Last", False), ('order', 'V <= Yellow', False),
+            ('inequality', 'V /= Green', False), ('wider_order', 'V <= Green', True), ('no_subtype', 'V not in Warm', True)):
+        statement = f'if {condition} then S := {"<9r>" if is_left else ""}V; else S := Red; end if'
+        yield left_at(f'guard_by_{name}_of_literals.adb',
+                      deciding(declared, chosen, statement, by='S = Red', params=params, derives=relation), 14)
+
+
+def flow_of_types():
+    """Variables of declared types have flows as others do; constants and literals have none."""
+    declared = f'{SMALL}; {HUE}; Top : constant Small := 5; V, W : Small; Shade : Hue'
+
+    def body(*statements, derives='X from A'):
+        return longer(A_TO_X, derives, *statements, declared=[declared])
+
+    by_top = 'if V > Top then X := A; else X := 0; end if'
+    for name, statements in {
+            'literal': ('@Shade := Red', 'X := A'), 'constant': ('@V := Top', 'X := A'),
+            'number_through_a_local': ('@V := 5', '@W := V', 'X := A'),
+            'condition_of_constants': ('X := A', '@if Top > 3 then null; end if'),
+            'literal_in_an_arm': ('@if A > 0 then @Shade := Red; end if', 'X := A')}.items():
+        yield refused(f'lost_{name}_of_a_type.adb', body(*statements), *['F3'] * sum(statement.count('@') for statement in statements))
+    for name, (variable, *statements) in {
+            'condition': ('V', 'if @V > Top then X := A; else X := 0; end if'),
+            'test': ('V', 'if @V in Small then X := A; else X := 0; end if'),
+            'literals': ('Shade', 'if @shade = Red then X := A; else X := 0; end if'),
+            'one_way': ('V', 'if A > 0 then V := 5; end if', 'if @V > Top then X := A; else X := 0; end if')}.items():
+        yield refused(f'unset_{name}_of_a_type.adb', body(*statements), f'F4 unset: {variable}')
+    yield accepted('set_on_each_way_of_a_type.adb', body('if A > 0 then V := 5; else V := 6; end if', by_top), 6)
+    yield accepted('constant_that_is_read_first.adb', body('if Top > 3 then X := A; else X := 0; end if'), 2)
+    chosen, decided = 'if A > 0 then Shade := Red; else Shade := Blue; end if', 'if Shade = Red then X := 1; else X := 2; end if'
+    yield accepted('flow_through_literals.adb', body(chosen, decided), 6)
+    yield refused('missing_flow_through_literals.adb', body(chosen, decided, derives='@X from & null from A'), 'F1 missing: X from A')
+    yield refused('unused_flow_by_a_constant.adb',
+                  body('if Top > 3 then X := 1; else X := 2; end if', derives='@X from A'), 'F2 unused: X from A')
+    yield refused('unused_flow_by_a_literal.adb', body('Shade := Red', decided, derives='@X from A'), 'F2 unused: X from A')
+    numbers = f'{", ".join(f"L{n}" for n in range(1, 4097))} : Integer'
+    yield accepted('types_and_constants_beside_4096_variables.adb',
+                   longer(None, None, 'null', declared=[WARM, SMALL, 'C, D : constant := 1', numbers]), 0)
+    yield too_many_variables('types_beside_4097_variables.adb', longer(None, None, 'null', declared=[SMALL, numbers, 'V : Small']))
+
+
+def levels_of_declarations():
+    """Bounds and values of constants open levels as other expressions do, each from its own beginning."""
+    for name, declared in {
+            'low_bound_of_a_type': 'type T is range {} .. 5', 'high_bound_of_a_type': 'type T is range 1 .. {}',
+            'low_bound_of_a_subtype': 'subtype S is Integer range {} .. 5',
+            'high_bound_of_a_subtype': 'subtype S is Integer range 1 .. {}', 'constant': 'C : constant Integer := {}',
+            'named_number': 'C : constant := {}'}.items():
+        yield declared_well(f'{name}_of_200_levels.adb', declared.format(nested(200)))
+        yield too_nested(f'{name}_of_201_levels.adb', declaring(declared.format(nested(201))))
+    yield declared_well('sum_of_200_levels_for_a_bound.adb', 'type T is range 0 .. 1' + ' + 1' * 200)
+    yield too_nested('sum_of_201_levels_for_a_bound.adb', declaring('type T is range 0 .. 1' + ' + 1' * 201))
+    yield declared_well('relation_of_200_levels_for_a_constant.adb', f'C : constant Boolean := {nested(199)} = 1')
+    yield too_nested('relation_of_201_levels_for_a_constant.adb', declaring(f'C : constant Boolean := {nested(200)} = 1'))
+    # no relation goes on in a bound, whatever its levels
+    yield unexpected('relation_after_200_levels_in_a_bound.adb', declaring(f'type T is range {nested(200)} @= 1 .. 5'))
+    yield unexpected('parentheses_for_literals.adb', declaring('type T is (@' + '(' * 201 + 'Red'))
+    yield too_nested('levels_in_a_bound_before_another_slip.adb', declaring(f'type T is range {nested(201)} 5 .. 6'))
+
+
+def syntax_of_declarations():
+    """Tokens with which no declaration goes on."""
+    for name, declared in {
+            'type_of_a_name': 'type T is @Integer', 'type_of_a_box': 'type T is range @<>', 'type_of_a_type': 'type T is range Natural@',
+            'type_of_a_relation': 'type T is range 1 @< 2 .. 3', 'type_of_a_conjunction': 'type T is range True @and True .. 3',
+            'literals_that_are_missing': 'type T is (@)', 'literals_with_a_bar': 'type T is (Red @| Green)',
+            'literals_of_an_attribute': "type T is (Red@'First)", 'literals_with_a_value': 'type T is (Red @=> 1)',
+            'subtype_with_a_value': 'subtype S is Integer @:= 1', 'subtype_with_a_named_range': 'subtype S is Integer range Natural@',
+            'constant_without_value': 'C : constant Integer@', 'constant_with_a_range': 'C : constant Integer @range 1 .. 5 := 1',
+            'constant_without_its_word': 'C @:= 5', 'constant_word_first': '@constant C : Integer := 5',
+            'constant_of_a_range': 'C : constant Integer := 1 @.. 5', 'variable_with_a_range': 'V : Integer @range 1 .. 5',
+            'marked_type': '--# @type T is range 1 .. 5', 'marked_range': 'type T is --# @range\n1 .. 5',
+            'marked_literal': 'type T is ( --# @Red\n)', 'marked_constant': 'C : --# @constant\nInteger := 1'}.items():
+        yield unexpected(f'{name}.adb', declaring(declared))
+    yield unexpected('type_after_begin.adb', COPY.replace('   X', '   @type T is range 1 .. 5;\n   X'))
+    yield unexpected('subtype_after_a_statement.adb', COPY.replace('end', '   @subtype S is Integer;\nend'))
+    yield unexpected('constant_after_begin.adb', COPY.replace('   X', '   C @: constant := 1;\n   X'))
+    yield unexpected('type_before_is.adb', COPY.replace('is\n', '@type T is range 1 .. 5;\nis\n'))
+    yield unexpected('type_at_the_end_of_the_text.adb', COPY.split('begin')[0] + '   type T is range 1 ..\n@')
+    yield refused('not_in_a_bound.adb', declaring('type T is range @not True .. 5'), 'N10')
+    yield refused('not_of_a_number_in_a_bound.adb', declaring('type T is range @not 1 .. 5'), 'N10')
+    yield declared_well('declarations_on_several_lines.adb',
+                        'type T\nis -- a type\n range 1\n..\n5;\ntype U is (Red,\n\tGreen\n);\nsubtype S is\nT\nrange 2 .. 3;\n'
+                        'C,\nD : constant\n:= 1')
+    yield declared_well('declarations_in_other_cases.adb',
+                        "TYPE t IS RANGE 1 .. 5; SubType S Is T Range T'First .. 3; c : CONSTANT s := 2; V : T")
+
+
+# A text with declarations of all forms that keeps every rule, with its parts, as in `KEPT`.
+KEPT_TYPES = '''procedure Mix (A : in {formal}; B : in Boolean; X : out Integer)
+--# {derives} X from A, B{item};
+--# pre {pre};
+is
+   type {type} is range {low} .. {high};
+   type Hue is (Red, {literal});
+   subtype {subtype} is {parent} range {first} .. {last};
+   {constants} : constant {mark} := {value};
+   {numbers} : constant := {number};
+   V : {local};
+begin
+   {target} := {right};
+   if B and V < Top then X := A{sum}; else X := Two; end if;
+{lost}end {end};
+'''
+TYPE_PARTS = {'formal': 'Integer', 'derives': 'derives', 'item': '', 'pre': 'A < 9', 'type': 'Small', 'low': '0', 'high': '10',
+              'literal': 'Green', 'subtype': 'Low', 'parent': 'Small', 'first': '1', 'last': '5', 'constants': 'Top', 'mark': 'Small',
+              'value': '9', 'numbers': 'Two', 'number': '2', 'local': 'Low', 'target': 'V', 'right': '3', 'sum': '', 'lost': '',
+              'end': 'Mix'}
+# As in `SLIPS`, in the order in which the rules are looked at.
+TYPE_SLIPS = {
+    'no_type_of_a_formal': ('N1', {'formal': '@Count'}), 'a_sum_in_pre': ('N10', {'pre': 'A @+ 1'}),
+    'a_formal_for_a_type': ('N2', {'type': '@A'}), 'a_truth_value_for_a_bound': ('N10', {'low': '@True'}),
+    'a_variable_for_a_bound': ('N11', {'low': '@A'}), 'no_name_for_a_bound': ('N1', {'high': '@Y'}),
+    'bounds_that_are_none': ('N13', {'low': '@11'}), 'a_literal_twice': ('N2', {'literal': '@Red'}),
+    'a_type_for_a_subtype': ('N2', {'subtype': '@Hue'}), 'a_variable_for_a_parent': ('N3', {'parent': '@A'}),
+    'boolean_for_a_parent': ('N10', {'parent': '@Boolean'}),
+    'an_integer_for_a_bound': ('N10', {'first': "@Integer'First"}), 'a_wide_bound': ('N12', {'last': '@2147483648'}),
+    'bounds_past_the_parent': ('N13', {'first': '@6'}),
+    'a_constant_twice': ('N2', {'constants': 'Top, @Low'}), 'a_literal_for_a_type_mark': ('N3', {'mark': '@Red'}),
+    'a_literal_for_a_constant': ('N10', {'value': '@Red'}),
+    'a_variable_for_a_constant': ('N11', {'mark': 'Integer', 'value': '@A'}), 'a_constant_past_its_type': ('N12', {'value': '@11'}),
+    'a_number_of_itself': ('N1', {'number': '@Two'}),
+    'a_truth_value_for_a_number': ('N10', {'number': '@True'}), 'a_variable_for_a_number': ('N11', {'number': '@A'}),
+    'no_type_of_a_local': ('N1', {'local': '@Medium'}), 'a_literal_for_a_target': ('N3', {'target': '@Green'}),
+    'an_integer_for_a_value': ('N10', {'right': "@Integer'Last"}), 'a_wide_number_for_a_value': ('N12', {'right': '@2147483648'}),
+    'a_sum_of_two_types': ('N10', {'sum': ' @+ Top'}), 'an_end_name_of_a_type': ('N5', {'end': '@Hue'}),
+    'an_import_twice_beside_types': ('U7', {'derives': '@derives', 'item': ' & null from A, A'}),
+    'a_constant_for_a_target': ('U2', {'target': '@Top'}), 'a_lost_number': ('F3', {'lost': '   @V := 4;\n'}),
+    'an_unproved_difference': (None, {'sum': ' @- 1'})}
+
+
+def types_with(slip, later=None):
+    """The text with one slip or two; the `@` is that of the first."""
+    parts = TYPE_PARTS | {part: text.replace('@', '') for part, text in (later or {}).items()} | slip
+    return KEPT_TYPES.format(**parts)
+
+
+def breaches_of_declarations():
+    """Each rule of declarations is broken, with the next slip that can stand beside it, and at times with a later one."""
+    yield accepted('no_slip_of_types.adb', KEPT_TYPES.format(**TYPE_PARTS), 3, named='Mix')
+    yield examined('unproved_difference_of_types.adb', types_with(TYPE_SLIPS['an_unproved_difference'][1]), ('Mix', 4, 2))
+    slips = tuple(TYPE_SLIPS.items())
+    for at, (name, (rule, slip)) in enumerate(slips[:-1]):
+        beside = [(other, parts) for other, (_, parts) in slips[at + 1:] if not slip.keys() & parts.keys()]
+        for other, parts in beside[:1] + (beside[4:5] if at % 2 else []):
+            yield refused(f'{name}_before_{other}.adb', types_with(slip, parts), rule)
+
+
 # ---------------------------------------------------------------- the table
 
 GROUPS = (form, relations, simplifier, numbers, places, words, layout, comments, marks, other_bytes, tokens, grammar,
@@ -3992,7 +4586,10 @@ GROUPS = (form, relations, simplifier, numbers, places, words, layout, comments,
           rules_of_branches, syntax_of_branches, levels_of_branches, numbers_of_paths, nodes_of_branches, worked_texts, values_of_divisions,
           values_of_operators, ends_of_static_operators, meeting_a_type, run_time_ends, intervals_of_operators, guards,
           mixed_chains, membership_tests, predefined_names, types_of_operands, truth_values, natural_and_positive,
-          null_from, levels_of_operators, nodes_of_operators)
+          null_from, levels_of_operators, nodes_of_operators, ranges_of_types, names_of_declarations, declared_subtypes,
+          declared_constants, assigned_constants, matching_types, enumerations, values_of_declarations, conditions_of_types,
+          powers_of_types, conditions_of_enumerations, flow_of_types, levels_of_declarations, syntax_of_declarations,
+          breaches_of_declarations)
 CASES = tuple(case for group in GROUPS for case in group())
 
 

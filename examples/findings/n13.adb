@@ -1,0 +1,7 @@
+procedure Clear (X : out Integer)
+--# derives X from;
+is
+   type Digit is range 9 .. 0;
+begin
+   X := 0;
+end Clear;
