@@ -1,8 +1,12 @@
 // The checks of expressions, and their terms.
-ghost use Rattle.std.specs.Prelude.{◌≡◌, ◌<◌, List, length, IfOk, OnOk};
+ghost use Rattle.std.specs.Prelude.{◌≡◌, ◌<◌, List, None, length, IfOk, OnOk};
+ghost use Rattle.spx_core.specs.declared.expression.CoreExpr.{CoreExpr};
+ghost use Rattle.spx_core.specs.declared.expression.CoreExpr.TheVariants as core;
+ghost use Rattle.spx_core.specs.declared.name.Reference.{Reference};
 ghost use Rattle.spx_term.specs.declared.term.Term.{Term};
 ghost use Rattle.spx_term.specs.declared.term.Term.TheVariants as term;
 ghost use Rattle.spx_meaning.specs.Evaluation.{term_op};
+ghost use Rattle.spx_meaning.specs.Literals.{literal};
 ghost use Rattle.spx_paths.specs.Checks.{base_check, divisor_check, exponent_check, operation_check, right_lefts, sign_check};
 ghost use Rattle.spx_paths.specs.Terms.{member_term, signed_term};
 ghost use Rattle.spx_arena.specs.Claims.{AreIds};
@@ -229,6 +233,68 @@ impl Walk {
         }
     }
 
+    /// The checks of an operation on two operands, from left to right, and its term.
+    #[cycle(checked_id)]
+    fn checked_infix(
+        &mut self,
+        alloc: Global,
+        program: &Program,
+        lefts: &[TermId],
+        expr: &CoreExpr,
+    ) -> Result<TermId, AllocError>
+        requires whole { Whole self.old }
+        requires lefts { AreIds (length self.old.terms) lefts.now }
+        requires none { None ≡ literal expr.now }
+        requires form { (op : InfixOp) × (place : Place) × (a : CoreExpr) × (b : CoreExpr) × (expr.now ≡ core.Infix op place a b) }
+        ensures keeps { OnOk result (Keeps self.old self.new) }
+        ensures within { IfOk result (λ id. id.0 < length self.new.terms) }
+        ensures makes { IfOk result (Evaluates program.now lefts.now self.old self.new expr.now) }
+    {
+        let CoreExpr::Infix(op, place, left, right) = expr else {
+            unreachable!();
+        };
+        let operation = Operation {
+            op: *op,
+            base: base_of(expr),
+            place: *place,
+            at: right.get().place(),
+        };
+        let first = self.checked_id(alloc, program, lefts, left.get())?;
+        let guards = self.right_lefts(alloc, *op, lefts, first)?;
+        let second = self.checked_id(alloc, program, guards.as_slice(), right.get())?;
+        let id = self.infix_id(*op, first, second)?;
+        self.check_operation(alloc, lefts, operation, second, id)?;
+        Ok(id)
+    }
+
+    /// The checks of a test for a type, which are those of the tested value, and its term.
+    #[cycle(checked_id)]
+    fn checked_in_type(
+        &mut self,
+        alloc: Global,
+        program: &Program,
+        lefts: &[TermId],
+        expr: &CoreExpr,
+    ) -> Result<TermId, AllocError>
+        requires whole { Whole self.old }
+        requires lefts { AreIds (length self.old.terms) lefts.now }
+        requires none { None ≡ literal expr.now }
+        requires form { (op : MemberOp) × (place : Place) × (a : CoreExpr) × (name : Reference) × (expr.now ≡ core.InType op place a name) }
+        ensures keeps { OnOk result (Keeps self.old self.new) }
+        ensures within { IfOk result (λ id. id.0 < length self.new.terms) }
+        ensures makes { IfOk result (Evaluates program.now lefts.now self.old self.new expr.now) }
+    {
+        let CoreExpr::InType(op, _, tested, name) = expr else {
+            unreachable!();
+        };
+        let subtype = subtype_of(name.root.entity);
+        let tested = self.checked_id(alloc, program, lefts, tested.get())?;
+        let low = self.static_id(Value::Number(subtype.first))?;
+        let high = self.static_id(Value::Number(subtype.last))?;
+        let id = self.member_id(*op, tested, low, high)?;
+        Ok(id)
+    }
+
     /// The checks of an expression under these left sides, from left to right, and its term. A static one has no checks.
     #[cycle(checked_id)]
     pub fn checked_id(
@@ -245,25 +311,14 @@ impl Walk {
         ensures makes { IfOk result (Evaluates program.now lefts.now self.old self.new expr.now) }
     {
         if let Some(value) = literal(expr) {
-            let id = self.static_id(value)?;
-            return Ok(id);
+            return Ok(self.static_id(value)?);
         }
         match expr {
-            CoreExpr::Number(_, _) => {
-                let id = self.term_id(program, expr)?;
-                Ok(id)
-            }
-            CoreExpr::Name(_) => {
-                let id = self.term_id(program, expr)?;
-                Ok(id)
-            }
-            CoreExpr::Attribute(_, _) => {
-                let id = self.term_id(program, expr)?;
-                Ok(id)
-            }
+            CoreExpr::Number(_, _) => Ok(self.term_id(program, expr)?),
+            CoreExpr::Name(_) => Ok(self.term_id(program, expr)?),
+            CoreExpr::Attribute(_, _) => Ok(self.term_id(program, expr)?),
             CoreExpr::Parenthesized(_, inner) => {
-                let id = self.checked_id(alloc, program, lefts, inner.get())?;
-                Ok(id)
+                Ok(self.checked_id(alloc, program, lefts, inner.get())?)
             }
             CoreExpr::Prefix(op, place, operand) => {
                 let operand = self.checked_id(alloc, program, lefts, operand.get())?;
@@ -271,34 +326,13 @@ impl Walk {
                 self.check_sign(alloc, lefts, *op, base_of(expr), *place, id)?;
                 Ok(id)
             }
-            CoreExpr::Infix(op, place, left, right) => {
-                let operation = Operation {
-                    op: *op,
-                    base: base_of(expr),
-                    place: *place,
-                    at: right.get().place(),
-                };
-                let first = self.checked_id(alloc, program, lefts, left.get())?;
-                let guards = self.right_lefts(alloc, *op, lefts, first)?;
-                let second = self.checked_id(alloc, program, guards.as_slice(), right.get())?;
-                let id = self.infix_id(*op, first, second)?;
-                self.check_operation(alloc, lefts, operation, second, id)?;
-                Ok(id)
-            }
-            CoreExpr::InType(op, _, tested, name) => {
-                let subtype = subtype_of(name.root.entity);
-                let tested = self.checked_id(alloc, program, lefts, tested.get())?;
-                let low = self.static_id(Value::Number(subtype.first))?;
-                let high = self.static_id(Value::Number(subtype.last))?;
-                let id = self.member_id(*op, tested, low, high)?;
-                Ok(id)
-            }
+            CoreExpr::Infix(_, _, _, _) => Ok(self.checked_infix(alloc, program, lefts, expr)?),
+            CoreExpr::InType(_, _, _, _) => Ok(self.checked_in_type(alloc, program, lefts, expr)?),
             CoreExpr::InRange(op, _, tested, low, high) => {
                 let tested = self.checked_id(alloc, program, lefts, tested.get())?;
                 let low = self.checked_id(alloc, program, lefts, low.get())?;
                 let high = self.checked_id(alloc, program, lefts, high.get())?;
-                let id = self.member_id(*op, tested, low, high)?;
-                Ok(id)
+                Ok(self.member_id(*op, tested, low, high)?)
             }
         }
     }

@@ -64,55 +64,28 @@ impl Walk {
         ensures walks { OnOk result ((entries : VarId → Term) → Walks self.old self.new (assume_parts (term_of program.now entries condition.now))) }
     {
         if literal(condition).is_some() {
-            self.assume_whole(program, condition)?;
-            return Ok(());
+            return Ok(self.assume_whole(program, condition)?);
         }
         match condition {
-            CoreExpr::Number(_, _) => {
-                self.assume_whole(program, condition)?;
-                Ok(())
-            }
-            CoreExpr::Name(_) => {
-                self.assume_whole(program, condition)?;
-                Ok(())
-            }
-            CoreExpr::Attribute(_, _) => {
-                self.assume_whole(program, condition)?;
-                Ok(())
-            }
+            CoreExpr::Number(_, _) => Ok(self.assume_whole(program, condition)?),
+            CoreExpr::Name(_) => Ok(self.assume_whole(program, condition)?),
+            CoreExpr::Attribute(_, _) => Ok(self.assume_whole(program, condition)?),
             CoreExpr::Parenthesized(_, inner) => {
-                self.assume_parts(alloc, program, inner.get())?;
-                Ok(())
+                Ok(self.assume_parts(alloc, program, inner.get())?)
             }
             CoreExpr::Prefix(op, _, operand) => match op {
-                PrefixOp::Plus => {
-                    self.assume_parts(alloc, program, operand.get())?;
-                    Ok(())
-                }
-                _ => {
-                    self.assume_whole(program, condition)?;
-                    Ok(())
-                }
+                PrefixOp::Plus => Ok(self.assume_parts(alloc, program, operand.get())?),
+                _ => Ok(self.assume_whole(program, condition)?),
             },
             CoreExpr::Infix(op, _, left, right) => match op {
                 InfixOp::And | InfixOp::AndThen => {
                     self.assume_parts(alloc, program, left.get())?;
-                    self.assume_parts(alloc, program, right.get())?;
-                    Ok(())
+                    Ok(self.assume_parts(alloc, program, right.get())?)
                 }
-                _ => {
-                    self.assume_whole(program, condition)?;
-                    Ok(())
-                }
+                _ => Ok(self.assume_whole(program, condition)?),
             },
-            CoreExpr::InType(_, _, _, _) => {
-                self.assume_split(alloc, program, condition)?;
-                Ok(())
-            }
-            CoreExpr::InRange(_, _, _, _, _) => {
-                self.assume_split(alloc, program, condition)?;
-                Ok(())
-            }
+            CoreExpr::InType(_, _, _, _) => Ok(self.assume_split(alloc, program, condition)?),
+            CoreExpr::InRange(_, _, _, _, _) => Ok(self.assume_split(alloc, program, condition)?),
         }
     }
 
