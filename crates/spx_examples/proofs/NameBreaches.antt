@@ -22,9 +22,9 @@ use Rattle.spx_core.specs.declared.rule.Typing.{Typing}
 use Rattle.spx_core.specs.Commands.{commands}
 use Rattle.spx_core.specs.Dependency.{relation}
 use Rattle.spx_core.specs.declared.subprogram.Sub.{Sub}
-use Rattle.spx_core.specs.Judged.{Judged, ◌>>=◌, breach_in, condition, each, expr_step, if_there, judged, operand_of, referred_object}
+use Rattle.spx_core.specs.Judged.{Judged, ◌>>=◌, breach_in, condition, each, expr_step, if_there, judged, operand_of, referred_target}
 use Rattle.spx_core.specs.Regions.{Regions}
-use Rattle.spx_core.specs.Resolved.{around_body, declaring, declaring_all, formal_names, local_names, own_vars, params_of, resolved_expr, resolved_pre, resolved_reference, resolved_stmt, resolved_sub, resolved_subs, resolved_value, unit_name}
+use Rattle.spx_core.specs.Resolved.{around_body, at_start, counted_sub, declaring, declaring_all, formal_names, local_names, params_of, resolved_expr, resolved_pre, resolved_reference, resolved_stmt, resolved_sub, resolved_subs, resolved_value, unit_name}
 use Rattle.spx_core.specs.Resolved as resolving
 use Rattle.spx_core.specs.Statements.{first_name_breach, judged_name, judged_command, judged_decl, judged_end, judged_item, judged_param, judged_pre, judged_sub}
 use Rattle.spx_core.proofs.Callers.Expressions.{fold-Number, fold-Name, fold-Attribute, fold-Parenthesized, fold-Prefix, fold-Infix, fold-InType, fold-InRange}
@@ -93,15 +93,15 @@ module _ (around : Regions) where
   -- what the assignment is judged to be
   abbrev assignment_now : Name → Expr → Judged ⊤
   assignment_now target value = do
-    object ← referred_object (resolved_reference around target)
+    subtype ← referred_target (resolved_reference around target)
     v ← expr_now around value
-    operand_of object.subtype v
+    operand_of subtype v
 
   body_is : (target : Name) (value : Expr) → judged_command (commands (resolved_stmt around (written_stmt.Assignment target value) ∷ [])) ≡ and_no_more (assignment_now target value)
   body_is target value =
       ap (λ s. judged_command (commands (s ∷ []))) (resolved_assignment around target value)
       ∙ ap judged_command (assignment_is (resolved_reference around target) (resolved_expr around value))
-      ∙ ap (λ j. and_no_more (referred_object (resolved_reference around target) >>= λ object. j >>= λ v. operand_of object.subtype v)) (judged_is value)
+      ∙ ap (λ j. and_no_more (referred_target (resolved_reference around target) >>= λ subtype. j >>= λ v. operand_of subtype v)) (judged_is value)
 
   -- what the `if` of one arm is judged to be
   abbrev if_now : Judged Typing → List Stmt → Judged ⊤
@@ -136,10 +136,10 @@ inside sub = declaring_all [] (formal_names sub ++ local_names sub) ∷ around_b
 module _ (s : Subprogram) (others : List Unit) where
   -- the first procedure of a file, and the others after it
   abbrev first : Sub
-  first = resolved_sub (unit_name [] 0 s) 0 s
+  first = resolved_sub (unit_name [] 0 s) at_start s
 
   abbrev next : List Sub
-  next = resolved_subs (declaring [] (unit_name [] 0 s)) (0 + 1) (0 + length (own_vars first)) others
+  next = resolved_subs (declaring [] (unit_name [] 0 s)) (0 + 1) (counted_sub at_start first) others
 
   -- the first breach in the file, where the first procedure is judged to be this
   abbrev breach_with : Judged ⊤ → Option Breach
