@@ -1,5 +1,5 @@
 -- The first breach of a rule on names or types, in a file of which the first procedure has one statement.
-use Rattle.std.proofs.Common.{◌≡◌, ◌+◌, length, List, [], ◌∷◌, ◌++◌, Option, Some, None, map, option_map, refl, ap, ap₂, ◌∙◌}
+use Rattle.std.proofs.Common.{◌≡◌, ◌+◌, List, [], ◌∷◌, ◌++◌, Option, Some, None, map, option_map, refl, ap, ap₂, ◌∙◌}
 use Rattle.std.specs.Prelude.{⊤}
 use denote.Hole.Carrier.{roll, hidden}
 use Rattle.spx_text.specs.declared.place.Place.{Place}
