@@ -14,7 +14,7 @@ use std::io::{self, Read, Write};
 use std::str;
 
 /// More bytes than a report on one text has.
-const ROOM: usize = 4096;
+const ROOM: usize = 16384;
 
 /// What was answered and written.
 #[derive(Drop)]
