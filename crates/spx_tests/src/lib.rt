@@ -1,8 +1,10 @@
-//! Tests of public calls of the lower crates. They stand here, since a crate with tests is proved twice.
+//! Tests of public calls of the other crates. They are here, since a crate with tests is proved twice.
 #![tactic(auto)]
 
 #[cfg(test)]
 mod conditions;
+#[cfg(test)]
+mod examining;
 #[cfg(test)]
 mod folding;
 #[cfg(test)]
