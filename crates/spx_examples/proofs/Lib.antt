@@ -43,3 +43,4 @@ mod Lists
 mod EffectLists
 mod FlowLists
 mod Findings
+mod Declarations

@@ -91,13 +91,13 @@ module _ (around : Regions) where
   pre_is (Some pre) = ap (λ j. j >>= λ t. condition t) (judged_is pre.condition)
 
   -- what the assignment is judged to be
-  abbrev assignment_now : Name → Expr → Judged ⊤
+  abbrev pub assignment_now : Name → Expr → Judged ⊤
   assignment_now target value = do
     subtype ← referred_target (resolved_reference around target)
     v ← expr_now around value
     operand_of subtype v
 
-  body_is : (target : Name) (value : Expr) → judged_command (commands (resolved_stmt around (written_stmt.Assignment target value) ∷ [])) ≡ and_no_more (assignment_now target value)
+  pub body_is : (target : Name) (value : Expr) → judged_command (commands (resolved_stmt around (written_stmt.Assignment target value) ∷ [])) ≡ and_no_more (assignment_now target value)
   body_is target value =
       ap (λ s. judged_command (commands (s ∷ []))) (resolved_assignment around target value)
       ∙ ap judged_command (assignment_is (resolved_reference around target) (resolved_expr around value))

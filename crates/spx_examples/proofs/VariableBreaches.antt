@@ -42,7 +42,7 @@ sub_with sub pre body = do
   obeyed_command body
 
 -- the first breach in this procedure, and the others after it
-abbrev breach_with : Sub → List Sub → Judged ⊤ → Command → Option Breach
+abbrev pub breach_with : Sub → List Sub → Judged ⊤ → Command → Option Breach
 breach_with sub others pre body = breach_in (sub_with sub pre body >>= λ _. each obeyed_sub others)
 
 pub breach_is : (p : Program) (sub : Sub) (others : List Sub) (body : Command) → p.subs ≡ sub ∷ others → commands sub.statements ≡ body

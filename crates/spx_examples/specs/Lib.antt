@@ -14,3 +14,4 @@ pub mod VariableRules
 pub mod Sequents
 pub mod Found
 pub mod Findings
+pub mod Declarations

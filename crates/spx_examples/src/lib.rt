@@ -5,6 +5,7 @@
 
 pub mod branch_laws;
 pub mod call_laws;
+pub mod declaration_laws;
 pub mod flow_laws;
 pub mod laws;
 pub mod name_rule_laws;
