@@ -12,3 +12,6 @@ mod words;
 
 pub use program::examine;
 pub use status::Status;
+
+#[cfg(test)]
+mod tests;

@@ -4,8 +4,6 @@
 #[cfg(test)]
 mod conditions;
 #[cfg(test)]
-mod examining;
-#[cfg(test)]
 mod folding;
 #[cfg(test)]
 mod lexemes;

@@ -1,8 +1,7 @@
-// Reports, and the calls that they are made with.
 ghost use Rattle.std.specs.Prelude.{◌≤◌, length};
 
+use crate::{Status, examine};
 use spx_core::{Program, SubId};
-use spx_examiner::{Status, examine};
 use spx_lexer::lex;
 use spx_parse_unit::parse_units;
 use spx_resolve::resolve;
