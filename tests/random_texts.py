@@ -47,7 +47,9 @@ PIECES = tuple(piece.encode('ascii') for piece in (
     'in', 'not in', 'in 1 .. 5', 'in Natural', 'Boolean', 'Natural', 'Positive', 'True', 'False', 'null from', '& null from X', ' * 2', ' / X',
     ' mod 3', ' ** 2', 'abs (X)', 'not (', ' and X > 0', ' and then X > 0', ' or else X /= 0', 'type', 'subtype', 'constant', 'range', 'range 1 .. 5',
     '   type S is range 0 .. 9;\n', '   type Hue is (Red, Green);\n', '   subtype S is Integer range 1 .. 5;\n', '   C : constant Integer := 5;\n',
-    '   C, D : constant := 2;\n', '   V : S;\n', 'C', 'Red', ' + C', ': constant', ':= 5', '(Red)'))
+    '   C, D : constant := 2;\n', '   V : S;\n', 'C', 'Red', ' + C', ': constant', ':= 5', '(Red)', 'case', 'when', 'others', '=>', '|', 'end case',
+    'end case;', 'case X is', 'when 1 =>', 'when others =>', 'when 1 .. 5 | 7 =>', '   case X is when 1 => X := 2; when others => X := 3; end case;\n',
+    'Integer (', "Integer'(", "Hue'Succ (", "'Pos", "'Val (1)", ' := 5', '   V : Integer := 5;\n'))
 # Bytes that are apt to end a lexeme, a line or a text.
 EDGES = b'\0\t\n\v\f\r -#0A_\x80\xa0\xff'
 
@@ -258,6 +260,25 @@ class Branch:
         return [body for _, body in self.arms] + [self.otherwise or []]
 
 
+    def tests(self):
+        """What chooses among them."""
+        return [condition for condition, _ in self.arms]
+
+
+@dataclass
+class Selection(Branch):
+    """A `case`: its selector, and in the place of conditions the choices of each alternative; after them `others`, if it is there."""
+    selector: str = ''
+
+    def bodies(self):
+        """The statements of each alternative."""
+        return [body for _, body in self.arms] + ([] if self.otherwise is None else [self.otherwise])
+
+    def tests(self):
+        """The selector."""
+        return [self.selector]
+
+
 def assignments(statements):
     """The targets and right sides of statements, also of those in arms."""
     for statement in statements:
@@ -283,7 +304,7 @@ def sources_after(statements, sources):
     """The formals that the value of each variable comes from after statements, where these are those before."""
     for statement in statements:
         if isinstance(statement, Branch):
-            conditions = set().union(*(sources_of(condition, sources) for condition, _ in statement.arms))
+            conditions = set().union(*(sources_of(test, sources) for test in statement.tests()))
             changed = {target for target, _ in assignments([statement])}
             ends = [sources_after(body, sources) for body in statement.bodies()]
             sources = {name: set().union(*(end[name] for end in ends)) | (conditions if name in changed else set())
@@ -364,7 +385,10 @@ class Writer:
         statements = [statement for local in locals_ for statement in self.uses(local)]
         conditions = [f'{local} {self.relation_of(local)} {self.near(local)}' for local in locals_]
         bodies = [[('X', self.random.choice(('A', 'A', '0', '1', '5') + self.constants()))] for _ in range(2)]
-        statements.append(Branch([(f' {self.random.choice(LOGICAL)} '.join(conditions), bodies[0])], bodies[1]))
+        if self.random.random() < 0.45 and any(self.base_of(local) != 'Boolean' for local in locals_):
+            statements.append(self.selection(bodies[0], ('X',), locals_))
+        else:
+            statements.append(Branch([(f' {self.random.choice(LOGICAL)} '.join(conditions), bodies[0])], bodies[1]))
         if self.declared.constants and self.random.random() < 0.2:
             self.insert(statements, self.to_a_constant(formals))
         sources = self.sources(formals, locals_, statements)
@@ -471,6 +495,8 @@ class Writer:
     def branch(self, statements, formals, locals_):
         """An `if` around the statements, which stand in one of its arms, or with other values in each."""
         readable = formals + tuple(local for local in locals_ if self.random.random() < 0.3)
+        if self.random.random() < 0.3:
+            return self.selection(statements, formals, readable)
         count = self.random.choices((1, 2, 3), (60, 30, 10))[0]
         has_else = self.random.random() < 0.6
         bodies = [[self.other(statement, readable) for statement in statements] if self.random.random() < 0.75 else
@@ -478,6 +504,77 @@ class Writer:
         bodies[self.random.randrange(len(bodies))] = list(statements) or self.some(formals, readable)
         arms = [(self.condition(readable), body) for body in bodies[:count]]
         return Branch(arms, bodies[count] if has_else else None)
+
+    def selection(self, statements, formals, readable):
+        """A `case` with the statements in one of its alternatives, or with other values in each. It mostly has each value once."""
+        selector = self.random.choice([name for name in readable if self.base_of(name) != 'Boolean' or self.random.random() < 0.02] or ['1'])
+        mark = self.types.get(selector, 'Integer')
+        found = next((found for found in self.declared.types if found.name == mark), PREDEFINED[0])
+        if self.random.random() < 0.15 and found.base != 'Boolean':
+            fitting = [other for other in self.declared.of_base(found.base)]
+            found = self.random.choice(fitting or [found])
+            selector = f"{found.name}'({selector})" if self.random.random() < 0.5 else f'{found.name} ({selector})'
+        elif self.random.random() < 0.1:
+            selector = self.random.choice((f'({selector})', f'{selector} + 1', f'{selector} mod 3'))
+        choices, has_others = self.choices(found)
+        bodies = [[self.other(statement, readable) for statement in statements] if self.random.random() < 0.75 else
+                  self.some(formals, readable) for _ in range(len(choices) + has_others)]
+        bodies[self.random.randrange(len(bodies))] = list(statements) or self.some(formals, readable)
+        return Selection(list(zip(choices, bodies)), bodies[-1] if has_others else None, selector)
+
+    def choices(self, found):
+        """Choices for the values of a type: some of them and `others`, or ranges that touch; rarely with one missing or twice."""
+        low, high = (0, 1) if found.low is None else (min(found.low, found.high), max(found.low, found.high))
+        cuts = sorted({low, *(min(high, max(low, self.random.choice((low + 1, low + 2, 0, 1, 5, high)))) for _ in range(self.random.choice((0, 1, 2, 3))))})
+        spans = [(first, after - 1) for first, after in zip(cuts, cuts[1:] + [high + 1])]
+        has_others = self.random.random() < 0.5
+        if has_others and len(spans) > 1:
+            del spans[self.random.randrange(len(spans))]
+        if self.random.random() < 0.06:
+            first, last = self.random.choice(spans)
+            spans.append(self.random.choice(((first, last), (last, first), (last + 1, last + 1), (first, first + 1))))
+        if self.random.random() < 0.04 and len(spans) > 1:
+            del spans[self.random.randrange(len(spans))]
+        self.random.shuffle(spans)
+        written = [self.choice(found, *span) for span in spans]
+        if len(written) > 2 and self.random.random() < 0.4:
+            written[:2] = [' | '.join(written[:2])]
+        return written, has_others
+
+    def choice(self, found, first, last):
+        """A choice of one value, or a range."""
+        if first == last and self.random.random() < 0.8:
+            return self.bound(found, first)
+        return f'{self.bound(found, first)} .. {self.bound(found, last)}'
+
+    def bound(self, found, value):
+        """A bound of a choice, which rarely does not fit."""
+        if self.random.random() < 0.01:
+            return self.random.choice(ODD_VALUES)
+        if found.low is not None and value in (found.low, found.high) and self.random.random() < 0.3:
+            return f"{found.name}'{'First' if value == found.low else 'Last'}"
+        if self.is_literal(found.base):
+            literals = self.declared.literals[found.base]
+            return self.random.choice((literals[value % len(literals)], literals[value % len(literals)], f"{found.name}'Val ({value % len(literals)})"))
+        if found.base == 'Boolean':
+            return self.random.choice(('True', 'False'))
+        return str(value)
+
+    def function(self, variables, operand):
+        """The operand in a conversion, a qualification or a function of its type, or one of another type in a conversion."""
+        mark = self.random.choice(self.declared.of_base(self.base) or self.declared.types).name
+        if self.is_literal(self.base):
+            integers = self.over('Integer', self.numbers, variables)
+            return self.random.choice((f"{mark}'Succ ({operand})", f"{mark}'Pred ({operand})", f"{mark}'({operand})",
+                                       f"{mark}'Val ({self.random.choice(integers + ('0',))})"))
+        others = [found for found in self.declared.types if found.base != self.base and (found.base != 'Boolean' or self.random.random() < 0.02)]
+        if others and self.random.random() < 0.4:
+            other = self.random.choice(others)
+            inner = self.random.choice(self.over(other.base, self.numbers, variables) or (operand,))
+            if inner == operand:
+                return f'{mark} ({operand})'
+            return f"{mark} ({other.name}'Pos ({inner}))" if self.is_literal(other.base) else f'{mark} ({inner})'
+        return self.random.choice((f'{mark} ({operand})', f'{mark} ({operand})', f"{mark}'({operand})"))
 
     def other(self, statement, readable):
         """A statement that sets what this one sets, with another value."""
@@ -603,6 +700,8 @@ class Writer:
     def spelled_branch(self, branch):
         """An `if` in one line or in several."""
         gap = self.random.choice((' ', ' ', '\n      '))
+        if isinstance(branch, Selection):
+            return self.spelled_selection(branch, gap)
         text = ''
         for word, (condition, body) in zip(['if'] + ['elsif'] * len(branch.arms), branch.arms):
             text += f'{word} {condition} then{gap}' + ''.join(f'{piece};{gap}' for piece in self.spelled(body))
@@ -610,12 +709,28 @@ class Writer:
             text += f'else{gap}' + ''.join(f'{piece};{gap}' for piece in self.spelled(branch.otherwise))
         return text + 'end if'
 
+    def spelled_selection(self, branch, gap):
+        """A `case`; `others` rarely is not the last choice."""
+        alternatives = list(branch.arms) + ([] if branch.otherwise is None else [('others', branch.otherwise)])
+        if self.random.random() < 0.02:
+            self.random.shuffle(alternatives)
+        text = f'case {branch.selector} is{gap}'
+        for choices, body in alternatives:
+            text += f'when {choices} =>{gap}' + ''.join(f'{piece};{gap}' for piece in self.spelled(body))
+        return text + 'end case'
+
+    def initial(self, name):
+        """Nothing, or a value with which a variable is declared, mostly one of its type."""
+        if self.random.random() < 0.75:
+            return ''
+        return f' := {self.near(name) if self.random.random() < 0.97 else self.random.choice(ODD_VALUES)}'
+
     def declarations(self, locals_):
         """A declaration for each local, or one for all, which then mostly have one type."""
         is_one = len({self.types[name] for name in locals_}) == 1 or self.random.random() < 0.05
         if is_one and self.random.random() < 0.5:
             locals_ = (', '.join(locals_),) if locals_ else ()
-        return [f'{names} : {self.types.get(names, self.types[names.split(",")[0]])}' for names in locals_]
+        return [f'{names} : {self.types.get(names, self.types[names.split(",")[0]])}{self.initial(names.split(",")[0])}' for names in locals_]
 
     def statements(self, formals, locals_):
         """Targets and right sides. Each local mostly comes from what stands before it, and goes to the next target."""
@@ -663,7 +778,7 @@ class Writer:
         is_usual = usual in self.numbers(variables) and self.random.random() < 0.5
         first = usual if is_usual else self.number_in(variables)
         if self.is_literal(self.base) and self.random.random() < 0.97:
-            return first if self.random.random() < 0.9 else f'({first})'
+            return self.random.choices((first, f'({first})', self.function(variables, first)), (75, 7, 18 if first in variables else 2))[0]
         return first if self.random.random() < 0.4 else self.sum(variables, first)
 
     def sum(self, variables, first):
@@ -682,6 +797,8 @@ class Writer:
         kind = self.random.random()
         if kind < 0.12:
             return f'({self.sum(variables, operand)})'
+        if kind > (0.92 if operand in variables else 0.995):
+            return self.function(variables, operand)
         if kind < 0.27 and (operand in variables or kind < 0.16):
             factors = [self.random.choice(self.numbers(variables) * 2 + self.constants() + FACTORS) for _ in range(self.random.choice((1, 1, 2)))]
             return operand + ''.join(f' {self.random.choice(PRODUCTS)} {factor}' for factor in factors)

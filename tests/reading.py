@@ -90,6 +90,8 @@ TEXTS = {
     'N11': 'not static',
     'N12': 'static value out of range',
     'N13': 'bad range',
+    'N14': 'wrong arguments',
+    'N17': 'choice not given once',
     'U2': 'target cannot be assigned',
     'U7': 'bad derives annotation',
     'U8': 'mode disagrees with derives',
@@ -386,6 +388,37 @@ class Membership:
 
 
 @dataclass(frozen=True)
+class Applied:
+    """`name (operand)`, `name'designator (operand)` or `name'(operand)`, with a level more than its operand.
+
+    It stands at its name. Its value is that of the operand and so much more, and lies between two bounds, if there are any.
+    """
+    name: Name
+    designator: Optional[Name]
+    is_qualified: bool
+    operand: 'Expression'
+    levels: int
+    more: int = 0
+    low: Optional[int] = None
+    high: Optional[int] = None
+    kind: Optional[Kind] = None
+    value: Union[int, bool, None] = None
+
+    @property
+    def place(self):
+        """The place of the name."""
+        return self.name.place
+
+    def moved(self, value):
+        """The value, or the position after it or before it."""
+        return value + self.more if self.more else value
+
+    def has(self, value):
+        """Whether the result lies in its bounds."""
+        return self.low is None or self.low <= value <= self.high
+
+
+@dataclass(frozen=True)
 class Parenthesized:
     """`(inner)`, with a level more than what it holds."""
     place: Place
@@ -395,7 +428,7 @@ class Parenthesized:
     value: Union[int, bool, None] = None
 
 
-Expression = Union[Name, Attribute, Variable, Static, Operation, Prefix, Membership, Parenthesized]
+Expression = Union[Name, Attribute, Variable, Static, Applied, Operation, Prefix, Membership, Parenthesized]
 
 
 @dataclass(frozen=True)
@@ -430,6 +463,40 @@ class If:
 
 
 @dataclass(frozen=True)
+class Choice:
+    """`low`, or `low .. high`"""
+    low: Expression
+    high: Optional[Expression]
+
+    def has(self, value):
+        """Whether it covers the value."""
+        return self.low.value <= value <= self.last()
+
+    def last(self):
+        """The last value that it covers, if it covers any."""
+        return (self.high or self.low).value
+
+
+@dataclass(frozen=True)
+class Alternative:
+    """`when choices => statements`; for `others` there are no choices."""
+    choices: Optional[list]
+    statements: list
+
+
+@dataclass(frozen=True)
+class Case:
+    """`case selector is alternatives end case;`, which stands at its first word."""
+    place: Place
+    selector: Expression
+    alternatives: list
+
+    def branches(self):
+        """The statements of each alternative."""
+        return [alternative.statements for alternative in self.alternatives]
+
+
+@dataclass(frozen=True)
 class Param:
     """`names : mode type_mark`"""
     names: list
@@ -439,9 +506,10 @@ class Param:
 
 @dataclass(frozen=True)
 class VariableDeclaration:
-    """`names : type_mark;`"""
+    """`names : type_mark;`, or with `:= value` after the type mark."""
     names: list
     type_mark: Union[Name, Attribute]
+    value: Optional[Expression]
 
 
 @dataclass(frozen=True)
@@ -504,7 +572,8 @@ class Procedure:
     """A procedure, which stands at its word.
 
     As it is read, it has names, parameters and declarations; then what the names denote, formals, the words of local
-    variables and of constants, and of each variable its type, and how it is spelled where it is declared.
+    variables and of constants, of each variable its type, and how it is spelled where it is declared, and the initial
+    values of those that have one.
     """
     place: Place
     name: Name
@@ -518,6 +587,7 @@ class Procedure:
     spelled: Optional[dict] = None
     subtypes: Optional[dict] = None
     constants: Optional[list] = None
+    initial: Optional[dict] = None
 
     def items(self):
         """The items of `derives`, if it is there."""
@@ -682,7 +752,7 @@ class Parser:
         names = self.identifiers()
         self.take(':')
         if not self.take_if('constant'):
-            return VariableDeclaration(names, self.name())
+            return VariableDeclaration(names, self.name(), self.expression(False, 0) if self.take_if(':=') else None)
         type_mark = self.name_if()
         self.take(':=')
         return ConstantDeclaration(names, type_mark, self.expression(False, 0))
@@ -714,18 +784,18 @@ class Parser:
     def statements(self, above):
         """statement {statement}, under so many levels"""
         statements = [self.statement(above)]
-        while any(self.next_is(kind) for kind in ('null', 'identifier', 'if')):
+        while any(self.next_is(kind) for kind in ('null', 'identifier', 'if', 'case')):
             statements.append(self.statement(above))
         return statements
 
     def statement(self, above):
-        """"null" ";" | name ":=" expression ";" | an `if`"""
+        """"null" ";" | name ":=" expression ";" | an `if` | a `case`"""
         if self.take_if('null'):
             self.take(';')
             return Null()
-        word = self.opening(('if',), False, above + 1)
+        word = self.opening(('if', 'case'), False, above + 1)
         if word:
-            return self.branching(word, above + 1)
+            return self.branching(word, above + 1) if word.kind == 'if' else self.selection(word, above + 1)
         target = self.name()
         self.take(':=')
         value = self.expression(False, above)
@@ -742,6 +812,33 @@ class Parser:
         for kind in ('end', 'if', ';'):
             self.take(kind)
         return If(arms, otherwise)
+
+    def selection(self, word, above):
+        """"case" expression "is" alternative {alternative} "end" "case" ";" after the first word"""
+        selector = self.expression(False, above)
+        self.take('is')
+        alternatives = [self.alternative(above)]
+        while self.next_is('when'):
+            alternatives.append(self.alternative(above))
+        for kind in ('end', 'case', ';'):
+            self.take(kind)
+        return Case(word.place, selector, alternatives)
+
+    def alternative(self, above):
+        """"when" ("others" | choice {"|" choice}) "=>" statement {statement}"""
+        self.take('when')
+        choices = None
+        if not self.take_if('others'):
+            choices = [self.choice(above)]
+            while self.take_if('|'):
+                choices.append(self.choice(above))
+        self.take('=>')
+        return Alternative(choices, self.statements(above))
+
+    def choice(self, above):
+        """sum [".." sum]"""
+        low = self.sum(False, above)
+        return Choice(low, self.sum(False, above) if self.take_if('..') else None)
 
     def arm(self, place, above):
         """expression "then" statement {statement}"""
@@ -827,14 +924,26 @@ class Parser:
         return Prefix(token.kind, token.place, found, levels_of(found) + 1)
 
     def primary(self, marked, above):
-        """number | name | "(" expression ")" """
+        """number | name | function "(" expression ")" | "(" expression ")" """
         parenthesis = self.opening(('(',), marked, above + 1)
         if parenthesis:
             inner = self.expression(marked, above + 1)
             self.take(')', marked)
             return Parenthesized(parenthesis.place, inner, levels_of(inner) + 1)
         number = self.take_if('number', marked)
-        return Static(number_value(number.text), UNIVERSAL, number.place) if number else self.name(marked)
+        return Static(number_value(number.text), UNIVERSAL, number.place) if number else self.named(marked, above)
+
+    def named(self, marked, above):
+        """id ["'" id] ["(" expression ")"] | id "'" "(" expression ")" """
+        name, designator, is_qualified = self.identifier(marked), None, False
+        if self.take_if("'", marked):
+            is_qualified = self.next_is('(', marked)
+            designator = None if is_qualified else self.identifier(marked)
+        if not self.opening(('(',), marked, above + 1):
+            return Attribute(name, designator) if designator else name
+        operand = self.expression(marked, above + 1)
+        self.take(')', marked)
+        return Applied(name, designator, is_qualified, operand, levels_of(operand) + 1)
 
     def name_if(self, marked=False):
         """A name, if one comes next."""
@@ -875,6 +984,8 @@ def parts_of(expression):
         return (expression.operand,)
     if isinstance(expression, Membership):
         return tuple(part for part in (expression.tested, expression.low, expression.high) if part)
+    if isinstance(expression, Applied):
+        return (expression.operand,)
     return (expression.inner,) if isinstance(expression, Parenthesized) else ()
 
 
@@ -954,6 +1065,11 @@ def evaluated(expression, store):
 
 def applied(expression, values):
     """The value of an operation on these values of its parts; or the first of its own checks that fails is raised."""
+    if isinstance(expression, Applied):
+        value = expression.moved(values[0])
+        if not expression.has(value):
+            raise Fault('range', expression.operand.place)
+        return value
     if isinstance(expression, Operation):
         if expression.operator in DIVISIONS and values[1] == 0:
             raise Fault('division', expression.place)
@@ -975,7 +1091,7 @@ def computed_value(expression, values):
         tested, *bounds = values
         low, high = bounds or (expression.type_mark.first, expression.type_mark.last)
         return (low <= tested <= high) == expression.is_in
-    return values[0]
+    return expression.moved(values[0]) if isinstance(expression, Applied) else values[0]
 
 
 def stated(expression, store):
@@ -1109,6 +1225,15 @@ EVERYWHERE = {
 }
 
 
+# The functions of an enumeration type: what they add to an operand.
+FUNCTIONS = {'pos': 0, 'val': 0, 'succ': 1, 'pred': -1}
+
+
+def has_attribute(kind, designator):
+    """Whether a type has the attribute: its ends, but for truth values; and functions, if it has literals."""
+    return (designator in ('first', 'last') and kind is not BOOLEAN) or (designator in FUNCTIONS and kind.values == 'literals')
+
+
 class Resolver:
     """Puts in the place of each name of a procedure what it denotes, in the order of the walk, up to a first breach.
 
@@ -1121,6 +1246,7 @@ class Resolver:
         self.formals = []
         self.scope = {}
         self.spelled = {}
+        self.initial = {}
         self.outer = EVERYWHERE
 
     def run(self):
@@ -1137,7 +1263,7 @@ class Resolver:
         formals = [formal.word for formal in self.formals]
         return replace(self.tree, formals=self.formals, derives=derives, pre=pre, statements=statements,
                        locals=[word for word in self.words('variable') if word not in formals],
-                       constants=self.words('constant'), spelled=self.spelled,
+                       constants=self.words('constant'), spelled=self.spelled, initial=self.initial,
                        subtypes={word: self.scope[word].subtype for word in self.words('variable')})
 
     def words(self, sort):
@@ -1158,9 +1284,14 @@ class Resolver:
         of_kinds[type(declaration)](declaration)
 
     def variables(self, declaration):
-        """Variables of a type."""
+        """Variables of a type. N10, N11, N12: an initial value is a static one of the type."""
         self.begin(declaration.names)
-        self.end(declaration.names, Entity('variable', self.subtype(declaration.type_mark)))
+        subtype = self.subtype(declaration.type_mark)
+        if declaration.value:
+            value = self.static(declaration.value, subtype.kind)
+            require('N12', value.place, subtype.has(value.value))
+            self.initial |= {name.word(): value.value for name in declaration.names}
+        self.end(declaration.names, Entity('variable', subtype))
 
     def constants(self, declaration):
         """Constants of a type, or named numbers. N10, N11: the value is of the type and static. N12: it lies in the type.
@@ -1290,12 +1421,103 @@ class Resolver:
             return tree
         if isinstance(tree, If):
             return If([self.arm(arm) for arm in tree.arms], self.statements(tree.otherwise))
+        if isinstance(tree, Case):
+            return self.selection(tree)
         target, value = self.variable(tree.target, 'constant'), self.expression(tree.value)
         must_match(value, target.kind)
         return Assignment(target, value)
 
+    def selection(self, tree):
+        """N17, before all parts: `others` is last; and where selector and choices break no rule, they are given once."""
+        require('N17', tree.place, all(alternative.choices is not None for alternative in tree.alternatives[:-1]))
+        require('N17', tree.place, self.are_given_once(tree))
+        selector = self.selector(tree.selector)
+        alternatives = [Alternative(self.choices(alternative, selector.kind), self.statements(alternative.statements))
+                        for alternative in tree.alternatives]
+        return Case(tree.place, selector, alternatives)
+
+    def selector(self, tree):
+        """N10: a selector is of a type that has an order."""
+        found = self.expression(tree)
+        require('N10', found.place, found.kind is not BOOLEAN)
+        return found
+
+    def choices(self, tree, kind):
+        """Those of an alternative, in the order of the text."""
+        if tree.choices is None:
+            return None
+        return [Choice(self.chosen(choice.low, kind), choice.high and self.chosen(choice.high, kind)) for choice in tree.choices]
+
+    def chosen(self, tree, kind):
+        """N10: a bound of a choice is of the type of the selector. N11: it is static. N12: it lies in that type."""
+        found = self.expression(tree)
+        require('N10', found.place, found.kind is kind or (kind is not UNIVERSAL and common_kind((found.kind, kind)) is kind))
+        require('N11', found.place, found.value is not None)
+        require('N12', found.place, kind.has(found.value))
+        return found
+
+    def are_given_once(self, tree):
+        """Whether each value that the selector may have has an alternative, and none has two; if parts break rules, it is so."""
+        try:
+            selector = self.selector(tree.selector)
+            choices = [choice for alternative in tree.alternatives for choice in self.choices(alternative, selector.kind) or []]
+        except Refused:
+            return True
+        spans = sorted((choice.low.value, choice.last()) for choice in choices if choice.low.value <= choice.last())
+        if any(last >= first for (_, last), (first, _) in zip(spans, spans[1:])):
+            return False
+        if tree.alternatives[-1].choices is None:
+            return True
+        missing, last = self.extent(tree.selector, selector.kind)
+        for low, high in spans:
+            if low <= missing:
+                missing = max(missing, high + 1)
+        return missing > last
+
+    def extent(self, tree, kind):
+        """The first and the last value that a selector may have: of a name, a conversion or a qualification those of its subtype."""
+        if isinstance(tree, Name) or (isinstance(tree, Applied) and not tree.designator):
+            subtype = self.denoted(tree if isinstance(tree, Name) else tree.name).subtype
+            return subtype.first, subtype.last
+        return kind.first, kind.last
+
+    def applied(self, tree):
+        """N10: a conversion is to a type of numbers. N14: an attribute with an argument is a function. Then the operand."""
+        kind, designator = self.must_denote(tree.name, 'type').subtype.kind, tree.designator and tree.designator.word()
+        if designator:
+            require('N3', tree.place, has_attribute(kind, designator))
+            require('N14', tree.place, designator in FUNCTIONS)
+        else:
+            require('N10', tree.place, tree.is_qualified or kind.values == 'numbers')
+        return self.mapped(tree, self.expression(tree.operand))
+
+    def mapped(self, tree, operand):
+        """N10: the operand is a number of any kind for a conversion and `Val`, and else of the type.
+
+        N12: a universal one then lies in the type; and a static result lies in its bounds, which are those of the subtype for
+        a conversion and a qualification, and of the whole type for a function but `Pos`.
+        """
+        subtype, designator = self.denoted(tree.name).subtype, tree.designator and tree.designator.word()
+        kind = subtype.kind
+        if designator == 'val' or not (designator or tree.is_qualified):
+            require('N10', operand.place, operand.kind.values == 'numbers')
+        else:
+            must_match(operand, kind)
+        bounds = kind if designator else subtype
+        is_free = designator == 'pos' or kind is BOOLEAN
+        tree = replace(tree, operand=operand, more=FUNCTIONS[designator] if designator else 0,
+                       low=None if is_free else bounds.first, high=None if is_free else bounds.last,
+                       kind=INTEGER if designator == 'pos' else kind)
+        if operand.value is None:
+            return tree
+        value = tree.moved(operand.value)
+        require('N12', tree.place, tree.has(value))
+        return replace(tree, value=value)
+
     def expression(self, tree):
         """An expression over what its names denote. What an operator holds comes before it."""
+        if isinstance(tree, Applied):
+            return self.applied(tree)
         if isinstance(tree, Operation):
             return judged(replace(tree, left=self.expression(tree.left), right=self.expression(tree.right)))
         if isinstance(tree, Prefix):
@@ -1325,10 +1547,11 @@ class Resolver:
         return replace(tree, tested=tested, type_mark=subtype)
 
     def attribute(self, tree):
-        """N3: a type that has bounds is named before `'`, and `First` or `Last` comes after it."""
+        """N3: a type that has the attribute is named before `'`. N14: one that is a function has an argument."""
         subtype = self.must_denote(tree.prefix, 'type').subtype
         designator = tree.designator.word()
-        require('N3', tree.place, subtype.kind is not BOOLEAN and designator in ('first', 'last'))
+        require('N3', tree.place, has_attribute(subtype.kind, designator))
+        require('N14', tree.place, designator not in FUNCTIONS)
         return Static(subtype.first if designator == 'first' else subtype.last, subtype.kind, tree.place)
 
     def end_name(self):
@@ -1349,12 +1572,12 @@ def resolved(trees):
 # ---------------------------------------------------------------- the walk of rules on variables
 
 def assignments(statements):
-    """All assignments in statements, also those in an `if`, in the order of the text."""
+    """All assignments in statements, also those in an `if` and a `case`, in the order of the text."""
     found = []
     for statement in statements:
         if isinstance(statement, Assignment):
             found.append(statement)
-        elif isinstance(statement, If):
+        elif isinstance(statement, (If, Case)):
             found += [inner for branch in statement.branches() for inner in assignments(branch)]
     return found
 
@@ -1460,6 +1683,13 @@ def are_read(words, expression):
     return any(name.word in words for name in reads(expression))
 
 
+def tests_of(tree):
+    """What chooses among the branches of an `if` or a `case`: each with its place, and the targets that it chooses among."""
+    if isinstance(tree, If):
+        return [(arm.condition, arm.place, choice) for arm, choice in zip(tree.arms, choices(tree))]
+    return [(tree.selector, tree.place, {assignment.target.word for assignment in assignments([tree])})]
+
+
 def choices(tree):
     """What the condition of each arm chooses among: the targets in that arm, in the later ones and after `else`."""
     found = []
@@ -1472,16 +1702,16 @@ def choices(tree):
 def carried(statements, words):
     """The variables to which flows lead through statements from these ones.
 
-    A target has what its right side reads, and nothing else. Of an `if` each branch may be run; and what a condition reads
-    comes to all that it chooses among.
+    A target has what its right side reads, and nothing else. Of an `if` or a `case` each branch may be run; and what a
+    condition or a selector reads comes to all that it chooses among.
     """
     for statement in statements:
         if isinstance(statement, Assignment):
             rest = words - {statement.target.word}
             words = rest | {statement.target.word} if are_read(words, statement.value) else rest
-        elif isinstance(statement, If):
+        elif isinstance(statement, (If, Case)):
             branches = [carried(branch, words) for branch in statement.branches()]
-            chosen = [choice for arm, choice in zip(statement.arms, choices(statement)) if are_read(words, arm.condition)]
+            chosen = [choice for test, _, choice in tests_of(statement) if are_read(words, test)]
             words = set().union(*branches, *chosen)
     return words
 
@@ -1497,7 +1727,7 @@ def f1_f2(procedure, relation):
 
 
 def occurrences(statements, after):
-    """Each right side and condition: its place, the variables that it gives a value, and the statements after that.
+    """Each right side, condition and selector: its place, the variables that it gives a value, and the statements after that.
 
     The last are those of the same list, and then these others.
     """
@@ -1505,9 +1735,9 @@ def occurrences(statements, after):
         rest = statements[at + 1:] + after
         if isinstance(statement, Assignment):
             yield statement.target.place, {statement.target.word}, rest
-        elif isinstance(statement, If):
-            for arm, choice in zip(statement.arms, choices(statement)):
-                yield arm.place, choice, rest
+        elif isinstance(statement, (If, Case)):
+            for _, place, choice in tests_of(statement):
+                yield place, choice, rest
             for branch in statement.branches():
                 yield from occurrences(branch, rest)
 
@@ -1520,9 +1750,9 @@ def f3(procedure, relation):
 
 
 def f4(procedure, relation):
-    """F4: what is read is an import or assigned before it on each way, and so is each export at the end."""
+    """F4: what is read is an import, has an initial value or is assigned before it on each way, and so is each export at the end."""
     unset_reads = []
-    is_set = set_after(procedure.statements, relation.imported, unset_reads)
+    is_set = set_after(procedure.statements, relation.imported | set(procedure.initial), unset_reads)
     for name in unset_reads:
         yield unset(procedure, name.word, name.place)
     for export in relation.exported - is_set:
@@ -1532,14 +1762,14 @@ def f4(procedure, relation):
 def set_after(statements, is_set, unset_reads):
     """The variables that are set after statements, whatever way is taken; and reads of others are added to the list.
 
-    After an `if` those are set that each of its branches leaves set.
+    After an `if` or a `case` those are set that each of its branches leaves set.
     """
     for statement in statements:
         if isinstance(statement, Assignment):
             unset_reads += [name for name in reads(statement.value) if name.word not in is_set]
             is_set = is_set | {statement.target.word}
-        elif isinstance(statement, If):
-            unset_reads += [name for arm in statement.arms for name in reads(arm.condition) if name.word not in is_set]
+        elif isinstance(statement, (If, Case)):
+            unset_reads += [name for test, _, _ in tests_of(statement) for name in reads(test) if name.word not in is_set]
             is_set = set.intersection(*[set_after(branch, is_set, unset_reads) for branch in statement.branches()])
     return is_set
 
@@ -1661,14 +1891,23 @@ def term_of(expression, values):
         return infix(IN_TERMS.get(expression.operator, expression.operator), *parts)
     if isinstance(expression, Membership):
         return membership_term(expression, *parts)
+    if isinstance(expression, Applied):
+        return moved_term(expression, *parts)
     is_kept = isinstance(expression, Prefix) and expression.operator != '+'
     return prefix(expression.operator, *parts) if is_kept else parts[0]
+
+
+def moved_term(expression, operand):
+    """The operand itself, or 1 more or less than it."""
+    if not expression.more:
+        return operand
+    return infix('+' if expression.more > 0 else '-', operand, number(1))
 
 
 def facts_of(condition, values):
     """The facts of a condition: what `and` joins in its text. A variable is one fact, whatever stands for it."""
     if condition.value is None:
-        if isinstance(condition, Parenthesized):
+        if isinstance(condition, (Parenthesized, Applied)):
             return facts_of(*parts_of(condition), values)
         if isinstance(condition, Operation) and condition.operator in ('and', 'and then'):
             return sum((facts_of(part, values) for part in parts_of(condition)), ())
@@ -1700,8 +1939,9 @@ def with_facts(facts, more):
 
 
 def entry_values(procedure):
-    """At the start each variable stands for its value on entry."""
-    return {word: entry(word, procedure.subtypes[word].kind is BOOLEAN) for word in procedure.words()}
+    """At the start each variable stands for its initial value, or else for its value on entry."""
+    on_entry = {word: entry(word, procedure.subtypes[word].kind is BOOLEAN) for word in procedure.words()}
+    return on_entry | {word: literal(value) for word, value in procedure.initial.items()}
 
 
 def first_facts(procedure):
@@ -1735,6 +1975,9 @@ def own_checks(expression, values):
     """The checks of an operation itself: of its divisor, of its exponent, and then of its result."""
     operator = expression.operator if isinstance(expression, (Operation, Prefix)) else None
     found = []
+    if isinstance(expression, Applied) and expression.low is not None:
+        goals = between(term_of(expression, values), number(expression.low), number(expression.high))
+        found.append(Check('range', expression.operand.place, goals))
     if operator in DIVISIONS:
         divisor = term_of(expression.right, values)
         found.append(Check('division', expression.place, (infix('/=', divisor, number(0)),)))
@@ -1751,6 +1994,15 @@ def checks_of_assignment(subtype, value, values):
     """The checks of the right side, and that it lies in the type of the target, which a truth value always does."""
     goals = bounds_of(subtype, term_of(value, values))
     return checks_of(value, values) + ([Check('range', value.place, goals)] if goals else [])
+
+
+def choices_term(choices, term):
+    """The term is the value of one of the choices, or lies between its bounds; `or` joins them from left to right."""
+    first, *rest = [conjunction(between(term, number(choice.low.value), number(choice.high.value))) if choice.high
+                    else infix('=', term, number(choice.low.value)) for choice in choices]
+    for other in rest:
+        first = infix('or', first, other)
+    return first
 
 
 class Walk:
@@ -1770,8 +2022,9 @@ class Walk:
     def go(self, statements, facts, values):
         """Along statements to the end. A target stands for its term after its assignment."""
         for at, statement in enumerate(statements):
-            if isinstance(statement, If):
-                self.part(statement, statements[at + 1:], facts, values)
+            if isinstance(statement, (If, Case)):
+                part = self.part if isinstance(statement, If) else self.select
+                part(statement, statements[at + 1:], facts, values)
                 return
             if isinstance(statement, Assignment):
                 word, value = statement.target.word, statement.value
@@ -1788,6 +2041,19 @@ class Walk:
         self.go(tree.otherwise + rest, facts, values)
 
 
+    def select(self, tree, rest, facts, values):
+        """Each alternative where the selector has one of its values, and after it the rest: `others` where it has no other one."""
+        facts = self.show(checks_of(tree.selector, values), facts)
+        selector, earlier = term_of(tree.selector, values), ()
+        for alternative in tree.alternatives:
+            if alternative.choices is None:
+                more = tuple(negation(term) for term in earlier)
+            else:
+                chosen = choices_term(alternative.choices, selector)
+                more, earlier = conjuncts(chosen), earlier + (chosen,)
+            self.go(alternative.statements + rest, with_facts(facts, more), values)
+
+
 def conditions_of(procedure):
     """What there is to show along the paths of a procedure, in the order of the walk."""
     walk = Walk(procedure.subtypes)
@@ -1799,7 +2065,7 @@ def paths_of(statements):
     """The number of ways from the first of the statements to their end."""
     found = 1
     for statement in statements:
-        if isinstance(statement, If):
+        if isinstance(statement, (If, Case)):
             found *= sum(paths_of(branch) for branch in statement.branches())
     return found
 

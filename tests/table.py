@@ -103,6 +103,8 @@ TEXTS = {
     'N11': 'not static',
     'N12': 'static value out of range',
     'N13': 'bad range',
+    'N14': 'wrong arguments',
+    'N17': 'choice not given once',
     'U2': 'target cannot be assigned',
     'U7': 'bad derives annotation',
     'U8': 'mode disagrees with derives',
@@ -418,7 +420,7 @@ ATTRIBUTE_TOKENS = (
     ('apostrophe_of_a_second_import', "'", ':'),
     ('designator_of_a_second_import', 'First', 'some'),
     *plain('; \n is \n T : Integer'),
-    ('apostrophe_of_a_type_of_locals', "'", ':='),
+    ('apostrophe_of_a_type_of_locals', "'", '+'),
     ('designator_of_a_type_of_locals', 'Base', '1'),
     *plain('; \n begin \n X'),
     ('apostrophe_of_a_target', "'", '('),
@@ -516,7 +518,36 @@ DECLARED_TOKENS = (
     *plain('2 ; \n begin \n X := Two ; \n end Dcl ;'),
 )
 
-TOKEN_LISTS = (TOKENS, LOCAL_TOKENS, ATTRIBUTE_TOKENS, SKIP_TOKENS, IF_TOKENS, DECLARED_TOKENS)
+# A text with a `case` and a conversion.
+CASE_TOKENS = (
+    *plain('procedure Cas ( A : in Integer ; X : out Integer ) \n--# derives X from A ; \n is \n begin \n'),
+    ('case', 'case', 'loop'),
+    ('selector', 'A', 'when'),
+    ('is_of_a_case', 'is', ':='),
+    *plain('\n'),
+    ('when', 'when', 'if'),
+    ('choice', '1', 'is'),
+    ('bar', '|', ','),
+    ('low_choice', '3', '='),
+    ('dots_of_a_choice', '..', ':'),
+    ('high_choice', '5', 'others'),
+    ('arrow', '=>', ':='),
+    *plain('X := 1 ; \n'),
+    ('second_when', 'when', 'else'),
+    ('others', 'others', 'null'),
+    ('second_arrow', '=>', ';'),
+    *plain('X := Integer'),
+    ('parenthesis_of_a_conversion', '(', '['),
+    ('operand_of_a_conversion', 'A', ')'),
+    ('parenthesis_that_closes_a_conversion', ')', ','),
+    *plain('; \n'),
+    ('end_of_a_case', 'end', 'begin'),
+    ('case_at_the_end', 'case', 'if'),
+    ('semicolon_of_a_case', ';', ':'),
+    *plain('\n end Cas ;'),
+)
+
+TOKEN_LISTS = (TOKENS, LOCAL_TOKENS, ATTRIBUTE_TOKENS, SKIP_TOKENS, IF_TOKENS, DECLARED_TOKENS, CASE_TOKENS)
 
 # What a text is without a token: which token after it is unexpected, if not the next one; or a finding, and the token
 # at which it stands; or that it is accepted.
@@ -527,18 +558,23 @@ MISSING = {'in': ('U8', 'import'), 'out': ('U8', 'export'), 'import': ('U8', 'ex
            'parenthesis_of_a_sum': 4, 'parenthesis_that_closes_a_sum': 3,
            # the condition begins as a target does; two statements in a row; another `if`
            'if': 2, 'elsif': 2, 'else': lambda name, text: accepted(name, text, 3, named='Lim'), 'end_of_an_if': 2,
-           # a name and `is`; a name and `:=`; a named number
-           'word_type': 2, 'word_subtype': 2, 'word_constant': 2,
+           # a name and `is`; a named number
+           'word_type': 2, 'word_subtype': 2,
+           # a variable with a value
+           'word_constant': lambda name, text: accepted(name, text, 1, named='Dcl'),
+           # a target and `is`; a `case` and `;`
+           'case': 2, 'end_of_a_case': 2,
            'type_of_a_constant': lambda name, text: accepted(name, text, 1, named='Dcl'),
            # see `missing_signs`
            'sign': None, 'sign_in_pre': None, 'first_held_operand': None}
 # What a text is with a token doubled: which token after the second one is unexpected, if not that one.
-DOUBLED = {'parenthesis_in_pre': 6, 'parenthesis': 3, 'parenthesis_of_a_sum': 7}
+DOUBLED = {'parenthesis_in_pre': 6, 'parenthesis': 3, 'parenthesis_of_a_sum': 7,
+           'parenthesis_of_a_conversion': 3}
 # What a text is with another token instead: which token after it is unexpected, if not itself; or a finding, and the
 # token at which it stands. `on` is the type where `in` was, and another parameter may come after `;`.
 EXCHANGED = {'type': ('N1', 'type'), 'left_of_the_relation': ('N10', 'relation'), 'prefix': ('N3', 'prefix'),
              'designator': ('N3', 'prefix'), 'end_name': ('N5', 'end_name'), 'in': 1, 'closing_parenthesis': 1}
-SPOILED = {'opening_parenthesis': bad_byte, 'parenthesis': bad_byte, 'parenthesis_that_closes': bad_byte,
+SPOILED = {'opening_parenthesis': bad_byte, 'parenthesis_of_a_conversion': bad_byte, 'parenthesis': bad_byte, 'parenthesis_that_closes': bad_byte,
            'right_operand': bad_number}
 
 
@@ -782,10 +818,26 @@ def forms_of_numbers():
     yield accepted('fifteen_sixteens.adb', procedure('1', pre='16#F#E1 = 240', **OUT), 1)
     yield accepted('zero_to_any_exponent.adb', procedure('0E99999999999999999999999999999999999999999', **OUT), 1)
     yield accepted('based_zero_to_any_exponent.adb', procedure('16#0_0#E999_999_999', **OUT), 1)
-    for base, digits in ((2, '1' * 127), (4, '1' + '3' * 63), (8, '1' + '7' * 42), (16, '7' + 'F' * 31)):
+    # the greatest number of 127 bits in each base, and the next one
+    for base, digits, after in (
+            (2, '1' * 127, '1' + '0' * 127),
+            (3, '101100201022001010121000102002120122110122221010202000122201220121120010200022001',
+             '101100201022001010121000102002120122110122221010202000122201220121120010200022002'),
+            (4, '1' + '3' * 63, '2' + '0' * 63),
+            (5, '3013030220323124042102424341431241221233040112312340402', '3013030220323124042102424341431241221233040112312340403'),
+            (6, '11324454543055553250455021551551121442554522203131', '11324454543055553250455021551551121442554522203132'),
+            (7, '1406241064412313155000336513424310163013142501', '1406241064412313155000336513424310163013142502'),
+            (8, '1' + '7' * 42, '2' + '0' * 42),
+            (9, '11321261117012076573587122018656546120261', '11321261117012076573587122018656546120262'),
+            (10, WIDEST, TOO_WIDE),
+            (11, '555A8020989A11327710815513A946A188726', '555A8020989A11327710815513A946A188727'),
+            (12, '2A695925806818735399A37A20A31B3534A7', '2A695925806818735399A37A20A31B3534A8'),
+            (13, '2373464C8A3CB25BA2B7C6382B2963BB71A', '2373464C8A3CB25BA2B7C6382B2963BB71B'),
+            (14, '27C22D5B9734A1517BB1DC612904A79D71', '27C22D5B9734A1517BB1DC612904A79D72'),
+            (15, '3E2480B3404D8BB9BCA3084369BA3E187', '3E2480B3404D8BB9BCA3084369BA3E188'),
+            (16, '7' + 'F' * 31, '8' + '0' * 31)):
         yield accepted(f'widest_literal_of_base_{base}.adb', procedure('1', pre=f'{base}#{digits}# = {WIDEST}', **OUT), 1)
-    for base, digits in ((2, '1' + '0' * 127), (4, '2' + '0' * 63), (8, '2' + '0' * 42), (16, '8' + '0' * 31)):
-        yield too_wide(f'past_the_widest_literal_of_base_{base}.adb', procedure(f'X + @{base}#{digits}#', pre='X < 0'))
+        yield too_wide(f'past_the_widest_literal_of_base_{base}.adb', procedure(f'X + @{base}#{after}#', pre='X < 0'))
     yield accepted('widest_power_of_two.adb', procedure('1', pre='2#1#E126 > 1E37', **OUT), 1)
     yield accepted('widest_power_of_ten.adb', procedure('1', pre='1E38 > 2#1#E126', **OUT), 1)
     for label, number in (('two', '2#1#E127'), ('three', '3#1#E81'), ('ten', '1E39'), ('ten_from_two', '2E38'), ('sixteen', '16#1#E32'),
@@ -1825,7 +1877,7 @@ def attributes():
     yield unexpected('attribute_of_an_attribute_for_a_type.adb', procedure('X', type_mark="Integer'Base@'Base"))
     yield unexpected('attribute_of_an_attribute_for_an_import.adb', procedure('X', derives="X from X'First@'Last"))
     yield unexpected('attribute_of_parentheses.adb', procedure("(Integer)@'First", **OUT))
-    yield unexpected('parentheses_behind_an_apostrophe.adb', procedure("Integer'@(First)", **OUT))
+    yield refused('parentheses_behind_an_apostrophe.adb', procedure("Integer'(@First)", **OUT), 'N1')
     yield unexpected('parentheses_for_a_target.adb', COPY.replace('   X', '   @(X)'))
     yield unexpected('parentheses_behind_a_target.adb', COPY.replace('   X', '   X @(1)'))
     yield unexpected('sign_for_a_target.adb', COPY.replace('   X', '   @-X'))
@@ -1892,7 +1944,7 @@ def declared_locals():
                   with_local(first='@T := X') + longer(X, 'X from X', 'T := X', 'X := T', declared=T, name='Same'),
                   'N1')
     for name, declared in {'of_mode_in': 'T : @in Integer', 'of_mode_out': 'T : @out Integer',
-                           'with_a_value': 'T : Integer @:= 0', 'that_is_constant': 'T : constant Integer@',
+                           'with_an_equals_sign': 'T : Integer @= 0', 'that_is_constant': 'T : constant Integer@',
                            'without_type': 'T@', 'with_two_types': 'T : Integer @Integer',
                            'and_a_comma': 'T : Integer@, U : Integer', 'behind_a_comma': '@, T : Integer',
                            'before_a_comma': 'T, @: Integer', 'of_no_name': '@: Integer', 'that_is_missing': '@',
@@ -2109,7 +2161,7 @@ def signs_and_syntax():
                         'a_sign_alone_in_parentheses': '(-@)', 'two_operands_in_parentheses': '(X @X)',
                         'a_comma_in_parentheses': '(X@, X)', 'an_open_parenthesis': '(X@',
                         'two_open_parentheses': '((X)@', 'a_closed_parenthesis': 'X@)',
-                        'two_closed_parentheses': '(X)@)', 'parentheses_behind_a_name': 'X @(X)',
+                        'two_closed_parentheses': '(X)@)', 'two_parentheses_behind_a_name': 'X (X) @(X)',
                         'parentheses_behind_a_number': '1 @(X)', 'parentheses_behind_parentheses': '(X) @(X)',
                         'a_name_behind_parentheses': '(X) @X', 'a_becomes_in_parentheses': '(X @:= X)',
                         'a_semicolon_in_parentheses': '(X@; )', 'two_relations_in_parentheses': '(X = X @= X)',
@@ -2218,7 +2270,7 @@ def limit_or_breach():
     yield too_nested('two_hundred_and_one_parentheses_before_a_breach.adb', procedure(nested(201) + ' 1', **OUT))
     yield unexpected('two_hundred_and_one_parentheses_for_a_target.adb',
                      COPY.replace('   X', '   @' + nested(201, 'X')))
-    yield unexpected('two_hundred_and_one_parentheses_behind_a_name.adb', procedure('X @' + nested(201), **OUT))
+    yield too_nested('two_hundred_and_one_parentheses_behind_a_name.adb', procedure('X ' + nested(201), **OUT))
     yield unexpected('two_relations_in_two_hundred_levels.adb', procedure('X', pre=nested(199, 'X = X @= X')))
     yield bad_byte('two_hundred_and_one_parentheses_before_a_bad_byte.adb', procedure(nested(201), **OUT) + '@?')
     yield refused('two_hundred_parentheses_of_an_undeclared_name.adb', procedure(nested(200, '@Y')), 'N1')
@@ -2260,6 +2312,7 @@ def documented():
     share = (TOP / 'examples' / 'guard.adb').read_text(encoding='utf-8')
     yield accepted('guard.adb', share, 1, named='Share')
     yield left_at('guard_by_and.adb', share.replace('and then Whole', 'and Whole <1d>').replace('<1d> ', '<1d>'), 1, named='Share')
+    yield from worked_types()
     yield bad_number('inc_with_a_bad_number.adb', procedure('X + 1_', pre=BELOW), at=(6, 13))
     yield unexpected('inc_with_two_operators.adb', procedure('X + * 1', pre=BELOW), at=(6, 13))
     yield unexpected('inc_without_end.adb', INC.replace('end Inc;\n', ''), at=(7, 1))
@@ -2289,6 +2342,19 @@ ONE_OF_3 = 'Inc: 3 conditions, 2 simplified, 0 scripted, 1 open'
 TWO_OF_3 = 'Inc: 3 conditions, 1 simplified, 0 scripted, 2 open'
 ONE_OF_4 = 'Inc: 4 conditions, 3 simplified, 0 scripted, 1 open'
 TWO_OF_4 = 'Inc: 4 conditions, 2 simplified, 0 scripted, 2 open'
+
+
+def worked_types():
+    """The worked examples of declared types, and each without a guard."""
+    for name, named, total, guard, instead, left in (
+            ('lights', 'Next_Phase', 20, "      if Now < Amber then\n         Now := Light'Succ (Now);\n      else\n         Now := Red;\n      end if;\n",
+             "      Now := Light'Succ (<3r>Now);\n", 14),
+            ('percent', 'Add_Percent', 11, "   if Now + More <= Percent'Last then\n      Sum := Now + More;\n   end if;\n", '   Sum := Now <6r>+ More;\n', 8),
+            ('units', 'Travel', 11, '   if Way > Most then\n      Way := Most;\n   end if;\n   Metres := Integer (Way);\n', '   Metres := Integer (<7r>Way);\n', 8)):
+        text = (TOP / 'examples' / f'{name}.adb').read_text(encoding='utf-8')
+        assert guard in text, name
+        yield accepted(f'{name}.adb', text, total, named=named)
+        yield left_at(f'{name}_without_a_guard.adb', text.replace(guard, instead), left, named=named)
 
 
 def assigned(value, pre=None):
@@ -3224,7 +3290,7 @@ def syntax_of_branches():
     yield unexpected('marked_condition.adb', conditional('if --# @X < 0\nthen null; end if'))
     yield unexpected('marked_end_if.adb', conditional('if X < 0 then null; --# @end if'))
     yield unexpected('pre_in_an_arm.adb', conditional('if X < 0 then\n--# @pre X < 0;\nnull; end if'))
-    yield unexpected('case_in_an_arm.adb', conditional('if X < 0 then @case X is when 1 => null; end case; end if'))
+    yield refused('case_in_an_arm.adb', conditional('if X < 0 then @case X is when 1 => null; end case; end if'), 'N17')
 
 
 def nested_ifs(count, condition='X > 0', innermost=None, statement='X := 0'):
@@ -4308,7 +4374,7 @@ def enumerations():
             'sum': ('N10', 'V := V @+ 1'), 'mod': ('N10', 'V := V @mod W'), 'power': ('N10', 'V := V @** 2'),
             'minus': ('N10', 'V := @-V'), 'value_of_a_number': ('N10', 'X := @V'), 'number_for_a_value': ('N10', 'V := @1'),
             'literal_of_another_type': ('N10', 'V := @Up'), 'value_for_a_truth_value': ('N10', 'F := @Red'),
-            'fault_beside_a_literal': ('N12', 'V := Red + 1 @/ 0'), 'attribute_that_is_none': ('N3', "V := @Hue'Pos"),
+            'fault_beside_a_literal': ('N12', 'V := Red + 1 @/ 0'), 'attribute_that_is_none': ('N3', "V := @Hue'Size"), 'attribute_without_argument': ('N14', "V := @Hue'Succ"),
             'attribute_of_a_literal': ('N3', "V := @Red'Last"), 'literal_for_a_type': ('N3', 'if V in @Red then X := A; end if'),
             'no_literal': ('N1', 'V := @Pink')}.items():
         yield refused(f'literals_and_{name}.adb', body(statement), rule)
@@ -4573,6 +4639,397 @@ def breaches_of_declarations():
             yield refused(f'{name}_before_{other}.adb', types_with(slip, parts), rule)
 
 
+# ---------------------------------------------------------------- functions of types
+
+MAPPED = (f'{SMALL}; {LONG}; {WARM}; type Gear is (Up, Down); subtype Low is Small range 1 .. 5; subtype Flag is Boolean; '
+          'V : Small; W : Low; L : Long; H, K : Hue; S : Warm; F : Boolean')
+
+
+def mapping(*statements, by='A > 0', pre=None):
+    """The text of a procedure with these statements, and then X is 1 where something is true, and else 0."""
+    return longer(A_TO_X, 'X from A', *statements, f'if {by} then X := 1; else X := 0; end if', declared=[MAPPED], pre=pre)
+
+
+def functions_of_types():
+    """Conversions, qualifications, and functions of enumeration types: what they take, and what a static result may be."""
+    for name, (rule, statement) in {
+            'conversion_to_nothing': ('N1', 'X := @Count (A)'), 'conversion_to_a_variable': ('N3', 'X := @V (A)'),
+            'conversion_to_a_literal': ('N3', 'X := @Red (A)'), 'conversion_to_the_procedure': ('N3', 'X := @Inc (A)'),
+            'conversion_to_boolean': ('N10', 'F := @Boolean (A > 0)'), 'conversion_to_a_boolean_subtype': ('N10', 'F := @Flag (A > 0)'),
+            'conversion_to_literals': ('N10', 'H := @Hue (H)'), 'conversion_of_a_literal': ('N10', 'V := Small (@Red)'),
+            'conversion_of_a_truth_value': ('N10', 'V := Small (@True)'),
+            'conversion_of_a_relation': ('N10', 'V := Small (A @= A)'), 'conversion_of_nothing': ('N1', 'V := Small (@Y)'),
+            'conversion_past_its_type': ('N12', 'V := @Small (11)'), 'conversion_below_its_type': ('N12', 'V := @Small (-1)'),
+            'conversion_past_its_subtype': ('N12', 'W := @Low (6)'), 'conversion_below_its_subtype': ('N12', 'W := @Low (0)'),
+            'conversion_of_a_wide_number': ('N12', 'V := @Small (2 ** 100)'),
+            'conversion_of_a_number_past_128_bits': ('N12', 'V := Small (2 @** 127)'),
+            'conversion_of_a_long_constant': ('N12', "X := @Integer (Long'Last)"),
+            'conversion_for_another_type': ('N10', 'X := @Small (A)'), 'conversion_of_the_type_itself': ('N10', 'V := @Integer (V)'),
+            'qualification_of_an_integer': ('N10', "H := Hue'(@A)"), 'qualification_of_another_type': ('N10', "H := Hue'(@Up)"),
+            'qualification_of_a_number': ('N10', "F := Boolean'(@A)"), 'qualification_of_another_number': ('N10', "V := Small'(@A)"),
+            'qualification_past_its_subtype': ('N12', "H := @Warm'(Green)"), 'qualification_past_its_type': ('N12', "V := @Small'(11)"),
+            'qualification_past_its_base_range': ('N12', "V := Small'(@2147483648)"), 'qualification_by_nothing': ('N1', "X := @Y'(A)"),
+            'qualification_by_a_variable': ('N3', "X := @V'(A)"), 'qualification_for_another_type': ('N10', "X := @Small'(5)"),
+            'first_with_an_argument': ('N14', "X := @Integer'First (A)"), 'last_with_an_argument': ('N14', "H := @Hue'Last (H)"),
+            'succ_without_argument': ('N14', "H := @Hue'Succ"), 'pos_without_argument': ('N14', "X := @Hue'Pos"),
+            'val_without_argument': ('N14', "H := @Hue'Val"), 'pred_without_argument': ('N14', "H := @Hue'Pred"),
+            'pos_of_a_number_type': ('N3', "X := @Small'Pos (V)"), 'pos_of_boolean': ('N3', "X := @Boolean'Pos (F)"),
+            'succ_of_integer': ('N3', "X := @Integer'Succ (A)"), 'succ_of_integer_without_argument': ('N3', "X := @Integer'Succ"),
+            'no_attribute_with_an_argument': ('N3', "X := @Hue'Size (H)"), 'succ_of_a_variable': ('N3', "V := @V'Succ (V)"),
+            'succ_of_nothing': ('N1', "V := @Y'Succ (V)"), 'succ_of_an_integer_value': ('N10', "H := Hue'Succ (@A)"),
+            'succ_of_another_literal': ('N10', "H := Hue'Succ (@Up)"), 'pos_of_a_number': ('N10', "X := Hue'Pos (@1)"),
+            'val_of_a_literal': ('N10', "H := Hue'Val (@Red)"), 'val_of_a_truth_value': ('N10', "H := Hue'Val (@F)"),
+            'val_past_its_type': ('N12', "H := @Hue'Val (4)"), 'val_below_its_type': ('N12', "H := @Hue'Val (-1)"),
+            'val_of_a_wide_number': ('N12', "H := @Hue'Val (2 ** 64)"), 'succ_of_the_last': ('N12', "H := @Hue'Succ (Blue)"),
+            'pred_of_the_first': ('N12', "H := @Hue'Pred (Red)"), 'pos_for_another_type': ('N10', "V := @Hue'Pos (H)"),
+            'val_for_another_type': ('N10', "X := @Hue'Val (A)"), 'sum_of_a_conversion': ('N10', 'V := Small (A) @+ A'),
+            # a type comes before its operand
+            'conversion_to_literals_of_nothing': ('N10', 'H := @Hue (Y)'), 'first_of_nothing_with_an_argument': ('N14', "X := @Hue'First (Y)"),
+            'qualification_of_nothing': ('N1', "H := Hue'(@Y)"), 'fault_in_an_operand': ('N12', 'V := Small (1 @/ 0)')}.items():
+        yield refused(f'function_{name}.adb', mapping(statement), rule)
+    for name, condition in {
+            'pos': "Hue'Pos (Green) /= 2", 'pos_of_the_first': "Hue'Pos (Hue'First) /= 0", 'pos_in_a_sum': "Hue'Pos (Blue) + 1 /= 4",
+            'val': "Hue'Val (1) /= Yellow", 'val_of_zero': "Hue'Val (0) /= Red", 'val_of_the_last': "Hue'Val (3) /= Blue",
+            'succ': "Hue'Succ (Red) /= Yellow", 'pred': "Hue'Pred (Blue) /= Green", 'succ_by_a_subtype': "Warm'Succ (Yellow) /= Green",
+            'pred_by_a_subtype': "Cool'Pred (Green) /= Yellow", 'val_by_a_subtype': "Warm'Val (3) /= Blue",
+            'pos_by_a_subtype': "Cool'Pos (Green) /= 2", 'conversion': 'Small (5) + 1 /= 6', 'conversion_to_integer': "Integer (Small'Last) /= 10",
+            'conversion_of_a_constant': 'Integer (Neg) /= -5', 'qualification_of_a_truth': "Boolean'(False)",
+            'qualification': "Low'(3) = 4", 'qualification_of_a_literal': "Warm'(Red) > Red", 'other_cases': "hue'POS (red) /= 0",
+            'functions_of_functions': "Hue'Val (Hue'Pos (Hue'Succ (Red)) + 1) /= Green", 'conversion_at_its_first': 'Low (2) /= 2',
+            'conversion_at_its_last': 'Low (5) /= 5', 'qualification_in_parentheses': "(Low'((3))) /= 3"}.items():
+        yield accepted(f'value_of_a_function_{name}.adb', falsified(VALUES, condition), 2)
+
+
+def conditions_of_functions():
+    """What stands before parentheses asks of its operand that the result lies in its bounds, and nothing is asked of `Pos`."""
+    two = "H := Hue'Val (A)"
+    for name, statement, by, pre, total in (
+            ('conversion', 'V := Small (<1r>A)', 'V > 3', None, 4), ('conversion_within', 'V := Small (A)', 'V > 3', 'A in 0 .. 10', 4),
+            ('conversion_past', 'V := Small (<1r>A)', 'V > 3', 'A in 0 .. 11', 4),
+            ('conversion_below', 'V := Small (<1r>A)', 'V > 3', 'A in -1 .. 10', 4),
+            ('subtype_within', 'W := Low (A)', 'W > 3', 'A in 1 .. 5', 4), ('subtype_below', 'W := Low (<1r>A)', 'W > 3', 'A in 0 .. 5', 4),
+            ('subtype_past', 'W := Low (<1r>A)', 'W > 3', 'A in 1 .. 6', 4),
+            ('subtype_for_its_type', 'V := Low (<1r>A)', 'V > 3', 'A in 0 .. 10', 4),
+            ('type_for_its_subtype', 'W := <2r>Small (A)', 'W > 3', 'A in 0 .. 10', 4), ('long_conversion', 'L := Long (A)', 'L > 3', None, 4),
+            ('conversion_back', 'L := Long (A); X := Integer (L)', 'X > 3', None, 6),
+            ('conversion_of_a_long_sum', 'L := Long (A) + Long (A); V := Small (<5r>L)', 'V > 3', None, 8),
+            ('conversion_of_a_sum', 'V := Small (A <1o,2r>+ 1)', 'V > 3', None, 5),
+            ('conversion_of_a_sum_within', 'V := Small (A + 1)', 'V > 3', 'A in 0 .. 9', 5),
+            ('qualification', "V := 5; V := Low'(V)", 'V > A_MORE', None, 5), ('qualification_past', "V := 6; V := Low'(<2r>V)", 'V > A_MORE', None, 5),
+            ('qualification_below', "V := 0; V := Low'(<2r>V)", 'V > A_MORE', None, 5),
+            ('qualification_of_a_truth_value', "F := Boolean'(A > 0)", "Boolean'(F)", None, 2),
+            ('val', "H := Hue'Val (<1r>A)", 'H = Red', None, 4), ('val_within', two, 'H = Red', 'A in 0 .. 3', 4),
+            ('val_past', "H := Hue'Val (<1r>A)", 'H = Red', 'A in 0 .. 4', 4),
+            ('val_below', "H := Hue'Val (<1r>A)", 'H = Red', 'A in -1 .. 3', 4),
+            ('val_by_a_subtype', "H := Warm'Val (A)", 'H = Red', 'A in 0 .. 3', 4),
+            ('val_for_a_subtype', "S := <2r>Hue'Val (A)", 'S = Red', 'A in 0 .. 3', 4),
+            ('succ', f"{two}; K := Hue'Succ (<3r>H)", 'K = Red', 'A in 0 .. 3', 6),
+            ('succ_within', f"{two}; K := Hue'Succ (H)", 'K = Red', 'A in 0 .. 2', 6),
+            ('succ_by_a_subtype', f"{two}; K := Warm'Succ (H)", 'K = Red', 'A in 0 .. 2', 6),
+            ('succ_below', "H := Hue'Val (<1r>A); K := Hue'Succ (H)", 'K = Red', 'A > -5 and A < 3', 6),
+            ('pred', f"{two}; K := Hue'Pred (<3r>H)", 'K = Red', 'A in 0 .. 3', 6),
+            ('pred_within', f"{two}; K := Hue'Pred (H)", 'K = Red', 'A in 1 .. 3', 6),
+            ('pos', f"{two}; V := Small (Hue'Pos (H))", 'V > 1', 'A in 0 .. 3', 6),
+            ('pos_alone', two, "Hue'Pos (H) > 1", 'A in 0 .. 3', 4), ('pos_in_a_sum', two, "Hue'Pos (H) + 1 > 1", 'A in 0 .. 3', 5),
+            ('precondition', 'V := Small (<1r>A)', 'V > 3', 'Natural (A) > 3', 4),
+            ('qualified_precondition', 'V := Small (A)', 'V > 3', "Boolean'(A in 0 .. 10)", 4)):
+        yield left_at(f'checked_{name}.adb', mapping(statement, by=by.replace('A_MORE', '3 or A > 3'), pre=pre), total)
+    for name, by, total in (
+            ('range', 'A in 0 .. 10 and then Small (A) > 3', 3), ('half_a_range', 'A >= 0 and then Small (<1r>A) > 3', 3),
+            ('two_sides', 'A < 0 or else (A > 10 or else Small (A) > 3)', 3), ('one_side', 'A < 0 or else Small (<1r>A) > 3', 3),
+            ('no_short_circuit', 'A in 0 .. 10 and Small (<1r>A) > 3', 3)):
+        yield left_at(f'conversion_guarded_by_{name}.adb', mapping(by=by), total)
+    for name, condition, statement, other, total in (
+            ('conjunction', 'A >= 0 and A <= 10', 'V := Small (A)', 'V := 0', 7),
+            ('qualified_conjunction', "Boolean'(A >= 0 and A <= 10)", 'V := Small (A)', 'V := 0', 7),
+            ('qualified_test', "Boolean'(A in 0 .. 10)", 'V := Small (A)', 'V := 0', 7),
+            ('disjunction', 'A >= 0 or A <= 10', 'V := Small (<1r>A)', 'V := 0', 7),
+            ('converted_range', 'A in 0 .. 10 and then Small (A) in 1 .. 5', 'W := Low (A); V := W', 'W := 1; V := W', 10)):
+        yield left_at(f'conversion_after_{name}.adb', mapping(f'if {condition} then {statement}; else {other}; end if', by='V > 3'), total)
+    for name, condition, mark, total in (('less', 'H < Blue', '', 9), ('no_more', 'H <= Green', '', 9), ('unequal', 'H /= Blue', '<3r>', 9),
+                                         ('equal', 'H = Green', '', 9), ('a_subtype', 'H in Warm', '', 9)):
+        yield left_at(f'succ_guarded_by_{name}.adb',
+                      mapping(two, f"if {condition} then K := Hue'Succ ({mark}H); else K := Red; end if", by='K = Red', pre='A in 0 .. 3'), total)
+
+
+def flow_of_functions():
+    """A function reads what its operand reads, and a type is no variable."""
+    yield refused('missing_flow_through_a_conversion.adb', longer(A_TO_X, '@X from & null from A', 'X := Integer (A)'), 'F1 missing: X from A')
+    yield refused('unset_operand_of_a_conversion.adb', longer(OUT_X, 'X from', 'X := Integer (@T)', declared=T), 'F4 unset: T')
+    yield refused('unset_operand_of_succ.adb', mapping("K := Hue'Succ (@H)", by='K = Red').replace('X from A', 'X from & null from A'), 'F4 unset: H')
+    yield refused('export_in_a_converted_precondition.adb', longer(OUT_X, 'X from', 'X := 1', pre='Integer (@X) > 0'), 'U11')
+    yield refused('constant_through_a_function.adb', longer(A_TO_X, '@X from A', 'X := Integer (5)'), 'F2 unused: X from A')
+
+
+def syntax_of_functions():
+    """Tokens with which no function and its operand goes on, and the levels that it opens."""
+    for name, value in {'no_operand': 'Integer (@)', 'two_operands': 'Integer (A@, A)', 'named_operand': 'Integer (A @=> 1)',
+                        'open_parenthesis': 'Integer (A@', 'no_designator': "Integer'@", 'number_for_a_designator': "Integer'@5",
+                        'designator_after_parentheses': "Integer (A)@'First", 'attribute_of_an_attribute': "Integer'First@'Last",
+                        'qualification_without_operand': "Integer'(@)", 'range_for_an_operand': 'Integer (1 @.. 5)',
+                        'two_apostrophes': "Integer'@'(A)", 'reserved_designator': "Integer'@range (A)"}.items():
+        yield unexpected(f'function_with_{name}.adb', longer(A_TO_X, 'X from A', f'X := {value}'))
+    yield unexpected('function_with_a_marked_parenthesis.adb', longer(A_TO_X, 'X from A', 'X := Integer --# @(\nA)'))
+    yield unexpected('function_for_a_target.adb', longer(A_TO_X, 'X from A', 'Integer @(X) := A'))
+    yield unexpected('function_for_a_type.adb', longer(A_TO_X, 'X from A', 'X := A', declared=['T : Integer @(5)']))
+    yield unexpected('function_for_an_import.adb', longer(A_TO_X, 'X from Integer @(A)', 'X := A'))
+    yield unexpected('function_for_a_tested_type.adb', longer(A_TO_X, 'X from A', 'if A in Small (A) @then X := A; else X := 0; end if'))
+    yield accepted('function_for_a_tested_bound.adb', longer(A_TO_X, 'X from A', 'if A in Integer (0) .. 5 then X := A; else X := 0; end if'), 2)
+    yield accepted('function_of_200_levels.adb', longer(A_TO_X, 'X from A', f'X := Integer ({nested(199, "A")})'), 2)
+    yield too_nested('function_of_201_levels.adb', longer(A_TO_X, 'X from A', f'X := Integer ({nested(200, "A")})'))
+    yield accepted('functions_of_200_levels.adb', longer(A_TO_X, 'X from A', 'X := ' + 'Integer (' * 200 + 'A' + ')' * 200), 201)
+    yield too_nested('functions_of_201_levels.adb', longer(A_TO_X, 'X from A', 'X := ' + "Integer'(" * 201 + 'A' + ')' * 201))
+
+
+# ---------------------------------------------------------------- initial values
+
+def initial_values():
+    """A local that is declared with a value starts with it: the value is static, and lies in the type."""
+    def body(declared, statement='X := A'):
+        return longer(A_TO_X, 'X from A', statement, declared=[f'{WARM}; {SMALL}; subtype Low is Small range 2 .. 5', declared])
+
+    for name, (rule, declared) in {
+            'past_its_type': ('N12', 'V : Small := @11'), 'below_its_type': ('N12', 'V : Small := @-1'),
+            'past_its_subtype': ('N12', 'V : Low := @6'), 'below_its_subtype': ('N12', 'V : Low := @1'),
+            'past_integer': ('N12', 'V : Integer := @2147483648'), 'sum_past_integer': ('N12', 'V : Integer := 2147483647 @+ 1'),
+            'static_sum_past_its_type': ('N12', "V : Integer := Integer'Last @+ 1"), 'division_by_zero': ('N12', 'V : Integer := 1 @/ 0'),
+            'literal_past_its_subtype': ('N12', 'V : Warm := @Green'), 'of_another_type': ('N10', 'V : Small := @True'),
+            'literal_for_a_number': ('N10', 'V : Small := @Red'), 'number_for_a_literal': ('N10', 'V : Hue := @1'),
+            'number_for_a_truth_value': ('N10', 'V : Boolean := @0'), 'constant_of_another_type': ('N10', 'V : Small := @Low2'),
+            'formal': ('N11', 'V : Integer := @A'), 'sum_with_a_formal': ('N11', 'V : Integer := A @+ 1'),
+            'formal_of_another_type': ('N10', 'V : Small := @A'), 'itself': ('N1', 'V : Integer := @V'),
+            'one_declared_with_it': ('N1', 'V, W : Integer := @W'), 'another_local': ('N11', 'V : Integer := 5; W : Integer := @V'),
+            'later_constant': ('N1', 'V : Integer := @C; C : constant Integer := 5'), 'type': ('N3', 'V : Integer := @Integer'),
+            'name_twice': ('N2', 'V, @V : Integer := A'), 'no_type': ('N1', 'V : @Count := A'),
+            'conversion_past_its_type': ('N12', 'V : Small := @Small (11)')}.items():
+        if name == 'constant_of_another_type':
+            declared = 'Low2 : constant Integer := 2; ' + declared
+        yield refused(f'initial_value_{name}.adb', body(declared), rule)
+    for name, declared, statement, total in (
+            ('number', 'V : Integer := 5', 'X := A mod V', 2), ('at_its_first', 'V : Small := 0', 'X := A', 1),
+            ('at_its_last', 'V : Small := 10', 'X := A', 1), ('at_the_last_of_a_subtype', 'V : Low := 5', 'X := A', 1),
+            ('at_the_first_of_a_subtype', 'V : Low := 2', 'X := A', 1), ('literal', 'V : Warm := Yellow', 'if V = Red then X := A; else X := 0; end if', 2),
+            ('truth_value', 'V : Boolean := True', 'if V then X := A; else X := 0; end if', 2),
+            ('constant', 'C : constant Integer := 2; V : Integer := C ** 3', 'X := A mod V', 2),
+            ('attribute', "V : Low := Low'Last", 'X := A mod Integer (V)', 3), ('of_two', 'V, W : Integer := 5', 'X := V + W', 2),
+            ('that_is_overwritten', 'V : Integer := 5', 'V := A; X := V', 2), ('on_one_way', 'V : Integer := 5', 'if A > 0 then V := A; end if; X := V', 3),
+            ('that_is_read_first', 'V : Integer := 5', 'X := V; if A > 0 then X := 1; end if', 2),
+            ('of_a_longer_sum', 'V : Integer := 2147483646', 'X := V + 1; X := X + A * 0', 5)):
+        derives = 'X from & null from A' if name == 'of_two' else 'X from A'
+        text = body(declared, statement).replace('X from A', derives)
+        yield (left_at if name == 'of_a_longer_sum' else accepted)(f'initial_{name}.adb', text, total)
+    yield left_at('initial_zero_as_a_divisor.adb', body('V : Integer := 0', 'X := A <1d>mod V'), 2)
+    yield left_at('initial_last_and_one_more.adb', body("V : Integer := Integer'Last", 'X := V <1o>+ 1').replace('X from A', 'X from & null from A'), 2)
+    yield refused('initial_value_that_flows_nowhere.adb', body('V : Integer := 5', 'X := V').replace('derives X', 'derives @X'), 'F2 unused: X from A')
+    yield refused('initial_value_beside_a_lost_one.adb', body('V : Integer := 5', '@V := A; X := A'), 'F3')
+    yield refused('initial_value_beside_an_unset_one.adb', body('V : Integer := 5; W : Integer', 'X := A + V + @W'), 'F4 unset: W')
+    yield refused('initial_value_of_an_earlier_procedure.adb',
+                  body('V : Integer := 5') + longer(A_TO_X, 'X from A', 'X := A + @V', declared=['V : Integer'], name='Same'), 'F4 unset: V')
+    yield refused('initialized_local_in_pre.adb', longer(A_TO_X, 'X from A', 'X := A', declared=['V : Integer := 5'], pre='@V > 0'), 'N1')
+    for name, declared in {'no_value': 'V : Integer :=@', 'a_comma_after_it': 'V : Integer := 5@, W : Integer', 'no_type': 'V @:= 5',
+                           'two_values': 'V : Integer := 5 @:= 6', 'a_range_for_it': 'V : Integer := 1 @.. 5', 'a_mark': 'V : Integer --# @:= 5'}.items():
+        yield unexpected(f'initial_value_with_{name}.adb', body(declared))
+    yield accepted('initial_value_of_200_levels.adb', body(f'V : Integer := {nested(200)}'), 1)
+    yield too_nested('initial_value_of_201_levels.adb', body(f'V : Integer := {nested(201)}'))
+    numbers = ', '.join(f'L{n}' for n in range(1, 4097))
+    yield accepted('initial_values_of_4096_variables.adb', longer(None, None, 'null', declared=[f'{numbers} : Integer := 5']), 0)
+    yield too_many_variables('initial_values_of_4097_variables.adb', longer(None, None, 'null', declared=[f'{numbers}, M : Integer := 5']))
+
+
+# ---------------------------------------------------------------- case statements
+
+def selecting(*alternatives, selector='A', declared='', pre=None, before=(), after=()):
+    """The text of a procedure with one `case`."""
+    return longer(A_TO_X, 'X from A', *before, f'case {selector} is {" ".join(alternatives)} end case', *after,
+                  declared=[f'{MAPPED}{declared}'], pre=pre)
+
+
+def values_of_choices():
+    """N17 stands at `case` where a value has no alternative, or two, or `others` is not last; which values, the selector says."""
+    starts = {'V': ('V := 3',), 'W': ('W := 3',), 'H': ('H := Red',), 'S': ('S := Red',), 'L': ('L := 3',), '(V)': ('V := 3',), '(S)': ('S := Red',),
+              'V + 1': ('V := 3',)}
+    whole = ('Red', 'Yellow', 'Green', 'Blue')
+    good = {
+        'others': ('A', 'others'), 'a_number_and_others': ('A', '1', 'others'), 'all_of_a_type': ('V', '0 .. 10'),
+        'all_of_a_type_one_by_one': ('V', *map(str, range(11))), 'ranges_that_touch': ('V', '0 .. 4', '5 .. 10'),
+        'choices_out_of_order': ('V', '7 .. 10', '0', '2 .. 6', '1'), 'several_choices': ('V', '0 | 10 | 3 .. 5', '1 .. 2 | 6 .. 9'),
+        'an_empty_range': ('V', '5 .. 4', '0 .. 10'), 'empty_ranges_in_one_another': ('V', '9 .. 0 | 8 .. 1', '0 .. 10'),
+        'others_for_nothing': ('V', '0 .. 10', 'others'), 'a_subtype': ('W', '1 .. 5'), 'past_a_subtype': ('W', '0 .. 10'),
+        'past_a_subtype_in_parts': ('W', '-5 .. 2', '3', '4 .. 2000'), 'all_of_integer': ('A', "Integer'First .. -1", "0 .. Integer'Last"),
+        'attributes': ('V', "Small'First .. Small'Last - 1", "Small'Last"), 'constants': ('V', 'Zero .. Ten'),
+        'literals': ('H', *whole), 'literals_in_ranges': ('H', 'Red .. Yellow', 'Green .. Blue'), 'literals_in_one': ('H', ' | '.join(whole)),
+        'literals_and_others': ('H', 'Green', 'others'), 'literals_of_a_subtype': ('S', 'Red', 'Yellow'), 'a_conversion': ('Low (3)', '1 .. 5'),
+        'a_qualification': ("Low'(3)", '1 .. 5'), 'a_qualified_literal': ("Warm'(Red)", 'Red', 'Yellow'), 'a_constant': ('Three', '1 .. 5'),
+        'a_literal': ('Red', *whole), 'a_function': ("Warm'Succ (Red)", *whole), 'a_number': ('5', '5', 'others'),
+        'a_sum_and_others': ('V + 1', '0 .. 10', 'others'), 'a_modulus': ('A mod 3', "Integer'First .. -1", "0 .. Integer'Last"), 'a_long_type': ('L', "Long'First .. -1", '0', "1 .. Long'Last"),
+        'functions_for_choices': ('H', "Hue'Val (0) .. Hue'Succ (Red)", "Hue'Pred (Blue)", 'Blue'), 'a_selector_in_parentheses': ('(V)', '0 .. 10', 'others')}
+    declared = '; Zero : constant Small := 0; Ten, More : constant := 10; Three : constant Low := 3'
+    for name, (selector, *choices) in good.items():
+        alternatives = [f'when {choice} => X := {at} + A;' for at, choice in enumerate(choices)]
+        before = starts.get(selector, ())
+        text = selecting(*alternatives, selector=selector, declared=declared, before=before, pre='A in 0 .. 10')
+        yield accepted(f'choices_{name}.adb', text, len(before) + 2 * len(choices) + (name in ('a_sum_and_others', 'a_modulus')))
+    bad = {
+        'last_missing': ('V', '0 .. 9'), 'first_missing': ('V', '1 .. 10'), 'one_missing': ('V', '0 .. 4', '6 .. 10'),
+        'one_missing_of_many': ('V', '0 .. 2', '8 .. 10', '3', '5 .. 7'), 'all_but_one': ('A', "Integer'First .. -1", "1 .. Integer'Last"),
+        'last_integer_missing': ('A', "Integer'First .. Integer'Last - 1"), 'first_integer_missing': ('A', "Integer'First + 1 .. Integer'Last"),
+        'none_but_one': ('A', '1'), 'value_twice': ('V', '0 .. 10', '3'), 'value_twice_in_one': ('V', '3 | 3', 'others'),
+        'value_twice_beside_others': ('V', '3', '2', '3', 'others'), 'ranges_that_overlap': ('V', '0 .. 5', '5 .. 10'),
+        'range_in_a_range': ('V', '0 .. 10', '4 .. 6'), 'range_around_a_range': ('V', '4 .. 6', '0 .. 10'),
+        'value_twice_past_a_subtype': ('W', '1 .. 5', '7', '7'), 'others_first': ('V', 'others', '3'), 'others_twice': ('V', '3', 'others', 'others'),
+        'others_in_the_middle': ('V', '3', 'others', '4'), 'literal_missing': ('H', 'Red', 'Yellow', 'Blue'), 'last_literal_missing': ('H', 'Red .. Green'),
+        'literal_twice': ('H', 'Red .. Green', 'Green', 'Blue'), 'literal_of_a_subtype_missing': ('S', 'Yellow .. Blue'),
+        'subtype_in_parentheses': ('(S)', 'Red', 'Yellow'), 'sum_of_a_type': ('V + 1', '0 .. 11'), 'type_of_a_conversion': ('Small (3)', '1 .. 5'),
+        'type_of_a_qualification': ("Small'(3)", '1 .. 5'), 'function_of_a_subtype': ("Warm'Succ (Red)", 'Red', 'Yellow'),
+        'universal_number': ('5', '5'), 'all_but_128_bits': ('5', "-2 ** 126 .. 2 ** 126"), 'empty_range_alone': ('V', '5 .. 4'),
+        'long_type': ('L', "Long'First .. Long'Last - 1"), 'base_range_of_a_conversion': ('(Low (3))', '1 .. 5')}
+    for name, (selector, *choices) in bad.items():
+        alternatives = [f'when {choice} => X := {at} + A;' for at, choice in enumerate(choices)]
+        text = selecting(*alternatives, selector=selector, before=starts.get(selector, ()), pre='A in 0 .. 10')
+        yield refused(f'choices_with_{name}.adb', text.replace('case ', '@case ', 1), 'N17')
+
+
+def rules_of_choices():
+    """N17 comes first, but not where the selector or a choice breaks a rule; then these, and the statements, in the order of the text."""
+    for name, (rule, selector, *alternatives) in {
+            'boolean_selector': ('N10', '@F', 'when True => X := 1; when False => X := 2;'), 'relation_for_a_selector': ('N10', 'A @= 1', 'when others => X := A;'),
+            'no_selector': ('N1', '@Y', 'when others => X := A;'), 'type_for_a_selector': ('N3', '@Small', 'when others => X := A;'),
+            'choice_of_another_type': ('N10', 'A', 'when @Red => X := 1; when others => X := 2;'),
+            'truth_value_for_a_choice': ('N10', 'A', 'when @True => X := 1; when others => X := 2;'),
+            'number_for_a_literal': ('N10', 'H', 'when @1 => X := 1; when others => X := 2;'),
+            'choice_of_another_number_type': ('N10', 'A', "when @Small'Last => X := 1; when others => X := 2;"),
+            'typed_choice_of_a_number': ('N10', '5', "when @Integer'Last => X := 1; when others => X := 2;"),
+            'variable_for_a_choice': ('N11', 'A', 'when @A => X := 1; when others => X := 2;'),
+            'sum_with_a_variable': ('N11', 'A', 'when 1 | A @+ 1 => X := 1; when others => X := 2;'),
+            'high_variable': ('N11', 'A', 'when 1 .. @A => X := 1; when others => X := 2;'),
+            'high_of_another_type': ('N10', 'A', 'when 1 .. @Blue => X := 1; when others => X := 2;'),
+            'wide_choice': ('N12', 'A', 'when @2147483648 => X := 1; when others => X := 2;'),
+            'wide_high_choice': ('N12', 'A', 'when 1 .. @2 ** 31 => X := 1; when others => X := 2;'.replace('@2 **', '2 @**')),
+            'static_fault_in_a_choice': ('N12', 'A', 'when 1 @/ 0 => X := 1; when others => X := 2;'),
+            'no_choice_of_the_name': ('N1', 'A', 'when @Y => X := 1; when others => X := 2;'),
+            'type_for_a_choice': ('N3', 'A', 'when @Natural => X := 1; when others => X := 2;'),
+            'statement_of_another_type': ('N10', 'A', 'when 1 => X := @True; when others => X := 2;'),
+            'target_that_is_none': ('N1', 'A', 'when 1 => X := 1; when others => @Y := 2;'),
+            # a breach in a part comes before missing values, and statements come between choices
+            'missing_values_and_a_variable': ('N11', 'A', 'when @A => X := 1;'), 'missing_values_and_no_selector': ('N1', '@Y', 'when 1 => X := 1;'),
+            'statement_before_a_choice': ('N10', 'A', 'when 1 => X := @True; when Y => X := 1; when others => X := 2;'),
+            'choice_before_a_statement': ('N1', 'A', 'when @Y => X := True; when others => X := 2;'),
+            'value_twice_and_a_later_variable': ('N11', 'A', 'when 1 | 1 => X := 1; when @A => X := 3; when others => X := 2;'),
+            'constant_for_a_target': ('U2', 'A', 'when 1 => X := 1; when others => @Three := 2;'),
+            'formal_for_a_target': ('U2', 'A', 'when 1 => @A := 1; when others => X := 2;')}.items():
+        yield refused(f'case_with_{name}.adb', selecting(*alternatives, selector=selector, declared='; Three : constant Integer := 3'), rule)
+    for name, text in {
+            'no_selector': selecting('when others => X := 1; when 1 => X := A;', selector='Y'),
+            'a_variable': selecting('when others => X := 1; when A => X := A;'),
+            'a_statement_that_fails': selecting('when 1 | 1 => X := Y; when others => X := A;')}.items():
+        yield refused(f'choices_before_{name}.adb', text.replace('case ', '@case ', 1), 'N17')
+    yield refused('breach_before_a_case.adb', selecting('when 1 => X := A;', before=('X := @Y',)), 'N1')
+    yield refused('breach_after_a_case.adb', selecting('when others => X := A;', after=('X := @Y',)), 'N1')
+    yield refused('case_in_a_case.adb', selecting('when 1 => @case A is when 1 => X := 1; end case; when others => X := 2;'), 'N17')
+
+
+def conditions_of_cases():
+    """What each alternative knows of the selector; checks of the selector come once, before all of them."""
+    for name, alternatives, total in (
+            ('value', 'when 5 => X := A + 1; when others => X := 0;', 3), ('range', 'when 1 .. 5 => X := A + 1; when others => X := 0;', 3),
+            ('two_values', 'when 5 | 6 => X := A <1o>+ 1; when others => X := 0;', 3),
+            ('others_after_a_value', 'when 0 => X := 0; when others => X := 10 mod A;', 3),
+            ('others_after_another_value', 'when 1 => X := 0; when others => X := 10 <2d>mod A;', 3),
+            ('others_after_two_values', 'when 1 | 0 => X := 0; when others => X := 10 <2d>mod A;', 3),
+            ('others_after_two_alternatives', 'when 1 => X := 0; when 0 => X := 1; when others => X := 10 mod A;', 4),
+            ('others_after_a_range', "when 5 .. Integer'Last => X := 0; when others => X := A <2o>+ 1;", 3),
+            ('others_alone', 'when others => X := A <1o>+ 1;', 2), ('last_without_others', "when Integer'First .. 4 => X := A + 1; when 5 .. Integer'Last => X := A - 1;", 4),
+            ('last_that_is_too_large', "when Integer'First .. 4 => X := A + 1; when 5 .. Integer'Last => X := A <3o>+ 1;", 4),
+            ('empty_range', "when 5 .. 4 => X := A + 1; when others => X := A <3o>+ 1;", 4),
+            ('earlier_alternative', 'when 1 .. 5 => X := 0; when 6 => X := A + 1; when 7 .. 8 => X := A - 1; when others => X := 0;', 6),
+            ('null', 'when 1 => null; X := 1; when others => X := A;', 2)):
+        yield left_at(f'case_knows_{name}.adb', selecting(alternatives), total)
+    yield left_at('case_over_a_sum.adb', selecting('when 1 => X := 1; when 2 => X := 2; when others => X := 3;', selector='A <1o>+ 1'), 4)
+    yield left_at('case_over_a_conversion.adb', selecting('when 1 .. 2 => X := A; when 3 .. 5 => X := 2;', selector='Low (<1r>A)'), 3)
+    yield left_at('case_over_a_conversion_within.adb', selecting('when 1 .. 2 => X := A; when 3 .. 5 => X := 2;', selector='Low (A)', pre='A in 1 .. 5'), 3)
+    succ = "when Red .. Green => K := Hue'Succ (H); when Blue => K := Red;"
+    yield left_at('case_over_literals.adb', selecting(succ, selector='H', before=("H := Hue'Val (A)",), after=('if K = Red then X := 1; else X := 0; end if',), pre='A in 0 .. 3'), 9)
+    past = "when Red .. Blue => K := Hue'Succ (<3r>H);"
+    yield left_at('case_over_all_literals.adb', selecting(past, selector='H', before=("H := Hue'Val (A)",), after=('if K = Red then X := 1; else X := 0; end if',), pre='A in 0 .. 3'), 6)
+    yield left_at('case_then_a_sum.adb', selecting('when 1 => X := 1; when others => X := 2;', after=('X := X + A * 0',)), 8)
+    yield left_at('case_that_changes_its_selector.adb',
+                  longer(X, 'X from X', "case X is when 0 .. 5 => X := X + 1; X := X + 1; when others => X := 0; end case", 'X := X + 1'), 9)
+    yield left_at('case_in_an_if.adb', longer(A_TO_X, 'X from A', 'if A > 0 then case A is when 1 => X := A + 1; when others => X := A - 1; end case; else X := 0; end if'), 5)
+    yield left_at('if_in_a_case.adb', selecting('when 0 .. 10 => if A > 5 then X := A - 5; else X := A + 5; end if; when others => X := 0;'), 5)
+    yield left_at('case_in_an_alternative.adb', selecting('when 0 .. 10 => case A is when 0 .. 5 => X := A + 1; when others => X := A - 6; end case; when others => X := 0;'), 5)
+    yield left_at('case_over_a_number.adb', longer(A_TO_X, 'X from A', 'case 3 is when 3 => X := A; when others => X := A + 1; end case'), 3)
+    for many, text in ((64, accepted), (65, None)):
+        alternatives = ' '.join(f'when {at} => X := {at};' for at in range(1, many)) + ' when others => X := 0;'
+        found = longer(A_TO_X, 'X from A', f'case A is {alternatives} end case', f'case X is {alternatives} end case')
+        if text:
+            yield accepted('cases_with_4096_paths.adb', found, 64 + 4096)
+        else:
+            yield Case('cases_with_4225_paths.adb', encoded(found), 'limit: paths, at most 4096\n', 6)
+
+
+def flow_of_cases():
+    """What a selector reads comes to all that an alternative sets; a finding on it stands at `case`."""
+    yield refused('missing_flow_by_a_selector.adb',
+                  longer(A_TO_X, '@X from & null from A', 'case A is when 1 => X := 1; when others => X := 2; end case'), 'F1 missing: X from A')
+    yield refused('missing_flow_by_the_selector_of_one_alternative.adb',
+                  longer(A_TO_X, '@X from & null from A', 'case A is when others => X := 1; end case'), 'F1 missing: X from A')
+    yield refused('unused_flow_through_a_case.adb',
+                  longer('A, B : in Integer; X : out Integer', '@X from A, B', 'case A is when 1 => X := 1; when others => X := 2; end case'), 'F2 unused: X from B')
+    yield refused('selector_of_nothing.adb', longer(A_TO_X, 'X from A', '@case A is when 1 => null; when others => null; end case', 'X := A'), 'F3')
+    yield refused('selector_of_what_is_lost.adb',
+                  longer(A_TO_X, 'X from A', '@case A is when 1 => @T := 1; when others => null; end case', 'X := A', declared=T), 'F3', 'F3')
+    yield refused('selector_of_what_is_overwritten.adb',
+                  longer(A_TO_X, 'X from A', '@case A is when 1 => @X := 1; when others => @X := 2; end case', 'X := A'), 'F3', 'F3', 'F3')
+    yield refused('unset_selector.adb', longer(A_TO_X, 'X from & null from A', 'case @T is when 1 => X := 1; when others => X := 2; end case', declared=T), 'F4 unset: T')
+    yield refused('unset_in_one_alternative.adb',
+                  longer(A_TO_X, 'X from A', 'case A is when 1 => T := 1; when 2 => null; when others => T := 2; end case', 'X := @T', declared=T), 'F4 unset: T')
+    yield refused('unset_export_after_a_case.adb',
+                  longer(A_TO_X, '@X from A', 'case A is when 1 => X := 1; when others => null; end case').replace('end Inc', '@end Inc'),
+                  'F1 missing: X from X', 'F4 unset: X')
+    yield refused('read_in_a_later_alternative.adb',
+                  longer(A_TO_X, 'X from A', 'case A is when 1 => T := 1; X := T; when others => X := @T; end case', declared=T), 'F4 unset: T')
+    yield accepted('set_in_each_alternative.adb',
+                   longer(A_TO_X, 'X from A', 'case A is when 1 => T := 1; when 2 | 3 => T := 3; when others => T := 2; end case', 'X := T', declared=T), 6)
+    yield accepted('flow_through_two_alternatives.adb',
+                   longer('A, B, C : in Integer; X : out Integer', 'X from A, B, C', 'case A is when 1 => X := B; when others => X := C; end case'), 2)
+    yield accepted('kept_in_one_alternative.adb', longer('A : in Integer; X : in out Integer', 'X from X, A', 'case A is when 1 => X := 1; when others => null; end case'), 1)
+    yield refused('kept_value_that_is_not_declared.adb',
+                  longer(A_AND_X, '@X from A & null from X', 'case A is when 1 => X := 1; when others => null; end case'), 'F1 missing: X from X')
+
+
+def syntax_of_cases():
+    """Tokens with which no `case` goes on, and the levels that it opens."""
+    for name, statement in {
+            'no_alternative': 'case A is @end case', 'statement_for_an_alternative': 'case A is @null; end case', 'no_statement': 'case A is when 1 => @end case',
+            'no_statement_before_when': 'case A is when 1 => @when others => X := A; end case', 'colon_after_a_choice': 'case A is when 1 @: X := A; end case',
+            'comma_between_choices': 'case A is when 1@, 2 => X := A; end case', 'bar_after_others': 'case A is when others @| 1 => X := A; end case',
+            'others_among_choices': 'case A is when 1 | @others => X := A; end case', 'relation_for_a_choice': 'case A is when A @> 1 => X := A; end case',
+            'condition_for_a_choice': 'case A is when 1 @and 2 => X := A; end case', 'named_range': 'case A is when 1 .. 5 @.. 6 => X := A; end case',
+            'type_with_a_range': 'case A is when Integer @range 1 .. 5 => X := A; end case', 'box': 'case A is when @<> => X := A; end case',
+            'end_if': 'case A is when others => X := A; end @if', 'name_after_the_end': 'case A is when others => X := A; end case @A',
+            'then_for_is': 'case A @then when others => X := A; end case', 'else': 'case A is when 1 => X := A; @else X := 1; end case',
+            'elsif': 'case A is when 1 => X := A; @elsif A > 1 then X := 1; end case', 'two_selectors': 'case A@, A is when others => X := A; end case'}.items():
+        yield unexpected(f'case_with_{name}.adb', longer(A_TO_X, 'X from A', statement))
+    for name, statement in {'a_marked_case': '--# @case A is', 'a_marked_when': 'case A is\n--# @when 1', 'a_marked_choice': 'case A is when --# @1',
+                            'a_marked_end': 'case A is when others => X := A;\n--# @end case'}.items():
+        yield unexpected(f'{name}.adb', longer(A_TO_X, 'X from A', statement))
+    yield unexpected('case_among_declarations.adb', longer(A_TO_X, 'X from A', 'X := A', declared=['@case A is when others => null; end case']))
+    yield unexpected('case_in_an_expression.adb', longer(A_TO_X, 'X from A', 'X := @case A is when others => A'))
+    yield unexpected('when_without_a_case.adb', longer(A_TO_X, 'X from A', '@when 1 => X := A'))
+    yield accepted('case_on_several_lines.adb', longer(A_TO_X, 'X from A', 'case\nA -- a selector\nis\nWhen 1\n|\n2 ..\n3\n=>\nX := 1; WHEN Others => X := A; end\nCASE'), 2)
+    others = 'when others => X := A; end case'
+    yield accepted('selector_of_200_levels.adb', longer(A_TO_X, 'X from A', f'case {nested(199, "A")} is {others}'), 1)
+    yield too_nested('selector_of_201_levels.adb', longer(A_TO_X, 'X from A', f'case {nested(200, "A")} is {others}'))
+    yield accepted('choice_of_200_levels.adb', longer(A_TO_X, 'X from A', f'case A is when {nested(199)} => X := 1; {others}'), 2)
+    yield too_nested('choice_of_201_levels.adb', longer(A_TO_X, 'X from A', f'case A is when {nested(200)} => X := 1; {others}'))
+    yield too_nested('high_choice_of_201_levels.adb', longer(A_TO_X, 'X from A', f'case A is when 1 .. {nested(200)} => X := 1; {others}'))
+    yield accepted('cases_of_200_levels.adb', longer(A_TO_X, 'X from A', 'case A is when others => ' * 200 + 'X := A; ' + 'end case; ' * 199 + 'end case'), 1)
+    yield too_nested('cases_of_201_levels.adb', longer(A_TO_X, 'X from A', 'case A is when others => ' * 201 + 'X := A; ' + 'end case; ' * 200 + 'end case'))
+    yield accepted('cases_in_a_row.adb',
+                   longer(A_TO_X, 'X from A', 'case A is when 1 => X := 1; when others => X := A; end case', 'case X is when others => X := X + 0; end case'), 6)
+    yield too_nested('assigned_value_in_200_cases.adb', longer(A_TO_X, 'X from A', 'case A is when others => ' * 200 + 'X := (A); ' + 'end case; ' * 199 + 'end case'))
+
+
 # ---------------------------------------------------------------- the table
 
 GROUPS = (form, relations, simplifier, numbers, places, words, layout, comments, marks, other_bytes, tokens, grammar,
@@ -4589,7 +5046,8 @@ GROUPS = (form, relations, simplifier, numbers, places, words, layout, comments,
           null_from, levels_of_operators, nodes_of_operators, ranges_of_types, names_of_declarations, declared_subtypes,
           declared_constants, assigned_constants, matching_types, enumerations, values_of_declarations, conditions_of_types,
           powers_of_types, conditions_of_enumerations, flow_of_types, levels_of_declarations, syntax_of_declarations,
-          breaches_of_declarations)
+          breaches_of_declarations, functions_of_types, conditions_of_functions, flow_of_functions, syntax_of_functions,
+          initial_values, values_of_choices, rules_of_choices, conditions_of_cases, flow_of_cases, syntax_of_cases)
 CASES = tuple(case for group in GROUPS for case in group())
 
 

@@ -6,6 +6,8 @@ pub mod ReadsLaws
 pub mod Pairs
 pub mod FlowLaws
 pub mod MarkLaws
+pub mod Choices
+pub mod Alternatives
 pub mod Bodies
 pub mod Listings
 pub mod FlowDecisions

@@ -21,18 +21,19 @@ use Rattle.spx_core.specs.declared.entity.TypeId.{TypeId}
 use Rattle.spx_core.specs.declared.entity.Subtype.{Subtype}
 use Rattle.spx_core.specs.declared.entity.Mode.{Mode}
 use Rattle.spx_core.specs.declared.entity.VarKind.{VarKind}
-use Rattle.spx_core.specs.declared.entity.VarKind.TheVariants.{Formal, Local}
+use Rattle.spx_core.specs.declared.entity.VarKind.TheVariants.{Formal}
 use Rattle.spx_core.specs.declared.entity.Object.{Object}
 use Rattle.spx_core.specs.declared.name.Defining.{Defining}
 use Rattle.spx_core.specs.declared.name.Reference.{Reference}
+use Rattle.spx_core.specs.declared.expression.CoreExpr.{CoreExpr}
 use Rattle.spx_core.specs.declared.statement.CoreRange.{CoreRange}
 use Rattle.spx_core.specs.declared.program.TypeRow.{TypeRow}
 use Rattle.spx_core.specs.declared.program.Var.{Var}
 use Rattle.spx_core.specs.declared.program.Program.{Program}
 use Rattle.spx_core.specs.Formals.{stands_in}
 use Rattle.spx_core.specs.Regions.{Region, Regions}
-use Rattle.spx_core.specs.Resolved.{around_formals, around_names, bounded, constant_of, counted, Counts, declared_by, declared_by_decls, declared_by_params, declaring, declaring_all, defining, defining_all, enumeration_type, id_at, integer_type, meant_at, mode_of, narrowed, object_of, params_of, positions, resolved_decl, resolved_decls, resolved_expr, resolved_formal_part, resolved_param, resolved_params, resolved_range, resolved_reference, resolved_type, rows_by, rows_by_decls, standard_types, static_value, subtype_of, var_in, var_of, variable_at, variables_by, variables_by_decls}
-use Rattle.spx_core.specs.Scopes.{object_declared, object_in}
+use Rattle.spx_core.specs.Resolved.{around_formals, around_names, bounded, constant_of, counted, Counts, declared_by, declared_by_decls, declared_by_params, declaring, declaring_all, defining, defining_all, enumeration_type, id_at, integer_type, local_kind, meant_at, mode_of, narrowed, object_of, params_of, positions, resolved_decl, resolved_decls, resolved_expr, resolved_formal_part, resolved_param, resolved_params, resolved_range, resolved_reference, resolved_type, rows_by, rows_by_decls, standard_types, static_value, subtype_of, var_in, var_of, variable_at, variables_by, variables_by_decls}
+use Rattle.spx_core.specs.Scopes.{IsLocalKind, object_declared, object_in}
 use Rattle.spx_core.proofs.RegionLaws.{AllHold, HasRow, Holds, HoldsIn, row_at, declaring_all_holds, hidden_holds, root_holds, standard_holds, subtype_has_row}
 use Rattle.spx_core.proofs.Callers.ListTests.{each_append, each_split}
 use Rattle.spx_core.proofs.Callers.Variables.{same_var}
@@ -53,7 +54,7 @@ consecutive_append K position [] b left right = subst (λ n. Consecutive K n b) 
 consecutive_append K position (d ∷ a) b left right =
     (left.0, consecutive_append K (position + 1) a b left.1 (subst (λ n. Consecutive K n b) (let e : position + length (d ∷ a) ≡ position + 1 + length a = omega arith in e) right))
 
-defining_consecutive : (K : Object → Type 0) (region : Region) (object : Object) (position : ℕ) (names : List Identifier) → K object
+pub defining_consecutive : (K : Object → Type 0) (region : Region) (object : Object) (position : ℕ) (names : List Identifier) → K object
     → Consecutive K position (defining_all region (meaning.Variables object) position names)
 defining_consecutive K region object position [] is = tt
 defining_consecutive K region object position (name ∷ names) is =
@@ -63,7 +64,11 @@ abbrev pub IsFormal : List TypeRow → Object → Type 0
 IsFormal more object = ((mode : Mode) × (object.kind ≡ Formal mode)) × HasRow more object.subtype
 
 abbrev pub IsLocal : List TypeRow → Object → Type 0
-IsLocal more object = (object.kind ≡ Local) × HasRow more object.subtype
+IsLocal more object = IsLocalKind object.kind × HasRow more object.subtype
+
+kind_is_local : (value : Option CoreExpr) → IsLocalKind (local_kind value)
+kind_is_local None = tt
+kind_is_local (Some value) = tt
 
 -- any variable, so that only types are asked for their rows
 abbrev pub Any : VarId → Object → Type 0
@@ -156,8 +161,10 @@ module _ (more : List TypeRow) where
 
     decl_known : (region : Region) (before : Counts) (d : Decl) (front back : List TypeRow) → HoldsIn more Any region → Stands before front (rows_by (resolved_decl outer region before d)) back
         → Known before.vars (variables_by (resolved_decl outer region before d)) (declared_by (resolved_decl outer region before d))
-    decl_known region before (decl.Variables names type_name) front back own stands =
-        record { consecutive = defining_consecutive (IsLocal more) region (object_of Local (resolved_reference (around_names outer region names) type_name)) before.vars names (refl, type_has_row region names type_name own); holds = λ P h. h }
+    decl_known region before (decl.Variables names type_name value) front back own stands =
+        let around = around_names outer region names in
+        let kind = local_kind (option_map (resolved_expr around) value) in
+        record { consecutive = defining_consecutive (IsLocal more) region (object_of kind (resolved_reference around type_name)) before.vars names (kind_is_local (option_map (resolved_expr around) value), type_has_row region names type_name own); holds = λ P h. h }
     decl_known region before (decl.Constants names type_name value) front back own stands =
         record { consecutive = tt; holds = λ P h. others_hold P region _ 0 names (λ k. constants_hold P (option_map (resolved_reference (around_names outer region names)) type_name) (static_value (resolved_expr (around_names outer region names) value))) }
     decl_known region before (decl.FullType name d) front back own stands = type_known region before name d front back stands

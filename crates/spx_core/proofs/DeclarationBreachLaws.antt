@@ -21,11 +21,11 @@ use Rattle.spx_core.specs.declared.rule.RuleName.{RuleName}
 use Rattle.spx_core.specs.declared.rule.RuleName.TheVariants.{N2, N10, N11, N12, N13}
 use Rattle.spx_core.specs.declared.rule.Typing.{Typing}
 use Rattle.spx_core.specs.HasType.{HasType}
-use Rattle.spx_core.specs.Judged.{each, judged, keeps, referred_type}
+use Rattle.spx_core.specs.Judged.{each, if_there, judged, keeps, referred_type}
 use Rattle.spx_core.specs.NameBreaches as broken
 use Rattle.spx_core.specs.NameBreaches.{BreaksDecl, BreaksRange, BreaksReference, BreaksStatic, IsType, bound_fits}
 use Rattle.spx_core.specs.Resolved.{declared_by, declared_by_definition}
-use Rattle.spx_core.specs.Statements.{declared, declared_once, judged_constraint, judged_decl, judged_definition, judged_value, range_within, static_at, static_between, static_number}
+use Rattle.spx_core.specs.Statements.{declared, declared_once, judged_constraint, judged_decl, judged_definition, judged_initial, judged_value, range_within, static_at, static_between, static_number, value_of_type}
 use Rattle.spx_core.specs.Statements as statements
 use Rattle.spx_core.specs.Types.{has_numbers, is_between, is_number, is_of}
 use Rattle.spx_core.proofs.Elements.{in_cases, in_first, in_none, in_rest}
@@ -36,11 +36,11 @@ use Rattle.spx_core.proofs.NameBreachLaws.{At, expr_found, no_expr, no_type_refe
 -- ---- static values
 
 -- a value that is not static
-unstatic : (place : Place) (o : Option ℤ) (b : Breach) → static_at place o ≡ Err b → (o ≡ None) × (record { rule = N11; place = place } ≡ b)
+pub unstatic : (place : Place) (o : Option ℤ) (b : Breach) → static_at place o ≡ Err b → (o ≡ None) × (record { rule = N11; place = place } ≡ b)
 unstatic place (Some n) b h = absurd cc
 unstatic place None b h = (refl, cc)
 
-static_is : (place : Place) (o : Option ℤ) (n : ℤ) → static_at place o ≡ Ok n → o ≡ Some n
+pub static_is : (place : Place) (o : Option ℤ) (n : ℤ) → static_at place o ≡ Ok n → o ≡ Some n
 static_is place (Some m) n h = ap Some (ok_is h)
 static_is place None n h = absurd cc
 
@@ -62,7 +62,7 @@ between_found base first last e t b d h =
     by_part (keeps N12 t.place (is_between first last n)) _ b h (λ k. let o = not_kept N12 t.place _ b k in inr (n, static_is t.place t.value n is, o.0, o.1)) (λ _ _ h. absurd cc)))
 
 -- what a static value passes
-abbrev Passes : (ExprType → Bool) → Typing → ℤ → Type 0
+abbrev pub Passes : (ExprType → Bool) → Typing → ℤ → Type 0
 Passes fits t n = (fits t.of ≡ true) × (t.value ≡ Some n)
 
 number_passes : (t : Typing) (n : ℤ) → static_number t ≡ Ok n → Passes is_number t n
@@ -77,7 +77,7 @@ between_passes base first last t n h =
     ((kept N10 t.place _ k.1, static_is t.place t.value v.0 v.1 ∙ ap Some same), ap (is_between first last) (sym same) ∙ kept N12 t.place _ l.1)
 
 -- an expression has one type and one value
-one_typing : (e : CoreExpr) (t u : Typing) → judged e ≡ Ok t → HasType e u → t ≡ u
+pub one_typing : (e : CoreExpr) (t u : Typing) → judged e ≡ Ok t → HasType e u → t ≡ u
 one_typing e t u is d = ok_is (sym is ∙ complete e u d)
 
 no_static : (fits : ExprType → Bool) (e : CoreExpr) (t : Typing) (n : ℤ) → judged e ≡ Ok t → Passes fits t n → (rule : RuleName) (place : Place) → ¬ BreaksStatic fits e rule place
@@ -204,6 +204,17 @@ module _ (Breaks : RuleName → Place → Type 0) (b : Breach) where
       (λ o. other b.rule b.place (subst (At (BreaksDecl (decl.Constants names (Some type_name) value))) o.3 (broken.constant_out_of_range names type_name value subtype t o.0 is (sound value t has) o.1 o.2)))
       (between_found subtype.base subtype.first subtype.last value t b (sound value t has) h)))
 
+  -- an initial value of a type
+  initial_found : (names : List Defining) (type_name : Reference) (subtype : Subtype) (value : Option CoreExpr) → type_name.root.entity ≡ Some (entity.TypeName subtype) → Other (decl.Variables names type_name value)
+      → if_there (judged_initial subtype) value ≡ Err b → At Breaks b
+  initial_found names type_name subtype None is other h = absurd cc
+  initial_found names type_name subtype (Some value) is other h =
+      by_part (value_of_type subtype value) _ b h (λ h.
+      by_part (judged value) _ b h (λ e. other b.rule b.place (broken.initial names type_name value subtype b.rule b.place is (broken.itself b.rule b.place (expr_found value b e)))) (λ t has h.
+      ⊎_elim (λ s. other b.rule b.place (broken.initial names type_name value subtype b.rule b.place is s))
+      (λ o. other b.rule b.place (subst (At (BreaksDecl (decl.Variables names type_name (Some value)))) o.3 (broken.initial_out_of_range names type_name value subtype t o.0 is (sound value t has) o.1 o.2)))
+      (between_found subtype.base subtype.first subtype.last value t b (sound value t has) h))) (λ _ _ e. absurd cc)
+
   value_found : (names : List Defining) (type_name : Option Reference) (value : CoreExpr) → Other (decl.Constants names type_name value) → judged_value type_name value ≡ Err b → At Breaks b
   value_found names None value other h =
       by_part (judged value) static_number b h (λ e. other b.rule b.place (broken.named_number names value b.rule b.place (broken.itself b.rule b.place (expr_found value b e))))
@@ -222,7 +233,10 @@ module _ (Breaks : RuleName → Place → Type 0) (b : Breach) where
       other b.rule b.place (broken.constraint name parent range subtype b.rule b.place is (range_found (Some subtype.base) subtype.first subtype.last range b h)))
 
   pub decl_found : (d : CoreDecl) → Again d → Other d → judged_decl d ≡ Err b → At Breaks b
-  decl_found (decl.Variables names type_name) again other h = declared_found names type_name Breaks b again (λ rule place e. other rule place (broken.type_name names type_name rule place e)) h
+  decl_found (decl.Variables names type_name value) again other h =
+      by_part (each declared_once names) _ b h (again_found names Breaks b again) (λ _ _ h.
+      by_part (referred_type type_name) _ b h (λ e. other b.rule b.place (broken.type_name names type_name value b.rule b.place (type_reference_found type_name b e))) (λ subtype named h.
+      initial_found names type_name subtype value (referred_is type_name subtype named) other h))
   decl_found (decl.Constants names type_name value) again other h =
       by_part (each declared_once names) _ b h (again_found names Breaks b again) (λ _ _ h.
       by_part (judged_value type_name value) _ b h (value_found names type_name value other) (λ _ _ e. absurd cc))
@@ -238,7 +252,7 @@ literals_not_again (definition.Integer range) ok x is again = in_none x is
 literals_not_again (definition.Enumeration place literals) ok x is again = none_again literals ok x is again
 
 pub decl_not_again : (d : CoreDecl) → judged_decl d ≡ Ok tt → (x : Defining) → Contains (declared_by d) x → x.again ≡ true → ⊥
-decl_not_again (decl.Variables names type_name) ok x is again = not_again names type_name ok x is again
+decl_not_again (decl.Variables names type_name value) ok x is again = none_again names (bound (each declared_once names) _ tt ok).1 x is again
 decl_not_again (decl.Constants names type_name value) ok x is again = none_again names (bound (each declared_once names) _ tt ok).1 x is again
 decl_not_again (decl.FullType name d) ok x is again =
     let h = bound (declared_once name) _ tt ok in
@@ -250,21 +264,34 @@ decl_not_again (decl.Subtype name parent range) ok x is again =
 constant_parts : (names : List Defining) (type_name : Option Reference) (value : CoreExpr) → judged_decl (decl.Constants names type_name value) ≡ Ok tt → (n : ℤ) × (judged_value type_name value ≡ Ok n)
 constant_parts names type_name value ok = let v = bound (judged_value type_name value) _ tt (bound (each declared_once names) _ tt ok).2 in (v.0, v.1)
 
--- what the value of a constant of a type passes
-record Constant (type_name : Reference) (value : CoreExpr) (subtype : Subtype) : Type 0 where
-  typing : Typing
-  number : ℤ
-  judges : judged value ≡ Ok typing
-  passes : Passes (is_of subtype.base) typing number
-  lies : is_between subtype.first subtype.last number ≡ true
+-- what the value of a constant of a type passes, or that of a variable
+pub record ValueOfType (value : CoreExpr) (subtype : Subtype) : Type 0 where
+  pub typing : Typing
+  pub number : ℤ
+  pub judges : judged value ≡ Ok typing
+  pub passes : Passes (is_of subtype.base) typing number
+  pub lies : is_between subtype.first subtype.last number ≡ true
 
-constant_passes : (type_name : Reference) (value : CoreExpr) (subtype : Subtype) (n : ℤ) → type_name.root.entity ≡ Some (entity.TypeName subtype) → judged_value (Some type_name) value ≡ Ok n → Constant type_name value subtype
+value_passes : (value : CoreExpr) (subtype : Subtype) (n : ℤ) → value_of_type subtype value ≡ Ok n → ValueOfType value subtype
+value_passes value subtype n ok =
+    let t = bound (judged value) _ n ok in
+    let p = between_passes subtype.base subtype.first subtype.last t.0 n t.2 in
+    record { typing = t.0; number = n; judges = t.1; passes = p.0; lies = p.1 }
+
+constant_passes : (type_name : Reference) (value : CoreExpr) (subtype : Subtype) (n : ℤ) → type_name.root.entity ≡ Some (entity.TypeName subtype) → judged_value (Some type_name) value ≡ Ok n → ValueOfType value subtype
 constant_passes type_name value subtype n is ok =
     let s = bound (referred_type type_name) _ n ok in
-    let t = bound (judged value) _ n s.2 in
-    let same = same_type_named type_name s.0 subtype s.1 is in
-    let p = between_passes subtype.base subtype.first subtype.last t.0 n (subst (λ (x : Subtype). static_between x.base x.first x.last t.0 ≡ Ok n) same t.2) in
-    record { typing = t.0; number = n; judges = t.1; passes = p.0; lies = p.1 }
+    value_passes value subtype n (subst (λ (x : Subtype). value_of_type x value ≡ Ok n) (same_type_named type_name s.0 subtype s.1 is) s.2)
+
+-- the type of variables whose initial value breaks no rule
+pub initial_type : (names : List Defining) (type_name : Reference) (value : CoreExpr) → judged_decl (decl.Variables names type_name (Some value)) ≡ Ok tt → (subtype : Subtype) × (referred_type type_name ≡ Ok subtype) × ValueOfType value subtype
+initial_type names type_name value ok =
+    let s = bound (referred_type type_name) _ tt (bound (each declared_once names) _ tt ok).2 in
+    let v = bound (value_of_type s.0 value) _ tt s.2 in
+    (s.0, s.1, value_passes value s.0 v.0 v.1)
+
+initial_passes : (names : List Defining) (type_name : Reference) (value : CoreExpr) (subtype : Subtype) → type_name.root.entity ≡ Some (entity.TypeName subtype) → judged_decl (decl.Variables names type_name (Some value)) ≡ Ok tt → ValueOfType value subtype
+initial_passes names type_name value subtype is ok = let s = initial_type names type_name value ok in subst (ValueOfType value) (same_type_named type_name s.0 subtype s.1 is) s.2
 
 -- the range of a subtype
 constraint_parts : (name : Defining) (parent : Reference) (range : CoreRange) (subtype : Subtype) → parent.root.entity ≡ Some (entity.TypeName subtype) → judged_decl (decl.Subtype name parent (Some range)) ≡ Ok tt
@@ -276,7 +303,16 @@ constraint_parts name parent range subtype is ok =
     (kept N10 parent.root.name.place _ k.1, range_parts (Some subtype.base) subtype.first subtype.last range k.2)
 
 pub no_decl : (d : CoreDecl) (rule : RuleName) (place : Place) → BreaksDecl d rule place → judged_decl d ≡ Ok tt → ⊥
-no_decl _ _ _ (broken.type_name names type_name rule place h) ok = no_declared_type names type_name ok rule place h
+no_decl _ _ _ (broken.type_name names type_name value rule place h) ok =
+    let s = bound (referred_type type_name) _ tt (bound (each declared_once names) _ tt ok).2 in
+    no_type_reference type_name s.0 s.1 rule place h
+no_decl _ _ _ (broken.initial names type_name value subtype rule place is h) ok =
+    let c = initial_passes names type_name value subtype is ok in
+    no_static (is_of subtype.base) value c.typing c.number c.judges c.passes rule place h
+no_decl _ _ _ (broken.initial_out_of_range names type_name value subtype t n is d value_is fails) ok =
+    let c = initial_passes names type_name value subtype is ok in
+    let same : c.number ≡ n = some_is (sym c.passes.1 ∙ ap (λ (y : Typing). y.value) (one_typing value c.typing t c.judges d) ∙ value_is) in
+    both_ways _ fails (ap (is_between subtype.first subtype.last) (sym same) ∙ c.lies)
 no_decl _ _ _ (broken.named_number names value rule place h) ok =
     let v = constant_parts names None value ok in
     let t = bound (judged value) static_number v.0 v.1 in

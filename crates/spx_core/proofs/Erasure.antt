@@ -15,6 +15,8 @@ use Rattle.spx_core.specs.declared.entity.Meaning.{Meaning}
 use Rattle.spx_tree.specs.declared.statement.Stmt.{Stmt, Stmt-F, map-Stmt, roll-Stmt, ind-Stmt, fold-roll-Stmt}
 use Rattle.spx_tree.specs.declared.statement.Stmt.TheVariants as stmt
 use Rattle.spx_tree.specs.declared.statement.Arm.{Arm, Arm-F, map-Arm, roll-Arm, fold-roll-Arm}
+use Rattle.spx_tree.specs.declared.statement.Alternative.{Alternative, Alternative-F, map-Alternative, roll-Alternative, fold-roll-Alternative}
+use Rattle.spx_tree.specs.declared.statement.Choice.{Choice}
 use Rattle.spx_tree.specs.declared.annotation.Exports.{Exports}
 use Rattle.spx_tree.specs.declared.annotation.Exports.TheVariants as exported
 use Rattle.spx_tree.specs.declared.annotation.DerivesItem.{DerivesItem}
@@ -28,15 +30,16 @@ use Rattle.spx_tree.specs.declared.subprogram.Unit.TheVariants as unit
 use Rattle.spx_core.specs.declared.expression.CoreExpr.{CoreExpr, CoreExpr-F, roll-CoreExpr, map-CoreExpr, fold-roll-CoreExpr}
 use Rattle.spx_core.specs.declared.statement.CoreStmt.{CoreStmt, CoreStmt-F, map-CoreStmt, roll-CoreStmt, fold-roll-CoreStmt}
 use Rattle.spx_core.specs.declared.statement.CoreArm.{CoreArm, fold-roll-CoreArm}
+use Rattle.spx_core.specs.declared.statement.CoreAlternative.{CoreAlternative, fold-roll-CoreAlternative}
 use Rattle.spx_core.specs.declared.program.Program.{Program}
 use Rattle.spx_core.specs.Regions.{Region, Regions, hidden}
-use Rattle.spx_core.specs.Erased.{Visible, erased, erased_arm, erased_arm_step, erased_decl, erased_range, erased_defining, erased_derives, erased_exports, erased_expr, erased_formal_part, erased_item, erased_param, erased_pre, erased_reference, erased_step, erased_stmt, erased_stmt_step, erased_sub, unit_of}
+use Rattle.spx_core.specs.Erased.{Visible, erased, erased_alternative, erased_alternative_step, erased_arm, erased_arm_step, erased_choice, erased_decl, erased_range, erased_defining, erased_derives, erased_exports, erased_expr, erased_formal_part, erased_item, erased_param, erased_pre, erased_reference, erased_step, erased_stmt, erased_stmt_step, erased_sub, unit_of}
 use Rattle.spx_core.specs.Judged.{breach_in}
 use Rattle.spx_core.specs.Statements.{Typed, first_name_breach, judged_program}
 use Rattle.spx_core.proofs.Callers.Bodies.{all_are_units}
 use Rattle.spx_core.proofs.Judgements.{unbroken}
 use Rattle.spx_core.specs.Resolved as resolved
-use Rattle.spx_core.specs.Resolved.{after_formals, around_body, around_formals, around_names, at_start, counted, counted_sub, Counts, declared_by, declaring, declaring_all, defining, defining_all, exported_names, formal_names, local_names, meant_at, place_of_null, resolved_arm, resolved_decl, resolved_decls, resolved_derives, resolved_expr, resolved_formal_part, resolved_item, resolved_name, resolved_param, resolved_params, resolved_pre, resolved_range, resolved_reference, resolved_stmt, resolved_sub, resolved_subs, resolved_type, unit_name}
+use Rattle.spx_core.specs.Resolved.{after_formals, around_body, around_formals, around_names, at_start, counted, counted_sub, Counts, declared_by, declaring, declaring_all, defining, defining_all, exported_names, formal_names, local_names, meant_at, place_of_null, resolved_alternative, resolved_arm, resolved_choice, resolved_decl, resolved_decls, resolved_derives, resolved_expr, resolved_formal_part, resolved_function, resolved_item, resolved_name, resolved_param, resolved_params, resolved_pre, resolved_range, resolved_reference, resolved_stmt, resolved_sub, resolved_subs, resolved_type, unit_name}
 
 -- ---- names and expressions
 
@@ -60,6 +63,7 @@ module _ (regions : Regions) where
   at_layer (Expr-F.Number n place) = erased_at (CoreExpr-F.Number n place)
   at_layer (Expr-F.Name (Simple name)) = erased_at (CoreExpr-F.Name (resolved_name regions name))
   at_layer (Expr-F.Name (Attribute prefix designator)) = erased_at (CoreExpr-F.Attribute (resolved_name regions prefix) designator)
+  at_layer (Expr-F.Applied function place a) = erased_at (CoreExpr-F.Applied (resolved_function regions function) place (resolved_expr regions a.0)) ∙ ap (expr.Applied function place) a.1
   at_layer (Expr-F.Parenthesized place a) = erased_at (CoreExpr-F.Parenthesized place (resolved_expr regions a.0)) ∙ ap (expr.Parenthesized place) a.1
   at_layer (Expr-F.Prefix op place a) = erased_at (CoreExpr-F.Prefix op place (resolved_expr regions a.0)) ∙ ap (expr.Prefix op place) a.1
   at_layer (Expr-F.Infix op place a b) = erased_at (CoreExpr-F.Infix op place (resolved_expr regions a.0) (resolved_expr regions b.0)) ∙ ap₂ (expr.Infix op place) a.1 b.1
@@ -98,12 +102,15 @@ all_kept : {T C : Type 0} (back : C → T) (core : T → C) (ts : List ((t : T) 
 all_kept back core [] = refl
 all_kept {T} back core (t ∷ ts) = ap₂ (λ (x : T) (xs : List T). x ∷ xs) t.1 (all_kept back core ts)
 
-erased_stmt_at : (y : CoreStmt-F CoreStmt CoreArm) → erased_stmt (roll-CoreStmt y) ≡ erased_stmt_step (map-CoreStmt CoreStmt CoreArm Stmt Arm erased_stmt erased_arm y)
-erased_stmt_at y = fold-roll-CoreStmt Stmt Arm erased_stmt_step erased_arm_step y
+erased_stmt_at : (y : CoreStmt-F CoreStmt CoreAlternative CoreArm) → erased_stmt (roll-CoreStmt y) ≡ erased_stmt_step (map-CoreStmt CoreStmt CoreAlternative CoreArm Stmt Alternative Arm erased_stmt erased_alternative erased_arm y)
+erased_stmt_at y = fold-roll-CoreStmt Stmt Alternative Arm erased_stmt_step erased_alternative_step erased_arm_step y
 
 module _ (regions : Regions) where
   abbrev KeptStmt : Stmt → Type 0
   KeptStmt s = erased_stmt (resolved_stmt regions s) ≡ s
+
+  abbrev KeptAlternative : Alternative → Type 0
+  KeptAlternative a = erased_alternative (resolved_alternative regions a) ≡ a
 
   abbrev KeptArm : Arm → Type 0
   KeptArm a = erased_arm (resolved_arm regions a) ≡ a
@@ -111,13 +118,17 @@ module _ (regions : Regions) where
   abbrev ShownStmt : Type 0
   ShownStmt = (s : Stmt) × KeptStmt s
 
+  abbrev ShownAlternative : Type 0
+  ShownAlternative = (a : Alternative) × KeptAlternative a
+
   abbrev ShownArm : Type 0
   ShownArm = (a : Arm) × KeptArm a
 
-  abbrev bare_stmt : Stmt-F ShownStmt ShownArm → Stmt-F Stmt Arm
-  bare_stmt y = map-Stmt ShownStmt ShownArm Stmt Arm (λ e. e.0) (λ e. e.0) y
+  abbrev bare_stmt : Stmt-F ShownStmt ShownAlternative ShownArm → Stmt-F Stmt Alternative Arm
+  bare_stmt y = map-Stmt ShownStmt ShownAlternative ShownArm Stmt Alternative Arm (λ e. e.0) (λ e. e.0) (λ e. e.0) y
 
-  stmt_at_layer : (y : Stmt-F ShownStmt ShownArm) → erased_stmt (resolved.stmt_step regions (map-Stmt Stmt Arm CoreStmt CoreArm (resolved_stmt regions) (resolved_arm regions) (bare_stmt y))) ≡ roll-Stmt (bare_stmt y)
+  stmt_at_layer : (y : Stmt-F ShownStmt ShownAlternative ShownArm)
+      → erased_stmt (resolved.stmt_step regions (map-Stmt Stmt Alternative Arm CoreStmt CoreAlternative CoreArm (resolved_stmt regions) (resolved_alternative regions) (resolved_arm regions) (bare_stmt y))) ≡ roll-Stmt (bare_stmt y)
   unfolding roll-Stmt roll-CoreStmt roll
   stmt_at_layer (Stmt-F.Null place) = erased_stmt_at (CoreStmt-F.Null place)
   stmt_at_layer (Stmt-F.Assignment target value) =
@@ -128,18 +139,38 @@ module _ (regions : Regions) where
   stmt_at_layer (Stmt-F.If arms (Some stmts) closing) =
       erased_stmt_at (CoreStmt-F.If (map (resolved_arm regions) (map (λ a. a.0) arms)) (Some (map (resolved_stmt regions) (map (λ s. s.0) stmts))) closing)
       ∙ ap₂ (λ (a : List Arm) (o : List Stmt). stmt.If a (Some o) closing) (all_kept erased_arm (resolved_arm regions) arms) (all_kept erased_stmt (resolved_stmt regions) stmts)
+  stmt_at_layer (Stmt-F.Case place selector alternatives closing) =
+      erased_stmt_at (CoreStmt-F.Case place (resolved_expr regions selector) (map (resolved_alternative regions) (map (λ a. a.0) alternatives)) closing)
+      ∙ ap₂ (λ (e : Expr) (a : List Alternative). stmt.Case place e a closing) (kept_expr regions selector) (all_kept erased_alternative (resolved_alternative regions) alternatives)
 
-  stmt_layer : (y : Stmt-F ShownStmt ShownArm) → KeptStmt (roll-Stmt (bare_stmt y))
-  stmt_layer y = ap erased_stmt (fold-roll-Stmt CoreStmt CoreArm (resolved.stmt_step regions) (resolved.arm_step regions) (bare_stmt y)) ∙ stmt_at_layer y
+  stmt_layer : (y : Stmt-F ShownStmt ShownAlternative ShownArm) → KeptStmt (roll-Stmt (bare_stmt y))
+  stmt_layer y =
+      ap erased_stmt (fold-roll-Stmt CoreStmt CoreAlternative CoreArm (resolved.stmt_step regions) (resolved.alternative_step regions) (resolved.arm_step regions) (bare_stmt y)) ∙ stmt_at_layer y
 
-  arm_layer : (y : Arm-F ShownStmt ShownArm) → KeptArm (roll-Arm (map-Arm ShownStmt ShownArm Stmt Arm (λ e. e.0) (λ e. e.0) y))
+  kept_choice : (choice : Choice) → erased_choice (resolved_choice regions choice) ≡ choice
+  kept_choice choice =
+      ap₂ (λ (low : Expr) (high : Option Expr). let x : Choice = record { low = low; high = high } in x) (kept_expr regions choice.low) (kept_if_there erased_expr (resolved_expr regions) (kept_expr regions) choice.high)
+
+  kept_choices : (choices : Option (List Choice)) → option_map (map erased_choice) (option_map (map (resolved_choice regions)) choices) ≡ choices
+  kept_choices choices = kept_if_there (map erased_choice) (map (resolved_choice regions)) (kept_each erased_choice (resolved_choice regions) kept_choice) choices
+
+  alternative_layer : (y : Alternative-F ShownStmt ShownAlternative ShownArm)
+      → KeptAlternative (roll-Alternative (map-Alternative ShownStmt ShownAlternative ShownArm Stmt Alternative Arm (λ e. e.0) (λ e. e.0) (λ e. e.0) y))
+  alternative_layer y =
+      ap erased_alternative (fold-roll-Alternative CoreStmt CoreAlternative CoreArm (resolved.stmt_step regions) (resolved.alternative_step regions) (resolved.arm_step regions) _)
+      ∙ fold-roll-CoreAlternative Stmt Alternative Arm erased_stmt_step erased_alternative_step erased_arm_step _
+      ∙ ap₂ (λ (c : Option (List Choice)) (ss : List Stmt). record { choices = c; body = ss }) (kept_choices y.choices) (all_kept erased_stmt (resolved_stmt regions) y.body)
+
+  arm_layer : (y : Arm-F ShownStmt ShownAlternative ShownArm) → KeptArm (roll-Arm (map-Arm ShownStmt ShownAlternative ShownArm Stmt Alternative Arm (λ e. e.0) (λ e. e.0) (λ e. e.0) y))
   arm_layer y =
-      ap erased_arm (fold-roll-Arm CoreStmt CoreArm (resolved.stmt_step regions) (resolved.arm_step regions) _)
-      ∙ fold-roll-CoreArm Stmt Arm erased_stmt_step erased_arm_step _
+      ap erased_arm (fold-roll-Arm CoreStmt CoreAlternative CoreArm (resolved.stmt_step regions) (resolved.alternative_step regions) (resolved.arm_step regions) _)
+      ∙ fold-roll-CoreArm Stmt Alternative Arm erased_stmt_step erased_alternative_step erased_arm_step _
       ∙ ap₂ (λ (c : Expr) (ss : List Stmt). record { place = y.place; condition = c; body = ss }) (kept_expr regions y.condition) (all_kept erased_stmt (resolved_stmt regions) y.body)
 
   kept_stmt : (s : Stmt) → KeptStmt s
-  kept_stmt = ind-Stmt KeptStmt KeptArm (λ x y is. subst (λ z. KeptStmt (roll-Stmt z)) is (stmt_layer y)) (λ x y is. subst (λ z. KeptArm (roll-Arm z)) is (arm_layer y))
+  kept_stmt =
+      ind-Stmt KeptStmt KeptAlternative KeptArm (λ x y is. subst (λ z. KeptStmt (roll-Stmt z)) is (stmt_layer y)) (λ x y is. subst (λ z. KeptAlternative (roll-Alternative z)) is (alternative_layer y))
+      (λ x y is. subst (λ z. KeptArm (roll-Arm z)) is (arm_layer y))
 
   kept_exports : (exports : Exports) → erased_exports (place_of_null exports) (map (resolved_reference regions) (exported_names exports)) ≡ exports
   kept_exports (exported.Names names) = ap exported.Names (kept_each erased_reference (resolved_reference regions) (kept_reference regions) names)
@@ -178,7 +209,10 @@ module _ (outer : Regions) where
   kept_type region before name (definition.Enumeration place literals) = ap (λ (names : List Identifier). decl.FullType name (definition.Enumeration place names)) (kept_names _ _ 0 literals)
 
   kept_decl : (region : Region) (before : Counts) (d : Decl) → erased_decl (resolved_decl outer region before d) ≡ d
-  kept_decl region before (decl.Variables names type_name) = ap₂ decl.Variables (kept_names region _ before.vars names) (kept_reference (around_names outer region names) type_name)
+  kept_decl region before (decl.Variables names type_name value) =
+      let around = around_names outer region names in
+      ap (λ (ns : List Identifier). decl.Variables ns (erased_reference (resolved_reference around type_name)) (option_map erased_expr (option_map (resolved_expr around) value))) (kept_names region _ before.vars names)
+      ∙ ap₂ (decl.Variables names) (kept_reference around type_name) (kept_if_there erased_expr (resolved_expr around) (kept_expr around) value)
   kept_decl region before (decl.Constants names type_name value) =
       let around = around_names outer region names in
       ap (λ (ns : List Identifier). decl.Constants ns (option_map erased_reference (option_map (resolved_reference around) type_name)) (erased_expr (resolved_expr around value))) (kept_names region _ 0 names)

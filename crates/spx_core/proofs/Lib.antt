@@ -11,4 +11,6 @@ mod RuleBreachLaws
 mod VarSetLaws
 mod NameBreachLaws
 mod DeclarationBreachLaws
+mod StatementBreachLaws
 mod ProgramBreachLaws
+mod InitialValues

@@ -1,13 +1,18 @@
--- What is reported of a rule on names or types in expressions and statements is broken at that place, and where nothing is reported no rule is broken.
+-- What is reported of a rule on names or types in expressions is broken at that place, and where nothing is reported no rule is broken.
 -- Of each kind of part, a lemma `.._found` says the first, and a lemma `no_..` the second.
-use Rattle.std.proofs.Common.{◌≡◌, ◌⊎◌, true, false, ◌&&◌, List, [], ◌∷◌, Option, Some, None, Ok, Err, refl, sym, ap, subst, ◌∙◌, inl, inr, ⊎_elim}
+use Rattle.std.proofs.Common.{◌≡◌, ◌⊎◌, ℕ, Bool, true, false, ◌&&◌, ◌||◌, if◌then◌else◌, List, [], ◌∷◌, Option, Some, None, Ok, Err, is_some, codes, refl, sym, ap, ap₂, subst, ◌∙◌, inl, inr, ⊎_elim}
 use Rattle.std.specs.Prelude.{Contains}
-use Rattle.std.proofs.lemmas.Bool.{and_cases, and_from, and_left, and_parts, and_right, both_ways}
+use Rattle.std.specs.Str.{str_eq_ignore_ascii_case, str_to_ascii_lowercase}
+use Rattle.std.proofs.lemmas.Bool.{and_from, and_left, and_parts, and_right, both_ways, or_cases}
+use Rattle.std.proofs.lemmas.Slice.Eq.{bytes_eq-Decides}
 use Rattle.spx_text.specs.declared.place.Place.{Place}
 use Rattle.spx_tree.specs.declared.expression.Identifier.{Identifier}
+use Rattle.spx_tree.specs.declared.expression.FunctionForm.{FunctionForm}
+use Rattle.spx_tree.specs.declared.expression.FunctionForm.TheVariants as form
 use Rattle.spx_tree.specs.declared.expression.InfixOp.{InfixOp}
 use Rattle.spx_tree.specs.declared.expression.MemberOp.{MemberOp}
 use Rattle.spx_tree.specs.declared.expression.PrefixOp.{PrefixOp}
+use Rattle.spx_core.specs.declared.entity.BaseType.{BaseType}
 use Rattle.spx_core.specs.declared.entity.Entity.{Entity}
 use Rattle.spx_core.specs.declared.entity.Entity.TheVariants as entity
 use Rattle.spx_core.specs.declared.entity.Object.{Object}
@@ -18,22 +23,23 @@ use Rattle.spx_core.specs.declared.name.Reference.{Reference}
 use Rattle.spx_core.specs.declared.name.Step.{Step}
 use Rattle.spx_core.specs.declared.expression.CoreExpr.{CoreExpr}
 use Rattle.spx_core.specs.declared.expression.CoreExpr.TheVariants as expr
+use Rattle.spx_core.specs.declared.function.CoreFunction.{CoreFunction}
+use Rattle.spx_core.specs.declared.function.Mapping.{Mapping}
 use Rattle.spx_core.specs.declared.rule.Breach.{Breach}
 use Rattle.spx_core.specs.declared.rule.RuleName.{RuleName}
-use Rattle.spx_core.specs.declared.rule.RuleName.TheVariants.{N1, N3, N10, N12}
+use Rattle.spx_core.specs.declared.rule.RuleName.TheVariants.{N1, N3, N10, N12, N14}
 use Rattle.spx_core.specs.declared.rule.ExprType.TheVariants.{Of}
 use Rattle.spx_core.specs.declared.rule.Typing.{Typing}
-use Rattle.spx_core.specs.Commands.{Command, Skip, Set, Then, Choose}
 use Rattle.spx_core.specs.HasType.{HasType}
-use Rattle.spx_core.specs.Judged.{Judged, ◌>>=◌, attribute, condition, expr_step, ordered_type, is_attribute, is_whole, judged, keeps, member_of_range, member_of_type, named_object, named_target, named_type, named_value, object_at, operand_of, operation, referred_object, referred_target, referred_type, sign, target_at, type_at, value_at, whole}
+use Rattle.spx_core.specs.Judged.{Judged, ◌>>=◌, application, applied_form, attribute, attribute_function, condition, expr_step, function_at, has_attribute, ordered_type, is_attribute, is_first, is_function, is_whole, is_word, judged, keeps, mapped, member_of_range, member_of_type, named_object, named_target, named_type, named_value, object_at, operation, referred_object, referred_target, referred_type, sign, target_at, type_at, value_at, whole}
 use Rattle.spx_core.specs.NameBreaches as broken
-use Rattle.spx_core.specs.NameBreaches.{BreaksCommand, BreaksCondition, BreaksExpr, BreaksName, BreaksProgram, BreaksReference, BreaksSub, IsObject, IsTarget, IsType, IsValue, assigned_type}
-use Rattle.spx_core.specs.Statements.{assignment, judged_command, test}
-use Rattle.spx_core.specs.Types.{both_held, has_numbers, is_boolean, is_held, is_of, left_type, lies_in, met, operand_fits, operands_fit, result_of, result_type, right_type, signed_result, three_fit}
+use Rattle.spx_core.specs.NameBreaches.{BreaksCondition, BreaksExpr, BreaksName, BreaksProgram, BreaksReference, BreaksSub, IsObject, IsTarget, IsType, IsValue, assigned_type}
+use Rattle.spx_core.specs.Statements.{test}
+use Rattle.spx_core.specs.Types.{both_held, has_literals, has_numbers, is_boolean, is_held, is_numeric, is_of, is_taken, left_type, lies_in, lies_in_operand, lies_within, met, operand_fits, operands_fit, result_of, result_type, right_type, shifted_value, signed_result, three_fit}
 use Rattle.spx_core.proofs.Elements.{in_first, in_none}
-use Rattle.spx_core.proofs.Judgements.{bound, by_part, by_test, joined, kept, ok_is, some_is}
+use Rattle.spx_core.proofs.Judgements.{bound, by_part, by_test, joined, kept, ok_is}
 use Rattle.spx_core.proofs.TypedLaws.{complete, sound}
-use Rattle.spx_core.proofs.Callers.Expressions.{Cases, induct, fold-Number, fold-Name, fold-Attribute, fold-Parenthesized, fold-Prefix, fold-Infix, fold-InType, fold-InRange}
+use Rattle.spx_core.proofs.Callers.Expressions.{Cases, induct, fold-Number, fold-Name, fold-Attribute, fold-Applied, fold-Parenthesized, fold-Prefix, fold-Infix, fold-InType, fold-InRange}
 
 -- ---- names
 
@@ -80,7 +86,7 @@ target_found name (Some (entity.TypeName subtype)) b is h = told (BreaksName IsT
 target_found name (Some (entity.Literal subtype position)) b is h = told (BreaksName IsTarget name) N3 name.name.place b h (broken.of_another_kind (entity.Literal subtype position) is (λ o. let e = o.1 in cc))
 target_found name (Some (entity.Subprogram s)) b is h = told (BreaksName IsTarget name) N3 name.name.place b h (broken.of_another_kind (entity.Subprogram s) is (λ o. let e = o.1 in cc))
 
-target_is : (place : Place) (e : Option Entity) (subtype : Subtype) → target_at place e ≡ Ok subtype → (x : Entity) × (e ≡ Some x) × (assigned_type x ≡ Some subtype)
+pub target_is : (place : Place) (e : Option Entity) (subtype : Subtype) → target_at place e ≡ Ok subtype → (x : Entity) × (e ≡ Some x) × (assigned_type x ≡ Some subtype)
 target_is place None subtype h = absurd cc
 target_is place (Some (entity.Variable v object)) subtype h = (entity.Variable v object, refl, ap Some (ok_is h))
 target_is place (Some (entity.Constant s n)) subtype h = (entity.Constant s n, refl, ap Some (ok_is h))
@@ -149,7 +155,7 @@ module _ {A : Type 0} (IsNeeded : Entity → Type 0) (needed : Judged A) (refere
       by_part needed _ b h (λ e. broken.root b.rule b.place (found e)) (λ a is h.
       by_part (whole reference) _ b h (λ e. by_test (BreaksReference IsNeeded reference) _ _ _ b e (λ no. let step = some_step reference.way no in broken.not_whole step.0 step.1)) (λ _ _ h. absurd cc))
 
-  reference_is : (a : A) → (needed >>= λ a. whole reference >>= λ _. Ok a) ≡ Ok a → (needed ≡ Ok a) × (is_whole reference.way ≡ true)
+  pub reference_is : (a : A) → (needed >>= λ a. whole reference >>= λ _. Ok a) ≡ Ok a → (needed ≡ Ok a) × (is_whole reference.way ≡ true)
   reference_is a h =
       let n = bound needed _ a h in
       let w = bound (whole reference) _ a n.2 in
@@ -165,7 +171,7 @@ object_reference_found reference b h = reference_found IsObject (named_object re
 pub type_reference_found : (reference : Reference) (b : Breach) → referred_type reference ≡ Err b → At (BreaksReference IsType reference) b
 type_reference_found reference b h = reference_found IsType (named_type reference.root) reference b (type_found reference.root _ b refl) h
 
-target_reference_found : (reference : Reference) (b : Breach) → referred_target reference ≡ Err b → At (BreaksReference IsTarget reference) b
+pub target_reference_found : (reference : Reference) (b : Breach) → referred_target reference ≡ Err b → At (BreaksReference IsTarget reference) b
 target_reference_found reference b h = reference_found IsTarget (named_target reference.root) reference b (target_found reference.root _ b refl) h
 
 pub no_object_reference : (reference : Reference) (object : Object) → referred_object reference ≡ Ok object → (rule : RuleName) (place : Place) → ¬ BreaksReference IsObject reference rule place
@@ -173,7 +179,7 @@ no_object_reference reference object h =
     let is = reference_is IsObject (named_object reference.root) reference object h in
     no_reference IsObject (named_object reference.root) reference is.1 (no_object_name reference.root object is.0)
 
-no_target_reference : (reference : Reference) (subtype : Subtype) → referred_target reference ≡ Ok subtype → (rule : RuleName) (place : Place) → ¬ BreaksReference IsTarget reference rule place
+pub no_target_reference : (reference : Reference) (subtype : Subtype) → referred_target reference ≡ Ok subtype → (rule : RuleName) (place : Place) → ¬ BreaksReference IsTarget reference rule place
 no_target_reference reference subtype h =
     let is = reference_is IsTarget (named_target reference.root) reference subtype h in
     no_reference IsTarget (named_target reference.root) reference is.1 (no_target_name reference.root subtype is.0)
@@ -203,13 +209,54 @@ integer_is reference subtype h =
 abbrev Found : CoreExpr → Type 0
 Found e = (b : Breach) → judged e ≡ Err b → At (BreaksExpr e) b
 
+-- what is an attribute, and neither `First` nor `Last`, is a function
+other_one : (n a l f : Bool) → ((n && a) || (l && f)) ≡ true → a ≡ false → f ≡ true
+other_one n a l f h other = ⊎_elim (λ left. absurd (both_ways a other (and_parts n a left).1)) (λ right. (and_parts l f right).1) (or_cases (n && a) (l && f) h)
+
+is_a_function : (subtype : Subtype) (word : List ℕ) → has_attribute subtype word ≡ true → is_attribute word ≡ false → is_function subtype.base word ≡ true
+is_a_function subtype word h other = other_one (has_numbers subtype.base.class) (is_attribute word) (has_literals subtype.base.class) (is_function subtype.base word) h other
+
 attribute_found : (prefix : CoreName) (designator : Identifier) (b : Breach) → attribute prefix designator ≡ Err b → At (BreaksExpr (expr.Attribute prefix designator)) b
 attribute_found prefix designator b h =
+    let Breaks = BreaksExpr (expr.Attribute prefix designator) in
     by_part (named_type prefix) _ b h (λ e. broken.prefix prefix designator b.rule b.place (type_found prefix _ b refl e)) (λ subtype is h.
-    by_part (keeps N3 prefix.name.place (has_numbers subtype.base.class && is_attribute designator.text)) _ b h
-    (λ e. by_test (BreaksExpr (expr.Attribute prefix designator)) _ _ _ b e
-    (λ no. ⊎_elim (broken.no_attribute_of_type prefix designator subtype (type_is prefix.name.place prefix.entity subtype is)) (broken.no_attribute prefix designator) (and_cases (has_numbers subtype.base.class) _ no)))
-    (λ _ _ h. absurd cc))
+    let named = type_is prefix.name.place prefix.entity subtype is in
+    by_part (keeps N3 prefix.name.place (has_attribute subtype designator.text)) _ b h (λ e. by_test Breaks N3 prefix.name.place _ b e (broken.no_attribute prefix designator subtype named)) (λ _ has h.
+    by_part (keeps N14 prefix.name.place (is_attribute designator.text)) _ b h
+    (λ e. by_test Breaks N14 prefix.name.place _ b e (λ no. broken.no_argument prefix designator subtype named (is_a_function subtype designator.text (kept N3 prefix.name.place _ has) no))) (λ _ _ h. absurd cc)))
+
+-- a function that is applied
+module _ (f : CoreFunction) (at : Place) (a : CoreExpr) (b : Breach) where
+  abbrev BreaksApplied : RuleName → Place → Type 0
+  BreaksApplied = BreaksExpr (expr.Applied f at a)
+
+  form_found : (subtype : Subtype) → f.name.entity ≡ Some (entity.TypeName subtype) → (x : FunctionForm) → f.form ≡ x → applied_form f.name.name.place subtype x ≡ Err b → At BreaksApplied b
+  form_found subtype named form.Simple is h =
+      by_part (keeps N10 f.name.name.place (is_numeric subtype.base.class)) _ b h (λ e. by_test BreaksApplied N10 f.name.name.place _ b e (broken.no_conversion f at a subtype named is)) (λ _ _ h. absurd cc)
+  form_found subtype named (form.Attribute designator) is h =
+      by_part (keeps N3 f.name.name.place (has_attribute subtype designator.text)) _ b h (λ e. by_test BreaksApplied N3 f.name.name.place _ b e (broken.no_function f at a subtype designator named is)) (λ _ has h.
+      function_found (attribute_function subtype.base designator.text) h (broken.wrong_arguments f at a subtype designator named is (kept N3 f.name.name.place _ has)))
+    where
+      function_found : (o : Option Mapping) → function_at f.name.name.place o ≡ Err b → (o ≡ None → BreaksApplied N14 f.name.name.place) → At BreaksApplied b
+      function_found (Some mapping) h wrong = absurd cc
+      function_found None h wrong = told BreaksApplied N14 f.name.name.place b h (wrong refl)
+  form_found subtype named form.Qualified is h = absurd cc
+
+  application_found : application f ≡ Err b → At BreaksApplied b
+  application_found h =
+      by_part (named_type f.name) _ b h (λ e. broken.function f at a b.rule b.place (type_found f.name _ b refl e)) (λ subtype is h.
+      form_found subtype (type_is f.name.name.place f.name.entity subtype is) f.form refl h)
+
+  mapped_found : (mapping : Mapping) (o : Typing) → application f ≡ Ok mapping → HasType a o → mapped f.name.name.place mapping o ≡ Err b → At BreaksApplied b
+  mapped_found mapping o is d h =
+      let value = shifted_value mapping.shift o.value in
+      let held = is_held o.value value in
+      let lies = lies_within mapping.bounds value in
+      let place = f.name.name.place in
+      by_part (keeps N10 o.place (is_taken mapping.operand o.of)) _ b h (λ e. by_test BreaksApplied N10 o.place _ b e (broken.no_such_operand f at a mapping o is d)) (λ _ _ h.
+      by_part (keeps N12 o.place (lies_in_operand mapping.operand o.value)) _ b h (λ e. by_test BreaksApplied N12 o.place _ b e (broken.operand_out_of_type f at a mapping o is d)) (λ _ _ h.
+      by_part (keeps N12 place held) _ b h (λ e. by_test BreaksApplied N12 place held b e (λ out. broken.mapped_out_of_bounds f at a mapping o is d (and_left held lies out))) (λ _ _ h.
+      by_part (keeps N12 place lies) _ b h (λ e. by_test BreaksApplied N12 place lies b e (λ out. broken.mapped_out_of_bounds f at a mapping o is d (and_right held lies out))) (λ _ _ h. absurd cc))))
 
 sign_found : (op : PrefixOp) (at : Place) (a : CoreExpr) (o : Typing) → HasType a o → (b : Breach) → sign op at o ≡ Err b → At (BreaksExpr (expr.Prefix op at a)) b
 sign_found op at a o d b h =
@@ -264,6 +311,9 @@ found_cases = record {
   number = λ n place b h. let e = sym (fold-Number expr_step n place) ∙ h in absurd cc;
   name = λ n b h. broken.name n b.rule b.place (value_found n _ b refl (sym (fold-Name expr_step n) ∙ h));
   attribute = λ prefix designator b h. attribute_found prefix designator b (sym (fold-Attribute expr_step prefix designator) ∙ h);
+  applied = λ f at a p b h.
+      by_part (application f) _ b (sym (fold-Applied expr_step f at a) ∙ h) (application_found f at a b) (λ mapping is h.
+      by_part (judged a) _ b h (λ e. broken.argument f at a b.rule b.place (p b e)) (λ o has e. mapped_found f at a b mapping o is (sound a o has) e));
   parenthesized = λ at a p b h. by_part (judged a) _ b (sym (fold-Parenthesized expr_step at a) ∙ h) (λ e. broken.inner at a b.rule b.place (p b e)) (λ o is e. absurd cc);
   prefix = λ op at a p b h.
       by_part (judged a) _ b (sym (fold-Prefix expr_step op at a) ∙ h) (λ e. broken.operand op at a b.rule b.place (p b e)) (λ o is e. sign_found op at a o (sound a o is) b e);
@@ -283,12 +333,83 @@ pub expr_found : (e : CoreExpr) → Found e
 expr_found = induct Found found_cases
 
 -- what an attribute passes that gives something
-attribute_passes : (prefix : CoreName) (designator : Identifier) (t : Typing) → attribute prefix designator ≡ Ok t
-    → (subtype : Subtype) × (named_type prefix ≡ Ok subtype) × ((has_numbers subtype.base.class && is_attribute designator.text) ≡ true)
+record PassesAttribute (prefix : CoreName) (subtype : Subtype) (word : List ℕ) : Type 0 where
+  named : named_type prefix ≡ Ok subtype
+  has : has_attribute subtype word ≡ true
+  is_end : is_attribute word ≡ true
+
+attribute_passes : (prefix : CoreName) (designator : Identifier) (t : Typing) → attribute prefix designator ≡ Ok t → (subtype : Subtype) × PassesAttribute prefix subtype designator.text
 attribute_passes prefix designator t h =
     let b = bound (named_type prefix) _ t h in
-    let c = bound (keeps N3 prefix.name.place (has_numbers b.0.base.class && is_attribute designator.text)) _ t b.2 in
-    (b.0, b.1, kept N3 prefix.name.place _ c.1)
+    let c = bound (keeps N3 prefix.name.place (has_attribute b.0 designator.text)) _ t b.2 in
+    let d = bound (keeps N14 prefix.name.place (is_attribute designator.text)) _ t c.2 in
+    (b.0, record { named = b.1; has = kept N3 prefix.name.place _ c.1; is_end = kept N14 prefix.name.place _ d.1 })
+
+-- the same where the prefix is known to denote this type
+named_passes : (prefix : CoreName) (designator : Identifier) (subtype : Subtype) (t : Typing) → prefix.entity ≡ Some (entity.TypeName subtype) → judged (expr.Attribute prefix designator) ≡ Ok t → PassesAttribute prefix subtype designator.text
+named_passes prefix designator subtype t is h =
+    let b = attribute_passes prefix designator t (sym (fold-Attribute expr_step prefix designator) ∙ h) in
+    let same : b.0 ≡ subtype = ok_is (sym b.1.named ∙ ap (type_at prefix.name.place) is) in
+    subst (λ s. PassesAttribute prefix s designator.text) same b.1
+
+-- a word that is two words
+one_word : (word first second : List ℕ) → str_eq_ignore_ascii_case word first ≡ true → str_eq_ignore_ascii_case word second ≡ true → str_eq_ignore_ascii_case first second ≡ true
+one_word word first second p q =
+    let lower = str_to_ascii_lowercase in
+    (bytes_eq-Decides (lower first) (lower second)).1 (sym ((bytes_eq-Decides (lower word) (lower first)).0 p) ∙ (bytes_eq-Decides (lower word) (lower second)).0 q)
+
+no_two_words : (word first second : List ℕ) → str_eq_ignore_ascii_case first second ≡ false → str_eq_ignore_ascii_case word first ≡ true → str_eq_ignore_ascii_case word second ≡ true → ⊥
+no_two_words word first second differ p q = both_ways _ differ (one_word word first second p q)
+
+-- one of four tests passes
+one_of_four : (a b c d : Bool) (w x y z : Mapping) → is_some (if a then Some w else if b then Some x else if c then Some y else if d then Some z else None) ≡ true
+    → (a ≡ true) ⊎ ((b ≡ true) ⊎ ((c ≡ true) ⊎ (d ≡ true)))
+one_of_four true b c d w x y z h = inl refl
+one_of_four false true c d w x y z h = inr (inl refl)
+one_of_four false false true d w x y z h = inr (inr (inl refl))
+one_of_four false false false true w x y z h = inr (inr (inr refl))
+one_of_four false false false false w x y z h = absurd cc
+
+-- `First` and `Last` are no functions
+no_end_function : (base : BaseType) (word : List ℕ) → is_function base word ≡ true → is_attribute word ≡ true → ⊥
+no_end_function base word function end =
+    let which = one_of_four (is_word word (codes "pos")) (is_word word (codes "val")) (is_word word (codes "succ")) (is_word word (codes "pred")) _ _ _ _ function in
+    ⊎_elim
+    (λ first.
+    ⊎_elim (no_two_words word (codes "first") (codes "pos") refl first) (⊎_elim (no_two_words word (codes "first") (codes "val") refl first)
+    (⊎_elim (no_two_words word (codes "first") (codes "succ") refl first) (no_two_words word (codes "first") (codes "pred") refl first))) which)
+    (λ last.
+    ⊎_elim (no_two_words word (codes "last") (codes "pos") refl last) (⊎_elim (no_two_words word (codes "last") (codes "val") refl last)
+    (⊎_elim (no_two_words word (codes "last") (codes "succ") refl last) (no_two_words word (codes "last") (codes "pred") refl last))) which)
+    (or_cases (is_first word) (is_word word (codes "last")) end)
+
+-- a function
+named_form : (f : CoreFunction) (mapping : Mapping) (subtype : Subtype) (x : FunctionForm) → f.name.entity ≡ Some (entity.TypeName subtype) → f.form ≡ x → application f ≡ Ok mapping → applied_form f.name.name.place subtype x ≡ Ok mapping
+named_form f mapping subtype x is form h =
+    let place = f.name.name.place in
+    ap₂ (λ (e : Option Entity) (y : FunctionForm). type_at place e >>= λ s. applied_form place s y) (sym is) (sym form) ∙ h
+
+-- the function of an attribute
+attribute_form : (place : Place) (subtype : Subtype) (designator : Identifier) (mapping : Mapping) → applied_form place subtype (form.Attribute designator) ≡ Ok mapping
+    → (has_attribute subtype designator.text ≡ true) × (function_at place (attribute_function subtype.base designator.text) ≡ Ok mapping)
+attribute_form place subtype designator mapping h =
+    let k = bound (keeps N3 place (has_attribute subtype designator.text)) (λ _. function_at place (attribute_function subtype.base designator.text)) mapping h in
+    (kept N3 place _ k.1, k.2)
+
+-- what it is applied to
+record PassesMapping (mapping : Mapping) (o : Typing) : Type 0 where
+  taken : is_taken mapping.operand o.of ≡ true
+  operand_lies : lies_in_operand mapping.operand o.value ≡ true
+  result_lies : (is_held o.value (shifted_value mapping.shift o.value) && lies_within mapping.bounds (shifted_value mapping.shift o.value)) ≡ true
+
+mapped_passes : (place : Place) (mapping : Mapping) (o t : Typing) → mapped place mapping o ≡ Ok t → PassesMapping mapping o
+mapped_passes place mapping o t h =
+    let value = shifted_value mapping.shift o.value in
+    let a = bound (keeps N10 o.place (is_taken mapping.operand o.of)) _ t h in
+    let b = bound (keeps N12 o.place (lies_in_operand mapping.operand o.value)) _ t a.2 in
+    let c = bound (keeps N12 place (is_held o.value value)) _ t b.2 in
+    let d = bound (keeps N12 place (lies_within mapping.bounds value)) _ t c.2 in
+    record { taken = kept N10 o.place _ a.1; operand_lies = kept N12 o.place _ b.1; result_lies = and_from _ _ (kept N12 place _ c.1) (kept N12 place _ d.1) }
 
 -- a sign
 sign_passes : (op : PrefixOp) (at : Place) (o t : Typing) → sign op at o ≡ Ok t → (operand_fits op o.of ≡ true) × ((is_held o.value (signed_result op o.value) && lies_in o.of (signed_result op o.value)) ≡ true)
@@ -362,6 +483,16 @@ signed_passes : (op : PrefixOp) (at : Place) (a : CoreExpr) (o t : Typing) → H
     → (operand_fits op o.of ≡ true) × ((is_held o.value (signed_result op o.value) && lies_in o.of (signed_result op o.value)) ≡ true)
 signed_passes op at a o t d h = sign_passes op at o t (sym (joined (sign op at) (complete a o d)) ∙ sym (fold-Prefix expr_step op at a) ∙ h)
 
+-- the function that is applied in what has a type
+application_is : (f : CoreFunction) (at : Place) (a : CoreExpr) (t : Typing) → judged (expr.Applied f at a) ≡ Ok t → (mapping : Mapping) × (application f ≡ Ok mapping)
+application_is f at a t h = let m = bound (application f) _ t (sym (fold-Applied expr_step f at a) ∙ h) in (m.0, m.1)
+
+applied_passes : (f : CoreFunction) (at : Place) (a : CoreExpr) (mapping : Mapping) (o t : Typing) → application f ≡ Ok mapping → HasType a o → judged (expr.Applied f at a) ≡ Ok t → PassesMapping mapping o
+applied_passes f at a mapping o t is d h =
+    let place = f.name.name.place in
+    let both = joined (λ m. judged a >>= λ o. mapped place m o) is ∙ joined (mapped place mapping) (complete a o d) in
+    mapped_passes place mapping o t (sym both ∙ sym (fold-Applied expr_step f at a) ∙ h)
+
 operated_passes : (op : InfixOp) (at : Place) (a c : CoreExpr) (l r t : Typing) → HasType a l → HasType c r → judged (expr.Infix op at a c) ≡ Ok t → Passes op l r
 operated_passes op at a c l r t d f h =
     let both = joined (λ l. judged c >>= λ r. operation op at l r) (complete a l d) ∙ joined (operation op at l) (complete c r f) in
@@ -381,14 +512,31 @@ in_range_passes op at a low high o l u t d c f h =
 
 pub no_expr : (e : CoreExpr) (rule : RuleName) (place : Place) → BreaksExpr e rule place → (t : Typing) → judged e ≡ Ok t → ⊥
 no_expr _ _ _ (broken.name n rule place h) t ok = no_value_name n t (sym (fold-Name expr_step n) ∙ ok) rule place h
-no_expr _ _ _ (broken.prefix n designator rule place h) t ok = let b = attribute_passes n designator t (sym (fold-Attribute expr_step n designator) ∙ ok) in no_type_name n b.0 b.1 rule place h
-no_expr _ _ _ (broken.no_attribute n designator unknown) t ok =
-    let b = attribute_passes n designator t (sym (fold-Attribute expr_step n designator) ∙ ok) in
-    both_ways _ unknown (and_parts (has_numbers b.0.base.class) (is_attribute designator.text) b.2).1
-no_expr _ _ _ (broken.no_attribute_of_type n designator subtype is numberless) t ok =
-    let b = attribute_passes n designator t (sym (fold-Attribute expr_step n designator) ∙ ok) in
-    let same : b.0 ≡ subtype = ok_is (sym b.1 ∙ ap (type_at n.name.place) is) in
-    both_ways _ numberless (subst (λ (s : Subtype). has_numbers s.base.class ≡ true) same (and_parts (has_numbers b.0.base.class) (is_attribute designator.text) b.2).0)
+no_expr _ _ _ (broken.prefix n designator rule place h) t ok = let b = attribute_passes n designator t (sym (fold-Attribute expr_step n designator) ∙ ok) in no_type_name n b.0 b.1.named rule place h
+no_expr _ _ _ (broken.no_attribute n designator subtype is unknown) t ok = both_ways _ unknown (named_passes n designator subtype t is ok).has
+no_expr _ _ _ (broken.no_argument n designator subtype is function) t ok = no_end_function subtype.base designator.text function (named_passes n designator subtype t is ok).is_end
+no_expr _ _ _ (broken.function f at a rule place h) t ok =
+    let m = application_is f at a t ok in
+    let s = bound (named_type f.name) _ m.0 m.1 in
+    no_type_name f.name s.0 s.1 rule place h
+no_expr _ _ _ (broken.no_conversion f at a subtype is its fails) t ok =
+    let m = application_is f at a t ok in
+    let k = bound (keeps N10 f.name.name.place (is_numeric subtype.base.class)) _ m.0 (named_form f m.0 subtype form.Simple is its m.1) in
+    both_ways _ fails (kept N10 f.name.name.place _ k.1)
+no_expr _ _ _ (broken.no_function f at a subtype designator is its fails) t ok =
+    let m = application_is f at a t ok in
+    both_ways _ fails (attribute_form f.name.name.place subtype designator m.0 (named_form f m.0 subtype (form.Attribute designator) is its m.1)).0
+no_expr _ _ _ (broken.wrong_arguments f at a subtype designator is its has none) t ok =
+    let m = application_is f at a t ok in
+    let e = ap (function_at f.name.name.place) (sym none) ∙ (attribute_form f.name.name.place subtype designator m.0 (named_form f m.0 subtype (form.Attribute designator) is its m.1)).1 in
+    absurd cc
+no_expr _ _ _ (broken.no_such_operand f at a mapping o is d fails) t ok = both_ways _ fails (applied_passes f at a mapping o t is d ok).taken
+no_expr _ _ _ (broken.operand_out_of_type f at a mapping o is d fails) t ok = both_ways _ fails (applied_passes f at a mapping o t is d ok).operand_lies
+no_expr _ _ _ (broken.mapped_out_of_bounds f at a mapping o is d fails) t ok = both_ways _ fails (applied_passes f at a mapping o t is d ok).result_lies
+no_expr _ _ _ (broken.argument f at a rule place h) t ok =
+    let m = bound (application f) _ t (sym (fold-Applied expr_step f at a) ∙ ok) in
+    let o = bound (judged a) _ t m.2 in
+    no_expr a rule place h o.0 o.1
 no_expr _ _ _ (broken.inner at a rule place h) t ok = let b = bound (judged a) _ t (sym (fold-Parenthesized expr_step at a) ∙ ok) in no_expr a rule place h b.0 b.1
 no_expr _ _ _ (broken.operand op at a rule place h) t ok = let b = bound (judged a) _ t (sym (fold-Prefix expr_step op at a) ∙ ok) in no_expr a rule place h b.0 b.1
 no_expr _ _ _ (broken.left op at a c rule place h) t ok = let b = bound (judged a) _ t (sym (fold-Infix expr_step op at a c) ∙ ok) in no_expr a rule place h b.0 b.1
@@ -434,53 +582,3 @@ condition_found e b h =
 pub no_condition : (e : CoreExpr) (rule : RuleName) (place : Place) → BreaksCondition e rule place → test e ≡ Ok tt → ⊥
 no_condition e _ _ (broken.itself rule place h) ok = let b = bound (judged e) _ tt ok in no_expr e rule place h b.0 b.1
 no_condition e _ _ (broken.no_truth t d fails) ok = both_ways _ fails (kept N10 t.place _ (sym (joined condition (complete e t d)) ∙ ok))
-
--- ---- statements
-
-assignment_found : (target : Reference) (value : CoreExpr) (b : Breach) → assignment target value ≡ Err b → At (BreaksCommand (Set target value)) b
-assignment_found target value b h =
-    let Breaks = BreaksCommand (Set target value) in
-    by_part (referred_target target) _ b h (λ e. broken.target target value b.rule b.place (target_reference_found target b e)) (λ subtype is h.
-    by_part (judged value) _ b h (λ e. broken.value target value b.rule b.place (expr_found value b e)) (λ t has h.
-    let o = target_is target.root.name.place target.root.entity subtype (reference_is IsTarget (named_target target.root) target subtype is).0 in
-    by_part (keeps N10 t.place (is_of subtype.base t.of)) _ b h (λ e. by_test Breaks N10 t.place (is_of subtype.base t.of) b e (broken.of_another_type target value o.0 subtype t o.1 o.2 (sound value t has))) (λ _ _ e.
-    by_test Breaks N12 t.place (lies_in (Of subtype.base) t.value) b e (broken.out_of_range target value o.0 subtype t o.1 o.2 (sound value t has)))))
-
-pub command_found : (c : Command) (b : Breach) → judged_command c ≡ Err b → At (BreaksCommand c) b
-command_found Skip b h = absurd cc
-command_found (Set target value) b h = assignment_found target value b h
-command_found (Then first second) b h =
-    by_part (judged_command first) (λ _. judged_command second) b h (λ e. broken.first first second b.rule b.place (command_found first b e)) (λ _ _ e. broken.second first second b.rule b.place (command_found second b e))
-command_found (Choose at e arm otherwise) b h =
-    by_part (test e) (λ _. judged_command arm >>= λ _. judged_command otherwise) b h (λ is. broken.condition at e arm otherwise b.rule b.place (condition_found e b is)) (λ _ _ h.
-    by_part (judged_command arm) (λ _. judged_command otherwise) b h (λ is. broken.arm at e arm otherwise b.rule b.place (command_found arm b is)) (λ _ _ is. broken.otherwise at e arm otherwise b.rule b.place (command_found otherwise b is)))
-
--- what the value of an assignment passes that breaks no rule
-assigned_passes : (target : Reference) (value : CoreExpr) (e : Entity) (subtype : Subtype) (t : Typing) → target.root.entity ≡ Some e → assigned_type e ≡ Some subtype → HasType value t → assignment target value ≡ Ok tt
-    → (is_of subtype.base t.of ≡ true) × (lies_in (Of subtype.base) t.value ≡ true)
-assigned_passes target value e subtype t is its d ok =
-    let o = bound (referred_target target) _ tt ok in
-    let x = target_is target.root.name.place target.root.entity o.0 (reference_is IsTarget (named_target target.root) target o.0 o.1).0 in
-    let one : x.0 ≡ e = some_is (sym x.1 ∙ is) in
-    let same : o.0 ≡ subtype = some_is (sym x.2 ∙ ap assigned_type one ∙ its) in
-    let h : operand_of subtype t ≡ Ok tt = subst (λ (x : Subtype). operand_of x t ≡ Ok tt) same (sym (joined (operand_of o.0) (complete value t d)) ∙ o.2) in
-    let k = bound (keeps N10 t.place (is_of subtype.base t.of)) _ tt h in
-    (kept N10 t.place _ k.1, kept N12 t.place _ k.2)
-
-pub no_command : (c : Command) (rule : RuleName) (place : Place) → BreaksCommand c rule place → judged_command c ≡ Ok tt → ⊥
-no_command _ _ _ (broken.target target value rule place h) ok = let o = bound (referred_target target) _ tt ok in no_target_reference target o.0 o.1 rule place h
-no_command _ _ _ (broken.value target value rule place h) ok =
-    let o = bound (referred_target target) _ tt ok in
-    let t = bound (judged value) _ tt o.2 in
-    no_expr value rule place h t.0 t.1
-no_command _ _ _ (broken.of_another_type target value e subtype t is its d fails) ok = both_ways _ fails (assigned_passes target value e subtype t is its d ok).0
-no_command _ _ _ (broken.out_of_range target value e subtype t is its d fails) ok = both_ways _ fails (assigned_passes target value e subtype t is its d ok).1
-no_command _ _ _ (broken.first a b rule place h) ok = no_command a rule place h (bound (judged_command a) (λ _. judged_command b) tt ok).1
-no_command _ _ _ (broken.second a b rule place h) ok = no_command b rule place h (bound (judged_command a) (λ _. judged_command b) tt ok).2
-no_command _ _ _ (broken.condition at e a b rule place h) ok = no_condition e rule place h (bound (test e) (λ _. judged_command a >>= λ _. judged_command b) tt ok).1
-no_command _ _ _ (broken.arm at e a b rule place h) ok =
-    let rest = bound (test e) (λ _. judged_command a >>= λ _. judged_command b) tt ok in
-    no_command a rule place h (bound (judged_command a) (λ _. judged_command b) tt rest.2).1
-no_command _ _ _ (broken.otherwise at e a b rule place h) ok =
-    let rest = bound (test e) (λ _. judged_command a >>= λ _. judged_command b) tt ok in
-    no_command b rule place h (bound (judged_command a) (λ _. judged_command b) tt rest.2).2

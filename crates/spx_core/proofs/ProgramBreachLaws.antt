@@ -1,6 +1,6 @@
 -- What is reported of a rule on names or types in a program is broken at that place, and where nothing is reported no rule is broken.
 use Rattle.std.proofs.Common.{◌≡◌, not, List, Option, Some, None, Ok, Err, refl, sym, ap, ◌∙◌, ⊎_elim}
-use Rattle.std.specs.Prelude.{Contains}
+use Rattle.std.specs.Prelude.{All, Contains}
 use Rattle.std.proofs.lemmas.Bool.{both_ways, not-false, not-true}
 use Rattle.std.proofs.lemmas.List.Elements.{Contains-append_left, Contains-append_right, Contains-append_cases}
 use Rattle.spx_text.specs.declared.place.Place.{Place}
@@ -24,9 +24,10 @@ use Rattle.spx_core.specs.NameBreaches.{BreaksProgram, BreaksReference, BreaksSu
 use Rattle.spx_core.specs.Resolved.{declared_by, formal_names, local_names, params_of, resolved}
 use Rattle.spx_core.specs.Statements.{first_name_breach, judged_command, judged_decl, judged_end, judged_item, judged_name, judged_param, judged_pre, judged_program, judged_sub, judged_variable}
 use Rattle.spx_core.proofs.Elements.{in_all, in_part}
-use Rattle.spx_core.proofs.Judgements.{bound, by_part, by_test, each_broken, kept, passes_at, reported, unbroken}
-use Rattle.spx_core.proofs.NameBreachLaws.{At, command_found, condition_found, no_command, no_condition, no_object_reference, object_reference_found}
+use Rattle.spx_core.proofs.Judgements.{bound, by_part, by_test, each_broken, each_passes, kept, passes_at, reported, unbroken}
+use Rattle.spx_core.proofs.NameBreachLaws.{At, condition_found, no_condition, no_object_reference, object_reference_found}
 use Rattle.spx_core.proofs.DeclarationBreachLaws.{decl_found, decl_not_again, declared_found, no_decl, no_declared_type, not_again}
+use Rattle.spx_core.proofs.StatementBreachLaws.{command_found, no_command}
 
 -- ---- annotations
 
@@ -91,6 +92,9 @@ module _ (sub : Sub) where
       let e = bound (judged_command (commands sub.statements)) _ tt d.2 in
       record { params = a.1; items = b.1; pre = c.1; declarations = d.1; statements = e.1; end_name = e.2 }
 
+  pub declarations_judged : judged_sub sub ≡ Ok tt → each judged_decl sub.declarations ≡ Ok tt
+  declarations_judged ok = (parts ok).declarations
+
   no_sub : Parts → (rule : RuleName) (place : Place) → ¬ BreaksSub sub rule place
   no_sub ok _ _ (broken.declared_again d is again) = ⊎_elim
       (λ formal.
@@ -119,6 +123,9 @@ found_in p b h =
     by_part (each judged_name p.subs) _ b h
     (λ e. let x = each_broken judged_name p.subs b e in by_test (BreaksProgram p) N2 x.0.name.name.place (not x.0.name.again) b x.2 (λ no. broken.unit_declared_again x.0 x.1 (not-false x.0.name.again no)))
     (λ _ _ e. let x = each_broken judged_sub p.subs b e in broken.within x.0 b.rule b.place x.1 (sub_found x.0 b x.2))
+
+pub each_judged : (p : Program) → judged_program p ≡ Ok tt → All (λ sub. judged_sub sub ≡ Ok tt) p.subs
+each_judged p ok = each_passes judged_sub p.subs (bound (each judged_name p.subs) _ tt ok).2
 
 pub none_missed : (p : Program) → judged_program p ≡ Ok tt → (rule : RuleName) (place : Place) → ¬ BreaksProgram p rule place
 none_missed p ok _ _ (broken.unit_declared_again sub is again) =

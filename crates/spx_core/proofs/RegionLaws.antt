@@ -20,8 +20,8 @@ use Rattle.spx_core.specs.declared.program.TypeRow.{TypeRow}
 use Rattle.spx_core.specs.Uses.{denotes, is_same, mentions, uses, variable_of}
 use Rattle.spx_core.specs.Reads.{names_read, names_step}
 use Rattle.spx_core.specs.Regions.{Declaration, Region, Regions, declared_in, denoted, hidden, standard}
-use Rattle.spx_core.specs.Resolved.{around_body, declaring, declaring_all, expr_step, resolved_expr, resolved_name, resolved_reference, standard_types, subtype_of}
-use Rattle.spx_core.proofs.Callers.Expressions.{fold-Number, fold-Name, fold-Attribute, fold-Parenthesized, fold-Prefix, fold-Infix, fold-InType, fold-InRange}
+use Rattle.spx_core.specs.Resolved.{around_body, declaring, declaring_all, expr_step, resolved_expr, resolved_function, resolved_name, resolved_reference, standard_types, subtype_of}
+use Rattle.spx_core.proofs.Callers.Expressions.{fold-Number, fold-Name, fold-Attribute, fold-Applied, fold-Parenthesized, fold-Prefix, fold-Infix, fold-InType, fold-InRange}
 use Rattle.spx_core.proofs.Callers.ListTests.{each_append, some_mapped}
 use Rattle.spx_core.proofs.Callers.Variables.{same_var}
 
@@ -142,6 +142,7 @@ module _ (more : List TypeRow) (P : VarId → Object → Type 0) where
     at_layer (Expr-F.Number n place) = subst AreKnown (sym (fold-Number names_step n place)) tt
     at_layer (Expr-F.Name (Simple name)) = subst AreKnown (sym (fold-Name names_step (resolved_name regions name))) (denoted_holds regions name.text all, tt)
     at_layer (Expr-F.Name (Attribute prefix designator)) = subst AreKnown (sym (fold-Attribute names_step (resolved_name regions prefix) designator)) tt
+    at_layer (Expr-F.Applied function place a) = subst AreKnown (sym (fold-Applied names_step (resolved_function regions function) place (resolved_expr regions a.0))) a.1
     at_layer (Expr-F.Parenthesized place a) = subst AreKnown (sym (fold-Parenthesized names_step place (resolved_expr regions a.0))) a.1
     at_layer (Expr-F.Prefix op place a) = subst AreKnown (sym (fold-Prefix names_step op place (resolved_expr regions a.0))) a.1
     at_layer (Expr-F.Infix op place a b) =

@@ -1,9 +1,9 @@
 -- What is reported of a rule on variables is broken there, and where nothing is reported no rule is broken.
-use Rattle.std.proofs.Common.{◌≡◌, ◌⊎◌, Bool, true, false, not, ◌&&◌, ◌||◌, List, [], ◌∷◌, ◌++◌, Option, Some, None, Ok, Err, is_some, refl, sym, ap, ap₂, subst, ◌∙◌, inl, inr, ⊎_elim, arith}
+use Rattle.std.proofs.Common.{◌≡◌, ◌⊎◌, Bool, true, false, not, ◌&&◌, ◌||◌, List, [], ◌∷◌, ◌++◌, Option, Some, None, Ok, Err, is_some, refl, sym, ap, ap₂, subst, ◌∙◌, inl, inr, ⊎_elim}
 use Rattle.std.specs.Prelude.{All, Any, Contains, ◌==◌}
 use Rattle.std.specs.List.{cons_option, flat_map, list_all, list_any}
 use Rattle.std.proofs.lemmas.Bool.{and_cases, and_from, and_left, and_parts, and_right, both_ways, eq-eqb, eqb-true, not-false, not-true, not_from_true, or_cases, or_from, or_left, or_parts, or_right}
-use Rattle.std.proofs.lemmas.List.Elements.{All-contains, Contains-append_right}
+use Rattle.std.proofs.lemmas.List.Elements.{All-contains}
 use Rattle.std.proofs.lemmas.List.Folds.{list_all_at, list_any-append}
 use Rattle.spx_text.specs.declared.place.Place.{Place}
 use Rattle.spx_core.specs.declared.entity.VarId.{VarId}
@@ -20,22 +20,22 @@ use Rattle.spx_core.specs.declared.program.Program.{Program}
 use Rattle.spx_core.specs.declared.rule.Breach.{Breach}
 use Rattle.spx_core.specs.declared.rule.RuleName.{RuleName}
 use Rattle.spx_core.specs.declared.rule.RuleName.TheVariants.{U2, U7, U8, U11}
-use Rattle.spx_core.specs.Commands.{Command, Skip, Set, Then, Choose, commands}
+use Rattle.spx_core.specs.Commands.{Command, Skip, Set, Then, Choose, Select, Alternatives, Last, When, commands}
 use Rattle.spx_core.specs.Reads.{names_read}
 use Rattle.spx_core.specs.Uses.{denotes, is_same, mentions, variable_of}
 use Rattle.spx_core.specs.Dependency.{exports, imports, relation, variables}
 use Rattle.spx_core.specs.Mirror.DerivesItems.{has_export, has_import}
 use Rattle.spx_core.specs.Formals.{formals, is_formal, stands_in}
 use Rattle.spx_core.specs.Judged.{◌>>=◌, each, if_there, keeps}
-use Rattle.spx_core.specs.Obeyed.{Obeys, export_agrees, exports_once, first_rule_breach, import_agrees, is_among, is_constant, is_export_of, is_exported, is_imported, is_listed, is_right_relation, may_be_assigned, mode_denoted, mode_named, names_formal, names_formals, names_once, obeyed, obeyed_command, obeyed_export, obeyed_import, obeyed_item, obeyed_pre, obeyed_relation, obeyed_sub, pairs_once, place_or, reads_import, unused_imports, variable_is, variable_passes}
+use Rattle.spx_core.specs.Obeyed.{Obeys, export_agrees, exports_once, first_rule_breach, import_agrees, is_among, is_constant, is_export_of, is_exported, is_imported, is_listed, is_right_relation, may_be_assigned, mode_denoted, mode_named, names_formal, names_formals, names_once, obeyed, obeyed_alternatives, obeyed_command, obeyed_export, obeyed_import, obeyed_item, obeyed_pre, obeyed_relation, obeyed_sub, pairs_once, place_or, reads_import, unused_imports, variable_is, variable_passes}
 use Rattle.spx_core.specs.Rules.{ObeysRules, agrees}
-use Rattle.spx_core.specs.RuleBreaches.{Assigns, BreaksRule, Disagrees, HasBadDerives, IsInRelation, IsVariable, StandsTwice, exports_named, bad_derives, mode_disagrees, not_imported, constant_assigned, input_assigned, export_twice, import_twice, unused_twice, import_beside_star, formal_left_out, no_formal}
+use Rattle.spx_core.specs.RuleBreaches.{Assigns, BreaksRule, Disagrees, HasBadDerives, IsInRelation, IsVariable, OneAssigns, StandsTwice, exports_named, bad_derives, mode_disagrees, not_imported, constant_assigned, input_assigned, export_twice, import_twice, unused_twice, import_beside_star, formal_left_out, no_formal}
 use Rattle.spx_core.specs.Scopes.{HasItsMode, HaveTheirModes, Scoped}
 use Rattle.spx_core.specs.Erased.{Visible}
 use Rattle.spx_core.proofs.Judgements.{bound, broken_in, each_broken, each_passes, kept, not_kept, passes_at, reported, unbroken}
 use Rattle.spx_core.proofs.RuleLaws.{hold}
 use Rattle.spx_core.proofs.Scopes.{all_scoped}
-use Rattle.spx_core.proofs.Callers.ListTests.{any_flat_map, found, passes}
+use Rattle.spx_core.proofs.Callers.ListTests.{any_flat_map, fails, found, passes}
 use Rattle.spx_core.proofs.Callers.Pairs.{any_alike, exports_are, imports_are, variables_are}
 use Rattle.spx_core.proofs.Callers.Variables.{same_itself, same_var}
 
@@ -44,12 +44,6 @@ use Rattle.spx_core.proofs.Callers.Variables.{same_itself, same_var}
 both_no : (a b : Bool) → (not a && not b) ≡ not (a || b)
 both_no true b = refl
 both_no false b = refl
-
--- a test that fails, fails of one
-fails : {X : Type 0} (p : X → Bool) (xs : List X) → list_all p xs ≡ false → (x : X) × Contains xs x × (p x ≡ false)
-fails p [] h = absurd (cc)
-fails p (x ∷ xs) h =
-    ⊎_elim (λ here. (x, (0, omega arith, refl), here)) (λ later. let w = fails p xs later in (w.0, Contains-append_right (x ∷ []) xs w.0 w.1, w.2)) (and_cases (p x) (list_all p xs) h)
 
 failed : {X : Type 0} (p : X → Bool) (xs : List X) (x : X) → Contains xs x → p x ≡ false → list_all p xs ≡ false
 failed p xs x is h = list_all_at p xs is.0 x is.1 (ap p is.2 ∙ h)
@@ -352,27 +346,46 @@ no_refused_target target h is =
     let parts = and_parts (may_be_assigned (mode_named target.root)) (not (is_constant target.root.entity)) h in
     ⊎_elim (λ m. let e = sym parts.0 ∙ ap may_be_assigned m in absurd cc) (λ c. both_ways (is_constant target.root.entity) (not-true (is_constant target.root.entity) parts.1) c) is
 
-assigned_input : (c : Command) (b : Breach) → obeyed_command c ≡ Err b → (target : Reference) × Assigns c target × IsInput target × (◌≡◌ {A = Breach} (record { rule = U2; place = target.root.name.place }) b)
-assigned_input Skip b e = absurd (cc)
-assigned_input (Set target value) b e =
-    let k = not_kept U2 target.root.name.place (may_assign target) b e in
-    (target, refl, refused_target target k.0, k.1)
-assigned_input (Then first second) b e =
-    ⊎_elim (λ l. let w = assigned_input first b l in (w.0, inl w.1, w.2, w.3)) (λ r. let w = assigned_input second b r.2 in (w.0, inr w.1, w.2, w.3))
-    (broken_in (obeyed_command first) (λ _. obeyed_command second) b e)
-assigned_input (Choose place condition first second) b e =
-    ⊎_elim (λ l. let w = assigned_input first b l in (w.0, inl w.1, w.2, w.3)) (λ r. let w = assigned_input second b r.2 in (w.0, inr w.1, w.2, w.3))
-    (broken_in (obeyed_command first) (λ _. obeyed_command second) b e)
+-- the target is refused at its place
+abbrev IsRefused : Reference → Breach → Type 0
+IsRefused target b = IsInput target × (◌≡◌ {A = Breach} (record { rule = U2; place = target.root.name.place }) b)
 
-no_input : (c : Command) (target : Reference) → Assigns c target → obeyed_command c ≡ Ok tt → IsInput target → ⊥
-no_input Skip target assigns ok is = assigns
-no_input (Set other value) target assigns ok is = no_refused_target other (kept U2 other.root.name.place (may_assign other) ok) (subst IsInput (sym assigns) is)
-no_input (Then a b) target assigns ok is =
-    let parts = bound (obeyed_command a) (λ _. obeyed_command b) tt ok in
-    ⊎_elim (λ l. no_input a target l parts.1 is) (λ r. no_input b target r parts.2 is) assigns
-no_input (Choose place condition a b) target assigns ok is =
-    let parts = bound (obeyed_command a) (λ _. obeyed_command b) tt ok in
-    ⊎_elim (λ l. no_input a target l parts.1 is) (λ r. no_input b target r parts.2 is) assigns
+mutual
+  assigned_input : (c : Command) (b : Breach) → obeyed_command c ≡ Err b → (target : Reference) × Assigns c target × IsRefused target b
+  assigned_input Skip b e = absurd (cc)
+  assigned_input (Set target value) b e =
+      let k = not_kept U2 target.root.name.place (may_assign target) b e in
+      (target, refl, (refused_target target k.0, k.1))
+  assigned_input (Then first second) b e =
+      ⊎_elim (λ l. let w = assigned_input first b l in (w.0, inl w.1, w.2)) (λ r. let w = assigned_input second b r.2 in (w.0, inr w.1, w.2))
+      (broken_in (obeyed_command first) (λ _. obeyed_command second) b e)
+  assigned_input (Choose place condition first second) b e =
+      ⊎_elim (λ l. let w = assigned_input first b l in (w.0, inl w.1, w.2)) (λ r. let w = assigned_input second b r.2 in (w.0, inr w.1, w.2))
+      (broken_in (obeyed_command first) (λ _. obeyed_command second) b e)
+  assigned_input (Select place selector alternatives) b e = assigned_among alternatives b e
+
+  assigned_among : (alternatives : Alternatives) (b : Breach) → obeyed_alternatives alternatives ≡ Err b → (target : Reference) × OneAssigns alternatives target × IsRefused target b
+  assigned_among (Last choices a) b e = assigned_input a b e
+  assigned_among (When choices a rest) b e =
+      ⊎_elim (λ l. let w = assigned_input a b l in (w.0, inl w.1, w.2)) (λ r. let w = assigned_among rest b r.2 in (w.0, inr w.1, w.2)) (broken_in (obeyed_command a) (λ _. obeyed_alternatives rest) b e)
+
+mutual
+  no_input : (c : Command) (target : Reference) → Assigns c target → obeyed_command c ≡ Ok tt → IsInput target → ⊥
+  no_input Skip target assigns ok is = assigns
+  no_input (Set other value) target assigns ok is = no_refused_target other (kept U2 other.root.name.place (may_assign other) ok) (subst IsInput (sym assigns) is)
+  no_input (Then a b) target assigns ok is =
+      let parts = bound (obeyed_command a) (λ _. obeyed_command b) tt ok in
+      ⊎_elim (λ l. no_input a target l parts.1 is) (λ r. no_input b target r parts.2 is) assigns
+  no_input (Choose place condition a b) target assigns ok is =
+      let parts = bound (obeyed_command a) (λ _. obeyed_command b) tt ok in
+      ⊎_elim (λ l. no_input a target l parts.1 is) (λ r. no_input b target r parts.2 is) assigns
+  no_input (Select place selector alternatives) target assigns ok is = no_input_among alternatives target assigns ok is
+
+  no_input_among : (alternatives : Alternatives) (target : Reference) → OneAssigns alternatives target → obeyed_alternatives alternatives ≡ Ok tt → IsInput target → ⊥
+  no_input_among (Last choices a) target assigns ok is = no_input a target assigns ok is
+  no_input_among (When choices a rest) target assigns ok is =
+      let parts = bound (obeyed_command a) (λ _. obeyed_alternatives rest) tt ok in
+      ⊎_elim (λ l. no_input a target l parts.1 is) (λ r. no_input_among rest target r parts.2 is) assigns
 
 -- ---- subprograms
 
@@ -380,7 +393,7 @@ module _ (p : Program) (sub : Sub) (scoped : Scoped p sub) where
   command_breaks : (b : Breach) → obeyed_command (commands sub.statements) ≡ Err b → IsBroken p sub b
   command_breaks b e =
       let w = assigned_input (commands sub.statements) b e in
-      subst (IsBroken p sub) w.3 (⊎_elim (input_assigned w.0 w.1) (constant_assigned w.0 w.1) w.2)
+      subst (IsBroken p sub) w.2.1 (⊎_elim (input_assigned w.0 w.1) (constant_assigned w.0 w.1) w.2.0)
 
   relation_breaks : (b : Breach) → obeyed_relation sub ≡ Err b → IsBroken p sub b
   relation_breaks b e =

@@ -1,9 +1,10 @@
 -- What a program that breaks no rule on variables is.
-use Rattle.std.proofs.Common.{◌≡◌, ◌≢◌, ◌⊎◌, Bool, true, false, ◌||◌, Some, Ok, is_some, refl, sym, ap, ap₂, subst, ◌∙◌, inl, inr, ⊎_elim, not}
+use Rattle.std.proofs.Common.{◌≡◌, ◌≢◌, ◌⊎◌, Bool, true, false, ◌||◌, List, Some, Ok, is_some, refl, sym, ap, ap₂, subst, ◌∙◌, inl, inr, ⊎_elim, not}
 use Rattle.std.specs.Prelude.{All, ◌&&◌, ◌==◌}
 use Rattle.std.specs.List.{list_all}
 use Rattle.std.proofs.lemmas.Bool.{and_parts, eqb-true, or_cases}
 use Rattle.std.proofs.lemmas.List.Elements.{All-contains, All-from_recursion}
+use Rattle.spx_text.specs.declared.place.Place.{Place}
 use Rattle.spx_core.specs.declared.entity.VarId.{VarId}
 use Rattle.spx_core.specs.declared.entity.Mode.{Mode}
 use Rattle.spx_core.specs.declared.entity.Mode.TheVariants.{In, Out, InOut}
@@ -18,13 +19,13 @@ use Rattle.spx_core.specs.Reads.{names_read}
 use Rattle.spx_core.specs.Uses.{denotes, mentions, uses, variable_of}
 use Rattle.spx_core.specs.Dependency.{exports, imports, relation}
 use Rattle.spx_core.specs.Mirror.DerivesItems.{has_export, has_import}
-use Rattle.spx_core.specs.Commands.{Command, Skip, Set, Then, Choose, commands}
-use Rattle.spx_core.specs.Effects.{effect, sets}
+use Rattle.spx_core.specs.Commands.{Command, Skip, Set, Then, Choose, Select, Alternatives, Last, When, commands}
+use Rattle.spx_core.specs.Effects.{Read, effect, effect_among, reads_of, sets}
 use Rattle.spx_core.specs.Formals.{formals, is_formal, mode_of}
 use Rattle.spx_core.specs.Judged.{each, if_there}
-use Rattle.spx_core.specs.Obeyed.{Obeys, export_agrees, exports_once, import_agrees, is_imported, is_exported, is_constant, is_listed, is_right_relation, may_be_assigned, mode_named, names_formals, names_once, obeyed_export, obeyed_import, obeyed_item, obeyed_pre, obeyed_relation, obeyed_command, obeyed_sub, pairs_once, place_or, reads_import, unused_imports, variable_is, variable_passes}
+use Rattle.spx_core.specs.Obeyed.{Obeys, export_agrees, exports_once, import_agrees, is_imported, is_exported, is_constant, is_listed, is_right_relation, may_be_assigned, mode_named, names_formals, names_once, obeyed_export, obeyed_import, obeyed_item, obeyed_pre, obeyed_relation, obeyed_alternatives, obeyed_command, obeyed_sub, pairs_once, place_or, reads_import, unused_imports, variable_is, variable_passes}
 use Rattle.spx_core.specs.Rules.{ObeysRules, agrees}
-use Rattle.spx_core.specs.Scopes.{HasItsMode, HaveTheirModes, Scoped, TargetsHaveTheirModes}
+use Rattle.spx_core.specs.Scopes.{AllHaveTheirModes, HasItsMode, HaveTheirModes, Scoped, TargetsHaveTheirModes}
 use Rattle.spx_core.specs.Erased.{Visible}
 use Rattle.spx_core.proofs.Judgements.{bound, each_passes, kept, passes_at}
 use Rattle.spx_core.proofs.Callers.ListTests.{all_pass, found, passes}
@@ -34,17 +35,26 @@ use Rattle.spx_core.proofs.Callers.Variables.{same_is, same_var}
 
 -- ---- U2
 
-no_input : (p : Program) (v : VarId) (c : Command) → TargetsHaveTheirModes p c → obeyed_command c ≡ Ok tt → sets v (effect c) ≡ true → mode_of v p ≢ Some In
-no_input p v Skip its h set is = absurd (cc)
-no_input p v (Then a b) its h set is =
-    let parts = bound (obeyed_command a) (λ _. obeyed_command b) tt h in
-    ⊎_elim (λ first. no_input p v a its.0 parts.1 first is) (λ second. no_input p v b its.1 parts.2 second is) (or_cases (sets v (effect a)) (sets v (effect b)) set)
-no_input p v (Choose place condition a b) its h set is =
-    let parts = bound (obeyed_command a) (λ _. obeyed_command b) tt h in
-    ⊎_elim (λ first. no_input p v a its.0 parts.1 first is) (λ second. no_input p v b its.1 parts.2 second is) (or_cases (sets v (effect a)) (sets v (effect b)) set)
-no_input p v (Set target value) its h set is =
-    let e = sym (and_parts (may_be_assigned (mode_named target.root)) (not (is_constant target.root.entity)) (kept U2 target.root.name.place _ h)).0 ∙ ap may_be_assigned (its v set ∙ is) in
-    absurd (cc)
+mutual
+  no_input : (p : Program) (v : VarId) (c : Command) → TargetsHaveTheirModes p c → obeyed_command c ≡ Ok tt → sets v (effect c) ≡ true → mode_of v p ≢ Some In
+  no_input p v Skip its h set is = absurd (cc)
+  no_input p v (Then a b) its h set is =
+      let parts = bound (obeyed_command a) (λ _. obeyed_command b) tt h in
+      ⊎_elim (λ first. no_input p v a its.0 parts.1 first is) (λ second. no_input p v b its.1 parts.2 second is) (or_cases (sets v (effect a)) (sets v (effect b)) set)
+  no_input p v (Choose place condition a b) its h set is =
+      let parts = bound (obeyed_command a) (λ _. obeyed_command b) tt h in
+      ⊎_elim (λ first. no_input p v a its.0 parts.1 first is) (λ second. no_input p v b its.1 parts.2 second is) (or_cases (sets v (effect a)) (sets v (effect b)) set)
+  no_input p v (Set target value) its h set is =
+      let e = sym (and_parts (may_be_assigned (mode_named target.root)) (not (is_constant target.root.entity)) (kept U2 target.root.name.place _ h)).0 ∙ ap may_be_assigned (its v set ∙ is) in
+      absurd (cc)
+  no_input p v (Select place selector alternatives) its h set is = no_input_among p v (reads_of selector) place alternatives its h set is
+
+  no_input_among : (p : Program) (v : VarId) (tests : List Read) (place : Place) (alternatives : Alternatives) → AllHaveTheirModes p alternatives → obeyed_alternatives alternatives ≡ Ok tt → sets v (effect_among tests place alternatives) ≡ true
+      → mode_of v p ≢ Some In
+  no_input_among p v tests place (Last choices a) its h set is = ⊎_elim (λ first. no_input p v a its h first is) (λ second. no_input p v a its h second is) (or_cases (sets v (effect a)) (sets v (effect a)) set)
+  no_input_among p v tests place (When choices a rest) its h set is =
+      let parts = bound (obeyed_command a) (λ _. obeyed_alternatives rest) tt h in
+      ⊎_elim (λ first. no_input p v a its.0 parts.1 first is) (λ later. no_input_among p v tests place rest its.1 parts.2 later is) (or_cases (sets v (effect a)) (sets v (effect_among tests place rest)) set)
 
 -- ---- U8
 

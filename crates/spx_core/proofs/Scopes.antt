@@ -7,10 +7,12 @@ use Rattle.std.proofs.lemmas.Bool.{and_parts, false_from_ne_true, or_cases, or_l
 use Rattle.std.proofs.lemmas.List.{length-map, map-append}
 use Rattle.std.proofs.Common.{get_or}
 use Rattle.std.proofs.lemmas.List.Elements.{All-from_recursion, All-map}
+use Rattle.spx_text.specs.declared.place.Place.{Place}
 use Rattle.spx_tree.specs.declared.expression.Name.{Name}
 use Rattle.spx_tree.specs.declared.expression.Expr.{Expr}
 use Rattle.spx_tree.specs.declared.statement.Stmt.{Stmt, Stmt-F, map-Stmt, roll-Stmt, ind-Stmt, fold-roll-Stmt}
 use Rattle.spx_tree.specs.declared.statement.Arm.{Arm, Arm-F, map-Arm, roll-Arm, fold-roll-Arm}
+use Rattle.spx_tree.specs.declared.statement.Alternative.{Alternative, Alternative-F, map-Alternative, roll-Alternative, fold-roll-Alternative}
 use Rattle.spx_tree.specs.declared.annotation.DerivesItem.{DerivesItem}
 use Rattle.spx_tree.specs.declared.annotation.Derives.{Derives}
 use Rattle.spx_tree.specs.declared.annotation.Precondition.{Precondition}
@@ -20,7 +22,7 @@ use Rattle.spx_tree.specs.declared.subprogram.Unit.TheVariants as unit
 use Rattle.spx_core.specs.declared.entity.VarId.{VarId}
 use Rattle.spx_core.specs.declared.entity.Mode.{Mode}
 use Rattle.spx_core.specs.declared.entity.VarKind.{VarKind}
-use Rattle.spx_core.specs.declared.entity.VarKind.TheVariants.{Formal, Local}
+use Rattle.spx_core.specs.declared.entity.VarKind.TheVariants.{Formal}
 use Rattle.spx_core.specs.declared.entity.Object.{Object}
 use Rattle.spx_core.specs.declared.name.CoreName.{CoreName}
 use Rattle.spx_core.specs.declared.name.Defining.{Defining}
@@ -28,30 +30,32 @@ use Rattle.spx_core.specs.declared.name.Reference.{Reference}
 use Rattle.spx_core.specs.declared.expression.CoreExpr.{CoreExpr}
 use Rattle.spx_core.specs.declared.statement.CoreStmt.{CoreStmt, CoreStmt-F, map-CoreStmt, roll-CoreStmt, fold-roll-CoreStmt}
 use Rattle.spx_core.specs.declared.statement.CoreArm.{CoreArm, fold-roll-CoreArm}
+use Rattle.spx_core.specs.declared.statement.CoreAlternative.{CoreAlternative, fold-roll-CoreAlternative}
+use Rattle.spx_core.specs.declared.statement.CoreChoice.{CoreChoice}
 use Rattle.spx_core.specs.declared.dependency.CoreDerivesItem.{CoreDerivesItem}
 use Rattle.spx_core.specs.declared.program.TypeRow.{TypeRow}
 use Rattle.spx_core.specs.declared.program.Var.{Var}
 use Rattle.spx_core.specs.declared.program.Program.{Program}
 use Rattle.spx_core.specs.declared.subprogram.CorePrecondition.{CorePrecondition}
 use Rattle.spx_core.specs.declared.subprogram.Sub.{Sub}
-use Rattle.spx_core.specs.Commands.{Command, Skip, Set, Then, Choose, arm_before, arms_before, chain, command, commands}
+use Rattle.spx_core.specs.Commands.{Command, Skip, Set, Then, Choose, Select, Alternatives, Last, When, alternative, alternatives_of, arm_before, arms_before, chain, command, commands, select}
 use Rattle.spx_core.specs.Commands as commands_of
 use Rattle.spx_core.specs.Reads.{names_read}
 use Rattle.spx_core.specs.Uses.{denotes, mentions, uses}
 use Rattle.spx_core.specs.Dependency.{items_of}
 use Rattle.spx_core.specs.Mirror.DerivesItems.{has_export, has_import}
 use Rattle.spx_core.specs.Formals.{is_formal, is_local, mode_in, mode_of, stands_in}
-use Rattle.spx_core.specs.Effects.{effect, is_read, reads, reads_of, sets}
+use Rattle.spx_core.specs.Effects.{Read, effect, effect_among, is_read, reads, reads_of, sets}
 use Rattle.spx_core.specs.Obeyed.{mode_denoted}
 use Rattle.spx_core.specs.Regions.{Region, Regions}
-use Rattle.spx_core.specs.Resolved.{after_formals, around_body, at_start, counted_sub, Counts, declaring, declaring_all, exported_names, formal_names, local_names, local_variables, own_types, own_vars, resolved_arm, resolved_derives, resolved_expr, resolved_item, resolved_pre, resolved_reference, resolved_stmt, resolved_sub, resolved_subs, standard_types, unit_name, var_of}
+use Rattle.spx_core.specs.Resolved.{after_formals, around_body, at_start, counted_sub, Counts, declaring, declaring_all, exported_names, formal_names, local_names, local_variables, own_types, own_vars, resolved_alternative, resolved_arm, resolved_derives, resolved_expr, resolved_item, resolved_pre, resolved_reference, resolved_stmt, resolved_sub, resolved_subs, standard_types, unit_name, var_of}
 use Rattle.spx_core.specs.Resolved as resolved
 use Rattle.spx_core.specs.Erased.{Visible, erased}
-use Rattle.spx_core.specs.Scopes.{AreAsDeclared, HasItsMode, HaveTheirModes, IsAsDeclared, Scoped, TargetsHaveTheirModes, kind_of, object_declared, object_in}
+use Rattle.spx_core.specs.Scopes.{AllAreAsDeclared, AllHaveTheirModes, AreAsDeclared, HasItsMode, HaveTheirModes, IsAsDeclared, IsLocalKind, Scoped, TargetsHaveTheirModes, kind_of, object_declared, object_in}
 use Rattle.spx_core.proofs.Callers.Pairs.{exports_are, imports_are}
 use Rattle.spx_core.proofs.Callers.ListTests.{each_append, some_mapped}
 use Rattle.spx_core.proofs.Callers.FlowLaws.{reads_uses}
-use Rattle.spx_core.proofs.RegionLaws.{AllHold, Holds, HoldsIn, around_holds, inside_holds, mentioned_variable, read_known, reference_variable, root_holds, used_variable}
+use Rattle.spx_core.proofs.RegionLaws.{AllHold, HasRow, Holds, HoldsIn, around_holds, inside_holds, mentioned_variable, read_known, reference_variable, root_holds, used_variable}
 use Rattle.spx_core.proofs.Consecutive.{Any, Consecutive, Known, positions_differ, IsFormal, IsLocal, at_position, decls_known, first_positions, formals_consecutive, formals_known, is_at, last_positions, rows}
 
 mode_in_row : (kind : VarKind) (row : Option Var) → option_map (λ (var : Var). var.kind) row ≡ Some kind → option_and_then (λ (var : Var). mode_in var.kind) row ≡ mode_in kind
@@ -83,25 +87,40 @@ abbrev IsValueIn : Regions → CoreExpr → Type 0
 IsValueIn regions value = (e : Expr) × (value ≡ resolved_expr regions e)
 
 -- the targets and the expressions of a command are what names and expressions are in these regions
-abbrev Resolves : Regions → Command → Type 0
-Resolves regions Skip = ⊤
-Resolves regions (Set target value) = IsTargetIn regions target × IsValueIn regions value
-Resolves regions (Then a b) = Resolves regions a × Resolves regions b
-Resolves regions (Choose place condition a b) = IsValueIn regions condition × Resolves regions a × Resolves regions b
+abbrev mutual
+  Resolves : Regions → Command → Type 0
+  Resolves regions Skip = ⊤
+  Resolves regions (Set target value) = IsTargetIn regions target × IsValueIn regions value
+  Resolves regions (Then a b) = Resolves regions a × Resolves regions b
+  Resolves regions (Choose place condition a b) = IsValueIn regions condition × Resolves regions a × Resolves regions b
+  Resolves regions (Select place selector alternatives) = IsValueIn regions selector × AllResolve regions alternatives
 
--- a statement at one layer
-command_at : (y : CoreStmt-F CoreStmt CoreArm) → command (roll-CoreStmt y) ≡ commands_of.stmt_step (map-CoreStmt CoreStmt CoreArm Command (Command → Command) command arm_before y)
-command_at y = fold-roll-CoreStmt Command (Command → Command) commands_of.stmt_step commands_of.arm_step y
+  AllResolve : Regions → Alternatives → Type 0
+  AllResolve regions (Last choices a) = Resolves regions a
+  AllResolve regions (When choices a rest) = Resolves regions a × AllResolve regions rest
+
+-- what alternatives are folded into
+abbrev Chosen : Type 0
+Chosen = Option (List CoreChoice) × Command
+
+command_at : (y : CoreStmt-F CoreStmt CoreAlternative CoreArm) → command (roll-CoreStmt y) ≡ commands_of.stmt_step (map-CoreStmt CoreStmt CoreAlternative CoreArm Command Chosen (Command → Command) command alternative arm_before y)
+command_at y = fold-roll-CoreStmt Command Chosen (Command → Command) commands_of.stmt_step commands_of.alternative_step commands_of.arm_step y
 
 module _ (regions : Regions) where
   abbrev StmtResolves : Stmt → Type 0
   StmtResolves s = Resolves regions (command (resolved_stmt regions s))
+
+  abbrev AlternativeResolves : Alternative → Type 0
+  AlternativeResolves a = Resolves regions (alternative (resolved_alternative regions a)).1
 
   abbrev ArmResolves : Arm → Type 0
   ArmResolves a = (otherwise : Command) → Resolves regions otherwise → Resolves regions (arm_before (resolved_arm regions a) otherwise)
 
   abbrev StmtShown : Type 0
   StmtShown = (s : Stmt) × StmtResolves s
+
+  abbrev AlternativeShown : Type 0
+  AlternativeShown = (a : Alternative) × AlternativeResolves a
 
   abbrev ArmShown : Type 0
   ArmShown = (a : Arm) × ArmResolves a
@@ -114,7 +133,21 @@ module _ (regions : Regions) where
   arms_resolve otherwise known [] = known
   arms_resolve otherwise known (a ∷ arms) = a.1 _ (arms_resolve otherwise known arms)
 
-  stmt_at_layer : (y : Stmt-F StmtShown ArmShown) → Resolves regions (command (resolved.stmt_step regions (map-Stmt Stmt Arm CoreStmt CoreArm (resolved_stmt regions) (resolved_arm regions) (map-Stmt StmtShown ArmShown Stmt Arm (λ e. e.0) (λ e. e.0) y))))
+  alternatives_resolve : (first : AlternativeShown) (rest : List AlternativeShown)
+      → AllResolve regions (alternatives_of (alternative (resolved_alternative regions first.0)) (map alternative (map (resolved_alternative regions) (map (λ a. a.0) rest))))
+  alternatives_resolve first [] = first.1
+  alternatives_resolve first (second ∷ rest) = (first.1, alternatives_resolve second rest)
+
+  select_resolves : (place : Place) (selector : Expr) (alternatives : List AlternativeShown)
+      → Resolves regions (select place (resolved_expr regions selector) (map alternative (map (resolved_alternative regions) (map (λ a. a.0) alternatives))))
+  select_resolves place selector [] = tt
+  select_resolves place selector (first ∷ rest) = ((selector, refl), alternatives_resolve first rest)
+
+  abbrev bare_stmt : Stmt-F StmtShown AlternativeShown ArmShown → Stmt-F Stmt Alternative Arm
+  bare_stmt y = map-Stmt StmtShown AlternativeShown ArmShown Stmt Alternative Arm (λ e. e.0) (λ e. e.0) (λ e. e.0) y
+
+  stmt_at_layer : (y : Stmt-F StmtShown AlternativeShown ArmShown)
+      → Resolves regions (command (resolved.stmt_step regions (map-Stmt Stmt Alternative Arm CoreStmt CoreAlternative CoreArm (resolved_stmt regions) (resolved_alternative regions) (resolved_arm regions) (bare_stmt y))))
   unfolding roll-CoreStmt roll
   stmt_at_layer (Stmt-F.Null place) = subst (Resolves regions) (sym (command_at (CoreStmt-F.Null place))) tt
   stmt_at_layer (Stmt-F.Assignment target value) =
@@ -124,17 +157,29 @@ module _ (regions : Regions) where
   stmt_at_layer (Stmt-F.If arms (Some stmts) closing) =
       subst (Resolves regions) (sym (command_at (CoreStmt-F.If (map (resolved_arm regions) (map (λ a. a.0) arms)) (Some (map (resolved_stmt regions) (map (λ s. s.0) stmts))) closing)))
       (arms_resolve _ (chain_resolves stmts) arms)
+  stmt_at_layer (Stmt-F.Case place selector alternatives closing) =
+      subst (Resolves regions) (sym (command_at (CoreStmt-F.Case place (resolved_expr regions selector) (map (resolved_alternative regions) (map (λ a. a.0) alternatives)) closing))) (select_resolves place selector alternatives)
 
-  stmt_layer : (y : Stmt-F StmtShown ArmShown) → StmtResolves (roll-Stmt (map-Stmt StmtShown ArmShown Stmt Arm (λ e. e.0) (λ e. e.0) y))
-  stmt_layer y = subst (λ s. Resolves regions (command s)) (sym (fold-roll-Stmt CoreStmt CoreArm (resolved.stmt_step regions) (resolved.arm_step regions) _)) (stmt_at_layer y)
+  stmt_layer : (y : Stmt-F StmtShown AlternativeShown ArmShown) → StmtResolves (roll-Stmt (bare_stmt y))
+  stmt_layer y =
+      subst (λ s. Resolves regions (command s)) (sym (fold-roll-Stmt CoreStmt CoreAlternative CoreArm (resolved.stmt_step regions) (resolved.alternative_step regions) (resolved.arm_step regions) _)) (stmt_at_layer y)
 
-  arm_layer : (y : Arm-F StmtShown ArmShown) → ArmResolves (roll-Arm (map-Arm StmtShown ArmShown Stmt Arm (λ e. e.0) (λ e. e.0) y))
+  alternative_layer : (y : Alternative-F StmtShown AlternativeShown ArmShown)
+      → AlternativeResolves (roll-Alternative (map-Alternative StmtShown AlternativeShown ArmShown Stmt Alternative Arm (λ e. e.0) (λ e. e.0) (λ e. e.0) y))
+  alternative_layer y =
+      subst (λ a. Resolves regions (alternative a).1) (sym (fold-roll-Alternative CoreStmt CoreAlternative CoreArm (resolved.stmt_step regions) (resolved.alternative_step regions) (resolved.arm_step regions) _))
+      (subst (λ (c : Chosen). Resolves regions c.1) (sym (fold-roll-CoreAlternative Command Chosen (Command → Command) commands_of.stmt_step commands_of.alternative_step commands_of.arm_step _)) (chain_resolves y.body))
+
+  arm_layer : (y : Arm-F StmtShown AlternativeShown ArmShown) → ArmResolves (roll-Arm (map-Arm StmtShown AlternativeShown ArmShown Stmt Alternative Arm (λ e. e.0) (λ e. e.0) (λ e. e.0) y))
   arm_layer y otherwise known =
-      subst (λ a. Resolves regions (arm_before a otherwise)) (sym (fold-roll-Arm CoreStmt CoreArm (resolved.stmt_step regions) (resolved.arm_step regions) _))
-      (subst (λ f. Resolves regions (f otherwise)) (sym (fold-roll-CoreArm Command (Command → Command) commands_of.stmt_step commands_of.arm_step _)) ((y.condition, refl), chain_resolves y.body, known))
+      subst (λ a. Resolves regions (arm_before a otherwise)) (sym (fold-roll-Arm CoreStmt CoreAlternative CoreArm (resolved.stmt_step regions) (resolved.alternative_step regions) (resolved.arm_step regions) _))
+      (subst (λ f. Resolves regions (f otherwise)) (sym (fold-roll-CoreArm Command Chosen (Command → Command) commands_of.stmt_step commands_of.alternative_step commands_of.arm_step _))
+      ((y.condition, refl), chain_resolves y.body, known))
 
   stmt_resolves : (s : Stmt) → StmtResolves s
-  stmt_resolves = ind-Stmt StmtResolves ArmResolves (λ x y is. subst (λ z. StmtResolves (roll-Stmt z)) is (stmt_layer y)) (λ x y is. subst (λ z. ArmResolves (roll-Arm z)) is (arm_layer y))
+  stmt_resolves =
+      ind-Stmt StmtResolves AlternativeResolves ArmResolves (λ x y is. subst (λ z. StmtResolves (roll-Stmt z)) is (stmt_layer y))
+      (λ x y is. subst (λ z. AlternativeResolves (roll-Alternative z)) is (alternative_layer y)) (λ x y is. subst (λ z. ArmResolves (roll-Arm z)) is (arm_layer y))
 
 stmts_resolve : (regions : Regions) (stmts : List Stmt) → Resolves regions (commands (map (resolved_stmt regions) stmts))
 stmts_resolve regions [] = tt
@@ -154,21 +199,40 @@ module _ (more : List TypeRow) (P : VarId → Object → Type 0) (regions : Regi
   value_variable : (value : CoreExpr) → IsValueIn regions value → is_read v (reads_of value) ≡ true → (object : Object) × P v object
   value_variable value written h = used_variable more P regions all v written.0 (ap (uses v) (sym written.1) ∙ sym (reads_uses v value) ∙ h)
 
-  assigned_variable : (c : Command) → Resolves regions c → sets v (effect c) ≡ true → (object : Object) × P v object
-  assigned_variable Skip written h = absurd cc
-  assigned_variable (Set target value) written h =
-      let known = reference_variable more P regions all v written.0.0 (ap (λ (name : Reference). denotes v name.root) (sym written.0.1) ∙ h) in (known.0, known.2)
-  assigned_variable (Then a b) written h = ⊎_elim (assigned_variable a written.0) (assigned_variable b written.1) (or_cases (sets v (effect a)) (sets v (effect b)) h)
-  assigned_variable (Choose place condition a b) written h = ⊎_elim (assigned_variable a written.1) (assigned_variable b written.2) (or_cases (sets v (effect a)) (sets v (effect b)) h)
+  mutual
+    assigned_variable : (c : Command) → Resolves regions c → sets v (effect c) ≡ true → (object : Object) × P v object
+    assigned_variable Skip written h = absurd cc
+    assigned_variable (Set target value) written h =
+        let known = reference_variable more P regions all v written.0.0 (ap (λ (name : Reference). denotes v name.root) (sym written.0.1) ∙ h) in (known.0, known.2)
+    assigned_variable (Then a b) written h = ⊎_elim (assigned_variable a written.0) (assigned_variable b written.1) (or_cases (sets v (effect a)) (sets v (effect b)) h)
+    assigned_variable (Choose place condition a b) written h = ⊎_elim (assigned_variable a written.1) (assigned_variable b written.2) (or_cases (sets v (effect a)) (sets v (effect b)) h)
+    assigned_variable (Select place selector alternatives) written h = assigned_among (reads_of selector) place alternatives written.1 h
 
-  read_variable : (c : Command) → Resolves regions c → reads v (effect c) ≡ true → (object : Object) × P v object
-  read_variable Skip written h = absurd cc
-  read_variable (Set target value) written h = value_variable value written.1 h
-  read_variable (Then a b) written h = ⊎_elim (read_variable a written.0) (read_variable b written.1) (or_cases (reads v (effect a)) (reads v (effect b)) h)
-  read_variable (Choose place condition a b) written h =
-      ⊎_elim (value_variable condition written.0)
-      (λ arms. ⊎_elim (read_variable a written.1) (read_variable b written.2) (or_cases (reads v (effect a)) (reads v (effect b)) arms))
-      (or_cases (is_read v (reads_of condition)) (reads v (effect a) || reads v (effect b)) h)
+    assigned_among : (tests : List Read) (place : Place) (alternatives : Alternatives) → AllResolve regions alternatives → sets v (effect_among tests place alternatives) ≡ true → (object : Object) × P v object
+    assigned_among tests place (Last choices a) written h = ⊎_elim (assigned_variable a written) (assigned_variable a written) (or_cases (sets v (effect a)) (sets v (effect a)) h)
+    assigned_among tests place (When choices a rest) written h =
+        ⊎_elim (assigned_variable a written.0) (assigned_among tests place rest written.1) (or_cases (sets v (effect a)) (sets v (effect_among tests place rest)) h)
+
+  mutual
+    read_variable : (c : Command) → Resolves regions c → reads v (effect c) ≡ true → (object : Object) × P v object
+    read_variable Skip written h = absurd cc
+    read_variable (Set target value) written h = value_variable value written.1 h
+    read_variable (Then a b) written h = ⊎_elim (read_variable a written.0) (read_variable b written.1) (or_cases (reads v (effect a)) (reads v (effect b)) h)
+    read_variable (Choose place condition a b) written h =
+        ⊎_elim (value_variable condition written.0)
+        (λ arms. ⊎_elim (read_variable a written.1) (read_variable b written.2) (or_cases (reads v (effect a)) (reads v (effect b)) arms))
+        (or_cases (is_read v (reads_of condition)) (reads v (effect a) || reads v (effect b)) h)
+    read_variable (Select place selector alternatives) written h = read_among (reads_of selector) place (value_variable selector written.0) alternatives written.1 h
+
+    -- the tests read such a variable
+    read_among : (tests : List Read) (place : Place) → (is_read v tests ≡ true → (object : Object) × P v object) → (alternatives : Alternatives) → AllResolve regions alternatives → reads v (effect_among tests place alternatives) ≡ true
+        → (object : Object) × P v object
+    read_among tests place tested (Last choices a) written h =
+        ⊎_elim tested (λ arms. ⊎_elim (read_variable a written) (read_variable a written) (or_cases (reads v (effect a)) (reads v (effect a)) arms))
+        (or_cases (is_read v tests) (reads v (effect a) || reads v (effect a)) h)
+    read_among tests place tested (When choices a rest) written h =
+        ⊎_elim tested (λ arms. ⊎_elim (read_variable a written.0) (read_among tests place tested rest written.1) (or_cases (reads v (effect a)) (reads v (effect_among tests place rest)) arms))
+        (or_cases (is_read v tests) (reads v (effect a) || reads v (effect_among tests place rest)) h)
 
 module _ (p : Program) (more : List TypeRow) (P : VarId → Object → Type 0) (row : (v : VarId) (object : Object) → P v object → object_declared p v ≡ Some object) (regions : Regions) (all : AllByRecursion (HoldsIn more P) regions) where
   has_its_mode : (name : Name) → HasItsMode p (resolved_reference regions name)
@@ -184,11 +248,17 @@ module _ (p : Program) (more : List TypeRow) (P : VarId → Object → Type 0) (
   relation_has_modes (Some derives) =
       All-map (HaveTheirModes p) (resolved_item regions) derives.items (λ k d less. let item = get_or derives.items k d in (have_their_modes (exported_names item.exports), have_their_modes item.imports.names))
 
-  targets_have_modes : (c : Command) → Resolves regions c → TargetsHaveTheirModes p c
-  targets_have_modes Skip written = tt
-  targets_have_modes (Set target value) written = subst (HasItsMode p) (sym written.0.1) (has_its_mode written.0.0)
-  targets_have_modes (Then a b) written = (targets_have_modes a written.0, targets_have_modes b written.1)
-  targets_have_modes (Choose place condition a b) written = (targets_have_modes a written.1, targets_have_modes b written.2)
+  mutual
+    targets_have_modes : (c : Command) → Resolves regions c → TargetsHaveTheirModes p c
+    targets_have_modes Skip written = tt
+    targets_have_modes (Set target value) written = subst (HasItsMode p) (sym written.0.1) (has_its_mode written.0.0)
+    targets_have_modes (Then a b) written = (targets_have_modes a written.0, targets_have_modes b written.1)
+    targets_have_modes (Choose place condition a b) written = (targets_have_modes a written.1, targets_have_modes b written.2)
+    targets_have_modes (Select place selector alternatives) written = all_have_modes alternatives written.1
+
+    all_have_modes : (alternatives : Alternatives) → AllResolve regions alternatives → AllHaveTheirModes p alternatives
+    all_have_modes (Last choices a) written = targets_have_modes a written
+    all_have_modes (When choices a rest) written = (targets_have_modes a written.0, all_have_modes rest written.1)
 
   -- ---- what is declared of the variables that names denote
 
@@ -207,11 +277,17 @@ module _ (p : Program) (more : List TypeRow) (P : VarId → Object → Type 0) (
   target_as_declared : (target : Reference) → IsTargetIn regions target → IsAsDeclared p target.root
   target_as_declared target written = subst (λ (r : Reference). IsAsDeclared p r.root) (sym written.1) (as_declared (resolved_reference regions written.0).root (root_holds more P regions all written.0))
 
-  command_as_declared : (c : Command) → Resolves regions c → AreAsDeclared p c
-  command_as_declared Skip written = tt
-  command_as_declared (Set target value) written = (target_as_declared target written.0, read_as_declared value written.1)
-  command_as_declared (Then a b) written = (command_as_declared a written.0, command_as_declared b written.1)
-  command_as_declared (Choose place condition a b) written = (read_as_declared condition written.0, (command_as_declared a written.1, command_as_declared b written.2))
+  mutual
+    command_as_declared : (c : Command) → Resolves regions c → AreAsDeclared p c
+    command_as_declared Skip written = tt
+    command_as_declared (Set target value) written = (target_as_declared target written.0, read_as_declared value written.1)
+    command_as_declared (Then a b) written = (command_as_declared a written.0, command_as_declared b written.1)
+    command_as_declared (Choose place condition a b) written = (read_as_declared condition written.0, (command_as_declared a written.1, command_as_declared b written.2))
+    command_as_declared (Select place selector alternatives) written = (read_as_declared selector written.0, alternatives_as_declared alternatives written.1)
+
+    alternatives_as_declared : (alternatives : Alternatives) → AllResolve regions alternatives → AllAreAsDeclared p alternatives
+    alternatives_as_declared (Last choices a) written = command_as_declared a written
+    alternatives_as_declared (When choices a rest) written = (command_as_declared a written.0, alternatives_as_declared rest written.1)
 
   pre_as_declared : (written : Option Precondition) (pre : CorePrecondition) → option_map (resolved_pre regions) written ≡ Some pre → All (IsAsDeclared p) (names_read pre.condition)
   pre_as_declared None pre is = absurd cc
@@ -266,7 +342,7 @@ module _ (p : Program) (more : List TypeRow) (types : p.types ≡ standard_types
       names_known : Known more (first + length its_formals) its_locals its_names
       names_known = decls_known more (around_body name) (around_holds more Any name tt) (declaring_all [] its_formals) (after_formals counts sub.formal_part) s.declarations front back (formals_known more first its_formals formals_are) (count, rows_are)
 
-      locals_are : Consecutive (IsLocal more) (first + length its_formals) its_locals
+      pub locals_are : Consecutive (IsLocal more) (first + length its_formals) its_locals
       locals_are = names_known.consecutive
 
       vars_are : p.vars ≡ before ++ (map var_of its_formals ++ (map var_of its_locals ++ after))
@@ -276,11 +352,15 @@ module _ (p : Program) (more : List TypeRow) (types : p.types ≡ standard_types
       formal_rows P follows =
           rows p more types (IsFormal more) (λ object k. k.1) P before first its_formals (map var_of its_locals ++ after) len vars_are formals_are (λ v object kind at row. follows v object kind (formal_positions v ∙ at) row)
 
-      local_rows : (P : VarId → Object → Type 0) → ((v : VarId) (object : Object) → IsLocal more object → is_local v sub ≡ true → object_declared p v ≡ Some object → P v object) → AllHold more P its_locals
-      local_rows P follows =
-          rows p more types (IsLocal more) (λ object k. k.1) P (before ++ map var_of its_formals) (first + length its_formals) its_locals after
-          (length-append before (map var_of its_formals) ∙ ap₂ ◌+◌ len (length-map its_formals var_of)) (vars_are ∙ sym (append_assoc before (map var_of its_formals) (map var_of its_locals ++ after))) locals_are
+      rows_of_locals : (K : Object → Type 0) → ((object : Object) → K object → HasRow more object.subtype) → Consecutive K (first + length its_formals) its_locals → (P : VarId → Object → Type 0)
+          → ((v : VarId) (object : Object) → K object → is_local v sub ≡ true → object_declared p v ≡ Some object → P v object) → AllHold more P its_locals
+      rows_of_locals K typed are P follows =
+          rows p more types K typed P (before ++ map var_of its_formals) (first + length its_formals) its_locals after
+          (length-append before (map var_of its_formals) ∙ ap₂ ◌+◌ len (length-map its_formals var_of)) (vars_are ∙ sym (append_assoc before (map var_of its_formals) (map var_of its_locals ++ after))) are
           (λ v object kind at row. follows v object kind (local_positions v ∙ at) row)
+
+      local_rows : (P : VarId → Object → Type 0) → ((v : VarId) (object : Object) → IsLocal more object → is_local v sub ≡ true → object_declared p v ≡ Some object → P v object) → AllHold more P its_locals
+      local_rows P follows = rows_of_locals (IsLocal more) (λ object k. k.1) locals_are P follows
 
       in_annotations : AllByRecursion (HoldsIn more FormalRow) annotations
       in_annotations = inside_holds more FormalRow name its_formals tt (formal_rows FormalRow (λ v object kind formal row. (formal, row)))
@@ -296,13 +376,20 @@ module _ (p : Program) (more : List TypeRow) (types : p.types ≡ standard_types
           let P : VarId → Object → Type 0 = λ v object. (mode : Mode) × (kind_of p v ≡ Some (Formal mode)) in
           (at_position p more types (IsFormal more) (λ object k. k.1) P v first its_formals formals_are (formal_rows P (λ v object kind formal row. (kind.0.0, kind_is p v object row ∙ ap Some kind.0.1))) (sym (formal_positions v) ∙ h)).1
 
-      local_kind : (v : VarId) → is_local v sub ≡ true → kind_of p v ≡ Some Local
-      local_kind v h =
-          let P : VarId → Object → Type 0 = λ v object. kind_of p v ≡ Some Local in
-          (at_position p more types (IsLocal more) (λ object k. k.1) P v (first + length its_formals) its_locals locals_are (local_rows P (λ v object kind local row. kind_is p v object row ∙ ap Some kind.0)) (sym (local_positions v) ∙ h)).1
+      -- a local has a row that says what is declared of it
+      pub local_as : (K : Object → Type 0) → ((object : Object) → K object → HasRow more object.subtype) → Consecutive K (first + length its_formals) its_locals → (v : VarId) → is_local v sub ≡ true
+          → (object : Object) × (object_declared p v ≡ Some object) × K object
+      local_as K typed are v h =
+          let P : VarId → Object → Type 0 = λ v object. (object_declared p v ≡ Some object) × K object in
+          let one = at_position p more types K typed P v (first + length its_formals) its_locals are (rows_of_locals K typed are P (λ v object kind at row. (row, kind))) (sym (local_positions v) ∙ h) in
+          (one.0, one.1.0, one.1.1)
+
+      local_kind : (v : VarId) → is_local v sub ≡ true → (kind : VarKind) × (kind_of p v ≡ Some kind) × IsLocalKind kind
+      local_kind v h = let one = local_as (IsLocal more) (λ object k. k.1) locals_are v h in (one.0.kind, kind_is p v one.0 one.1, one.2.0)
 
       no_local : (v : VarId) → is_formal v sub ≡ true → is_local v sub ≡ false
-      no_local v h = false_from_ne_true (is_local v sub) (λ l. let kind = formal_kind v h in let other = local_kind v l in absurd (let e : Formal kind.0 ≡ Local = cc in cc))
+      no_local v h =
+          false_from_ne_true (is_local v sub) (λ l. let kind = formal_kind v h in let other = local_kind v l in let e : Formal kind.0 ≡ other.0 = cc in subst IsLocalKind (sym e) other.2)
 
       scoped_sub : Scoped p sub
       scoped_sub = record {
@@ -322,25 +409,36 @@ module _ (p : Program) (more : List TypeRow) (types : p.types ≡ standard_types
 
   -- ---- programs
 
-  scoped_subs : (library : Region) (position : ℕ) (counts : Counts) (before : List Var) (front : List TypeRow) (units : List Unit) → length before ≡ counts.vars → length (standard_types ++ front) ≡ counts.types
+  -- it holds of each unit, whose variables and types stand between some rows
+  abbrev pub OfEach : (Sub → Type 0) → Type 0
+  OfEach Q =
+      (library : Region) (position : ℕ) (counts : Counts) (s : Subprogram) (before after : List Var) → length before ≡ counts.vars → p.vars ≡ before ++ (own_vars (resolved_sub (unit_name library position s) counts s) ++ after)
+      → (front back : List TypeRow) → length (standard_types ++ front) ≡ counts.types → more ≡ front ++ (own_types (resolved_sub (unit_name library position s) counts s) ++ back) → Q (resolved_sub (unit_name library position s) counts s)
+
+  each_sub : (Q : Sub → Type 0) → OfEach Q → (library : Region) (position : ℕ) (counts : Counts) (before : List Var) (front : List TypeRow) (units : List Unit) → length before ≡ counts.vars → length (standard_types ++ front) ≡ counts.types
       → p.vars ≡ before ++ flat_map own_vars (resolved_subs library position counts units) → more ≡ front ++ flat_map own_types (resolved_subs library position counts units)
-      → AllByRecursion (Scoped p) (resolved_subs library position counts units)
-  scoped_subs library position counts before front [] len count vars rows_are = tt
-  scoped_subs library position counts before front (unit.Subprogram s ∷ units) len count vars rows_are =
+      → AllByRecursion Q (resolved_subs library position counts units)
+  each_sub Q of_each library position counts before front [] len count vars rows_are = tt
+  each_sub Q of_each library position counts before front (unit.Subprogram s ∷ units) len count vars rows_are =
       let one = resolved_sub (unit_name library position s) counts s in
       let next = declaring library (unit_name library position s) in
       let later = resolved_subs next (position + 1) (counted_sub counts one) units in
       let after = flat_map own_vars later in
       let back = flat_map own_types later in (
-        scoped_sub library position counts s before after len vars front back count rows_are,
-        scoped_subs next (position + 1) (counted_sub counts one) (before ++ own_vars one) (front ++ own_types one) units
+        of_each library position counts s before after len vars front back count rows_are,
+        each_sub Q of_each next (position + 1) (counted_sub counts one) (before ++ own_vars one) (front ++ own_types one) units
             (length-append before (own_vars one) ∙ ap (λ n. n + length (own_vars one)) len)
             (ap length (sym (append_assoc standard_types front (own_types one))) ∙ length-append (standard_types ++ front) (own_types one) ∙ ap (λ n. n + length (own_types one)) count)
             (vars ∙ sym (append_assoc before (own_vars one) after))
             (rows_are ∙ sym (append_assoc front (own_types one) back)),
       )
 
-pub all_scoped : (p : Program) → Visible p → All (Scoped p) p.subs
-all_scoped p is =
+-- what holds of each unit holds of all subprograms of a program
+pub each_of_program : (Q : Program → Sub → Type 0) → ((p : Program) (more : List TypeRow) (types : p.types ≡ standard_types ++ more) → OfEach p more types (Q p)) → (p : Program) → Visible p → All (Q p) p.subs
+each_of_program Q of_each p is =
     let q = resolved.resolved (erased p) in
-    subst (λ q. All (Scoped q) q.subs) (sym is) (All-from_recursion (Scoped q) q.subs (scoped_subs q (flat_map own_types q.subs) refl [] 0 at_start [] [] (erased p) refl refl refl refl))
+    let more = flat_map own_types q.subs in
+    subst (λ q. All (Q q) q.subs) (sym is) (All-from_recursion (Q q) q.subs (each_sub q more refl (Q q) (of_each q more refl) [] 0 at_start [] [] (erased p) refl refl refl refl))
+
+pub all_scoped : (p : Program) → Visible p → All (Scoped p) p.subs
+all_scoped p is = each_of_program Scoped scoped_sub p is

@@ -2,10 +2,10 @@
 use Rattle.std.proofs.Common.{◌≡◌, ◌∙◌, sym, subst, Ok}
 use Rattle.spx_core.specs.declared.expression.CoreExpr.{CoreExpr}
 use Rattle.spx_core.specs.declared.rule.Typing.{Typing}
-use Rattle.spx_core.specs.Judged.{◌>>=◌, expr_step, ordered_type, judged, member_of_range, member_of_type, operation, sign}
-use Rattle.spx_core.specs.HasType.{HasType, number, name, attribute_of, parenthesized, signed, operated, in_type, in_range}
+use Rattle.spx_core.specs.Judged.{◌>>=◌, application, expr_step, ordered_type, judged, mapped, member_of_range, member_of_type, operation, sign}
+use Rattle.spx_core.specs.HasType.{HasType, number, name, attribute_of, applied, parenthesized, signed, operated, in_type, in_range}
 use Rattle.spx_core.proofs.Judgements.{bound, joined, ok_is}
-use Rattle.spx_core.proofs.Callers.Expressions.{Cases, induct, fold-Number, fold-Name, fold-Attribute, fold-Parenthesized, fold-Prefix, fold-Infix, fold-InType, fold-InRange}
+use Rattle.spx_core.proofs.Callers.Expressions.{Cases, induct, fold-Number, fold-Name, fold-Attribute, fold-Applied, fold-Parenthesized, fold-Prefix, fold-Infix, fold-InType, fold-InRange}
 
 abbrev Sound : CoreExpr → Type 0
 Sound e = (t : Typing) → judged e ≡ Ok t → HasType e t
@@ -15,6 +15,10 @@ sound_cases = record {
   number = λ n place t h. subst (HasType _) (ok_is (sym (fold-Number expr_step n place) ∙ h)) (number n place);
   name = λ n t h. name n t (sym (fold-Name expr_step n) ∙ h);
   attribute = λ prefix designator t h. attribute_of prefix designator t (sym (fold-Attribute expr_step prefix designator) ∙ h);
+  applied = λ function place a p t h.
+      let m = bound (application function) _ t (sym (fold-Applied expr_step function place a) ∙ h) in
+      let o = bound (judged a) _ t m.2 in
+      applied function place a m.0 o.0 t m.1 (p o.0 o.1) o.2;
   parenthesized = λ place a p t h. let b = bound (judged a) _ t (sym (fold-Parenthesized expr_step place a) ∙ h) in subst (HasType _) (ok_is b.2) (parenthesized place a b.0 (p b.0 b.1));
   prefix = λ op place a p t h. let b = bound (judged a) _ t (sym (fold-Prefix expr_step op place a) ∙ h) in signed op place a b.0 t (p b.0 b.1) b.2;
   «infix» = λ op place a b p q t h.
@@ -39,6 +43,8 @@ pub complete : (e : CoreExpr) (t : Typing) → HasType e t → judged e ≡ Ok t
 complete _ _ (number n place) = fold-Number expr_step n place
 complete _ _ (name n t h) = fold-Name expr_step n ∙ h
 complete _ _ (attribute_of prefix designator t h) = fold-Attribute expr_step prefix designator ∙ h
+complete _ _ (applied function place e mapping o t is d h) =
+    fold-Applied expr_step function place e ∙ joined (λ mapping. judged e >>= λ o. mapped function.name.name.place mapping o) is ∙ joined (mapped function.name.name.place mapping) (complete e o d) ∙ h
 complete _ _ (parenthesized place e t d) = fold-Parenthesized expr_step place e ∙ joined _ (complete e t d)
 complete _ _ (signed op place e o t d h) = fold-Prefix expr_step op place e ∙ joined (sign op place) (complete e o d) ∙ h
 complete _ _ (operated op place a b l r t d c h) =

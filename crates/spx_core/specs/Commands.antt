@@ -1,27 +1,40 @@
--- What statements do, without lists: statements in a row are a chain, and `elsif` is an `if` in the `else` before it (Ada 95 RM 5.1 to 5.3).
-use Rattle.std.specs.Prelude.{List, [], ◌∷◌, map, Option, Some, None}
+-- What statements do, without lists: statements in a row are a chain, and `elsif` is an `if` in the `else` before it (Ada 95 RM 5.1 to 5.4).
+use Rattle.std.specs.Prelude.{Bool, true, ◌||◌, ◌&&◌, is_none, is_some, List, [], ◌∷◌, ◌++◌, map, Option, Some, None}
 use Rattle.spx_text.specs.declared.place.Place.{Place}
 use Rattle.spx_core.specs.declared.name.Reference.{Reference}
 use Rattle.spx_core.specs.declared.expression.CoreExpr.{CoreExpr}
 use Rattle.spx_core.specs.declared.statement.CoreStmt.{CoreStmt, CoreStmt-F, fold-CoreStmt}
 use Rattle.spx_core.specs.declared.statement.CoreArm.{CoreArm, CoreArm-F, fold-CoreArm}
+use Rattle.spx_core.specs.declared.statement.CoreAlternative.{CoreAlternative, CoreAlternative-F, fold-CoreAlternative}
+use Rattle.spx_core.specs.declared.statement.CoreChoice.{CoreChoice}
+use Rattle.spx_core.specs.declared.function.Span.{Span}
 
-pub data Command : Type 0 where
-  -- nothing
-  Skip : Command
-  -- the target takes the value
-  Set : Reference → CoreExpr → Command
-  -- one after the other
-  Then : Command → Command → Command
-  -- at the word `if` or `elsif`: the first where the condition is true, and else the second
-  Choose : Place → CoreExpr → Command → Command → Command
+mutual
+  pub data Command : Type 0 where
+    -- nothing
+    Skip : Command
+    -- the target takes the value
+    Set : Reference → CoreExpr → Command
+    -- one after the other
+    Then : Command → Command → Command
+    -- at the word `if` or `elsif`: the first where the condition is true, and else the second
+    Choose : Place → CoreExpr → Command → Command → Command
+    -- at the word `case`: the alternative for the value of the selector
+    Select : Place → CoreExpr → Alternatives → Command
+
+  -- no choices: `others`
+  pub data Alternatives : Type 0 where
+    -- for the values of these choices, which are all that are left
+    Last : Option (List CoreChoice) → Command → Alternatives
+    -- for the values of these choices the first, and else the others
+    When : Option (List CoreChoice) → Command → Alternatives → Alternatives
 
 abbrev pub chain : List Command → Command
 chain [] = Skip
 chain (first ∷ rest) = Then first (chain rest)
 
 -- an arm, before what is done where its condition is false
-abbrev pub arm_step : CoreArm-F Command (Command → Command) → Command → Command
+abbrev pub arm_step : CoreArm-F Command (Option (List CoreChoice) × Command) (Command → Command) → Command → Command
 arm_step arm otherwise = Choose arm.place arm.condition (chain arm.body) otherwise
 
 -- each arm before the next
@@ -34,16 +47,68 @@ abbrev pub or_skip : Option (List Command) → Command
 or_skip None = Skip
 or_skip (Some stmts) = chain stmts
 
-abbrev pub stmt_step : CoreStmt-F Command (Command → Command) → Command
+-- an alternative with its choices
+abbrev pub alternative_step : CoreAlternative-F Command (Option (List CoreChoice) × Command) (Command → Command) → Option (List CoreChoice) × Command
+alternative_step alternative = (alternative.choices, chain alternative.body)
+
+-- each alternative before the next
+abbrev pub alternatives_of : Option (List CoreChoice) × Command → List (Option (List CoreChoice) × Command) → Alternatives
+alternatives_of first [] = Last first.0 first.1
+alternatives_of first (second ∷ rest) = When first.0 first.1 (alternatives_of second rest)
+
+abbrev pub select : Place → CoreExpr → List (Option (List CoreChoice) × Command) → Command
+select place selector [] = Skip
+select place selector (first ∷ rest) = Select place selector (alternatives_of first rest)
+
+abbrev pub stmt_step : CoreStmt-F Command (Option (List CoreChoice) × Command) (Command → Command) → Command
 stmt_step (CoreStmt-F.Null place) = Skip
 stmt_step (CoreStmt-F.Assignment target value) = Set target value
 stmt_step (CoreStmt-F.If arms otherwise closing) = arms_before (or_skip otherwise) arms
+stmt_step (CoreStmt-F.Case place selector alternatives closing) = select place selector alternatives
 
 abbrev pub command : CoreStmt → Command
-command = fold-CoreStmt Command (Command → Command) stmt_step arm_step
+command = fold-CoreStmt Command (Option (List CoreChoice) × Command) (Command → Command) stmt_step alternative_step arm_step
 
 abbrev pub arm_before : CoreArm → Command → Command
-arm_before = fold-CoreArm Command (Command → Command) stmt_step arm_step
+arm_before = fold-CoreArm Command (Option (List CoreChoice) × Command) (Command → Command) stmt_step alternative_step arm_step
+
+abbrev pub alternative : CoreAlternative → Option (List CoreChoice) × Command
+alternative = fold-CoreAlternative Command (Option (List CoreChoice) × Command) (Command → Command) stmt_step alternative_step arm_step
 
 abbrev pub commands : List CoreStmt → Command
 commands stmts = chain (map command stmts)
+
+-- ---- choices
+
+-- `others` lists none
+abbrev pub listed : Option (List CoreChoice) → List CoreChoice
+listed None = []
+listed (Some choices) = choices
+
+-- those of all alternatives, in the order of the text
+abbrev pub choices_in : Alternatives → List CoreChoice
+choices_in (Last choices a) = listed choices
+choices_in (When choices a rest) = listed choices ++ choices_in rest
+
+-- the one value of a choice, or those between its bounds
+abbrev pub given_by : Option CoreExpr → Span → Span
+given_by None span = record { first = span.first; last = span.first }
+given_by (Some high) span = span
+
+abbrev pub spans_of : List CoreChoice → List Span
+spans_of choices = map (λ (choice : CoreChoice). given_by choice.high choice.span) choices
+
+-- one of them is for `others`
+abbrev pub has_others : Alternatives → Bool
+has_others (Last choices a) = is_none choices
+has_others (When choices a rest) = is_none choices || has_others rest
+
+-- none but the last is
+abbrev pub has_others_last : Alternatives → Bool
+has_others_last (Last choices a) = true
+has_others_last (When choices a rest) = is_some choices && has_others_last rest
+
+-- what is done in them
+abbrev pub bodies_in : Alternatives → List Command
+bodies_in (Last choices a) = a ∷ []
+bodies_in (When choices a rest) = a ∷ bodies_in rest

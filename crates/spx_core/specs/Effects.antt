@@ -6,7 +6,7 @@ use Rattle.spx_core.specs.declared.entity.VarId.{VarId}
 use Rattle.spx_core.specs.declared.name.CoreName.{CoreName}
 use Rattle.spx_core.specs.declared.expression.CoreExpr.{CoreExpr}
 use Rattle.spx_core.specs.declared.statement.CoreStmt.{CoreStmt}
-use Rattle.spx_core.specs.Commands.{Command, Skip, Set, Then, Choose, commands}
+use Rattle.spx_core.specs.Commands.{Command, Skip, Set, Then, Choose, Select, Alternatives, Last, When, commands}
 use Rattle.spx_core.specs.Uses.{is_same, variable_of}
 use Rattle.spx_core.specs.Reads.{names_read}
 
@@ -36,11 +36,18 @@ pub data Effect : Type 0 where
   -- what the condition reads, the two arms, and the place at which a finding on the condition stands
   choose : List Read → Effect → Effect → Place → Effect
 
-abbrev pub effect : Command → Effect
-effect Skip = nothing
-effect (Set target value) = assign (variable_of target.root.entity) (reads_of value) target.root.name.place
-effect (Then a b) = next (effect a) (effect b)
-effect (Choose place condition a b) = choose (reads_of condition) (effect a) (effect b) place
+abbrev mutual
+  pub effect : Command → Effect
+  effect Skip = nothing
+  effect (Set target value) = assign (variable_of target.root.entity) (reads_of value) target.root.name.place
+  effect (Then a b) = next (effect a) (effect b)
+  effect (Choose place condition a b) = choose (reads_of condition) (effect a) (effect b) place
+  effect (Select place selector alternatives) = effect_among (reads_of selector) place alternatives
+
+  -- the selector chooses each alternative before the next; the last one is both arms of a choice, so that the selector is read also where there is no other
+  pub effect_among : List Read → Place → Alternatives → Effect
+  effect_among tests place (Last choices a) = choose tests (effect a) (effect a) place
+  effect_among tests place (When choices a rest) = choose tests (effect a) (effect_among tests place rest) place
 
 abbrev pub effects : List CoreStmt → Effect
 effects stmts = effect (commands stmts)

@@ -13,6 +13,9 @@ use Rattle.spx_tree.specs.declared.declaration.TypeDef.TheVariants as definition
 use Rattle.spx_tree.specs.declared.statement.Stmt.{Stmt}
 use Rattle.spx_tree.specs.declared.statement.Stmt.TheVariants as stmt
 use Rattle.spx_tree.specs.declared.statement.Arm.{Arm}
+use Rattle.spx_tree.specs.declared.statement.Alternative.{Alternative}
+use Rattle.spx_tree.specs.declared.statement.Choice.{Choice}
+use Rattle.spx_tree.specs.declared.expression.Function.{Function}
 use Rattle.spx_text.specs.declared.place.Place.{Place}
 use Rattle.spx_tree.specs.declared.annotation.Exports.{Exports}
 use Rattle.spx_tree.specs.declared.annotation.Exports.TheVariants as exported
@@ -31,6 +34,9 @@ use Rattle.spx_core.specs.declared.name.Reference.{Reference}
 use Rattle.spx_core.specs.declared.expression.CoreExpr.{CoreExpr, CoreExpr-F, fold-CoreExpr}
 use Rattle.spx_core.specs.declared.statement.CoreStmt.{CoreStmt, CoreStmt-F, fold-CoreStmt}
 use Rattle.spx_core.specs.declared.statement.CoreArm.{CoreArm, CoreArm-F, fold-CoreArm}
+use Rattle.spx_core.specs.declared.statement.CoreAlternative.{CoreAlternative, CoreAlternative-F, fold-CoreAlternative}
+use Rattle.spx_core.specs.declared.statement.CoreChoice.{CoreChoice}
+use Rattle.spx_core.specs.declared.function.CoreFunction.{CoreFunction}
 use Rattle.spx_core.specs.declared.statement.CoreDecl.{CoreDecl}
 use Rattle.spx_core.specs.declared.statement.CoreDecl.TheVariants as core_decl
 use Rattle.spx_core.specs.declared.statement.CoreRange.{CoreRange}
@@ -61,11 +67,15 @@ erased_references references = map erased_reference references
 abbrev pub erased_defining : Defining → Identifier
 erased_defining d = d.name
 
+abbrev pub erased_function : CoreFunction → Function
+erased_function function = record { name = function.name.name; form = function.form }
+
 -- one level, whose parts are erased
 abbrev pub erased_step : CoreExpr-F Expr → Expr
 erased_step (CoreExpr-F.Number value place) = expr.Number value place
 erased_step (CoreExpr-F.Name name) = expr.Name (Simple name.name)
 erased_step (CoreExpr-F.Attribute prefix designator) = expr.Name (Attribute prefix.name designator)
+erased_step (CoreExpr-F.Applied function place operand) = expr.Applied (erased_function function) place operand
 erased_step (CoreExpr-F.Parenthesized place inner) = expr.Parenthesized place inner
 erased_step (CoreExpr-F.Prefix op place operand) = expr.Prefix op place operand
 erased_step (CoreExpr-F.Infix op place left right) = expr.Infix op place left right
@@ -75,19 +85,29 @@ erased_step (CoreExpr-F.InRange op place tested low high) = expr.InRange op plac
 abbrev pub erased_expr : CoreExpr → Expr
 erased_expr = fold-CoreExpr Expr erased_step
 
-abbrev pub erased_arm_step : CoreArm-F Stmt Arm → Arm
+abbrev pub erased_choice : CoreChoice → Choice
+erased_choice choice = record { low = erased_expr choice.low; high = option_map erased_expr choice.high }
+
+abbrev pub erased_alternative_step : CoreAlternative-F Stmt Alternative Arm → Alternative
+erased_alternative_step alternative = record { choices = option_map (map erased_choice) alternative.choices; body = alternative.body }
+
+abbrev pub erased_arm_step : CoreArm-F Stmt Alternative Arm → Arm
 erased_arm_step arm = record { place = arm.place; condition = erased_expr arm.condition; body = arm.body }
 
-abbrev pub erased_stmt_step : CoreStmt-F Stmt Arm → Stmt
+abbrev pub erased_stmt_step : CoreStmt-F Stmt Alternative Arm → Stmt
 erased_stmt_step (CoreStmt-F.Null place) = stmt.Null place
 erased_stmt_step (CoreStmt-F.Assignment target value) = stmt.Assignment (erased_reference target) (erased_expr value)
 erased_stmt_step (CoreStmt-F.If arms otherwise closing) = stmt.If arms otherwise closing
+erased_stmt_step (CoreStmt-F.Case place selector alternatives closing) = stmt.Case place (erased_expr selector) alternatives closing
 
 abbrev pub erased_stmt : CoreStmt → Stmt
-erased_stmt = fold-CoreStmt Stmt Arm erased_stmt_step erased_arm_step
+erased_stmt = fold-CoreStmt Stmt Alternative Arm erased_stmt_step erased_alternative_step erased_arm_step
 
 abbrev pub erased_arm : CoreArm → Arm
-erased_arm = fold-CoreArm Stmt Arm erased_stmt_step erased_arm_step
+erased_arm = fold-CoreArm Stmt Alternative Arm erased_stmt_step erased_alternative_step erased_arm_step
+
+abbrev pub erased_alternative : CoreAlternative → Alternative
+erased_alternative = fold-CoreAlternative Stmt Alternative Arm erased_stmt_step erased_alternative_step erased_arm_step
 
 abbrev pub erased_range : CoreRange → Range
 erased_range range = record { low = erased_expr range.low; high = erased_expr range.high }
@@ -97,7 +117,7 @@ erased_definition (core_definition.Integer range) = definition.Integer (erased_r
 erased_definition (core_definition.Enumeration place literals) = definition.Enumeration place (map erased_defining literals)
 
 abbrev pub erased_decl : CoreDecl → Decl
-erased_decl (core_decl.Variables names type_name) = decl.Variables (map erased_defining names) (erased_reference type_name)
+erased_decl (core_decl.Variables names type_name value) = decl.Variables (map erased_defining names) (erased_reference type_name) (option_map erased_expr value)
 erased_decl (core_decl.Constants names type_name value) = decl.Constants (map erased_defining names) (option_map erased_reference type_name) (erased_expr value)
 erased_decl (core_decl.FullType name definition) = decl.FullType (erased_defining name) (erased_definition definition)
 erased_decl (core_decl.Subtype name parent range) = decl.Subtype (erased_defining name) (erased_reference parent) (option_map erased_range range)

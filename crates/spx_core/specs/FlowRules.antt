@@ -1,12 +1,12 @@
 -- Where the body of a subprogram and the dependency relation that it declares disagree (Bergeretti and Carré, TOPLAS 1985).
-use Rattle.std.specs.Prelude.{◌≡◌, ◌↔◌, Bool, false, ◌||◌, nat_lt, length, IsTrue, All}
+use Rattle.std.specs.Prelude.{◌≡◌, ◌↔◌, Bool, false, ◌||◌, is_some, nat_lt, length, IsTrue, All}
 use Rattle.std.specs.List.{list_any}
 use Rattle.spx_text.specs.declared.place.Place.{Place}
 use Rattle.spx_core.specs.declared.entity.VarId.{VarId}
 use Rattle.spx_core.specs.declared.program.Program.{Program}
 use Rattle.spx_core.specs.declared.subprogram.Sub.{Sub}
 use Rattle.spx_core.specs.Dependency.{exports, imports, derives}
-use Rattle.spx_core.specs.Formals.{is_formal}
+use Rattle.spx_core.specs.Formals.{initial_of, is_formal}
 use Rattle.spx_core.specs.Effects.{Effect, effects, defines}
 use Rattle.spx_core.specs.Flow.{MayFlow}
 use Rattle.spx_core.specs.Marks.{Mu, Occurs, marked}
@@ -31,17 +31,22 @@ mark p = record { 0 = length p.vars }
 abbrev pub Ineffective : Program → Sub → Place → Type 0
 Ineffective p sub place = Occurs (body_effect sub) place × ((y : VarId) → IsTrue (exports y sub) → ¬ MayFlow (marked place (mark p) (body_effect sub)) (mark p) y)
 
--- F4: the variable does not start set, and some way without it leads to a read of it at the place, or to the end, where it is an export
-pub data MayBeUnset (sub : Sub) : Place → VarId → Type 0 where
-  read : {place : Place} {v : VarId} → imports v sub ≡ false → Free (Reaches (body_effect sub) place v) v → MayBeUnset sub place v
-  left : {v : VarId} → IsTrue (exports v sub) → imports v sub ≡ false → Free (Goes (body_effect sub)) v → MayBeUnset sub sub.end v
+-- imports start set, and locals that are declared with a value
+abbrev pub starts_set : Program → Sub → VarId → Bool
+starts_set p sub v = imports v sub || is_some (initial_of v p)
+
+-- F4: the variable does not start set, and some way without it leads to a read of it at the place; or it is an export and no import, and some way without it
+-- leads to the end
+pub data MayBeUnset (p : Program) (sub : Sub) : Place → VarId → Type 0 where
+  read : {place : Place} {v : VarId} → starts_set p sub v ≡ false → Free (Reaches (body_effect sub) place v) v → MayBeUnset p sub place v
+  left : {v : VarId} → IsTrue (exports v sub) → imports v sub ≡ false → Free (Goes (body_effect sub)) v → MayBeUnset p sub sub.end v
 
 -- The body of a subprogram flows as its dependency relation declares, and no variable is read or left before it is set.
 pub record HasNoFinding (p : Program) (sub : Sub) : Type 0 where
   pub none_missing : (x y : VarId) → ¬ Missing sub x y
   pub none_unused : (x y : VarId) → ¬ Unused sub x y
   pub none_ineffective : (place : Place) → ¬ Ineffective p sub place
-  pub none_unset : (place : Place) (v : VarId) → ¬ MayBeUnset sub place v
+  pub none_unset : (place : Place) (v : VarId) → ¬ MayBeUnset p sub place v
 
 -- no subprogram has a flow finding
 abbrev pub HasNoFlowFinding : Program → Type 0

@@ -11,13 +11,16 @@ use Rattle.spx_core.specs.declared.name.Reference.{Reference}
 use Rattle.spx_core.specs.declared.expression.CoreExpr.{CoreExpr}
 use Rattle.spx_core.specs.declared.expression.CoreExpr.TheVariants as expr
 use Rattle.spx_core.specs.declared.rule.ExprType.TheVariants.{Universal}
+use Rattle.spx_core.specs.declared.function.CoreFunction.{CoreFunction}
+use Rattle.spx_core.specs.declared.function.Mapping.{Mapping}
 use Rattle.spx_core.specs.declared.rule.Typing.{Typing}
-use Rattle.spx_core.specs.Judged.{attribute, ordered_type, member_of_range, member_of_type, named_value, operation, sign, typing}
+use Rattle.spx_core.specs.Judged.{application, attribute, mapped, ordered_type, member_of_range, member_of_type, named_value, operation, sign, typing}
 
 pub data HasType : CoreExpr → Typing → Type 0 where
   number : (n : ℤ) (place : Place) → HasType (expr.Number n place) (typing Universal (Some n) place)
   name : (name : CoreName) (t : Typing) → named_value name ≡ Ok t → HasType (expr.Name name) t
   attribute_of : (prefix : CoreName) (designator : Identifier) (t : Typing) → attribute prefix designator ≡ Ok t → HasType (expr.Attribute prefix designator) t
+  applied : (function : CoreFunction) (place : Place) (e : CoreExpr) (mapping : Mapping) (o t : Typing) → application function ≡ Ok mapping → HasType e o → mapped function.name.name.place mapping o ≡ Ok t → HasType (expr.Applied function place e) t
   parenthesized : (place : Place) (e : CoreExpr) (t : Typing) → HasType e t → HasType (expr.Parenthesized place e) (typing t.of t.value place)
   signed : (op : PrefixOp) (place : Place) (e : CoreExpr) (o t : Typing) → HasType e o → sign op place o ≡ Ok t → HasType (expr.Prefix op place e) t
   operated : (op : InfixOp) (place : Place) (a b : CoreExpr) (l r t : Typing) → HasType a l → HasType b r → operation op place l r ≡ Ok t → HasType (expr.Infix op place a b) t

@@ -1,12 +1,17 @@
 -- The static rules on names and expressions: what an expression is, or the first rule that is broken, in the order of the text.
-use Rattle.std.specs.Prelude.{⊤, ℕ, ℤ, Bool, true, false, ◌||◌, ◌&&◌, List, [], ◌∷◌, Option, Some, None, codes, if◌then◌else◌, Result, Ok, Err}
+use Rattle.std.specs.Prelude.{⊤, ℕ, ℤ, Bool, true, false, ◌||◌, ◌&&◌, List, [], ◌∷◌, Option, Some, None, is_some, codes, if◌then◌else◌, Result, Ok, Err}
 use Rattle.std.specs.Str.{str_eq_ignore_ascii_case}
 use Rattle.spx_text.specs.declared.place.Place.{Place}
 use Rattle.spx_tree.specs.declared.expression.Identifier.{Identifier}
 use Rattle.spx_tree.specs.declared.expression.InfixOp.{InfixOp}
 use Rattle.spx_tree.specs.declared.expression.PrefixOp.{PrefixOp}
 use Rattle.spx_tree.specs.declared.expression.MemberOp.{MemberOp}
-use Rattle.spx_core.specs.declared.entity.TheConstants.{BOOLEAN, UNIVERSAL}
+use Rattle.spx_tree.specs.declared.expression.FunctionForm.{FunctionForm}
+use Rattle.spx_tree.specs.declared.expression.FunctionForm.TheVariants as form
+use Rattle.spx_core.specs.declared.entity.TheConstants.{BOOLEAN, INTEGER, UNIVERSAL}
+use Rattle.spx_core.specs.declared.entity.BaseType.{BaseType}
+use Rattle.spx_core.specs.declared.entity.Class.{Class}
+use Rattle.spx_core.specs.declared.entity.Class.TheVariants as class
 use Rattle.spx_core.specs.declared.entity.Subtype.{Subtype}
 use Rattle.spx_core.specs.declared.entity.Object.{Object}
 use Rattle.spx_core.specs.declared.entity.Entity.{Entity}
@@ -15,13 +20,18 @@ use Rattle.spx_core.specs.declared.name.CoreName.{CoreName}
 use Rattle.spx_core.specs.declared.name.Step.{Step}
 use Rattle.spx_core.specs.declared.name.Reference.{Reference}
 use Rattle.spx_core.specs.declared.expression.CoreExpr.{CoreExpr, CoreExpr-F, fold-CoreExpr}
+use Rattle.spx_core.specs.declared.function.CoreFunction.{CoreFunction}
+use Rattle.spx_core.specs.declared.function.Mapping.{Mapping}
+use Rattle.spx_core.specs.declared.function.OperandType.TheVariants.{AnyNumber, ValueOf}
+use Rattle.spx_core.specs.declared.function.Shift.TheVariants as shift
+use Rattle.spx_core.specs.declared.function.Span.{Span}
 use Rattle.spx_core.specs.declared.rule.RuleName.{RuleName}
-use Rattle.spx_core.specs.declared.rule.RuleName.TheVariants.{N1, N3, N10, N12}
+use Rattle.spx_core.specs.declared.rule.RuleName.TheVariants.{N1, N3, N10, N12, N14}
 use Rattle.spx_core.specs.declared.rule.Breach.{Breach}
 use Rattle.spx_core.specs.declared.rule.ExprType.{ExprType}
 use Rattle.spx_core.specs.declared.rule.ExprType.TheVariants.{Universal, Of}
 use Rattle.spx_core.specs.declared.rule.Typing.{Typing}
-use Rattle.spx_core.specs.Types.{both_held, has_numbers, is_boolean, is_held, is_of, left_type, lies_in, member_value, met, operand_fits, position_in, operands_fit, result_of, result_type, right_type, signed_result, three_fit}
+use Rattle.spx_core.specs.Types.{both_held, has_literals, has_numbers, is_boolean, is_numeric, is_taken, lies_in_operand, lies_within, shifted_value, is_held, is_of, left_type, lies_in, member_value, met, operand_fits, position_in, operands_fit, result_of, result_type, right_type, signed_result, span_of, span_of_type, three_fit}
 
 -- ---- judgements
 
@@ -139,10 +149,30 @@ is_attribute designator = is_first designator || str_eq_ignore_ascii_case design
 abbrev pub attribute_of : Subtype → List ℕ → ℤ
 attribute_of subtype designator = if is_first designator then subtype.first else subtype.last
 
+-- the functions of an enumeration type (RM 3.5, 3.5.5): `Pos` gives an `Integer`; the results of the others are values of the whole type
+abbrev pub is_word : List ℕ → List ℕ → Bool
+is_word designator word = str_eq_ignore_ascii_case designator word
+
+abbrev pub attribute_function : BaseType → List ℕ → Option Mapping
+attribute_function base designator =
+    if is_word designator (codes "pos") then Some (record { operand = ValueOf base; shift = shift.Same; bounds = None; result = INTEGER.base })
+    else if is_word designator (codes "val") then Some (record { operand = AnyNumber; shift = shift.Same; bounds = Some (span_of_type (Of base)); result = base })
+    else if is_word designator (codes "succ") then Some (record { operand = ValueOf base; shift = shift.Next; bounds = Some (span_of_type (Of base)); result = base })
+    else if is_word designator (codes "pred") then Some (record { operand = ValueOf base; shift = shift.Previous; bounds = Some (span_of_type (Of base)); result = base })
+    else None
+
+abbrev pub is_function : BaseType → List ℕ → Bool
+is_function base designator = is_some (attribute_function base designator)
+
+-- which attributes there are: ends of a type that has an order, and functions of an enumeration type
+abbrev pub has_attribute : Subtype → List ℕ → Bool
+has_attribute subtype designator = (has_numbers subtype.base.class && is_attribute designator) || (has_literals subtype.base.class && is_function subtype.base designator)
+
 abbrev pub attribute : CoreName → Identifier → Judged Typing
 attribute prefix designator = do
   subtype ← named_type prefix
-  _ ← keeps N3 prefix.name.place (has_numbers subtype.base.class && is_attribute designator.text)
+  _ ← keeps N3 prefix.name.place (has_attribute subtype designator.text)
+  _ ← keeps N14 prefix.name.place (is_attribute designator.text)
   Ok (typing (Of subtype.base) (Some (attribute_of subtype designator.text)) prefix.name.place)
 
 -- a value of the type is needed, which a universal one then must be
@@ -192,11 +222,51 @@ member_of_range op place tested low high = do
   _ ← keeps N12 high.place (lies_in (met (met tested.of low.of) high.of) high.value)
   Ok (typing (Of BOOLEAN.base) (member_value op tested.value low.value high.value) place)
 
+-- ---- functions of a type (Ada 95 RM 3.5, 3.5.5, 4.6, 4.7)
+
+-- what is asked of values of a class: nothing of truth values
+abbrev pub bounds_in : Class → Span → Option Span
+bounds_in class.Integer span = Some span
+bounds_in class.Boolean span = None
+bounds_in class.Enumeration span = Some span
+
+-- a number of any type becomes one of this type
+abbrev pub conversion : Subtype → Mapping
+conversion subtype = record { operand = AnyNumber; shift = shift.Same; bounds = Some (span_of subtype); result = subtype.base }
+
+-- a value of this base type is one of this type
+abbrev pub qualification : Subtype → Mapping
+qualification subtype = record { operand = ValueOf subtype.base; shift = shift.Same; bounds = bounds_in subtype.base.class (span_of subtype); result = subtype.base }
+
+-- the function, if the attribute is one
+abbrev pub function_at : Place → Option Mapping → Judged Mapping
+function_at place (Some mapping) = Ok mapping
+function_at place None = Err (record { rule = N14; place = place })
+
+abbrev pub applied_form : Place → Subtype → FunctionForm → Judged Mapping
+applied_form place subtype form.Simple = keeps N10 place (is_numeric subtype.base.class) >>= λ _. Ok (conversion subtype)
+applied_form place subtype (form.Attribute designator) = keeps N3 place (has_attribute subtype designator.text) >>= λ _. function_at place (attribute_function subtype.base designator.text)
+applied_form place subtype form.Qualified = Ok (qualification subtype)
+
+-- what a function does
+abbrev pub application : CoreFunction → Judged Mapping
+application function = named_type function.name >>= λ subtype. applied_form function.name.name.place subtype function.form
+
+-- what it makes of an operand
+abbrev pub mapped : Place → Mapping → Typing → Judged Typing
+mapped place mapping operand = do
+  _ ← keeps N10 operand.place (is_taken mapping.operand operand.of)
+  _ ← keeps N12 operand.place (lies_in_operand mapping.operand operand.value)
+  _ ← keeps N12 place (is_held operand.value (shifted_value mapping.shift operand.value))
+  _ ← keeps N12 place (lies_within mapping.bounds (shifted_value mapping.shift operand.value))
+  Ok (typing (Of mapping.result) (shifted_value mapping.shift operand.value) place)
+
 -- one level, of whose parts it is known
 abbrev pub expr_step : CoreExpr-F (Judged Typing) → Judged Typing
 expr_step (CoreExpr-F.Number n place) = Ok (typing Universal (Some n) place)
 expr_step (CoreExpr-F.Name name) = named_value name
 expr_step (CoreExpr-F.Attribute prefix designator) = attribute prefix designator
+expr_step (CoreExpr-F.Applied function place operand) = application function >>= λ mapping. operand >>= λ o. mapped function.name.name.place mapping o
 expr_step (CoreExpr-F.Parenthesized place inner) = inner >>= λ e. Ok (typing e.of e.value place)
 expr_step (CoreExpr-F.Prefix op place operand) = operand >>= λ e. sign op place e
 expr_step (CoreExpr-F.Infix op place left right) = left >>= λ l. right >>= λ r. operation op place l r

@@ -17,6 +17,7 @@ pub mod Bodies
 pub mod Types
 pub mod Judged
 pub mod HasType
+pub mod Extents
 pub mod Statements
 pub mod NameBreaches
 pub mod Contents

@@ -1,6 +1,6 @@
 -- What breaks each rule on names and types, and where: one case for each rule and each kind of part (Ada 95 RM 3.5, 4.1, 4.5, 4.9, 5.2, 5.3, 6.3, 8.3).
 -- Nothing here says in which order the parts are looked at.
-use Rattle.std.specs.Prelude.{◌≡◌, ◌⊎◌, ℤ, Bool, ◌&&◌, true, false, int_le, List, ◌++◌, Contains, Option, Some, None}
+use Rattle.std.specs.Prelude.{◌≡◌, ◌⊎◌, ℤ, Bool, ◌&&◌, true, false, int_le, List, ◌∷◌, ◌++◌, Contains, Option, Some, None, Ok}
 use Rattle.std.specs.Str.{str_eq_ignore_ascii_case}
 use Rattle.spx_text.specs.declared.place.Place.{Place}
 use Rattle.spx_tree.specs.declared.expression.Identifier.{Identifier}
@@ -20,8 +20,13 @@ use Rattle.spx_core.specs.declared.name.Reference.{Reference}
 use Rattle.spx_core.specs.declared.name.Step.{Step}
 use Rattle.spx_core.specs.declared.expression.CoreExpr.{CoreExpr}
 use Rattle.spx_core.specs.declared.expression.CoreExpr.TheVariants as expr
+use Rattle.spx_core.specs.declared.function.CoreFunction.{CoreFunction}
+use Rattle.spx_core.specs.declared.function.Mapping.{Mapping}
+use Rattle.spx_core.specs.declared.function.Span.{Span}
+use Rattle.spx_tree.specs.declared.expression.FunctionForm.TheVariants as form
 use Rattle.spx_core.specs.declared.statement.CoreDecl.{CoreDecl}
 use Rattle.spx_core.specs.declared.statement.CoreDecl.TheVariants as decl
+use Rattle.spx_core.specs.declared.statement.CoreChoice.{CoreChoice}
 use Rattle.spx_core.specs.declared.statement.CoreRange.{CoreRange}
 use Rattle.spx_core.specs.declared.statement.CoreTypeDef.TheVariants as definition
 use Rattle.spx_core.specs.declared.dependency.CoreDerivesItem.{CoreDerivesItem}
@@ -30,16 +35,18 @@ use Rattle.spx_core.specs.declared.subprogram.CorePrecondition.{CorePrecondition
 use Rattle.spx_core.specs.declared.subprogram.Sub.{Sub}
 use Rattle.spx_core.specs.declared.program.Program.{Program}
 use Rattle.spx_core.specs.declared.rule.RuleName.{RuleName}
-use Rattle.spx_core.specs.declared.rule.RuleName.TheVariants.{N1, N2, N3, N5, N10, N11, N12, N13}
+use Rattle.spx_core.specs.declared.rule.RuleName.TheVariants.{N1, N2, N3, N5, N10, N11, N12, N13, N14, N17}
 use Rattle.spx_core.specs.declared.rule.ExprType.{ExprType}
 use Rattle.spx_core.specs.declared.rule.ExprType.TheVariants.{Of}
 use Rattle.spx_core.specs.declared.rule.Typing.{Typing}
-use Rattle.spx_core.specs.Commands.{Command, Set, Then, Choose, commands}
+use Rattle.spx_core.specs.Commands.{Command, Set, Then, Choose, Select, Alternatives, bodies_in, choices_in, commands, has_others, has_others_last, spans_of}
 use Rattle.spx_core.specs.Dependency.{relation}
+use Rattle.spx_core.specs.Extents.{extent}
 use Rattle.spx_core.specs.HasType.{HasType}
-use Rattle.spx_core.specs.Judged.{is_attribute}
+use Rattle.spx_core.specs.Judged.{application, attribute_function, has_attribute, is_function}
 use Rattle.spx_core.specs.Resolved.{formal_names, local_names, params_of}
-use Rattle.spx_core.specs.Types.{both_held, has_numbers, is_between, is_boolean, is_held, is_number, is_of, left_type, lies_in, met, operand_fits, operands_fit, result_of, result_type, right_type, signed_result, three_fit}
+use Rattle.spx_core.specs.Types.{both_held, has_numbers, is_between, is_boolean, is_chosen, is_held, is_number, is_numeric, is_of, is_ordered, is_same_type, is_taken, left_type, lies_in, lies_in_operand, lies_within, met, operand_fits, operands_fit, result_of, result_type, right_type, shifted_value, signed_result, three_fit}
+use Rattle.spx_core.specs.Statements.{judged_heads}
 
 -- ---- names
 
@@ -85,9 +92,23 @@ pub data BreaksExpr : CoreExpr → RuleName → Place → Type 0 where
   name : (name : CoreName) (rule : RuleName) (place : Place) → BreaksName IsValue name rule place → BreaksExpr (expr.Name name) rule place
   -- a type that has an order is needed before the apostrophe, and `First` or `Last` after it
   prefix : (prefix : CoreName) (designator : Identifier) (rule : RuleName) (place : Place) → BreaksName IsType prefix rule place → BreaksExpr (expr.Attribute prefix designator) rule place
-  no_attribute : (prefix : CoreName) (designator : Identifier) → is_attribute designator.text ≡ false → BreaksExpr (expr.Attribute prefix designator) N3 prefix.name.place
-  no_attribute_of_type : (prefix : CoreName) (designator : Identifier) (subtype : Subtype) → prefix.entity ≡ Some (entity.TypeName subtype) → has_numbers subtype.base.class ≡ false → BreaksExpr (expr.Attribute prefix designator) N3 prefix.name.place
+  no_attribute : (prefix : CoreName) (designator : Identifier) (subtype : Subtype) → prefix.entity ≡ Some (entity.TypeName subtype) → has_attribute subtype designator.text ≡ false → BreaksExpr (expr.Attribute prefix designator) N3 prefix.name.place
+  -- an attribute that is a function lacks its argument
+  no_argument : (prefix : CoreName) (designator : Identifier) (subtype : Subtype) → prefix.entity ≡ Some (entity.TypeName subtype) → is_function subtype.base designator.text ≡ true → BreaksExpr (expr.Attribute prefix designator) N14 prefix.name.place
+  -- a type is needed before parentheses: for a conversion an integer type, and else one that has the attribute, which is a function
+  function : (f : CoreFunction) (at : Place) (a : CoreExpr) (rule : RuleName) (place : Place) → BreaksName IsType f.name rule place → BreaksExpr (expr.Applied f at a) rule place
+  no_conversion : (f : CoreFunction) (at : Place) (a : CoreExpr) (subtype : Subtype) → f.name.entity ≡ Some (entity.TypeName subtype) → f.form ≡ form.Simple → is_numeric subtype.base.class ≡ false → BreaksExpr (expr.Applied f at a) N10 f.name.name.place
+  no_function : (f : CoreFunction) (at : Place) (a : CoreExpr) (subtype : Subtype) (designator : Identifier) → f.name.entity ≡ Some (entity.TypeName subtype) → f.form ≡ form.Attribute designator → has_attribute subtype designator.text ≡ false
+      → BreaksExpr (expr.Applied f at a) N3 f.name.name.place
+  wrong_arguments : (f : CoreFunction) (at : Place) (a : CoreExpr) (subtype : Subtype) (designator : Identifier) → f.name.entity ≡ Some (entity.TypeName subtype) → f.form ≡ form.Attribute designator → has_attribute subtype designator.text ≡ true
+      → attribute_function subtype.base designator.text ≡ None → BreaksExpr (expr.Applied f at a) N14 f.name.name.place
+  -- the operand is of another type, or universal and outside that type; or the static result lies outside its bounds
+  no_such_operand : (f : CoreFunction) (at : Place) (a : CoreExpr) (mapping : Mapping) (o : Typing) → application f ≡ Ok mapping → HasType a o → is_taken mapping.operand o.of ≡ false → BreaksExpr (expr.Applied f at a) N10 o.place
+  operand_out_of_type : (f : CoreFunction) (at : Place) (a : CoreExpr) (mapping : Mapping) (o : Typing) → application f ≡ Ok mapping → HasType a o → lies_in_operand mapping.operand o.value ≡ false → BreaksExpr (expr.Applied f at a) N12 o.place
+  mapped_out_of_bounds : (f : CoreFunction) (at : Place) (a : CoreExpr) (mapping : Mapping) (o : Typing) → application f ≡ Ok mapping → HasType a o
+      → (is_held o.value (shifted_value mapping.shift o.value) && lies_within mapping.bounds (shifted_value mapping.shift o.value)) ≡ false → BreaksExpr (expr.Applied f at a) N12 f.name.name.place
   -- a part of it breaks a rule
+  argument : (f : CoreFunction) (at : Place) (a : CoreExpr) (rule : RuleName) (place : Place) → BreaksExpr a rule place → BreaksExpr (expr.Applied f at a) rule place
   inner : (at : Place) (a : CoreExpr) (rule : RuleName) (place : Place) → BreaksExpr a rule place → BreaksExpr (expr.Parenthesized at a) rule place
   operand : (op : PrefixOp) (at : Place) (a : CoreExpr) (rule : RuleName) (place : Place) → BreaksExpr a rule place → BreaksExpr (expr.Prefix op at a) rule place
   left : (op : InfixOp) (at : Place) (a b : CoreExpr) (rule : RuleName) (place : Place) → BreaksExpr a rule place → BreaksExpr (expr.Infix op at a b) rule place
@@ -124,6 +145,28 @@ pub data BreaksCondition (e : CoreExpr) : RuleName → Place → Type 0 where
 
 -- ---- statements
 
+-- an expression where a static value of a selector's type is needed
+pub data BreaksChoice (of : ExprType) (e : CoreExpr) : RuleName → Place → Type 0 where
+  itself : (rule : RuleName) (place : Place) → BreaksExpr e rule place → BreaksChoice of e rule place
+  of_another_type : (t : Typing) → HasType e t → is_same_type of t.of ≡ false → BreaksChoice of e N10 t.place
+  not_static : (t : Typing) → HasType e t → t.value ≡ None → BreaksChoice of e N11 t.place
+  out_of_type : (t : Typing) → HasType e t → lies_in of t.value ≡ false → BreaksChoice of e N12 t.place
+
+-- one of the bounds of a choice
+abbrev pub IsBoundOf : CoreChoice → CoreExpr → Type 0
+IsBoundOf choice e = (e ≡ choice.low) ⊎ (choice.high ≡ Some e)
+
+-- the value is in two of these
+abbrev pub IsTwiceIn : List Span → ℤ → Type 0
+IsTwiceIn spans n = (front : List Span) × (back : List Span) × (s : Span) × (spans ≡ front ++ s ∷ back) × (is_between s.first s.last n ≡ true) × (is_chosen n back ≡ true)
+
+-- N17, of a selector and choices that break no rule: a value that the selector may have is missing, or a value is given twice
+pub data HasBadChoices (selector : CoreExpr) (alternatives : Alternatives) : Type 0 where
+  others_not_last : has_others_last alternatives ≡ false → HasBadChoices selector alternatives
+  missing : (n : ℤ) → judged_heads selector alternatives ≡ Ok tt → has_others alternatives ≡ false → is_between (extent selector).first (extent selector).last n ≡ true
+      → is_chosen n (spans_of (choices_in alternatives)) ≡ false → HasBadChoices selector alternatives
+  twice : (n : ℤ) → judged_heads selector alternatives ≡ Ok tt → IsTwiceIn (spans_of (choices_in alternatives)) n → HasBadChoices selector alternatives
+
 pub data BreaksCommand : Command → RuleName → Place → Type 0 where
   target : (target : Reference) (value : CoreExpr) (rule : RuleName) (place : Place) → BreaksReference IsTarget target rule place → BreaksCommand (Set target value) rule place
   value : (target : Reference) (value : CoreExpr) (rule : RuleName) (place : Place) → BreaksExpr value rule place → BreaksCommand (Set target value) rule place
@@ -138,6 +181,13 @@ pub data BreaksCommand : Command → RuleName → Place → Type 0 where
   condition : (at : Place) (c : CoreExpr) (a b : Command) (rule : RuleName) (place : Place) → BreaksCondition c rule place → BreaksCommand (Choose at c a b) rule place
   arm : (at : Place) (c : CoreExpr) (a b : Command) (rule : RuleName) (place : Place) → BreaksCommand a rule place → BreaksCommand (Choose at c a b) rule place
   otherwise : (at : Place) (c : CoreExpr) (a b : Command) (rule : RuleName) (place : Place) → BreaksCommand b rule place → BreaksCommand (Choose at c a b) rule place
+  -- a selector needs a type that has an order
+  bad_choices : (at : Place) (selector : CoreExpr) (alternatives : Alternatives) → HasBadChoices selector alternatives → BreaksCommand (Select at selector alternatives) N17 at
+  selector : (at : Place) (selector : CoreExpr) (alternatives : Alternatives) (rule : RuleName) (place : Place) → BreaksExpr selector rule place → BreaksCommand (Select at selector alternatives) rule place
+  no_order : (at : Place) (selector : CoreExpr) (alternatives : Alternatives) (t : Typing) → HasType selector t → is_ordered t.of ≡ false → BreaksCommand (Select at selector alternatives) N10 t.place
+  choice : (at : Place) (selector : CoreExpr) (alternatives : Alternatives) (choice : CoreChoice) (e : CoreExpr) (t : Typing) (rule : RuleName) (place : Place) → Contains (choices_in alternatives) choice → IsBoundOf choice e → HasType selector t
+      → BreaksChoice t.of e rule place → BreaksCommand (Select at selector alternatives) rule place
+  alternative : (at : Place) (selector : CoreExpr) (alternatives : Alternatives) (a : Command) (rule : RuleName) (place : Place) → Contains (bodies_in alternatives) a → BreaksCommand a rule place → BreaksCommand (Select at selector alternatives) rule place
 
 -- ---- declarations
 
@@ -164,7 +214,12 @@ pub data BreaksRange (base : Option BaseType) (first last : ℤ) (range : CoreRa
       → BreaksRange base first last range N13 l.place
 
 pub data BreaksDecl : CoreDecl → RuleName → Place → Type 0 where
-  type_name : (names : List Defining) (type_name : Reference) (rule : RuleName) (place : Place) → BreaksReference IsType type_name rule place → BreaksDecl (decl.Variables names type_name) rule place
+  type_name : (names : List Defining) (type_name : Reference) (value : Option CoreExpr) (rule : RuleName) (place : Place) → BreaksReference IsType type_name rule place → BreaksDecl (decl.Variables names type_name value) rule place
+  -- an initial value is a static one of the type
+  initial : (names : List Defining) (type_name : Reference) (value : CoreExpr) (subtype : Subtype) (rule : RuleName) (place : Place) → type_name.root.entity ≡ Some (entity.TypeName subtype)
+      → BreaksStatic (is_of subtype.base) value rule place → BreaksDecl (decl.Variables names type_name (Some value)) rule place
+  initial_out_of_range : (names : List Defining) (type_name : Reference) (value : CoreExpr) (subtype : Subtype) (t : Typing) (n : ℤ) → type_name.root.entity ≡ Some (entity.TypeName subtype) → HasType value t → t.value ≡ Some n
+      → is_between subtype.first subtype.last n ≡ false → BreaksDecl (decl.Variables names type_name (Some value)) N12 t.place
   -- the value of a named number is a static number
   named_number : (names : List Defining) (value : CoreExpr) (rule : RuleName) (place : Place) → BreaksStatic is_number value rule place → BreaksDecl (decl.Constants names None value) rule place
   -- that of a constant is a static one of its type

@@ -16,7 +16,7 @@ use Rattle.spx_core.specs.declared.subprogram.Sub.{Sub}
 use Rattle.spx_core.specs.declared.program.Program.{Program}
 use Rattle.spx_core.specs.declared.rule.RuleName.TheVariants.{U2, U7, U8, U11}
 use Rattle.spx_core.specs.declared.rule.Breach.{Breach}
-use Rattle.spx_core.specs.Commands.{Command, Skip, Set, Then, Choose, commands}
+use Rattle.spx_core.specs.Commands.{Command, Skip, Set, Then, Choose, Select, Alternatives, Last, When, commands}
 use Rattle.spx_core.specs.Reads.{names_read}
 use Rattle.spx_core.specs.Uses.{mentions, variable_of}
 use Rattle.spx_core.specs.Dependency.{relation, exports, imports}
@@ -150,11 +150,17 @@ abbrev pub may_be_assigned : Option Mode → Bool
 may_be_assigned (Some In) = false
 may_be_assigned _ = true
 
-abbrev pub obeyed_command : Command → Judged ⊤
-obeyed_command Skip = Ok tt
-obeyed_command (Set target value) = keeps U2 target.root.name.place (may_be_assigned (mode_named target.root) && not (is_constant target.root.entity))
-obeyed_command (Then a b) = obeyed_command a >>= λ _. obeyed_command b
-obeyed_command (Choose place condition a b) = obeyed_command a >>= λ _. obeyed_command b
+abbrev mutual
+  pub obeyed_command : Command → Judged ⊤
+  obeyed_command Skip = Ok tt
+  obeyed_command (Set target value) = keeps U2 target.root.name.place (may_be_assigned (mode_named target.root) && not (is_constant target.root.entity))
+  obeyed_command (Then a b) = obeyed_command a >>= λ _. obeyed_command b
+  obeyed_command (Choose place condition a b) = obeyed_command a >>= λ _. obeyed_command b
+  obeyed_command (Select place selector alternatives) = obeyed_alternatives alternatives
+
+  pub obeyed_alternatives : Alternatives → Judged ⊤
+  obeyed_alternatives (Last choices a) = obeyed_command a
+  obeyed_alternatives (When choices a rest) = obeyed_command a >>= λ _. obeyed_alternatives rest
 
 -- ---- programs
 

@@ -7,6 +7,7 @@ abbrev pub place_in : CoreExpr-F CoreExpr → Place
 place_in (CoreExpr-F.Number n place) = place
 place_in (CoreExpr-F.Name name) = name.name.place
 place_in (CoreExpr-F.Attribute prefix designator) = prefix.name.place
+place_in (CoreExpr-F.Applied function place operand) = function.name.name.place
 place_in (CoreExpr-F.Parenthesized place inner) = place
 place_in (CoreExpr-F.Prefix op place operand) = place
 place_in (CoreExpr-F.Infix op place left right) = place

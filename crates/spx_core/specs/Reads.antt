@@ -8,6 +8,7 @@ abbrev pub names_step : CoreExpr-F (List CoreName) → List CoreName
 names_step (CoreExpr-F.Number n place) = []
 names_step (CoreExpr-F.Name name) = name ∷ []
 names_step (CoreExpr-F.Attribute prefix designator) = []
+names_step (CoreExpr-F.Applied function place operand) = operand
 names_step (CoreExpr-F.Parenthesized place inner) = inner
 names_step (CoreExpr-F.Prefix op place operand) = operand
 names_step (CoreExpr-F.Infix op place left right) = left ++ right

@@ -13,6 +13,9 @@ use Rattle.spx_tree.specs.declared.declaration.TypeDef.{TypeDef}
 use Rattle.spx_tree.specs.declared.declaration.TypeDef.TheVariants as written_definition
 use Rattle.spx_tree.specs.declared.statement.Stmt.{Stmt, Stmt-F, fold-Stmt}
 use Rattle.spx_tree.specs.declared.statement.Arm.{Arm, Arm-F, fold-Arm}
+use Rattle.spx_tree.specs.declared.statement.Alternative.{Alternative, Alternative-F, fold-Alternative}
+use Rattle.spx_tree.specs.declared.statement.Choice.{Choice}
+use Rattle.spx_tree.specs.declared.expression.Function.{Function}
 use Rattle.spx_text.specs.declared.place.Place.{Place}
 use Rattle.spx_tree.specs.declared.annotation.Exports.{Exports}
 use Rattle.spx_tree.specs.declared.annotation.Exports.TheVariants as exported
@@ -38,7 +41,7 @@ use Rattle.spx_core.specs.declared.entity.Subtype.{Subtype}
 use Rattle.spx_core.specs.declared.entity.Mode.{Mode}
 use Rattle.spx_core.specs.declared.entity.Mode.TheVariants as mode
 use Rattle.spx_core.specs.declared.entity.VarKind.{VarKind}
-use Rattle.spx_core.specs.declared.entity.VarKind.TheVariants.{Formal, Local}
+use Rattle.spx_core.specs.declared.entity.VarKind.TheVariants.{Formal, Local, Initialized}
 use Rattle.spx_core.specs.declared.entity.Object.{Object}
 use Rattle.spx_core.specs.declared.entity.Entity.{Entity}
 use Rattle.spx_core.specs.declared.entity.Entity.TheVariants as entity
@@ -50,6 +53,10 @@ use Rattle.spx_core.specs.declared.expression.CoreExpr.{CoreExpr}
 use Rattle.spx_core.specs.declared.expression.CoreExpr.TheVariants as expr
 use Rattle.spx_core.specs.declared.statement.CoreStmt.{CoreStmt}
 use Rattle.spx_core.specs.declared.statement.CoreArm.{CoreArm}
+use Rattle.spx_core.specs.declared.statement.CoreAlternative.{CoreAlternative}
+use Rattle.spx_core.specs.declared.statement.CoreChoice.{CoreChoice}
+use Rattle.spx_core.specs.declared.function.CoreFunction.{CoreFunction}
+use Rattle.spx_core.specs.declared.function.Span.{Span}
 use Rattle.spx_core.specs.declared.statement.CoreStmt.TheVariants as stmt
 use Rattle.spx_core.specs.declared.statement.CoreDecl.{CoreDecl}
 use Rattle.spx_core.specs.declared.statement.CoreDecl.TheVariants as decl
@@ -86,10 +93,14 @@ abbrev pub resolved_value : Regions → Name → CoreExpr
 resolved_value regions (Simple name) = expr.Name (resolved_name regions name)
 resolved_value regions (Attribute prefix designator) = expr.Attribute (resolved_name regions prefix) designator
 
+abbrev pub resolved_function : Regions → Function → CoreFunction
+resolved_function regions function = record { name = resolved_name regions function.name; form = function.form }
+
 -- one level, whose parts are resolved
 abbrev pub expr_step : Regions → Expr-F CoreExpr → CoreExpr
 expr_step regions (Expr-F.Number value place) = expr.Number value place
 expr_step regions (Expr-F.Name name) = resolved_value regions name
+expr_step regions (Expr-F.Applied function place operand) = expr.Applied (resolved_function regions function) place operand
 expr_step regions (Expr-F.Parenthesized place inner) = expr.Parenthesized place inner
 expr_step regions (Expr-F.Prefix op place operand) = expr.Prefix op place operand
 expr_step regions (Expr-F.Infix op place left right) = expr.Infix op place left right
@@ -102,22 +113,58 @@ resolved_expr regions = fold-Expr CoreExpr (expr_step regions)
 abbrev pub resolved_range : Regions → Range → CoreRange
 resolved_range regions range = record { low = resolved_expr regions range.low; high = resolved_expr regions range.high }
 
+-- ---- static values (Ada 95 RM 4.9)
+
+-- the value of an expression that breaks no rule, if it is static
+abbrev pub value_in : Judged Typing → Option ℤ
+value_in (Ok t) = t.value
+value_in (Err breach) = None
+
+abbrev pub static_value : CoreExpr → Option ℤ
+static_value e = value_in (judged e)
+
+-- what is not static breaks a rule, and counts as 0
+abbrev pub or_zero : Option ℤ → ℤ
+or_zero (Some n) = n
+or_zero None = pos 0
+
+abbrev pub value_or_zero : CoreExpr → ℤ
+value_or_zero e = or_zero (static_value e)
+
 -- ---- statements and annotations
 
+-- the values of a choice
+abbrev pub chosen_by : CoreExpr → Option CoreExpr → Span
+chosen_by low None = record { first = value_or_zero low; last = value_or_zero low }
+chosen_by low (Some high) = record { first = value_or_zero low; last = value_or_zero high }
+
+abbrev pub choice_of : CoreExpr → Option CoreExpr → CoreChoice
+choice_of low high = record { low = low; high = high; span = chosen_by low high }
+
+abbrev pub resolved_choice : Regions → Choice → CoreChoice
+resolved_choice regions choice = choice_of (resolved_expr regions choice.low) (option_map (resolved_expr regions) choice.high)
+
 -- one level, whose parts are resolved
-abbrev pub arm_step : Regions → Arm-F CoreStmt CoreArm → CoreArm
+abbrev pub alternative_step : Regions → Alternative-F CoreStmt CoreAlternative CoreArm → CoreAlternative
+alternative_step regions alternative = record { choices = option_map (map (resolved_choice regions)) alternative.choices; body = alternative.body }
+
+abbrev pub arm_step : Regions → Arm-F CoreStmt CoreAlternative CoreArm → CoreArm
 arm_step regions arm = record { place = arm.place; condition = resolved_expr regions arm.condition; body = arm.body }
 
-abbrev pub stmt_step : Regions → Stmt-F CoreStmt CoreArm → CoreStmt
+abbrev pub stmt_step : Regions → Stmt-F CoreStmt CoreAlternative CoreArm → CoreStmt
 stmt_step regions (Stmt-F.Null place) = stmt.Null place
 stmt_step regions (Stmt-F.Assignment target value) = stmt.Assignment (resolved_reference regions target) (resolved_expr regions value)
 stmt_step regions (Stmt-F.If arms otherwise closing) = stmt.If arms otherwise closing
+stmt_step regions (Stmt-F.Case place selector alternatives closing) = stmt.Case place (resolved_expr regions selector) alternatives closing
 
 abbrev pub resolved_stmt : Regions → Stmt → CoreStmt
-resolved_stmt regions = fold-Stmt CoreStmt CoreArm (stmt_step regions) (arm_step regions)
+resolved_stmt regions = fold-Stmt CoreStmt CoreAlternative CoreArm (stmt_step regions) (alternative_step regions) (arm_step regions)
 
 abbrev pub resolved_arm : Regions → Arm → CoreArm
-resolved_arm regions = fold-Arm CoreStmt CoreArm (stmt_step regions) (arm_step regions)
+resolved_arm regions = fold-Arm CoreStmt CoreAlternative CoreArm (stmt_step regions) (alternative_step regions) (arm_step regions)
+
+abbrev pub resolved_alternative : Regions → Alternative → CoreAlternative
+resolved_alternative regions = fold-Alternative CoreStmt CoreAlternative CoreArm (stmt_step regions) (alternative_step regions) (arm_step regions)
 
 -- the names that are exported; at `null` there are none
 abbrev pub exported_names : Exports → List Name
@@ -184,14 +231,6 @@ defining_all region meaning position (name ∷ names) =
 
 -- ---- declared types and values (Ada 95 RM 3.2.2, 3.3, 3.5)
 
--- the value of an expression that breaks no rule, if it is static
-abbrev pub value_in : Judged Typing → Option ℤ
-value_in (Ok t) = t.value
-value_in (Err breach) = None
-
-abbrev pub static_value : CoreExpr → Option ℤ
-static_value e = value_in (judged e)
-
 -- the type at this position
 abbrev pub id_at : ℕ → TypeId
 id_at position = record { 0 = position }
@@ -229,11 +268,6 @@ abbrev pub narrowed : ℕ → Subtype → Option CoreRange → Subtype
 narrowed position parent None = record { id = id_at position; base = parent.base; first = parent.first; last = parent.last }
 narrowed position parent (Some range) = bounded position parent.base (static_value range.low) (static_value range.high)
 
--- what is not static breaks a rule, and counts as 0
-abbrev pub or_zero : Option ℤ → ℤ
-or_zero (Some n) = n
-or_zero None = pos 0
-
 -- what constants with this type name denote, if there is one
 abbrev pub constant_of : Option Reference → Option ℤ → Entity
 constant_of None value = entity.NamedNumber (or_zero value)
@@ -254,14 +288,14 @@ declared_by_definition (definition.Integer range) = []
 declared_by_definition (definition.Enumeration place literals) = literals
 
 abbrev pub declared_by : CoreDecl → List Defining
-declared_by (decl.Variables names type_name) = names
+declared_by (decl.Variables names type_name value) = names
 declared_by (decl.Constants names type_name value) = names
 declared_by (decl.FullType name definition) = name ∷ declared_by_definition definition
 declared_by (decl.Subtype name parent range) = name ∷ []
 
 -- those of them that are variables
 abbrev pub variables_by : CoreDecl → List Defining
-variables_by (decl.Variables names type_name) = names
+variables_by (decl.Variables names type_name value) = names
 variables_by _ = []
 
 -- the row of the table of types that a name of a type has
@@ -286,9 +320,14 @@ abbrev pub param_of : Region → ℕ → Param → Reference → CoreParam
 param_of region position param type_name =
     record { names = defining_all region (meaning.Variables (object_of (Formal (mode_of param.mode)) type_name)) position param.names; mode = param.mode; type_name = type_name }
 
+-- a local, with its initial value, if there is one
+abbrev pub local_kind : Option CoreExpr → VarKind
+local_kind None = Local
+local_kind (Some value) = Initialized (value_or_zero value)
+
 -- variables with this type name
-abbrev pub variables_of : Region → ℕ → List Identifier → Reference → CoreDecl
-variables_of region position names type_name = decl.Variables (defining_all region (meaning.Variables (object_of Local type_name)) position names) type_name
+abbrev pub variables_of : Region → ℕ → List Identifier → Reference → Option CoreExpr → CoreDecl
+variables_of region position names type_name value = decl.Variables (defining_all region (meaning.Variables (object_of (local_kind value) type_name)) position names) type_name value
 
 -- constants of this value
 abbrev pub constants_of : Region → List Identifier → Option Reference → CoreExpr → CoreDecl
@@ -334,7 +373,8 @@ module _ (outer : Regions) where
   resolved_type region before name (written_definition.Enumeration place literals) = enumeration_decl region before.types name place literals
 
   abbrev pub resolved_decl : Region → Counts → Decl → CoreDecl
-  resolved_decl region before (written_decl.Variables names type_name) = variables_of region before.vars names (resolved_reference (around_names region names) type_name)
+  resolved_decl region before (written_decl.Variables names type_name value) =
+      variables_of region before.vars names (resolved_reference (around_names region names) type_name) (option_map (resolved_expr (around_names region names)) value)
   resolved_decl region before (written_decl.Constants names type_name value) =
       constants_of region names (option_map (resolved_reference (around_names region names)) type_name) (resolved_expr (around_names region names) value)
   resolved_decl region before (written_decl.FullType name definition) = resolved_type region before name definition

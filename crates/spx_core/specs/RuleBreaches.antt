@@ -14,7 +14,7 @@ use Rattle.spx_core.specs.declared.subprogram.Sub.{Sub}
 use Rattle.spx_core.specs.declared.program.Program.{Program}
 use Rattle.spx_core.specs.declared.rule.RuleName.{RuleName}
 use Rattle.spx_core.specs.declared.rule.RuleName.TheVariants.{U2, U7, U8, U11}
-use Rattle.spx_core.specs.Commands.{Command, Skip, Set, Then, Choose, commands}
+use Rattle.spx_core.specs.Commands.{Command, Skip, Set, Then, Choose, Select, Alternatives, Last, When, commands}
 use Rattle.spx_core.specs.Reads.{names_read}
 use Rattle.spx_core.specs.Uses.{variable_of}
 use Rattle.spx_core.specs.Dependency.{exports, imports, relation, variables}
@@ -60,11 +60,17 @@ Disagrees p sub v = (mode : Mode) × (mode_of v p ≡ Some mode) × (agrees mode
 -- ---- U2
 
 -- one of the statements assigns to this target
-abbrev pub Assigns : Command → Reference → Type 0
-Assigns Skip target = ⊥
-Assigns (Set other value) target = other ≡ target
-Assigns (Then a b) target = Assigns a target ⊎ Assigns b target
-Assigns (Choose place condition a b) target = Assigns a target ⊎ Assigns b target
+abbrev mutual
+  pub Assigns : Command → Reference → Type 0
+  Assigns Skip target = ⊥
+  Assigns (Set other value) target = other ≡ target
+  Assigns (Then a b) target = Assigns a target ⊎ Assigns b target
+  Assigns (Choose place condition a b) target = Assigns a target ⊎ Assigns b target
+  Assigns (Select place selector alternatives) target = OneAssigns alternatives target
+
+  pub OneAssigns : Alternatives → Reference → Type 0
+  OneAssigns (Last choices a) target = Assigns a target
+  OneAssigns (When choices a rest) target = Assigns a target ⊎ OneAssigns rest target
 
 -- ---- subprograms
 

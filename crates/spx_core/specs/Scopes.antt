@@ -1,10 +1,10 @@
 -- Where the variables of a subprogram are seen: the names of its body denote its formals and locals, those of its relation its formals, each
 -- with the facts that are declared of it.
-use Rattle.std.specs.Prelude.{◌≡◌, ⊤, true, false, ◌||◌, ◌==◌, All, Option, Some, option_and_then, option_map, slice_get}
+use Rattle.std.specs.Prelude.{◌≡◌, ⊤, ℤ, true, false, ◌||◌, ◌==◌, All, Option, Some, option_and_then, option_map, slice_get}
 use Rattle.std.specs.List.{IsDistinct}
 use Rattle.spx_core.specs.declared.entity.VarId.{VarId}
 use Rattle.spx_core.specs.declared.entity.VarKind.{VarKind}
-use Rattle.spx_core.specs.declared.entity.VarKind.TheVariants.{Formal, Local}
+use Rattle.spx_core.specs.declared.entity.VarKind.TheVariants.{Formal, Local, Initialized}
 use Rattle.spx_core.specs.declared.entity.Mode.{Mode}
 use Rattle.spx_core.specs.declared.entity.Object.{Object}
 use Rattle.spx_core.specs.declared.entity.Entity.TheVariants as entity
@@ -16,13 +16,14 @@ use Rattle.spx_core.specs.declared.program.TypeRow.{TypeRow}
 use Rattle.spx_core.specs.declared.program.Var.{Var}
 use Rattle.spx_core.specs.declared.program.Program.{Program}
 use Rattle.spx_core.specs.declared.subprogram.Sub.{Sub}
-use Rattle.spx_core.specs.Commands.{Command, Skip, Set, Then, Choose, commands}
+use Rattle.spx_core.specs.Commands.{Command, Skip, Set, Then, Choose, Select, Alternatives, Last, When, commands}
 use Rattle.spx_core.specs.Reads.{names_read}
 use Rattle.spx_core.specs.Uses.{denotes}
 use Rattle.spx_core.specs.Dependency.{exports, imports, relation}
 use Rattle.spx_core.specs.Formals.{is_formal, is_local, mode_of}
 use Rattle.spx_core.specs.Effects.{defines, effects, reads}
 use Rattle.spx_core.specs.Obeyed.{mode_named}
+use Rattle.spx_core.specs.Types.{is_between}
 
 -- what a variable is declared as
 abbrev pub kind_of : Program → VarId → Option VarKind
@@ -36,11 +37,23 @@ abbrev pub HaveTheirModes : Program → CoreDerivesItem → Type 0
 HaveTheirModes p item = All (HasItsMode p) item.exports × All (HasItsMode p) item.imports
 
 -- each target has the mode with which its variable is declared
-abbrev pub TargetsHaveTheirModes : Program → Command → Type 0
-TargetsHaveTheirModes p Skip = ⊤
-TargetsHaveTheirModes p (Set target value) = HasItsMode p target
-TargetsHaveTheirModes p (Then a b) = TargetsHaveTheirModes p a × TargetsHaveTheirModes p b
-TargetsHaveTheirModes p (Choose place condition a b) = TargetsHaveTheirModes p a × TargetsHaveTheirModes p b
+abbrev mutual
+  pub TargetsHaveTheirModes : Program → Command → Type 0
+  TargetsHaveTheirModes p Skip = ⊤
+  TargetsHaveTheirModes p (Set target value) = HasItsMode p target
+  TargetsHaveTheirModes p (Then a b) = TargetsHaveTheirModes p a × TargetsHaveTheirModes p b
+  TargetsHaveTheirModes p (Choose place condition a b) = TargetsHaveTheirModes p a × TargetsHaveTheirModes p b
+  TargetsHaveTheirModes p (Select place selector alternatives) = AllHaveTheirModes p alternatives
+
+  pub AllHaveTheirModes : Program → Alternatives → Type 0
+  AllHaveTheirModes p (Last choices a) = TargetsHaveTheirModes p a
+  AllHaveTheirModes p (When choices a rest) = TargetsHaveTheirModes p a × AllHaveTheirModes p rest
+
+-- a local is declared without a value or with one
+abbrev pub IsLocalKind : VarKind → Type 0
+IsLocalKind (Formal mode) = ⊥
+IsLocalKind Local = ⊤
+IsLocalKind (Initialized n) = ⊤
 
 -- what is declared of a variable: its kind, and its type by the table of types
 abbrev pub object_in : Program → Var → Option Object
@@ -53,12 +66,18 @@ object_declared p v = option_and_then (object_in p) (slice_get p.vars v.0)
 abbrev pub IsAsDeclared : Program → CoreName → Type 0
 IsAsDeclared p name = (v : VarId) (object : Object) → name.entity ≡ Some (entity.Variable v object) → object_declared p v ≡ Some object
 
--- so does each name of a command
-abbrev pub AreAsDeclared : Program → Command → Type 0
-AreAsDeclared p Skip = ⊤
-AreAsDeclared p (Set target value) = IsAsDeclared p target.root × All (IsAsDeclared p) (names_read value)
-AreAsDeclared p (Then a b) = AreAsDeclared p a × AreAsDeclared p b
-AreAsDeclared p (Choose place condition a b) = All (IsAsDeclared p) (names_read condition) × (AreAsDeclared p a × AreAsDeclared p b)
+-- so does each name of a command that is evaluated or assigned to; choices are static
+abbrev mutual
+  pub AreAsDeclared : Program → Command → Type 0
+  AreAsDeclared p Skip = ⊤
+  AreAsDeclared p (Set target value) = IsAsDeclared p target.root × All (IsAsDeclared p) (names_read value)
+  AreAsDeclared p (Then a b) = AreAsDeclared p a × AreAsDeclared p b
+  AreAsDeclared p (Choose place condition a b) = All (IsAsDeclared p) (names_read condition) × (AreAsDeclared p a × AreAsDeclared p b)
+  AreAsDeclared p (Select place selector alternatives) = All (IsAsDeclared p) (names_read selector) × AllAreAsDeclared p alternatives
+
+  pub AllAreAsDeclared : Program → Alternatives → Type 0
+  AllAreAsDeclared p (Last choices a) = AreAsDeclared p a
+  AllAreAsDeclared p (When choices a rest) = AreAsDeclared p a × AllAreAsDeclared p rest
 
 pub record Scoped (p : Program) (sub : Sub) : Type 0 where
   pub targets : (v : VarId) → defines v sub.statements ≡ true → (is_formal v sub || is_local v sub) ≡ true
@@ -66,10 +85,15 @@ pub record Scoped (p : Program) (sub : Sub) : Type 0 where
   pub exported : (v : VarId) → exports v sub ≡ true → is_formal v sub ≡ true
   pub imported : (v : VarId) → imports v sub ≡ true → is_formal v sub ≡ true
   pub formal_kinds : (v : VarId) → is_formal v sub ≡ true → (mode : Mode) × (kind_of p v ≡ Some (Formal mode))
-  pub local_kinds : (v : VarId) → is_local v sub ≡ true → kind_of p v ≡ Some Local
+  pub local_kinds : (v : VarId) → is_local v sub ≡ true → (kind : VarKind) × (kind_of p v ≡ Some kind) × IsLocalKind kind
   pub once : IsDistinct (λ (v : VarId) (w : VarId). w.0 == v.0) sub.vars
   pub apart : (v : VarId) → is_formal v sub ≡ true → is_local v sub ≡ false
   pub relation_modes : All (HaveTheirModes p) (relation sub)
   pub target_modes : TargetsHaveTheirModes p (commands sub.statements)
   pub body_names : AreAsDeclared p (commands sub.statements)
   pub pre_names : (pre : CorePrecondition) → sub.pre ≡ Some pre → All (IsAsDeclared p) (names_read pre.condition)
+
+-- a local that is declared with a value has one of its type
+abbrev pub StartsInType : Program → Sub → Type 0
+StartsInType p sub =
+    (v : VarId) (object : Object) (n : ℤ) → is_local v sub ≡ true → object_declared p v ≡ Some object → object.kind ≡ Initialized n → is_between object.subtype.first object.subtype.last n ≡ true

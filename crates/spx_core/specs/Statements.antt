@@ -1,5 +1,5 @@
 -- The static rules on declarations, statements, subprograms and programs, in the order of the text.
-use Rattle.std.specs.Prelude.{◌≡◌, ⊤, ℤ, not, ◌&&◌, int_le, List, Option, Some, None, Ok, Err}
+use Rattle.std.specs.Prelude.{◌≡◌, ⊤, ℤ, Bool, not, ◌&&◌, ◌||◌, int_le, is_ok, List, Option, Some, None, Ok, Err}
 use Rattle.std.specs.Str.{str_eq_ignore_ascii_case}
 use Rattle.spx_text.specs.declared.place.Place.{Place}
 use Rattle.spx_tree.specs.declared.expression.Identifier.{Identifier}
@@ -20,13 +20,17 @@ use Rattle.spx_core.specs.declared.subprogram.CorePrecondition.{CorePrecondition
 use Rattle.spx_core.specs.declared.subprogram.Sub.{Sub}
 use Rattle.spx_core.specs.declared.program.Program.{Program}
 use Rattle.spx_core.specs.declared.rule.Breach.{Breach}
-use Rattle.spx_core.specs.declared.rule.RuleName.TheVariants.{N2, N5, N10, N11, N12, N13}
+use Rattle.spx_core.specs.declared.rule.RuleName.TheVariants.{N2, N5, N10, N11, N12, N13, N17}
+use Rattle.spx_core.specs.declared.statement.CoreChoice.{CoreChoice}
+use Rattle.spx_core.specs.declared.function.Span.{Span}
+use Rattle.spx_core.specs.declared.rule.ExprType.{ExprType}
 use Rattle.spx_core.specs.declared.rule.Typing.{Typing}
-use Rattle.spx_core.specs.Commands.{Command, Skip, Set, Then, Choose, commands}
+use Rattle.spx_core.specs.Commands.{Command, Skip, Set, Then, Choose, Select, Alternatives, Last, When, choices_in, commands, has_others, has_others_last, listed, spans_of}
 use Rattle.spx_core.specs.Dependency.{relation}
 use Rattle.spx_core.specs.Judged.{Judged, ◌>>=◌, breach_in, condition, each, if_there, judged, keeps, operand_of, referred_object, referred_target, referred_type}
+use Rattle.spx_core.specs.Extents.{extent}
 use Rattle.spx_core.specs.Resolved.{params_of, resolved}
-use Rattle.spx_core.specs.Types.{has_numbers, is_between, is_number, is_of}
+use Rattle.spx_core.specs.Types.{are_apart, cover, has_numbers, is_between, is_number, is_of, is_ordered, is_same_type, lies_in}
 use Rattle.spx_tree.specs.declared.subprogram.Unit.{Unit}
 
 -- ---- declarations (Ada 95 RM 3.3, 8.3)
@@ -86,16 +90,21 @@ judged_constraint place parent (Some range) = do
   _ ← keeps N10 place (has_numbers parent.base.class)
   range_within (Some parent.base) parent.first parent.last range
 
+-- a static value of this type is needed
+abbrev pub value_of_type : Subtype → CoreExpr → Judged ℤ
+value_of_type subtype value = judged value >>= static_between subtype.base subtype.first subtype.last
+
 -- the value of a named number is a static number (RM 3.3.2), that of a constant a static one of its type (RM 3.3.1)
 abbrev pub judged_value : Option Reference → CoreExpr → Judged ℤ
 judged_value None value = judged value >>= static_number
-judged_value (Some type_name) value = do
-  subtype ← referred_type type_name
-  e ← judged value
-  static_between subtype.base subtype.first subtype.last e
+judged_value (Some type_name) value = referred_type type_name >>= λ subtype. value_of_type subtype value
+
+-- so is an initial value (RM 3.3.1)
+abbrev pub judged_initial : Subtype → CoreExpr → Judged ⊤
+judged_initial subtype value = value_of_type subtype value >>= λ _. Ok tt
 
 abbrev pub judged_decl : CoreDecl → Judged ⊤
-judged_decl (decl.Variables names type_name) = declared names type_name
+judged_decl (decl.Variables names type_name value) = each declared_once names >>= λ _. referred_type type_name >>= λ subtype. if_there (judged_initial subtype) value
 judged_decl (decl.Constants names type_name value) = each declared_once names >>= λ _. judged_value type_name value >>= λ _. Ok tt
 judged_decl (decl.FullType name definition) = declared_once name >>= λ _. judged_definition definition
 judged_decl (decl.Subtype name parent range) = declared_once name >>= λ _. referred_type parent >>= λ subtype. judged_constraint parent.root.name.place subtype range
@@ -115,7 +124,7 @@ test e = judged e >>= λ t. condition t
 abbrev pub judged_pre : CorePrecondition → Judged ⊤
 judged_pre pre = test pre.condition
 
--- ---- statements (Ada 95 RM 5.2, 5.3)
+-- ---- statements (Ada 95 RM 5.2 to 5.4)
 
 abbrev pub assignment : Reference → CoreExpr → Judged ⊤
 assignment target value = do
@@ -123,14 +132,57 @@ assignment target value = do
   v ← judged value
   operand_of subtype v
 
-abbrev pub judged_command : Command → Judged ⊤
-judged_command Skip = Ok tt
-judged_command (Set target value) = assignment target value
-judged_command (Then a b) = judged_command a >>= λ _. judged_command b
-judged_command (Choose place condition a b) = do
-  _ ← test condition
-  _ ← judged_command a
-  judged_command b
+-- a selector is of a type that has an order
+abbrev pub selected : CoreExpr → Judged ExprType
+selected selector = do
+  s ← judged selector
+  _ ← keeps N10 s.place (is_ordered s.of)
+  Ok s.of
+
+-- a static value of the selector's type is needed
+abbrev pub chosen : ExprType → CoreExpr → Judged ⊤
+chosen of e = do
+  c ← judged e
+  _ ← keeps N10 c.place (is_same_type of c.of)
+  _ ← static_at c.place c.value
+  keeps N12 c.place (lies_in of c.value)
+
+abbrev pub judged_choice : ExprType → CoreChoice → Judged ⊤
+judged_choice of choice = chosen of choice.low >>= λ _. if_there (chosen of) choice.high
+
+abbrev pub judged_choices : ExprType → Option (List CoreChoice) → Judged ⊤
+judged_choices of choices = each (judged_choice of) (listed choices)
+
+-- the selector and all choices
+abbrev pub judged_heads : CoreExpr → Alternatives → Judged ⊤
+judged_heads selector alternatives = selected selector >>= λ of. each (judged_choice of) (choices_in alternatives)
+
+-- each value that the selector may have has one alternative, and no value has two (Ada 95 RM 5.4)
+abbrev pub are_given_once : Span → Alternatives → Bool
+are_given_once values alternatives =
+    are_apart (spans_of (choices_in alternatives)) && (has_others alternatives || cover values.first values.last (spans_of (choices_in alternatives)))
+
+-- this is asked of a selector and choices that break no rule
+abbrev pub has_right_choices : CoreExpr → Alternatives → Bool
+has_right_choices selector alternatives = has_others_last alternatives && (not (is_ok (judged_heads selector alternatives)) || are_given_once (extent selector) alternatives)
+
+abbrev mutual
+  pub judged_command : Command → Judged ⊤
+  judged_command Skip = Ok tt
+  judged_command (Set target value) = assignment target value
+  judged_command (Then a b) = judged_command a >>= λ _. judged_command b
+  judged_command (Choose place condition a b) = do
+    _ ← test condition
+    _ ← judged_command a
+    judged_command b
+  judged_command (Select place selector alternatives) = do
+    _ ← keeps N17 place (has_right_choices selector alternatives)
+    of ← selected selector
+    judged_alternatives of alternatives
+
+  pub judged_alternatives : ExprType → Alternatives → Judged ⊤
+  judged_alternatives of (Last choices a) = judged_choices of choices >>= λ _. judged_command a
+  judged_alternatives of (When choices a rest) = judged_choices of choices >>= λ _. judged_command a >>= λ _. judged_alternatives of rest
 
 -- ---- subprograms and programs (Ada 95 RM 6.3, 10.1)
 

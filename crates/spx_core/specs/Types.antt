@@ -1,5 +1,6 @@
 -- Types, and operations on static values (Ada 95 RM 3.4.1, 3.5, 4.5, 4.9).
-use Rattle.std.specs.Prelude.{ℤ, pos, ◌+ℤ◌, ◌-ℤ◌, ◌*ℤ◌, Bool, true, false, not, ◌&&◌, ◌||◌, ◌==◌, int_lt, int_le, Option, Some, None, if◌then◌else◌}
+use Rattle.std.specs.Prelude.{ℤ, pos, ◌+ℤ◌, ◌-ℤ◌, ◌*ℤ◌, Bool, true, false, not, ◌&&◌, ◌||◌, ◌==◌, int_lt, int_le, List, [], ◌∷◌, map, Option, Some, None, if◌then◌else◌}
+use Rattle.std.specs.List.{list_any, list_all}
 use Rattle.std.specs.Ordering.{int_eq}
 use Rattle.spx_num.specs.Exact.{absolute, modulus, or_zero, quotient, raised, remainder}
 use Rattle.spx_num.specs.Widths.{fitting}
@@ -9,10 +10,16 @@ use Rattle.spx_tree.specs.declared.expression.PrefixOp.{PrefixOp}
 use Rattle.spx_tree.specs.declared.expression.PrefixOp.TheVariants as sign
 use Rattle.spx_tree.specs.declared.expression.MemberOp.{MemberOp}
 use Rattle.spx_tree.specs.declared.expression.MemberOp.TheVariants as member
-use Rattle.spx_core.specs.declared.entity.TheConstants.{BOOLEAN, INTEGER}
+use Rattle.spx_core.specs.declared.entity.TheConstants.{BOOLEAN, INTEGER, UNIVERSAL}
 use Rattle.spx_core.specs.declared.entity.Class.{Class}
 use Rattle.spx_core.specs.declared.entity.Class.TheVariants as class
 use Rattle.spx_core.specs.declared.entity.BaseType.{BaseType}
+use Rattle.spx_core.specs.declared.entity.Subtype.{Subtype}
+use Rattle.spx_core.specs.declared.function.OperandType.{OperandType}
+use Rattle.spx_core.specs.declared.function.OperandType.TheVariants.{AnyNumber, ValueOf}
+use Rattle.spx_core.specs.declared.function.Shift.{Shift}
+use Rattle.spx_core.specs.declared.function.Shift.TheVariants as shift
+use Rattle.spx_core.specs.declared.function.Span.{Span}
 use Rattle.spx_core.specs.declared.rule.ExprType.{ExprType}
 use Rattle.spx_core.specs.declared.rule.ExprType.TheVariants.{Universal, Of}
 
@@ -224,3 +231,60 @@ tested (member.NotIn place) within = not within
 abbrev pub member_value : MemberOp → (value first last : Option ℤ) → Option ℤ
 member_value op (Some n) (Some first) (Some last) = Some (truth (tested op (is_between first last n)))
 member_value op _ _ _ = None
+
+-- ---- functions of a type (Ada 95 RM 3.5, 3.5.5, 4.6, 4.7)
+
+abbrev pub is_taken : OperandType → ExprType → Bool
+is_taken AnyNumber of = is_number of
+is_taken (ValueOf base) of = is_of base of
+
+-- a universal operand takes the type that is asked for, and is one of its values; where any number is taken, it stays what it is
+abbrev pub lies_in_operand : OperandType → Option ℤ → Bool
+lies_in_operand AnyNumber value = true
+lies_in_operand (ValueOf base) value = lies_in (Of base) value
+
+abbrev pub shifted : Shift → ℤ → ℤ
+shifted shift.Same n = n
+shifted shift.Next n = n +ℤ pos 1
+shifted shift.Previous n = n -ℤ pos 1
+
+-- the value, where the operand is static and 128 bits hold it
+abbrev pub shifted_value : Shift → Option ℤ → Option ℤ
+shifted_value shift (Some n) = fitting (shifted shift n)
+shifted_value shift None = None
+
+abbrev pub lies_within : Option Span → Option ℤ → Bool
+lies_within (Some span) value = lies_between span.first span.last value
+lies_within None value = true
+
+-- the values of a subtype, and of a type
+abbrev pub span_of : Subtype → Span
+span_of subtype = record { first = subtype.first; last = subtype.last }
+
+abbrev pub span_of_type : ExprType → Span
+span_of_type Universal = span_of UNIVERSAL
+span_of_type (Of base) = record { first = base.first; last = base.last }
+
+-- ---- choices (Ada 95 RM 5.4)
+
+-- an expression is of the type of a selector
+abbrev pub is_same_type : ExprType → ExprType → Bool
+is_same_type Universal Universal = true
+is_same_type Universal (Of base) = false
+is_same_type (Of base) of = is_of base of
+
+abbrev pub is_chosen : ℤ → List Span → Bool
+is_chosen n spans = list_any (λ (s : Span). is_between s.first s.last n) spans
+
+-- two have a value in common
+abbrev pub overlap : Span → Span → Bool
+overlap a b = int_le a.first a.last && (int_le b.first b.last && (int_le a.first b.last && int_le b.first a.last))
+
+-- no two have a value in common
+abbrev pub are_apart : List Span → Bool
+are_apart [] = true
+are_apart (s ∷ rest) = not (list_any (overlap s) rest) && are_apart rest
+
+-- each value between two is chosen: if one is not, then the first of all is not, or the one after the last value of some choice
+abbrev pub cover : (first last : ℤ) → List Span → Bool
+cover first last spans = list_all (λ n. not (is_between first last n) || is_chosen n spans) (first ∷ map (λ (s : Span). s.last +ℤ pos 1) spans)

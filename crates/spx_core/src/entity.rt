@@ -124,8 +124,10 @@ pub enum Mode {
 pub enum VarKind {
     /// A formal parameter of this mode.
     Formal(Mode),
-    /// A local variable of a subprogram.
+    /// A local variable of a subprogram that is declared without a value.
     Local,
+    /// A local variable that is declared with this value, which is static (RM 3.3.1). A value of no number is its position.
+    Initialized(i128),
 }
 
 /// What is declared of an object (Ada 95 RM 3.3).

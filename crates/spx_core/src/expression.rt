@@ -2,7 +2,7 @@
 ghost use Rattle.std.specs.Prelude.{◌≡◌};
 ghost use Rattle.spx_core.specs.Places.{place_of};
 
-use crate::{CoreName, Reference};
+use crate::{CoreFunction, CoreName, Reference};
 use spx_text::Place;
 use spx_tree::{Identifier, InfixOp, MemberOp, PrefixOp};
 use sqlite_items::Boxed;
@@ -14,6 +14,8 @@ pub enum CoreExpr {
     Name(CoreName),
     /// `prefix'designator`
     Attribute(CoreName, Identifier),
+    /// A function and its operand, with the place of `(`.
+    Applied(CoreFunction, Place, Boxed<CoreExpr>),
     /// At `(`.
     Parenthesized(Place, Boxed<CoreExpr>),
     Prefix(PrefixOp, Place, Boxed<CoreExpr>),
@@ -34,6 +36,7 @@ impl CoreExpr {
             CoreExpr::Number(_, place) => *place,
             CoreExpr::Name(name) => name.name.place,
             CoreExpr::Attribute(prefix, _) => prefix.name.place,
+            CoreExpr::Applied(function, _, _) => function.name.name.place,
             CoreExpr::Parenthesized(place, _) => *place,
             CoreExpr::Prefix(_, place, _) => *place,
             CoreExpr::Infix(_, place, _, _) => *place,

@@ -14,7 +14,7 @@ ghost use Rattle.spx_core.specs.Resolved.{resolved};
 ghost use Rattle.spx_core.specs.Judged.{judged};
 ghost use Rattle.spx_core.specs.HasType.{HasType};
 ghost use Rattle.spx_core.specs.Statements.{Typed, first_name_breach};
-ghost use Rattle.spx_core.specs.Scopes.{Scoped};
+ghost use Rattle.spx_core.specs.Scopes.{Scoped, StartsInType};
 ghost use Rattle.spx_core.specs.NameBreaches.{BreaksProgram};
 ghost use Rattle.spx_core.specs.Obeyed.{Obeys, first_rule_breach, obeyed_relation, place_or};
 ghost use Rattle.spx_core.specs.RuleBreaches.{BreaksRule, HasBadDerives};
@@ -61,6 +61,11 @@ pub fn types_are_derived()
 /// The names of a subprogram denote the variables that it declares, each with what is declared of it.
 pub fn names_are_scoped()
     ensures { (p : Program) → Visible p → All (Scoped p) p.subs }
+{}
+
+/// A local that is declared with a value has one of its type.
+pub fn initial_values_fit()
+    ensures { (p : Program) → Visible p → Typed p → All (StartsInType p) p.subs }
 {}
 
 /// A rule on variables is broken first, unless none is.

@@ -10,6 +10,7 @@
 mod dependency;
 mod entity;
 mod expression;
+mod function;
 pub mod laws;
 mod name;
 mod program;
@@ -25,9 +26,12 @@ pub use entity::{
     variable_of,
 };
 pub use expression::CoreExpr;
+pub use function::{CoreFunction, Mapping, OperandType, Shift, Span};
 pub use name::{CoreName, Defining, Reference, Step};
 pub use program::{CoreUnit, Program, TypeRow, Var};
 pub use rule::{Breach, ExprType, RuleName, Typing};
-pub use statement::{CoreArm, CoreDecl, CoreRange, CoreStmt, CoreTypeDef};
+pub use statement::{
+    CoreAlternative, CoreArm, CoreChoice, CoreDecl, CoreRange, CoreStmt, CoreTypeDef,
+};
 pub use subprogram::{CoreFormalPart, CoreParam, CorePrecondition, Sub};
 pub use vars::VarSet;

@@ -30,6 +30,10 @@ pub enum RuleName {
     N12,
     /// A range of a declaration is empty, exceeds that of its parent, or is wider than any base type (Ada 95 RM 3.2.2, 3.5.4).
     N13,
+    /// An attribute that lacks its argument, or has one that it does not take.
+    N14,
+    /// A `case` in which a value has no alternative, or two, or `others` is not the last choice (Ada 95 RM 5.4).
+    N17,
     /// A target that cannot be assigned.
     U2,
     /// A faulty dependency relation.

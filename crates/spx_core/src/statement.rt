@@ -1,6 +1,6 @@
 // Resolved declarations and statements (Ada 95 RM 3.3, 5).
 
-use crate::{CoreExpr, Defining, Reference};
+use crate::{CoreExpr, Defining, Reference, Span};
 use spx_text::Place;
 use spx_tree::Closing;
 use sqlite_items::Items;
@@ -24,8 +24,8 @@ pub enum CoreTypeDef {
 /// A declaration in the declarative part of a body.
 #[derive(Debug, Drop)]
 pub enum CoreDecl {
-    /// `names : type_name`
-    Variables(Items<Defining>, Reference),
+    /// `names : type_name [:= initial_value]`
+    Variables(Items<Defining>, Reference, Option<CoreExpr>),
     /// `names : constant [type_name] := value`
     Constants(Items<Defining>, Option<Reference>, CoreExpr),
     /// `type name is definition`
@@ -44,6 +44,8 @@ pub enum CoreStmt {
     Assignment(Reference, CoreExpr),
     /// The arms, one or more, the statements after `else`, and the closing words (Ada 95 RM 5.3).
     If(Items<CoreArm>, Option<Items<CoreStmt>>, Closing),
+    /// At the word `case`: the selector, the alternatives, one or more, and the closing words (Ada 95 RM 5.4).
+    Case(Place, CoreExpr, Items<CoreAlternative>, Closing),
 }
 
 /// A condition and the statements after `then`, at the word `if` or `elsif`.
@@ -53,4 +55,20 @@ pub struct CoreArm {
     pub place: Place,
     pub condition: CoreExpr,
     pub body: Items<CoreStmt>,
+}
+
+/// The statements for some values of a selector. With no choices it is for `others`.
+#[cycle(core_statement)]
+#[derive(Debug, Drop)]
+pub struct CoreAlternative {
+    pub choices: Option<Items<CoreChoice>>,
+    pub body: Items<CoreStmt>,
+}
+
+/// `low` or `low .. high`, and the values between them. Where a bound is not static, it counts as 0.
+#[derive(Debug, Drop)]
+pub struct CoreChoice {
+    pub low: CoreExpr,
+    pub high: Option<CoreExpr>,
+    pub span: Span,
 }

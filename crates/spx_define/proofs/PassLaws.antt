@@ -106,3 +106,25 @@ passes_choose tests a b at set ends end new_ends start old mid new second f firs
         h,
   );
 }
+
+-- the tests, then what is done whether they pass or not
+pub passes_once : (tests : List Read) (a : Effect) (at : Place) (set ends : List ℕ) (old mid new : List Read) → Finds set tests old mid → Passes a set ends mid new → Passes (choose tests a a at) set ends old new
+passes_once tests a at set ends old mid new f only = record {
+  set = λ v. let ways = goes_chosen tests a a at v in (
+    λ h. let k = (only.set v).0 h in (k.0, ways.1 (inl k.1)),
+    λ h. (only.set v).1 (h.0, ⊎_elim (λ k. k) (λ k. k) (ways.0 h.1)),
+  );
+  found = λ place v. let ways = reads_chosen place v tests a a at in (
+    λ h. ⊎_elim
+        (λ m. ⊎_elim (λ o. inl o) (λ k. inr (k.0, ways.1 (inl k.1))) ((f.exact place v).0 m))
+        (λ k. inr (k.0, ways.1 (inr (inl k.1))))
+        ((only.found place v).0 h),
+    λ h. ⊎_elim
+        (λ o. (only.found place v).1 (inl ((f.exact place v).1 (inl o))))
+        (λ k. ⊎_elim
+        (λ here. (only.found place v).1 (inl ((f.exact place v).1 (inr (k.0, here)))))
+        (λ arms. (only.found place v).1 (inr (k.0, ⊎_elim (λ one. one) (λ two. two) arms)))
+        (ways.0 k.1))
+        h,
+  );
+}

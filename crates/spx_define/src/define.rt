@@ -1,11 +1,13 @@
 // Reads of variables that may be unset (Bergeretti and Carré, TOPLAS 1985).
-ghost use Rattle.std.specs.Prelude.{◌≡◌, ◌≢◌, ◌<◌, ◌||◌, [], ◌∷◌, Some, length, not, filter, map, slice_get, IfOk, OnOk};
+ghost use Rattle.std.specs.Prelude.{◌≡◌, ◌≢◌, ◌<◌, ◌||◌, [], ◌∷◌, Some, is_some, length, not, filter, map, slice_get, IfOk, OnOk};
 ghost use Rattle.std.specs.List.{AllPairs};
 ghost use Rattle.std.specs.Option.{option_to_list};
+ghost use Rattle.spx_text.specs.declared.place.Place.{Place};
 ghost use Rattle.spx_core.specs.declared.entity.VarId.{VarId};
 ghost use Rattle.spx_core.specs.declared.subprogram.Sub.{Sub};
-ghost use Rattle.spx_core.specs.Commands.{arm_before, arms_before, command};
+ghost use Rattle.spx_core.specs.Commands.{Choose, alternative, arm_before, arms_before, command, commands, select};
 ghost use Rattle.spx_core.specs.Effects.{effect, effects, reads_of};
+ghost use Rattle.spx_core.specs.Formals.{initial_of};
 ghost use Rattle.spx_core.specs.Uses.{denotes};
 ghost use Rattle.spx_core.specs.Mirror.VarSets.{holds};
 ghost use Rattle.spx_define.specs.Passes.{Finds, Passes, PassesBefore, exports_at, read_at, reads_at};
@@ -14,8 +16,8 @@ ghost use Rattle.spx_define.specs.UnsetReads.{AreUnsetReads};
 use crate::assigned::Assigned;
 use indexmap::IndexSet;
 use spx_core::{
-    CoreArm, CoreDerivesItem, CoreExpr, CoreStmt, Entity, Program, Reference, Sub, SubId, VarId,
-    VarSet, variable_of,
+    CoreAlternative, CoreArm, CoreDerivesItem, CoreExpr, CoreStmt, Entity, Program, Reference, Sub,
+    SubId, VarId, VarKind, VarSet, variable_of,
 };
 use spx_text::Place;
 use std::alloc::{AllocError, Global};
@@ -61,6 +63,7 @@ fn add_unset_names(set: &Assigned, expr: &CoreExpr, found: &mut Reads) -> Result
         CoreExpr::Number(_, _) => Ok(()),
         CoreExpr::Name(name) => add_unset(set, name.name.place, name.entity, found),
         CoreExpr::Attribute(_, _) => Ok(()),
+        CoreExpr::Applied(_, _, operand) => add_unset_names(set, operand.get(), found),
         CoreExpr::Parenthesized(_, inner) => add_unset_names(set, inner.get(), found),
         CoreExpr::Prefix(_, _, operand) => add_unset_names(set, operand.get(), found),
         CoreExpr::Infix(_, _, left, right) => {
@@ -115,8 +118,8 @@ fn set_target(set: &mut Assigned, target: &Reference) -> Result<(), AllocError>
     }
 }
 
-/// Goes over a statement. A variable is set only after the right side is read, and after an `if` only where each of its
-/// arms sets it.
+/// Goes over a statement. A variable is set only after the right side is read, and after an `if` or a `case` only where each
+/// of its arms or alternatives sets it.
 #[cycle(go_over)]
 fn go_over(
     alloc: Global,
@@ -147,28 +150,34 @@ fn go_over(
                 Ok(())
             }
         },
+        CoreStmt::Case(_, selector, alternatives, _) => {
+            go_over_case(alloc, alternatives.as_slice(), selector, set, found)
+        }
     }
 }
 
-/// Goes over an arm: `ends` are the variables that are set at the end of each arm after it, and then of it too.
+/// Goes over what is done where a test passes: `ends` are the variables that are set at the end where it fails, and then
+/// those that are set at the end of both.
 #[cycle(go_over)]
-fn go_over_arm(
+fn go_over_branch(
     alloc: Global,
-    arm: &CoreArm,
+    body: &[CoreStmt],
+    test: &CoreExpr,
     set: &Assigned,
     ends: &mut Assigned,
     found: &mut Reads,
 ) -> Result<(), AllocError>
-    ensures { OnOk result (PassesBefore (arm_before arm.now) set.now ends.old ends.new found.old.keys found.new.keys) }
+    ensures { OnOk result ((place : Place) → PassesBefore (λ otherwise. Choose place test.now (commands body.now) otherwise) set.now ends.old ends.new found.old.keys found.new.keys) }
 {
     let mut end = set.copy(alloc)?;
-    add_unset_names(set, &arm.condition, found)?;
-    go_over_all(alloc, arm.body.as_slice(), &mut end, found)?;
+    add_unset_names(set, test, found)?;
+    go_over_all(alloc, body, &mut end, found)?;
     *ends = ends.common(alloc, &end)?;
     Ok(())
 }
 
-/// Goes over the arms from the last to the first.
+/// Goes over the arms from the last to the first: `ends` are the variables that are set at the end of what is done where
+/// all conditions are false, and then those that are set at the end of each arm too.
 #[cycle(go_over)]
 fn go_over_arms(
     alloc: Global,
@@ -180,8 +189,36 @@ fn go_over_arms(
     ensures { OnOk result (PassesBefore (λ otherwise. arms_before otherwise (map arm_before arms.now)) set.now ends.old ends.new found.old.keys found.new.keys) }
 {
     for k in (0..arms.len()).rev() {
-        go_over_arm(alloc, &arms[k], set, ends, found)?;
+        let arm = &arms[k];
+        go_over_branch(alloc, arm.body.as_slice(), &arm.condition, set, ends, found)?;
     }
+    Ok(())
+}
+
+/// Goes over the alternatives of a `case`, from the last to the first: the last one as what stands after `else`, and each
+/// other one as an arm.
+#[cycle(go_over)]
+fn go_over_case(
+    alloc: Global,
+    alternatives: &[CoreAlternative],
+    selector: &CoreExpr,
+    set: &mut Assigned,
+    found: &mut Reads,
+) -> Result<(), AllocError>
+    ensures { OnOk result ((place : Place) → Passes (effect (select place selector.now (map alternative alternatives.now))) set.old set.new found.old.keys found.new.keys) }
+{
+    if alternatives.is_empty() {
+        return Ok(());
+    }
+    let last = alternatives.len() - 1;
+    let mut ends = set.copy(alloc)?;
+    add_unset_names(set, selector, found)?;
+    go_over_all(alloc, alternatives[last].body.as_slice(), &mut ends, found)?;
+    for k in (0..last).rev() {
+        let body = alternatives[k].body.as_slice();
+        go_over_branch(alloc, body, selector, set, &mut ends, found)?;
+    }
+    *set = ends;
     Ok(())
 }
 
@@ -200,7 +237,28 @@ fn go_over_all(
     Ok(())
 }
 
-/// What was found of variables that do not start set, in its order.
+/// Whether the variable is declared with a value.
+fn has_initial_value(program: &Program, var: VarId) -> bool
+    ensures { result ≡ is_some (initial_of var program.now) }
+{
+    match program.vars.as_slice().get(var.0) {
+        Some(declared) => match declared.kind {
+            VarKind::Formal(_) => false,
+            VarKind::Local => false,
+            VarKind::Initialized(_) => true,
+        },
+        None => false,
+    }
+}
+
+/// Takes out the reads of variables that are declared with a value.
+fn leave_out_initialized(program: &Program, found: &mut Reads)
+    ensures { found.new.keys ≡ filter (λ read. not (is_some (initial_of read.1 program.now))) found.old.keys }
+{
+    found.retain(|read| !has_initial_value(program, read.1));
+}
+
+/// What was found of variables that are not imports, in its order.
 fn listed(alloc: Global, imports: &VarSet, found: &Reads) -> Result<Vec<(Place, VarId)>, AllocError>
     ensures items { IfOk result (λ reads. reads.items ≡ filter (λ read. not (holds imports.now read.1)) found.now.keys) }
     ensures once { AllPairs (λ a b. a ≢ b) found.now.keys }
@@ -213,13 +271,18 @@ fn listed(alloc: Global, imports: &VarSet, found: &Reads) -> Result<Vec<(Place, 
         .collect(alloc)
 }
 
-fn unset_reads_of(alloc: Global, sub: &Sub) -> Result<Vec<(Place, VarId)>, AllocError>
-    ensures { IfOk result (λ found. AreUnsetReads sub.now found.items) }
+fn unset_reads_of(
+    alloc: Global,
+    program: &Program,
+    sub: &Sub,
+) -> Result<Vec<(Place, VarId)>, AllocError>
+    ensures { IfOk result (λ found. AreUnsetReads program.now sub.now found.items) }
 {
     let imports = VarSet::imports(alloc, sub)?;
     let mut set = Assigned::new(alloc);
     let mut found = IndexSet::new(alloc);
     go_over_all(alloc, sub.statements.as_slice(), &mut set, &mut found)?;
+    leave_out_initialized(program, &mut found);
     add_unset_exports(&set, sub.end, sub.relation(), &mut found)?;
     listed(alloc, &imports, &found)
 }
@@ -231,7 +294,7 @@ pub fn unset_reads(
     id: SubId,
 ) -> Result<Vec<(Place, VarId)>, AllocError>
     requires { id.0 < length program.now.subs }
-    ensures { (sub : Sub) → slice_get program.now.subs id.0 ≡ Some sub → IfOk result (λ found. AreUnsetReads sub found.items) }
+    ensures { (sub : Sub) → slice_get program.now.subs id.0 ≡ Some sub → IfOk result (λ found. AreUnsetReads program.now sub found.items) }
 {
-    unset_reads_of(alloc, &program.subs.as_slice()[id.0])
+    unset_reads_of(alloc, program, &program.subs.as_slice()[id.0])
 }

@@ -172,7 +172,7 @@ module _ (p : Program) (sub : Sub) (flow : Flow) (scoped : Scoped p sub) (reache
 
     -- ---- all findings
 
-    module _ (once : Once places) (reads : List Read) (unset_are : AreUnsetReads sub reads) where
+    module _ (once : Once places) (reads : List Read) (unset_are : AreUnsetReads p sub reads) where
       abbrev differences : List FlowFinding
       differences = differences_from flow.rho t.declared (get same_var t.exports) (formals sub) 0 (formals sub)
 

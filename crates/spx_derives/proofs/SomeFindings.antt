@@ -30,7 +30,7 @@ module _ (p : Program) (sub : Sub) where
       ((z : VarId × VarId) × Missing sub z.0 z.1 × (missing_at z ≡ f))
       ⊎ (((z : VarId × VarId) × Unused sub z.0 z.1 × (unused_at z ≡ f))
       ⊎ (((place : Place) × Ineffective p sub place × (finding.Ineffective place ≡ f))
-      ⊎ ((r : Read) × MayBeUnset sub r.0 r.1 × (unset_at r ≡ f))))
+      ⊎ ((r : Read) × MayBeUnset p sub r.0 r.1 × (unset_at r ≡ f))))
 
   made_from : (f : FlowFinding) → Finds p sub f → Source f
   unfolding missing_at unused_at unset_at
@@ -52,7 +52,7 @@ module _ (p : Program) (sub : Sub) where
   findings : Listing (Finds p sub)
   findings =
       listing_as
-      (joined (mapped missing_at (missing_listed sub)) (joined (mapped unused_at (unused_listed sub)) (joined (mapped finding.Ineffective (ineffective_listed sub p)) (mapped unset_at (unset_listed sub)))))
+      (joined (mapped missing_at (missing_listed sub)) (joined (mapped unused_at (unused_listed sub)) (joined (mapped finding.Ineffective (ineffective_listed sub p)) (mapped unset_at (unset_listed sub p)))))
       (λ f. (finds f, made_from f))
 
 pub some_findings : (p : Program) (sub : Sub) → (found : List FlowFinding) × ((f : FlowFinding) → Contains found f ↔ Finds p sub f)

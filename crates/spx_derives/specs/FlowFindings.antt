@@ -15,7 +15,7 @@ pub data Finds (p : Program) (sub : Sub) : FlowFinding → Type 0 where
   missing : {x y : VarId} → Missing sub x y → Finds p sub (finding.Missing (export_place sub y) x y)
   unused : {x y : VarId} → Unused sub x y → Finds p sub (finding.Unused (export_place sub y) x y)
   ineffective : {place : Place} → Ineffective p sub place → Finds p sub (finding.Ineffective place)
-  unset : {place : Place} {v : VarId} → MayBeUnset sub place v → Finds p sub (finding.UnsetRead place v)
+  unset : {place : Place} {v : VarId} → MayBeUnset p sub place v → Finds p sub (finding.UnsetRead place v)
 
 -- these are the findings of the subprogram, each once
 pub record AreFindingsOf (p : Program) (sub : Sub) (found : List FlowFinding) : Type 0 where

@@ -8,6 +8,7 @@ use Rattle.spx_tree.specs.declared.expression.Expr.{Expr}
 use Rattle.spx_tree.specs.declared.expression.Identifier.{Identifier}
 use Rattle.spx_tree.specs.declared.expression.InfixOp.TheVariants as op
 use Rattle.spx_tree.specs.declared.expression.Name.{Name}
+use Rattle.spx_tree.specs.declared.statement.Stmt.{Stmt}
 use Rattle.spx_tree.specs.declared.statement.Stmt.TheVariants.{Assignment}
 use Rattle.spx_core.specs.declared.entity.BaseType.{BaseType}
 use Rattle.spx_core.specs.declared.entity.Entity.TheVariants as entity
@@ -15,6 +16,7 @@ use Rattle.spx_core.specs.declared.entity.Meaning.TheVariants as meaning
 use Rattle.spx_core.specs.declared.entity.Subtype.{Subtype}
 use Rattle.spx_core.specs.declared.entity.TheConstants.{WIDEST_FIRST, WIDEST_LAST}
 use Rattle.spx_core.specs.declared.entity.VarId.{VarId}
+use Rattle.spx_core.specs.declared.entity.VarKind.TheVariants.{Initialized}
 use Rattle.spx_core.specs.declared.expression.CoreExpr.TheVariants.{Name as named_expr, outs-Infix, outs-Name}
 use Rattle.spx_core.specs.declared.name.CoreName.{CoreName}
 use Rattle.spx_core.specs.declared.name.Defining.{Defining}
@@ -33,7 +35,7 @@ use Rattle.spx_core.specs.Judged.{Judged, ◌>>=◌, breach_in, each, expr_step,
 use Rattle.spx_core.specs.Obeyed.{obeyed_pre}
 use Rattle.spx_core.specs.Places.{place_in}
 use Rattle.spx_core.specs.Regions.{Region, Regions}
-use Rattle.spx_core.specs.Resolved.{Counts, after_formals, around_body, around_names, at_start, bounded, constant_of, counted, counted_sub, declared_by, declared_by_decls, declaring as declared_after, declaring_all, defining, defining_all, formal_names, integer_type, own_types, params_of, resolved, resolved_decl, resolved_decls, resolved_expr, resolved_reference, resolved_stmt, resolved_sub, row_of, rows_by, rows_by_decls, standard_types, subtype_of, unit_name, value_in}
+use Rattle.spx_core.specs.Resolved.{Counts, after_formals, around_body, around_names, at_start, bounded, constant_of, counted, counted_sub, declared_by, declared_by_decls, declaring as declared_after, declaring_all, defining, defining_all, formal_names, integer_type, object_of, or_zero, own_types, params_of, resolved, resolved_decl, resolved_decls, resolved_expr, resolved_reference, resolved_stmt, resolved_sub, row_of, rows_by, rows_by_decls, standard_types, subtype_of, unit_name, value_in}
 use Rattle.spx_core.specs.Statements.{bound, declared_once, first_name_breach, judged_command, judged_decl, judged_end, judged_item, judged_name, judged_param, judged_pre, static_between, static_number}
 use Rattle.spx_core.specs.Types.{has_numbers}
 use Rattle.spx_core.specs.Uses.{variable_of}
@@ -45,7 +47,7 @@ use Rattle.spx_meaning.specs.Literals.{literal_in}
 use Rattle.spx_meaning.specs.Runs.{Ended, assign, then_do, use_value}
 use Rattle.spx_meaning.specs.Stores.{Store}
 use Rattle.spx_paths.specs.Terms.{literal_or, named as termed, now_term, term_of, term_with-Name}
-use Rattle.spx_examples.specs.Declarations.{LiteralEnds, SumEnds, assigning_to, breach_at, color, declaring, denoted_in, denotes, number_in, resolved_alone, rule_breach_at, standing_for, t, t_program, types_of, types_of_two, warm, warm_program}
+use Rattle.spx_examples.specs.Declarations.{LiteralEnds, SumEnds, assigning_to, breach_at, color, declaring, denoted_in, denotes, number_in, resolved_alone, rule_breach_at, standing_for, stating, t, t_program, types_of, types_of_two, warm, warm_program}
 use Rattle.spx_examples.specs.Flag.{named}
 use Rattle.spx_examples.specs.Increment.{place, x_written}
 use Rattle.spx_examples.specs.NameRules.{alone}
@@ -98,6 +100,16 @@ constants region names type_name value = record {
   rows = [];
 }
 
+-- variables that are declared with this value
+abbrev initialized : Region → Counts → List Identifier → Reference → Judged Typing → Seen
+initialized region before names type_name value =
+    let defined = defining_all region (meaning.Variables (object_of (Initialized (or_zero (value_in value))) type_name)) before.vars names in
+    record {
+      judgement = each declared_once defined >>= λ _. referred_type type_name >>= λ subtype. (value >>= static_between subtype.base subtype.first subtype.last) >>= λ _. Ok tt;
+      names = defined;
+      rows = [];
+    }
+
 -- the declaration of one name of a type
 abbrev one_type : Region → Identifier → Subtype → Judged ⊤ → Seen
 one_type region name subtype judgement = record {
@@ -117,7 +129,9 @@ narrowed_to region before name parent low high =
 module _ (outer : Regions) where
   -- the same, where expressions compute
   abbrev seen_now : Region → Counts → Decl → Seen
-  seen_now region before (written_decl.Variables names type_name) = seen (resolved_decl outer region before (written_decl.Variables names type_name))
+  seen_now region before (written_decl.Variables names type_name None) = seen (resolved_decl outer region before (written_decl.Variables names type_name None))
+  seen_now region before (written_decl.Variables names type_name (Some value)) =
+      initialized region before names (resolved_reference (around_names outer region names) type_name) (expr_now (around_names outer region names) value)
   seen_now region before (written_decl.Constants names type_name value) =
       constants region names (option_map (resolved_reference (around_names outer region names)) type_name) (expr_now (around_names outer region names) value)
   seen_now region before (written_decl.FullType name (written_definition.Integer range)) =
@@ -131,7 +145,9 @@ module _ (outer : Regions) where
       (expr_now (around_names outer region (name ∷ [])) range.high)
 
   seen_is : (region : Region) (before : Counts) (d : Decl) → seen (resolved_decl outer region before d) ≡ seen_now region before d
-  seen_is region before (written_decl.Variables names type_name) = refl
+  seen_is region before (written_decl.Variables names type_name None) = refl
+  seen_is region before (written_decl.Variables names type_name (Some value)) =
+      ap (initialized region before names (resolved_reference (around_names outer region names) type_name)) (judged_is (around_names outer region names) value)
   seen_is region before (written_decl.Constants names None value) = ap (constants region names None) (judged_is (around_names outer region names) value)
   seen_is region before (written_decl.Constants names (Some type_name) value) =
       ap (constants region names (Some (resolved_reference (around_names outer region names) type_name))) (judged_is (around_names outer region names) value)
@@ -157,22 +173,22 @@ module _ (outer : Regions) where
 
 -- ---- the procedure
 
-module _ (ds : List Decl) (target : Name) (value : Expr) where
+module _ (ds : List Decl) (statement : Stmt) where
   abbrev first : Sub
-  first = resolved_alone (assigning_to ds target value)
+  first = resolved_alone (stating ds statement)
 
   abbrev around : Regions
   around = around_body first.name
 
   -- what is known of its declarations
-  abbrev now : Seen
+  abbrev pub now : Seen
   now = all_now around (declaring_all [] (formal_names first)) (after_formals at_start first.formal_part) ds
 
   now_is : seen_decls first.declarations ≡ now
   now_is = all_seen around (declaring_all [] (formal_names first)) (after_formals at_start first.formal_part) ds
 
   -- around its statement, where these are its locals
-  abbrev inside : List Defining → Regions
+  abbrev pub inside : List Defining → Regions
   inside names = declaring_all [] (formal_names first ++ names) ∷ around
 
   -- what it is judged to be, and the first breach, where its declarations and its body are judged to be this
@@ -185,37 +201,53 @@ module _ (ds : List Decl) (target : Name) (value : Expr) where
     _ ← body
     if_there (judged_end first.name) first.end_name
 
-  abbrev breach_with : (declarations body : Judged ⊤) → Option Breach
+  abbrev pub breach_with : (declarations body : Judged ⊤) → Option Breach
   breach_with declarations body = breach_in (each judged_name (first ∷ []) >>= λ _. and_no_more (sub_with declarations body))
 
   abbrev body_of : List Defining → Judged ⊤
-  body_of names = judged_command (commands (resolved_stmt (inside names) (Assignment target value) ∷ []))
+  body_of names = judged_command (commands (resolved_stmt (inside names) statement ∷ []))
 
-  pub breach_is : breach_at ds target value ≡ breach_with now.judgement (and_no_more (assignment_now (inside now.names) target value))
+  -- where its body is judged to be this after its declarations
+  pub breach_where : (body : Judged ⊤) → body_of now.names ≡ body → first_name_breach (alone (stating ds statement)) ≡ breach_with now.judgement body
   unfolding first_name_breach
-  breach_is = ap (λ (s : Seen). breach_with s.judgement (body_of s.names)) now_is ∙ ap (breach_with now.judgement) (body_is (inside now.names) target value)
+  breach_where body is = ap (λ (s : Seen). breach_with s.judgement (body_of s.names)) now_is ∙ ap (breach_with now.judgement) is
+
+module _ (ds : List Decl) (target : Name) (value : Expr) where
+  abbrev set : Stmt
+  set = Assignment target value
+
+  -- around it, after these declarations
+  abbrev around_set : Regions
+  around_set = inside ds set (now ds set).names
+
+  pub breach_is : breach_at ds target value ≡ breach_with ds set (now ds set).judgement (and_no_more (assignment_now around_set target value))
+  breach_is = breach_where ds set (and_no_more (assignment_now around_set target value)) (body_is around_set target value)
 
   -- the assignment, where its names denote what they do after these declarations
-  abbrev setting : List Defining → Command
-  setting names = Then (Set (resolved_reference (inside names) target) (resolved_expr (inside names) value)) Skip
+  abbrev setting : Command
+  setting = Then (Set (resolved_reference around_set target) (resolved_expr around_set value)) Skip
 
-  setting_is : commands first.statements ≡ setting now.names
+  setting_is : commands (first ds set).statements ≡ setting
   setting_is =
-      ap (λ (s : Seen). commands (resolved_stmt (inside s.names) (Assignment target value) ∷ [])) now_is
-      ∙ ap (λ (s : CoreStmt). commands (s ∷ [])) (resolved_assignment (inside now.names) target value)
-      ∙ assignment_is (resolved_reference (inside now.names) target) (resolved_expr (inside now.names) value)
+      ap (λ (s : Seen). commands (resolved_stmt (inside ds set s.names) set ∷ [])) (now_is ds set)
+      ∙ ap (λ (s : CoreStmt). commands (s ∷ [])) (resolved_assignment around_set target value)
+      ∙ assignment_is (resolved_reference around_set target) (resolved_expr around_set value)
 
-  pub rule_breach_is : rule_breach_at ds target value ≡ rules.breach_with first [] (if_there (obeyed_pre first) first.pre) (setting now.names)
+  pub rule_breach_is : rule_breach_at ds target value ≡ rules.breach_with (first ds set) [] (if_there (obeyed_pre (first ds set)) (first ds set).pre) setting
   unfolding rule_breach_at
-  rule_breach_is = rules.breach_is (resolved (alone (assigning_to ds target value))) first [] (setting now.names) refl setting_is
+  rule_breach_is = rules.breach_is (resolved (alone (assigning_to ds target value))) (first ds set) [] setting refl setting_is
 
--- that whose statement is `X := 1`
+-- `X := 1`
+abbrev set_x : Stmt
+set_x = Assignment (x_written 9 4) (number_in (pos 1) 9 9)
+
+-- that whose statement is this
 abbrev pub setting_now : List Decl → Seen
-setting_now ds = now ds (x_written 9 4) (number_in (pos 1) 9 9)
+setting_now ds = now ds set_x
 
 pub types_are : (ds : List Decl) → types_of ds ≡ standard_types ++ ((setting_now ds).rows ++ [])
 unfolding types_of
-types_are ds = ap (λ (s : Seen). standard_types ++ (s.rows ++ [])) (now_is ds (x_written 9 4) (number_in (pos 1) 9 9))
+types_are ds = ap (λ (s : Seen). standard_types ++ (s.rows ++ [])) (now_is ds set_x)
 
 -- the rows of the procedure with this name, after so many
 abbrev rows_after : Defining → Counts → List Decl → List TypeRow
@@ -235,11 +267,11 @@ second_name ds es = unit_name (declared_after [] (resolved_alone (declaring ds))
 pub two_types_are : (ds es : List Decl) → types_of_two ds es ≡ standard_types ++ ((setting_now ds).rows ++ (rows_after (second_name ds es) (after ds) es ++ []))
 unfolding types_of_two
 two_types_are ds es =
-    ap₂ (λ (a b : List TypeRow). standard_types ++ (a ++ (b ++ []))) (ap (λ (s : Seen). s.rows) (now_is ds (x_written 9 4) (number_in (pos 1) 9 9))) (rows_are (second_name ds es) (after ds) es)
+    ap₂ (λ (a b : List TypeRow). standard_types ++ (a ++ (b ++ []))) (ap (λ (s : Seen). s.rows) (now_is ds set_x)) (rows_are (second_name ds es) (after ds) es)
 
 pub denotes_as : (ds : List Decl) (text : List ℕ) → denotes ds text ≡ denoted_in (resolved_alone (declaring ds)) (setting_now ds).names text
 unfolding denotes
-denotes_as ds text = ap (λ (s : Seen). denoted_in (resolved_alone (declaring ds)) s.names text) (now_is ds (x_written 9 4) (number_in (pos 1) 9 9))
+denotes_as ds text = ap (λ (s : Seen). denoted_in (resolved_alone (declaring ds)) s.names text) (now_is ds set_x)
 
 -- ---- runs
 

@@ -1,5 +1,5 @@
 -- What is found of the flow of the variants of `Inc` and `Flag`.
-use Rattle.std.proofs.Common.{◌≡◌, ℤ, pos, List, [], ◌∷◌, ◌++◌, Some, None, refl, ap, ap₂, ◌∙◌}
+use Rattle.std.proofs.Common.{◌≡◌, ℤ, pos, List, [], ◌∷◌, ◌++◌, Option, Some, None, refl, ap, ap₂, ◌∙◌}
 use Rattle.std.specs.List.{filter_map}
 use denote.Hole.Carrier.{roll}
 use Rattle.spx_text.specs.declared.place.Place.{Place}
@@ -11,7 +11,8 @@ use Rattle.spx_core.specs.declared.name.CoreName.{CoreName}
 use Rattle.spx_core.specs.declared.statement.CoreStmt.{CoreStmt, CoreStmt-F, roll-CoreStmt, fold-roll-CoreStmt}
 use Rattle.spx_core.specs.declared.statement.CoreStmt.TheVariants as stmt
 use Rattle.spx_core.specs.declared.statement.CoreArm.{fold-roll-CoreArm}
-use Rattle.spx_core.specs.Commands.{Command, Skip, Set, Then, Choose, arm_step, stmt_step, commands}
+use Rattle.spx_core.specs.declared.statement.CoreChoice.{CoreChoice}
+use Rattle.spx_core.specs.Commands.{Command, Skip, Set, Then, Choose, alternative_step, arm_step, stmt_step, commands}
 use Rattle.spx_core.specs.Effects.{Effect, assign, choose, effect, effects, next, nothing, read_of}
 use Rattle.spx_core.specs.FlowRules.{body_effect, HasNoFlowFinding}
 use Rattle.spx_core.specs.Reads.{names_read, names_step}
@@ -22,7 +23,7 @@ use Rattle.spx_examples.specs.Increment.{place, x, x_at, x_named, successor, ste
 use Rattle.spx_examples.specs.Flag.{y, named, y_at, positive, setting, closing, flag, flag_program, flag_effect}
 use Rattle.spx_examples.specs.Flag as in_flag
 use Rattle.spx_examples.specs.Found.{Finds, nothing_found}
-use Rattle.spx_examples.specs.Findings.{gives, declared, by_star, undeclared, overdeclared, with_formal, local_y_at, inc_with_local, with_local, positive_at, reads_after_arm, out_with_local, gives_unset, gives_set, overwrites, decides_nothing, sets_in_both, as_flag}
+use Rattle.spx_examples.specs.Findings.{gives, declared, by_star, undeclared, overdeclared, with_formal, local_y_at, inc_with_local, with_local, positive_at, reads_after_arm, out_with_local, gives_seven, gives_unset, gives_set, overwrites, decides_nothing, sets_in_both, as_flag, seven_program, seven_y_at}
 use Rattle.spx_examples.specs.Variants.{out_x_at}
 use Rattle.spx_examples.proofs.Statements.{null_is, assignment_is, if_is}
 use Rattle.spx_examples.proofs.Successor.{step_effect}
@@ -64,8 +65,8 @@ if_else_is : (at : Place) (condition : CoreExpr) (body otherwise : List CoreStmt
 unfolding roll-CoreStmt roll
 if_else_is at condition body otherwise closing =
     ap (λ c. Then c Skip)
-    (fold-roll-CoreStmt Command (Command → Command) stmt_step arm_step (CoreStmt-F.If (arm at condition body ∷ []) (Some otherwise) closing)
-    ∙ ap (λ choose. choose (commands otherwise)) (fold-roll-CoreArm Command (Command → Command) stmt_step arm_step (record { place = at; condition = condition; body = body })))
+    (fold-roll-CoreStmt Command (Option (List CoreChoice) × Command) (Command → Command) stmt_step alternative_step arm_step (CoreStmt-F.If (arm at condition body ∷ []) (Some otherwise) closing)
+    ∙ ap (λ choose. choose (commands otherwise)) (fold-roll-CoreArm Command (Option (List CoreChoice) × Command) (Command → Command) stmt_step alternative_step arm_step (record { place = at; condition = condition; body = body })))
 
 -- ---- the bodies
 
@@ -127,6 +128,9 @@ set_effect =
     giving_number (gives (out_x_at 7 4) (Name (local_y_at 7 9)) ∷ []) (local_y_at 6 4) (pos 1) (place 6 9)
     ∙ ap (next (assign (Some y) [] (place 6 4))) (giving_name [] (out_x_at 7 4) (local_y_at 7 9))
 
+seven_effect : body_effect gives_seven ≡ next (assign (Some x) ((place 6 9, y) ∷ []) (place 6 4)) nothing
+seven_effect = giving_name [] (out_x_at 6 4) (seven_y_at 6 9)
+
 -- ---- what is found
 
 pub declared_clean : HasNoFlowFinding (with_formal declared)
@@ -161,6 +165,9 @@ after_arm = found (with_local reads_after_arm) reads_after_arm _ arm_effect
 
 pub unset : Finds (out_with_local gives_unset) gives_unset (record nothing_found { unset = (place 6 9, y) ∷ [] })
 unset = found (out_with_local gives_unset) gives_unset _ unset_effect
+
+pub seven_clean : HasNoFlowFinding seven_program
+seven_clean = no_finding seven_program gives_seven refl (found seven_program gives_seven _ seven_effect)
 
 pub set_clean : HasNoFlowFinding (out_with_local gives_set)
 set_clean = no_finding (out_with_local gives_set) gives_set refl (found (out_with_local gives_set) gives_set _ set_effect)

@@ -71,7 +71,7 @@ effect_is =
 way_past : Free (Goes flag_effect) y
 way_past = ([], ([], [], refl, inr refl, refl), refl)
 
-pub may_be_unset : MayBeUnset flag (place 8 1) y
+pub may_be_unset : MayBeUnset flag_program flag (place 8 1) y
 may_be_unset = left refl refl (subst (λ e. Free (Goes e) y) (sym effect_is) way_past)
 
 -- ---- runs

@@ -14,7 +14,7 @@ use Rattle.spx_core.specs.Formals.{formals, stands_in}
 use Rattle.spx_core.specs.Uses.{is_same}
 use Rattle.spx_core.specs.Effects.{Effect, Read}
 use Rattle.spx_core.specs.Flow.{MayFlow}
-use Rattle.spx_core.specs.FlowRules.{body_effect, mark, Missing, Unused, Ineffective, MayBeUnset, read, left, HasNoFinding, HasNoFlowFinding}
+use Rattle.spx_core.specs.FlowRules.{body_effect, mark, Missing, Unused, Ineffective, MayBeUnset, read, left, HasNoFinding, HasNoFlowFinding, starts_set}
 use Rattle.spx_core.specs.Marks.{marked}
 use Rattle.spx_examples.specs.Found.{Found, Finds, nothing_found}
 use Rattle.spx_examples.proofs.Lists.{same, turned, chain, both, not_is, and_is, Among, only, those, of_both, of_each, of_one, of_those, contains_is, in_target, stands_is, stands_any}
@@ -97,7 +97,7 @@ module _ (p : Program) (sub : Sub) where
   is_left e v = not (imports v sub) && skips v e
 
   abbrev reads_unset : Effect → List Read
-  reads_unset e = those (λ (r : Read). not (imports r.1 sub)) (first_reads e)
+  reads_unset e = those (λ (r : Read). not (starts_set p sub r.1)) (first_reads e)
 
   abbrev left_unset : Effect → List Read
   left_unset e = flat_map (λ v. only (is_left e v) ((sub.end, v) ∷ [])) (exports_of sub)
@@ -140,23 +140,23 @@ module _ (p : Program) (sub : Sub) where
       ))
 
   -- a read, or at the end
-  unset_by : (at : Place) (v : VarId) → MayBeUnset sub at v → Among (reads_unset body) (at, v) ⊎ Among (left_unset body) (at, v)
-  unset_by at v (read unset way) = inl ((of_those (λ (r : Read). not (imports r.1 sub)) (first_reads body) (at, v)).1 ((not_is (imports v sub)).1 unset, (first_reads_are body at v).1 way))
+  unset_by : (at : Place) (v : VarId) → MayBeUnset p sub at v → Among (reads_unset body) (at, v) ⊎ Among (left_unset body) (at, v)
+  unset_by at v (read unset way) = inl ((of_those (λ (r : Read). not (starts_set p sub r.1)) (first_reads body) (at, v)).1 ((not_is (starts_set p sub v)).1 unset, (first_reads_are body at v).1 way))
   unset_by at v (left exported unset way) =
       let test = (and_is (not (imports v sub)) (skips v body)).1 ((not_is (imports v sub)).1 unset, (skips_is v body).1 way) in
       inr ((of_each (λ w. only (is_left body w) ((sub.end, w) ∷ [])) (exports_of sub) (sub.end, v)).1 (v, (exports_are sub v).0 exported, (of_one (is_left body v) (sub.end, v) (sub.end, v)).1 (test, refl)))
 
-  is_read : (at : Place) (v : VarId) → Among (reads_unset body) (at, v) → MayBeUnset sub at v
-  is_read at v h = let r = (of_those (λ (q : Read). not (imports q.1 sub)) (first_reads body) (at, v)).0 h in read ((not_is (imports v sub)).0 r.0) ((first_reads_are body at v).0 r.1)
+  is_read : (at : Place) (v : VarId) → Among (reads_unset body) (at, v) → MayBeUnset p sub at v
+  is_read at v h = let r = (of_those (λ (q : Read). not (starts_set p sub q.1)) (first_reads body) (at, v)).0 h in read ((not_is (starts_set p sub v)).0 r.0) ((first_reads_are body at v).0 r.1)
 
-  is_at_end : (at : Place) (v : VarId) → Among (left_unset body) (at, v) → MayBeUnset sub at v
+  is_at_end : (at : Place) (v : VarId) → Among (left_unset body) (at, v) → MayBeUnset p sub at v
   is_at_end at v h =
       let r = (of_each (λ w. only (is_left body w) ((sub.end, w) ∷ [])) (exports_of sub) (at, v)).0 h in
       let o = (of_one (is_left body r.0) (sub.end, r.0) (at, v)).0 r.2 in
       let tests = (and_is (not (imports r.0 sub)) (skips r.0 body)).0 o.0 in
-      subst (λ (q : Read). MayBeUnset sub q.0 q.1) o.1 (left ((exports_are sub r.0).1 r.1) ((not_is (imports r.0 sub)).0 tests.0) ((skips_is r.0 body).0 tests.1))
+      subst (λ (q : Read). MayBeUnset p sub q.0 q.1) o.1 (left ((exports_are sub r.0).1 r.1) ((not_is (imports r.0 sub)).0 tests.0) ((skips_is r.0 body).0 tests.1))
 
-  unset_are : (at : Place) (v : VarId) → MayBeUnset sub at v ↔ Among (findings body).unset (at, v)
+  unset_are : (at : Place) (v : VarId) → MayBeUnset p sub at v ↔ Among (findings body).unset (at, v)
   unset_are at v = chain (unset_by at v, λ h. ⊎_elim (is_read at v) (is_at_end at v) h) (turned (of_both (reads_unset body) (left_unset body) (at, v)))
 
   all_found : Finds p sub (findings body)
@@ -179,7 +179,7 @@ module _ (p : Program) (sub : Sub) where
     none_missing = λ u v. none_in (Missing sub u v) (u, v) (h.missing u v);
     none_unused = λ u v. none_in (Unused sub u v) (u, v) (h.unused u v);
     none_ineffective = λ at. none_in (Ineffective p sub at) at (h.ineffective at);
-    none_unset = λ at v. none_in (MayBeUnset sub at v) (at, v) (h.unset at v);
+    none_unset = λ at v. none_in (MayBeUnset p sub at v) (at, v) (h.unset at v);
   }
 
 -- nothing is found of a program of one procedure

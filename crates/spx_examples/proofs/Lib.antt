@@ -44,3 +44,4 @@ mod EffectLists
 mod FlowLists
 mod Findings
 mod Declarations
+mod Selections

@@ -15,7 +15,7 @@ use Rattle.spx_tree.specs.declared.statement.Stmt.TheVariants as written_stmt
 use Rattle.spx_tree.specs.declared.subprogram.Subprogram.{Subprogram}
 use Rattle.spx_tree.specs.declared.subprogram.Unit.{Unit}
 use Rattle.spx_tree.specs.declared.subprogram.Unit.TheVariants as unit
-use Rattle.spx_tree.specs.Written.{parenthesized, signed, operation, in_type, in_range}
+use Rattle.spx_tree.specs.Written.{applied, parenthesized, signed, operation, in_type, in_range}
 use Rattle.spx_core.specs.declared.expression.CoreExpr.{CoreExpr, CoreExpr-F}
 use Rattle.spx_core.specs.declared.rule.Breach.{Breach}
 use Rattle.spx_core.specs.declared.rule.Typing.{Typing}
@@ -24,10 +24,10 @@ use Rattle.spx_core.specs.Dependency.{relation}
 use Rattle.spx_core.specs.declared.subprogram.Sub.{Sub}
 use Rattle.spx_core.specs.Judged.{Judged, ◌>>=◌, breach_in, condition, each, expr_step, if_there, judged, operand_of, referred_target}
 use Rattle.spx_core.specs.Regions.{Regions}
-use Rattle.spx_core.specs.Resolved.{around_body, at_start, counted_sub, declaring, declaring_all, formal_names, local_names, params_of, resolved_expr, resolved_pre, resolved_reference, resolved_stmt, resolved_sub, resolved_subs, resolved_value, unit_name}
+use Rattle.spx_core.specs.Resolved.{around_body, at_start, counted_sub, declaring, declaring_all, formal_names, local_names, params_of, resolved_expr, resolved_function, resolved_pre, resolved_reference, resolved_stmt, resolved_sub, resolved_subs, resolved_value, unit_name}
 use Rattle.spx_core.specs.Resolved as resolving
 use Rattle.spx_core.specs.Statements.{first_name_breach, judged_name, judged_command, judged_decl, judged_end, judged_item, judged_param, judged_pre, judged_sub}
-use Rattle.spx_core.proofs.Callers.Expressions.{fold-Number, fold-Name, fold-Attribute, fold-Parenthesized, fold-Prefix, fold-Infix, fold-InType, fold-InRange}
+use Rattle.spx_core.proofs.Callers.Expressions.{fold-Number, fold-Name, fold-Attribute, fold-Applied, fold-Parenthesized, fold-Prefix, fold-Infix, fold-InType, fold-InRange}
 use Rattle.spx_examples.proofs.Statements.{assignment_is, if_is, and_no_more}
 use Rattle.spx_examples.proofs.Resolving.{resolved_assignment, resolved_if}
 
@@ -46,6 +46,7 @@ name_now around (Attribute prefix designator) = expr_step (CoreExpr-F.Attribute 
 abbrev pub expr_now : Regions → Expr → Judged Typing
 expr_now around (written_expr.Number n place) = expr_step (CoreExpr-F.Number n place)
 expr_now around (written_expr.Name name) = name_now around name
+expr_now around (applied function place a) = expr_step (CoreExpr-F.Applied (resolved_function around function) place (expr_now around a))
 expr_now around (parenthesized place a) = expr_step (CoreExpr-F.Parenthesized place (expr_now around a))
 expr_now around (signed op place a) = expr_step (CoreExpr-F.Prefix op place (expr_now around a))
 expr_now around (operation op place a b) = expr_step (CoreExpr-F.Infix op place (expr_now around a) (expr_now around b))
@@ -64,6 +65,10 @@ module _ (around : Regions) where
   unfolding roll-Expr roll hidden-the_row-Expr-0 hidden
   judged_is (written_expr.Number n place) = at_layer (Expr-F.Number n place) ∙ fold-Number expr_step n place
   judged_is (written_expr.Name name) = at_layer (Expr-F.Name name) ∙ judged_as name
+  judged_is (applied function place a) =
+      at_layer (Expr-F.Applied function place a)
+      ∙ fold-Applied expr_step (resolved_function around function) place (resolved_expr around a)
+      ∙ ap (λ j. expr_step (CoreExpr-F.Applied (resolved_function around function) place j)) (judged_is a)
   judged_is (parenthesized place a) = at_layer (Expr-F.Parenthesized place a) ∙ fold-Parenthesized expr_step place (resolved_expr around a) ∙ ap (λ j. expr_step (CoreExpr-F.Parenthesized place j)) (judged_is a)
   judged_is (signed op place a) = at_layer (Expr-F.Prefix op place a) ∙ fold-Prefix expr_step op place (resolved_expr around a) ∙ ap (λ j. expr_step (CoreExpr-F.Prefix op place j)) (judged_is a)
   judged_is (operation op place a b) =

@@ -1,7 +1,8 @@
 -- The flow of a procedure with one variable, X, that is derived from itself.
 use Rattle.std.proofs.Common.{◌≡◌, inl, inr, ℕ, zero, suc, ◌<◌, Bool, false, List, [], ◌∷◌, sym, ap, subst, ◌∙◌, arith}
-use Rattle.std.specs.Prelude.{IsTrue, ◌==◌, Contains}
+use Rattle.std.specs.Prelude.{IsTrue, ◌==◌, Contains, is_some}
 use Rattle.std.specs.List.{slice_index_or}
+use Rattle.std.proofs.lemmas.Bool.{or_parts}
 use Rattle.std.proofs.lemmas.Bool.Decides.{eqb_tells}
 use Rattle.spx_text.specs.declared.place.Place.{Place}
 use Rattle.spx_core.specs.declared.entity.VarId.{VarId}
@@ -10,10 +11,10 @@ use Rattle.spx_core.specs.declared.subprogram.Sub.{Sub}
 use Rattle.spx_core.specs.Dependency.{imports, exports, derives}
 use Rattle.spx_core.specs.Effects.{Effect, Read}
 use Rattle.spx_core.specs.Flow.{MayFlow}
-use Rattle.spx_core.specs.Formals.{is_formal}
+use Rattle.spx_core.specs.Formals.{initial_of, is_formal}
 use Rattle.spx_core.specs.Marks.{Occurs, marked}
 use Rattle.spx_core.specs.Ways.{Reaches}
-use Rattle.spx_core.specs.FlowRules.{body_effect, mark, Missing, Unused, Ineffective, MayBeUnset, read, left, HasNoFinding}
+use Rattle.spx_core.specs.FlowRules.{body_effect, mark, Missing, Unused, Ineffective, MayBeUnset, read, left, HasNoFinding, starts_set}
 use Rattle.spx_examples.specs.Increment.{x}
 
 -- a test that only X passes
@@ -64,8 +65,11 @@ module _ (p : Program) (sub : Sub) (e : Effect) (is : body_effect sub ≡ e) (de
   is_imported : (v : VarId) → x ≡ v → imports v sub ≡ false → ⊥
   is_imported v is_x none = absurd (let unset : imports x sub ≡ false = subst (λ w. imports w sub ≡ false) (sym is_x) none in let set = declared.imported in cc)
 
-  not_unset : (at : Place) (v : VarId) → ¬ MayBeUnset sub at v
-  not_unset at v (read unset way) = is_imported v (body.reads at v way.0 (subst (λ f. Reaches f at v way.0) is way.1)) unset
+  starts : (v : VarId) → x ≡ v → starts_set p sub v ≡ false → ⊥
+  starts v is_x none = is_imported v is_x (or_parts (imports v sub) (is_some (initial_of v p)) none).0
+
+  not_unset : (at : Place) (v : VarId) → ¬ MayBeUnset p sub at v
+  not_unset at v (read unset way) = starts v (body.reads at v way.0 (subst (λ f. Reaches f at v way.0) is way.1)) unset
   not_unset at v (left exported unset way) = is_imported v (declared.export v exported) unset
 
   pub no_finding : HasNoFinding p sub

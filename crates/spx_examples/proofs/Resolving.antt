@@ -16,16 +16,17 @@ use Rattle.spx_core.specs.declared.expression.CoreExpr.{CoreExpr}
 use Rattle.spx_core.specs.declared.expression.CoreExpr.TheVariants as expr
 use Rattle.spx_core.specs.declared.statement.CoreStmt.{CoreStmt}
 use Rattle.spx_core.specs.declared.statement.CoreStmt.TheVariants as stmt
+use Rattle.spx_core.specs.declared.statement.CoreAlternative.{CoreAlternative}
 use Rattle.spx_core.specs.declared.statement.CoreArm.{CoreArm}
 use Rattle.spx_core.specs.Regions.{Regions, denoted}
-use Rattle.spx_core.specs.Resolved.{arm_step, expr_step, stmt_step, resolved_expr, resolved_reference, resolved_stmt}
+use Rattle.spx_core.specs.Resolved.{alternative_step, arm_step, expr_step, stmt_step, resolved_expr, resolved_reference, resolved_stmt}
 use Rattle.spx_examples.specs.Increment.{place, word, x_written, successor_written, x, object, x_at, x_named, successor}
 use Rattle.spx_examples.specs.Branches.{arm}
 
 module _ (around : Regions) where
   pub resolved_assignment : (target : Name) (value : Expr) → resolved_stmt around (written_stmt.Assignment target value) ≡ stmt.Assignment (resolved_reference around target) (resolved_expr around value)
   unfolding roll-Stmt roll
-  resolved_assignment target value = fold-roll-Stmt CoreStmt CoreArm (stmt_step around) (arm_step around) (Stmt-F.Assignment target value)
+  resolved_assignment target value = fold-roll-Stmt CoreStmt CoreAlternative CoreArm (stmt_step around) (alternative_step around) (arm_step around) (Stmt-F.Assignment target value)
 
   abbrev written_arm : Place → Expr → List Stmt → Arm
   written_arm at condition body = record { place = at; condition = condition; body = body }
@@ -34,8 +35,8 @@ module _ (around : Regions) where
       → resolved_stmt around (written_stmt.If (written_arm at condition body ∷ []) None closing) ≡ stmt.If (arm at (resolved_expr around condition) (map (resolved_stmt around) body) ∷ []) None closing
   unfolding roll-Stmt roll
   resolved_if at condition body closing =
-      fold-roll-Stmt CoreStmt CoreArm (stmt_step around) (arm_step around) (Stmt-F.If (written_arm at condition body ∷ []) None closing)
-      ∙ ap (λ (a : CoreArm). stmt.If (a ∷ []) None closing) (fold-roll-Arm CoreStmt CoreArm (stmt_step around) (arm_step around) (record { place = at; condition = condition; body = body }))
+      fold-roll-Stmt CoreStmt CoreAlternative CoreArm (stmt_step around) (alternative_step around) (arm_step around) (Stmt-F.If (written_arm at condition body ∷ []) None closing)
+      ∙ ap (λ (a : CoreArm). stmt.If (a ∷ []) None closing) (fold-roll-Arm CoreStmt CoreAlternative CoreArm (stmt_step around) (alternative_step around) (arm_step around) (record { place = at; condition = condition; body = body }))
 
   -- where X denotes the variable
   module _ (is : denoted around (codes "X") ≡ Some (entity.Variable x object)) where

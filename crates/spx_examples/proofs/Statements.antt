@@ -1,5 +1,5 @@
 -- What the examples share: statements as commands, and parts of judgements and of runs.
-use Rattle.std.proofs.Common.{◌≡◌, List, [], ◌∷◌, None, Some, ap, ap₂, ◌∙◌, Ok}
+use Rattle.std.proofs.Common.{◌≡◌, List, [], ◌∷◌, Option, None, Some, ap, ap₂, ◌∙◌, Ok}
 use Rattle.std.specs.Prelude.{⊤}
 use denote.Hole.Carrier.{roll}
 use Rattle.spx_text.specs.declared.place.Place.{Place}
@@ -10,22 +10,23 @@ use Rattle.spx_core.specs.declared.expression.CoreExpr.{CoreExpr}
 use Rattle.spx_core.specs.declared.statement.CoreStmt.{CoreStmt, CoreStmt-F, roll-CoreStmt, fold-roll-CoreStmt}
 use Rattle.spx_core.specs.declared.statement.CoreStmt.TheVariants as stmt
 use Rattle.spx_core.specs.declared.statement.CoreArm.{fold-roll-CoreArm}
+use Rattle.spx_core.specs.declared.statement.CoreChoice.{CoreChoice}
 use Rattle.spx_core.specs.declared.rule.Typing.{Typing}
 use Rattle.spx_core.specs.declared.subprogram.Sub.{Sub}
 use Rattle.spx_core.specs.Judged.{Judged, ◌>>=◌, operation}
-use Rattle.spx_core.specs.Commands.{Command, Skip, Set, Then, Choose, arm_step, stmt_step, command, commands}
+use Rattle.spx_core.specs.Commands.{Command, Skip, Set, Then, Choose, alternative_step, arm_step, stmt_step, command, commands}
 use Rattle.spx_meaning.specs.declared.bad.BadKind.TheVariants.{Unset}
 use Rattle.spx_meaning.specs.Runs.{Outcome, then_do, demand, exports_set}
 use Rattle.spx_examples.specs.Branches.{arm}
 
 pub null_is : (at : Place) → commands (stmt.Null at ∷ []) ≡ Then Skip Skip
 unfolding roll-CoreStmt roll
-null_is at = ap (λ c. Then c Skip) (fold-roll-CoreStmt Command (Command → Command) stmt_step arm_step (CoreStmt-F.Null at))
+null_is at = ap (λ c. Then c Skip) (fold-roll-CoreStmt Command (Option (List CoreChoice) × Command) (Command → Command) stmt_step alternative_step arm_step (CoreStmt-F.Null at))
 
 -- an assignment sets its target
 pub assignment_sets : (target : Reference) (value : CoreExpr) → command (stmt.Assignment target value) ≡ Set target value
 unfolding roll-CoreStmt roll
-assignment_sets target value = fold-roll-CoreStmt Command (Command → Command) stmt_step arm_step (CoreStmt-F.Assignment target value)
+assignment_sets target value = fold-roll-CoreStmt Command (Option (List CoreChoice) × Command) (Command → Command) stmt_step alternative_step arm_step (CoreStmt-F.Assignment target value)
 
 pub assignment_is : (target : Reference) (value : CoreExpr) → commands (stmt.Assignment target value ∷ []) ≡ Then (Set target value) Skip
 assignment_is target value = ap (λ c. Then c Skip) (assignment_sets target value)
@@ -35,8 +36,8 @@ pub if_is : (at : Place) (condition : CoreExpr) (body : List CoreStmt) (closing 
 unfolding roll-CoreStmt roll
 if_is at condition body closing =
     ap (λ c. Then c Skip)
-    (fold-roll-CoreStmt Command (Command → Command) stmt_step arm_step (CoreStmt-F.If (arm at condition body ∷ []) None closing)
-    ∙ ap (λ choose. choose Skip) (fold-roll-CoreArm Command (Command → Command) stmt_step arm_step (record { place = at; condition = condition; body = body })))
+    (fold-roll-CoreStmt Command (Option (List CoreChoice) × Command) (Command → Command) stmt_step alternative_step arm_step (CoreStmt-F.If (arm at condition body ∷ []) None closing)
+    ∙ ap (λ choose. choose Skip) (fold-roll-CoreArm Command (Option (List CoreChoice) × Command) (Command → Command) stmt_step alternative_step arm_step (record { place = at; condition = condition; body = body })))
 
 -- `elsif` is an `if` in the `else` before it
 pub elsif_is : (p q : Place) (first second : CoreExpr) (a b c : List CoreStmt) (closing : Closing)
@@ -44,10 +45,10 @@ pub elsif_is : (p q : Place) (first second : CoreExpr) (a b c : List CoreStmt) (
 unfolding roll-CoreStmt roll
 elsif_is p q first second a b c closing =
     ap (λ choose. Then choose Skip)
-    (fold-roll-CoreStmt Command (Command → Command) stmt_step arm_step (CoreStmt-F.If (arm p first a ∷ arm q second b ∷ []) (Some c) closing)
+    (fold-roll-CoreStmt Command (Option (List CoreChoice) × Command) (Command → Command) stmt_step alternative_step arm_step (CoreStmt-F.If (arm p first a ∷ arm q second b ∷ []) (Some c) closing)
     ∙ ap₂ (λ (f g : Command → Command). f (g (commands c)))
-    (fold-roll-CoreArm Command (Command → Command) stmt_step arm_step (record { place = p; condition = first; body = a }))
-    (fold-roll-CoreArm Command (Command → Command) stmt_step arm_step (record { place = q; condition = second; body = b })))
+    (fold-roll-CoreArm Command (Option (List CoreChoice) × Command) (Command → Command) stmt_step alternative_step arm_step (record { place = p; condition = first; body = a }))
+    (fold-roll-CoreArm Command (Option (List CoreChoice) × Command) (Command → Command) stmt_step alternative_step arm_step (record { place = q; condition = second; body = b })))
 
 -- ---- judgements
 

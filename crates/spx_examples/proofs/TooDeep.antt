@@ -10,7 +10,7 @@ use Rattle.spx_tree.specs.Lexemes.{unreserved, kind_of_word, code_delimiters, de
 use Rattle.spx_tree.specs.Places.{place_after_bytes}
 use Rattle.spx_tree.specs.Spells.{Spells}
 use Rattle.spx_tree.specs.Form.{Form, placed, named, literal, forms_of}
-use Rattle.spx_tree.specs.Written.{program, parenthesized, signed, operation, in_type, in_range, written_expr}
+use Rattle.spx_tree.specs.Written.{program, applied, parenthesized, signed, operation, in_type, in_range, written_expr}
 use Rattle.spx_tree.specs.Grammar.{IsExpr}
 use Rattle.spx_tree.specs.Goes.{TooDeep, Begins, Answers}
 use Rattle.spx_examples.specs.Increment.{place, word, x_written, successor_written}
@@ -44,6 +44,7 @@ no_operator : Begins (written_expr program) IsExpr 0 (x_form ∷ plus_form ∷ [
 no_operator (more, tree.Number value at, fit, e) = absurd cc
 no_operator (more, tree.Name (Simple name), fit, e) = absurd cc
 no_operator (more, tree.Name (Attribute prefix designator), fit, e) = let kind : k.Plus ≡ k.Apostrophe = second_kind _ _ _ _ _ _ e in absurd cc
+no_operator (more, applied function at operand, fit, e) = omega (arith, fit.low)
 no_operator (more, parenthesized at inner, fit, e) = omega (arith, fit.low)
 no_operator (more, signed sign at operand, fit, e) = omega (arith, fit.low)
 no_operator (more, operation op at left right, fit, e) = omega (arith, fit.low)

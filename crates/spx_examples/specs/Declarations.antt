@@ -14,6 +14,7 @@ use Rattle.spx_tree.specs.declared.expression.Name.{Name}
 use Rattle.spx_tree.specs.declared.expression.Name.TheVariants.{Simple, Attribute}
 use Rattle.spx_tree.specs.declared.expression.PrefixOp.{PrefixOp}
 use Rattle.spx_tree.specs.declared.expression.PrefixOp.TheVariants.{Minus}
+use Rattle.spx_tree.specs.declared.statement.Stmt.{Stmt}
 use Rattle.spx_tree.specs.declared.statement.Stmt.TheVariants.{Assignment}
 use Rattle.spx_tree.specs.declared.subprogram.Subprogram.{Subprogram}
 use Rattle.spx_tree.specs.declared.subprogram.Unit.TheVariants as unit
@@ -105,13 +106,17 @@ named_number_in line name value = written_decl.Constants (word name line 4 ∷ [
 
 -- `name : type_name`
 abbrev pub variable_in : ℕ → (name type_name : List ℕ) → Decl
-variable_in line name type_name = written_decl.Variables (word name line 4 ∷ []) (Simple (word type_name line 20))
+variable_in line name type_name = written_decl.Variables (word name line 4 ∷ []) (Simple (word type_name line 20)) None
 
 -- ---- the procedure
 
--- with these declarations and this assignment
+-- with these declarations and this statement
+abbrev pub stating : List Decl → Stmt → Subprogram
+stating ds statement = record inc_written { pre = None; declarations = ds; statements = statement ∷ []; end = place 10 1; end_name = Some (word (codes "Inc") 10 5) }
+
+-- with this assignment
 abbrev pub assigning_to : List Decl → Name → Expr → Subprogram
-assigning_to ds target value = record inc_written { pre = None; declarations = ds; statements = Assignment target value ∷ []; end = place 10 1; end_name = Some (word (codes "Inc") 10 5) }
+assigning_to ds target value = stating ds (Assignment target value)
 
 -- `X := 1`
 abbrev pub declaring : List Decl → Subprogram

@@ -4,11 +4,12 @@ use Rattle.spx_tree.specs.declared.expression.InfixOp.TheVariants as op
 use Rattle.spx_tree.specs.declared.subprogram.WrittenMode.TheVariants as written
 use Rattle.spx_tree.specs.declared.statement.Closing.{Closing}
 use Rattle.spx_core.specs.declared.entity.TheConstants.{INTEGER}
+use Rattle.spx_core.specs.declared.entity.Entity.{Entity}
 use Rattle.spx_core.specs.declared.entity.Entity.TheVariants as entity
 use Rattle.spx_core.specs.declared.entity.Mode.TheVariants.{Out, InOut}
 use Rattle.spx_core.specs.declared.entity.VarId.{VarId}
 use Rattle.spx_core.specs.declared.entity.VarKind.{VarKind}
-use Rattle.spx_core.specs.declared.entity.VarKind.TheVariants.{Formal, Local}
+use Rattle.spx_core.specs.declared.entity.VarKind.TheVariants.{Formal, Initialized, Local}
 use Rattle.spx_core.specs.declared.expression.CoreExpr.{CoreExpr}
 use Rattle.spx_core.specs.declared.expression.CoreExpr.TheVariants.{Name, Number, Infix}
 use Rattle.spx_core.specs.declared.name.CoreName.{CoreName}
@@ -139,7 +140,7 @@ local_y_at line column = record { name = word (codes "Y") line column; entity = 
 abbrev pub inc_with_local : Sub
 inc_with_local = record inc {
   pre = None;
-  declarations = Variables (record { name = word (codes "Y") 4 4; entity = entity.Variable y (record { kind = Local; subtype = INTEGER }); again = false } ∷ []) (named (integer_at 4 8)) ∷ [];
+  declarations = Variables (record { name = word (codes "Y") 4 4; entity = entity.Variable y (record { kind = Local; subtype = INTEGER }); again = false } ∷ []) (named (integer_at 4 8)) None ∷ [];
   statements = step ∷ gives (local_y_at 7 4) (Name (x_at 7 9)) ∷ [];
   end = place 8 1;
   end_name = Some (word (codes "Inc") 8 5);
@@ -200,6 +201,23 @@ gives_set = record gives_unset {
 -- the program of such a procedure
 abbrev pub out_with_local : Sub → Program
 out_with_local = program_of (Formal Out) Local
+
+-- the one whose local is declared with 7
+abbrev pub seven_y : Entity
+seven_y = entity.Variable y (record { kind = Initialized (pos 7); subtype = INTEGER })
+
+abbrev pub seven_y_at : ℕ → ℕ → CoreName
+seven_y_at line column = record { name = word (codes "Y") line column; entity = Some seven_y }
+
+abbrev pub gives_seven : Sub
+gives_seven = record gives_unset {
+  declarations = Variables (record { name = word (codes "Y") 4 4; entity = seven_y; again = false } ∷ []) (named (integer_at 4 8)) (Some (Number (pos 7) (place 4 19))) ∷ [];
+  statements = gives (out_x_at 6 4) (Name (seven_y_at 6 9)) ∷ [];
+}
+
+-- and its program
+abbrev pub seven_program : Program
+seven_program = program_of (Formal Out) (Initialized (pos 7)) gives_seven
 
 -- ---- `Flag` with other bodies
 

@@ -22,4 +22,4 @@ pub record Finds (p : Program) (sub : Sub) (found : Found) : Type 0 where
   pub missing : (u v : VarId) → Missing sub u v ↔ Contains found.missing (u, v)
   pub unused : (u v : VarId) → Unused sub u v ↔ Contains found.unused (u, v)
   pub ineffective : (at : Place) → Ineffective p sub at ↔ Contains found.ineffective at
-  pub unset : (at : Place) (v : VarId) → MayBeUnset sub at v ↔ Contains found.unset (at, v)
+  pub unset : (at : Place) (v : VarId) → MayBeUnset p sub at v ↔ Contains found.unset (at, v)

@@ -15,3 +15,4 @@ pub mod Sequents
 pub mod Found
 pub mod Findings
 pub mod Declarations
+pub mod Selections

@@ -89,7 +89,7 @@ ending s text = record s { end_name = Some (word text 7 5) }
 
 -- a local with this type name
 abbrev pub with_local : Subprogram → (name type_name : List ℕ) → (type_column : ℕ) → Subprogram
-with_local s name type_name type_column = record s { declarations = Variables (word name 4 4 ∷ []) (Simple (word type_name 4 type_column)) ∷ [] }
+with_local s name type_name type_column = record s { declarations = Variables (word name 4 4 ∷ []) (Simple (word type_name 4 type_column)) None ∷ [] }
 
 -- the precondition that a name is true
 abbrev pub with_pre : Subprogram → List ℕ → Subprogram

@@ -143,7 +143,7 @@ abbrev pub with_local_z : List CoreDerivesItem → Program
 with_local_z items = record flag_program {
   vars = flag_program.vars ++ record { name = codes "Z"; kind = Local; type_id = INTEGER.id } ∷ [];
   subs = record (with_items items) {
-    declarations = Variables (record { name = word (codes "Z") 4 4; entity = z_entity; again = false } ∷ []) (named (integer_at 4 8)) ∷ [];
+    declarations = Variables (record { name = word (codes "Z") 4 4; entity = z_entity; again = false } ∷ []) (named (integer_at 4 8)) None ∷ [];
     vars = x ∷ y ∷ z ∷ [];
   } ∷ [];
 }

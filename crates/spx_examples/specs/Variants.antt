@@ -50,7 +50,7 @@ local_y_at line column = record { name = word (codes "Y") line column; entity = 
 -- the procedure with these statements
 abbrev pub local_sub : List CoreStmt → Sub
 local_sub statements = record inc_without_pre {
-  declarations = Variables (record { name = word (codes "Y") 4 4; entity = local_y; again = false } ∷ []) (named (integer_at 4 8)) ∷ [];
+  declarations = Variables (record { name = word (codes "Y") 4 4; entity = local_y; again = false } ∷ []) (named (integer_at 4 8)) None ∷ [];
   statements = statements;
   vars = x ∷ y ∷ [];
 }

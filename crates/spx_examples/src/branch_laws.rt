@@ -26,7 +26,7 @@ ghost use Rattle.spx_examples.specs.Flag.{y, flag, flag_program, flag_effect};
 ghost use Rattle.spx_examples.specs.Next.{next_sub, next_program, next_effect, path_through_arm, path_past_arm, next_conditions};
 ghost use Rattle.spx_examples.specs.Refused.{x_is_last};
 
-use spx_core::laws::{names_are_scoped, resolution, rules_hold};
+use spx_core::laws::{initial_values_fit, names_are_scoped, resolution, rules_hold};
 
 /// `elsif` is an `if` in the `else` before it.
 pub fn elsif_is_nested()
@@ -69,6 +69,7 @@ pub fn next_is_never_bad()
 {
     next_is_clean();
     names_are_scoped();
+    initial_values_fit();
     rules_hold();
 }
 
@@ -78,7 +79,7 @@ pub fn one_arm_is_not_enough()
     ensures typed { Typed flag_program }
     ensures obeys { Obeys flag_program }
     ensures body { body_effect flag ≡ flag_effect }
-    ensures may_be_unset { MayBeUnset flag flag.end y }
+    ensures may_be_unset { MayBeUnset flag_program flag flag.end y }
     ensures through_arm { (n : ℕ) (v : Value) → call flag_program n flag (Some (value.Number (pos 1)) ∷ Some v ∷ []) ≡ Ended (Some (value.Number (pos 1)) ∷ Some (value.Number (pos 1)) ∷ []) }
     ensures past_arm { (n : ℕ) (v : Value) → call flag_program n flag (Some (value.Number (pos 0)) ∷ Some v ∷ []) ≡ Bad Unset flag.end }
 {}

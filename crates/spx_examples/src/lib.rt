@@ -11,6 +11,7 @@ pub mod laws;
 pub mod name_rule_laws;
 pub mod operator_laws;
 pub mod run_laws;
+pub mod selection_laws;
 pub mod sequent_laws;
 pub mod text_laws;
 pub mod variable_rule_laws;

@@ -116,6 +116,16 @@ steps_copied set e rho copy new before after size same step = record {
   occurrences = step.occurrences;
 }
 
+-- what has been gone over may be gone over again
+pub steps_again : (set : List ℕ) (e : Effect) (rho new : Matrix) (before after : List Occurrence) → StepsBack set e rho new before after → StepsBack set e rho new after after
+steps_again set e rho new before after step = record {
+  size = step.size;
+  rho = step.rho;
+  mu_rows = step.mu_rows;
+  mu = λ p b. (λ h. inl h, λ h. ⊎_elim (λ old. old) (λ q. (step.mu p b).1 (inr q)) h);
+  occurrences = λ p. (λ h. inl h, λ h. ⊎_elim (λ old. old) (λ q. (step.occurrences p).1 (inr q)) h);
+}
+
 -- ---- the condition of an arm
 
 -- `rest` is what is done where the condition is false; the condition reads the variables at `from`, and the arms set those at `to`

@@ -1,20 +1,22 @@
--- Passes over arms, and matrices by what leads to their rows.
-use Rattle.std.proofs.Common.{◌≡◌, ◌↔◌, ℕ, ◌+◌, ◌-◌, ◌<◌, List, ◌∷◌, drop, get_or, length, All, arith, ap, refl, subst, sym, ◌∙◌}
+-- Passes over arms and alternatives, and matrices by what leads to their rows.
+use Rattle.std.proofs.Common.{◌≡◌, ◌↔◌, ℕ, ◌+◌, ◌-◌, ◌<◌, List, [], ◌∷◌, drop, get_or, length, All, arith, ap, refl, subst, sym, ◌∙◌, inl, ⊎_elim}
 use Rattle.std.specs.Prelude.{◌==◌, ◌||◌, Contains, IsTrue}
 use Rattle.std.specs.List.{IsDistinct}
-use Rattle.std.proofs.lemmas.List.{drop_more}
+use Rattle.std.proofs.lemmas.List.{drop_all, drop_more}
 use Rattle.std.proofs.lemmas.List.Elements.{All-contains}
+use Rattle.spx_text.specs.declared.place.Place.{Place}
 use Rattle.spx_core.specs.declared.entity.VarId.{VarId}
 use Rattle.spx_core.specs.Commands.{Command}
-use Rattle.spx_core.specs.Effects.{Effect, sets}
+use Rattle.spx_core.specs.Effects.{Effect, Read, choose, effect, sets}
 use Rattle.spx_core.specs.Mirror.VarSets.{holds}
 use Rattle.spx_rows.specs.Relations.{Matrix, Holds, Of}
 use Rattle.spx_flow.specs.declared.flow.Occurrence.{Occurrence}
-use Rattle.spx_flow.specs.Branches.{Arms}
+use Rattle.spx_flow.specs.Branches.{Arms, Done, Joins, Tests}
 use Rattle.spx_flow.specs.Flows.{AreRows}
 use Rattle.spx_flow.specs.Positions.{Leads, Stands}
 use Rattle.spx_flow.specs.Targets.{positions_in}
 use Rattle.spx_flow.proofs.PositionLaws.{numbers_at, stands_within}
+use Rattle.spx_flow.proofs.TargetLaws.{or_same}
 
 module _ (Steps : Effect → Matrix → (before after : List Occurrence) → Type 0) (set : List ℕ) where
   pub arms_none : (ends : Matrix) (targets : List ℕ) (list : List Occurrence) → AreRows (length set) list → Arms Steps set (λ otherwise. otherwise) ends ends targets targets list list
@@ -28,6 +30,35 @@ module _ (Steps : Effect → Matrix → (before after : List Occurrence) → Typ
     targets = λ otherwise h. first.targets (rest otherwise) (others.targets otherwise h);
     steps = λ otherwise start h steps. first.steps (rest otherwise) start (others.targets otherwise h) (others.steps otherwise start h steps);
   }
+
+  -- a way and a test before it are an arm
+  pub arm_done : (arm : Command → Command) (tests : List Read) (a : Effect) (place : Place) → ((otherwise : Command) → effect (arm otherwise) ≡ choose tests a (effect otherwise) place) →
+      (ends joined new : Matrix) (others all : List ℕ) (before mid after : List Occurrence) → Joins Steps set a ends joined others all before mid → Tests Steps set tests place joined new all mid after → Arms Steps set arm ends new others all before after
+  arm_done arm tests a place is ends joined new others all before mid after way test = record {
+    size = test.size ∙ way.size;
+    rows = test.rows;
+    targets = λ otherwise h v. way.targets v ∙ ap (λ b. sets v a || b) (h v) ∙ ap (sets v) (sym (is otherwise));
+    steps = λ otherwise start h rest. subst (λ e. Steps e new start after) (sym (is otherwise))
+        (test.steps a (effect otherwise) ends way.end start before (λ v. way.targets v ∙ ap (λ b. sets v a || b) (h v)) rest way.steps way.union);
+  }
+
+  -- a way and a test before it, where the other way is done already
+  pub choice_done : (e : Effect) (tests : List Read) (a b : Effect) (place : Place) → e ≡ choose tests a b place → (ends joined new : Matrix) (others all : List ℕ) (start before mid after : List Occurrence) →
+      Done Steps b ends others start before → Joins Steps set a ends joined others all before mid → Tests Steps set tests place joined new all mid after → Done Steps e new all start after
+  choice_done e tests a b place is ends joined new others all start before mid after done way test =
+      let known = λ (v : VarId). way.targets v ∙ ap (λ t. sets v a || t) (done.targets v) in record {
+        targets = λ v. known v ∙ ap (sets v) (sym is);
+        steps = subst (λ x. Steps x new start after) (sym is) (test.steps a b ends way.end start before known done.steps way.steps way.union);
+      }
+
+  -- one way whatever the test says; it may be gone over again
+  pub only_done : (e : Effect) (tests : List Read) (a : Effect) (place : Place) → e ≡ choose tests a a place → (ends new : Matrix) (all : List ℕ) (start before after : List Occurrence) →
+      Done Steps a ends all start before → Steps a ends before before → Tests Steps set tests place ends new all before after → Done Steps e new all start after
+  only_done e tests a place is ends new all start before after done again test =
+      let known = λ (v : VarId). done.targets v ∙ sym (or_same (sets v a)) in record {
+        targets = λ v. known v ∙ ap (sets v) (sym is);
+        steps = subst (λ x. Steps x new start after) (sym is) (test.steps a a ends ends start before known done.steps again (λ p q. (λ h. inl h, λ h. ⊎_elim (λ one. one) (λ two. two) h)));
+      }
 
 -- what leads to rows of a copy leads to those of the whole
 pub leads_same : (set : List ℕ) (R : VarId → Type 0) (m n : Matrix) → ((a b : ℕ) → Holds m a b ↔ Holds n a b) → (b : ℕ) → Leads set R m b ↔ Leads set R n b
@@ -45,6 +76,12 @@ rows_led set R from within exact m a = (
 -- what is left of a list, where some is
 pub left_from : {X : Type 0} (xs : List X) (k : ℕ) (x : X) → k < length xs → x ≡ get_or xs k x → drop k xs ≡ x ∷ drop (k + 1) xs
 left_from xs k x within is = drop_more xs k x within ∙ ap (λ y. y ∷ drop (k + 1) xs) (sym is)
+
+-- the last element
+pub left_last : {X : Type 0} (xs : List X) (k : ℕ) (x : X) → k + 1 ≡ length xs → x ≡ get_or xs k x → drop k xs ≡ x ∷ []
+left_last xs k x end is =
+    let within : k < length xs = omega arith in
+    left_from xs k x within is ∙ ap (λ rest. x ∷ rest) (drop_all (k + 1) xs (omega arith))
 
 -- what is left of a list from one element earlier on
 pub left_of : {X : Type 0} (xs : List X) (k : ℕ) (x : X) → 0 < k → k - 1 < length xs → x ≡ get_or xs (k - 1) x → drop (k - 1) xs ≡ x ∷ drop k xs

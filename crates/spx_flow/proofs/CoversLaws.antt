@@ -1,5 +1,5 @@
 -- What covers a statement covers its parts.
-use Rattle.std.proofs.Common.{◌≡◌, ℕ, false, ◌||◌, List, [], ◌∷◌, Option, Some, None, map, subst, sym, ⊎_elim}
+use Rattle.std.proofs.Common.{◌≡◌, ℕ, ◌<◌, false, ◌||◌, List, [], ◌∷◌, Option, Some, arith, length, map, subst, sym, ⊎_elim}
 use Rattle.std.specs.Prelude.{All}
 use Rattle.std.proofs.lemmas.Bool.{or_left, or_right, or_cases}
 use Rattle.std.proofs.lemmas.List.Elements.{All-cons, All-nil}
@@ -8,10 +8,12 @@ use Rattle.spx_tree.specs.declared.statement.Closing.{Closing}
 use Rattle.spx_core.specs.declared.statement.CoreStmt.{CoreStmt}
 use Rattle.spx_core.specs.declared.statement.CoreStmt.TheVariants.{If}
 use Rattle.spx_core.specs.declared.statement.CoreArm.{CoreArm, out-CoreArm}
-use Rattle.spx_core.specs.Commands.{Command, Skip, arm_before, arms_before, command, commands}
+use Rattle.spx_core.specs.declared.statement.CoreAlternative.{CoreAlternative, out-CoreAlternative}
+use Rattle.spx_core.specs.declared.expression.CoreExpr.{CoreExpr}
+use Rattle.spx_core.specs.Commands.{Command, Skip, alternative, arm_before, arms_before, command, commands, select}
 use Rattle.spx_core.specs.Effects.{Effect, Read, choose, effect, effects, is_read, nothing, reads, reads_of, sets}
 use Rattle.spx_flow.specs.Positions.{Covers}
-use Rattle.spx_flow.proofs.CommandForms.{command-If, command-If-else, command_arm}
+use Rattle.spx_flow.proofs.CommandForms.{command-If-else, command_arm, select_last, select_more}
 
 module _ (set : List ℕ) where
   first_covered : (tests : List Read) (a b : Effect) (place : Place) → Covers set (choose tests a b place) → Covers set a
@@ -56,10 +58,23 @@ module _ (set : List ℕ) where
       let first = subst (λ k. Covers set (effect k)) (sym (command_arm arm Skip)) (only_first (reads_of a.condition) (effects a.body) (effect rest) a.place chosen) in
       (All-cons (λ (x : CoreArm). Covers set (effect (arm_before x Skip))) arm arms first others.0, others.1)
 
-  -- the parts of an `if`
-  pub if_covered : (s : CoreStmt) (arms : List CoreArm) (o : Option (List CoreStmt)) (closing : Closing) → s ≡ If arms o closing → o ≡ None → Covers set (effect (command s)) → All (λ (arm : CoreArm). Covers set (effect (arm_before arm Skip))) arms
-  if_covered s arms o closing is none covers = (arms_covered Skip arms (subst (λ k. Covers set (effect k)) (command-If s arms o closing is none) covers)).0
-
+  -- the parts of an `if` with an `else`
   pub if_else_covered : (s : CoreStmt) (arms : List CoreArm) (o : Option (List CoreStmt)) (stmts : List CoreStmt) (closing : Closing) → s ≡ If arms o closing → o ≡ Some stmts → Covers set (effect (command s)) →
       All (λ (arm : CoreArm). Covers set (effect (arm_before arm Skip))) arms × Covers set (effects stmts)
   if_else_covered s arms o stmts closing is some covers = arms_covered (commands stmts) arms (subst (λ k. Covers set (effect k)) (command-If-else s arms o stmts closing is some) covers)
+
+  -- the statements of each alternative of a `case`
+  pub alternatives_covered : (place : Place) (selector : CoreExpr) (alternatives : List CoreAlternative) → Covers set (effect (select place selector (map alternative alternatives))) →
+      All (λ (a : CoreAlternative). Covers set (effects (out-CoreAlternative a).body)) alternatives
+  alternatives_covered place selector [] covers = All-nil (λ (a : CoreAlternative). Covers set (effects (out-CoreAlternative a).body))
+  alternatives_covered place selector (a ∷ []) covers =
+      let body = effects (out-CoreAlternative a).body in
+      let first = first_covered (reads_of selector) body body place (subst (Covers set) (select_last place selector a) covers) in
+      All-cons (λ (x : CoreAlternative). Covers set (effects (out-CoreAlternative x).body)) a [] first (All-nil (λ (x : CoreAlternative). Covers set (effects (out-CoreAlternative x).body)))
+  alternatives_covered place selector (a ∷ b ∷ rest) covers =
+      let body = effects (out-CoreAlternative a).body in
+      let others = effect (select place selector (map alternative (b ∷ rest))) in
+      let some : 0 < length (b ∷ rest) = omega arith in
+      let chosen = subst (Covers set) (select_more place selector a (b ∷ rest) some) covers in
+      All-cons (λ (x : CoreAlternative). Covers set (effects (out-CoreAlternative x).body)) a (b ∷ rest) (first_covered (reads_of selector) body others place chosen)
+      (alternatives_covered place selector (b ∷ rest) (second_covered (reads_of selector) body others place chosen))

@@ -119,6 +119,15 @@ steps_copied set e state copy new before after size same step = record {
   );
 }
 
+-- what has been gone over may be gone over again
+pub steps_again : (set : List ℕ) (e : Effect) (state new : Matrix) (before after : List Occurrence) → StepsForward set e state new before after → StepsForward set e state new after after
+steps_again set e state new before after step = record {
+  size = step.size;
+  state = step.state;
+  lambda_rows = step.lambda_rows;
+  lambda = λ p a. (λ h. inl h, λ h. ⊎_elim (λ old. old) (λ q. (step.lambda p a).1 (inr q)) h);
+}
+
 -- ---- the condition of an arm
 
 -- `rest` is what is done where the condition is false; the condition reads the rows at `from`, and the arms set the variables at `to`

@@ -16,11 +16,12 @@ use Rattle.spx_tree.specs.declared.expression.InfixOp.{InfixOp}
 use Rattle.spx_tree.specs.declared.expression.PrefixOp.{PrefixOp}
 use Rattle.spx_tree.specs.declared.expression.MemberOp.{MemberOp}
 use Rattle.spx_core.specs.declared.entity.VarId.{VarId}
+use Rattle.spx_core.specs.declared.function.CoreFunction.{CoreFunction}
 use Rattle.spx_core.specs.declared.name.CoreName.{CoreName}
 use Rattle.spx_core.specs.declared.name.Reference.{Reference}
 use Rattle.spx_core.specs.declared.expression.CoreExpr.{CoreExpr}
 use Rattle.spx_core.specs.declared.statement.CoreStmt.{CoreStmt}
-use Rattle.spx_core.specs.declared.expression.CoreExpr.TheVariants.{Number, Name, Attribute, Parenthesized, Prefix, Infix, InType, InRange}
+use Rattle.spx_core.specs.declared.expression.CoreExpr.TheVariants.{Number, Name, Attribute, Applied, Parenthesized, Prefix, Infix, InType, InRange}
 use Rattle.spx_core.specs.Uses.{denotes, is_same, variable_of}
 use Rattle.spx_core.specs.Reads.{names_read, names_step}
 use Rattle.spx_core.specs.Effects.{Effect, effect, effects, is_read, reads, reads_of, sets}
@@ -29,7 +30,7 @@ use Rattle.spx_core.specs.Flow.{MayFlow}
 use Rattle.spx_core.specs.Mirror.VarSets.{holds, place_in_set}
 use Rattle.spx_flow.specs.Positions.{Covers, Stands, position_named, positions_read}
 use Rattle.spx_flow.specs.Targets.{positions_in}
-use Rattle.spx_core.proofs.Callers.Expressions.{fold-Number, fold-Name, fold-Attribute, fold-Parenthesized, fold-Prefix, fold-Infix, fold-InType, fold-InRange}
+use Rattle.spx_core.proofs.Callers.Expressions.{fold-Number, fold-Name, fold-Attribute, fold-Applied, fold-Parenthesized, fold-Prefix, fold-Infix, fold-InType, fold-InRange}
 use Rattle.spx_core.proofs.Callers.FlowLaws.{keeps, reads_any, reads_uses, sets_any}
 use Rattle.spx_core.proofs.Callers.ListTests.{found, passes}
 use Rattle.spx_core.proofs.Callers.Variables.{same_itself, same_var}
@@ -45,6 +46,9 @@ module _ (set : List ℕ) where
 
   pub positions-Attribute : (prefix : CoreName) (designator : Identifier) → positions_read set (Attribute prefix designator) ≡ []
   positions-Attribute prefix designator = ap (filter_map (position_named set)) (fold-Attribute names_step prefix designator)
+
+  pub positions-Applied : (function : CoreFunction) (place : Place) (a : CoreExpr) → positions_read set (Applied function place a) ≡ positions_read set a
+  positions-Applied function place a = ap (filter_map (position_named set)) (fold-Applied names_step function place a)
 
   pub positions-Parenthesized : (place : Place) (a : CoreExpr) → positions_read set (Parenthesized place a) ≡ positions_read set a
   positions-Parenthesized place a = ap (filter_map (position_named set)) (fold-Parenthesized names_step place a)
@@ -65,7 +69,7 @@ module _ (set : List ℕ) where
       ∙ filter_map-append (position_named set) (names_read a) (names_read low ++ names_read high)
       ∙ ap (λ l. positions_read set a ++ l) (filter_map-append (position_named set) (names_read low) (names_read high))
 
-pub ruleset positions_forms = (positions-Number, positions-Name, positions-Attribute, positions-Parenthesized, positions-Prefix, positions-Infix, positions-InType, positions-InRange, append_assoc)
+pub ruleset positions_forms = (positions-Number, positions-Name, positions-Attribute, positions-Applied, positions-Parenthesized, positions-Prefix, positions-Infix, positions-InType, positions-InRange, append_assoc)
 
 -- ---- positions and variables
 

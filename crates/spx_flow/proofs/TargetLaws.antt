@@ -1,15 +1,17 @@
 -- The variables that statements set.
-use Rattle.std.proofs.Common.{◌≡◌, ℕ, Bool, true, false, ◌||◌, List, [], ◌∷◌, map, Option, Some, None, refl, sym, ap, ap₂, ◌∙◌}
+use Rattle.std.proofs.Common.{◌≡◌, Bool, true, false, ◌||◌, List, [], ◌∷◌, map, Option, Some, None, refl, sym, ap, ap₂, ◌∙◌}
 use Rattle.spx_tree.specs.declared.statement.Closing.{Closing}
 use Rattle.spx_core.specs.declared.entity.VarId.{VarId}
 use Rattle.spx_core.specs.declared.statement.CoreStmt.{CoreStmt}
-use Rattle.spx_core.specs.declared.statement.CoreStmt.TheVariants.{If}
+use Rattle.spx_core.specs.declared.statement.CoreStmt.TheVariants.{If, Case}
 use Rattle.spx_core.specs.declared.statement.CoreArm.{CoreArm, out-CoreArm}
-use Rattle.spx_core.specs.Commands.{Command, Skip, arm_before, arms_before, command, commands}
-use Rattle.spx_core.specs.Effects.{effect, effects, sets}
-use Rattle.spx_core.specs.Mirror.VarSets.{holds}
-use Rattle.spx_flow.specs.Targets.{arm_sets, arms_set}
-use Rattle.spx_flow.proofs.CommandForms.{command-If, command-If-else, command_arm}
+use Rattle.spx_core.specs.declared.statement.CoreAlternative.{CoreAlternative}
+use Rattle.spx_text.specs.declared.place.Place.{Place}
+use Rattle.spx_core.specs.declared.expression.CoreExpr.{CoreExpr}
+use Rattle.spx_core.specs.Commands.{Command, Skip, alternative, alternatives_of, arm_before, arms_before, command, commands, select}
+use Rattle.spx_core.specs.Effects.{effect, effect_among, effects, reads_of, sets}
+use Rattle.spx_flow.specs.Targets.{alternatives_set, arm_sets, arms_set}
+use Rattle.spx_flow.proofs.CommandForms.{command-Case, command-If, command-If-else, command_arm}
 
 pub or_assoc : (a b c : Bool) → ((a || b) || c) ≡ (a || (b || c))
 or_assoc true b c = refl
@@ -36,7 +38,18 @@ sets_if s arms o closing is none v = ap (λ k. sets v (effect k)) (command-If s 
 pub sets_if_else : (s : CoreStmt) (arms : List CoreArm) (o : Option (List CoreStmt)) (stmts : List CoreStmt) (closing : Closing) → s ≡ If arms o closing → o ≡ Some stmts → (v : VarId) → sets v (effect (command s)) ≡ (arms_set v arms || sets v (effects stmts))
 sets_if_else s arms o stmts closing is some v = ap (λ k. sets v (effect k)) (command-If-else s arms o stmts closing is some) ∙ sets_arms (commands stmts) v arms
 
--- the targets of what is done where the condition is false, and those of the arm
-pub targets_before : (arm : CoreArm) (otherwise : Command) (others all : List ℕ) (stmts : List CoreStmt) → stmts ≡ (out-CoreArm arm).body → ((v : VarId) → holds all v ≡ (sets v (effects stmts) || holds others v)) → ((v : VarId) → holds others v ≡ sets v (effect otherwise)) →
-    (v : VarId) → holds all v ≡ (sets v (effects (out-CoreArm arm).body) || sets v (effect otherwise))
-targets_before arm otherwise others all stmts is added known v = added v ∙ ap₂ (λ (ss : List CoreStmt) (b : Bool). sets v (effects ss) || b) is (known v)
+pub or_same : (a : Bool) → (a || a) ≡ a
+or_same true = refl
+or_same false = refl
+
+module _ (place : Place) (selector : CoreExpr) (v : VarId) where
+  sets_among : (a : CoreAlternative) (rest : List CoreAlternative) → sets v (effect_among (reads_of selector) place (alternatives_of (alternative a) (map alternative rest))) ≡ alternatives_set v (a ∷ rest)
+  sets_among a [] = let one = sets v (effect (alternative a).1) in or_same one ∙ sym (or_nothing one)
+  sets_among a (b ∷ rest) = ap (λ more. sets v (effect (alternative a).1) || more) (sets_among b rest)
+
+  sets_select : (alternatives : List CoreAlternative) → sets v (effect (select place selector (map alternative alternatives))) ≡ alternatives_set v alternatives
+  sets_select [] = refl
+  sets_select (a ∷ rest) = sets_among a rest
+
+pub sets_case : (s : CoreStmt) (place : Place) (selector : CoreExpr) (alternatives : List CoreAlternative) (closing : Closing) → s ≡ Case place selector alternatives closing → (v : VarId) → sets v (effect (command s)) ≡ alternatives_set v alternatives
+sets_case s place selector alternatives closing is v = ap (λ k. sets v (effect k)) (command-Case s place selector alternatives closing is) ∙ sets_select place selector v alternatives

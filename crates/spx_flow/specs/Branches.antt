@@ -1,10 +1,11 @@
--- A pass over arms, from the last to the first.
-use Rattle.std.specs.Prelude.{◌≡◌, ℕ, List, length}
+-- A pass over arms and alternatives, from the last to the first.
+use Rattle.std.specs.Prelude.{◌≡◌, ◌↔◌, ◌⊎◌, ℕ, ◌||◌, List, length}
+use Rattle.spx_text.specs.declared.place.Place.{Place}
 use Rattle.spx_core.specs.declared.entity.VarId.{VarId}
 use Rattle.spx_core.specs.Commands.{Command}
-use Rattle.spx_core.specs.Effects.{Effect, effect, sets}
+use Rattle.spx_core.specs.Effects.{Effect, Read, choose, effect, sets}
 use Rattle.spx_core.specs.Mirror.VarSets.{holds}
-use Rattle.spx_rows.specs.Relations.{Matrix}
+use Rattle.spx_rows.specs.Relations.{Matrix, Holds}
 use Rattle.spx_flow.specs.declared.flow.Occurrence.{Occurrence}
 use Rattle.spx_flow.specs.Flows.{AreRows}
 
@@ -14,3 +15,24 @@ pub record Arms (Steps : Effect → Matrix → (before after : List Occurrence) 
   pub rows : AreRows (length set) after
   pub targets : (otherwise : Command) → ((v : VarId) → holds others v ≡ sets v (effect otherwise)) → (v : VarId) → holds all v ≡ sets v (effect (arms otherwise))
   pub steps : (otherwise : Command) (start : List Occurrence) → ((v : VarId) → holds others v ≡ sets v (effect otherwise)) → Steps (effect otherwise) ends start before → Steps (effect (arms otherwise)) new_ends start after
+
+-- What is done on one way is added to the other ways: its matrix is united with theirs, and its targets are added to theirs.
+pub record Joins (Steps : Effect → Matrix → (before after : List Occurrence) → Type 0) (set : List ℕ) (a : Effect) (ends joined : Matrix) (others all : List ℕ) (before after : List Occurrence) : Type 0 where
+  pub size : length joined ≡ length ends
+  pub rows : AreRows (length set) after
+  pub targets : (v : VarId) → holds all v ≡ (sets v a || holds others v)
+  pub end : Matrix
+  pub steps : Steps a end before after
+  pub union : (p q : ℕ) → Holds joined p q ↔ (Holds ends p q ⊎ Holds end p q)
+
+-- What a test reads is added to two ways that are joined, which together set the targets: this makes a choice of them.
+pub record Tests (Steps : Effect → Matrix → (before after : List Occurrence) → Type 0) (set : List ℕ) (tests : List Read) (place : Place) (joined new : Matrix) (targets : List ℕ) (before after : List Occurrence) : Type 0 where
+  pub size : length new ≡ length joined
+  pub rows : AreRows (length set) after
+  pub steps : (a b : Effect) (ends end : Matrix) (start mid : List Occurrence) → ((v : VarId) → holds targets v ≡ (sets v a || sets v b)) → Steps b ends start mid → Steps a end mid before →
+      ((p q : ℕ) → Holds joined p q ↔ (Holds ends p q ⊎ Holds end p q)) → Steps (choose tests a b place) new start after
+
+-- What is done has been gone over, and these are its targets.
+pub record Done (Steps : Effect → Matrix → (before after : List Occurrence) → Type 0) (e : Effect) (ends : Matrix) (all : List ℕ) (before after : List Occurrence) : Type 0 where
+  pub targets : (v : VarId) → holds all v ≡ sets v e
+  pub steps : Steps e ends before after

@@ -1,9 +1,10 @@
--- The variables that arms set, and the positions of variables.
+-- The variables that arms and alternatives set, and the positions of variables.
 use Rattle.std.specs.Prelude.{ℕ, ◌==◌, Bool, List, position}
 use Rattle.std.specs.List.{filter_map, list_any}
 use Rattle.spx_core.specs.declared.entity.VarId.{VarId}
 use Rattle.spx_core.specs.declared.statement.CoreArm.{CoreArm}
-use Rattle.spx_core.specs.Commands.{Skip, arm_before}
+use Rattle.spx_core.specs.declared.statement.CoreAlternative.{CoreAlternative}
+use Rattle.spx_core.specs.Commands.{Skip, alternative, arm_before}
 use Rattle.spx_core.specs.Effects.{effect, sets}
 
 -- the arm sets the variable
@@ -13,6 +14,10 @@ arm_sets v arm = sets v (effect (arm_before arm Skip))
 -- one of the arms sets the variable
 abbrev pub arms_set : VarId → List CoreArm → Bool
 arms_set v arms = list_any (arm_sets v) arms
+
+-- one of the alternatives of a `case` sets the variable
+abbrev pub alternatives_set : VarId → List CoreAlternative → Bool
+alternatives_set v alternatives = list_any (λ a. sets v (effect (alternative a).1)) alternatives
 
 -- the positions of these variables, of those that are in the set
 abbrev pub positions_in : List ℕ → List ℕ → List ℕ

@@ -1,10 +1,11 @@
 // Backward through statements: what leads from each variable before them, and from each occurrence in them, to the
 // variables after them.
-ghost use Rattle.std.specs.Prelude.{◌≡◌, ◌≤◌, All, length, map, IfOk, OnOk};
+ghost use Rattle.std.specs.Prelude.{◌≡◌, ◌==◌, ◌≤◌, All, length, map, IfOk, OnOk};
+ghost use Rattle.std.specs.List.{IsDistinct};
 ghost use Rattle.spx_core.specs.declared.statement.CoreArm.{CoreArm};
-ghost use Rattle.spx_core.specs.Commands.{Set, Skip, arm_before, arms_before, command};
-ghost use Rattle.spx_core.specs.Effects.{effect, effects};
-ghost use Rattle.spx_flow.specs.Branches.{Arms};
+ghost use Rattle.spx_core.specs.Commands.{Set, Skip, alternative, arm_before, arms_before, command, select};
+ghost use Rattle.spx_core.specs.Effects.{effect, effects, reads_of};
+ghost use Rattle.spx_flow.specs.Branches.{Arms, Joins, Tests};
 ghost use Rattle.spx_flow.specs.Positions.{Covers};
 ghost use Rattle.spx_flow.specs.Flows.{AreRows};
 ghost use Rattle.spx_flow.specs.BackwardSteps.{LeadOn, StepsBack};
@@ -13,8 +14,9 @@ use crate::flow::Occurrence;
 use crate::positions::{position_named, positions_read};
 use crate::targets::{Targets, add_all_targets, target_positions};
 use indexmap::IndexSet;
-use spx_core::{CoreArm, CoreExpr, CoreStmt, Reference, VarSet};
+use spx_core::{CoreAlternative, CoreArm, CoreExpr, CoreStmt, Reference, VarSet};
 use spx_rows::Relation;
+use spx_text::Place;
 use sqlite_items::Items;
 use std::alloc::{AllocError, Global};
 
@@ -77,18 +79,7 @@ fn before(
         }
         CoreStmt::If(arms, otherwise, _) => match otherwise {
             None => {
-                let mut starts = rho.copy(alloc)?;
-                let mut targets = IndexSet::new(alloc);
-                before_arms(
-                    alloc,
-                    vars,
-                    arms.as_slice(),
-                    rho,
-                    &mut starts,
-                    &mut targets,
-                    mu,
-                )?;
-                *rho = starts;
+                before_if(alloc, vars, arms.as_slice(), rho, mu)?;
                 Ok(())
             }
             Some(stmts) => {
@@ -109,39 +100,122 @@ fn before(
                 Ok(())
             }
         },
+        CoreStmt::Case(place, selector, alternatives, _) => {
+            let alternatives = alternatives.as_slice();
+            before_case(alloc, vars, alternatives, *place, selector, rho, mu)?;
+            Ok(())
+        }
     }
 }
 
-/// Goes backward over an arm. `starts` is what leads on from before the arms after it and `targets` what they set, and then
-/// it and they. From what the condition reads leads on what leads on from all of these targets.
-#[cycle(before)]
-fn before_arm(
+/// Goes backward over a condition or a selector, where `starts` is what leads on from before all that it chooses from, and
+/// `targets` what this sets. From what is read leads on what leads on from all of these targets.
+fn before_test(
     alloc: Global,
     vars: &VarSet,
-    arm: &CoreArm,
+    place: Place,
+    test: &CoreExpr,
+    rho: &Relation,
+    starts: &mut Relation,
+    targets: &Targets,
+    mu: &mut Items<Occurrence>,
+) -> Result<(), AllocError>
+    requires once { IsDistinct ◌==◌ vars.now }
+    requires size { length rho.now ≡ length vars.now }
+    requires starts { length starts.old ≡ length vars.now }
+    requires rows { AreRows (length vars.now) mu.old }
+    ensures { OnOk result (Tests (λ e. StepsBack vars.now e rho.now) vars.now (reads_of test.now) place starts.old starts.new targets.now.keys mu.old mu.new) }
+{
+    let from = positions_read(alloc, vars, test)?;
+    let to = target_positions(alloc, vars, targets)?;
+    let reached = rho.union_of(alloc, to.as_slice())?;
+    starts.add_rows_to(from.as_slice(), rho, to.as_slice());
+    mu.push(Occurrence {
+        place,
+        vars: reached,
+    })?;
+    Ok(())
+}
+
+/// Goes backward over what is done on one way: to `starts` is added what leads on from before it, and to `targets` what it
+/// sets.
+#[cycle(before)]
+fn before_branch(
+    alloc: Global,
+    vars: &VarSet,
+    body: &[CoreStmt],
     rho: &Relation,
     starts: &mut Relation,
     targets: &mut Targets,
     mu: &mut Items<Occurrence>,
 ) -> Result<(), AllocError>
-    requires covers { Covers vars.now (effect (arm_before arm.now Skip)) }
+    requires covers { Covers vars.now (effects body.now) }
     requires size { length rho.now ≡ length vars.now }
     requires starts { length starts.old ≡ length vars.now }
     requires rows { AreRows (length vars.now) mu.old }
-    ensures { OnOk result (Arms (λ e. StepsBack vars.now e rho.now) vars.now (arm_before arm.now) starts.old starts.new targets.old.keys targets.new.keys mu.old mu.new) }
+    ensures { OnOk result (Joins (λ e. StepsBack vars.now e rho.now) vars.now (effects body.now) starts.old starts.new targets.old.keys targets.new.keys mu.old mu.new) }
 {
-    let from = positions_read(alloc, vars, &arm.condition)?;
     let mut start = rho.copy(alloc)?;
-    before_all(alloc, vars, arm.body.as_slice(), &mut start, mu)?;
-    add_all_targets(arm.body.as_slice(), targets)?;
-    let to = target_positions(alloc, vars, targets)?;
-    let reached = rho.union_of(alloc, to.as_slice())?;
+    before_all(alloc, vars, body, &mut start, mu)?;
+    add_all_targets(body, targets)?;
     starts.union_with(&start);
-    starts.add_rows_to(from.as_slice(), rho, to.as_slice());
-    mu.push(Occurrence {
-        place: arm.place,
-        vars: reached,
-    })?;
+    Ok(())
+}
+
+/// Goes backward over an `if` with no `else`.
+#[cycle(before)]
+fn before_if(
+    alloc: Global,
+    vars: &VarSet,
+    arms: &[CoreArm],
+    rho: &mut Relation,
+    mu: &mut Items<Occurrence>,
+) -> Result<(), AllocError>
+    requires covers { Covers vars.now (effect (arms_before Skip (map arm_before arms.now))) }
+    requires size { length rho.old ≡ length vars.now }
+    requires rows { AreRows (length vars.now) mu.old }
+    ensures { OnOk result (StepsBack vars.now (effect (arms_before Skip (map arm_before arms.now))) rho.old rho.new mu.old mu.new) }
+{
+    let mut starts = rho.copy(alloc)?;
+    let mut targets = IndexSet::new(alloc);
+    before_arms(alloc, vars, arms, rho, &mut starts, &mut targets, mu)?;
+    *rho = starts;
+    Ok(())
+}
+
+/// Goes backward over the alternatives of a `case`, from the last to the first: the last one as what stands after `else`, and
+/// each other one as an arm.
+#[cycle(before)]
+fn before_case(
+    alloc: Global,
+    vars: &VarSet,
+    alternatives: &[CoreAlternative],
+    place: Place,
+    selector: &CoreExpr,
+    rho: &mut Relation,
+    mu: &mut Items<Occurrence>,
+) -> Result<(), AllocError>
+    requires covers { Covers vars.now (effect (select place selector.now (map alternative alternatives.now))) }
+    requires size { length rho.old ≡ length vars.now }
+    requires rows { AreRows (length vars.now) mu.old }
+    ensures { OnOk result (StepsBack vars.now (effect (select place selector.now (map alternative alternatives.now))) rho.old rho.new mu.old mu.new) }
+{
+    if alternatives.is_empty() {
+        return Ok(());
+    }
+    let last = alternatives.len() - 1;
+    let mut starts = rho.copy(alloc)?;
+    let mut targets = IndexSet::new(alloc);
+    let body = alternatives[last].body.as_slice();
+    before_all(alloc, vars, body, &mut starts, mu)?;
+    add_all_targets(body, &mut targets)?;
+    before_test(alloc, vars, place, selector, rho, &mut starts, &targets, mu)?;
+    for k in (0..last).rev() {
+        let body = alternatives[k].body.as_slice();
+        before_branch(alloc, vars, body, rho, &mut starts, &mut targets, mu)?;
+        before_test(alloc, vars, place, selector, rho, &mut starts, &targets, mu)?;
+    }
+    *rho = starts;
     Ok(())
 }
 
@@ -163,7 +237,10 @@ fn before_arms(
     ensures { OnOk result (Arms (λ e. StepsBack vars.now e rho.now) vars.now (λ otherwise. arms_before otherwise (map arm_before arms.now)) starts.old starts.new targets.old.keys targets.new.keys mu.old mu.new) }
 {
     for k in (0..arms.len()).rev() {
-        before_arm(alloc, vars, &arms[k], rho, starts, targets, mu)?;
+        let arm = &arms[k];
+        before_branch(alloc, vars, arm.body.as_slice(), rho, starts, targets, mu)?;
+        let test = &arm.condition;
+        before_test(alloc, vars, arm.place, test, rho, starts, targets, mu)?;
     }
     Ok(())
 }

@@ -1,12 +1,13 @@
 // Forward through statements: row w has the variables before them from which the present value of w may come.
-ghost use Rattle.std.specs.Prelude.{◌≡◌, ◌↔◌, ◌≤◌, ℕ, All, length, map, IfOk, OnOk};
+ghost use Rattle.std.specs.Prelude.{◌≡◌, ◌==◌, ◌↔◌, ◌≤◌, ℕ, All, length, map, IfOk, OnOk};
 ghost use Rattle.spx_text.specs.declared.place.Place.{Place};
 ghost use Rattle.spx_core.specs.declared.entity.VarId.{VarId};
+ghost use Rattle.std.specs.List.{IsDistinct};
 ghost use Rattle.spx_core.specs.declared.statement.CoreArm.{CoreArm};
-ghost use Rattle.spx_core.specs.Commands.{Set, Skip, arm_before, arms_before, command};
-ghost use Rattle.spx_core.specs.Effects.{effect, effects};
+ghost use Rattle.spx_core.specs.Commands.{Set, Skip, alternative, arm_before, arms_before, command, select};
+ghost use Rattle.spx_core.specs.Effects.{effect, effects, reads_of};
 ghost use Rattle.spx_core.specs.Marks.{Lambda};
-ghost use Rattle.spx_flow.specs.Branches.{Arms};
+ghost use Rattle.spx_flow.specs.Branches.{Arms, Joins, Tests};
 ghost use Rattle.spx_flow.specs.Positions.{Covers, Stands};
 ghost use Rattle.spx_flow.specs.Flows.{AreRows, Relates};
 ghost use Rattle.spx_flow.specs.ForwardSteps.{StepsForward};
@@ -15,8 +16,9 @@ use crate::flow::Occurrence;
 use crate::positions::{position_named, positions_read};
 use crate::targets::{Targets, add_all_targets, target_positions};
 use indexmap::IndexSet;
-use spx_core::{CoreArm, CoreExpr, CoreStmt, Reference, VarSet};
+use spx_core::{CoreAlternative, CoreArm, CoreExpr, CoreStmt, Reference, VarSet};
 use spx_rows::Relation;
+use spx_text::Place;
 use sqlite_items::Items;
 use std::alloc::{AllocError, Global};
 
@@ -71,18 +73,7 @@ fn after(
         }
         CoreStmt::If(arms, otherwise, _) => match otherwise {
             None => {
-                let mut ends = state.copy(alloc)?;
-                let mut targets = IndexSet::new(alloc);
-                after_arms(
-                    alloc,
-                    vars,
-                    arms.as_slice(),
-                    state,
-                    &mut ends,
-                    &mut targets,
-                    lambda,
-                )?;
-                *state = ends;
+                after_if(alloc, vars, arms.as_slice(), state, lambda)?;
                 Ok(())
             }
             Some(stmts) => {
@@ -103,39 +94,125 @@ fn after(
                 Ok(())
             }
         },
+        CoreStmt::Case(place, selector, alternatives, _) => {
+            let alternatives = alternatives.as_slice();
+            after_case(alloc, vars, alternatives, *place, selector, state, lambda)?;
+            Ok(())
+        }
     }
 }
 
-/// Goes forward over an arm. `ends` is what the arms after it make of the state and `targets` what they set, and then it
-/// and they. What the condition reads comes to all of these targets.
-#[cycle(after)]
-fn after_arm(
+/// Goes forward over a condition or a selector, where `ends` is what all that it chooses from makes of the state, and
+/// `targets` what this sets. What is read comes to all of these targets.
+fn after_test(
     alloc: Global,
     vars: &VarSet,
-    arm: &CoreArm,
+    place: Place,
+    test: &CoreExpr,
+    state: &Relation,
+    ends: &mut Relation,
+    targets: &Targets,
+    lambda: &mut Items<Occurrence>,
+) -> Result<(), AllocError>
+    requires once { IsDistinct ◌==◌ vars.now }
+    requires size { length state.now ≡ length vars.now }
+    requires ends { length ends.old ≡ length vars.now }
+    requires rows { AreRows (length vars.now) lambda.old }
+    ensures { OnOk result (Tests (λ e. StepsForward vars.now e state.now) vars.now (reads_of test.now) place ends.old ends.new targets.now.keys lambda.old lambda.new) }
+{
+    let from = positions_read(alloc, vars, test)?;
+    let to = target_positions(alloc, vars, targets)?;
+    let sources = state.union_of(alloc, from.as_slice())?;
+    ends.add_rows_to(to.as_slice(), state, from.as_slice());
+    lambda.push(Occurrence {
+        place,
+        vars: sources,
+    })?;
+    Ok(())
+}
+
+/// Goes forward over what is done on one way: to `ends` is added what it makes of the state, and to `targets` what it sets.
+#[cycle(after)]
+fn after_branch(
+    alloc: Global,
+    vars: &VarSet,
+    body: &[CoreStmt],
     state: &Relation,
     ends: &mut Relation,
     targets: &mut Targets,
     lambda: &mut Items<Occurrence>,
 ) -> Result<(), AllocError>
-    requires covers { Covers vars.now (effect (arm_before arm.now Skip)) }
+    requires covers { Covers vars.now (effects body.now) }
     requires size { length state.now ≡ length vars.now }
     requires ends { length ends.old ≡ length vars.now }
     requires rows { AreRows (length vars.now) lambda.old }
-    ensures { OnOk result (Arms (λ e. StepsForward vars.now e state.now) vars.now (arm_before arm.now) ends.old ends.new targets.old.keys targets.new.keys lambda.old lambda.new) }
+    ensures { OnOk result (Joins (λ e. StepsForward vars.now e state.now) vars.now (effects body.now) ends.old ends.new targets.old.keys targets.new.keys lambda.old lambda.new) }
 {
-    let from = positions_read(alloc, vars, &arm.condition)?;
-    let sources = state.union_of(alloc, from.as_slice())?;
     let mut end = state.copy(alloc)?;
-    after_all(alloc, vars, arm.body.as_slice(), &mut end, lambda)?;
-    add_all_targets(arm.body.as_slice(), targets)?;
-    let to = target_positions(alloc, vars, targets)?;
+    after_all(alloc, vars, body, &mut end, lambda)?;
+    add_all_targets(body, targets)?;
     ends.union_with(&end);
-    ends.add_rows_to(to.as_slice(), state, from.as_slice());
-    lambda.push(Occurrence {
-        place: arm.place,
-        vars: sources,
-    })?;
+    Ok(())
+}
+
+/// Goes forward over an `if` with no `else`.
+#[cycle(after)]
+fn after_if(
+    alloc: Global,
+    vars: &VarSet,
+    arms: &[CoreArm],
+    state: &mut Relation,
+    lambda: &mut Items<Occurrence>,
+) -> Result<(), AllocError>
+    requires covers { Covers vars.now (effect (arms_before Skip (map arm_before arms.now))) }
+    requires size { length state.old ≡ length vars.now }
+    requires rows { AreRows (length vars.now) lambda.old }
+    ensures { OnOk result (StepsForward vars.now (effect (arms_before Skip (map arm_before arms.now))) state.old state.new lambda.old lambda.new) }
+{
+    let mut ends = state.copy(alloc)?;
+    let mut targets = IndexSet::new(alloc);
+    after_arms(alloc, vars, arms, state, &mut ends, &mut targets, lambda)?;
+    *state = ends;
+    Ok(())
+}
+
+/// Goes forward over the alternatives of a `case`, from the last to the first: the last one as what stands after `else`, and
+/// each other one as an arm.
+#[cycle(after)]
+fn after_case(
+    alloc: Global,
+    vars: &VarSet,
+    alternatives: &[CoreAlternative],
+    place: Place,
+    selector: &CoreExpr,
+    state: &mut Relation,
+    lambda: &mut Items<Occurrence>,
+) -> Result<(), AllocError>
+    requires covers { Covers vars.now (effect (select place selector.now (map alternative alternatives.now))) }
+    requires size { length state.old ≡ length vars.now }
+    requires rows { AreRows (length vars.now) lambda.old }
+    ensures { OnOk result (StepsForward vars.now (effect (select place selector.now (map alternative alternatives.now))) state.old state.new lambda.old lambda.new) }
+{
+    if alternatives.is_empty() {
+        return Ok(());
+    }
+    let last = alternatives.len() - 1;
+    let mut ends = state.copy(alloc)?;
+    let mut targets = IndexSet::new(alloc);
+    let body = alternatives[last].body.as_slice();
+    after_all(alloc, vars, body, &mut ends, lambda)?;
+    add_all_targets(body, &mut targets)?;
+    after_test(
+        alloc, vars, place, selector, state, &mut ends, &targets, lambda,
+    )?;
+    for k in (0..last).rev() {
+        let body = alternatives[k].body.as_slice();
+        after_branch(alloc, vars, body, state, &mut ends, &mut targets, lambda)?;
+        after_test(
+            alloc, vars, place, selector, state, &mut ends, &targets, lambda,
+        )?;
+    }
+    *state = ends;
     Ok(())
 }
 
@@ -157,7 +234,18 @@ fn after_arms(
     ensures { OnOk result (Arms (λ e. StepsForward vars.now e state.now) vars.now (λ otherwise. arms_before otherwise (map arm_before arms.now)) ends.old ends.new targets.old.keys targets.new.keys lambda.old lambda.new) }
 {
     for k in (0..arms.len()).rev() {
-        after_arm(alloc, vars, &arms[k], state, ends, targets, lambda)?;
+        let arm = &arms[k];
+        after_branch(
+            alloc,
+            vars,
+            arm.body.as_slice(),
+            state,
+            ends,
+            targets,
+            lambda,
+        )?;
+        let test = &arm.condition;
+        after_test(alloc, vars, arm.place, test, state, ends, targets, lambda)?;
     }
     Ok(())
 }

@@ -31,6 +31,7 @@ fn add_positions(vars: &VarSet, value: &CoreExpr, found: &mut Vec<usize>) -> Res
             }
             None => Ok(()),
         },
+        CoreExpr::Applied(_, _, operand) => add_positions(vars, operand.get(), found),
         CoreExpr::Parenthesized(_, inner) => add_positions(vars, inner.get(), found),
         CoreExpr::Prefix(_, _, operand) => add_positions(vars, operand.get(), found),
         CoreExpr::Infix(_, _, left, right) => {

@@ -5,10 +5,10 @@ ghost use Rattle.spx_core.specs.Commands.{command};
 ghost use Rattle.spx_core.specs.Effects.{effect, effects, sets};
 ghost use Rattle.spx_core.specs.Uses.{denotes};
 ghost use Rattle.spx_core.specs.Mirror.VarSets.{holds};
-ghost use Rattle.spx_flow.specs.Targets.{arms_set, positions_in};
+ghost use Rattle.spx_flow.specs.Targets.{alternatives_set, arms_set, positions_in};
 
 use indexmap::IndexSet;
-use spx_core::{CoreArm, CoreStmt, Reference, VarId, VarSet, variable_of};
+use spx_core::{CoreAlternative, CoreArm, CoreStmt, Reference, VarId, VarSet, variable_of};
 use std::alloc::{AllocError, Global};
 
 /// Variables, each once, by their position in the program's list.
@@ -49,6 +49,10 @@ fn add_targets(stmt: &CoreStmt, found: &mut Targets) -> Result<(), AllocError>
                 Ok(())
             }
         },
+        CoreStmt::Case(_, _, alternatives, _) => {
+            add_targets_of_alternatives(alternatives.as_slice(), found)?;
+            Ok(())
+        }
     }
 }
 
@@ -59,6 +63,20 @@ fn add_targets_of_arms(arms: &[CoreArm], found: &mut Targets) -> Result<(), Allo
 {
     for arm in arms {
         add_all_targets(arm.body.as_slice(), found)?;
+    }
+    Ok(())
+}
+
+/// Adds the variables that the alternatives of a `case` set.
+#[cycle(add_targets)]
+fn add_targets_of_alternatives(
+    alternatives: &[CoreAlternative],
+    found: &mut Targets,
+) -> Result<(), AllocError>
+    ensures { OnOk result ((v : VarId) → holds found.new.keys v ≡ (alternatives_set v alternatives.now || holds found.old.keys v)) }
+{
+    for branch in alternatives {
+        add_all_targets(branch.body.as_slice(), found)?;
     }
     Ok(())
 }

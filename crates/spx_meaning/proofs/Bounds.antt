@@ -2,7 +2,7 @@
 use Rattle.std.proofs.Common.{◌≡◌, ◌≢◌, ℕ, ◌≤◌, Bool, true, false, refl, sym, ap, ◌∙◌}
 use Rattle.std.specs.Prelude.{if◌then◌else◌}
 use Rattle.spx_core.specs.declared.expression.CoreExpr.{CoreExpr}
-use Rattle.spx_core.specs.Commands.{Command, Skip, Set, Then, Choose, commands}
+use Rattle.spx_core.specs.Commands.{Command, Skip, Set, Then, Choose, Select, Alternatives, Last, When, commands}
 use Rattle.spx_core.specs.Places.{place_of}
 use Rattle.spx_core.specs.Uses.{variable_of}
 use Rattle.spx_term.specs.declared.value.Value.{Value}
@@ -10,7 +10,7 @@ use Rattle.spx_term.specs.Meaning.{as_truth}
 use Rattle.spx_meaning.specs.Stores.{Store}
 use Rattle.spx_meaning.specs.Frames.{Frame, around}
 use Rattle.spx_meaning.specs.Evaluation.{Answer, Gives, Fails, Waits, eval}
-use Rattle.spx_meaning.specs.Runs.{Outcome, Ended, Left, Bad, Later, then_do, use_value, assign, demand_pre, entry_of, run, run_body}
+use Rattle.spx_meaning.specs.Runs.{Outcome, Ended, Left, Bad, Later, then_do, use_value, assign, demand_pre, entry_of, has_value, run, run_for, run_body}
 use Rattle.spx_meaning.specs.Laws.{CallsAreSettled, RunsAreSettled}
 use Rattle.spx_meaning.proofs.Callers.Evaluation.{eval_same}
 
@@ -40,14 +40,23 @@ eval_at f n m s e = eval_same f f n m s s e (λ v used. refl)
 kept_use_at : (a b : Answer) (go go' : Value → Outcome) → a ≡ b → ((x : Value) → Kept (go x) (go' x)) → Kept (use_value a go) (use_value b go')
 kept_use_at a b go go' same more there = ap (λ z. use_value z go') (sym same) ∙ kept_use a go go' more there
 
-pub runs_kept : (f : Frame) (n m : ℕ) → n ≤ m → (s : Store) (c : Command) → Kept (run f n s c) (run f m s c)
-runs_kept f n m less s Skip = λ there. refl
-runs_kept f n m less s (Set target e) = λ there.
-    ap (λ a. use_value a (assign f.program (place_of e) (variable_of target.root.entity) s)) (eval_at f m n s e)
-runs_kept f n m less s (Then a b) = kept_then (run f n s a) (run f m s a) (λ t. run f n t b) (λ t. run f m t b) (runs_kept f n m less s a) (λ t. runs_kept f n m less t b)
-runs_kept f n m less s (Choose place condition a b) =
-    kept_use_at (eval f n s condition) (eval f m s condition) (λ x. if as_truth x then run f n s a else run f n s b) (λ x. if as_truth x then run f m s a else run f m s b) (eval_at f n m s condition)
-    (λ x. kept_arm (as_truth x) (run f n s a) (run f n s b) (run f m s a) (run f m s b) (runs_kept f n m less s a) (runs_kept f n m less s b))
+mutual
+  pub runs_kept : (f : Frame) (n m : ℕ) → n ≤ m → (s : Store) (c : Command) → Kept (run f n s c) (run f m s c)
+  runs_kept f n m less s Skip = λ there. refl
+  runs_kept f n m less s (Set target e) = λ there.
+      ap (λ a. use_value a (assign f.program (place_of e) (variable_of target.root.entity) s)) (eval_at f m n s e)
+  runs_kept f n m less s (Then a b) = kept_then (run f n s a) (run f m s a) (λ t. run f n t b) (λ t. run f m t b) (runs_kept f n m less s a) (λ t. runs_kept f n m less t b)
+  runs_kept f n m less s (Choose place condition a b) =
+      kept_use_at (eval f n s condition) (eval f m s condition) (λ x. if as_truth x then run f n s a else run f n s b) (λ x. if as_truth x then run f m s a else run f m s b) (eval_at f n m s condition)
+      (λ x. kept_arm (as_truth x) (run f n s a) (run f n s b) (run f m s a) (run f m s b) (runs_kept f n m less s a) (runs_kept f n m less s b))
+  runs_kept f n m less s (Select place selector alternatives) =
+      kept_use_at (eval f n s selector) (eval f m s selector) (λ x. run_for x f n s alternatives) (λ x. run_for x f m s alternatives) (eval_at f n m s selector)
+      (λ x. one_kept x f n m less s alternatives)
+
+  one_kept : (x : Value) (f : Frame) (n m : ℕ) → n ≤ m → (s : Store) (alternatives : Alternatives) → Kept (run_for x f n s alternatives) (run_for x f m s alternatives)
+  one_kept x f n m less s (Last choices a) = runs_kept f n m less s a
+  one_kept x f n m less s (When choices a rest) =
+      kept_arm (has_value choices x) (run f n s a) (run_for x f n s rest) (run f m s a) (run_for x f m s rest) (runs_kept f n m less s a) (one_kept x f n m less s rest)
 
 pub runs_settled : RunsAreSettled
 runs_settled f s c n m less there = runs_kept f n m less s c there

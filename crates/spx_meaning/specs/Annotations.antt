@@ -5,7 +5,7 @@ use Rattle.spx_core.specs.declared.program.Program.{Program}
 use Rattle.spx_core.specs.declared.entity.VarId.{VarId}
 use Rattle.spx_core.specs.declared.name.CoreName.{CoreName}
 use Rattle.spx_core.specs.declared.expression.CoreExpr.{CoreExpr, CoreExpr-F, fold-CoreExpr}
-use Rattle.spx_core.specs.Judged.{attribute, named_value}
+use Rattle.spx_core.specs.Judged.{application, attribute, named_value}
 use Rattle.spx_core.specs.Uses.{variable_of}
 use Rattle.spx_term.specs.declared.value.Value.{Value}
 use Rattle.spx_term.specs.declared.value.Value.TheVariants as value
@@ -13,7 +13,7 @@ use Rattle.spx_term.specs.Meaning.{as_truth}
 use Rattle.spx_meaning.specs.Literals.{literal_in}
 use Rattle.spx_meaning.specs.Stores.{Store, look, type_of, first_value}
 use Rattle.spx_meaning.specs.Frames.{Frame}
-use Rattle.spx_meaning.specs.Evaluation.{applied_sign, applied, member, first_in, last_in}
+use Rattle.spx_meaning.specs.Evaluation.{applied_sign, applied, mapped_value, member, first_in, last_in}
 
 -- an unset variable counts as the first value of its type
 abbrev pub seen : Subtype → Option Value → Value
@@ -47,6 +47,7 @@ abbrev pub meant_step : Frame → Store → CoreExpr-F Value → Value
 meant_step f s (CoreExpr-F.Number n place) = value.Number n
 meant_step f s (CoreExpr-F.Name name) = named_meaning f s name
 meant_step f s (CoreExpr-F.Attribute prefix designator) = value_or_zero (literal_in (attribute prefix designator))
+meant_step f s (CoreExpr-F.Applied function place a) = mapped_value (application function) a
 meant_step f s (CoreExpr-F.Parenthesized place a) = a
 meant_step f s (CoreExpr-F.Prefix op place a) = applied_sign op a
 meant_step f s (CoreExpr-F.Infix op place a b) = applied op a b

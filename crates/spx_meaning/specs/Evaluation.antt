@@ -1,5 +1,5 @@
 -- The value of an expression in code, or the first check that fails.
-use Rattle.std.specs.Prelude.{◌≡◌, refl, ℕ, ℤ, pos, true, false, int_lt, if◌then◌else◌, Option, Some, None}
+use Rattle.std.specs.Prelude.{◌≡◌, refl, ℕ, ℤ, pos, true, false, int_lt, if◌then◌else◌, Option, Some, None, Ok, Err}
 use denote.Hole.Carrier.{hidden}
 use Rattle.spx_text.specs.declared.place.Place.{Place}
 use Rattle.spx_tree.specs.declared.expression.Identifier.{Identifier}
@@ -16,10 +16,16 @@ use Rattle.spx_core.specs.declared.name.CoreName.{CoreName}
 use Rattle.spx_core.specs.declared.name.Reference.{Reference}
 use Rattle.spx_core.specs.declared.expression.CoreExpr.{CoreExpr}
 use Rattle.spx_core.specs.declared.expression.CoreExpr.TheBlock.{hidden-the_row-CoreExpr-0}
-use Rattle.spx_core.specs.declared.expression.CoreExpr.TheVariants.{Number, Name, Attribute, Parenthesized, Prefix, Infix, InType, InRange}
+use Rattle.spx_core.specs.declared.expression.CoreExpr.TheVariants.{Number, Name, Attribute, Applied, Parenthesized, Prefix, Infix, InType, InRange}
+use Rattle.spx_core.specs.declared.function.CoreFunction.{CoreFunction}
+use Rattle.spx_core.specs.declared.function.Mapping.{Mapping}
+use Rattle.spx_core.specs.declared.function.Shift.{Shift}
+use Rattle.spx_core.specs.declared.function.Shift.TheVariants as shift
+use Rattle.spx_core.specs.declared.function.Span.{Span}
+use Rattle.spx_core.specs.Judged.{Judged, application}
 use Rattle.spx_core.specs.Places.{place_of}
 use Rattle.spx_core.specs.Resolved.{subtype_of}
-use Rattle.spx_core.specs.Shapes.{in_range_of, in_type_of, infix_of, parenthesized_of, prefix_of}
+use Rattle.spx_core.specs.Shapes.{applied_of, in_range_of, in_type_of, infix_of, parenthesized_of, prefix_of}
 use Rattle.spx_core.specs.Uses.{variable_of}
 use Rattle.spx_term.specs.declared.term.TermOp.{TermOp}
 use Rattle.spx_term.specs.declared.term.TermOp.TheVariants as term
@@ -119,6 +125,28 @@ signed sign.Minus base place x = in_base base place (applied_sign sign.Minus x)
 signed sign.Abs base place x = in_base base place (applied_sign sign.Abs x)
 signed sign.Not base place x = Gives (applied_sign sign.Not x)
 
+-- ---- functions of a type (RM 3.5, 3.5.5, 4.6, 4.7)
+
+-- the value itself, or the position after it or before it
+abbrev pub moved : Shift → Value → Value
+moved shift.Same x = x
+moved shift.Next x = value_of_op term.Add x (value.Number (pos 1))
+moved shift.Previous x = value_of_op term.Subtract x (value.Number (pos 1))
+
+-- the result of a function; one that breaks a rule gives the operand
+abbrev pub mapped_value : Judged Mapping → Value → Value
+mapped_value (Ok mapping) x = moved mapping.shift x
+mapped_value (Err breach) x = x
+
+-- the result, if it lies in its bounds; what lies outside is reported at the operand
+abbrev pub within_bounds : Option Span → Place → Value → Answer
+within_bounds None place x = Gives x
+within_bounds (Some span) place x = if is_within Integer span.first span.last x then Gives x else Fails Range place
+
+abbrev pub mapping_checked : Judged Mapping → Place → Value → Answer
+mapping_checked (Ok mapping) place x = within_bounds mapping.bounds place (moved mapping.shift x)
+mapping_checked (Err breach) place x = Gives x
+
 -- the value of a short-circuit form whose left operand decides it (RM 4.5.1)
 abbrev pub decided : InfixOp → Value → Option Value
 decided op.AndThen x = if as_truth x then None else Some (value.Truth false)
@@ -148,6 +176,7 @@ unfoldable pub eval : Frame → ℕ → Store → CoreExpr → Answer
 eval f n s (Number m place) = Gives (value.Number m)
 eval f n s (Name name) = static_or (literal (Name name)) (read s name.name.place (variable_of name.entity))
 eval f n s (Attribute prefix designator) = static_or (literal (Attribute prefix designator)) (Gives (value.Number (pos 0)))
+eval f n s (applied_of function place a) = static_or (literal (Applied function place a)) (with_value (eval f n s a) (λ x. mapping_checked (application function) (place_of a) x))
 eval f n s (parenthesized_of place a) = eval f n s a
 eval f n s (prefix_of op place a) = static_or (literal (Prefix op place a)) (with_value (eval f n s a) (λ x. signed op (base_of (Prefix op place a)) place x))
 eval f n s (infix_of op place a b) =
@@ -169,6 +198,11 @@ module _ (f : Frame) (n : ℕ) (s : Store) where
   pub eval-Attribute : (prefix : CoreName) (designator : Identifier) → eval f n s (Attribute prefix designator) ≡ static_or (literal (Attribute prefix designator)) (Gives (value.Number (pos 0)))
   unfolding eval
   eval-Attribute prefix designator = refl
+
+  pub eval-Applied : (function : CoreFunction) (place : Place) (a : CoreExpr)
+      → eval f n s (Applied function place a) ≡ static_or (literal (Applied function place a)) (with_value (eval f n s a) (λ x. mapping_checked (application function) (place_of a) x))
+  unfolding eval hidden-the_row-CoreExpr-0 hidden
+  eval-Applied function place a = refl
 
   pub eval-Parenthesized : (place : Place) (a : CoreExpr) → eval f n s (Parenthesized place a) ≡ eval f n s a
   unfolding eval hidden-the_row-CoreExpr-0 hidden
@@ -197,4 +231,4 @@ module _ (f : Frame) (n : ℕ) (s : Store) where
   eval-InRange op place a low high = refl
 
 -- evaluation at each form of an expression
-pub ruleset eval_forms = (eval-Number, eval-Name, eval-Attribute, eval-Parenthesized, eval-Prefix, eval-Infix, eval-InType, eval-InRange)
+pub ruleset eval_forms = (eval-Number, eval-Name, eval-Attribute, eval-Applied, eval-Parenthesized, eval-Prefix, eval-Infix, eval-InType, eval-InRange)

@@ -1,27 +1,32 @@
--- What statements and calls do to a store, within a bound (Ada 95 RM 5.2, 5.3, 6.4).
-use Rattle.std.specs.Prelude.{ℕ, Bool, true, false, not, ◌||◌, if◌then◌else◌, List, [], ◌∷◌, is_some, Option, Some, None}
+-- What statements and calls do to a store, within a bound (Ada 95 RM 3.3.1, 5.2 to 5.4, 6.4).
+use Rattle.std.specs.Prelude.{ℕ, ℤ, Bool, true, false, not, ◌||◌, if◌then◌else◌, List, [], ◌∷◌, is_some, Option, Some, None, option_map}
 use Rattle.std.specs.List.{list_all}
 use Rattle.spx_text.specs.declared.place.Place.{Place}
 use Rattle.spx_core.specs.declared.entity.VarId.{VarId}
 use Rattle.spx_core.specs.declared.entity.VarKind.{VarKind}
-use Rattle.spx_core.specs.declared.entity.VarKind.TheVariants.{Formal, Local}
+use Rattle.spx_core.specs.declared.entity.VarKind.TheVariants.{Formal, Local, Initialized}
 use Rattle.spx_core.specs.declared.program.Var.{Var}
 use Rattle.spx_core.specs.declared.program.Program.{Program}
 use Rattle.spx_core.specs.declared.entity.Mode.TheVariants as mode
 use Rattle.spx_core.specs.declared.subprogram.CorePrecondition.{CorePrecondition}
 use Rattle.spx_core.specs.declared.subprogram.Sub.{Sub}
-use Rattle.spx_core.specs.Commands.{Command, Skip, Set, Then, Choose, commands}
-use Rattle.spx_core.specs.Formals.{formals}
+use Rattle.spx_core.specs.Commands.{Command, Skip, Set, Then, Choose, Select, Alternatives, Last, When, commands, spans_of}
+use Rattle.spx_core.specs.declared.entity.Subtype.{Subtype}
+use Rattle.spx_core.specs.declared.rule.ExprType.TheVariants.{Of}
+use Rattle.spx_core.specs.declared.statement.CoreChoice.{CoreChoice}
+use Rattle.spx_core.specs.Formals.{formals, initial_of}
 use Rattle.spx_core.specs.Places.{place_of}
+use Rattle.spx_core.specs.Types.{is_chosen}
 use Rattle.spx_core.specs.Uses.{variable_of}
 use Rattle.spx_core.specs.Dependency.{exports}
 use Rattle.spx_term.specs.declared.value.Value.{Value}
 use Rattle.spx_meaning.specs.declared.bad.BadKind.{BadKind}
 use Rattle.spx_meaning.specs.declared.bad.BadKind.TheVariants.{Pre, Range, Unset}
 use Rattle.spx_meaning.specs.Stores.{Store, look, put, declared, type_of, is_in}
-use Rattle.spx_term.specs.Meaning.{as_truth}
+use Rattle.spx_term.specs.Meaning.{as_number, as_truth}
 use Rattle.spx_meaning.specs.Frames.{Frame, around}
 use Rattle.spx_meaning.specs.Evaluation.{Answer, Gives, Fails, Waits, eval}
+use Rattle.spx_meaning.specs.Literals.{value_of}
 use Rattle.spx_meaning.specs.Annotations.{truth}
 
 -- how a run ends: at its end, by an exit from the loop around it, at a check that fails, or not within its bound
@@ -54,32 +59,53 @@ abbrev pub assign : Program → Place → Option VarId → Store → Value → O
 assign p place (Some v) s x = demand (is_in (type_of p v) x) Range place (put s v (Some x))
 assign p place None s x = Ended s
 
+-- one of the choices has the value; `others` has every value
+abbrev pub has_value : Option (List CoreChoice) → Value → Bool
+has_value None x = true
+has_value (Some choices) x = is_chosen (as_number x) (spans_of choices)
+
 -- A command; the bound is handed down to each part.
-abbrev pub run : Frame → ℕ → Store → Command → Outcome
-run f n s Skip = Ended s
-run f n s (Set target e) = use_value (eval f n s e) (assign f.program (place_of e) (variable_of target.root.entity) s)
-run f n s (Then a b) = then_do (run f n s a) (λ t. run f n t b)
-run f n s (Choose place condition a b) = use_value (eval f n s condition) (λ x. if as_truth x then run f n s a else run f n s b)
+abbrev mutual
+  pub run : Frame → ℕ → Store → Command → Outcome
+  run f n s Skip = Ended s
+  run f n s (Set target e) = use_value (eval f n s e) (assign f.program (place_of e) (variable_of target.root.entity) s)
+  run f n s (Then a b) = then_do (run f n s a) (λ t. run f n t b)
+  run f n s (Choose place condition a b) = use_value (eval f n s condition) (λ x. if as_truth x then run f n s a else run f n s b)
+  run f n s (Select place selector alternatives) = use_value (eval f n s selector) (λ x. run_for x f n s alternatives)
 
--- `out` formals and locals
-abbrev pub is_unset_kind : VarKind → Bool
-is_unset_kind (Formal mode.In) = false
-is_unset_kind (Formal mode.Out) = true
-is_unset_kind (Formal mode.InOut) = false
-is_unset_kind Local = true
+  -- the alternative for this value: that with the last choices has all values that are left
+  pub run_for : Value → Frame → ℕ → Store → Alternatives → Outcome
+  run_for x f n s (Last choices a) = run f n s a
+  run_for x f n s (When choices a rest) = if has_value choices x then run f n s a else run_for x f n s rest
 
-abbrev pub is_unset_var : Option Var → Bool
-is_unset_var (Some var) = is_unset_kind var.kind
-is_unset_var None = false
+-- `out` formals and locals take nothing over from the caller
+abbrev pub is_new_kind : VarKind → Bool
+is_new_kind (Formal mode.In) = false
+is_new_kind (Formal mode.Out) = true
+is_new_kind (Formal mode.InOut) = false
+is_new_kind Local = true
+is_new_kind (Initialized n) = true
 
--- whether a variable of a subprogram is unset on entry to its body
-abbrev pub starts_unset : Program → VarId → Bool
-starts_unset p v = is_unset_var (declared p v)
+abbrev pub is_new_var : Option Var → Bool
+is_new_var (Some var) = is_new_kind var.kind
+is_new_var None = false
 
--- the store without the values of those of the variables that are unset on entry
+-- whether a variable of a subprogram has no value from before its body
+abbrev pub starts_new : Program → VarId → Bool
+starts_new p v = is_new_var (declared p v)
+
+-- a value of this type, by its number or position
+abbrev pub value_in_type : Subtype → ℤ → Value
+value_in_type subtype n = value_of (Of subtype.base) n
+
+-- the value with which a variable is declared, if there is one
+abbrev pub initial_value : Program → VarId → Option Value
+initial_value p v = option_map (value_in_type (type_of p v)) (initial_of v p)
+
+-- the store in which those of the variables that are new have the values with which they are declared, and no others
 abbrev pub cleared : Program → Store → List VarId → Store
 cleared p s [] = s
-cleared p s (v ∷ rest) = if starts_unset p v then put (cleared p s rest) v None else cleared p s rest
+cleared p s (v ∷ rest) = if starts_new p v then put (cleared p s rest) v (initial_value p v) else cleared p s rest
 
 -- the store that the body of a subprogram begins with
 abbrev pub entry_of : Program → Sub → Store → Store
@@ -106,6 +132,6 @@ run_body f n =
     then_do (run f n entry (commands f.sub.statements)) (λ t.
     demand (exports_set f.sub t) Unset f.sub.end t))
 
--- a call: `out` formals and locals start unset
+-- a call: `out` formals start unset, and so do locals that are declared without a value
 abbrev pub call : Program → ℕ → Sub → Store → Outcome
 call p n sub s = run_body (around p sub (entry_of p sub s)) n

@@ -9,4 +9,4 @@ mod types;
 pub use bad::{Bad, BadKind};
 pub use spx_term::Value;
 pub use store::Store;
-pub use types::type_of;
+pub use types::{initial_value, type_of};

@@ -9,7 +9,7 @@ use Rattle.spx_parse_body.specs.declared.expressions.Tall.{Tall}
 use Rattle.spx_parse_body.specs.Reading.{Outcome, Reader, and_then, ◌>>=◌, pure, peek, turn, loop}
 use Rattle.spx_parse_body.specs.declared.operators.Chain.{Chain}
 use Rattle.spx_parse_body.specs.Operators.{goes_on}
-use Rattle.spx_parse_body.specs.Expressions.{joined_by, step_by, chain_step, chained, below, at_layer, expression, expression_below}
+use Rattle.spx_parse_body.specs.Expressions.{joined_by, step_by, chain_step, chained, below, at_layer, expression, simple_expression, expression_below, simple_expression_below}
 use Rattle.spx_parse_body.specs.Statements.{stmts_below, stmts}
 use Rattle.spx_parse_body.proofs.Callers.Loops.{loop_is}
 use Rattle.spx_parse_body.proofs.Callers.ExpressionsGood.{below_good, chain_shrinks}
@@ -22,6 +22,10 @@ below_is marked (suc n) layer fs h = let e : suc n - 1 ≡ n = omega arith in sy
 pub expression_below_is : (marked : Bool) (levels : ℕ) (fs : List Form) → 0 < levels → expression_below marked levels fs ≡ expression marked (levels - 1) fs
 unfolding expression expression_below
 expression_below_is marked levels fs h = ap (λ (o : Outcome Tall). and_then o (λ t. pure t.expr)) (below_is marked levels layer.Expression fs h)
+
+pub simple_expression_below_is : (marked : Bool) (levels : ℕ) (fs : List Form) → 0 < levels → simple_expression_below marked levels fs ≡ simple_expression marked (levels - 1) fs
+unfolding simple_expression simple_expression_below
+simple_expression_below_is marked levels fs h = ap (λ (o : Outcome Tall). and_then o (λ t. pure t.expr)) (below_is marked levels layer.Sum fs h)
 
 pub stmts_below_is : (levels : ℕ) (fs : List Form) → 0 < levels → stmts_below levels fs ≡ stmts (levels - 1) fs
 unfolding stmts_below stmts

@@ -1,4 +1,4 @@
--- Reading names and expressions (Ada 95 RM 4.1 and 4.4), one level down for each parenthesis, operator and membership test.
+-- Reading names and expressions (Ada 95 RM 4.1 and 4.4), one level down for each parenthesis, function, operator and membership test.
 use Rattle.std.specs.Prelude.{ℕ, zero, suc, ◌+◌, max, Bool, Option, Some, None}
 use Rattle.spx_text.specs.declared.place.Place.{Place}
 use Rattle.spx_tree.specs.declared.token.Kind.{Kind}
@@ -12,6 +12,9 @@ use Rattle.spx_tree.specs.declared.expression.Layer.{Layer}
 use Rattle.spx_tree.specs.declared.expression.Layer.TheVariants as layer
 use Rattle.spx_tree.specs.declared.expression.Name.{Name}
 use Rattle.spx_tree.specs.declared.expression.Name.TheVariants.{Simple, Attribute}
+use Rattle.spx_tree.specs.declared.expression.Function.{Function}
+use Rattle.spx_tree.specs.declared.expression.FunctionForm.{FunctionForm}
+use Rattle.spx_tree.specs.declared.expression.FunctionForm.TheVariants as forms
 use Rattle.spx_tree.specs.declared.expression.Expr.{Expr}
 use Rattle.spx_tree.specs.declared.expression.Expr.TheVariants as expr
 use Rattle.spx_tree.specs.Written.{sign_kind, operator_kind, parenthesized}
@@ -45,6 +48,14 @@ name marked = identifier marked >>= λ prefix fs. name_by marked prefix (peek ma
 abbrev pub leaf : Expr → Tall
 leaf e = record { expr = e; height = 0 }
 
+-- a function of this name
+abbrev pub function_of : Identifier → FunctionForm → Function
+function_of name form = record { name = name; form = form }
+
+-- a function and its operand
+abbrev pub applied : Function → Place → Tall → Tall
+applied function place operand = record { expr = expr.Applied function place operand.expr; height = operand.height + 1 }
+
 -- an expression in parentheses
 abbrev pub enclosed : Place → Tall → Tall
 enclosed place inner = record { expr = expr.Parenthesized place inner.expr; height = inner.height + 1 }
@@ -69,6 +80,7 @@ in_range op place tested low high = record { expr = expr.InRange op place tested
 abbrev pub plain_name : Expr → Option Name
 plain_name (expr.Name name) = Some name
 plain_name (expr.Number value place) = None
+plain_name (written.applied function place operand) = None
 plain_name (parenthesized place inner) = None
 plain_name (written.signed op place operand) = None
 plain_name (written.operation op place left right) = None
@@ -96,13 +108,46 @@ module _ (marked : Bool) (below : Layer → Reader Tall) (levels : ℕ) where
     expect marked k.RightParenthesis
     pure (enclosed place inner))
 
+  -- "(" expression ")" after a function
+  unfoldable pub application : Function → Reader Tall
+  application function = deeper levels 0 (do
+    place ← expect_place marked k.LeftParenthesis
+    operand ← below layer.Expression
+    expect marked k.RightParenthesis
+    pure (applied function place operand))
+
+  abbrev pub attribute_by : Identifier → Identifier → Option Kind → Reader Tall
+  attribute_by prefix designator (Some k.LeftParenthesis) = application (function_of prefix (forms.Attribute designator))
+  attribute_by prefix designator _ = pure (leaf (expr.Name (Attribute prefix designator)))
+
+  -- identifier [application] after identifier "'"
+  unfoldable pub attribute : Identifier → Reader Tall
+  attribute prefix = identifier marked >>= λ designator fs. attribute_by prefix designator (peek marked fs) fs
+
+  abbrev pub with_apostrophe_by : Identifier → Option Kind → Reader Tall
+  with_apostrophe_by prefix (Some k.LeftParenthesis) = application (function_of prefix forms.Qualified)
+  with_apostrophe_by prefix _ = attribute prefix
+
+  -- "'" (application | identifier [application]) after an identifier
+  unfoldable pub with_apostrophe : Identifier → Reader Tall
+  with_apostrophe prefix = expect marked k.Apostrophe >>= λ u fs. with_apostrophe_by prefix (peek marked fs) fs
+
+  abbrev pub with_identifier_by : Identifier → Option Kind → Reader Tall
+  with_identifier_by prefix (Some k.Apostrophe) = with_apostrophe prefix
+  with_identifier_by prefix (Some k.LeftParenthesis) = application (function_of prefix forms.Simple)
+  with_identifier_by prefix _ = pure (leaf (expr.Name (Simple prefix)))
+
+  -- name | identifier ["'" identifier] "(" expression ")" | identifier "'" "(" expression ")"
+  unfoldable pub with_identifier : Reader Tall
+  with_identifier = identifier marked >>= λ prefix fs. with_identifier_by prefix (peek marked fs) fs
+
   abbrev pub primary_by : Option Kind → Reader Tall
   primary_by (Some k.Number) = literal marked
-  primary_by (Some k.Identifier) = name marked >>= λ n. pure (leaf (expr.Name n))
+  primary_by (Some k.Identifier) = with_identifier
   primary_by (Some k.LeftParenthesis) = in_parentheses
   primary_by _ = refuse
 
-  -- number | name | "(" expression ")"
+  -- number | what an identifier begins | "(" expression ")"
   unfoldable pub primary : Reader Tall
   primary = λ fs. primary_by (peek marked fs) fs
 
@@ -249,3 +294,7 @@ simple_expression marked levels = at_layer marked levels layer.Sum >>= λ t. pur
 -- expression one level down
 unfoldable pub expression_below : Bool → ℕ → Reader Expr
 expression_below marked levels = below marked levels layer.Expression >>= λ t. pure t.expr
+
+-- sum one level down
+unfoldable pub simple_expression_below : Bool → ℕ → Reader Expr
+simple_expression_below marked levels = below marked levels layer.Sum >>= λ t. pure t.expr

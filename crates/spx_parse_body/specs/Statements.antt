@@ -1,15 +1,18 @@
 -- Reading statements (Ada 95 RM 5).
-use Rattle.std.specs.Prelude.{ℕ, zero, suc, Bool, true, false, List, [], ◌∷◌, Option, Some}
+use Rattle.std.specs.Prelude.{⊤, ℕ, zero, suc, Bool, true, false, List, [], ◌∷◌, Option, Some, None}
 use Rattle.spx_tree.specs.declared.token.Kind.{Kind}
 use Rattle.spx_tree.specs.declared.token.Kind.TheVariants as k
 use Rattle.spx_text.specs.declared.place.Place.{Place}
 use Rattle.spx_tree.specs.declared.statement.Arm.{Arm}
+use Rattle.spx_tree.specs.declared.expression.Expr.{Expr}
+use Rattle.spx_tree.specs.declared.statement.Choice.{Choice}
+use Rattle.spx_tree.specs.declared.statement.Alternative.{Alternative}
 use Rattle.spx_tree.specs.declared.statement.Stmt.{Stmt}
-use Rattle.spx_tree.specs.declared.statement.Stmt.TheVariants.{Null, Assignment, If}
+use Rattle.spx_tree.specs.declared.statement.Stmt.TheVariants.{Null, Assignment, If, Case}
 use Rattle.spx_tree.specs.Form.{Form}
 use Rattle.spx_tree.specs.Written.{program}
 use Rattle.spx_parse_body.specs.Reading.{Reader, ◌>>=◌, ◌>>◌, pure, refuse, too_deep, peek, sees, expect, expect_place, if_seen, deeper, more_items}
-use Rattle.spx_parse_body.specs.Expressions.{name, expression, expression_below}
+use Rattle.spx_parse_body.specs.Expressions.{name, expression, expression_below, simple_expression_below}
 
 -- "null" ";"
 unfoldable pub null_statement : Reader Stmt
@@ -23,11 +26,41 @@ abbrev pub starts_stmt : Option Kind → Bool
 starts_stmt (Some k.Null) = true
 starts_stmt (Some k.Identifier) = true
 starts_stmt (Some k.If) = true
+starts_stmt (Some k.Case) = true
 starts_stmt _ = false
 
 -- a statement comes next
 abbrev pub sees_stmt : List Form → Bool
 sees_stmt fs = starts_stmt (peek program fs)
+
+-- ---- the choices of a case statement (Ada 95 RM 3.8.1), one level down
+
+-- ".." sum
+unfoldable pub upper : ℕ → Reader Expr
+upper levels = expect program k.DoubleDot >> simple_expression_below program levels
+
+-- sum [".." sum]
+unfoldable pub choice : ℕ → Reader Choice
+choice levels = do
+  low ← simple_expression_below program levels
+  high ← if_seen program k.DoubleDot (upper levels)
+  pure (record { low = low; high = high })
+
+-- {"|" choice}
+unfoldable pub more_choices : ℕ → List Choice → Reader (List Choice)
+more_choices levels found = more_items (sees program k.Bar) (expect program k.Bar >> choice levels) found
+
+-- choice {"|" choice}
+unfoldable pub some_choices : ℕ → Reader (List Choice)
+some_choices levels = choice levels >>= λ x. more_choices levels (x ∷ [])
+
+abbrev pub choices_by : ℕ → Option ⊤ → Reader (Option (List Choice))
+choices_by levels (Some others) = pure None
+choices_by levels None = some_choices levels >>= λ choices. pure (Some choices)
+
+-- "others" | choice {"|" choice}
+unfoldable pub choices : ℕ → Reader (Option (List Choice))
+choices levels = if_seen program k.Others (expect program k.Others) >>= choices_by levels
 
 -- What reads statements one level down is a parameter, and so is the number of levels that are left.
 module _ (inner : Reader (List Stmt)) (levels : ℕ) where
@@ -72,13 +105,42 @@ module _ (inner : Reader (List Stmt)) (levels : ℕ) where
     expect program k.Semicolon
     pure (If arms otherwise (record { end = end; word = word })))
 
+  -- "when" choices "=>" statements
+  unfoldable pub alternative : Reader Alternative
+  alternative = do
+    expect program k.When
+    choices ← choices levels
+    expect program k.Arrow
+    body ← inner
+    pure (record { choices = choices; body = body })
+
+  unfoldable pub more_alternatives : List Alternative → Reader (List Alternative)
+  more_alternatives found = more_items (sees program k.When) alternative found
+
+  -- alternative {alternative}
+  unfoldable pub alternatives : Reader (List Alternative)
+  alternatives = alternative >>= λ x. more_alternatives (x ∷ [])
+
+  -- "case" expression "is" alternatives "end" "case" ";"
+  unfoldable pub case_statement : Reader Stmt
+  case_statement = deeper levels 0 (do
+    place ← expect_place program k.Case
+    selector ← expression_below program levels
+    expect program k.Is
+    alternatives ← alternatives
+    end ← expect_place program k.End
+    word ← expect_place program k.Case
+    expect program k.Semicolon
+    pure (Case place selector alternatives (record { end = end; word = word })))
+
   abbrev pub stmt_by : Option Kind → Reader Stmt
   stmt_by (Some k.Null) = null_statement
   stmt_by (Some k.Identifier) = assignment
   stmt_by (Some k.If) = if_statement
+  stmt_by (Some k.Case) = case_statement
   stmt_by _ = refuse
 
-  -- null statement | assignment | if statement
+  -- null statement | assignment | if statement | case statement
   unfoldable pub stmt : Reader Stmt
   stmt = λ fs. stmt_by (peek program fs) fs
 

@@ -9,11 +9,13 @@ use crate::operators::{
     relator_of, right_layer, second_word, sign_of, whole_operator,
 };
 use spx_text::Place;
-use spx_tree::{Expr, InfixOp, Kind, Layer, MemberOp, Name, PrefixOp};
+use spx_tree::{
+    Expr, Function, FunctionForm, Identifier, InfixOp, Kind, Layer, MemberOp, Name, PrefixOp,
+};
 use sqlite_items::Boxed;
 use std::alloc::{AllocError, Global};
 
-/// An expression, and how many parentheses, operators and membership tests lie on the longest way down.
+/// An expression, and how many parentheses, functions, operators and membership tests lie on the longest way down.
 #[derive(Debug, Drop)]
 pub struct Tall {
     pub expr: Expr,
@@ -106,7 +108,120 @@ fn in_parentheses(
     Ok(enclose(alloc, place, inner)?)
 }
 
-// primary = number | name | in_parentheses
+/// A function and its operand.
+fn apply(alloc: Global, function: Function, place: Place, operand: Tall) -> Result<Tall, AllocError>
+    requires { operand.height < 2 ^ 32 - 1 }
+    ensures { IfOk result (λ t. t ≡ read.applied function place operand) }
+{
+    let height = operand.height + 1;
+    let operand = Boxed::new(alloc, operand.expr)?;
+    Ok(Tall {
+        expr: Expr::Applied(function, place, operand),
+        height,
+    })
+}
+
+// application = "(" expression ")", after a function
+#[cycle(layers)]
+#[tactic(auto, using(crate::proofs::Levels::below_is), unfolding(crate::specs::Expressions::application))]
+fn application(
+    alloc: Global,
+    cursor: &mut Cursor<'_>,
+    levels: u32,
+    marked: bool,
+    function: Function,
+) -> Result<Tall, Stop>
+    ensures gives { Reads (read.application marked (read.below marked levels) levels function cursor.old) result cursor.new }
+    ensures low { IfOk result (λ t. t.height ≤ levels) }
+{
+    if levels == 0 {
+        return Err(cursor.too_deep());
+    }
+    let place = cursor.expect_place(marked, Kind::LeftParenthesis)?;
+    let operand = at_layer(alloc, cursor, levels - 1, marked, Layer::Expression)?;
+    cursor.expect(marked, Kind::RightParenthesis)?;
+    Ok(apply(alloc, function, place, operand)?)
+}
+
+// attribute = identifier [application], after identifier "'"
+#[cycle(layers)]
+#[tactic(auto, unfolding(crate::specs::Expressions::attribute))]
+fn attribute(
+    alloc: Global,
+    cursor: &mut Cursor<'_>,
+    levels: u32,
+    marked: bool,
+    prefix: Identifier,
+) -> Result<Tall, Stop>
+    ensures gives { Reads (read.attribute marked (read.below marked levels) levels prefix cursor.old) result cursor.new }
+    ensures low { IfOk result (λ t. t.height ≤ levels) }
+{
+    let designator = cursor.identifier(alloc, marked)?;
+    match cursor.peek(marked) {
+        Some(Kind::LeftParenthesis) => {
+            let form = FunctionForm::Attribute(designator);
+            let function = Function { name: prefix, form };
+            application(alloc, cursor, levels, marked, function)
+        }
+        _ => Ok(Tall {
+            expr: Expr::Name(Name::Attribute(prefix, designator)),
+            height: 0,
+        }),
+    }
+}
+
+// with_apostrophe = "'" (application | attribute), after an identifier
+#[cycle(layers)]
+#[tactic(auto, unfolding(crate::specs::Expressions::with_apostrophe))]
+fn with_apostrophe(
+    alloc: Global,
+    cursor: &mut Cursor<'_>,
+    levels: u32,
+    marked: bool,
+    prefix: Identifier,
+) -> Result<Tall, Stop>
+    ensures gives { Reads (read.with_apostrophe marked (read.below marked levels) levels prefix cursor.old) result cursor.new }
+    ensures low { IfOk result (λ t. t.height ≤ levels) }
+{
+    cursor.expect(marked, Kind::Apostrophe)?;
+    match cursor.peek(marked) {
+        Some(Kind::LeftParenthesis) => {
+            let form = FunctionForm::Qualified;
+            let function = Function { name: prefix, form };
+            application(alloc, cursor, levels, marked, function)
+        }
+        _ => attribute(alloc, cursor, levels, marked, prefix),
+    }
+}
+
+// with_identifier = identifier [with_apostrophe | application]
+#[cycle(layers)]
+#[tactic(auto, unfolding(crate::specs::Expressions::with_identifier))]
+fn with_identifier(
+    alloc: Global,
+    cursor: &mut Cursor<'_>,
+    levels: u32,
+    marked: bool,
+) -> Result<Tall, Stop>
+    ensures gives { Reads (read.with_identifier marked (read.below marked levels) levels cursor.old) result cursor.new }
+    ensures low { IfOk result (λ t. t.height ≤ levels) }
+{
+    let prefix = cursor.identifier(alloc, marked)?;
+    match cursor.peek(marked) {
+        Some(Kind::Apostrophe) => with_apostrophe(alloc, cursor, levels, marked, prefix),
+        Some(Kind::LeftParenthesis) => {
+            let form = FunctionForm::Simple;
+            let function = Function { name: prefix, form };
+            application(alloc, cursor, levels, marked, function)
+        }
+        _ => Ok(Tall {
+            expr: Expr::Name(Name::Simple(prefix)),
+            height: 0,
+        }),
+    }
+}
+
+// primary = number | with_identifier | in_parentheses
 #[cycle(layers)]
 #[tactic(auto, unfolding(crate::specs::Expressions::primary))]
 fn primary(alloc: Global, cursor: &mut Cursor<'_>, levels: u32, marked: bool) -> Result<Tall, Stop>
@@ -115,13 +230,7 @@ fn primary(alloc: Global, cursor: &mut Cursor<'_>, levels: u32, marked: bool) ->
 {
     match cursor.peek(marked) {
         Some(Kind::Number) => literal(cursor, marked),
-        Some(Kind::Identifier) => {
-            let name = name(alloc, cursor, marked)?;
-            Ok(Tall {
-                expr: Expr::Name(name),
-                height: 0,
-            })
-        }
+        Some(Kind::Identifier) => with_identifier(alloc, cursor, levels, marked),
         Some(Kind::LeftParenthesis) => in_parentheses(alloc, cursor, levels, marked),
         _ => Err(cursor.expected()),
     }
@@ -297,6 +406,7 @@ fn plain_name(expr: Expr) -> Option<Name>
     match expr {
         Expr::Name(name) => Some(name),
         Expr::Number(_, _) => None,
+        Expr::Applied(_, _, _) => None,
         Expr::Parenthesized(_, _) => None,
         Expr::Prefix(_, _, _) => None,
         Expr::Infix(_, _, _, _) => None,

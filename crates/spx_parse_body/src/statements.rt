@@ -7,9 +7,9 @@ ghost use Rattle.spx_parse_body.specs.Statements as read;
 ghost use Rattle.spx_parse_body.specs.Answers.{Reads};
 
 use crate::cursor::{Cursor, PROGRAM, Stop};
-use crate::expressions::{expression, name};
+use crate::expressions::{expression, name, simple_expression};
 use spx_text::Place;
-use spx_tree::{Arm, Closing, Kind, Stmt};
+use spx_tree::{Alternative, Arm, Choice, Closing, Expr, Kind, Stmt};
 use sqlite_items::Items;
 use std::alloc::Global;
 
@@ -130,7 +130,125 @@ fn if_statement(alloc: Global, cursor: &mut Cursor<'_>, levels: u32) -> Result<S
     Ok(Stmt::If(arms, otherwise, Closing { end, word }))
 }
 
-// stmt = null_statement | assignment | if_statement
+// upper = ".." sum
+#[tactic(auto, using(crate::proofs::Levels::simple_expression_below_is), unfolding(crate::specs::Statements::upper))]
+fn upper(alloc: Global, cursor: &mut Cursor<'_>, levels: u32) -> Result<Expr, Stop>
+    requires { 0 < levels }
+    ensures { Reads (read.upper levels cursor.old) result cursor.new }
+{
+    cursor.expect(PROGRAM, Kind::DoubleDot)?;
+    simple_expression(alloc, cursor, levels - 1, PROGRAM)
+}
+
+// [upper]
+#[tactic(auto, unfolding(crate::specs::Reading::if_seen))]
+fn optional_upper(alloc: Global, cursor: &mut Cursor<'_>, levels: u32) -> Result<Option<Expr>, Stop>
+    requires { 0 < levels }
+    ensures { Reads (reading.if_seen program k.DoubleDot (read.upper levels) cursor.old) result cursor.new }
+{
+    if cursor.sees(PROGRAM, Kind::DoubleDot) {
+        return Ok(Some(upper(alloc, cursor, levels)?));
+    }
+    Ok(None)
+}
+
+// choice = sum [upper]
+#[tactic(auto, using(crate::proofs::Levels::simple_expression_below_is), unfolding(crate::specs::Statements::choice))]
+fn choice(alloc: Global, cursor: &mut Cursor<'_>, levels: u32) -> Result<Choice, Stop>
+    requires { 0 < levels }
+    ensures { Reads (read.choice levels cursor.old) result cursor.new }
+{
+    let low = simple_expression(alloc, cursor, levels - 1, PROGRAM)?;
+    let high = optional_upper(alloc, cursor, levels)?;
+    Ok(Choice { low, high })
+}
+
+// some_choices = choice {"|" choice}
+#[tactic(auto, using(crate::proofs::Callers::Turns::more_choices_is), unfolding(crate::specs::Statements::some_choices))]
+fn some_choices(alloc: Global, cursor: &mut Cursor<'_>, levels: u32) -> Result<Items<Choice>, Stop>
+    requires { 0 < levels }
+    ensures { Reads (read.some_choices levels cursor.old) result cursor.new }
+{
+    let mut choices = Items::new(alloc);
+    choices.push(choice(alloc, cursor, levels)?)?;
+    'more: while cursor.sees(PROGRAM, Kind::Bar) {
+        cursor.expect(PROGRAM, Kind::Bar)?;
+        choices.push(choice(alloc, cursor, levels)?)?;
+    }
+    Ok(choices)
+}
+
+// choices = "others" | some_choices
+#[tactic(auto, unfolding(crate::specs::Statements::choices, crate::specs::Reading::if_seen))]
+fn choices(
+    alloc: Global,
+    cursor: &mut Cursor<'_>,
+    levels: u32,
+) -> Result<Option<Items<Choice>>, Stop>
+    requires { 0 < levels }
+    ensures { Reads (read.choices levels cursor.old) result cursor.new }
+{
+    if cursor.sees(PROGRAM, Kind::Others) {
+        cursor.expect(PROGRAM, Kind::Others)?;
+        return Ok(None);
+    }
+    Ok(Some(some_choices(alloc, cursor, levels)?))
+}
+
+// alternative = "when" choices "=>" stmts
+#[cycle(stmts)]
+#[tactic(auto, using(crate::proofs::Levels::stmts_below_is), unfolding(crate::specs::Statements::alternative))]
+fn alternative(alloc: Global, cursor: &mut Cursor<'_>, levels: u32) -> Result<Alternative, Stop>
+    requires { 0 < levels }
+    ensures { Reads (read.alternative (read.stmts_below levels) levels cursor.old) result cursor.new }
+{
+    cursor.expect(PROGRAM, Kind::When)?;
+    let choices = choices(alloc, cursor, levels)?;
+    cursor.expect(PROGRAM, Kind::Arrow)?;
+    let body = stmts(alloc, cursor, levels - 1)?;
+    Ok(Alternative { choices, body })
+}
+
+// alternatives = alternative {alternative}
+#[cycle(stmts)]
+#[tactic(auto, using(crate::proofs::Callers::Turns::more_alternatives_is), unfolding(crate::specs::Statements::alternatives))]
+fn alternatives(
+    alloc: Global,
+    cursor: &mut Cursor<'_>,
+    levels: u32,
+) -> Result<Items<Alternative>, Stop>
+    requires { 0 < levels }
+    ensures { Reads (read.alternatives (read.stmts_below levels) levels cursor.old) result cursor.new }
+{
+    let mut alternatives = Items::new(alloc);
+    alternatives.push(alternative(alloc, cursor, levels)?)?;
+    'more: while cursor.sees(PROGRAM, Kind::When) {
+        alternatives.push(alternative(alloc, cursor, levels)?)?;
+    }
+    Ok(alternatives)
+}
+
+// case_statement = "case" expression "is" alternatives "end" "case" ";"
+#[cycle(stmts)]
+#[tactic(auto, using(crate::proofs::Levels::expression_below_is), unfolding(crate::specs::Statements::case_statement))]
+fn case_statement(alloc: Global, cursor: &mut Cursor<'_>, levels: u32) -> Result<Stmt, Stop>
+    ensures { Reads (read.case_statement (read.stmts_below levels) levels cursor.old) result cursor.new }
+{
+    if levels == 0 {
+        return Err(cursor.too_deep());
+    }
+    let place = cursor.expect_place(PROGRAM, Kind::Case)?;
+    let selector = expression(alloc, cursor, levels - 1, PROGRAM)?;
+    cursor.expect(PROGRAM, Kind::Is)?;
+    let alternatives = alternatives(alloc, cursor, levels)?;
+    let end = cursor.expect_place(PROGRAM, Kind::End)?;
+    let word = cursor.expect_place(PROGRAM, Kind::Case)?;
+    cursor.expect(PROGRAM, Kind::Semicolon)?;
+    let closing = Closing { end, word };
+    Ok(Stmt::Case(place, selector, alternatives, closing))
+}
+
+// stmt = null_statement | assignment | if_statement | case_statement
 #[cycle(stmts)]
 #[tactic(auto, unfolding(crate::specs::Statements::stmt))]
 fn stmt(alloc: Global, cursor: &mut Cursor<'_>, levels: u32) -> Result<Stmt, Stop>
@@ -140,6 +258,7 @@ fn stmt(alloc: Global, cursor: &mut Cursor<'_>, levels: u32) -> Result<Stmt, Sto
         Some(Kind::Null) => null_statement(cursor),
         Some(Kind::Identifier) => assignment(alloc, cursor, levels),
         Some(Kind::If) => if_statement(alloc, cursor, levels),
+        Some(Kind::Case) => case_statement(alloc, cursor, levels),
         _ => Err(cursor.expected()),
     }
 }
@@ -149,7 +268,7 @@ fn sees_stmt(cursor: &Cursor<'_>) -> bool
     ensures { result ≡ read.sees_stmt cursor.now }
 {
     match cursor.peek(PROGRAM) {
-        Some(Kind::Null | Kind::Identifier | Kind::If) => true,
+        Some(Kind::Null | Kind::Identifier | Kind::If | Kind::Case) => true,
         _ => false,
     }
 }

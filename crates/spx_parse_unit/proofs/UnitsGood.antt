@@ -14,13 +14,13 @@ use Rattle.spx_tree.specs.declared.annotation.Imports.{Imports}
 use Rattle.spx_tree.specs.declared.subprogram.WrittenMode.TheVariants as modes
 use Rattle.spx_tree.specs.declared.subprogram.Unit.TheVariants as unit
 use Rattle.spx_tree.specs.Form.{Form, bare, placed, named}
-use Rattle.spx_tree.specs.Written.{program, annotation, following, separated, optional, written_identifier, written_identifiers, written_name, written_names, written_range, written_constraint, written_definition, written_decl, written_decls, written_stmts, written_imports, written_item, written_derives, written_pre, written_mode, written_param, written_params, written_formal_part, written_subprogram, written_unit, written}
-use Rattle.spx_tree.specs.Grammar.{Each, OneOrMore, IfThere, IsIdentifiers, IsNames, IsRange, IsDefinition, IsDecl, IsStmts, IsItem, IsDerives, IsPrecondition, IsParam, IsFormalPart, IsSubprogram, IsUnit, IsFile}
+use Rattle.spx_tree.specs.Written.{program, annotation, following, separated, optional, written_identifier, written_identifiers, written_name, written_names, written_range, written_constraint, written_definition, written_initial, written_decl, written_decls, written_stmts, written_imports, written_item, written_derives, written_pre, written_mode, written_param, written_params, written_formal_part, written_subprogram, written_unit, written}
+use Rattle.spx_tree.specs.Grammar.{Each, OneOrMore, IfThere, IsIdentifiers, IsNames, IsExpr, IsRange, IsDefinition, IsDecl, IsStmts, IsItem, IsDerives, IsPrecondition, IsParam, IsFormalPart, IsSubprogram, IsUnit, IsFile}
 use Rattle.spx_parse_body.specs.Reading.{◌>>◌, peek, sees, expect, identifier, item_step}
 use Rattle.spx_parse_body.specs.Expressions.{name}
 use Rattle.spx_parse_unit.specs.declared.subprograms.HeadingParts.{HeadingParts}
 use Rattle.spx_parse_unit.specs.declared.subprograms.BodyParts.{BodyParts}
-use Rattle.spx_parse_unit.specs.Units.{more_identifiers, identifiers, more_names, names, starred, unstarred, imports_by, imports, named_item, null_item, item_by, item, more_derives, items, derives, precondition, in_by, following_in, mode_by, mode, param, more_params, params, formal_part, range, constraint, integer, enumeration, definition_by, definition, full_type, subtype, variables, constants, objects_by, objects_after, objects, declaration_by, declaration, starts_declaration, sees_declaration, more_declarations, declarations, heading, body, whole, subprogram, unit_at, more_units, file}
+use Rattle.spx_parse_unit.specs.Units.{more_identifiers, identifiers, more_names, names, starred, unstarred, imports_by, imports, named_item, null_item, item_by, item, more_derives, items, derives, precondition, in_by, following_in, mode_by, mode, param, more_params, params, formal_part, range, constraint, integer, enumeration, definition_by, definition, full_type, subtype, initial, variables, constants, objects_by, objects_after, objects, declaration_by, declaration, starts_declaration, sees_declaration, more_declarations, declarations, heading, body, whole, subprogram, unit_at, more_units, file}
 use Rattle.spx_parse_body.proofs.Callers.Loops.{Shrinks}
 use Rattle.spx_parse_body.proofs.Callers.Lawful.{Ends, Any, Sees, Always}
 use Rattle.spx_parse_body.proofs.Callers.Good.{Good, Starts, Case, Adds, absent, present, good_bind, good_as, good_pure, good_refuse, good_fewer, good_choose, good_before, good_given, good_expect, good_expect_place, good_identifier, good_option, good_more, list_shrinks, starts_bind, starts_choose, starts_expect, starts_place, starts_identifier}
@@ -269,13 +269,18 @@ subtype_starts levels here =
 abbrev named_text : List Identifier → List Form
 named_text names = written_identifiers program names ++ bare program k.Colon ∷ []
 
+initial_starts : {L P : Type 0} (levels : ℕ) → Starts L P written_initial (IsExpr levels) [] (Sees (sees program k.Assignment) true) (initial levels) (initial (suc levels))
+unfolding initial
+initial_starts levels = starts_bind (starts_expect program k.Assignment (sees_kind program k.Assignment) refl) (λ u. good_as (λ l w x f. (refl, f)) (expression_good program levels))
+
 variables_starts : {L P : Type 0} {on : List Form → Type 0} (levels : ℕ) (names : List Identifier) → (P → IsIdentifiers names) → ((fs : List Form) → on fs → peek program fs ≡ Some k.Identifier)
-    → Starts L P written_decl (IsDecl levels) (named_text names) on (variables names) (variables names)
+    → Starts L P written_decl (IsDecl levels) (named_text names) on (variables levels names) (variables (suc levels) names)
 unfolding variables
 variables_starts levels names f here =
     starts_bind (name_starts program here) (λ type_name.
+    good_bind (good_if_seen written_initial (IsExpr levels) program k.Assignment (initial_starts levels)) (λ value.
     good_bind (good_expect program k.Semicolon) (λ u.
-    good_pure (decl.Variables names type_name) (λ l w. simp append_assoc) (λ l w. f w.0.0)))
+    good_pure (decl.Variables names type_name value) (λ l w. simp append_assoc) (λ l w. (f w.0.0.0, w.0.1)))))
 
 constants_starts : {L P : Type 0} {on : List Form → Type 0} (levels : ℕ) (names : List Identifier) → (P → IsIdentifiers names) → ((fs : List Form) → on fs → peek program fs ≡ Some k.Constant)
     → Starts L P written_decl (IsDecl levels) (named_text names) on (constants levels names) (constants (suc levels) names)

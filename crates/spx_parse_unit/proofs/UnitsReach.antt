@@ -6,6 +6,7 @@ use Rattle.spx_tree.specs.declared.token.Kind.{Kind}
 use Rattle.spx_tree.specs.declared.token.Kind.TheVariants as k
 use Rattle.spx_tree.specs.declared.expression.Identifier.{Identifier}
 use Rattle.spx_tree.specs.declared.expression.Name.{Name}
+use Rattle.spx_tree.specs.declared.expression.Expr.{Expr}
 use Rattle.spx_tree.specs.declared.declaration.Decl.{Decl}
 use Rattle.spx_tree.specs.declared.declaration.Decl.TheVariants as decl
 use Rattle.spx_tree.specs.declared.declaration.Range.{Range}
@@ -26,13 +27,13 @@ use Rattle.spx_tree.specs.declared.subprogram.Subprogram.{Subprogram}
 use Rattle.spx_tree.specs.declared.subprogram.Unit.{Unit}
 use Rattle.spx_tree.specs.declared.subprogram.Unit.TheVariants as unit
 use Rattle.spx_tree.specs.Form.{Form, bare, placed, named}
-use Rattle.spx_tree.specs.Written.{program, annotation, following, separated, optional, written_identifier, written_identifiers, written_name, written_names, written_expr, written_range, written_constraint, written_definition, written_decl, written_decls, written_stmts, written_imports, written_item, written_derives, written_pre, written_mode, written_param, written_params, written_formal_part, written_subprogram, written_unit, written}
-use Rattle.spx_tree.specs.Grammar.{Each, OneOrMore, IfThere, IsIdentifiers, IsNames, IsRange, IsDefinition, IsDecl, HasImportsFor, IsItem, IsDerives, IsPrecondition, IsParam, IsFormalPart, IsSubprogram, IsUnit, IsFile}
+use Rattle.spx_tree.specs.Written.{program, annotation, following, separated, optional, written_identifier, written_identifiers, written_name, written_names, written_expr, written_range, written_constraint, written_definition, written_initial, written_decl, written_decls, written_stmts, written_imports, written_item, written_derives, written_pre, written_mode, written_param, written_params, written_formal_part, written_subprogram, written_unit, written}
+use Rattle.spx_tree.specs.Grammar.{Each, OneOrMore, IfThere, IsIdentifiers, IsNames, IsExpr, IsRange, IsDefinition, IsDecl, HasImportsFor, IsItem, IsDerives, IsPrecondition, IsParam, IsFormalPart, IsSubprogram, IsUnit, IsFile}
 use Rattle.spx_parse_body.specs.Reading.{pure, peek, is_kind, sees, identifier, optional_by, if_seen}
 use Rattle.spx_parse_body.specs.Expressions.{name}
 use Rattle.spx_parse_unit.specs.declared.subprograms.HeadingParts.{HeadingParts}
 use Rattle.spx_parse_unit.specs.declared.subprograms.BodyParts.{BodyParts}
-use Rattle.spx_parse_unit.specs.Units.{more_identifiers, identifiers, more_names, names, starred, unstarred, imports_by, imports, named_item, null_item, item_by, item, more_derives, items, derives, precondition, in_by, following_in, mode_by, mode, param, more_params, params, formal_part, range, constraint, integer, enumeration, definition_by, definition, full_type, subtype, variables, constants, objects_by, objects_after, objects, declaration_by, declaration, sees_declaration, more_declarations, declarations, heading, body, subprogram, unit_at, more_units, file}
+use Rattle.spx_parse_unit.specs.Units.{more_identifiers, identifiers, more_names, names, starred, unstarred, imports_by, imports, named_item, null_item, item_by, item, more_derives, items, derives, precondition, in_by, following_in, mode_by, mode, param, more_params, params, formal_part, range, constraint, integer, enumeration, definition_by, definition, full_type, subtype, initial, variables, constants, objects_by, objects_after, objects, declaration_by, declaration, sees_declaration, more_declarations, declarations, heading, body, subprogram, unit_at, more_units, file}
 use Rattle.spx_parse_body.proofs.Callers.Shaped.{kind_self}
 use Rattle.spx_parse_body.proofs.Callers.Separated.{Lacks, not_seen, sees_front, reaches_following, reaches_separated, reaches_if_seen}
 use Rattle.spx_parse_body.proofs.Callers.Reaches.{Reaches, reaches_is, reaches_bind, reaches_pure, reaches_choose, reaches_expect, reaches_expect_place, reaches_identifier, reaches_items, peek_front}
@@ -213,6 +214,22 @@ unfolding if_seen
 constraint_option levels None fs zs f h = reaches_choose (sees program k.Range) (optional_by (constraint levels)) false (ap (sees program k.Range) h ∙ not_seen program k.Range (bare program k.Semicolon ∷ zs) (λ e. cc)) (reaches_pure h)
 constraint_option levels (Some x) fs zs f h = reaches_choose (sees program k.Range) (optional_by (constraint levels)) true (ap (sees program k.Range) h ∙ kind_self k.Range) (reaches_bind _ (constraint_again levels x fs zs f h) (λ us a. reaches_pure a))
 
+initial_again : (levels : ℕ) (x : Expr) (fs zs : List Form) → IsExpr levels x → fs ≡ written_initial x ++ bare program k.Semicolon ∷ zs → Reaches (initial levels) fs x (bare program k.Semicolon ∷ zs)
+unfolding initial
+initial_again levels x fs zs f h = reaches_bind _ (reaches_expect program k.Assignment h) (λ us a. expression_again program levels x us (bare program k.Semicolon ∷ zs) f (semicolon_free program zs) a)
+
+initial_option : (levels : ℕ) (x : Option Expr) (fs zs : List Form) → IfThere (IsExpr levels) x → fs ≡ optional written_initial x ++ bare program k.Semicolon ∷ zs → Reaches (if_seen program k.Assignment (initial levels)) fs x (bare program k.Semicolon ∷ zs)
+unfolding if_seen
+initial_option levels None fs zs f h =
+    reaches_choose (sees program k.Assignment) (optional_by (initial levels)) false (ap (sees program k.Assignment) h ∙ not_seen program k.Assignment (bare program k.Semicolon ∷ zs) (λ e. cc)) (reaches_pure h)
+initial_option levels (Some x) fs zs f h =
+    reaches_choose (sees program k.Assignment) (optional_by (initial levels)) true (ap (sees program k.Assignment) h ∙ kind_self k.Assignment) (reaches_bind _ (initial_again levels x fs zs f h) (λ us a. reaches_pure a))
+
+-- what stands after the type of variables does not go on with it
+initial_apart : (x : Option Expr) (zs : List Form) → Apart program (optional written_initial x ++ bare program k.Semicolon ∷ zs)
+initial_apart None zs e = cc
+initial_apart (Some x) zs e = cc
+
 -- the type of a constant, before ":="
 type_option : (x : Option Name) (fs zs : List Form) → fs ≡ optional (written_name program) x ++ bare program k.Assignment ∷ zs → Reaches (if_seen program k.Identifier (name program)) fs x (bare program k.Assignment ∷ zs)
 unfolding if_seen
@@ -247,8 +264,8 @@ objects_again levels names x fs ws zs f h again =
     (reaches_bind _ (identifiers_again program names fs (bare program k.Colon ∷ ws) f (λ e. cc) h) (λ us a.
     reaches_bind _ (reaches_expect program k.Colon a) again))
 
-variables_text : (n t zs : List Form) → (n ++ bare program k.Colon ∷ (t ++ bare program k.Semicolon ∷ [])) ++ zs ≡ n ++ bare program k.Colon ∷ (t ++ bare program k.Semicolon ∷ zs)
-variables_text n t zs = simp append_assoc
+variables_text : (n t v zs : List Form) → (n ++ bare program k.Colon ∷ (t ++ (v ++ bare program k.Semicolon ∷ []))) ++ zs ≡ n ++ bare program k.Colon ∷ (t ++ (v ++ bare program k.Semicolon ∷ zs))
+variables_text n t v zs = simp append_assoc
 
 constants_text : (n t v zs : List Form) → (n ++ bare program k.Colon ∷ bare program k.Constant ∷ (t ++ bare program k.Assignment ∷ (v ++ bare program k.Semicolon ∷ []))) ++ zs
     ≡ n ++ bare program k.Colon ∷ bare program k.Constant ∷ (t ++ bare program k.Assignment ∷ (v ++ bare program k.Semicolon ∷ zs))
@@ -264,11 +281,13 @@ constraint_apart (Some x) zs e = cc
 
 declaration_again : (levels : ℕ) (x : Decl) (fs zs : List Form) → IsDecl levels x → fs ≡ written_decl x ++ zs → Reaches (declaration levels) fs x zs
 unfolding declaration objects_after variables constants full_type subtype
-declaration_again levels (decl.Variables names type_name) fs zs f h =
-    objects_again levels names (decl.Variables names type_name) fs (written_name program type_name ++ bare program k.Semicolon ∷ zs) zs f (h ∙ variables_text (written_identifiers program names) (written_name program type_name) zs) (λ us a.
-    reaches_choose (peek program) (objects_by levels names) (Some k.Identifier) (peek_front program us a ∙ name_front program type_name (bare program k.Semicolon ∷ zs))
-    (reaches_bind _ (name_again program type_name us (bare program k.Semicolon ∷ zs) (λ e. cc) a) (λ vs b.
-    reaches_bind _ (reaches_expect program k.Semicolon b) (λ ws d. reaches_pure d))))
+declaration_again levels (decl.Variables names type_name value) fs zs f h =
+    let after : List Form = optional written_initial value ++ bare program k.Semicolon ∷ zs in
+    objects_again levels names (decl.Variables names type_name value) fs (written_name program type_name ++ after) zs f.0 (h ∙ variables_text (written_identifiers program names) (written_name program type_name) (optional written_initial value) zs) (λ us a.
+    reaches_choose (peek program) (objects_by levels names) (Some k.Identifier) (peek_front program us a ∙ name_front program type_name after)
+    (reaches_bind _ (name_again program type_name us after (initial_apart value zs) a) (λ vs b.
+    reaches_bind _ (initial_option levels value vs zs f.1 b) (λ ws d.
+    reaches_bind _ (reaches_expect program k.Semicolon d) (λ t1 a1. reaches_pure a1)))))
 declaration_again levels (decl.Constants names type_name value) fs zs f h =
     let after : List Form = written_expr program value ++ bare program k.Semicolon ∷ zs in
     objects_again levels names (decl.Constants names type_name value) fs (bare program k.Constant ∷ (optional (written_name program) type_name ++ bare program k.Assignment ∷ after)) zs f.0
@@ -299,8 +318,8 @@ declaration_again levels (decl.Subtype subject parent range) fs zs f h =
     reaches_bind _ (reaches_expect program k.Semicolon a2) (λ t3 a3. reaches_pure a3)))))))
 
 declaration_seen : (levels : ℕ) (x : Decl) (ws : List Form) → IsDecl levels x → sees_declaration (written_decl x ++ ws) ≡ true
-declaration_seen levels (decl.Variables [] type_name) ws f = absurd f
-declaration_seen levels (decl.Variables (name ∷ names) type_name) ws f = refl
+declaration_seen levels (decl.Variables [] type_name value) ws f = absurd f.0
+declaration_seen levels (decl.Variables (name ∷ names) type_name value) ws f = refl
 declaration_seen levels (decl.Constants [] type_name value) ws f = absurd f.0
 declaration_seen levels (decl.Constants (name ∷ names) type_name value) ws f = refl
 declaration_seen levels (decl.FullType name definition) ws f = refl

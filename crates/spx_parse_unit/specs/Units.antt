@@ -5,6 +5,7 @@ use Rattle.spx_tree.specs.declared.token.Kind.{Kind}
 use Rattle.spx_tree.specs.declared.token.Kind.TheVariants as k
 use Rattle.spx_tree.specs.declared.expression.Identifier.{Identifier}
 use Rattle.spx_tree.specs.declared.expression.Name.{Name}
+use Rattle.spx_tree.specs.declared.expression.Expr.{Expr}
 use Rattle.spx_tree.specs.declared.declaration.Decl.{Decl}
 use Rattle.spx_tree.specs.declared.declaration.Decl.TheVariants as decl
 use Rattle.spx_tree.specs.declared.declaration.Range.{Range}
@@ -218,12 +219,17 @@ subtype levels = do
   expect program k.Semicolon
   pure (decl.Subtype subject parent range)
 
--- name ";"
-unfoldable pub variables : List Identifier → Reader Decl
-variables names = do
+-- ":=" expression
+unfoldable pub initial : ℕ → Reader Expr
+initial levels = expect program k.Assignment >> expression program levels
+
+-- name [":=" expression] ";"
+unfoldable pub variables : ℕ → List Identifier → Reader Decl
+variables levels names = do
   type_name ← name program
+  value ← if_seen program k.Assignment (initial levels)
   expect program k.Semicolon
-  pure (decl.Variables names type_name)
+  pure (decl.Variables names type_name value)
 
 -- "constant" [name] ":=" expression ";"
 unfoldable pub constants : ℕ → List Identifier → Reader Decl
@@ -236,7 +242,7 @@ constants levels names = do
   pure (decl.Constants names type_name value)
 
 abbrev pub objects_by : ℕ → List Identifier → Option Kind → Reader Decl
-objects_by levels names (Some k.Identifier) = variables names
+objects_by levels names (Some k.Identifier) = variables levels names
 objects_by levels names (Some k.Constant) = constants levels names
 objects_by levels names _ = refuse
 
@@ -244,7 +250,7 @@ objects_by levels names _ = refuse
 unfoldable pub objects_after : ℕ → List Identifier → Reader Decl
 objects_after levels names = λ fs. objects_by levels names (peek program fs) fs
 
--- identifiers ":" name ";" | identifiers ":" "constant" [name] ":=" expression ";"
+-- identifiers ":" name [":=" expression] ";" | identifiers ":" "constant" [name] ":=" expression ";"
 unfoldable pub objects : ℕ → Reader Decl
 objects levels = do
   names ← identifiers program

@@ -9,7 +9,7 @@ ghost use Rattle.spx_parse_body.specs.Answers.{Reads};
 
 use crate::annotations::identifiers;
 use spx_parse_body::{Cursor, PROGRAM, Stop, expression, name, simple_expression};
-use spx_tree::{Decl, Identifier, Kind, Name, Range, TypeDef};
+use spx_tree::{Decl, Expr, Identifier, Kind, Name, Range, TypeDef};
 use sqlite_items::Items;
 use std::alloc::Global;
 
@@ -117,14 +117,44 @@ fn subtype(alloc: Global, cursor: &mut Cursor<'_>, levels: u32) -> Result<Decl, 
     Ok(Decl::Subtype(subject, parent, range))
 }
 
-// variables = name ";"
+// initial = ":=" expression
+#[tactic(auto, unfolding(crate::specs::Units::initial))]
+fn initial(alloc: Global, cursor: &mut Cursor<'_>, levels: u32) -> Result<Expr, Stop>
+    ensures { Reads (read.initial levels cursor.old) result cursor.new }
+{
+    cursor.expect(PROGRAM, Kind::Assignment)?;
+    expression(alloc, cursor, levels, PROGRAM)
+}
+
+// [initial]
+#[tactic(auto, unfolding(spx_parse_body::specs::Reading::if_seen))]
+fn optional_initial(
+    alloc: Global,
+    cursor: &mut Cursor<'_>,
+    levels: u32,
+) -> Result<Option<Expr>, Stop>
+    ensures { Reads (reading.if_seen program k.Assignment (read.initial levels) cursor.old) result cursor.new }
+{
+    if cursor.sees(PROGRAM, Kind::Assignment) {
+        return Ok(Some(initial(alloc, cursor, levels)?));
+    }
+    Ok(None)
+}
+
+// variables = name [initial] ";"
 #[tactic(auto, unfolding(crate::specs::Units::variables))]
-fn variables(alloc: Global, cursor: &mut Cursor<'_>, names: Items<Identifier>) -> Result<Decl, Stop>
-    ensures { Reads (read.variables names cursor.old) result cursor.new }
+fn variables(
+    alloc: Global,
+    cursor: &mut Cursor<'_>,
+    levels: u32,
+    names: Items<Identifier>,
+) -> Result<Decl, Stop>
+    ensures { Reads (read.variables levels names cursor.old) result cursor.new }
 {
     let type_name = name(alloc, cursor, PROGRAM)?;
+    let value = optional_initial(alloc, cursor, levels)?;
     cursor.expect(PROGRAM, Kind::Semicolon)?;
-    Ok(Decl::Variables(names, type_name))
+    Ok(Decl::Variables(names, type_name, value))
 }
 
 // constants = "constant" [name] ":=" expression ";"
@@ -156,7 +186,7 @@ fn objects_after(
     ensures { Reads (read.objects_after levels names cursor.old) result cursor.new }
 {
     match cursor.peek(PROGRAM) {
-        Some(Kind::Identifier) => variables(alloc, cursor, names),
+        Some(Kind::Identifier) => variables(alloc, cursor, levels, names),
         Some(Kind::Constant) => constants(alloc, cursor, levels, names),
         _ => Err(cursor.expected()),
     }

@@ -1,28 +1,34 @@
 -- Walks along arms and lists of paths.
-use Rattle.std.proofs.Common.{◌≡◌, ◌+◌, ◌<◌, ℕ, List, [], ◌∷◌, ◌++◌, map, length, get_or, drop, add-one, drop-cons, refl, sym, subst, ap, ap₂, ◌∙◌}
+use Rattle.std.proofs.Common.{◌≡◌, ◌+◌, ◌<◌, ◌==◌, true, false, ℕ, List, [], ◌∷◌, ◌++◌, map, length, get_or, drop, add-one, drop-cons, refl, sym, subst, ap, ap₂, ◌∙◌, arith}
+use Rattle.std.proofs.lemmas.Bool.{eqb-true}
 use Rattle.std.proofs.lemmas.List.{append-nil, append_assoc, map-id}
 use Rattle.std.proofs.lemmas.Option.{get_or_from_slice_get}
-use Rattle.std.specs.Prelude.{Some, None, slice_get}
+use Rattle.std.specs.Prelude.{Some, None, Option, slice_get}
+use Rattle.spx_core.specs.declared.entity.VarId.{VarId}
 use Rattle.spx_core.specs.declared.program.Program.{Program}
+use Rattle.spx_core.specs.declared.statement.CoreAlternative.{CoreAlternative, out-CoreAlternative, fold_out-CoreAlternative}
+use Rattle.spx_core.specs.declared.statement.CoreChoice.{CoreChoice}
 use Rattle.spx_core.specs.declared.statement.CoreArm.{CoreArm, out-CoreArm, fold_out-CoreArm}
 use Rattle.spx_core.specs.declared.statement.CoreStmt.{CoreStmt, fold_out-CoreStmt}
-use Rattle.spx_core.specs.declared.statement.CoreStmt.TheVariants.{outs-Null, outs-Assignment, outs-If}
+use Rattle.spx_core.specs.declared.statement.CoreStmt.TheVariants.{outs-Null, outs-Assignment, outs-If, outs-Case}
 use Rattle.spx_core.specs.declared.statement.CoreStmt.TheVariants as stmt
 use Rattle.spx_core.specs.declared.expression.CoreExpr.{CoreExpr}
 use Rattle.spx_core.specs.declared.name.Reference.{Reference}
 use Rattle.spx_tree.specs.declared.statement.Closing.{Closing}
 use Rattle.spx_text.specs.declared.place.Place.{Place}
 use Rattle.spx_core.specs.declared.subprogram.Sub.{Sub}
-use Rattle.spx_core.specs.Commands.{Command, Set, Skip, command, commands}
+use Rattle.spx_core.specs.Commands.{Command, Set, Skip, alternative, alternatives_of, command, commands, select}
 use Rattle.spx_term.specs.declared.path.PathStep.{PathStep}
 use Rattle.spx_term.specs.Paths.{branches}
-use Rattle.spx_term.specs.Steps.{Tree, Cut}
+use Rattle.spx_term.specs.declared.term.Term.{Term}
+use Rattle.spx_term.specs.Steps.{Tree, Cut, assume_all}
 use Rattle.spx_paths.specs.declared.path.Path.{Path}
-use Rattle.spx_paths.specs.Prefixes.{Arrive, ArriveArm, ArriveArms, ArriveBefore, ArriveEach, Splits, after, after_each, opening, with_arms, Walked}
+use Rattle.spx_paths.specs.Prefixes.{Arrive, ArriveAlternatives, ArriveArm, ArriveArms, ArriveBefore, ArriveEach, ArriveWhen, Splits, after, after_alternatives, after_each, opening, with_arms, Walked}
 use Rattle.spx_paths.specs.Conditions.{paths}
-use Rattle.spx_paths.specs.Terms.{entry_term}
-use Rattle.spx_paths.specs.Walks.{ending, start_tree, walk}
-use Rattle.spx_paths.proofs.PrefixLaws.{each_more, each_one}
+use Rattle.spx_paths.specs.Terms.{entry_term, term_of}
+use Rattle.spx_paths.specs.Checks.{checks}
+use Rattle.spx_paths.specs.Walks.{alternative_facts, and_these, ending, start_tree, walk, walk_for}
+use Rattle.spx_paths.proofs.PrefixLaws.{after_split, each_more, each_one}
 
 -- a path that splits, and then goes through the body of the arm
 pub arm_arrives : (p : Program) (arm : CoreArm) (old new taken : List PathStep) (found : List Path) → Splits p (out-CoreArm arm).condition old new taken → Arrive p (commands (out-CoreArm arm).body) taken found → ArriveArm p arm old new found
@@ -49,6 +55,35 @@ if_arrives p arms last old new found more all one two is = λ sub rest leave mad
     ∙ sym (each_more found more (rest made))
     ∙ ap (λ paths. after_each paths (rest made)) (sym is)
 
+-- the path of each alternative
+pub each_alternative : (p : Program) (sub : Sub) (t : Term) (earlier : List Term) (first : Option (List CoreChoice) × Command) (others : List (Option (List CoreChoice) × Command)) (steps : List PathStep) (rest leave : ℕ → Tree) (made : ℕ)
+    → after steps (walk_for p sub t earlier (alternatives_of first others) rest leave made) ≡ after_alternatives p sub t earlier (first ∷ others) steps rest leave made
+each_alternative p sub t earlier first [] steps rest leave made = sym (append-nil _)
+each_alternative p sub t earlier first (second ∷ more) steps rest leave made =
+    let taken = assume_all (alternative_facts t earlier first.0) (walk p sub first.1 rest leave made) in
+    after_split steps taken (walk_for p sub t (and_these t earlier first.0) (alternatives_of second more) rest leave made)
+    ∙ ap (λ paths. after steps taken ++ paths) (each_alternative p sub t (and_these t earlier first.0) second more steps rest leave made)
+
+-- an alternative, by its parts
+pub alternative_is : (chosen : CoreAlternative) → alternative chosen ≡ ((out-CoreAlternative chosen).choices, commands (out-CoreAlternative chosen).body)
+alternative_is chosen = rw fold_out-CoreAlternative
+
+-- no alternatives
+pub none_is : (alternatives : List CoreAlternative) (place : Place) (selector : CoreExpr) → (length alternatives == 0) ≡ true → select place selector (map alternative alternatives) ≡ Skip
+none_is [] place selector is = refl
+none_is (first ∷ others) place selector is = absurd (omega (arith, eqb-true (length (first ∷ others)) 0 is))
+
+-- the checks of the selector, and then alternatives
+pub case_arrives : (p : Program) (place : Place) (selector : CoreExpr) (value : Term) (alternatives : List CoreAlternative) (old new : List PathStep) (found : List Path) → (length alternatives == 0) ≡ false → ((entered : VarId → Term) → value ≡ term_of p entered selector)
+    → ((entered : VarId → Term) → Walked old new (checks p entered [] selector)) → ArriveAlternatives p value alternatives new found → Arrive p (select place selector (map alternative alternatives)) old found
+case_arrives p place selector value [] old new found some is checked arrives = absurd (cc)
+case_arrives p place selector value (first ∷ others) old new found some is checked arrives = λ sub rest leave made.
+    let all = alternatives_of (alternative first) (map alternative others) in
+    checked (entry_term p sub) (walk_for p sub (term_of p (entry_term p sub) selector) [] all rest leave made)
+    ∙ ap (λ t. after new (walk_for p sub t [] all rest leave made)) (sym (is (entry_term p sub)))
+    ∙ each_alternative p sub value [] (alternative first) (map alternative others) new rest leave made
+    ∙ arrives sub rest leave made
+
 -- one path more was walked
 pub each_arrive : (p : Program) (c : Command) (before : List Path) (path : Path) (found more all : List Path) → ArriveEach p c before found → Arrive p c path.steps more → all ≡ found ++ more → ArriveEach p c (before ++ path ∷ []) all
 each_arrive p c before path found more all one two is = λ sub rest leave made.
@@ -68,6 +103,22 @@ arms_more p arms i arm old middle new found more all below at one two is =
     before_both p (with_arms arms) (with_arms (drop i arms)) (with_arms (drop (i + 1) arms)) old middle new found more all one
     (subst (λ part. ArriveBefore p (with_arms part) (with_arms (drop (i + 1) arms)) middle new more) (sym (from_one arms i arm below at)) (λ last. two (with_arms (drop (i + 1) arms) last)))
     is
+
+-- one alternative more was walked
+pub alternatives_more : (p : Program) (t : Term) (alternatives : List CoreAlternative) (i : ℕ) (chosen : CoreAlternative) (earlier later : List Term) (steps taken : List PathStep) (found more all : List Path) → i < length alternatives
+    → chosen ≡ get_or alternatives i chosen → ArriveWhen p t alternatives earlier (drop i alternatives) steps found → Walked steps taken (assume_all (alternative_facts t earlier (out-CoreAlternative chosen).choices))
+    → Arrive p (commands (out-CoreAlternative chosen).body) taken more → all ≡ found ++ more → later ≡ and_these t earlier (out-CoreAlternative chosen).choices → ArriveWhen p t alternatives later (drop (i + 1) alternatives) steps all
+alternatives_more p t alternatives i chosen earlier later steps taken found more all below at one walked two is after_these = λ sub rest leave made.
+    let others = map alternative (drop (i + 1) alternatives) in
+    let tail = after_alternatives p sub t (and_these t earlier (out-CoreAlternative chosen).choices) others steps rest leave made in
+    let before = after_each found (rest made) in
+    one sub rest leave made
+    ∙ ap (λ xs. before ++ after_alternatives p sub t earlier (map alternative xs) steps rest leave made) (from_one alternatives i chosen below at)
+    ∙ ap (λ x. before ++ after_alternatives p sub t earlier (x ∷ others) steps rest leave made) (alternative_is chosen)
+    ∙ ap (λ paths. before ++ (paths ++ tail)) (walked (walk p sub (commands (out-CoreAlternative chosen).body) rest leave made) ∙ two sub rest leave made)
+    ∙ sym (append_assoc before (after_each more (rest made)) tail)
+    ∙ ap (λ paths. paths ++ tail) (sym (each_more found more (rest made)) ∙ ap (λ paths. after_each paths (rest made)) (sym is))
+    ∙ ap (λ terms. after_each all (rest made) ++ after_alternatives p sub t terms others steps rest leave made) (sym after_these)
 
 -- at the end of a body
 pub each_ended : (found : List Path) → after_each found Cut ≡ map (λ (path : Path). path.steps) found
@@ -102,6 +153,9 @@ assignment_is target value = rw (fold_out-CoreStmt, outs-Assignment)
 
 pub if_alone_is : (arms : List CoreArm) (closing : Closing) → command (stmt.If arms None closing) ≡ with_arms arms Skip
 if_alone_is arms closing = rw (fold_out-CoreStmt, outs-If)
+
+pub case_is : (place : Place) (selector : CoreExpr) (alternatives : List CoreAlternative) (closing : Closing) → command (stmt.Case place selector alternatives closing) ≡ select place selector (map alternative alternatives)
+case_is place selector alternatives closing = rw (fold_out-CoreStmt, outs-Case)
 
 pub if_else_is : (arms : List CoreArm) (stmts : List CoreStmt) (closing : Closing) → command (stmt.If arms (Some stmts) closing) ≡ with_arms arms (commands stmts)
 if_else_is arms stmts closing = rw (fold_out-CoreStmt, outs-If)

@@ -6,7 +6,7 @@ use Rattle.spx_tree.specs.declared.expression.InfixOp.{InfixOp}
 use Rattle.spx_tree.specs.declared.expression.PrefixOp.{PrefixOp}
 use Rattle.spx_core.specs.declared.entity.VarId.{VarId}
 use Rattle.spx_core.specs.declared.expression.CoreExpr.{CoreExpr}
-use Rattle.spx_core.specs.declared.expression.CoreExpr.TheVariants.{Parenthesized, Prefix, Infix, InType, InRange, outs-Prefix, outs-Infix}
+use Rattle.spx_core.specs.declared.expression.CoreExpr.TheVariants.{Applied, Parenthesized, Prefix, Infix, InType, InRange, outs-Prefix, outs-Infix}
 use Rattle.spx_core.specs.declared.program.Program.{Program}
 use Rattle.spx_core.specs.Judged.{Judged, ◌>>=◌, expr_step, judged, typing}
 use Rattle.spx_core.specs.declared.rule.Typing.{Typing}
@@ -48,6 +48,7 @@ static_unchecked p entered lefts = induct (λ e. is_some (literal e) ≡ true �
   number = λ n place is rest. simp check_forms;
   name = λ name is rest. simp check_forms;
   attribute = λ prefix designator is rest. simp check_forms;
+  applied = λ function place a more is rest. simp check_forms (unless_some (literal (Applied function place a)) rest _ is);
   parenthesized = λ place a more is rest. simp check_forms (more (ap is_some (sym (literal-Parenthesized place a)) ∙ is) rest);
   prefix = λ op place a more is rest. simp check_forms (unless_some (literal (Prefix op place a)) rest _ is);
   «infix» = λ op place a b first second is rest. simp check_forms (unless_some (literal (Infix op place a b)) rest _ is);

@@ -1,6 +1,6 @@
 -- The paths of a body are as many as are counted.
 use Rattle.std.specs.Prelude.{pos}
-use Rattle.std.proofs.Common.{◌≡◌, ℕ, ◌+◌, Bool, true, false, List, [], ◌∷◌, length, map, add-zero, if◌then◌else◌, Option, Some, None, refl, ap₂, ◌∙◌}
+use Rattle.std.proofs.Common.{◌≡◌, ◌≤◌, ℕ, ◌+◌, Bool, true, false, List, [], ◌∷◌, length, map, add-zero, if◌then◌else◌, Option, Some, None, Ok, Err, refl, sym, ap, ap₂, ◌∙◌, arith}
 use Rattle.std.proofs.lemmas.List.{length-append, length-map}
 use Rattle.spx_text.specs.declared.place.Place.{Place}
 use Rattle.spx_core.specs.declared.entity.BaseType.{BaseType}
@@ -9,11 +9,17 @@ use Rattle.spx_core.specs.declared.entity.Class.TheVariants as class
 use Rattle.spx_core.specs.declared.entity.Subtype.{Subtype}
 use Rattle.spx_core.specs.declared.entity.VarId.{VarId}
 use Rattle.spx_core.specs.declared.expression.CoreExpr.{CoreExpr}
+use Rattle.spx_core.specs.declared.function.Mapping.{Mapping}
+use Rattle.spx_core.specs.declared.function.Span.{Span}
 use Rattle.spx_core.specs.declared.program.Program.{Program}
+use Rattle.spx_core.specs.declared.statement.CoreAlternative.{CoreAlternative}
+use Rattle.spx_core.specs.declared.statement.CoreChoice.{CoreChoice}
+use Rattle.spx_paths.specs.Counts.{arrivals_in}
 use Rattle.spx_core.specs.declared.subprogram.Sub.{Sub}
-use Rattle.spx_core.specs.Commands.{Command, Skip, Set, Then, Choose, commands}
+use Rattle.spx_core.specs.Commands.{Command, Skip, Set, Then, Choose, Select, Alternatives, Last, When, alternative, alternatives_of, commands, select}
 use Rattle.spx_core.specs.Dependency.{exports}
-use Rattle.spx_core.specs.Formals.{formals}
+use Rattle.spx_core.specs.Formals.{formals, locals}
+use Rattle.spx_core.specs.Judged.{Judged, application}
 use Rattle.spx_core.specs.Places.{place_of}
 use Rattle.spx_core.specs.Uses.{variable_of}
 use Rattle.spx_core.proofs.Callers.Expressions.{induct}
@@ -35,11 +41,13 @@ use Rattle.spx_term.specs.Paths.{branches}
 use Rattle.spx_term.specs.Steps.{Tree, Assign, assume_all, assume_parts, check}
 use Rattle.spx_term.specs.Conjuncts.{conjuncts}
 use Rattle.spx_meaning.specs.Literals.{literal}
+use Rattle.spx_meaning.specs.Runs.{initial_value}
 use Rattle.spx_meaning.specs.Stores.{type_of}
-use Rattle.spx_paths.specs.Terms.{entry, entry_term, now, term_of}
-use Rattle.spx_paths.specs.Checks.{base_check, check_forms, checked_under, checks, divisor_check, guarded, in_range, in_type, operation_check, right_lefts, sign_check, unless_static}
+use Rattle.spx_term.specs.Folding.{term_of as static_term}
+use Rattle.spx_paths.specs.Terms.{entry, entry_term, moved_term, now, term_of}
+use Rattle.spx_paths.specs.Checks.{base_check, bounds_check, check_forms, checked_under, checks, divisor_check, guarded, in_range, in_type, mapping_check, operation_check, right_lefts, sign_check, unless_static}
 use Rattle.spx_paths.specs.Conditions.{PathsAreCounted}
-use Rattle.spx_paths.specs.Walks.{arrivals, assigned, checked_in, ending, entering, first_facts, walk}
+use Rattle.spx_paths.specs.Walks.{alternative_facts, and_these, arrivals, arrivals_for, assigned, checked_in, ending, entering, first_facts, initializing, starting_with, walk, walk_for}
 
 -- how many paths a tree has
 abbrev count : Tree → ℕ
@@ -88,6 +96,14 @@ module _ (lefts : List Term) where
   divided : (place : Place) (t : Term) (rest : Tree) → AsMany (divisor_check lefts place t rest) rest
   divided place t rest = checked Division place (term.Infix operator.NotEqual t (term.Number (pos 0)) ∷ []) rest
 
+  bounded : (bounds : Option Span) (place : Place) (t : Term) (rest : Tree) → AsMany (bounds_check lefts bounds place t rest) rest
+  bounded None place t rest = itself
+  bounded (Some span) place t rest = checked Range place (in_range span.first span.last t) rest
+
+  mapped : (mapping : Judged Mapping) (place : Place) (t : Term) (rest : Tree) → AsMany (mapping_check lefts mapping place t rest) rest
+  mapped (Ok mapping) place t rest = bounded mapping.bounds place (moved_term mapping.shift t) rest
+  mapped (Err breach) place t rest = itself
+
   signed : (op : PrefixOp) (base : BaseType) (place : Place) (t : Term) (rest : Tree) → AsMany (sign_check lefts op base place t rest) rest
   signed prefix.Plus base place t rest = itself
   signed prefix.Minus base place t rest = based base place t rest
@@ -115,6 +131,8 @@ module _ (p : Program) (entered : VarId → Term) where
     number = λ n place lefts rest. simp check_forms itself;
     name = λ name lefts rest. simp check_forms itself;
     attribute = λ prefix designator lefts rest. simp check_forms itself;
+    applied = λ function place a more lefts rest.
+        simp check_forms (unless (literal (expr.Applied function place a)) (and_then (more lefts _) (mapped lefts (application function) _ _ rest)));
     parenthesized = λ place a more lefts rest. simp check_forms (more lefts rest);
     prefix = λ op place a more lefts rest. simp check_forms (unless (literal (expr.Prefix op place a)) (and_then (more lefts _) (signed lefts op _ place _ rest)));
     «infix» = λ op place a b first second lefts rest.
@@ -126,19 +144,32 @@ module _ (p : Program) (entered : VarId → Term) where
   })
 
 -- as many paths lead through a command as arrive
-count_walk : (p : Program) (sub : Sub) (c : Command) (rest leave : ℕ → Tree) (r l : ℕ) → ((m : ℕ) → count (rest m) ≡ r) → ((m : ℕ) → count (leave m) ≡ l)
-    → (made : ℕ) → count (walk p sub c rest leave made) ≡ arrivals c r l
-count_walk p sub Skip rest leave r l goes leaves made = goes made
-count_walk p sub (Set target e) rest leave r l goes leaves made =
-    (and_then (count_checks p (entry_term p sub) e [] _) (assigns p (place_of e) (variable_of target.root.entity) (term_of p (entry_term p sub) e) (rest made))).same ∙ goes made
-count_walk p sub (Then a b) rest leave r l goes leaves made =
-    count_walk p sub a (walk p sub b rest leave) leave (arrivals b r l) l (count_walk p sub b rest leave r l goes leaves) leaves made
-count_walk p sub (Choose place condition a b) rest leave r l goes leaves made =
-    let holds = term_of p (entry_term p sub) condition in
-    (count_checks p (entry_term p sub) condition [] _).same
-    ∙ length-append (branches (assume_parts holds (walk p sub a rest leave made))) _
-    ∙ ap₂ (λ (m n : ℕ). m + n) (count_facts (conjuncts holds) (walk p sub a rest leave made) ∙ count_walk p sub a rest leave r l goes leaves made)
-    (one_step _ (branches (walk p sub b rest leave made)) ∙ count_walk p sub b rest leave r l goes leaves made)
+mutual
+  count_walk : (p : Program) (sub : Sub) (c : Command) (rest leave : ℕ → Tree) (r l : ℕ) → ((m : ℕ) → count (rest m) ≡ r) → ((m : ℕ) → count (leave m) ≡ l)
+      → (made : ℕ) → count (walk p sub c rest leave made) ≡ arrivals c r l
+  count_walk p sub Skip rest leave r l goes leaves made = goes made
+  count_walk p sub (Set target e) rest leave r l goes leaves made =
+      (and_then (count_checks p (entry_term p sub) e [] _) (assigns p (place_of e) (variable_of target.root.entity) (term_of p (entry_term p sub) e) (rest made))).same ∙ goes made
+  count_walk p sub (Then a b) rest leave r l goes leaves made =
+      count_walk p sub a (walk p sub b rest leave) leave (arrivals b r l) l (count_walk p sub b rest leave r l goes leaves) leaves made
+  count_walk p sub (Choose place condition a b) rest leave r l goes leaves made =
+      let holds = term_of p (entry_term p sub) condition in
+      (count_checks p (entry_term p sub) condition [] _).same
+      ∙ length-append (branches (assume_parts holds (walk p sub a rest leave made))) _
+      ∙ ap₂ (λ (m n : ℕ). m + n) (count_facts (conjuncts holds) (walk p sub a rest leave made) ∙ count_walk p sub a rest leave r l goes leaves made)
+      (one_step _ (branches (walk p sub b rest leave made)) ∙ count_walk p sub b rest leave r l goes leaves made)
+  count_walk p sub (Select place selector alternatives) rest leave r l goes leaves made =
+      (count_checks p (entry_term p sub) selector [] _).same ∙ count_for p sub alternatives (term_of p (entry_term p sub) selector) [] rest leave r l goes leaves made
+
+  count_for : (p : Program) (sub : Sub) (alternatives : Alternatives) (t : Term) (earlier : List Term) (rest leave : ℕ → Tree) (r l : ℕ) → ((m : ℕ) → count (rest m) ≡ r)
+      → ((m : ℕ) → count (leave m) ≡ l) → (made : ℕ) → count (walk_for p sub t earlier alternatives rest leave made) ≡ arrivals_for alternatives r l
+  count_for p sub (Last choices a) t earlier rest leave r l goes leaves made =
+      count_facts (alternative_facts t earlier choices) (walk p sub a rest leave made) ∙ count_walk p sub a rest leave r l goes leaves made
+  count_for p sub (When choices a more) t earlier rest leave r l goes leaves made =
+      let taken = walk p sub a rest leave made in
+      length-append (branches (assume_all (alternative_facts t earlier choices) taken)) _
+      ∙ ap₂ (λ (m n : ℕ). m + n) (count_facts (alternative_facts t earlier choices) taken ∙ count_walk p sub a rest leave r l goes leaves made)
+      (count_for p sub more t (and_these t earlier choices) rest leave r l goes leaves made)
 
 perhaps : (b : Bool) (x : Name) (t : Term) (rest : Tree) → count (if b then Assign x t rest else rest) ≡ count rest
 perhaps true x t rest = one_step (step.Assign x t) (branches rest)
@@ -148,10 +179,28 @@ count_entering : (p : Program) (sub : Sub) (vs : List VarId) (rest : Tree) → c
 count_entering p sub [] rest = refl
 count_entering p sub (v ∷ vs) rest = perhaps (exports v sub) (now p v) (term.Variable (entry p v)) (entering p sub vs rest) ∙ count_entering p sub vs rest
 
+-- the paths of alternatives are a sum
+arrivals_alternatives : (first : Option (List CoreChoice) × Command) (others : List (Option (List CoreChoice) × Command)) (rest leave : ℕ) → arrivals_for (alternatives_of first others) rest leave ≡ arrivals_in (first ∷ others) rest leave
+arrivals_alternatives first [] rest leave = sym (add-zero _)
+arrivals_alternatives first (second ∷ more) rest leave = ap (λ n. arrivals first.1 rest leave + n) (arrivals_alternatives second more rest leave)
+
+pub arrivals_select : (place : Place) (selector : CoreExpr) (alternatives : List CoreAlternative) (rest leave : ℕ) → 1 ≤ length alternatives → arrivals (select place selector (map alternative alternatives)) rest leave ≡ arrivals_in (map alternative alternatives) rest leave
+arrivals_select place selector [] rest leave some = absurd (omega arith)
+arrivals_select place selector (first ∷ others) rest leave some = arrivals_alternatives (alternative first) (map alternative others) rest leave
+
+count_start : (x : Name) (o : Option Value) (rest : Tree) → count (starting_with x o rest) ≡ count rest
+count_start x None rest = refl
+count_start x (Some v) rest = one_step (step.Assign x (static_term v)) (branches rest)
+
+count_initializing : (p : Program) (vs : List VarId) (rest : Tree) → count (initializing p vs rest) ≡ count rest
+count_initializing p [] rest = refl
+count_initializing p (v ∷ vs) rest = count_start (now p v) (initial_value p v) (initializing p vs rest) ∙ count_initializing p vs rest
+
 pub paths_are_counted : PathsAreCounted
 paths_are_counted p sub =
     length-append (branches (entering p sub (formals sub) _)) []
     ∙ add-zero _
     ∙ count_entering p sub (formals sub) _
+    ∙ count_initializing p (locals sub) _
     ∙ count_facts (first_facts p sub) _
     ∙ count_walk p sub (commands sub.statements) ending ending 1 1 (λ m. refl) (λ m. refl) 0

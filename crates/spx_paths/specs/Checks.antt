@@ -1,5 +1,5 @@
 -- The checks of expressions (Ada 95 RM 3.5.4, 4.5).
-use Rattle.std.specs.Prelude.{◌≡◌, refl, ℤ, pos, List, [], ◌∷◌, ◌++◌, Option, Some, None}
+use Rattle.std.specs.Prelude.{◌≡◌, refl, ℤ, pos, List, [], ◌∷◌, ◌++◌, Option, Some, None, Ok, Err}
 use denote.Hole.Carrier.{hidden}
 use Rattle.spx_text.specs.declared.place.Place.{Place}
 use Rattle.spx_tree.specs.declared.expression.Identifier.{Identifier}
@@ -18,9 +18,13 @@ use Rattle.spx_core.specs.declared.name.Reference.{Reference}
 use Rattle.spx_core.specs.declared.expression.CoreExpr.{CoreExpr}
 use Rattle.spx_core.specs.declared.expression.CoreExpr.TheBlock.{hidden-the_row-CoreExpr-0}
 use Rattle.spx_core.specs.declared.expression.CoreExpr.TheVariants as expr
+use Rattle.spx_core.specs.declared.function.CoreFunction.{CoreFunction}
+use Rattle.spx_core.specs.declared.function.Mapping.{Mapping}
+use Rattle.spx_core.specs.declared.function.Span.{Span}
 use Rattle.spx_core.specs.declared.program.Program.{Program}
+use Rattle.spx_core.specs.Judged.{Judged, application}
 use Rattle.spx_core.specs.Places.{place_of}
-use Rattle.spx_core.specs.Shapes.{in_range_of, in_type_of, infix_of, parenthesized_of, prefix_of}
+use Rattle.spx_core.specs.Shapes.{applied_of, in_range_of, in_type_of, infix_of, parenthesized_of, prefix_of}
 use Rattle.spx_term.specs.declared.condition.CondKind.{CondKind}
 use Rattle.spx_term.specs.declared.condition.CondKind.TheVariants.{Division, Overflow, Range}
 use Rattle.spx_term.specs.declared.term.TermOp.TheVariants as operator
@@ -31,7 +35,7 @@ use Rattle.spx_term.specs.declared.value.Value.{Value}
 use Rattle.spx_term.specs.Goals.{goal_of}
 use Rattle.spx_term.specs.Steps.{Tree, check}
 use Rattle.spx_meaning.specs.Literals.{base_of, literal}
-use Rattle.spx_paths.specs.Terms.{term_of}
+use Rattle.spx_paths.specs.Terms.{moved_term, term_of}
 
 -- the term lies between these
 abbrev pub in_range : (first last : ℤ) → Term → List Term
@@ -90,6 +94,16 @@ sign_check lefts prefix.Minus base place t rest = base_check lefts base place t 
 sign_check lefts prefix.Abs base place t rest = base_check lefts base place t rest
 sign_check lefts prefix.Not base place t rest = rest
 
+-- the result of a function lies in its bounds (RM 3.5.5, 4.6, 4.7)
+abbrev pub bounds_check : List Term → Option Span → Place → Term → Tree → Tree
+bounds_check lefts None place t rest = rest
+bounds_check lefts (Some span) place t rest = checked_under lefts Range place (in_range span.first span.last t) rest
+
+-- the operand stands at the place and is the term
+abbrev pub mapping_check : List Term → Judged Mapping → Place → Term → Tree → Tree
+mapping_check lefts (Ok mapping) place t rest = bounds_check lefts mapping.bounds place (moved_term mapping.shift t) rest
+mapping_check lefts (Err breach) place t rest = rest
+
 -- the left sides under which the right operand stands: that of `and then` is evaluated where the left one is true, that of `or else` where it is not
 abbrev pub right_lefts : InfixOp → List Term → Term → List Term
 right_lefts op.AndThen lefts left = lefts ++ left ∷ []
@@ -104,6 +118,8 @@ unless_static None rest checks = checks
 -- The checks of an expression, from left to right, where variables have these terms for their values on entry. The expression stands under these left
 -- sides of short-circuit forms.
 unfoldable pub checks : Program → (VarId → Term) → List Term → CoreExpr → Tree → Tree
+checks p entered lefts (applied_of function place a) rest =
+    unless_static (literal (applied_of function place a)) rest (checks p entered lefts a (mapping_check lefts (application function) (place_of a) (term_of p entered a) rest))
 checks p entered lefts (parenthesized_of place a) rest = checks p entered lefts a rest
 checks p entered lefts (prefix_of op place a) rest =
     unless_static (literal (prefix_of op place a)) rest (checks p entered lefts a (sign_check lefts op (base_of (prefix_of op place a)) place (term_of p entered (prefix_of op place a)) rest))
@@ -117,6 +133,12 @@ checks p entered lefts (in_range_of op place a low high) rest =
 checks p entered lefts _ rest = rest
 
 module _ (p : Program) (entered : VarId → Term) (lefts : List Term) where
+  pub checks-Applied : (function : CoreFunction) (place : Place) (a : CoreExpr) (rest : Tree)
+      → checks p entered lefts (expr.Applied function place a) rest
+      ≡ unless_static (literal (expr.Applied function place a)) rest (checks p entered lefts a (mapping_check lefts (application function) (place_of a) (term_of p entered a) rest))
+  unfolding checks hidden-the_row-CoreExpr-0 hidden
+  checks-Applied function place a rest = refl
+
   pub checks-Parenthesized : (place : Place) (a : CoreExpr) (rest : Tree) → checks p entered lefts (expr.Parenthesized place a) rest ≡ checks p entered lefts a rest
   unfolding checks hidden-the_row-CoreExpr-0 hidden
   checks-Parenthesized place a rest = refl
@@ -158,4 +180,4 @@ module _ (p : Program) (entered : VarId → Term) (lefts : List Term) where
   unfolding checks
   checks-Attribute prefix designator rest = refl
 
-pub ruleset check_forms = (checks-Parenthesized, checks-Prefix, checks-Infix, checks-InType, checks-InRange, checks-Number, checks-Name, checks-Attribute)
+pub ruleset check_forms = (checks-Applied, checks-Parenthesized, checks-Prefix, checks-Infix, checks-InType, checks-InRange, checks-Number, checks-Name, checks-Attribute)

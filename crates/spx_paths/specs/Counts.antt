@@ -1,5 +1,6 @@
 -- Counts of paths that stop at a number.
-use Rattle.std.specs.Prelude.{◌≡◌, ℕ, ◌+◌, min, List}
+use Rattle.std.specs.Prelude.{◌≡◌, ℕ, ◌+◌, min, List, [], ◌∷◌, Option}
+use Rattle.spx_core.specs.declared.statement.CoreChoice.{CoreChoice}
 use Rattle.spx_core.specs.Commands.{Command, arms_before}
 use Rattle.spx_paths.specs.declared.fault.TheConstants.{MOST_PATHS}
 use Rattle.spx_paths.specs.Walks.{arrivals}
@@ -16,3 +17,12 @@ CountsBack c after before = (rest leave : ℕ) → after ≡ capped rest → bef
 abbrev pub CountsArms : List (Command → Command) → (after otherwise before : ℕ) → Type 0
 CountsArms arms after otherwise before =
     (last : Command) (rest leave : ℕ) → after ≡ capped rest → otherwise ≡ capped (arrivals last rest leave) → before ≡ capped (arrivals (arms_before last arms) rest leave)
+
+-- how many there are before alternatives: a sum
+abbrev pub arrivals_in : List (Option (List CoreChoice) × Command) → (rest leave : ℕ) → ℕ
+arrivals_in [] rest leave = 0
+arrivals_in (first ∷ others) rest leave = arrivals first.1 rest leave + arrivals_in others rest leave
+
+-- the same for alternatives
+abbrev pub CountsAlternatives : List (Option (List CoreChoice) × Command) → (after before : ℕ) → Type 0
+CountsAlternatives alternatives after before = (rest leave : ℕ) → after ≡ capped rest → before ≡ capped (arrivals_in alternatives rest leave)

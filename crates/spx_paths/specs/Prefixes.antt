@@ -1,12 +1,14 @@
 -- Paths that are made step by step from the start. What is left of a tree stands after the steps so far.
-use Rattle.std.specs.Prelude.{◌≡◌, ℕ, Bool, true, false, if◌then◌else◌, List, [], ◌++◌, map, flat_map}
+use Rattle.std.specs.Prelude.{◌≡◌, ℕ, Bool, true, false, if◌then◌else◌, List, [], ◌∷◌, ◌++◌, map, flat_map, Option}
 use Rattle.spx_core.specs.declared.program.Program.{Program}
 use Rattle.spx_core.specs.declared.subprogram.Sub.{Sub}
 use Rattle.spx_core.specs.declared.entity.VarId.{VarId}
 use Rattle.spx_core.specs.declared.expression.CoreExpr.{CoreExpr}
+use Rattle.spx_core.specs.declared.statement.CoreAlternative.{CoreAlternative}
 use Rattle.spx_core.specs.declared.statement.CoreArm.{CoreArm}
-use Rattle.spx_core.specs.Formals.{formals}
-use Rattle.spx_core.specs.Commands.{Command, arm_before, arms_before}
+use Rattle.spx_core.specs.declared.statement.CoreChoice.{CoreChoice}
+use Rattle.spx_core.specs.Formals.{formals, locals}
+use Rattle.spx_core.specs.Commands.{Command, alternative, arm_before, arms_before}
 use Rattle.spx_term.specs.declared.path.PathStep.{PathStep}
 use Rattle.spx_term.specs.Paths.{branches}
 use Rattle.spx_term.specs.declared.term.TermOp.{TermOp}
@@ -19,7 +21,7 @@ use Rattle.spx_paths.specs.declared.path.Path.{Path}
 use Rattle.spx_meaning.specs.Stores.{type_of}
 use Rattle.spx_paths.specs.Checks.{checks, in_type}
 use Rattle.spx_paths.specs.Terms.{entry, now, now_term, term_of}
-use Rattle.spx_paths.specs.Walks.{entering, first_facts, walk}
+use Rattle.spx_paths.specs.Walks.{alternative_facts, and_these, entering, first_facts, initializing, walk}
 
 -- the paths of a tree, each after these steps
 unfoldable pub after : List PathStep → Tree → List (List PathStep)
@@ -67,6 +69,23 @@ with_arms arms last = arms_before last (map arm_before arms)
 abbrev pub ArriveArms : Program → List CoreArm → (old new : List PathStep) → List Path → Type 0
 ArriveArms p arms old new found = ArriveBefore p (with_arms arms) (λ last. last) old new found
 
+-- The paths of alternatives for the value of a selector after these steps, one alternative after the other. Earlier choices have other values.
+abbrev pub after_alternatives : Program → Sub → Term → (earlier : List Term) → List (Option (List CoreChoice) × Command) → List PathStep → (rest leave : ℕ → Tree) → ℕ → List (List PathStep)
+after_alternatives p sub t earlier [] steps rest leave made = []
+after_alternatives p sub t earlier (first ∷ others) steps rest leave made =
+    after steps (assume_all (alternative_facts t earlier first.0) (walk p sub first.1 rest leave made)) ++ after_alternatives p sub t (and_these t earlier first.0) others steps rest leave made
+
+-- alternatives were walked as far as these others, before which earlier choices stand
+abbrev pub ArriveWhen : Program → Term → List CoreAlternative → (earlier : List Term) → (others : List CoreAlternative) → List PathStep → List Path → Type 0
+ArriveWhen p t alternatives earlier others steps found =
+    (sub : Sub) (rest leave : ℕ → Tree) (made : ℕ)
+    → after_alternatives p sub t [] (map alternative alternatives) steps rest leave made ≡ after_each found (rest made) ++ after_alternatives p sub t earlier (map alternative others) steps rest leave made
+
+-- all were
+abbrev pub ArriveAlternatives : Program → Term → List CoreAlternative → List PathStep → List Path → Type 0
+ArriveAlternatives p t alternatives steps found =
+    (sub : Sub) (rest leave : ℕ → Tree) (made : ℕ) → after_alternatives p sub t [] (map alternative alternatives) steps rest leave made ≡ after_each found (rest made)
+
 -- the operator of a conjunction
 abbrev pub is_and : TermOp → Bool
 is_and operator.And = true
@@ -84,4 +103,4 @@ known_of p is_import v = if is_import then in_type (type_of p v) (now_term p v) 
 
 -- what stands before the first statement
 abbrev pub opening : Program → Sub → Tree → Tree
-opening p sub rest = entering p sub (formals sub) (assume_all (first_facts p sub) rest)
+opening p sub rest = entering p sub (formals sub) (initializing p (locals sub) (assume_all (first_facts p sub) rest))

@@ -1,5 +1,5 @@
 -- From expressions to terms. One translator serves code and annotations.
-use Rattle.std.specs.Prelude.{◌≡◌, refl, ℤ, pos, not, ◌&&◌, if◌then◌else◌, Option, Some, None}
+use Rattle.std.specs.Prelude.{◌≡◌, refl, ℤ, pos, not, ◌&&◌, if◌then◌else◌, Option, Some, None, Ok, Err}
 use denote.Hole.Carrier.{hidden}
 use Rattle.spx_text.specs.declared.place.Place.{Place}
 use Rattle.spx_tree.specs.declared.expression.Identifier.{Identifier}
@@ -16,11 +16,16 @@ use Rattle.spx_core.specs.declared.name.Reference.{Reference}
 use Rattle.spx_core.specs.declared.expression.CoreExpr.{CoreExpr}
 use Rattle.spx_core.specs.declared.expression.CoreExpr.TheBlock.{hidden-the_row-CoreExpr-0}
 use Rattle.spx_core.specs.declared.expression.CoreExpr.TheVariants as expr
+use Rattle.spx_core.specs.declared.function.CoreFunction.{CoreFunction}
+use Rattle.spx_core.specs.declared.function.Mapping.{Mapping}
+use Rattle.spx_core.specs.declared.function.Shift.{Shift}
+use Rattle.spx_core.specs.declared.function.Shift.TheVariants as shift
 use Rattle.spx_core.specs.declared.program.Program.{Program}
 use Rattle.spx_core.specs.declared.subprogram.Sub.{Sub}
 use Rattle.spx_core.specs.Dependency.{exports, imports}
+use Rattle.spx_core.specs.Judged.{Judged, application}
 use Rattle.spx_core.specs.Resolved.{subtype_of}
-use Rattle.spx_core.specs.Shapes.{in_range_of, in_type_of, infix_of, parenthesized_of, prefix_of}
+use Rattle.spx_core.specs.Shapes.{applied_of, in_range_of, in_type_of, infix_of, parenthesized_of, prefix_of}
 use Rattle.spx_core.specs.Uses.{variable_of}
 use Rattle.spx_term.specs.declared.term.Sort.{Sort}
 use Rattle.spx_term.specs.declared.term.Sort.TheVariants as sort
@@ -86,6 +91,16 @@ first_term name = term.Number (subtype_of name.root.entity).first
 abbrev pub last_term : Reference → Term
 last_term name = term.Number (subtype_of name.root.entity).last
 
+-- the result of a function of a type
+abbrev pub moved_term : Shift → Term → Term
+moved_term shift.Same t = t
+moved_term shift.Next t = term.Infix operator.Add t (term.Number (pos 1))
+moved_term shift.Previous t = term.Infix operator.Subtract t (term.Number (pos 1))
+
+abbrev pub mapped_term : Judged Mapping → Term → Term
+mapped_term (Ok mapping) t = moved_term mapping.shift t
+mapped_term (Err breach) t = t
+
 -- what denotes no variable counts as 0
 abbrev pub named : (VarId → Term) → Option VarId → Term
 named present (Some v) = present v
@@ -99,6 +114,7 @@ literal_or None t = t
 -- The term of an expression, where variables have these terms for their present values and for their values on entry. No form of an
 -- expression reads an entry value yet.
 unfoldable pub term_with : (present entered : VarId → Term) → CoreExpr → Term
+term_with present entered (applied_of function place a) = literal_or (literal (applied_of function place a)) (mapped_term (application function) (term_with present entered a))
 term_with present entered (parenthesized_of place a) = term_with present entered a
 term_with present entered (prefix_of op place a) = literal_or (literal (prefix_of op place a)) (signed_term op (term_with present entered a))
 term_with present entered (infix_of op place a b) =
@@ -111,6 +127,11 @@ term_with present entered (expr.Name name) = literal_or (literal (expr.Name name
 term_with present entered (expr.Attribute prefix designator) = literal_or (literal (expr.Attribute prefix designator)) (term.Number (pos 0))
 
 module _ (present entered : VarId → Term) where
+  pub term_with-Applied : (function : CoreFunction) (place : Place) (a : CoreExpr)
+      → term_with present entered (expr.Applied function place a) ≡ literal_or (literal (expr.Applied function place a)) (mapped_term (application function) (term_with present entered a))
+  unfolding term_with hidden-the_row-CoreExpr-0 hidden
+  term_with-Applied function place a = refl
+
   pub term_with-Parenthesized : (place : Place) (a : CoreExpr) → term_with present entered (expr.Parenthesized place a) ≡ term_with present entered a
   unfolding term_with hidden-the_row-CoreExpr-0 hidden
   term_with-Parenthesized place a = refl
@@ -147,7 +168,7 @@ module _ (present entered : VarId → Term) where
   unfolding term_with
   term_with-Attribute prefix designator = refl
 
-pub ruleset term_forms = (term_with-Parenthesized, term_with-Prefix, term_with-Infix, term_with-InType, term_with-InRange, term_with-Number, term_with-Name, term_with-Attribute)
+pub ruleset term_forms = (term_with-Applied, term_with-Parenthesized, term_with-Prefix, term_with-Infix, term_with-InType, term_with-InRange, term_with-Number, term_with-Name, term_with-Attribute)
 
 -- the term over the names of the present values, with these for the values on entry
 abbrev pub term_of : Program → (VarId → Term) → CoreExpr → Term

@@ -1,21 +1,23 @@
 // The steps that the checks of expressions add to a path.
 ghost use Rattle.std.specs.Prelude.{◌≡◌, List, IfOk, OnOk};
 ghost use Rattle.spx_core.specs.declared.entity.VarId.{VarId};
+ghost use Rattle.spx_core.specs.Judged.{application};
 ghost use Rattle.spx_core.specs.Places.{place_of};
 ghost use Rattle.spx_term.specs.declared.term.Term.{Term};
 ghost use Rattle.spx_meaning.specs.Literals.{base_of};
-ghost use Rattle.spx_paths.specs.Checks.{base_check, checked_under, checks, divisor_check, exponent_check, operation_check, right_lefts, sign_check};
+ghost use Rattle.spx_paths.specs.Checks.{base_check, bounds_check, checked_under, checks, divisor_check, exponent_check, mapping_check, operation_check, right_lefts, sign_check};
 ghost use Rattle.spx_paths.specs.Terms.{term_of};
 ghost use Rattle.spx_paths.specs.Prefixes.{Walked};
 
 use crate::goals::{guarded, in_range, one_goal};
 use crate::literals::{base_of, literal};
 use crate::steps::check;
-use crate::terms::term_of;
-use spx_core::{CoreExpr, Program};
+use crate::terms::{moved_term, term_of};
+use spx_core::{CoreExpr, CoreFunction, Program, Span};
 use spx_term::{CondKind, PathStep, Term, TermOp, TermPrefix, copy_all};
 use spx_text::Place;
 use spx_tree::{InfixOp, PrefixOp};
+use spx_types::application;
 use sqlite_items::Items;
 use std::alloc::{AllocError, Global};
 
@@ -153,6 +155,49 @@ fn check_sign(
     }
 }
 
+/// Adds that the result of a function lies in its bounds.
+fn check_bounds(
+    alloc: Global,
+    steps: &mut Items<PathStep>,
+    lefts: &[Term],
+    bounds: Option<Span>,
+    place: Place,
+    value: &Term,
+) -> Result<(), AllocError>
+    ensures { OnOk result (Walked steps.old steps.new (bounds_check lefts.now bounds place value.now)) }
+{
+    match bounds {
+        None => Ok(()),
+        Some(span) => {
+            let goals = in_range(alloc, span.first, span.last, value)?;
+            check_under(alloc, steps, lefts, CondKind::Range, place, goals)?;
+            Ok(())
+        }
+    }
+}
+
+/// Adds the check of a function of a type, after those of its operand.
+fn check_mapping(
+    alloc: Global,
+    program: &Program,
+    steps: &mut Items<PathStep>,
+    lefts: &[Term],
+    function: &CoreFunction,
+    operand: &CoreExpr,
+) -> Result<(), AllocError>
+    ensures { OnOk result ((entered : VarId → Term) → Walked steps.old steps.new (mapping_check lefts.now (application function.now) (place_of operand.now) (term_of program.now entered operand.now))) }
+{
+    match application(function) {
+        Ok(mapping) => {
+            let value = term_of(alloc, program, operand)?;
+            let moved = moved_term(alloc, mapping.shift, value)?;
+            check_bounds(alloc, steps, lefts, mapping.bounds, operand.place(), &moved)?;
+            Ok(())
+        }
+        Err(_) => Ok(()),
+    }
+}
+
 /// The left sides under which the right operand of an operation stands.
 fn right_lefts(
     alloc: Global,
@@ -197,6 +242,11 @@ pub(crate) fn check_expr(
         CoreExpr::Number(_, _) => Ok(()),
         CoreExpr::Name(_) => Ok(()),
         CoreExpr::Attribute(_, _) => Ok(()),
+        CoreExpr::Applied(function, _, operand) => {
+            check_expr(alloc, program, steps, lefts, operand.get())?;
+            check_mapping(alloc, program, steps, lefts, function, operand.get())?;
+            Ok(())
+        }
         CoreExpr::Parenthesized(_, inner) => {
             check_expr(alloc, program, steps, lefts, inner.get())?;
             Ok(())

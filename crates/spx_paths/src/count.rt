@@ -1,12 +1,13 @@
 // Counts of the paths of bodies, backward from the end.
 ghost use Rattle.std.specs.Prelude.{◌≡◌, ◌+◌, map};
+ghost use Rattle.spx_core.specs.declared.statement.CoreAlternative.{out-CoreAlternative};
 ghost use Rattle.spx_core.specs.declared.statement.CoreArm.{out-CoreArm};
-ghost use Rattle.spx_core.specs.Commands.{arm_before, command, commands};
-ghost use Rattle.spx_paths.specs.Counts.{capped, CountsArms, CountsBack};
+ghost use Rattle.spx_core.specs.Commands.{alternative, arm_before, command, commands};
+ghost use Rattle.spx_paths.specs.Counts.{capped, CountsAlternatives, CountsArms, CountsBack};
 ghost use Rattle.spx_paths.specs.Limits.{has_many_paths};
 
 use crate::MOST_PATHS;
-use spx_core::{CoreArm, CoreStmt, Sub};
+use spx_core::{CoreAlternative, CoreArm, CoreStmt, Sub};
 
 /// The sum of two counts.
 fn capped_sum(left: u32, right: u32) -> u32
@@ -46,6 +47,25 @@ fn count_body(arm: &CoreArm, after: u32) -> u32
     count_stmts(arm.body.as_slice(), after)
 }
 
+/// How many there are before alternatives, from how many there are after the statement.
+#[cycle(count)]
+fn count_alternatives(alternatives: &[CoreAlternative], after: u32) -> u32
+    ensures { CountsAlternatives (map alternative alternatives.now) after result }
+{
+    let mut count = 0;
+    for chosen in alternatives {
+        count = capped_sum(count, count_alternative(chosen, after));
+    }
+    count
+}
+
+#[cycle(count)]
+fn count_alternative(chosen: &CoreAlternative, after: u32) -> u32
+    ensures { CountsBack (commands (out-CoreAlternative chosen.now).body) after result }
+{
+    count_stmts(chosen.body.as_slice(), after)
+}
+
 #[cycle(count)]
 fn count_stmt(stmt: &CoreStmt, after: u32) -> u32
     ensures { CountsBack (command stmt.now) after result }
@@ -58,6 +78,10 @@ fn count_stmt(stmt: &CoreStmt, after: u32) -> u32
             let otherwise = count_stmts(stmts.as_slice(), after);
             count_arms(arms.as_slice(), after, otherwise)
         }
+        CoreStmt::Case(_, _, alternatives, _) => match alternatives.as_slice() {
+            [] => after,
+            alternatives => count_alternatives(alternatives, after),
+        },
     }
 }
 

@@ -9,6 +9,7 @@
 #![tactic(auto)]
 
 mod checks;
+mod choices;
 mod count;
 mod fault;
 mod goals;

@@ -1,16 +1,18 @@
 // The steps at the start of a body.
 ghost use Rattle.std.specs.Prelude.{[], List, flat_map, IfOk, OnOk};
 ghost use Rattle.spx_core.specs.Formals.{formals};
+ghost use Rattle.spx_meaning.specs.Runs.{initial_value};
 ghost use Rattle.spx_term.specs.Steps.{assume_all};
+ghost use Rattle.spx_paths.specs.Terms.{now};
 ghost use Rattle.spx_paths.specs.Prefixes.{Walked, entered, known_of, opening};
-ghost use Rattle.spx_paths.specs.Walks.{entering, import_facts, pre_facts};
+ghost use Rattle.spx_paths.specs.Walks.{entering, import_facts, initializing, pre_facts, starting_with};
 
 use crate::goals::in_type;
 use crate::path::Path;
 use crate::steps::{assign_name, assume_all, assume_parts};
-use crate::terms::{entry, now, term_of};
+use crate::terms::{entry, now, static_term, term_of};
 use spx_core::{Program, Sub, VarId, VarSet};
-use spx_meaning::type_of;
+use spx_meaning::{initial_value, type_of};
 use spx_term::{PathStep, Term};
 use sqlite_items::Items;
 use std::alloc::{AllocError, Global};
@@ -45,6 +47,33 @@ fn enter_all(
     for var in sub.formals() {
         let is_export = exports.contains(*var);
         enter(program, steps, *var, is_export)?;
+    }
+    Ok(())
+}
+
+/// A local that is declared with a value stands for it.
+fn initialize(program: &Program, steps: &mut Items<PathStep>, var: VarId) -> Result<(), AllocError>
+    ensures { OnOk result (Walked steps.old steps.new (starting_with (now program.now var) (initial_value program.now var))) }
+{
+    match initial_value(program, var) {
+        None => Ok(()),
+        Some(value) => {
+            assign_name(steps, now(program, var), static_term(value))?;
+            Ok(())
+        }
+    }
+}
+
+/// Each of the locals stands for the value with which it is declared.
+fn initialize_all(
+    program: &Program,
+    steps: &mut Items<PathStep>,
+    locals: &[VarId],
+) -> Result<(), AllocError>
+    ensures { OnOk result (Walked steps.old steps.new (initializing program.now locals.now)) }
+{
+    for var in locals {
+        initialize(program, steps, *var)?;
     }
     Ok(())
 }
@@ -111,6 +140,7 @@ pub(crate) fn start(alloc: Global, program: &Program, sub: &Sub) -> Result<Path,
 {
     let mut steps = Items::new(alloc);
     enter_all(alloc, program, &mut steps, sub)?;
+    initialize_all(program, &mut steps, sub.locals())?;
     assume_imports(alloc, program, &mut steps, sub)?;
     assume_pre(alloc, program, &mut steps, sub)?;
     Ok(Path { steps })

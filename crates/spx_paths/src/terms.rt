@@ -1,21 +1,24 @@
 // Terms of expressions.
 ghost use Rattle.std.specs.Prelude.{◌≡◌, IfOk};
 ghost use Rattle.spx_core.specs.declared.entity.VarId.{VarId};
+ghost use Rattle.spx_core.specs.Judged.{application};
 ghost use Rattle.spx_core.specs.Resolved.{subtype_of};
 ghost use Rattle.spx_core.specs.Uses.{variable_of};
 ghost use Rattle.spx_term.specs.declared.term.Term.{Term};
 ghost use Rattle.spx_term.specs.Folding.{term_of as static_term};
 ghost use Rattle.spx_meaning.specs.Evaluation.{term_op};
 ghost use Rattle.spx_meaning.specs.Literals.{literal};
-ghost use Rattle.spx_paths.specs.Terms.{between, entry, first_term, last_term, literal_or, member_term, named, now, now_term, signed_term, sort_of_class, sort_of_var, term_of};
+ghost use Rattle.spx_paths.specs.Terms.{between, entry, first_term, last_term, literal_or, mapped_term, member_term, moved_term, named, now, now_term, signed_term, sort_of_class, sort_of_var, term_of};
 
 use crate::literals::literal;
 use spx_core::{
-    Class, CoreExpr, Entity, Program, Reference, Subtype, UNIVERSAL, VarId, variable_of,
+    Class, CoreExpr, CoreFunction, Entity, Program, Reference, Shift, Subtype, UNIVERSAL, VarId,
+    variable_of,
 };
 use spx_meaning::type_of;
 use spx_term::{Name, Sort, Symbol, Term, TermOp, TermPrefix, Value};
 use spx_tree::{InfixOp, MemberOp, PrefixOp};
+use spx_types::application;
 use std::alloc::{AllocError, Global};
 
 fn sort_of_class(class: Class) -> Sort
@@ -80,7 +83,7 @@ fn term_op(op: InfixOp) -> TermOp
 }
 
 /// The literal of a value.
-fn static_term(value: Value) -> Term
+pub(crate) fn static_term(value: Value) -> Term
     ensures { result ≡ static_term value }
 {
     match value {
@@ -146,7 +149,12 @@ fn signed_term(alloc: Global, op: PrefixOp, operand: Term) -> Result<Term, Alloc
 }
 
 /// That a term lies between two others.
-fn between(alloc: Global, tested: Term, low: Term, high: Term) -> Result<Term, AllocError>
+pub(crate) fn between(
+    alloc: Global,
+    tested: Term,
+    low: Term,
+    high: Term,
+) -> Result<Term, AllocError>
     ensures { IfOk result (λ t. t ≡ between tested low high) }
 {
     let least = Term::infix(alloc, TermOp::GreaterOrEqual, tested.copy(alloc)?, low)?;
@@ -171,6 +179,27 @@ fn member_term(
     }
 }
 
+/// The result of a function of a type.
+pub(crate) fn moved_term(alloc: Global, shift: Shift, operand: Term) -> Result<Term, AllocError>
+    ensures { IfOk result (λ t. t ≡ moved_term shift operand) }
+{
+    match shift {
+        Shift::Same => Ok(operand),
+        Shift::Next => Term::infix(alloc, TermOp::Add, operand, Term::Number(1)),
+        Shift::Previous => Term::infix(alloc, TermOp::Subtract, operand, Term::Number(1)),
+    }
+}
+
+/// The result of the function. One that breaks a rule counts as its operand.
+fn mapped_term(alloc: Global, function: &CoreFunction, operand: Term) -> Result<Term, AllocError>
+    ensures { IfOk result (λ t. t ≡ mapped_term (application function.now) operand) }
+{
+    match application(function) {
+        Ok(mapping) => moved_term(alloc, mapping.shift, operand),
+        Err(_) => Ok(operand),
+    }
+}
+
 /// The term of an expression over the present values of variables. A static one stands as its literal.
 #[cycle(term_of)]
 #[tactic(auto, using(crate::specs::Terms::term_forms))]
@@ -181,6 +210,11 @@ pub(crate) fn term_of(alloc: Global, program: &Program, expr: &CoreExpr) -> Resu
         CoreExpr::Number(value, _) => Ok(Term::Number(*value)),
         CoreExpr::Name(name) => Ok(literal_or(expr, name_term(program, name.entity))),
         CoreExpr::Attribute(_, _) => Ok(literal_or(expr, Term::Number(0))),
+        CoreExpr::Applied(function, _, operand) => {
+            let operand = term_of(alloc, program, operand.get())?;
+            let whole = mapped_term(alloc, function, operand)?;
+            Ok(literal_or(expr, whole))
+        }
         CoreExpr::Parenthesized(_, inner) => term_of(alloc, program, inner.get()),
         CoreExpr::Prefix(op, _, operand) => {
             let operand = term_of(alloc, program, operand.get())?;

@@ -1,14 +1,19 @@
 // The walk along statements, which adds the steps of each path.
-ghost use Rattle.std.specs.Prelude.{IfOk, OnOk};
+ghost use Rattle.std.specs.Prelude.{map, IfOk, OnOk};
+ghost use Rattle.spx_text.specs.declared.place.Place.{Place};
+ghost use Rattle.spx_core.specs.declared.statement.CoreAlternative.{out-CoreAlternative};
 ghost use Rattle.spx_core.specs.declared.program.Program.{Program};
-ghost use Rattle.spx_core.specs.Commands.{Set, Skip, command, commands};
-ghost use Rattle.spx_paths.specs.Prefixes.{Arrive, ArriveArm, ArriveArms, ArriveEach, Passes, Splits};
+ghost use Rattle.spx_core.specs.Commands.{Set, Skip, alternative, command, commands, select};
+ghost use Rattle.spx_paths.specs.Prefixes.{Arrive, ArriveAlternatives, ArriveArm, ArriveArms, ArriveEach, Passes, Splits, Walked};
+ghost use Rattle.spx_paths.specs.Walks.{alternative_facts};
+ghost use Rattle.spx_term.specs.Steps.{assume_all};
 
 use crate::checks::check_expr;
+use crate::choices::{add_choices, assume_chosen};
 use crate::path::Path;
 use crate::steps::{assign, assume, assume_parts};
 use crate::terms::term_of;
-use spx_core::{CoreArm, CoreExpr, CoreStmt, Program, Reference};
+use spx_core::{CoreAlternative, CoreArm, CoreExpr, CoreStmt, Program, Reference};
 use spx_term::{PathStep, Term, TermPrefix};
 use sqlite_items::Items;
 use std::alloc::{AllocError, Global};
@@ -80,6 +85,21 @@ fn split(
     Ok(taken)
 }
 
+/// The path that goes on where the choices of an alternative have the value, after earlier ones.
+fn choose(
+    alloc: Global,
+    value: &Term,
+    earlier: &[Term],
+    chosen: &CoreAlternative,
+    path: &Path,
+) -> Result<Path, AllocError>
+    ensures { IfOk result (λ taken. Walked path.now.steps taken.steps (assume_all (alternative_facts value.now earlier.now (out-CoreAlternative chosen.now).choices))) }
+{
+    let mut taken = path.copy(alloc)?;
+    assume_chosen(alloc, &mut taken.steps, value, earlier, chosen)?;
+    Ok(taken)
+}
+
 /// Walks statements from the end of a path.
 #[cycle(walk)]
 pub(crate) fn walk_stmts(
@@ -140,7 +160,65 @@ fn walk_stmt(
                 }
             }
         }
+        CoreStmt::Case(_, selector, alternatives, _) => {
+            walk_case(alloc, program, alternatives.as_slice(), selector, path)
+        }
     }
+}
+
+/// Walks alternatives, after the checks of the selector.
+#[cycle(walk)]
+fn walk_case(
+    alloc: Global,
+    program: &Program,
+    alternatives: &[CoreAlternative],
+    selector: &CoreExpr,
+    path: Path,
+) -> Result<Vec<Path>, AllocError>
+    ensures { (place : Place) → IfOk result (λ found. Arrive program.now (select place selector.now (map alternative alternatives.now)) path.steps found.items) }
+{
+    if alternatives.is_empty() {
+        return one(alloc, path);
+    }
+    let mut path = path;
+    check_expr(alloc, program, &mut path.steps, &[], selector)?;
+    let value = term_of(alloc, program, selector)?;
+    let found = walk_alternatives(alloc, program, alternatives, &value, &path)?;
+    Ok(found)
+}
+
+/// Walks alternatives for the value of a selector.
+#[cycle(walk)]
+fn walk_alternatives(
+    alloc: Global,
+    program: &Program,
+    alternatives: &[CoreAlternative],
+    value: &Term,
+    path: &Path,
+) -> Result<Vec<Path>, AllocError>
+    ensures { IfOk result (λ found. ArriveAlternatives program.now value.now alternatives.now path.now.steps found.items) }
+{
+    let mut found = Vec::new(alloc);
+    let mut earlier = Items::new(alloc);
+    for chosen in alternatives {
+        let taken = choose(alloc, value, earlier.as_slice(), chosen, path)?;
+        found.append(&mut walk_alternative(alloc, program, chosen, taken)?)?;
+        add_choices(alloc, value, &mut earlier, chosen)?;
+    }
+    Ok(found)
+}
+
+/// Walks the statements of an alternative.
+#[cycle(walk)]
+fn walk_alternative(
+    alloc: Global,
+    program: &Program,
+    chosen: &CoreAlternative,
+    path: Path,
+) -> Result<Vec<Path>, AllocError>
+    ensures { IfOk result (λ found. Arrive program.now (commands (out-CoreAlternative chosen.now).body) path.steps found.items) }
+{
+    walk_stmts(alloc, program, chosen.body.as_slice(), path)
 }
 
 /// Walks arms. The path goes on where no condition is true.

@@ -20,6 +20,8 @@ fn breach_text(rule: RuleName) -> &'static [u8]
         RuleName::N11 => b"not static",
         RuleName::N12 => b"static value out of range",
         RuleName::N13 => b"bad range",
+        RuleName::N14 => b"wrong arguments",
+        RuleName::N17 => b"choice not given once",
         RuleName::U2 => b"target cannot be assigned",
         RuleName::U7 => b"bad derives annotation",
         RuleName::U8 => b"mode disagrees with derives",

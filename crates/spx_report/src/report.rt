@@ -65,6 +65,8 @@ pub(crate) fn code(rule: RuleName) -> &'static [u8]
         RuleName::N11 => b"N11",
         RuleName::N12 => b"N12",
         RuleName::N13 => b"N13",
+        RuleName::N14 => b"N14",
+        RuleName::N17 => b"N17",
         RuleName::U2 => b"U2",
         RuleName::U7 => b"U7",
         RuleName::U8 => b"U8",

@@ -1,18 +1,18 @@
 // Formals and declarations: each sees those before it, and not itself.
-ghost use Rattle.std.specs.Prelude.{◌≡◌, ◌++◌, IfOk, length, map};
+ghost use Rattle.std.specs.Prelude.{◌≡◌, ◌++◌, IfOk, length, map, option_map};
 ghost use Rattle.spx_core.specs.declared.entity.Meaning.TheVariants as meaning;
-ghost use Rattle.spx_core.specs.Resolved.{around_names, declared_by, declared_by_decls, declared_by_params, declaring_all, defining_all, resolved_decl, resolved_decls, resolved_param, resolved_params, resolved_reference, resolved_type, rows_by, rows_by_decls, var_of, variables_by, variables_by_decls, variables_of};
+ghost use Rattle.spx_core.specs.Resolved.{around_names, declared_by, declared_by_decls, declared_by_params, declaring_all, defining_all, resolved_decl, resolved_decls, resolved_expr, resolved_param, resolved_params, resolved_reference, resolved_type, rows_by, rows_by_decls, var_of, variables_by, variables_by_decls, variables_of};
 ghost use Rattle.spx_scope.specs.Seen.{seen};
 ghost use Rattle.spx_resolve.specs.Counting.{counts_of};
 
-use crate::meaning::{mode_of, object_of};
+use crate::meaning::{local_kind, mode_of, object_of};
 use crate::names::declare_all;
-use crate::parts::resolve_type_name;
+use crate::parts::{resolve_initial, resolve_type_name};
 use crate::tables::{Tables, add_variables};
 use crate::types::{resolve_constants, resolve_enumeration, resolve_integer, resolve_subtype};
 use spx_core::{CoreDecl, CoreParam, Defining, Meaning, Object, Var, VarKind};
 use spx_scope::{Region, Scope};
-use spx_tree::{Decl, Identifier, Name, Param, TypeDef};
+use spx_tree::{Decl, Expr, Identifier, Name, Param, TypeDef};
 use sqlite_items::Items;
 use std::alloc::{AllocError, Global};
 
@@ -79,13 +79,15 @@ fn resolve_variables(
     outer: &Scope<'_>,
     names: &[Identifier],
     type_name: &Name,
+    value: &Option<Expr>,
 ) -> Result<CoreDecl, AllocError>
-    ensures { IfOk result (λ d. (d ≡ variables_of region.old (length vars.old) names.now (resolved_reference (around_names (seen outer.now) region.old names.now) type_name.now)) × (region.new ≡ declaring_all region.old (declared_by d)) × (vars.new ≡ vars.old ++ map var_of (variables_by d))) }
+    ensures { IfOk result (λ d. (d ≡ variables_of region.old (length vars.old) names.now (resolved_reference (around_names (seen outer.now) region.old names.now) type_name.now) (option_map (resolved_expr (around_names (seen outer.now) region.old names.now)) value.now)) × (region.new ≡ declaring_all region.old (declared_by d)) × (vars.new ≡ vars.old ++ map var_of (variables_by d))) }
 {
     let type_name = resolve_type_name(alloc, region, outer, names, type_name)?;
-    let object = object_of(VarKind::Local, &type_name);
+    let value = resolve_initial(alloc, region, outer, names, value)?;
+    let object = object_of(local_kind(&value), &type_name);
     let names = declare_variables(alloc, region, vars, outer, object, names)?;
-    Ok(CoreDecl::Variables(names, type_name))
+    Ok(CoreDecl::Variables(names, type_name, value))
 }
 
 /// The declaration of a type.
@@ -125,9 +127,10 @@ fn resolve_decl(
     ensures types { IfOk result (λ d. tables.new.types ≡ tables.old.types ++ rows_by d) }
 {
     match decl {
-        Decl::Variables(names, type_name) => {
+        Decl::Variables(names, type_name, value) => {
             let vars = &mut tables.vars;
-            Ok(resolve_variables(alloc, region, vars, outer, names.as_slice(), type_name)?)
+            let names = names.as_slice();
+            Ok(resolve_variables(alloc, region, vars, outer, names, type_name, value)?)
         }
         Decl::Constants(names, type_name, value) => {
             Ok(resolve_constants(alloc, region, outer, names.as_slice(), type_name, value)?)

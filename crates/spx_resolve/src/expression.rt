@@ -1,12 +1,12 @@
 // Names and expressions.
 ghost use Rattle.std.specs.Prelude.{◌≡◌, [], ◌∷◌, IfOk, map};
 ghost use Rattle.spx_core.specs.declared.name.Step.TheVariants as step;
-ghost use Rattle.spx_core.specs.Resolved.{resolved_expr, resolved_name, resolved_reference, resolved_value};
+ghost use Rattle.spx_core.specs.Resolved.{resolved_expr, resolved_function, resolved_name, resolved_reference, resolved_value};
 ghost use Rattle.spx_scope.specs.Seen.{seen};
 
-use spx_core::{CoreExpr, CoreName, Reference, Step};
+use spx_core::{CoreExpr, CoreFunction, CoreName, Reference, Step};
 use spx_scope::Scope;
-use spx_tree::{Expr, Identifier, Name};
+use spx_tree::{Expr, Function, Identifier, Name};
 use sqlite_items::{Boxed, Items};
 use std::alloc::{AllocError, Global};
 
@@ -76,6 +76,18 @@ fn resolve_value(alloc: Global, name: &Name, scope: &Scope<'_>) -> Result<CoreEx
     }
 }
 
+fn resolve_function(
+    alloc: Global,
+    function: &Function,
+    scope: &Scope<'_>,
+) -> Result<CoreFunction, AllocError>
+    ensures { IfOk result (λ r. r ≡ resolved_function (seen scope.now) function.now) }
+{
+    let name = resolve_name(alloc, &function.name, scope)?;
+    let form = function.form.copy(alloc)?;
+    Ok(CoreFunction { name, form })
+}
+
 #[cycle(resolve_expr)]
 fn resolve_part(
     alloc: Global,
@@ -95,6 +107,10 @@ pub fn resolve_expr(alloc: Global, expr: &Expr, scope: &Scope<'_>) -> Result<Cor
     match expr {
         Expr::Number(value, place) => Ok(CoreExpr::Number(*value, *place)),
         Expr::Name(name) => Ok(resolve_value(alloc, name, scope)?),
+        Expr::Applied(function, place, operand) => {
+            let function = resolve_function(alloc, function, scope)?;
+            Ok(CoreExpr::Applied(function, *place, resolve_part(alloc, operand, scope)?))
+        }
         Expr::Parenthesized(place, inner) => {
             Ok(CoreExpr::Parenthesized(*place, resolve_part(alloc, inner, scope)?))
         }

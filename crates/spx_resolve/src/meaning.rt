@@ -1,9 +1,9 @@
 // What declared names denote (Ada 95 RM 3.2, 3.3, 3.5).
 ghost use Rattle.std.specs.Prelude.{◌≡◌};
-ghost use Rattle.spx_core.specs.Resolved.{bounded, constant_of, enumeration_type, integer_base, integer_type, is_in_integer, mode_of, narrowed, object_of, static_value, subtype_of};
+ghost use Rattle.spx_core.specs.Resolved.{bounded, chosen_by, constant_of, enumeration_type, integer_base, integer_type, is_in_integer, local_kind, mode_of, narrowed, object_of, static_value, subtype_of, value_or_zero};
 
 use spx_core::{
-    BaseType, Class, CoreExpr, CoreRange, Entity, INTEGER, Mode, Object, Reference, Subtype,
+    BaseType, Class, CoreExpr, CoreRange, Entity, INTEGER, Mode, Object, Reference, Span, Subtype,
     TypeId, UNIVERSAL, VarKind, WIDEST_FIRST, WIDEST_LAST,
 };
 use spx_tree::WrittenMode;
@@ -48,6 +48,37 @@ pub fn static_value(expr: &CoreExpr) -> Option<i128>
     match judge(expr) {
         Ok(typing) => typing.value,
         Err(_) => None,
+    }
+}
+
+/// The value of a static expression; one that is not static breaks a rule, and counts as 0.
+fn value_or_zero(expr: &CoreExpr) -> i128
+    ensures { result ≡ value_or_zero expr.now }
+{
+    static_value(expr).unwrap_or(0)
+}
+
+/// The values of a choice.
+pub fn chosen_by(low: &CoreExpr, high: &Option<CoreExpr>) -> Span
+    ensures { result ≡ chosen_by low.now high.now }
+{
+    let first = value_or_zero(low);
+    match high {
+        Some(high) => Span {
+            first,
+            last: value_or_zero(high),
+        },
+        None => Span { first, last: first },
+    }
+}
+
+/// A local, with its initial value, if it has one.
+pub fn local_kind(value: &Option<CoreExpr>) -> VarKind
+    ensures { result ≡ local_kind value.now }
+{
+    match value {
+        Some(value) => VarKind::Initialized(value_or_zero(value)),
+        None => VarKind::Local,
     }
 }
 

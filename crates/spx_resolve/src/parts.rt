@@ -39,7 +39,7 @@ pub fn resolve_type_mark(
     }
 }
 
-/// The value of constants, or a bound.
+/// The value of constants, an initial value, or a bound.
 pub fn resolve_value(
     alloc: Global,
     region: &Region,
@@ -51,6 +51,22 @@ pub fn resolve_value(
 {
     let scope = Scope::inside(region, outer);
     Ok(resolve_expr(alloc, value, &Scope::hiding(names, &scope))?)
+}
+
+/// The initial value of variables, if they have one.
+pub fn resolve_initial(
+    alloc: Global,
+    region: &Region,
+    outer: &Scope<'_>,
+    names: &[Identifier],
+    value: &Option<Expr>,
+) -> Result<Option<CoreExpr>, AllocError>
+    ensures { IfOk result (λ r. r ≡ option_map (resolved_expr (around_names (seen outer.now) region.now names.now)) value.now) }
+{
+    match value {
+        Some(value) => Ok(Some(resolve_value(alloc, region, outer, names, value)?)),
+        None => Ok(None),
+    }
 }
 
 /// The range of a type.

@@ -1,13 +1,16 @@
 // Statements and annotations.
 ghost use Rattle.std.specs.Prelude.{◌≡◌, IfOk, map, option_map};
-ghost use Rattle.spx_core.specs.Resolved.{exported_names, place_of_null, resolved_arm, resolved_derives, resolved_item, resolved_pre, resolved_reference, resolved_stmt};
+ghost use Rattle.spx_core.specs.Resolved.{exported_names, place_of_null, resolved_alternative, resolved_arm, resolved_derives, resolved_item, resolved_pre, resolved_reference, resolved_stmt};
 ghost use Rattle.spx_scope.specs.Seen.{seen};
 
+use crate::choices::resolve_listed;
 use crate::expression::{resolve_expr, resolve_reference, resolve_references};
-use spx_core::{CoreArm, CoreDerives, CoreDerivesItem, CorePrecondition, CoreStmt, Reference};
+use spx_core::{
+    CoreAlternative, CoreArm, CoreDerives, CoreDerivesItem, CorePrecondition, CoreStmt, Reference,
+};
 use spx_scope::Scope;
 use spx_text::Place;
-use spx_tree::{Arm, Derives, DerivesItem, Exports, Precondition, Stmt};
+use spx_tree::{Alternative, Arm, Derives, DerivesItem, Exports, Precondition, Stmt};
 use sqlite_items::Items;
 use std::alloc::{AllocError, Global};
 
@@ -50,6 +53,23 @@ fn resolve_arms(
 }
 
 #[cycle(resolve_stmt)]
+fn resolve_alternatives(
+    alloc: Global,
+    alternatives: &[Alternative],
+    scope: &Scope<'_>,
+) -> Result<Items<CoreAlternative>, AllocError>
+    ensures { IfOk result (λ r. r ≡ map (resolved_alternative (seen scope.now)) alternatives.now) }
+{
+    let mut resolved = Items::new(alloc);
+    for alternative in alternatives {
+        let choices = resolve_listed(alloc, &alternative.choices, scope)?;
+        let body = resolve_stmts(alloc, alternative.body.as_slice(), scope)?;
+        resolved.push(CoreAlternative { choices, body })?;
+    }
+    Ok(resolved)
+}
+
+#[cycle(resolve_stmt)]
 fn resolve_stmt(alloc: Global, stmt: &Stmt, scope: &Scope<'_>) -> Result<CoreStmt, AllocError>
     ensures { IfOk result (λ r. r ≡ resolved_stmt (seen scope.now) stmt.now) }
 {
@@ -67,6 +87,11 @@ fn resolve_stmt(alloc: Global, stmt: &Stmt, scope: &Scope<'_>) -> Result<CoreStm
             let arms = resolve_arms(alloc, arms.as_slice(), scope)?;
             let stmts = resolve_stmts(alloc, stmts.as_slice(), scope)?;
             Ok(CoreStmt::If(arms, Some(stmts), *closing))
+        }
+        Stmt::Case(place, selector, alternatives, closing) => {
+            let selector = resolve_expr(alloc, selector, scope)?;
+            let alternatives = resolve_alternatives(alloc, alternatives.as_slice(), scope)?;
+            Ok(CoreStmt::Case(*place, selector, alternatives, *closing))
         }
     }
 }

@@ -1,2 +1,3 @@
+mod CaseRules
 mod Elements
 mod NamedOnceLaws

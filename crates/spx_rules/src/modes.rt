@@ -7,11 +7,12 @@ ghost use Rattle.spx_core.specs.Judged.{each};
 ghost use Rattle.spx_core.specs.Obeyed as rules;
 ghost use Rattle.spx_core.specs.Uses.{variable_of};
 ghost use Rattle.spx_types.specs.Arms.{FoundInArms};
+ghost use Rattle.spx_types.specs.Choices.{alternatives_in, done_in};
 
 use crate::tables::Tables;
 use spx_core::{
-    Breach, CoreArm, CoreDerivesItem, CoreName, CoreStmt, Entity, Mode, Reference, RuleName,
-    VarKind, variable_of,
+    Breach, CoreAlternative, CoreArm, CoreDerivesItem, CoreName, CoreStmt, Entity, Mode, Reference,
+    RuleName, VarKind, variable_of,
 };
 use spx_types::keeps;
 
@@ -20,7 +21,7 @@ fn mode_in(kind: VarKind) -> Option<Mode>
 {
     match kind {
         VarKind::Formal(mode) => Some(mode),
-        VarKind::Local => None,
+        VarKind::Local | VarKind::Initialized(_) => None,
     }
 }
 
@@ -169,6 +170,24 @@ fn obey_arms(arms: &[CoreArm]) -> Result<(), Breach>
     Ok(())
 }
 
+/// The first such assignment in alternatives.
+#[cycle(obey_stmt)]
+fn obey_alternatives(alternatives: &[CoreAlternative]) -> Result<(), Breach>
+    ensures { result ≡ rules.obeyed_alternatives (alternatives_in alternatives.now) }
+{
+    for alternative in alternatives {
+        obey_chosen(alternative)?;
+    }
+    Ok(())
+}
+
+#[cycle(obey_stmt)]
+fn obey_chosen(alternative: &CoreAlternative) -> Result<(), Breach>
+    ensures { result ≡ rules.obeyed_command (done_in alternative.now) }
+{
+    obey_stmts(alternative.body.as_slice())
+}
+
 #[cycle(obey_stmt)]
 fn obey_stmt(stmt: &CoreStmt) -> Result<(), Breach>
     ensures { result ≡ rules.obeyed_command (command stmt.now) }
@@ -185,5 +204,6 @@ fn obey_stmt(stmt: &CoreStmt) -> Result<(), Breach>
             obey_arms(arms.as_slice())?;
             obey_stmts(stmts.as_slice())
         }
+        CoreStmt::Case(_, _, alternatives, _) => obey_alternatives(alternatives.as_slice()),
     }
 }

@@ -21,6 +21,7 @@ fn read_imports(tables: &Tables, expr: &CoreExpr) -> Result<(), Breach>
         CoreExpr::Number(_, _) => Ok(()),
         CoreExpr::Name(name) => keeps(RuleName::U11, name.name.place, may_be_read(tables, name)),
         CoreExpr::Attribute(_, _) => Ok(()),
+        CoreExpr::Applied(_, _, operand) => read_imports(tables, operand.get()),
         CoreExpr::Parenthesized(_, inner) => read_imports(tables, inner.get()),
         CoreExpr::Prefix(_, _, operand) => read_imports(tables, operand.get()),
         CoreExpr::Infix(_, _, left, right) => {

@@ -1,6 +1,6 @@
 -- The conditions of a typed program are well sorted, so those that need no proof are valid.
 use Rattle.std.proofs.Common.{◌≡◌, ℕ, ℤ, pos, ◌+◌, Bool, true, false, if◌then◌else◌, List, [], ◌∷◌, get_or, map, Option, Some, None, Ok, refl, sym, ap, ap₂, ◌∙◌, subst}
-use Rattle.std.specs.Prelude.{⊤, All}
+use Rattle.std.specs.Prelude.{⊤, All, option_map}
 use Rattle.std.specs.List.{AllByRecursion, flat_map}
 use Rattle.std.proofs.lemmas.Bool.{and_parts}
 use Rattle.std.proofs.lemmas.List.Elements.{All-from_recursion, recursion_from_All}
@@ -18,21 +18,24 @@ use Rattle.spx_core.specs.declared.entity.VarId.{VarId}
 use Rattle.spx_core.specs.declared.program.Program.{Program}
 use Rattle.spx_core.specs.declared.subprogram.CorePrecondition.{CorePrecondition}
 use Rattle.spx_core.specs.declared.subprogram.Sub.{Sub}
+use Rattle.spx_core.specs.declared.statement.CoreChoice.{CoreChoice}
 use Rattle.spx_core.specs.declared.name.Reference.{Reference}
 use Rattle.spx_core.specs.declared.expression.CoreExpr.{CoreExpr}
-use Rattle.spx_core.specs.declared.expression.CoreExpr.TheVariants.{Name, Prefix, Infix, InType, InRange}
+use Rattle.spx_core.specs.declared.expression.CoreExpr.TheVariants.{Name, Applied, Prefix, Infix, InType, InRange}
 use Rattle.spx_core.specs.declared.rule.ExprType.{ExprType}
 use Rattle.spx_core.specs.declared.rule.ExprType.TheVariants.{Of}
 use Rattle.spx_core.specs.declared.rule.Typing.{Typing}
-use Rattle.spx_core.specs.Commands.{Command, Skip, Set, Then, Choose, commands}
+use Rattle.spx_core.specs.declared.function.Mapping.{Mapping}
+use Rattle.spx_core.specs.declared.function.Span.{Span}
+use Rattle.spx_core.specs.Commands.{Command, Skip, Set, Then, Choose, commands, Select, Alternatives, Last, When}
 use Rattle.spx_core.specs.Places.{place_of}
 use Rattle.spx_core.specs.Dependency.{exports, imports}
-use Rattle.spx_core.specs.Formals.{formals}
-use Rattle.spx_core.specs.Judged.{if_there, judged, typing}
+use Rattle.spx_core.specs.Formals.{formals, initial_of, locals}
+use Rattle.spx_core.specs.Judged.{if_there, judged, typing, application}
 use Rattle.spx_core.specs.Reads.{names_read}
-use Rattle.spx_core.specs.Scopes.{AreAsDeclared, IsAsDeclared, Scoped}
+use Rattle.spx_core.specs.Scopes.{AreAsDeclared, IsAsDeclared, Scoped, AllAreAsDeclared}
 use Rattle.spx_core.specs.Statements.{judged_pre, test}
-use Rattle.spx_core.specs.Types.{is_boolean, is_number, is_of, left_type, operand_fits, operands_fit, result_type}
+use Rattle.spx_core.specs.Types.{is_boolean, is_number, is_of, left_type, operand_fits, operands_fit, result_type, is_taken}
 use Rattle.spx_core.specs.Uses.{variable_of}
 use Rattle.spx_term.specs.declared.condition.Condition.{Condition}
 use Rattle.spx_term.specs.declared.condition.CondKind.{CondKind}
@@ -55,14 +58,15 @@ use Rattle.spx_term.proofs.PlainLaws.{plain_valid}
 use Rattle.spx_term.proofs.Terms as terms
 use Rattle.spx_meaning.specs.Literals.{base_of, literal}
 use Rattle.spx_meaning.specs.Stores.{type_of}
-use Rattle.spx_paths.specs.Terms.{now, now_term, entry, entry_term, sort_of_class, sort_of_var, term_of}
-use Rattle.spx_paths.specs.Checks.{in_class, in_range, in_type, under, guarded, checked_under, base_check, divisor_check, exponent_check, operation_check, right_lefts, sign_check, unless_static, checks, checks-Parenthesized, checks-Prefix, checks-Infix, checks-InType, checks-InRange, checks-Number, checks-Name, checks-Attribute}
-use Rattle.spx_paths.specs.Walks.{assigned, checked_in, walk, entering, import_facts, pre_facts, first_facts, ending, start_tree, trees_of}
+use Rattle.spx_meaning.specs.Runs.{initial_value, value_in_type}
+use Rattle.spx_paths.specs.Terms.{now, now_term, entry, entry_term, sort_of_class, sort_of_var, term_of, moved_term}
+use Rattle.spx_paths.specs.Checks.{in_class, in_range, in_type, under, guarded, checked_under, base_check, divisor_check, exponent_check, operation_check, right_lefts, sign_check, unless_static, checks, checks-Parenthesized, checks-Prefix, checks-Infix, checks-InType, checks-InRange, checks-Number, checks-Name, checks-Attribute, bounds_check, mapping_check, checks-Applied}
+use Rattle.spx_paths.specs.Walks.{assigned, checked_in, walk, entering, import_facts, pre_facts, first_facts, ending, start_tree, trees_of, alternative_facts, and_these, choice_term, choices_term, chosen_term, one_of, initializing, starting_with, walk_for}
 use Rattle.spx_paths.specs.Conditions.{body_claims, numbered, conditions_of, ArePlain}
 use Rattle.spx_paths.specs.Fit.{IsValid, HasValidConditions, Fit, Clean}
 use Rattle.spx_core.proofs.Callers.ListTests.{each_append}
-use Rattle.spx_sound.proofs.Typings.{Cases, typed_induct, tested, right_side, IsTyped, both_typed, arms_typed, TypedSub, typed_subs}
-use Rattle.spx_sound.proofs.SortedTerms.{AreDeclared, HasSortOf, sort_of_type, boolean_sort, compared_sorted, declared-Infix, declared-InRange, declared-InType, declared-Parenthesized, declared-Prefix, is_of_sort, is_sorted, not_sorted, number_sort, numbers, raised_sort, right_sort, sorted_cases}
+use Rattle.spx_sound.proofs.Typings.{Cases, typed_induct, tested, right_side, IsTyped, both_typed, arms_typed, TypedSub, typed_subs, Maps, maps_numbers, keeps_truths, AreTyped, last_typed, when_typed, select_typed}
+use Rattle.spx_sound.proofs.SortedTerms.{AreDeclared, HasSortOf, sort_of_type, boolean_sort, compared_sorted, declared-Infix, declared-InRange, declared-InType, declared-Parenthesized, declared-Prefix, is_of_sort, is_sorted, not_sorted, number_sort, numbers, raised_sort, right_sort, sorted_cases, moved_sorted, ordered_sort, declared-Applied, between_sorted, literal_of_type}
 use Rattle.spx_sound.proofs.NeverBadTrees.{each_flat_map, each_without_doubles}
 use Rattle.spx_sound.proofs.NeverBadBodies.{same_name-Decides}
 
@@ -166,6 +170,17 @@ module _ (lefts : List Term) (formulas : AreFormulas lefts) where
   sign_check_sorted prefix.Abs of base place t rest fit h k = base_sorted base place t rest (h ∙ ap Some (number_sort of fit)) k
   sign_check_sorted prefix.Not of base place t rest fit h k = k
 
+  -- the result of a function is a number where it is checked
+  bounds_sorted : (bounds : Option Span) (place : Place) (t : Term) (rest : Tree) → HasSortOf Integer t → IsSortedTree rest → IsSortedTree (bounds_check lefts bounds place t rest)
+  bounds_sorted (Some span) place t rest h k = under_check Range place (in_range span.first span.last t) rest (in_range_sorted span.first span.last t h) k
+  bounds_sorted None place t rest h k = k
+
+  mapping_check_sorted : (m : Mapping) (of : ExprType) (place : Place) (a : Term) (rest : Tree) → Maps m → is_taken m.operand of ≡ true → HasSortOf (sort_of_type of) a → IsSortedTree rest
+      → IsSortedTree (bounds_check lefts m.bounds place (moved_term m.shift a) rest)
+  mapping_check_sorted m of place a rest (maps_numbers has ordered) taken h k =
+      bounds_sorted m.bounds place (moved_term m.shift a) rest (moved_sorted m.shift a (h ∙ ap Some (ordered_sort of (ordered of taken)))) k
+  mapping_check_sorted m of place a rest (keeps_truths has operand same none) taken h k = subst (λ b. IsSortedTree (bounds_check lefts b place (moved_term m.shift a) rest)) (sym none) k
+
   -- the left sides of the right operand are formulas
   right_sorted : (o : InfixOp) (l r : ExprType) (left : Term) → operands_fit o l r ≡ true → HasSortOf (sort_of_type l) left → AreFormulas (right_lefts o lefts left)
   right_sorted op.AndThen l r left fit h =
@@ -211,6 +226,17 @@ module _ (p : Program) (entered : VarId → Term) where
       sorted = (sorted_cases p entered).attribute prefix designator base n has typed d;
       checks = λ lefts f rest k. subst IsSortedTree (sym (checks-Attribute p entered lefts prefix designator rest)) k;
     };
+    applied = λ function place a m o known maps taken operand typed h d.
+        let e = Applied function place a in
+        let inner = h (declared-Applied p function place a d) in
+        record {
+          sorted = (sorted_cases p entered).applied function place a m o known maps taken operand typed (λ d. (h d).sorted) d;
+          checks = λ lefts f rest k.
+              let after = mapping_check lefts (application function) (place_of a) (the_term a) rest in
+              let checked = subst (λ j. IsSortedTree (mapping_check lefts j (place_of a) (the_term a) rest)) (sym known) (mapping_check_sorted lefts f m o.of (place_of a) (the_term a) rest maps taken inner.sorted k) in
+              subst IsSortedTree (sym (checks-Applied p entered lefts function place a rest))
+              (unless_sorted (literal e) rest (checks p entered lefts a after) k (inner.checks lefts f after checked));
+        };
     parenthesized = λ place a o h d.
         let inner = h (declared-Parenthesized p place a d) in
         record {
@@ -290,6 +316,38 @@ assigned_sorted : (p : Program) (place : Place) (o : Option VarId) (t : Term) (r
 assigned_sorted p place (Some v) t rest h k = let sorted = h v refl in checked_in_sorted (type_of p v).base.class (type_of p v) place t (Assign (now p v) t rest) sorted (sorted, k)
 assigned_sorted p place None t rest h k = k
 
+-- ---- choices
+
+-- that the value is that of a choice is a formula
+module _ (t : Term) (number : HasSortOf Integer t) where
+  choice_sorted : (high : Option CoreExpr) (span : Span) → IsFormula (chosen_term t high span)
+  unfolding sort_of_op
+  choice_sorted None span = compared_sorted sign.Equal t (term.Number span.first) refl number (terms.fold-Number sort_step span.first)
+  choice_sorted (Some high) span = between_sorted t (term.Number span.first) (term.Number span.last) number (terms.fold-Number sort_step span.first) (terms.fold-Number sort_step span.last)
+
+  one_sorted : (so_far : Term) (choices : List CoreChoice) → IsFormula so_far → IsFormula (one_of t so_far choices)
+  unfolding sort_of_op
+  one_sorted so_far [] h = h
+  one_sorted so_far (choice ∷ rest) h =
+      let first = choice_term t choice in
+      one_sorted (term.Infix sign.Or so_far first) rest (terms.fold-Infix sort_step sign.Or so_far first ∙ ap₂ (both (sort_of_op sign.Or)) h (choice_sorted choice.high choice.span))
+
+  choices_sorted : (choices : List CoreChoice) → IsFormula (choices_term t choices)
+  choices_sorted [] = terms.fold-Truth sort_step false
+  choices_sorted (choice ∷ rest) = one_sorted (choice_term t choice) rest (choice_sorted choice.high choice.span)
+
+  none_sorted : (earlier : List Term) → AreFormulas earlier → AreFormulas (map (term.Prefix Not) earlier)
+  none_sorted [] h = tt
+  none_sorted (e ∷ earlier) h = (not_sorted e h.0, none_sorted earlier h.1)
+
+  facts_sorted : (earlier : List Term) → AreFormulas earlier → (choices : Option (List CoreChoice)) → AreFormulas (alternative_facts t earlier choices)
+  facts_sorted earlier h None = none_sorted earlier h
+  facts_sorted earlier h (Some choices) = conjuncts_sorted (choices_term t choices) (choices_sorted choices)
+
+  these_sorted : (earlier : List Term) → AreFormulas earlier → (choices : Option (List CoreChoice)) → AreFormulas (and_these t earlier choices)
+  these_sorted earlier h None = h
+  these_sorted earlier h (Some choices) = each_append IsFormula earlier (choices_term t choices ∷ []) h (choices_sorted choices, tt)
+
 -- ---- commands
 
 -- each tree that goes on is sorted
@@ -306,21 +364,40 @@ module _ (p : Program) (sub : Sub) where
       let o = variable_of target.root.entity in
       whole.checks [] tt (assigned p (place_of e) o t rest) (assigned_sorted p (place_of e) o t rest (λ v is. whole.sorted ∙ ap Some (right_sort p target e declared.0 right v is)) k)
 
-  walk_sorted : (c : Command) (rest leave : ℕ → Tree) → IsTyped c → AreAsDeclared p c → AreSortedTrees rest → AreSortedTrees leave → AreSortedTrees (walk p sub c rest leave)
-  walk_sorted Skip rest leave typed declared k l made = k made
-  walk_sorted (Set target e) rest leave typed declared k l made = set_sorted target e (rest made) typed declared (k made)
-  walk_sorted (Then a b) rest leave typed declared k l made =
-      let parts = both_typed a b typed in
-      walk_sorted a (walk p sub b rest leave) leave parts.0 declared.0 (walk_sorted b rest leave parts.1 declared.1 k l) l made
-  walk_sorted (Choose place e a b) rest leave typed declared k l made =
-      let parts = arms_typed place e a b typed in
-      let t = term_of p (entry_term p sub) e in
-      let sorted = test_sorted p (entry_term p sub) e parts.0 declared.0 in
-      let first = walk p sub a rest leave made in
-      sorted.checks (Split (assume_parts t first) (Assume (term.Prefix Not t) (walk p sub b rest leave made))) (
-        assume_sorted (conjuncts t) first (conjuncts_sorted t sorted.formula) (walk_sorted a rest leave parts.1 declared.1.0 k l made),
-        (not_sorted t sorted.formula, walk_sorted b rest leave parts.2 declared.1.1 k l made),
-      )
+  mutual
+    walk_sorted : (c : Command) (rest leave : ℕ → Tree) → IsTyped c → AreAsDeclared p c → AreSortedTrees rest → AreSortedTrees leave → AreSortedTrees (walk p sub c rest leave)
+    walk_sorted Skip rest leave typed declared k l made = k made
+    walk_sorted (Set target e) rest leave typed declared k l made = set_sorted target e (rest made) typed declared (k made)
+    walk_sorted (Then a b) rest leave typed declared k l made =
+        let parts = both_typed a b typed in
+        walk_sorted a (walk p sub b rest leave) leave parts.0 declared.0 (walk_sorted b rest leave parts.1 declared.1 k l) l made
+    walk_sorted (Choose place e a b) rest leave typed declared k l made =
+        let parts = arms_typed place e a b typed in
+        let t = term_of p (entry_term p sub) e in
+        let sorted = test_sorted p (entry_term p sub) e parts.0 declared.0 in
+        let first = walk p sub a rest leave made in
+        sorted.checks (Split (assume_parts t first) (Assume (term.Prefix Not t) (walk p sub b rest leave made))) (
+          assume_sorted (conjuncts t) first (conjuncts_sorted t sorted.formula) (walk_sorted a rest leave parts.1 declared.1.0 k l made),
+          (not_sorted t sorted.formula, walk_sorted b rest leave parts.2 declared.1.1 k l made),
+        )
+    walk_sorted (Select place selector alternatives) rest leave typed declared k l made =
+        let select = select_typed place selector alternatives typed in
+        let t = term_of p (entry_term p sub) selector in
+        let whole = checks_sorted p (entry_term p sub) selector select.typing select.typed (recursion_from_All (IsAsDeclared p) (names_read selector) declared.0) in
+        whole.checks [] tt (walk_for p sub t [] alternatives rest leave made)
+        (walk_for_sorted t (whole.sorted ∙ ap Some (ordered_sort select.typing.of select.ordered)) [] tt select.typing.of alternatives rest leave select.parts declared.1 k l made)
+
+    walk_for_sorted : (t : Term) → HasSortOf Integer t → (earlier : List Term) → AreFormulas earlier → (of : ExprType) (alternatives : Alternatives) (rest leave : ℕ → Tree) → AreTyped of alternatives → AllAreAsDeclared p alternatives
+        → AreSortedTrees rest → AreSortedTrees leave → AreSortedTrees (walk_for p sub t earlier alternatives rest leave)
+    walk_for_sorted t number earlier sorted of (Last choices a) rest leave typed declared k l made =
+        let body = walk p sub a rest leave made in
+        assume_sorted (alternative_facts t earlier choices) body (facts_sorted t number earlier sorted choices) (walk_sorted a rest leave (last_typed of choices a typed).1 declared k l made)
+    walk_for_sorted t number earlier sorted of (When choices a more) rest leave typed declared k l made =
+        let parts = when_typed of choices a more typed in
+        let body = walk p sub a rest leave made in (
+          assume_sorted (alternative_facts t earlier choices) body (facts_sorted t number earlier sorted choices) (walk_sorted a rest leave parts.1 declared.0 k l made),
+          walk_for_sorted t number (and_these t earlier choices) (these_sorted t number earlier sorted choices) of more rest leave parts.2 declared.1 k l made,
+        )
 
 -- ---- subprograms
 
@@ -345,13 +422,25 @@ module _ (p : Program) (sub : Sub) where
       by_export true k = (terms.fold-Variable sort_step (entry p v), k)
       by_export false k = k
 
+  starting_sorted : (v : VarId) (rest : Tree) → IsSortedTree rest → IsSortedTree (starting_with (now p v) (initial_value p v) rest)
+  starting_sorted v rest k = by_value (initial_of v p)
+    where
+      by_value : (o : Option ℤ) → IsSortedTree (starting_with (now p v) (option_map (value_in_type (type_of p v)) o) rest)
+      by_value (Some n) = (literal_of_type (Of (type_of p v).base) n, k)
+      by_value None = k
+
+  initializing_sorted : (vars : List VarId) (rest : Tree) → IsSortedTree rest → IsSortedTree (initializing p vars rest)
+  initializing_sorted [] rest k = k
+  initializing_sorted (v ∷ vars) rest k = starting_sorted v (initializing p vars rest) (initializing_sorted vars rest k)
+
   start_sorted : Scoped p sub → TypedSub sub → IsSortedTree (start_tree p sub)
   start_sorted scoped typed =
       let body = walk p sub (commands sub.statements) ending ending 0 in
-      entering_sorted (formals sub) (assume_all (first_facts p sub) body)
+      entering_sorted (formals sub) (initializing p (locals sub) (assume_all (first_facts p sub) body))
+      (initializing_sorted (locals sub) (assume_all (first_facts p sub) body)
       (assume_sorted (first_facts p sub) body
       (each_append IsFormula (flat_map (import_facts p sub) (formals sub)) (pre_facts p sub sub.pre) (each_flat_map IsFormula (import_facts p sub) import_facts_sorted (formals sub)) (pre_sorted sub.pre scoped.pre_names typed.pre))
-      (walk_sorted p sub (commands sub.statements) ending ending typed.statements scoped.body_names (λ made. tt) (λ made. tt) 0))
+      (walk_sorted p sub (commands sub.statements) ending ending typed.statements scoped.body_names (λ made. tt) (λ made. tt) 0)))
 
 -- ---- claims and conditions
 

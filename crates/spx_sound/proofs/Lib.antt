@@ -5,6 +5,8 @@ pub mod SortedTerms
 pub mod NeverBadRuns
 pub mod NeverBadExpressions
 pub mod NeverBadAnnotations
+pub mod Extents
+pub mod Selections
 pub mod NeverBadBodies
 pub mod NeverUnset
 pub mod NeverBad

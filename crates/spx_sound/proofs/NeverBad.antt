@@ -1,23 +1,30 @@
 -- No call of a program that is fit is bad.
-use Rattle.std.proofs.Common.{◌≡◌, ℕ, Bool, true, false, not, ◌&&◌, ◌||◌, if◌then◌else◌, List, [], ◌∷◌, get_or, Option, Some, None, refl, sym, ap, ap₂, ◌∙◌, subst}
-use Rattle.std.proofs.lemmas.Bool.{and_parts, both_ways}
-use Rattle.std.specs.Prelude.{⊤, All, IsSome, IfSome, is_some, IsTrue}
+use Rattle.std.proofs.Common.{◌≡◌, ℕ, Bool, true, false, not, ◌&&◌, ◌||◌, if◌then◌else◌, List, [], ◌∷◌, get_or, Option, Some, None, refl, sym, ap, ap₂, ◌∙◌, subst, ℤ, ◌==◌, inl, inr}
+use Rattle.std.proofs.lemmas.Bool.{and_parts, both_ways, or_parts, or_left, or_right, eq-eqb}
+use Rattle.std.specs.Prelude.{⊤, All, IsSome, IfSome, is_some, IsTrue, ◌⊎◌, option_and_then, option_map, slice_get}
 use Rattle.std.specs.List.{flat_map, list_all}
 use Rattle.spx_core.specs.declared.entity.Class.{Class}
 use Rattle.spx_core.specs.declared.entity.Class.TheVariants as class
 use Rattle.spx_core.specs.declared.entity.VarId.{VarId}
-use Rattle.spx_core.specs.declared.entity.VarKind.TheVariants.{Formal}
+use Rattle.spx_core.specs.declared.entity.VarKind.TheVariants.{Formal, Local, Initialized}
+use Rattle.spx_core.specs.declared.entity.VarKind.{VarKind}
 use Rattle.spx_core.specs.declared.program.Program.{Program}
+use Rattle.spx_core.specs.declared.program.TypeRow.{TypeRow}
+use Rattle.spx_core.specs.declared.program.Var.{Var}
 use Rattle.spx_core.specs.declared.entity.Mode.{Mode}
 use Rattle.spx_core.specs.declared.entity.Mode.TheVariants as mode
+use Rattle.spx_core.specs.declared.entity.Object.{Object}
+use Rattle.spx_core.specs.declared.entity.Subtype.{Subtype}
 use Rattle.spx_core.specs.declared.subprogram.CorePrecondition.{CorePrecondition}
 use Rattle.spx_core.specs.declared.subprogram.Sub.{Sub}
 use Rattle.spx_core.specs.Commands.{commands}
 use Rattle.spx_core.specs.Dependency.{exports, imports}
-use Rattle.spx_core.specs.Formals.{formals, mode_of}
+use Rattle.spx_core.specs.Formals.{formals, mode_of, initial_in, initial_of, is_formal, is_local, locals, stands_in}
 use Rattle.spx_core.specs.FlowRules.{HasNoFinding, body_effect, read, left}
 use Rattle.spx_core.specs.Rules.{ObeysRules}
-use Rattle.spx_core.specs.Scopes.{Scoped}
+use Rattle.spx_core.specs.Scopes.{Scoped, StartsInType, kind_of, object_declared, object_in}
+use Rattle.spx_core.specs.Effects.{reads}
+use Rattle.spx_core.specs.Types.{has_truths, is_between, is_true}
 use Rattle.spx_term.specs.declared.term.Sort.{Sort}
 use Rattle.spx_term.specs.declared.term.Sort.TheVariants.{Integer, Boolean}
 use Rattle.spx_term.specs.declared.term.Symbol.{Symbol}
@@ -28,29 +35,33 @@ use Rattle.spx_term.specs.declared.value.Value.{Value}
 use Rattle.spx_term.specs.declared.value.Value.TheVariants as value
 use Rattle.spx_term.specs.Meaning.{as_number, as_truth, Valuation, value_step, value_of, HasSort, Holds, Respects}
 use Rattle.spx_term.specs.Steps.{Tree, Assign, assume_all, same_name}
+use Rattle.spx_term.specs.Folding.{term_of as static_term}
 use Rattle.spx_term.proofs.ConjunctLaws.{parts_hold}
 use Rattle.spx_term.proofs.Terms.{fold-Variable}
 use Rattle.spx_meaning.specs.declared.bad.BadKind.TheVariants.{Pre, Unset}
-use Rattle.spx_meaning.specs.Stores.{Store, look, type_of, first_of_class, is_in, is_within}
+use Rattle.spx_meaning.specs.Stores.{Store, look, type_of, first_of_class, is_in, is_within, declared, put}
 use Rattle.spx_meaning.specs.Frames.{Frame, around}
 use Rattle.spx_meaning.specs.Annotations.{meant, reading, seen}
-use Rattle.spx_meaning.specs.Runs.{Outcome, Ended, then_do, demand, run, is_unset_kind, starts_unset, entry_of, pre_holds, demand_pre, exports_set, call}
+use Rattle.spx_meaning.specs.Runs.{Outcome, Ended, then_do, demand, run, is_new_kind, starts_new, entry_of, pre_holds, demand_pre, exports_set, call, cleared, initial_value, value_in_type}
 use Rattle.spx_meaning.specs.Laws.{Start, IsNeverBad, NeverBad}
 use Rattle.spx_meaning.proofs.Callers.Entries.{cleared_keeps, cleared_part}
 use Rattle.spx_meaning.proofs.Callers.Evaluation.{meant_same}
-use Rattle.spx_meaning.proofs.Callers.Scopes.{mode_is, unset_is}
-use Rattle.spx_paths.specs.Terms.{now, entry, now_term, entry_term, sort_of_class, term_of}
+use Rattle.spx_meaning.proofs.Callers.Scopes.{mode_is, new_is, local_starts, own_is}
+use Rattle.spx_meaning.proofs.Callers.Stores.{look-put_other}
+use Rattle.spx_meaning.proofs.Callers.Types.{type_is}
+use Rattle.spx_paths.specs.Terms.{now, entry, now_term, entry_term, sort_of_class, term_of, sort_of_var}
 use Rattle.spx_paths.specs.Checks.{in_type}
-use Rattle.spx_paths.specs.Walks.{walk, entering, import_facts, pre_facts, first_facts, ending}
+use Rattle.spx_paths.specs.Walks.{walk, entering, import_facts, pre_facts, first_facts, ending, initializing, starting_with}
 use Rattle.spx_paths.specs.Fit.{HasValidConditions, Fit}
 use Rattle.spx_core.proofs.Callers.ListTests.{each_append}
 use Rattle.spx_sound.proofs.Typings.{TypedSub, typed_subs}
 use Rattle.spx_sound.proofs.NeverBadTrees.{AllHold, changed, Safe, each_flat_map, assumed, safe_sub}
 use Rattle.spx_sound.proofs.NeverBadRuns.{Never, Good, good_then, good_demand, joined}
-use Rattle.spx_sound.proofs.NeverBadExpressions.{truth_from, type_facts, AgreesWith}
+use Rattle.spx_sound.proofs.NeverBadExpressions.{truth_from, type_facts, AgreesWith, static_term_value}
 use Rattle.spx_sound.proofs.NeverBadAnnotations.{means_its_term}
+use Rattle.spx_sound.proofs.Extents.{AreInTypes}
 use Rattle.spx_sound.proofs.NeverBadBodies.{same_name-Decides, Fits, Reaches, walk_good}
-use Rattle.spx_sound.proofs.NeverUnset.{IsClear, Passes, never_unset}
+use Rattle.spx_sound.proofs.NeverUnset.{IsClear, Passes, never_unset, reaches_reads}
 
 -- ---- the valuation of a store
 
@@ -87,16 +98,27 @@ first_has_class class.Integer first = refl
 first_has_class class.Boolean first = refl
 first_has_class class.Enumeration first = refl
 
--- each variable that is set has a value of its type
-abbrev AreInTypes : Program → Store → Type 0
-AreInTypes p s = (x : VarId) (w : Value) → look s x ≡ Some w → is_in (type_of p x) w ≡ true
+-- the value that a static one of a class stands for has the sort of the class, and lies between two ends where the static one does
+static_has_class : (c : Class) (n : ℤ) → let w = if has_truths c then value.Truth (is_true n) else value.Number n in of_sort (sort_of_class c) w ≡ w
+static_has_class class.Integer n = refl
+static_has_class class.Boolean n = refl
+static_has_class class.Enumeration n = refl
 
-valuation_agrees : (p : Program) (s : Store) → AreInTypes p s → AgreesWith p s (valuation_of p s)
-valuation_agrees p s typed x = by_value (look s x) (typed x)
+static_within : (c : Class) (first last n : ℤ) → is_between first last n ≡ true → is_within c first last (if has_truths c then value.Truth (is_true n) else value.Number n) ≡ true
+static_within class.Integer first last n h = h
+static_within class.Boolean first last n h = refl
+static_within class.Enumeration first last n h = h
+
+-- each variable that is set has a value of its sort
+abbrev HaveTheirSorts : Program → Store → Type 0
+HaveTheirSorts p s = (x : VarId) (w : Value) → look s x ≡ Some w → of_sort (sort_of_var p x) w ≡ w
+
+valuation_agrees : (p : Program) (s : Store) → HaveTheirSorts p s → AgreesWith p s (valuation_of p s)
+valuation_agrees p s sorted x = by_value (look s x) (sorted x)
   where
-    by_value : (o : Option Value) → ((w : Value) → o ≡ Some w → is_in (type_of p x) w ≡ true) → of_sort (sort_of_class (type_of p x).base.class) (seen (type_of p x) o) ≡ seen (type_of p x) o
-    by_value (Some w) typed = has_class (type_of p x).base.class (type_of p x).first (type_of p x).last w (typed w refl)
-    by_value None typed = first_has_class (type_of p x).base.class (type_of p x).first
+    by_value : (o : Option Value) → ((w : Value) → o ≡ Some w → of_sort (sort_of_var p x) w ≡ w) → of_sort (sort_of_var p x) (seen (type_of p x) o) ≡ seen (type_of p x) o
+    by_value (Some w) sorted = sorted w refl
+    by_value None sorted = first_has_class (type_of p x).base.class (type_of p x).first
 
 some_of : (o : Option Value) → IsSome o → (w : Value) × (o ≡ Some w)
 some_of (Some w) h = (w, refl)
@@ -125,19 +147,72 @@ module _ (p : Program) (s : Store) where
           subst (Safe (entering p sub vars rest)) (unchanged the_valuation (now p x) (value_of the_valuation (Variable (entry p x))) (sym (fold-Variable (value_step the_valuation) (entry p x)))) safe
       by_export false safe = safe
 
+  -- so does a local that starts with its value
+  started : AgreesWith p s the_valuation → (vars : List VarId) (rest : Tree) → ((x : VarId) → stands_in x vars ≡ true → look s x ≡ initial_value p x) → Safe (initializing p vars rest) the_valuation → Safe rest the_valuation
+  started agrees [] rest start safe = safe
+  started agrees (x ∷ vars) rest start safe =
+      started agrees vars rest (λ y h. start y (or_right (x.0 == y.0) (stands_in y vars) h))
+      (by_value (initial_value p x) (agrees x ∙ ap (seen (type_of p x)) (start x (or_left (x.0 == x.0) (stands_in x vars) (eq-eqb x.0 x.0 refl)))) safe)
+    where
+      by_value : (o : Option Value) → the_valuation (now p x) ≡ seen (type_of p x) o → Safe (starting_with (now p x) o (initializing p vars rest)) the_valuation → Safe (initializing p vars rest) the_valuation
+      by_value (Some w) is safe = subst (Safe (initializing p vars rest)) (unchanged the_valuation (now p x) (value_of the_valuation (static_term w)) (is ∙ sym (static_term_value the_valuation w))) safe
+      by_value None is safe = safe
+
+-- ---- initial values
+
+-- the initial value is that of the kind
+initial_is : (p : Program) (x : VarId) (kind : VarKind) → kind_of p x ≡ Some kind → initial_of x p ≡ initial_in kind
+initial_is p x kind is = by_var (declared p x) is
+  where
+    by_var : (o : Option Var) → option_map (λ (var : Var). var.kind) o ≡ Some kind → option_and_then (λ (var : Var). initial_in var.kind) o ≡ initial_in kind
+    by_var (Some var) is = ap initial_in (let e : var.kind ≡ kind = cc in e)
+    by_var None is = absurd (cc)
+
+initialized : (kind : VarKind) (n : ℤ) → initial_in kind ≡ Some n → kind ≡ Initialized n
+initialized (Formal mode) n is = absurd (cc)
+initialized Local n is = absurd (cc)
+initialized (Initialized m) n is = ap Initialized (let e : m ≡ n = cc in e)
+
+-- a variable with an initial value is declared with it
+declared_initial : (p : Program) (x : VarId) (object : Object) (n : ℤ) → object_declared p x ≡ Some object → initial_of x p ≡ Some n → object.kind ≡ Initialized n
+declared_initial p x object n is initial = by_var (declared p x) is initial
+  where
+    by_row : (kind : VarKind) (o : Option TypeRow) → option_map (λ (row : TypeRow). record { kind = kind; subtype = row.subtype }) o ≡ Some object → initial_in kind ≡ Some n → object.kind ≡ Initialized n
+    by_row kind (Some row) is initial = (let e : object.kind ≡ kind = cc in e) ∙ initialized kind n initial
+    by_row kind None is initial = absurd (cc)
+
+    by_var : (o : Option Var) → option_and_then (object_in p) o ≡ Some object → option_and_then (λ (var : Var). initial_in var.kind) o ≡ Some n → object.kind ≡ Initialized n
+    by_var (Some var) is initial = by_row var.kind (slice_get p.types var.type_id.0) is initial
+    by_var None is initial = absurd (cc)
+
+-- a variable that is none of these keeps its value
+cleared_other : (p : Program) (s : Store) (vars : List VarId) (w : VarId) → stands_in w vars ≡ false → look (cleared p s vars) w ≡ look s w
+cleared_other p s [] w none = refl
+cleared_other p s (v ∷ vars) w none =
+    let parts = or_parts (v.0 == w.0) (stands_in w vars) none in
+    by_start (starts_new p v) (λ e. both_ways (v.0 == w.0) parts.0 (eq-eqb v.0 w.0 e)) ∙ cleared_other p s vars w parts.1
+  where
+    by_start : (b : Bool) → (v.0 ≡ w.0 → ⊥) → look (if b then put (cleared p s vars) v (initial_value p v) else cleared p s vars) w ≡ look (cleared p s vars) w
+    by_start true apart = look-put_other (cleared p s vars) v w (initial_value p v) apart
+    by_start false apart = refl
+
 -- ---- a call
 
-module _ (p : Program) (sub : Sub) (scoped : Scoped p sub) (obeys : ObeysRules p sub) where
+module _ (p : Program) (sub : Sub) (scoped : Scoped p sub) (initial : StartsInType p sub) (obeys : ObeysRules p sub) where
   -- what is imported is set on entry
-  import_starts_set : (x : VarId) → imports x sub ≡ true → starts_unset p x ≡ false
+  import_starts_set : (x : VarId) → imports x sub ≡ true → starts_new p x ≡ false
   import_starts_set x import =
       let kind = scoped.formal_kinds x (scoped.imported x import) in
-      unset_is p x (Formal kind.0) kind.1 ∙ by_mode kind.0 (mode_is p x (Formal kind.0) kind.1)
+      new_is p x (Formal kind.0) kind.1 ∙ by_mode kind.0 (mode_is p x (Formal kind.0) kind.1)
     where
-      by_mode : (m : Mode) → mode_of x p ≡ Some m → is_unset_kind (Formal m) ≡ false
+      by_mode : (m : Mode) → mode_of x p ≡ Some m → is_new_kind (Formal m) ≡ false
       by_mode mode.In is = refl
       by_mode mode.Out is = absurd (both_ways (not (imports x sub)) (ap not import) (and_parts (exports x sub) (not (imports x sub)) (obeys.modes x mode.Out (scoped.imported x import) is)).1)
       by_mode mode.InOut is = refl
+
+  -- a formal has no initial value
+  formal_starts_without : (x : VarId) → is_formal x sub ≡ true → initial_of x p ≡ None
+  formal_starts_without x formal = let kind = scoped.formal_kinds x formal in initial_is p x (Formal kind.0) kind.1
 
   module _ (s : Store) (start : Start p sub s) where
     abbrev first : Store
@@ -152,19 +227,52 @@ module _ (p : Program) (sub : Sub) (scoped : Scoped p sub) (obeys : ObeysRules p
     kept_import : (x : VarId) → imports x sub ≡ true → look first x ≡ look s x
     kept_import x import = cleared_keeps p s sub.vars x (import_starts_set x import)
 
-    set_import : (x : VarId) → imports x sub ≡ true → (w : Value) × (look first x ≡ Some w)
+    set_import : (x : VarId) → imports x sub ≡ true → (w : Value) × (look first x ≡ Some w) × (is_in (type_of p x) w ≡ true)
     set_import x import =
         let set = some_of (look s x) (start.imports_set x import) in
-        (set.0, kept_import x import ∙ set.1)
+        (set.0, kept_import x import ∙ set.1, subst (λ o. IfSome o (λ u. IsTrue (is_in (type_of p x) u))) set.1 (start.in_types x))
 
-    typed_first : AreInTypes p first
-    typed_first x w is = subst (λ o. IfSome o (λ u. IsTrue (is_in (type_of p x) u))) (cleared_part p s sub.vars x w is) (start.in_types x)
+    -- what is set at the start was set before, in its type, or is a local that is declared with its value
+    first_value : (x : VarId) (w : Value) → look first x ≡ Some w → (is_in (type_of p x) w ≡ true) ⊎ (n : ℤ) × (is_local x sub ≡ true) × (initial_of x p ≡ Some n) × (w ≡ value_in_type (type_of p x) n)
+    first_value x w is = elim (cleared_part p s sub.vars x w is) [ inl before ↦ inl (was_in before) | inr after ↦ by_initial (initial_of x p) refl after ]
+      where
+        was_in : look s x ≡ Some w → is_in (type_of p x) w ≡ true
+        was_in before = subst (λ o. IfSome o (λ u. IsTrue (is_in (type_of p x) u))) before (start.in_types x)
+
+        by_own : (n : ℤ) → initial_of x p ≡ Some n → w ≡ value_in_type (type_of p x) n → (formal local : Bool) → is_formal x sub ≡ formal → is_local x sub ≡ local
+            → (is_in (type_of p x) w ≡ true) ⊎ (n : ℤ) × (is_local x sub ≡ true) × (initial_of x p ≡ Some n) × (w ≡ value_in_type (type_of p x) n)
+        by_own n given same formal true f l = inr (n, l, given, same)
+        by_own n given same true false f l = absurd (let none = formal_starts_without x f in cc)
+        by_own n given same false false f l = inl (was_in (sym (cleared_other p s sub.vars x (own_is x sub ∙ ap₂ ◌||◌ f l)) ∙ is))
+
+        by_initial : (o : Option ℤ) → initial_of x p ≡ o → option_map (value_in_type (type_of p x)) o ≡ Some w → (is_in (type_of p x) w ≡ true) ⊎ (n : ℤ) × (is_local x sub ≡ true) × (initial_of x p ≡ Some n) × (w ≡ value_in_type (type_of p x) n)
+        by_initial (Some n) given after = by_own n given (let e : w ≡ value_in_type (type_of p x) n = cc in e) (is_formal x sub) (is_local x sub) refl refl
+        by_initial None given after = absurd (cc)
+
+    first_sorted : HaveTheirSorts p first
+    first_sorted x w is =
+        let of = type_of p x in
+        elim (first_value x w is) [
+          | inl before ↦ has_class of.base.class of.first of.last w before
+          | inr here ↦ subst (λ u. of_sort (sort_of_class of.base.class) u ≡ u) (sym here.3) (static_has_class of.base.class here.0)
+        ]
+
+    first_in_types : AreInTypes p first
+    first_in_types x object w declared is =
+        elim (first_value x w is) [
+          | inl before ↦ before
+          | inr here ↦
+              let of = type_is p x object declared in
+              let between = initial x object here.0 here.1 declared (declared_initial p x object here.0 declared here.2) in
+              subst (λ (t : Subtype). is_in t w ≡ true) (sym of)
+              (subst (λ u. is_in object.subtype u ≡ true) (sym (here.3 ∙ ap (λ (t : Subtype). value_in_type t here.0) of)) (static_within object.subtype.base.class object.subtype.first object.subtype.last here.0 between))
+        ]
 
     first_agrees : AgreesWith p first first_valuation
-    first_agrees = valuation_agrees p first typed_first
+    first_agrees = valuation_agrees p first first_sorted
 
     first_fits : Fits p first first_valuation
-    first_fits = record { agrees = first_agrees; respects = valuation_respects p first }
+    first_fits = record { agrees = first_agrees; respects = valuation_respects p first; in_types = first_in_types }
 
     pre_first : (pre : Option CorePrecondition) → sub.pre ≡ pre → pre_holds (around p sub s) pre s ≡ true → pre_holds frame pre first ≡ true
     pre_first None is h = refl
@@ -181,7 +289,7 @@ module _ (p : Program) (sub : Sub) (scoped : Scoped p sub) (obeys : ObeysRules p
         by_import true import =
             let set = set_import x import in
             type_facts first_valuation (type_of p x) (now_term p x) set.0
-            (fold-Variable (value_step first_valuation) (now p x) ∙ first_agrees x ∙ ap (seen (type_of p x)) set.1) (typed_first x set.0 set.1)
+            (fold-Variable (value_step first_valuation) (now p x) ∙ first_agrees x ∙ ap (seen (type_of p x)) set.1) set.2
         by_import false is = tt
 
     pre_facts_hold : (pre : Option CorePrecondition) → pre_holds frame pre first ≡ true → AllHold first_valuation (pre_facts p sub pre)
@@ -195,7 +303,9 @@ module _ (p : Program) (sub : Sub) (scoped : Scoped p sub) (obeys : ObeysRules p
 
     body_safe : HasValidConditions p sub → Safe body_tree first_valuation
     body_safe valid =
-        let whole = entered p first sub (formals sub) (assume_all (first_facts p sub) body_tree) (safe_sub p sub valid first_valuation (valuation_respects p first)).0 in
+        let known = assume_all (first_facts p sub) body_tree in
+        let local = entered p first sub (formals sub) (initializing p (locals sub) known) (safe_sub p sub valid first_valuation (valuation_respects p first)).0 in
+        let whole = started p first first_agrees (locals sub) known (λ x is. local_starts p sub scoped x is s) local in
         assumed (first_facts p sub) body_tree first_valuation
         (each_append (λ t. Holds t first_valuation) (flat_map (import_facts p sub) (formals sub)) (pre_facts p sub sub.pre)
         (each_flat_map (λ t. Holds t first_valuation) (import_facts p sub) import_holds (formals sub)) (pre_facts_hold sub.pre (pre_first sub.pre refl start.precondition))) whole
@@ -210,8 +320,22 @@ module _ (p : Program) (sub : Sub) (scoped : Scoped p sub) (obeys : ObeysRules p
         by_import true is = absurd (let set = (set_import x is).1 in cc)
         by_import false is = is
 
+    -- nor is it declared with a value, if it is read
+    no_initial : (x : VarId) → look first x ≡ None → reads x (body_effect sub) ≡ true → is_some (initial_of x p) ≡ false
+    no_initial x unset used = by_own (is_formal x sub) (is_local x sub) refl refl (scoped.read x used)
+      where
+        by_start : (o : Option ℤ) → option_map (value_in_type (type_of p x)) o ≡ None → is_some o ≡ false
+        by_start (Some n) none = absurd (cc)
+        by_start None none = refl
+
+        by_own : (formal local : Bool) → is_formal x sub ≡ formal → is_local x sub ≡ local → (formal || local) ≡ true → is_some (initial_of x p) ≡ false
+        by_own true local f l own = ap is_some (formal_starts_without x f)
+        by_own false true f l own = by_start (initial_of x p) (sym (local_starts p sub scoped x l s) ∙ unset)
+        by_own false false f l own = absurd (cc)
+
     first_clear : HasNoFinding p sub → IsClear (body_effect sub) first
-    first_clear flows place x unset way = flows.none_unset place x (read (no_import x unset) way)
+    first_clear flows place x unset way =
+        flows.none_unset place x (read (ap₂ ◌||◌ (no_import x unset) (no_initial x unset (reaches_reads (body_effect sub) place x way.0 way.1))) way)
 
     -- at the end each export is set
     export_set : HasNoFinding p sub → (t : Store) → Passes (body_effect sub) first t → (x : VarId) → exports x sub ≡ true → is_some (look t x) ≡ true
@@ -257,6 +381,6 @@ module _ (p : Program) (sub : Sub) (scoped : Scoped p sub) (obeys : ObeysRules p
 
 -- ---- programs
 
-pub never_bad : (p : Program) → All (Scoped p) p.subs → All (ObeysRules p) p.subs → Fit p → NeverBad p
-never_bad p scoped obeys fit k d within =
-    is_never_bad p (get_or p.subs k d) (scoped k d within) (obeys k d within) (fit.flows k d within) (typed_subs p fit.typed k d within) (fit.conditions k d within)
+pub never_bad : (p : Program) → All (Scoped p) p.subs → All (StartsInType p) p.subs → All (ObeysRules p) p.subs → Fit p → NeverBad p
+never_bad p scoped initial obeys fit k d within =
+    is_never_bad p (get_or p.subs k d) (scoped k d within) (initial k d within) (obeys k d within) (fit.flows k d within) (typed_subs p fit.typed k d within) (fit.conditions k d within)

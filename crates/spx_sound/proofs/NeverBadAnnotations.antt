@@ -19,13 +19,16 @@ use Rattle.spx_core.specs.declared.entity.Entity.{Entity}
 use Rattle.spx_core.specs.declared.entity.VarId.{VarId}
 use Rattle.spx_core.specs.declared.name.CoreName.{CoreName}
 use Rattle.spx_core.specs.declared.expression.CoreExpr.{CoreExpr}
-use Rattle.spx_core.specs.declared.expression.CoreExpr.TheVariants.{Name, Attribute, Prefix, Infix, InType, InRange}
+use Rattle.spx_core.specs.declared.expression.CoreExpr.TheVariants.{Name, Attribute, Applied, Prefix, Infix, InType, InRange}
 use Rattle.spx_core.specs.declared.rule.ExprType.{ExprType}
 use Rattle.spx_core.specs.declared.rule.ExprType.TheVariants.{Universal, Of}
 use Rattle.spx_core.specs.declared.rule.Typing.{Typing}
-use Rattle.spx_core.specs.Judged.{Judged, expr_step, judged, typing}
+use Rattle.spx_core.specs.declared.function.Mapping.{Mapping}
+use Rattle.spx_core.specs.declared.function.Shift.{Shift}
+use Rattle.spx_core.specs.declared.function.Shift.TheVariants as shift
+use Rattle.spx_core.specs.Judged.{Judged, expr_step, judged, typing, application}
 use Rattle.spx_core.specs.Resolved.{subtype_of}
-use Rattle.spx_core.specs.Types.{has_numbers, has_truths, is_between, is_boolean, is_defined, is_number, is_of, is_ordered, is_true, left_type, meet, member_value, met, operand_fits, operands_fit, operated, position_in, raised_type, result_of, result_type, same_class, signed, signed_result, tested, three_fit, truth}
+use Rattle.spx_core.specs.Types.{has_numbers, has_truths, is_between, is_boolean, is_defined, is_number, is_of, is_ordered, is_true, left_type, meet, member_value, met, operand_fits, operands_fit, operated, position_in, raised_type, result_of, result_type, same_class, signed, signed_result, tested, three_fit, truth, is_taken, shifted, shifted_value}
 use Rattle.spx_core.specs.Uses.{variable_of}
 use Rattle.spx_term.specs.declared.term.Term.{Term}
 use Rattle.spx_term.specs.declared.term.Term.TheVariants as term
@@ -36,13 +39,13 @@ use Rattle.spx_term.proofs.Terms as terms
 use Rattle.spx_meaning.specs.Stores.{Store}
 use Rattle.spx_meaning.specs.Frames.{Frame}
 use Rattle.spx_meaning.specs.Literals.{literal, literal_in, value_of as value_in}
-use Rattle.spx_meaning.specs.Evaluation.{applied, applied_sign, first_in, last_in, member, term_op}
+use Rattle.spx_meaning.specs.Evaluation.{applied, applied_sign, first_in, last_in, member, term_op, mapped_value, moved}
 use Rattle.spx_meaning.specs.Annotations.{meant, meant_step, reading_of, value_or, value_or_zero}
-use Rattle.spx_paths.specs.Terms.{first_term, last_term, member_term, named, now_term, literal_or, signed_term, term_of, term_with-Parenthesized, term_with-Prefix, term_with-Infix, term_with-InType, term_with-InRange, term_with-Name, term_with-Attribute}
-use Rattle.spx_core.proofs.Callers.Expressions.{Cases, induct, fold-Number, fold-Name, fold-Attribute, fold-Parenthesized, fold-Prefix, fold-Infix, fold-InType, fold-InRange}
-use Rattle.spx_sound.proofs.Classes.{number_is_ordered, numbers_are_ordered, numeric_has_numbers, same_numbers}
+use Rattle.spx_paths.specs.Terms.{first_term, last_term, member_term, named, now_term, literal_or, signed_term, term_of, term_with-Parenthesized, term_with-Prefix, term_with-Infix, term_with-InType, term_with-InRange, term_with-Name, term_with-Attribute, mapped_term, term_with-Applied}
+use Rattle.spx_core.proofs.Callers.Expressions.{Cases, induct, fold-Number, fold-Name, fold-Attribute, fold-Parenthesized, fold-Prefix, fold-Infix, fold-InType, fold-InRange, fold-Applied}
+use Rattle.spx_sound.proofs.Classes.{number_is_ordered, numbers_are_ordered, numeric_has_numbers, of_numbers}
 use Rattle.spx_sound.proofs.Typings as typed
-use Rattle.spx_sound.proofs.NeverBadExpressions.{static_term_value, signed_term_value, member_type_value, member_value as member_term_value, value-Number, named_value, value-named, AgreesWith}
+use Rattle.spx_sound.proofs.NeverBadExpressions.{static_term_value, signed_term_value, member_type_value, member_value as member_term_value, value-Number, named_value, value-named, AgreesWith, mapped_term_value}
 
 -- ---- numbers and truth values
 
@@ -58,8 +61,7 @@ same_truths class.Enumeration b h k = absurd (cc)
 
 right_ordered : (l r : ExprType) → is_ordered l ≡ true → meet l r ≡ true → is_ordered r ≡ true
 right_ordered Universal r ordered h = number_is_ordered r h
-right_ordered (Of base) Universal ordered h = refl
-right_ordered (Of base) (Of other) ordered h = same_numbers base.class other.class ordered (and_parts _ _ h).1
+right_ordered (Of base) r ordered h = of_numbers base r ordered h
 
 right_truth : (base : BaseType) (r : ExprType) → has_truths base.class ≡ true → is_of base r ≡ true → is_boolean r ≡ true
 right_truth base Universal truths h = absurd (no_truths base.class (numeric_has_numbers base.class h) truths)
@@ -250,6 +252,25 @@ signed_static : (o : PrefixOp) (of : ExprType) (a : Option ℤ) (x : Value) → 
 signed_static o of (Some n) x fit is = fitting_static (applied_sign o x) of (signed o n) (signed_stands o of x n fit is)
 signed_static o of None x fit is = tt
 
+-- ---- functions of a type
+
+moved_number : (by : Shift) (n : ℤ) → moved by (value.Number n) ≡ value.Number (shifted by n)
+unfolding value_of_op
+moved_number shift.Same n = refl
+moved_number shift.Next n = refl
+moved_number shift.Previous n = refl
+
+moved_stands : (m : Mapping) (of : ExprType) (x : Value) (n : ℤ) → typed.Maps m → is_taken m.operand of ≡ true → Stands x of n → Stands (moved m.shift x) (Of m.result) (shifted m.shift n)
+moved_stands m of x n (typed.maps_numbers has ordered) taken p =
+    stands_number (moved m.shift x) (Of m.result) (shifted m.shift n) has (ap (moved m.shift) (as_number_is x of n (ordered of taken) p) ∙ moved_number m.shift n)
+moved_stands m of x n (typed.keeps_truths has operand same none) taken p =
+    let truths = right_truth m.result of has (sym (ap (λ o. is_taken o of) operand) ∙ taken) in
+    subst (λ s. Stands (moved s x) (Of m.result) (shifted s n)) (sym same) (record { is = as_truth_is x of n truths p ∙ sym (boolean_value (Of m.result) n has); position = λ t. p.position truths })
+
+moved_static : (m : Mapping) (of : ExprType) (a : Option ℤ) (x : Value) → typed.Maps m → is_taken m.operand of ≡ true → IsStatic x of a → IsStatic (moved m.shift x) (Of m.result) (shifted_value m.shift a)
+moved_static m of (Some n) x maps taken is = fitting_static (moved m.shift x) (Of m.result) (shifted m.shift n) (moved_stands m of x n maps taken is)
+moved_static m of None x maps taken is = tt
+
 -- ---- membership tests
 
 member_is : (o : MemberOp) (n low high : ℤ) → member o (value.Number n) (value.Number low) (value.Number high) ≡ value.Truth (tested o (is_between low high n))
@@ -298,6 +319,9 @@ module _ (f : Frame) (s : Store) where
       is = fold-Attribute (meant_step f s) prefix designator ∙ ap (λ j. value_or_zero (literal_in j)) (sym (fold-Attribute expr_step prefix designator) ∙ judges);
       position = no_position (Of base) n number;
     };
+    applied = λ function place a m o known maps taken operand judges g.
+        subst (λ w. IsStatic w (Of m.result) (shifted_value m.shift o.value)) (sym (fold-Applied (meant_step f s) function place a ∙ ap (λ j. mapped_value j (meant f s a)) known))
+        (moved_static m o.of o.value (meant f s a) maps taken g);
     parenthesized = λ place a o g. subst (λ w. IsStatic w o.of o.value) (sym (fold-Parenthesized (meant_step f s) place a)) g;
     prefix = λ op place a o fit judges g.
         subst (λ w. IsStatic w o.of (signed_result op o.value)) (sym (fold-Prefix (meant_step f s) op place a))
@@ -364,6 +388,9 @@ module _ (f : Frame) (s : Store) (v : Valuation) (agrees : AgreesWith f.program 
         ∙ ap (λ j. value_or_zero (literal_in j)) (sym (fold-Attribute expr_step prefix designator))
         ∙ attribute_means (literal (Attribute prefix designator))
         ∙ ap (value_of v) (sym (term_with-Attribute (now_term f.program) entered prefix designator));
+    applied = λ function place a g.
+        means_or (Applied function place a) (mapped_term (application function) (the_term a)) (term_with-Applied (now_term f.program) entered function place a)
+        (fold-Applied (meant_step f s) function place a ∙ ap (mapped_value (application function)) g ∙ sym (mapped_term_value v (application function) (the_term a)));
     parenthesized = λ place a g. fold-Parenthesized (meant_step f s) place a ∙ g ∙ ap (value_of v) (sym (term_with-Parenthesized (now_term f.program) entered place a));
     prefix = λ o place a g.
         means_or (Prefix o place a) (signed_term o (the_term a)) (term_with-Prefix (now_term f.program) entered o place a)

@@ -1,6 +1,7 @@
 -- A command whose tree is safe runs into no check that fails, but for reads of unset variables.
-use Rattle.std.proofs.Common.{◌≡◌, ℕ, ℤ, Bool, true, false, ◌==◌, if◌then◌else◌, [], Option, Some, None, refl, sym, ap, ◌∙◌, subst, inl, inr, Decides}
-use Rattle.std.proofs.lemmas.Bool.{false_from_ne_true}
+use Rattle.std.proofs.Common.{◌≡◌, ℕ, ℤ, Bool, true, false, ◌==◌, if◌then◌else◌, List, [], Option, Some, None, refl, sym, ap, ◌∙◌, subst, inl, inr, Decides}
+use Rattle.std.specs.Prelude.{is_some}
+use Rattle.std.proofs.lemmas.Bool.{and_parts, eqb-true, false_from_ne_true}
 use Rattle.std.proofs.lemmas.Bool.Decides.{eqb_tells}
 use Rattle.std.proofs.lemmas.List.Elements.{recursion_from_All}
 use Rattle.spx_text.specs.declared.place.Place.{Place}
@@ -11,10 +12,13 @@ use Rattle.spx_core.specs.declared.entity.VarId.{VarId}
 use Rattle.spx_core.specs.declared.name.Reference.{Reference}
 use Rattle.spx_core.specs.declared.program.Program.{Program}
 use Rattle.spx_core.specs.declared.expression.CoreExpr.{CoreExpr}
-use Rattle.spx_core.specs.Commands.{Command, Skip, Set, Then, Choose}
+use Rattle.spx_core.specs.declared.rule.ExprType.{ExprType}
+use Rattle.spx_core.specs.declared.statement.CoreChoice.{CoreChoice}
+use Rattle.spx_core.specs.Commands.{Command, Skip, Set, Then, Choose, Select, Alternatives, Last, When, has_others_last}
+use Rattle.spx_core.specs.Extents.{extent}
 use Rattle.spx_core.specs.Places.{place_of}
 use Rattle.spx_core.specs.Reads.{names_read}
-use Rattle.spx_core.specs.Scopes.{AreAsDeclared, IsAsDeclared}
+use Rattle.spx_core.specs.Scopes.{AreAsDeclared, IsAsDeclared, AllAreAsDeclared}
 use Rattle.spx_core.specs.Uses.{variable_of}
 use Rattle.spx_term.specs.declared.condition.CondKind.TheVariants.{Range as RangeCheck}
 use Rattle.spx_term.specs.declared.term.Sort.TheVariants.{Integer, Boolean}
@@ -37,16 +41,18 @@ use Rattle.spx_meaning.specs.Stores.{Store, put, type_of, is_in, is_within}
 use Rattle.spx_meaning.specs.Frames.{Frame}
 use Rattle.spx_meaning.specs.Evaluation.{eval}
 use Rattle.spx_meaning.specs.Annotations.{reading, seen}
-use Rattle.spx_meaning.specs.Runs.{demand, assign, run}
+use Rattle.spx_meaning.specs.Runs.{demand, assign, run, has_value, run_for}
 use Rattle.spx_meaning.proofs.Callers.Stores.{look-put_either}
 use Rattle.spx_paths.specs.Terms.{now, entry_term, sort_of_class, sort_of_var, term_of}
 use Rattle.spx_paths.specs.Checks.{in_class, in_range, in_type}
-use Rattle.spx_paths.specs.Walks.{assigned, checked_in, range_check, walk}
-use Rattle.spx_sound.proofs.Typings.{IsTyped, RightSide, right_side, both_typed, arms_typed}
+use Rattle.spx_paths.specs.Walks.{alternative_facts, and_these, assigned, checked_in, range_check, walk, walk_for}
+use Rattle.spx_sound.proofs.Typings.{IsTyped, RightSide, right_side, both_typed, arms_typed, tested, AreTyped, last_typed, select_typed, when_typed}
 use Rattle.spx_sound.proofs.SortedTerms.{HasSortOf, integer_is, is_sorted, right_sort, value_sorted}
 use Rattle.spx_sound.proofs.NeverBadTrees.{AllHold, assumed, changed, Safe}
-use Rattle.spx_sound.proofs.NeverBadRuns.{IsUnset, Good, good_then, good_use, good_if}
+use Rattle.spx_sound.proofs.NeverBadRuns.{IsUnset, Good, good_then, good_use, good_if, good_given}
 use Rattle.spx_sound.proofs.NeverBadExpressions.{false_holds, truth_from, past_check, within_range, AgreesWith, eval_good}
+use Rattle.spx_sound.proofs.Extents.{AreInTypes, lies_in_extent}
+use Rattle.spx_sound.proofs.Selections.{AllFail, HaveValue, each_has_one, facts_hold, and_these_fail, last_has, one_of_rest}
 
 -- ---- names
 
@@ -67,13 +73,14 @@ module _ (p : Program) where
 
 -- ---- stores and valuations
 
--- the valuation stands for the store
+-- the valuation stands for the store, whose values are in their types
 pub record Fits (p : Program) (s : Store) (v : Valuation) : Type 0 where
   pub agrees : AgreesWith p s v
   pub respects : Respects v
+  pub in_types : AreInTypes p s
 
-put_fits : (p : Program) (s : Store) (x : VarId) (w : Value) (v : Valuation) → HasSort (sort_of_var p x) w → Fits p s v → Fits p (put s x (Some w)) (changed v (now p x) w)
-put_fits p s x w v sorted fits = record { agrees = agrees; respects = λ y. respects y (same_name (now p x) y) refl }
+put_fits : (p : Program) (s : Store) (x : VarId) (w : Value) (v : Valuation) → HasSort (sort_of_var p x) w → is_in (type_of p x) w ≡ true → Fits p s v → Fits p (put s x (Some w)) (changed v (now p x) w)
+put_fits p s x w v sorted typed fits = record { agrees = agrees; respects = λ y. respects y (same_name (now p x) y) refl; in_types = in_types }
   where
     agrees : (y : VarId) → changed v (now p x) w (now p y) ≡ reading p (put s x (Some w)) y
     agrees y =
@@ -85,6 +92,16 @@ put_fits p s x w v sorted fits = record { agrees = agrees; respects = λ y. resp
     respects : (y : Symbolic) (b : Bool) → same_name (now p x) y ≡ b → HasSort y.sort (if b then w else v y)
     respects y true is = subst (λ (z : Symbolic). HasSort z.sort w) ((same_name-Decides (now p x) y).0 is) sorted
     respects y false is = fits.respects y
+
+    in_types : AreInTypes p (put s x (Some w))
+    in_types y object u declared is =
+        elim (look-put_either s x y (Some w)) [
+          | inl h ↦
+              let given = sym h.1 ∙ is in
+              let one : w ≡ u = cc in
+              subst (λ z. is_in (type_of p y) z ≡ true) one (subst (λ k. is_in (type_of p (record { 0 = k })) w ≡ true) (eqb-true x.0 y.0 h.0) typed)
+          | inr h ↦ fits.in_types y object u declared (sym h.1 ∙ is)
+        ]
 
 -- a valuation that stands for the store, from which the steps that go on are safe
 pub record Reaches (p : Program) (rest : ℕ → Tree) (s : Store) : Type 0 where
@@ -134,7 +151,7 @@ module _ (f : Frame) (n : ℕ) where
       let w = value_of v t in
       let past = past_range v (type_of f.program x) place t (Assign (now f.program x) t (rest made)) (sorted x refl) safe in
       subst (λ b. Good IsUnset (demand b Range place (put s x (Some w))) (Reaches f.program rest) (Reaches f.program leave)) (sym past.0)
-      (record { valuation = changed v (now f.program x) w; made = made; fits = put_fits f.program s x w v (sorted x refl) fits; safe = past.1 })
+      (record { valuation = changed v (now f.program x) w; made = made; fits = put_fits f.program s x w v (sorted x refl) past.0 fits; safe = past.1 })
   assign_good place None t rest leave made s v fits sorted safe = record { valuation = v; made = made; fits = fits; safe = safe }
 
   -- the right side has the sort of the target
@@ -148,9 +165,10 @@ module _ (f : Frame) (n : ℕ) where
       let t = the_term e in
       let o = variable_of target.root.entity in
       let after = assigned f.program (place_of e) o t (rest made) in
-      let right = right_sorted target e declared (right_side target e typed) in
+      let side = right_side target e typed in
+      let right = right_sorted target e declared side in
       good_use IsUnset (eval f n s e) (assign f.program (place_of e) o s) (value_of v t) (Safe after v) (Reaches f.program rest) (Reaches f.program leave)
-      (eval_good f n s v fits.agrees (entry_term f.program f.sub) e [] tt after safe)
+      (eval_good f n s v fits.agrees fits.respects (entry_term f.program f.sub) e side.typing side.typed (recursion_from_All (IsAsDeclared f.program) (names_read e) declared.1) [] tt after safe)
       (assign_good (place_of e) o t rest leave made s v fits (λ x is. value_sorted v fits.respects t (sort_of_var f.program x) (right x is)))
 
   choose_good : (place : Place) (e : CoreExpr) (a b : Command) → GoesOn a → GoesOn b → GoesOn (Choose place e a b)
@@ -160,20 +178,63 @@ module _ (f : Frame) (n : ℕ) where
       let then_tree = walk f.program f.sub a rest leave made in
       let arms = Split (assume_parts t then_tree) (Assume (term.Prefix Not t) (walk f.program f.sub b rest leave made)) in
       let parts = arms_typed place e a b typed in
+      let of = tested e parts.0 in
       good_use IsUnset (eval f n s e) (λ x. if as_truth x then run f n s a else run f n s b) w (Safe arms v) (Reaches f.program rest) (Reaches f.program leave)
-      (eval_good f n s v fits.agrees (entry_term f.program f.sub) e [] tt arms safe)
+      (eval_good f n s v fits.agrees fits.respects (entry_term f.program f.sub) e of.0 of.1 (recursion_from_All (IsAsDeclared f.program) (names_read e) declared.0) [] tt arms safe)
       (λ more.
       good_if IsUnset (as_truth w) (run f n s a) (run f n s b) (Reaches f.program rest) (Reaches f.program leave)
       (λ is. first rest leave made s v parts.1 declared.1.0 fits (assumed (conjuncts t) then_tree v (parts_hold v t (truth_from w is)) more.0))
       (λ is. second rest leave made s v parts.2 declared.1.1 fits (more.1 (fold-Prefix (value_step v) Not t ∙ false_holds w is))))
 
-  pub walk_good : (c : Command) → GoesOn c
-  walk_good Skip rest leave made s v typed declared fits safe = record { valuation = v; made = made; fits = fits; safe = safe }
-  walk_good (Set target e) rest leave made s v typed declared fits safe = set_good target e rest leave made s v typed declared fits safe
-  walk_good (Then a b) rest leave made s v typed declared fits safe =
-      let parts = both_typed a b typed in
-      let back = walk f.program f.sub b rest leave in
-      good_then IsUnset (run f n s a) (λ t. run f n t b) (Reaches f.program back) (Reaches f.program rest) (Reaches f.program leave)
-      (walk_good a back leave made s v parts.0 declared.0 fits safe)
-      (λ t there. walk_good b rest leave there.made t there.valuation parts.1 declared.1 there.fits there.safe)
-  walk_good (Choose place e a b) rest leave made s v typed declared fits safe = choose_good place e a b (walk_good a) (walk_good b) rest leave made s v typed declared fits safe
+  -- so do alternatives for a number, after choices that have it not
+  abbrev GoOn : Alternatives → Type 0
+  GoOn alternatives =
+      (t : Term) (earlier : List Term) (of : ExprType) (k : ℤ) (rest leave : ℕ → Tree) (made : ℕ) (s : Store) (v : Valuation) → AreTyped of alternatives → has_others_last alternatives ≡ true → AllAreAsDeclared f.program alternatives
+      → Fits f.program s v → (is : value_of v t ≡ value.Number k) → AllFail v t k is earlier → HaveValue alternatives k → Safe (walk_for f.program f.sub t earlier alternatives rest leave made) v
+      → Good IsUnset (run_for (value.Number k) f n s alternatives) (Reaches f.program rest) (Reaches f.program leave)
+
+  last_good : (choices : Option (List CoreChoice)) (a : Command) → GoesOn a → GoOn (Last choices a)
+  last_good choices a go t earlier of k rest leave made s v typed others declared fits is fail have safe =
+      go rest leave made s v (last_typed of choices a typed).1 declared fits
+      (assumed (alternative_facts t earlier choices) (walk f.program f.sub a rest leave made) v (facts_hold v t k is earlier choices fail (last_has choices a k have)) safe)
+
+  when_good : (choices : Option (List CoreChoice)) (a : Command) (more : Alternatives) → GoesOn a → GoOn more → GoOn (When choices a more)
+  when_good choices a more go further t earlier of k rest leave made s v typed others declared fits is fail have safe =
+      let parts = when_typed of choices a more typed in
+      let some = and_parts (is_some choices) (has_others_last more) others in
+      good_if IsUnset (has_value choices (value.Number k)) (run f n s a) (run_for (value.Number k) f n s more) (Reaches f.program rest) (Reaches f.program leave)
+      (λ has.
+      go rest leave made s v parts.1 declared.0 fits
+      (assumed (alternative_facts t earlier choices) (walk f.program f.sub a rest leave made) v (facts_hold v t k is earlier choices fail has) safe.0))
+      (λ fails.
+      further t (and_these t earlier choices) of k rest leave made s v parts.2 some.1 declared.1 fits is (and_these_fail v t k is earlier choices fail fails) (one_of_rest choices a more k some.0 fails have) safe.1)
+
+  select_good : (place : Place) (selector : CoreExpr) (alternatives : Alternatives) → GoOn alternatives → GoesOn (Select place selector alternatives)
+  select_good place selector alternatives go rest leave made s v typed declared fits safe =
+      let t = the_term selector in
+      let whole = select_typed place selector alternatives typed in
+      let names = recursion_from_All (IsAsDeclared f.program) (names_read selector) declared.0 in
+      let tree = walk_for f.program f.sub t [] alternatives rest leave made in
+      good_given IsUnset (eval f n s selector) (λ x. run_for x f n s alternatives) (value_of v t) (Safe tree v) (Reaches f.program rest) (Reaches f.program leave)
+      (eval_good f n s v fits.agrees fits.respects (entry_term f.program f.sub) selector whole.typing whole.typed names [] tt tree safe)
+      (λ gives more.
+      let number = lies_in_extent f n s fits.in_types selector whole.typing whole.typed names whole.ordered (value_of v t) gives in
+      subst (λ x. Good IsUnset (run_for x f n s alternatives) (Reaches f.program rest) (Reaches f.program leave)) (sym number.1)
+      (go t [] whole.typing.of number.0 rest leave made s v whole.parts whole.others_last declared.1 fits number.1 tt (each_has_one (extent selector) alternatives whole.once number.0 number.2) more))
+
+  mutual
+    pub walk_good : (c : Command) → GoesOn c
+    walk_good Skip rest leave made s v typed declared fits safe = record { valuation = v; made = made; fits = fits; safe = safe }
+    walk_good (Set target e) rest leave made s v typed declared fits safe = set_good target e rest leave made s v typed declared fits safe
+    walk_good (Then a b) rest leave made s v typed declared fits safe =
+        let parts = both_typed a b typed in
+        let back = walk f.program f.sub b rest leave in
+        good_then IsUnset (run f n s a) (λ t. run f n t b) (Reaches f.program back) (Reaches f.program rest) (Reaches f.program leave)
+        (walk_good a back leave made s v parts.0 declared.0 fits safe)
+        (λ t there. walk_good b rest leave there.made t there.valuation parts.1 declared.1 there.fits there.safe)
+    walk_good (Choose place e a b) rest leave made s v typed declared fits safe = choose_good place e a b (walk_good a) (walk_good b) rest leave made s v typed declared fits safe
+    walk_good (Select place selector alternatives) rest leave made s v typed declared fits safe = select_good place selector alternatives (walk_for_good alternatives) rest leave made s v typed declared fits safe
+
+    walk_for_good : (alternatives : Alternatives) → GoOn alternatives
+    walk_for_good (Last choices a) = last_good choices a (walk_good a)
+    walk_for_good (When choices a more) = when_good choices a more (walk_good a) (walk_for_good more)

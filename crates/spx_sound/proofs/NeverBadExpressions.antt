@@ -1,5 +1,5 @@
 -- Where the checks of an expression are safe, it is evaluated to the value of its term, unless it reads an unset variable.
-use Rattle.std.proofs.Common.{◌≡◌, ℕ, ℤ, pos, ◌+ℤ◌, ◌-ℤ◌, ◌*ℤ◌, Bool, true, false, not, ◌&&◌, ◌||◌, if◌then◌else◌, List, [], ◌∷◌, Option, Some, None, refl, sym, ap, ap₂, ◌∙◌, subst, arith, int_le, int_lt}
+use Rattle.std.proofs.Common.{◌≡◌, ℕ, ℤ, pos, ◌+ℤ◌, ◌-ℤ◌, ◌*ℤ◌, Bool, true, false, not, ◌&&◌, ◌||◌, if◌then◌else◌, List, [], ◌∷◌, Option, Some, None, refl, sym, ap, ap₂, ◌∙◌, subst, arith, int_le, int_lt, Ok, Err}
 use Rattle.std.proofs.lemmas.Int.{ints}
 use Rattle.std.proofs.lemmas.Bool.{and_parts}
 use Rattle.std.proofs.lemmas.List.Elements.{recursion_from_All}
@@ -7,6 +7,7 @@ use Rattle.spx_num.specs.Exact.{absolute, or_zero, quotient, raised}
 use Rattle.spx_text.specs.declared.place.Place.{Place}
 use Rattle.spx_tree.specs.declared.expression.InfixOp.{InfixOp}
 use Rattle.spx_tree.specs.declared.expression.InfixOp.TheVariants as op
+use Rattle.spx_tree.specs.declared.expression.Identifier.{Identifier}
 use Rattle.spx_tree.specs.declared.expression.MemberOp.{MemberOp}
 use Rattle.spx_tree.specs.declared.expression.MemberOp.TheVariants as member_op
 use Rattle.spx_tree.specs.declared.expression.PrefixOp.{PrefixOp}
@@ -20,9 +21,18 @@ use Rattle.spx_core.specs.declared.name.CoreName.{CoreName}
 use Rattle.spx_core.specs.declared.name.Reference.{Reference}
 use Rattle.spx_core.specs.declared.program.Program.{Program}
 use Rattle.spx_core.specs.declared.expression.CoreExpr.{CoreExpr}
-use Rattle.spx_core.specs.declared.expression.CoreExpr.TheVariants.{Number, Name, Attribute, Parenthesized, Prefix, Infix, InType, InRange}
+use Rattle.spx_core.specs.declared.expression.CoreExpr.TheVariants.{Number, Name, Attribute, Applied, Parenthesized, Prefix, Infix, InType, InRange}
+use Rattle.spx_core.specs.declared.function.Mapping.{Mapping}
+use Rattle.spx_core.specs.declared.function.Shift.{Shift}
+use Rattle.spx_core.specs.declared.function.Shift.TheVariants as shift
+use Rattle.spx_core.specs.declared.function.Span.{Span}
+use Rattle.spx_core.specs.declared.function.CoreFunction.{CoreFunction}
+use Rattle.spx_core.specs.declared.rule.ExprType.{ExprType}
+use Rattle.spx_core.specs.declared.rule.Typing.{Typing}
 use Rattle.spx_core.specs.Places.{place_of}
 use Rattle.spx_core.specs.Uses.{variable_of}
+use Rattle.spx_core.specs.Judged.{Judged, application, judged}
+use Rattle.spx_core.specs.Types.{is_taken}
 use Rattle.spx_core.proofs.Callers.ListTests.{each_append}
 use Rattle.spx_term.specs.declared.condition.CondKind.{CondKind}
 use Rattle.spx_term.specs.declared.condition.CondKind.TheVariants.{Division, Overflow, Range}
@@ -34,7 +44,7 @@ use Rattle.spx_term.specs.declared.value.Value.{Value}
 use Rattle.spx_term.specs.declared.value.Value.TheVariants as value
 use Rattle.spx_term.specs.Folding.{term_of as static_term}
 use Rattle.spx_term.specs.Goals.{goal_of}
-use Rattle.spx_term.specs.Meaning.{as_number, as_truth, same_value, value_of_prefix, value_of_op, Valuation, value_step, value_of, Holds}
+use Rattle.spx_term.specs.Meaning.{as_number, as_truth, same_value, value_of_prefix, value_of_op, Valuation, value_step, value_of, Holds, Respects}
 use Rattle.spx_term.specs.Steps.{Tree}
 use Rattle.spx_term.proofs.GoalLaws.{goal_holds}
 use Rattle.spx_term.proofs.Terms as terms
@@ -42,13 +52,15 @@ use Rattle.spx_meaning.specs.declared.bad.BadKind.TheVariants.{Division as Divis
 use Rattle.spx_meaning.specs.Stores.{Store, look, is_in, is_within, type_of}
 use Rattle.spx_meaning.specs.Frames.{Frame}
 use Rattle.spx_meaning.specs.Literals.{base_of, literal}
-use Rattle.spx_meaning.specs.Evaluation.{Answer, Gives, Fails, with_value, term_op, applied, applied_sign, checked, decided, first_in, in_base, last_in, member, signed, read, read_at, static_or, unless_negative, unless_zero, eval, eval-Number, eval-Name, eval-Attribute, eval-Parenthesized, eval-Prefix, eval-Infix, eval-InType, eval-InRange}
+use Rattle.spx_meaning.specs.Evaluation.{Answer, Gives, Fails, with_value, term_op, applied, applied_sign, checked, decided, first_in, in_base, last_in, member, signed, read, read_at, static_or, unless_negative, unless_zero, eval, eval-Number, eval-Name, eval-Attribute, eval-Parenthesized, eval-Prefix, eval-Infix, eval-InType, eval-InRange, mapped_value, moved, mapping_checked, within_bounds, eval-Applied}
 use Rattle.spx_meaning.specs.Annotations.{reading, seen}
-use Rattle.spx_paths.specs.Terms.{between, first_term, last_term, member_term, now, now_term, signed_term, named, literal_or, term_of, term_with-Parenthesized, term_with-Prefix, term_with-Infix, term_with-InType, term_with-InRange, term_with-Number, term_with-Name, term_with-Attribute}
-use Rattle.spx_paths.specs.Checks.{in_class, in_range, in_type, under, guarded, checked_under, base_check, divisor_check, exponent_check, right_lefts, unless_static, operation_check, sign_check, checks, checks-Parenthesized, checks-Prefix, checks-Infix, checks-InType, checks-InRange, checks-Number, checks-Name, checks-Attribute}
-use Rattle.spx_core.proofs.Callers.Expressions.{Cases, induct}
+use Rattle.spx_paths.specs.Terms.{between, first_term, last_term, member_term, now, now_term, signed_term, named, literal_or, term_of, term_with-Parenthesized, term_with-Prefix, term_with-Infix, term_with-InType, term_with-InRange, term_with-Number, term_with-Name, term_with-Attribute, mapped_term, moved_term, term_with-Applied}
+use Rattle.spx_paths.specs.Checks.{in_class, in_range, in_type, under, guarded, checked_under, base_check, divisor_check, exponent_check, right_lefts, unless_static, operation_check, sign_check, checks, checks-Parenthesized, checks-Prefix, checks-Infix, checks-InType, checks-InRange, checks-Number, checks-Name, checks-Attribute, bounds_check, mapping_check, checks-Applied}
+use Rattle.spx_core.proofs.Callers.Expressions as every
 use Rattle.spx_sound.proofs.NeverBadTrees.{AllHold, Safe, assumed}
 use Rattle.spx_sound.proofs.NeverBadRuns.{IsUnset, GoodValue, good_with}
+use Rattle.spx_sound.proofs.Typings.{Maps, maps_numbers, keeps_truths, Cases, typed_induct}
+use Rattle.spx_sound.proofs.SortedTerms.{AreDeclared, HasSortOf, sort_of_type, ordered_sort, moved_sorted, integer_value, is_sorted, declared-Applied, declared-Parenthesized, declared-Prefix, declared-Infix, declared-InType, declared-InRange}
 
 -- a value that counts as true is the truth value
 pub truth_from : (w : Value) → as_truth w ≡ true → w ≡ value.Truth true
@@ -74,6 +86,15 @@ module _ (v : Valuation) where
   signed_term_value prefix.Minus t = terms.fold-Prefix (value_step v) Minus t
   signed_term_value prefix.Abs t = terms.fold-Prefix (value_step v) Abs t
   signed_term_value prefix.Not t = terms.fold-Prefix (value_step v) Not t
+
+  pub moved_term_value : (by : Shift) (t : Term) → value_of v (moved_term by t) ≡ moved by (value_of v t)
+  moved_term_value shift.Same t = refl
+  moved_term_value shift.Next t = terms.fold-Infix (value_step v) sign.Add t (term.Number (pos 1)) ∙ ap (value_of_op sign.Add (value_of v t)) (terms.fold-Number (value_step v) (pos 1))
+  moved_term_value shift.Previous t = terms.fold-Infix (value_step v) sign.Subtract t (term.Number (pos 1)) ∙ ap (value_of_op sign.Subtract (value_of v t)) (terms.fold-Number (value_step v) (pos 1))
+
+  pub mapped_term_value : (j : Judged Mapping) (t : Term) → value_of v (mapped_term j t) ≡ mapped_value j (value_of v t)
+  mapped_term_value (Ok m) t = moved_term_value m.shift t
+  mapped_term_value (Err breach) t = refl
 
   between_value : (t low high : Term)
       → value_of v (between t low high) ≡ value_of_op sign.And (value_of_op sign.GreaterOrEqual (value_of v t) (value_of v low)) (value_of_op sign.LessOrEqual (value_of v t) (value_of v high))
@@ -219,6 +240,23 @@ module _ (v : Valuation) (lefts : List Term) (hold : AllHold v lefts) where
   sign_good prefix.Abs base place x t rest is h = within_base base place t (absolute (as_number x)) rest is h
   sign_good prefix.Not base place x t rest is h = (sym is, h)
 
+  -- a number that is asked for lies in its bounds
+  bounds_good : (bounds : Option Span) (place : Place) (t : Term) (n : ℤ) (rest : Tree) → value_of v t ≡ value.Number n → Safe (bounds_check lefts bounds place t rest) v → IsRight v (within_bounds bounds place (value.Number n)) t rest
+  bounds_good (Some span) place t n rest is h =
+      let past = past_check v lefts Range place (in_range span.first span.last t) rest hold h in
+      subst (λ b. IsRight v (if b then Gives (value.Number n) else Fails RangeBad place) t rest) (sym (within_range v span.first span.last t n is past.0)) (sym is, past.1)
+  bounds_good None place t n rest is h = (sym is, h)
+
+  mapping_good : Respects v → (m : Mapping) (of : ExprType) (place : Place) (a : Term) (rest : Tree) → Maps m → is_taken m.operand of ≡ true → HasSortOf (sort_of_type of) a → Safe (bounds_check lefts m.bounds place (moved_term m.shift a) rest) v
+      → IsRight v (within_bounds m.bounds place (moved m.shift (value_of v a))) (moved_term m.shift a) rest
+  mapping_good respects m of place a rest (maps_numbers has ordered) taken sorted h =
+      let t = moved_term m.shift a in
+      let number = integer_value v respects t (moved_sorted m.shift a (sorted ∙ ap Some (ordered_sort of (ordered of taken)))) in
+      subst (λ x. IsRight v (within_bounds m.bounds place x) t rest) (sym number.1 ∙ moved_term_value v m.shift a) (bounds_good m.bounds place t number.0 rest number.1 h)
+  mapping_good respects m of place a rest (keeps_truths has operand same none) taken sorted h =
+      let t = moved_term m.shift a in
+      subst (λ b. Safe (bounds_check lefts b place t rest) v → IsRight v (within_bounds b place (moved m.shift (value_of v a))) t rest) (sym none) (λ more. (sym (moved_term_value v m.shift a), more)) h
+
 -- ---- checks that are not needed
 
 -- After all checks of an expression the rest is safe, whether its left sides hold or not.
@@ -246,15 +284,28 @@ module _ (p : Program) (entered : VarId → Term) (v : Valuation) where
   sign_skipped prefix.Abs base place t lefts rest h = after_check v lefts Overflow place (in_range base.first base.last t) rest h
   sign_skipped prefix.Not base place t lefts rest h = h
 
+  bounds_skipped : (bounds : Option Span) (place : Place) (t : Term) (lefts : List Term) (rest : Tree) → Safe (bounds_check lefts bounds place t rest) v → Safe rest v
+  bounds_skipped (Some span) place t lefts rest h = after_check v lefts Range place (in_range span.first span.last t) rest h
+  bounds_skipped None place t lefts rest h = h
+
+  mapping_skipped : (j : Judged Mapping) (place : Place) (t : Term) (lefts : List Term) (rest : Tree) → Safe (mapping_check lefts j place t rest) v → Safe rest v
+  mapping_skipped (Ok m) place t lefts rest h = bounds_skipped m.bounds place (moved_term m.shift t) lefts rest h
+  mapping_skipped (Err breach) place t lefts rest h = h
+
   static_skipped : (l : Option Value) (own rest : Tree) → (Safe own v → Safe rest v) → Safe (unless_static l rest own) v → Safe rest v
   static_skipped (Some x) own rest skip h = h
   static_skipped None own rest skip h = skip h
 
-  skip_cases : Cases IsSkipped
+  skip_cases : every.Cases IsSkipped
   skip_cases = record {
     number = λ n place lefts rest h. subst (λ t. Safe t v) (checks-Number p entered lefts n place rest) h;
     name = λ name lefts rest h. subst (λ t. Safe t v) (checks-Name p entered lefts name rest) h;
     attribute = λ prefix designator lefts rest h. subst (λ t. Safe t v) (checks-Attribute p entered lefts prefix designator rest) h;
+    applied = λ function place a skip lefts rest h.
+        let e = Applied function place a in
+        let after = mapping_check lefts (application function) (place_of a) (term_of p entered a) rest in
+        static_skipped (literal e) (checks p entered lefts a after) rest (λ more. mapping_skipped (application function) (place_of a) (term_of p entered a) lefts rest (skip lefts after more))
+        (subst (λ t. Safe t v) (checks-Applied p entered lefts function place a rest) h);
     parenthesized = λ place a skip lefts rest h. skip lefts rest (subst (λ t. Safe t v) (checks-Parenthesized p entered lefts place a rest) h);
     prefix = λ o place a skip lefts rest h.
         let e = Prefix o place a in
@@ -278,7 +329,7 @@ module _ (p : Program) (entered : VarId → Term) (v : Valuation) where
   }
 
   pub skipped : (e : CoreExpr) → IsSkipped e
-  skipped = induct IsSkipped skip_cases
+  skipped = every.induct IsSkipped skip_cases
 
 -- ---- evaluation
 
@@ -286,7 +337,7 @@ module _ (p : Program) (entered : VarId → Term) (v : Valuation) where
 abbrev pub AgreesWith : Program → Store → Valuation → Type 0
 AgreesWith p s v = (x : VarId) → v (now p x) ≡ reading p s x
 
-module _ (f : Frame) (n : ℕ) (s : Store) (v : Valuation) (agrees : AgreesWith f.program s v) (entered : VarId → Term) where
+module _ (f : Frame) (n : ℕ) (s : Store) (v : Valuation) (agrees : AgreesWith f.program s v) (respects : Respects v) (entered : VarId → Term) where
   abbrev the_term : CoreExpr → Term
   the_term e = term_of f.program entered e
 
@@ -321,6 +372,24 @@ module _ (f : Frame) (n : ℕ) (s : Store) (v : Valuation) (agrees : AgreesWith 
   attribute_good : (l : Option Value) (rest : Tree) → Safe rest v → IsRight v (static_or l (Gives (value.Number (pos 0)))) (literal_or l (term.Number (pos 0))) rest
   attribute_good (Some x) rest h = (sym (static_term_value v x), h)
   attribute_good None rest h = (sym (terms.fold-Number (value_step v) (pos 0)), h)
+
+  applied_good : (function : CoreFunction) (place : Place) (a : CoreExpr) (m : Mapping) (of : ExprType) → application function ≡ Ok m → Maps m → is_taken m.operand of ≡ true → HasSortOf (sort_of_type of) (the_term a) → IsGood a
+      → IsGood (Applied function place a)
+  applied_good function place a m of known maps taken sorted p lefts hold rest h =
+      let e = Applied function place a in
+      let t = the_term a in
+      let j = application function in
+      let after = mapping_check lefts j (place_of a) t rest in
+      let go : Value → Answer = λ x. mapping_checked j (place_of a) x in
+      subst (λ (answer : Answer). IsRight v answer (the_term e) rest) (sym (eval-Applied f n s function place a))
+      (static_or_good e (mapped_term j t) (with_value (eval f n s a) go) (the_checks lefts a after) rest (term_with-Applied (now_term f.program) entered function place a)
+      (λ is h.
+      good_with IsUnset (eval f n s a) go (value_of v t) (value_of v (the_term e)) (Safe after v) (Safe rest v) (p lefts hold after h)
+      (λ more.
+      subst (λ (u : Term). IsRight v (go (value_of v t)) u rest) (sym is)
+      (subst (λ j. Safe (mapping_check lefts j (place_of a) t rest) v → IsRight v (mapping_checked j (place_of a) (value_of v t)) (mapped_term j t) rest) (sym known)
+      (mapping_good v lefts hold respects m of (place_of a) t rest maps taken sorted) more)))
+      (subst (λ t. Safe t v) (checks-Applied f.program entered lefts function place a rest) h))
 
   prefix_good : (o : PrefixOp) (place : Place) (a : CoreExpr) → IsGood a → IsGood (Prefix o place a)
   prefix_good o place a p lefts hold rest h =
@@ -432,31 +501,50 @@ module _ (f : Frame) (n : ℕ) (s : Store) (v : Valuation) (agrees : AgreesWith 
       (λ end. (sym (ap (value_of v) is ∙ member_value v o (the_term a) (the_term low) (the_term high)), end)))))
       (subst (λ t. Safe t v) (checks-InRange f.program entered lefts o place a low high rest) h))
 
-  good_cases : Cases IsGood
+  number_good : (m : ℤ) (place : Place) → IsGood (Number m place)
+  number_good m place lefts hold rest h =
+      subst (λ (answer : Answer). IsRight v answer (the_term (Number m place)) rest) (sym (eval-Number f n s m place))
+      (sym (value-Number v f.program entered m place), subst (λ t. Safe t v) (checks-Number f.program entered lefts m place rest) h)
+
+  name_is_good : (name : CoreName) → IsGood (Name name)
+  name_is_good name lefts hold rest h =
+      let e = Name name in
+      subst (λ (answer : Answer). IsRight v answer (the_term e) rest) (sym (eval-Name f n s name))
+      (subst (λ (t : Term). IsRight v (static_or (literal e) (read s name.name.place (variable_of name.entity))) t rest) (sym (term_with-Name (now_term f.program) entered name))
+      (named_good name (literal e) rest (subst (λ t. Safe t v) (checks-Name f.program entered lefts name rest) h)))
+
+  attribute_is_good : (prefix : CoreName) (designator : Identifier) → IsGood (Attribute prefix designator)
+  attribute_is_good prefix designator lefts hold rest h =
+      let e = Attribute prefix designator in
+      subst (λ (answer : Answer). IsRight v answer (the_term e) rest) (sym (eval-Attribute f n s prefix designator))
+      (subst (λ (t : Term). IsRight v (static_or (literal e) (Gives (value.Number (pos 0)))) t rest) (sym (term_with-Attribute (now_term f.program) entered prefix designator))
+      (attribute_good (literal e) rest (subst (λ t. Safe t v) (checks-Attribute f.program entered lefts prefix designator rest) h)))
+
+  parenthesized_good : (place : Place) (a : CoreExpr) → IsGood a → IsGood (Parenthesized place a)
+  parenthesized_good place a p lefts hold rest h =
+      subst (λ (answer : Answer). IsRight v answer (the_term (Parenthesized place a)) rest) (sym (eval-Parenthesized f n s place a))
+      (subst (λ (t : Term). IsRight v (eval f n s a) t rest) (sym (term_with-Parenthesized (now_term f.program) entered place a))
+      (p lefts hold rest (subst (λ t. Safe t v) (checks-Parenthesized f.program entered lefts place a rest) h)))
+
+  abbrev IsGoodWhereDeclared : CoreExpr → Typing → Type 0
+  IsGoodWhereDeclared e t = AreDeclared f.program e → IsGood e
+
+  good_cases : Cases IsGoodWhereDeclared
   good_cases = record {
-    number = λ m place lefts hold rest h.
-        subst (λ (answer : Answer). IsRight v answer (the_term (Number m place)) rest) (sym (eval-Number f n s m place))
-        (sym (value-Number v f.program entered m place), subst (λ t. Safe t v) (checks-Number f.program entered lefts m place rest) h);
-    name = λ name lefts hold rest h.
-        let e = Name name in
-        subst (λ (answer : Answer). IsRight v answer (the_term e) rest) (sym (eval-Name f n s name))
-        (subst (λ (t : Term). IsRight v (static_or (literal e) (read s name.name.place (variable_of name.entity))) t rest) (sym (term_with-Name (now_term f.program) entered name))
-        (named_good name (literal e) rest (subst (λ t. Safe t v) (checks-Name f.program entered lefts name rest) h)));
-    attribute = λ prefix designator lefts hold rest h.
-        let e = Attribute prefix designator in
-        subst (λ (answer : Answer). IsRight v answer (the_term e) rest) (sym (eval-Attribute f n s prefix designator))
-        (subst (λ (t : Term). IsRight v (static_or (literal e) (Gives (value.Number (pos 0)))) t rest) (sym (term_with-Attribute (now_term f.program) entered prefix designator))
-        (attribute_good (literal e) rest (subst (λ t. Safe t v) (checks-Attribute f.program entered lefts prefix designator rest) h)));
-    parenthesized = λ place a p lefts hold rest h.
-        subst (λ (answer : Answer). IsRight v answer (the_term (Parenthesized place a)) rest) (sym (eval-Parenthesized f n s place a))
-        (subst (λ (t : Term). IsRight v (eval f n s a) t rest) (sym (term_with-Parenthesized (now_term f.program) entered place a))
-        (p lefts hold rest (subst (λ t. Safe t v) (checks-Parenthesized f.program entered lefts place a rest) h)));
-    prefix = prefix_good;
-    «infix» = infix_good;
-    in_type = in_type_good;
-    in_range = in_range_good;
+    number = λ m place d. number_good m place;
+    object = λ name x object is typed d. name_is_good name;
+    static = λ name subtype m typed d. name_is_good name;
+    named_number = λ name m typed d. name_is_good name;
+    attribute = λ prefix designator base m has typed d. attribute_is_good prefix designator;
+    applied = λ function place a m o known maps taken operand typed p d.
+        let inner = declared-Applied f.program function place a d in applied_good function place a m o.of known maps taken (is_sorted f.program entered a o operand inner) (p inner);
+    parenthesized = λ place a o p d. parenthesized_good place a (p (declared-Parenthesized f.program place a d));
+    prefix = λ o place a t fit typed p d. prefix_good o place a (p (declared-Prefix f.program o place a d));
+    «infix» = λ o place a b l r fit typed p q d. let parts = declared-Infix f.program o place a b d in infix_good o place a b (p parts.0) (q parts.1);
+    in_type = λ o place a name t subtype named has fit typed p d. in_type_good o place a name (p (declared-InType f.program o place a name d));
+    in_range = λ o place a low high t l g fit typed p q r d. let parts = declared-InRange f.program o place a low high d in in_range_good o place a low high (p parts.0) (q parts.1.0) (r parts.1.1);
   }
 
-  -- an expression whose checks are safe has the value of its term, unless it reads an unset variable
-  pub eval_good : (e : CoreExpr) → IsGood e
-  eval_good = induct IsGood good_cases
+  -- an expression that breaks no rule, and whose checks are safe, has the value of its term, unless it reads an unset variable
+  pub eval_good : (e : CoreExpr) (t : Typing) → judged e ≡ Ok t → AreDeclared f.program e → IsGood e
+  eval_good = typed_induct IsGoodWhereDeclared good_cases

@@ -1,5 +1,5 @@
 -- What is said of runs: of those that have ended, of those that have left the loop around them, and of the kinds of checks that fail.
-use Rattle.std.proofs.Common.{◌≡◌, Bool, true, false, if◌then◌else◌, refl, sym, subst}
+use Rattle.std.proofs.Common.{◌≡◌, Bool, true, false, if◌then◌else◌, refl, sym, ap, subst}
 use Rattle.std.specs.Prelude.{⊤}
 use Rattle.spx_text.specs.declared.place.Place.{Place}
 use Rattle.spx_term.specs.declared.value.Value.{Value}
@@ -64,6 +64,12 @@ module _ (B : BadKind → Type 0) where
   good_use (Gives x) go u R P L h k = subst (λ y. Good (go y) P L) (sym h.0) (k h.1)
   good_use (Fails kind place) go u R P L h k = h
   good_use Waits go u R P L h k = tt
+
+  -- it is also known that the answer gives the value
+  pub good_given : (a : Answer) (go : Value → Outcome) (u : Value) (R : Type 0) (P L : Store → Type 0) → GoodValue a u R → (a ≡ Gives u → R → Good (go u) P L) → Good (use_value a go) P L
+  good_given (Gives x) go u R P L h k = subst (λ y. Good (go y) P L) (sym h.0) (k (ap Gives h.0) h.1)
+  good_given (Fails kind place) go u R P L h k = h
+  good_given Waits go u R P L h k = tt
 
   pub kind_use : (a : Answer) (go : Value → Outcome) (P L : Store → Type 0) → HasGoodKind a → ((x : Value) → Good (go x) P L) → Good (use_value a go) P L
   kind_use (Gives x) go P L h k = k x

@@ -1,7 +1,7 @@
 -- Where no way leads from an unset variable to a read of it, a command reads none.
-use Rattle.std.proofs.Common.{◌≡◌, ℕ, Bool, true, false, ◌==◌, if◌then◌else◌, List, [], ◌++◌, pos, int_lt, Option, Some, None, refl, sym, ◌∙◌, subst, inl, inr}
+use Rattle.std.proofs.Common.{◌≡◌, ℕ, Bool, true, false, ◌==◌, if◌then◌else◌, List, [], ◌++◌, pos, int_lt, Option, Some, None, refl, sym, ◌∙◌, subst, inl, inr, Ok, Err, ◌||◌}
 use Rattle.std.specs.Prelude.{⊤, Contains}
-use Rattle.std.proofs.lemmas.Bool.{eq-eqb, eqb-true}
+use Rattle.std.proofs.lemmas.Bool.{eq-eqb, eqb-true, or_left, or_right}
 use Rattle.spx_text.specs.declared.place.Place.{Place}
 use Rattle.spx_tree.specs.declared.expression.InfixOp.{InfixOp}
 use Rattle.spx_tree.specs.declared.expression.InfixOp.TheVariants as op
@@ -12,17 +12,20 @@ use Rattle.spx_core.specs.declared.entity.Class.TheVariants.{Integer}
 use Rattle.spx_core.specs.declared.entity.VarId.{VarId}
 use Rattle.spx_core.specs.declared.name.Reference.{Reference}
 use Rattle.spx_core.specs.declared.expression.CoreExpr.{CoreExpr}
-use Rattle.spx_core.specs.declared.expression.CoreExpr.TheVariants.{Name, Attribute, Prefix, Infix, InType, InRange}
-use Rattle.spx_core.specs.Commands.{Command, Skip, Set, Then, Choose}
-use Rattle.spx_core.specs.Effects.{Effect, Read, assign as assigns, effect, reads_of}
+use Rattle.spx_core.specs.declared.expression.CoreExpr.TheVariants.{Name, Attribute, Applied, Prefix, Infix, InType, InRange}
+use Rattle.spx_core.specs.declared.function.Mapping.{Mapping}
+use Rattle.spx_core.specs.declared.function.Span.{Span}
+use Rattle.spx_core.specs.Commands.{Command, Skip, Set, Then, Choose, Select, Alternatives, Last, When}
+use Rattle.spx_core.specs.Effects.{Effect, Read, assign as assigns, effect, reads_of, choose, effect_among, nothing, next, is_read, reads}
 use Rattle.spx_core.specs.Formals.{stands_in}
 use Rattle.spx_core.specs.Places.{place_of}
 use Rattle.spx_core.specs.Uses.{is_same, uses, variable_of}
 use Rattle.spx_core.specs.Ways.{Free, Goes, Reaches}
+use Rattle.spx_core.specs.Judged.{Judged, application}
 use Rattle.spx_core.proofs.Callers.Expressions.{Cases, induct}
 use Rattle.spx_core.proofs.Callers.FlowLaws.{goes_free, reads_uses, without}
-use Rattle.spx_core.proofs.Callers.ListTests.{found}
-use Rattle.spx_core.proofs.Callers.ReadsLaws.{uses_high, uses_left, uses_low, uses_right, uses_tested, uses-InType, uses-Name, uses-Parenthesized, uses-Prefix}
+use Rattle.spx_core.proofs.Callers.ListTests.{found, passes}
+use Rattle.spx_core.proofs.Callers.ReadsLaws.{uses_high, uses_left, uses_low, uses_right, uses_tested, uses-InType, uses-Name, uses-Parenthesized, uses-Prefix, uses-Applied}
 use Rattle.spx_core.proofs.Callers.Variables.{same_var}
 use Rattle.spx_term.specs.declared.value.Value.{Value}
 use Rattle.spx_term.specs.declared.value.Value.TheVariants as value
@@ -31,8 +34,8 @@ use Rattle.spx_meaning.specs.declared.bad.BadKind.TheVariants.{Division, Overflo
 use Rattle.spx_meaning.specs.Stores.{Store, look, put, type_of, is_in, is_within}
 use Rattle.spx_meaning.specs.Frames.{Frame}
 use Rattle.spx_meaning.specs.Literals.{base_of, literal}
-use Rattle.spx_meaning.specs.Evaluation.{Answer, Gives, Fails, with_value, applied, applied_sign, decided, first_in, in_base, last_in, checked, member, signed, read, read_at, static_or, unless_negative, unless_zero, eval, eval-Number, eval-Name, eval-Attribute, eval-Parenthesized, eval-Prefix, eval-Infix, eval-InType, eval-InRange}
-use Rattle.spx_meaning.specs.Runs.{assign, run}
+use Rattle.spx_meaning.specs.Evaluation.{Answer, Gives, Fails, with_value, applied, applied_sign, decided, first_in, in_base, last_in, checked, member, signed, read, read_at, static_or, unless_negative, unless_zero, eval, eval-Number, eval-Name, eval-Attribute, eval-Parenthesized, eval-Prefix, eval-Infix, eval-InType, eval-InRange, eval-Applied, mapping_checked, moved, within_bounds}
+use Rattle.spx_meaning.specs.Runs.{assign, run, Outcome, has_value, run_for}
 use Rattle.spx_meaning.proofs.Callers.Stores.{look-put_either}
 use Rattle.spx_sound.proofs.NeverBadRuns.{IsOther, HasGoodKind, kind_with, kind_use, Good, good_then, good_if, good_demand, good_weaker}
 
@@ -71,6 +74,14 @@ signed_kind prefix.Minus base place x = base_kind base place (applied_sign prefi
 signed_kind prefix.Abs base place x = base_kind base place (applied_sign prefix.Abs x)
 signed_kind prefix.Not base place x = tt
 
+bounds_kind : (bounds : Option Span) (place : Place) (x : Value) → HasGoodKind IsOther (within_bounds bounds place x)
+bounds_kind (Some span) place x = if_kind (is_within Integer span.first span.last x) (Gives x) (Fails Range place) tt (λ e. cc)
+bounds_kind None place x = tt
+
+mapping_kind : (j : Judged Mapping) (place : Place) (x : Value) → HasGoodKind IsOther (mapping_checked j place x)
+mapping_kind (Ok m) place x = bounds_kind m.bounds place (moved m.shift x)
+mapping_kind (Err breach) place x = tt
+
 static_kind : (l : Option Value) (answer : Answer) → HasGoodKind IsOther answer → HasGoodKind IsOther (static_or l answer)
 static_kind (Some x) answer h = tt
 static_kind None answer h = h
@@ -96,6 +107,11 @@ module _ (f : Frame) (n : ℕ) (s : Store) where
         (static_kind (literal (Name name)) (read s name.name.place variable) (read_kind name.name.place variable (λ v h. set v (uses-Name v name ∙ h))));
     attribute = λ prefix designator set.
         subst (HasGoodKind IsOther) (sym (eval-Attribute f n s prefix designator)) (static_kind (literal (Attribute prefix designator)) (Gives (value.Number (pos 0))) tt);
+    applied = λ function place a p set.
+        let go : Value → Answer = λ x. mapping_checked (application function) (place_of a) x in
+        subst (HasGoodKind IsOther) (sym (eval-Applied f n s function place a))
+        (static_kind (literal (Applied function place a)) (with_value (eval f n s a) go)
+        (kind_with IsOther (eval f n s a) go (p (λ v h. set v (uses-Applied v function place a ∙ h))) (λ x. mapping_kind (application function) (place_of a) x)));
     parenthesized = λ place a p set.
         subst (HasGoodKind IsOther) (sym (eval-Parenthesized f n s place a)) (p (λ v h. set v (uses-Parenthesized v place a ∙ h)));
     prefix = λ o place a p set.
@@ -147,6 +163,38 @@ IsClear e s = (place : Place) (v : VarId) → look s v ≡ None → Free (Reache
 abbrev pub Passes : Effect → Store → Store → Type 0
 Passes e s t = (v : VarId) → look t v ≡ None → (look s v ≡ None) × Free (Goes e) v
 
+-- what has run as an arm of a choice has run as the choice
+first_arm : (s : Store) (tests : List Read) (a b : Effect) (place : Place) (o : Outcome) → (IsClear a s → Good IsOther o (Passes a s) (λ t. ⊤)) → IsClear (choose tests a b place) s → Good IsOther o (Passes (choose tests a b place) s) (λ t. ⊤)
+first_arm s tests a b place o first clear =
+    good_weaker IsOther o (Passes a s) (Passes (choose tests a b place) s) (λ t. ⊤) (λ t. ⊤) (first (λ at v unset way. clear at v unset (way.0, inr (inl way.1), way.2)))
+    (λ t goes v unset. let g = goes v unset in (g.0, (g.1.0, inl g.1.1, g.1.2))) (λ t l. l)
+
+second_arm : (s : Store) (tests : List Read) (a b : Effect) (place : Place) (o : Outcome) → (IsClear b s → Good IsOther o (Passes b s) (λ t. ⊤)) → IsClear (choose tests a b place) s → Good IsOther o (Passes (choose tests a b place) s) (λ t. ⊤)
+second_arm s tests a b place o second clear =
+    good_weaker IsOther o (Passes b s) (Passes (choose tests a b place) s) (λ t. ⊤) (λ t. ⊤) (second (λ at v unset way. clear at v unset (way.0, inr (inr way.1), way.2)))
+    (λ t goes v unset. let g = goes v unset in (g.0, (g.1.0, inr g.1.1, g.1.2))) (λ t l. l)
+
+-- a way to a read of a selector sets nothing
+reads_tests : (tests : List Read) (place : Place) (alternatives : Alternatives) (at : Place) (v : VarId) → Contains tests (at, v) → Reaches (effect_among tests place alternatives) at v []
+reads_tests tests place (Last choices a) at v read = inl (read, refl)
+reads_tests tests place (When choices a rest) at v read = inl (read, refl)
+
+is_among : (place : Place) (v : VarId) (values : List Read) → Contains values (place, v) → is_read v values ≡ true
+is_among place v values h = passes (λ (r : Read). r.1.0 == v.0) values (place, v) h (eq-eqb v.0 v.0 refl)
+
+-- what a way leads to is read
+pub reaches_reads : (e : Effect) (place : Place) (v : VarId) (way : List VarId) → Reaches e place v way → reads v e ≡ true
+reaches_reads nothing place v way h = absurd h
+reaches_reads (assigns target values at) place v way h = is_among place v values h.0
+reaches_reads (next a b) place v way h =
+    elim h [ inl first ↦ or_left (reads v a) (reads v b) (reaches_reads a place v way first) | inr second ↦ or_right (reads v a) (reads v b) (reaches_reads b place v second.1 second.4) ]
+reaches_reads (choose tests a b at) place v way h =
+    elim h [
+      | inl test ↦ or_left (is_read v tests) (reads v a || reads v b) (is_among place v tests test.0)
+      | inr arm ↦ or_right (is_read v tests) (reads v a || reads v b)
+          (elim arm [ inl first ↦ or_left (reads v a) (reads v b) (reaches_reads a place v way first) | inr second ↦ or_right (reads v a) (reads v b) (reaches_reads b place v way second) ])
+    ]
+
 -- what an expression uses, it reads at some place
 read_place : (v : VarId) (e : CoreExpr) → uses v e ≡ true → (place : Place) × Contains (reads_of e) (place, v)
 read_place v e h =
@@ -197,17 +245,28 @@ module _ (f : Frame) (n : ℕ) where
       (eval_kind f n s e (λ v used unset. let r = read_place v e used in clear r.0 v unset ([], inl (r.1, refl), refl)))
       (λ x.
       good_if IsOther (as_truth x) (run f n s a) (run f n s b) (Passes whole s) (λ t. ⊤)
-      (λ is.
-      good_weaker IsOther (run f n s a) (Passes (effect a) s) (Passes whole s) (λ t. ⊤) (λ t. ⊤)
-      (first (λ at v unset way. clear at v unset (way.0, inr (inl way.1), way.2)))
-      (λ t goes v unset. let g = goes v unset in (g.0, (g.1.0, inl g.1.1, g.1.2))) (λ t l. l))
-      (λ is.
-      good_weaker IsOther (run f n s b) (Passes (effect b) s) (Passes whole s) (λ t. ⊤) (λ t. ⊤)
-      (second (λ at v unset way. clear at v unset (way.0, inr (inr way.1), way.2)))
-      (λ t goes v unset. let g = goes v unset in (g.0, (g.1.0, inr g.1.1, g.1.2))) (λ t l. l)))
+      (λ is. first_arm s (reads_of e) (effect a) (effect b) place (run f n s a) first clear)
+      (λ is. second_arm s (reads_of e) (effect a) (effect b) place (run f n s b) second clear))
 
-  pub never_unset : (s : Store) (c : Command) → Sets s c
-  never_unset s Skip clear = λ v unset. (unset, ([], refl, refl))
-  never_unset s (Set target e) clear = set_sets s target e clear
-  never_unset s (Then a b) clear = then_sets s a b (never_unset s a) (λ t. never_unset t b) clear
-  never_unset s (Choose place e a b) clear = choose_sets s place e a b (never_unset s a) (never_unset s b) clear
+  -- the reads of a selector go before the alternatives
+  select_sets : (s : Store) (place : Place) (selector : CoreExpr) (alternatives : Alternatives) → (IsClear (effect_among (reads_of selector) place alternatives) s → (x : Value) → Good IsOther (run_for x f n s alternatives) (Passes (effect_among (reads_of selector) place alternatives) s) (λ t. ⊤))
+      → Sets s (Select place selector alternatives)
+  select_sets s place selector alternatives each clear =
+      kind_use IsOther (eval f n s selector) (λ x. run_for x f n s alternatives) (Passes (effect (Select place selector alternatives)) s) (λ t. ⊤)
+      (eval_kind f n s selector (λ v used unset. let r = read_place v selector used in clear r.0 v unset ([], reads_tests (reads_of selector) place alternatives r.0 v r.1, refl))) (each clear)
+
+  mutual
+    pub never_unset : (s : Store) (c : Command) → Sets s c
+    never_unset s Skip clear = λ v unset. (unset, ([], refl, refl))
+    never_unset s (Set target e) clear = set_sets s target e clear
+    never_unset s (Then a b) clear = then_sets s a b (never_unset s a) (λ t. never_unset t b) clear
+    never_unset s (Choose place e a b) clear = choose_sets s place e a b (never_unset s a) (never_unset s b) clear
+    never_unset s (Select place selector alternatives) clear = select_sets s place selector alternatives (λ c x. never_unset_for s x (reads_of selector) place alternatives c) clear
+
+    never_unset_for : (s : Store) (x : Value) (tests : List Read) (place : Place) (alternatives : Alternatives) → IsClear (effect_among tests place alternatives) s
+        → Good IsOther (run_for x f n s alternatives) (Passes (effect_among tests place alternatives) s) (λ t. ⊤)
+    never_unset_for s x tests place (Last choices a) clear = first_arm s tests (effect a) (effect a) place (run f n s a) (never_unset s a) clear
+    never_unset_for s x tests place (When choices a rest) clear =
+        let more = effect_among tests place rest in
+        good_if IsOther (has_value choices x) (run f n s a) (run_for x f n s rest) (Passes (choose tests (effect a) more place) s) (λ t. ⊤)
+        (λ is. first_arm s tests (effect a) more place (run f n s a) (never_unset s a) clear) (λ is. second_arm s tests (effect a) more place (run_for x f n s rest) (never_unset_for s x tests place rest) clear)

@@ -22,16 +22,20 @@ use Rattle.spx_core.specs.declared.name.CoreName.{CoreName}
 use Rattle.spx_core.specs.declared.name.Reference.{Reference}
 use Rattle.spx_core.specs.declared.program.Program.{Program}
 use Rattle.spx_core.specs.declared.expression.CoreExpr.{CoreExpr}
-use Rattle.spx_core.specs.declared.expression.CoreExpr.TheVariants.{Name, Attribute, Parenthesized, Prefix, Infix, InType, InRange}
+use Rattle.spx_core.specs.declared.expression.CoreExpr.TheVariants.{Name, Attribute, Applied, Parenthesized, Prefix, Infix, InType, InRange}
 use Rattle.spx_core.specs.declared.rule.ExprType.{ExprType}
 use Rattle.spx_core.specs.declared.rule.ExprType.TheVariants as type
 use Rattle.spx_core.specs.declared.rule.Typing.{Typing}
-use Rattle.spx_core.specs.Judged.{judged, typing}
+use Rattle.spx_core.specs.declared.function.CoreFunction.{CoreFunction}
+use Rattle.spx_core.specs.declared.function.Mapping.{Mapping}
+use Rattle.spx_core.specs.declared.function.Shift.{Shift}
+use Rattle.spx_core.specs.declared.function.Shift.TheVariants as shift
+use Rattle.spx_core.specs.Judged.{judged, typing, application}
 use Rattle.spx_core.specs.Reads.{names_read, names_step}
 use Rattle.spx_core.specs.Scopes.{IsAsDeclared}
-use Rattle.spx_core.specs.Types.{has_numbers, has_truths, is_boolean, is_number, is_of, is_ordered, is_true, left_type, meet, met, operand_fits, operands_fit, position_in, raised_type, result_type, same_class, signed_result, three_fit}
+use Rattle.spx_core.specs.Types.{has_numbers, has_truths, is_boolean, is_number, is_of, is_ordered, is_true, left_type, meet, met, operand_fits, operands_fit, position_in, raised_type, result_type, same_class, signed_result, three_fit, is_taken}
 use Rattle.spx_core.specs.Uses.{variable_of}
-use Rattle.spx_core.proofs.Callers.Expressions.{fold-Name, fold-Parenthesized, fold-Prefix, fold-Infix, fold-InType, fold-InRange}
+use Rattle.spx_core.proofs.Callers.Expressions.{fold-Name, fold-Parenthesized, fold-Prefix, fold-Infix, fold-InType, fold-InRange, fold-Applied}
 use Rattle.spx_term.specs.declared.term.Sort.{Sort}
 use Rattle.spx_term.specs.declared.term.Sort.TheVariants.{Integer, Boolean}
 use Rattle.spx_term.specs.declared.term.Term.{Term}
@@ -49,9 +53,9 @@ use Rattle.spx_term.proofs.FoldingLaws.{sorted_value}
 use Rattle.spx_meaning.specs.Evaluation.{term_op}
 use Rattle.spx_meaning.specs.Literals.{literal, literal_in, value_of as value_in}
 use Rattle.spx_meaning.proofs.Callers.Types.{type_is}
-use Rattle.spx_paths.specs.Terms.{between, first_term, last_term, literal_or, member_term, named, now, now_term, signed_term, sort_of_class, sort_of_var, term_of, term_with-Parenthesized, term_with-Prefix, term_with-Infix, term_with-InType, term_with-InRange, term_with-Number, term_with-Name, term_with-Attribute}
+use Rattle.spx_paths.specs.Terms.{between, first_term, last_term, literal_or, member_term, named, now, now_term, signed_term, sort_of_class, sort_of_var, term_of, term_with-Parenthesized, term_with-Prefix, term_with-Infix, term_with-InType, term_with-InRange, term_with-Number, term_with-Name, term_with-Attribute, mapped_term, moved_term, term_with-Applied}
 use Rattle.spx_sound.proofs.Classes.{literals_have_numbers, number_is_ordered, numbers_are_ordered, numeric_has_numbers}
-use Rattle.spx_sound.proofs.Typings.{joined, tested_in, tested_between, variable_named, Cases, typed_induct, RightSide}
+use Rattle.spx_sound.proofs.Typings.{joined, tested_in, tested_between, variable_named, Cases, typed_induct, RightSide, Maps, maps_numbers, keeps_truths, result_typing}
 
 abbrev pub HasSortOf : Sort → Term → Type 0
 HasSortOf s t = sort_of t ≡ Some s
@@ -78,7 +82,7 @@ class_same class.Integer b h = class_number b (numeric_has_numbers b h)
 class_same class.Boolean b h = class_truth b h
 class_same class.Enumeration b h = class_number b (literals_have_numbers b h)
 
-ordered_sort : (of : ExprType) → is_ordered of ≡ true → sort_of_type of ≡ Integer
+pub ordered_sort : (of : ExprType) → is_ordered of ≡ true → sort_of_type of ≡ Integer
 ordered_sort type.Universal h = refl
 ordered_sort (type.Of base) h = class_number base.class h
 
@@ -200,6 +204,18 @@ signed_sorted prefix.Abs of a fits h =
 signed_sorted prefix.Not of a fits h =
     let sort = ap Some (boolean_sort of fits) in terms.fold-Prefix sort_step Not a ∙ ap (one (sort_of_prefix Not)) (h ∙ sort) ∙ sym sort
 
+-- so does a function of a type
+pub moved_sorted : (by : Shift) (a : Term) → HasSortOf Integer a → HasSortOf Integer (moved_term by a)
+unfolding sort_of_op
+moved_sorted shift.Same a h = h
+moved_sorted shift.Next a h = terms.fold-Infix sort_step operator.Add a (term.Number (pos 1)) ∙ ap₂ (both (sort_of_op operator.Add)) h (terms.fold-Number sort_step (pos 1))
+moved_sorted shift.Previous a h = terms.fold-Infix sort_step operator.Subtract a (term.Number (pos 1)) ∙ ap₂ (both (sort_of_op operator.Subtract)) h (terms.fold-Number sort_step (pos 1))
+
+result_sorted : (m : Mapping) (of : ExprType) (a : Term) → Maps m → is_taken m.operand of ≡ true → HasSortOf (sort_of_type of) a → HasSortOf (sort_of_class m.result.class) (moved_term m.shift a)
+result_sorted m of a (maps_numbers has ordered) taken h = moved_sorted m.shift a (h ∙ ap Some (ordered_sort of (ordered of taken))) ∙ ap Some (sym (class_number m.result.class has))
+result_sorted m of a (keeps_truths has operand same none) taken h =
+    ap (λ s. sort_of (moved_term s a)) same ∙ h ∙ ap Some (is_of_sort m.result of (sym (ap (λ o. is_taken o of) operand) ∙ taken))
+
 -- a comparison of two integers, a conjunction of two truth values, and a negation are truth values
 pub compared_sorted : (o : TermOp) (a b : Term) → sort_of_op o Integer Integer ≡ Some Boolean → HasSortOf Integer a → HasSortOf Integer b → HasSortOf Boolean (term.Infix o a b)
 compared_sorted o a b sort p q = terms.fold-Infix sort_step o a b ∙ ap₂ (both (sort_of_op o)) p q ∙ sort
@@ -208,7 +224,7 @@ pub not_sorted : (a : Term) → HasSortOf Boolean a → HasSortOf Boolean (term.
 unfolding sort_of_prefix
 not_sorted a h = terms.fold-Prefix sort_step Not a ∙ ap (one (sort_of_prefix Not)) h
 
-between_sorted : (t low high : Term) → HasSortOf Integer t → HasSortOf Integer low → HasSortOf Integer high → HasSortOf Boolean (between t low high)
+pub between_sorted : (t low high : Term) → HasSortOf Integer t → HasSortOf Integer low → HasSortOf Integer high → HasSortOf Boolean (between t low high)
 unfolding sort_of_op
 between_sorted t low high p q r =
     terms.fold-Infix sort_step operator.And (term.Infix operator.GreaterOrEqual t low) (term.Infix operator.LessOrEqual t high)
@@ -225,7 +241,7 @@ literal_of_class class.Integer n = terms.fold-Number sort_step n
 literal_of_class class.Boolean n = terms.fold-Truth sort_step (is_true n)
 literal_of_class class.Enumeration n = terms.fold-Number sort_step n
 
-literal_of_type : (of : ExprType) (n : ℤ) → HasSortOf (sort_of_type of) (static_term (value_in of n))
+pub literal_of_type : (of : ExprType) (n : ℤ) → HasSortOf (sort_of_type of) (static_term (value_in of n))
 literal_of_type type.Universal n = terms.fold-Number sort_step n
 literal_of_type (type.Of base) n = literal_of_class base.class n
 
@@ -250,6 +266,9 @@ module _ (p : Program) where
 
   pub declared-Name : (name : CoreName) → AreDeclared p (Name name) → IsAsDeclared p name
   declared-Name name h = (along _ (name ∷ []) (fold-Name names_step name) h).0
+
+  pub declared-Applied : (function : CoreFunction) (place : Place) (a : CoreExpr) → AreDeclared p (Applied function place a) → AreDeclared p a
+  declared-Applied function place a h = along _ (names_read a) (fold-Applied names_step function place a) h
 
   pub declared-Parenthesized : (place : Place) (a : CoreExpr) → AreDeclared p (Parenthesized place a) → AreDeclared p a
   declared-Parenthesized place a h = along _ (names_read a) (fold-Parenthesized names_step place a) h
@@ -296,6 +315,10 @@ module _ (p : Program) where
       named_number = λ name n typed d. sorted_as (Name name) (named (now_term p) (variable_of name.entity)) type.Universal n name.name.place (term_with-Name (now_term p) entered name) typed;
       attribute = λ prefix designator base n has typed d.
           sorted_as (Attribute prefix designator) (term.Number (pos 0)) (type.Of base) n prefix.name.place (term_with-Attribute (now_term p) entered prefix designator) typed;
+      applied = λ function place a m o known maps taken operand typed h d.
+          let t = term_of p entered a in
+          sorted_or (Applied function place a) (mapped_term (application function) t) (result_typing function m o) (term_with-Applied (now_term p) entered function place a) typed
+          (subst (λ j. HasSortOf (sort_of_class m.result.class) (mapped_term j t)) (sym known) (result_sorted m o.of t maps taken (h (declared-Applied function place a d))));
       parenthesized = λ place a o h d. ap sort_of (term_with-Parenthesized (now_term p) entered place a) ∙ h (declared-Parenthesized place a d);
       prefix = λ o place a t fits typed h d.
           sorted_or (Prefix o place a) (signed_term o (term_of p entered a)) (typing t.of (signed_result o t.value) place) (term_with-Prefix (now_term p) entered o place a) typed

@@ -1,14 +1,16 @@
 -- What is known of the parts of what breaks no rule on types.
-use Rattle.std.proofs.Common.{◌≡◌, ℤ, Bool, true, false, ◌&&◌, List, [], ◌∷◌, Option, Some, None, Ok, Err, refl, sym, ap, subst, ◌∙◌}
-use Rattle.std.specs.Prelude.{⊤, All}
+use Rattle.std.proofs.Common.{◌≡◌, ℤ, Bool, true, false, ◌&&◌, List, [], ◌∷◌, Option, Some, None, Ok, Err, refl, sym, ap, subst, ◌∙◌, ℕ, ◌||◌, ◌++◌, not, if◌then◌else◌, inl, inr}
+use Rattle.std.specs.Prelude.{⊤, All, codes, is_ok}
 use Rattle.std.specs.List.{AllByRecursion}
-use Rattle.std.proofs.lemmas.Bool.{and_parts}
+use Rattle.std.proofs.lemmas.Bool.{and_parts, or_cases}
 use Rattle.std.proofs.lemmas.List.Elements.{All-from_recursion, All-weaker}
 use Rattle.spx_text.specs.declared.place.Place.{Place}
 use Rattle.spx_tree.specs.declared.expression.Identifier.{Identifier}
 use Rattle.spx_tree.specs.declared.expression.InfixOp.{InfixOp}
 use Rattle.spx_tree.specs.declared.expression.PrefixOp.{PrefixOp}
 use Rattle.spx_tree.specs.declared.expression.MemberOp.{MemberOp}
+use Rattle.spx_tree.specs.declared.expression.FunctionForm.{FunctionForm}
+use Rattle.spx_tree.specs.declared.expression.FunctionForm.TheVariants as form
 use Rattle.spx_core.specs.declared.entity.TheConstants.{BOOLEAN}
 use Rattle.spx_core.specs.declared.entity.BaseType.{BaseType}
 use Rattle.spx_core.specs.declared.entity.Subtype.{Subtype}
@@ -16,25 +18,35 @@ use Rattle.spx_core.specs.declared.entity.VarId.{VarId}
 use Rattle.spx_core.specs.declared.entity.Object.{Object}
 use Rattle.spx_core.specs.declared.entity.Entity.{Entity}
 use Rattle.spx_core.specs.declared.entity.Entity.TheVariants as entity
+use Rattle.spx_core.specs.declared.entity.Class.{Class}
+use Rattle.spx_core.specs.declared.entity.Class.TheVariants as class
 use Rattle.spx_core.specs.declared.name.CoreName.{CoreName}
 use Rattle.spx_core.specs.declared.name.Reference.{Reference}
 use Rattle.spx_core.specs.declared.expression.CoreExpr.{CoreExpr}
-use Rattle.spx_core.specs.declared.expression.CoreExpr.TheVariants.{Number, Name, Attribute, Parenthesized, Prefix, Infix, InType, InRange}
+use Rattle.spx_core.specs.declared.expression.CoreExpr.TheVariants.{Number, Name, Attribute, Applied, Parenthesized, Prefix, Infix, InType, InRange}
 use Rattle.spx_core.specs.declared.subprogram.Sub.{Sub}
+use Rattle.spx_core.specs.declared.statement.CoreChoice.{CoreChoice}
 use Rattle.spx_core.specs.declared.program.Program.{Program}
 use Rattle.spx_core.specs.declared.rule.ExprType.TheVariants.{Universal, Of}
+use Rattle.spx_core.specs.declared.rule.ExprType.{ExprType}
 use Rattle.spx_core.specs.declared.rule.RuleName.{RuleName}
 use Rattle.spx_core.specs.declared.rule.RuleName.TheVariants.{N10}
 use Rattle.spx_core.specs.declared.rule.Typing.{Typing}
-use Rattle.spx_core.specs.Judged.{Judged, ◌>>=◌, keeps, named_target, each, if_there, typing, attribute_of, is_attribute, named_type, named_value, value_at, ordered_type, member_of_range, member_of_type, operand_of, referred_target, referred_type, target_at, type_at, whole, condition, sign, operation, expr_step, judged}
-use Rattle.spx_core.specs.Commands.{Command, Set, Then, Choose, commands}
+use Rattle.spx_core.specs.declared.function.CoreFunction.{CoreFunction}
+use Rattle.spx_core.specs.declared.function.Mapping.{Mapping}
+use Rattle.spx_core.specs.declared.function.OperandType.TheVariants.{ValueOf}
+use Rattle.spx_core.specs.declared.function.Shift.TheVariants as shift
+use Rattle.spx_core.specs.Judged.{Judged, ◌>>=◌, keeps, named_target, each, if_there, typing, attribute_of, is_attribute, named_type, named_value, value_at, ordered_type, member_of_range, member_of_type, operand_of, referred_target, referred_type, target_at, type_at, whole, condition, sign, operation, expr_step, judged, application, applied_form, attribute_function, bounds_in, conversion, function_at, has_attribute, is_function, is_word, mapped, qualification}
+use Rattle.spx_core.specs.Extents.{extent}
+use Rattle.spx_core.specs.Commands.{Command, Set, Then, Choose, commands, Select, Alternatives, Last, When, choices_in, has_others_last, listed}
 use Rattle.spx_core.specs.Dependency.{relation}
 use Rattle.spx_core.specs.Resolved.{params_of}
-use Rattle.spx_core.specs.Statements.{judged_param, judged_item, judged_pre, judged_decl, judged_command, judged_name, judged_sub, test, Typed}
-use Rattle.spx_core.specs.Types.{both_held, has_numbers, is_held, is_of, is_boolean, left_type, lies_in, member_value, met, operand_fits, operands_fit, position_in, result_of, result_type, right_type, signed_result, three_fit}
+use Rattle.spx_core.specs.Statements.{judged_param, judged_item, judged_pre, judged_decl, judged_command, judged_name, judged_sub, test, Typed, are_given_once, has_right_choices, judged_alternatives, judged_choice, judged_choices, judged_heads, selected}
+use Rattle.spx_core.specs.Types.{both_held, has_numbers, is_held, is_of, is_boolean, left_type, lies_in, member_value, met, operand_fits, operands_fit, position_in, result_of, result_type, right_type, signed_result, three_fit, has_literals, has_truths, is_numeric, is_ordered, is_taken, lies_in_operand, lies_within, shifted_value, span_of}
 use Rattle.spx_core.specs.Uses.{variable_of}
 use Rattle.spx_core.proofs.Callers.Expressions as every
-use Rattle.spx_core.proofs.Callers.Expressions.{fold-Number, fold-Name, fold-Attribute, fold-Parenthesized, fold-Prefix, fold-Infix, fold-InType, fold-InRange}
+use Rattle.spx_core.proofs.Callers.Expressions.{fold-Number, fold-Name, fold-Attribute, fold-Applied, fold-Parenthesized, fold-Prefix, fold-Infix, fold-InType, fold-InRange}
+use Rattle.spx_sound.proofs.Classes.{literals_have_numbers, number_is_ordered, numeric_has_numbers, of_numbers}
 
 -- ---- judgements
 
@@ -174,6 +186,69 @@ ordered_named name subtype h =
     let one = given_is referred.0 subtype numbers.1 in
     (type_referred name referred.0 referred.1 ∙ ap (λ (s : Subtype). Some (entity.TypeName s)) one, ap (λ (s : Subtype). has_numbers s.base.class) (sym one) ∙ numbers.0)
 
+-- ---- functions of a type
+
+-- only a type that has an order has attributes
+attribute_numbers : (subtype : Subtype) (designator : List ℕ) → has_attribute subtype designator ≡ true → has_numbers subtype.base.class ≡ true
+attribute_numbers subtype designator h =
+    elim (or_cases (has_numbers subtype.base.class && is_attribute designator) (has_literals subtype.base.class && is_function subtype.base designator) h) [
+      | inl end ↦ (and_parts _ _ end).0
+      | inr function ↦ literals_have_numbers subtype.base.class (and_parts _ _ function).0
+    ]
+
+-- a function takes numbers to numbers, or leaves truth values as they are
+pub data Maps (m : Mapping) : Type 0 where
+  maps_numbers : has_numbers m.result.class ≡ true → ((of : ExprType) → is_taken m.operand of ≡ true → is_ordered of ≡ true) → Maps m
+  keeps_truths : has_truths m.result.class ≡ true → m.operand ≡ ValueOf m.result → m.shift ≡ shift.Same → m.bounds ≡ None → Maps m
+
+qualification_maps : (subtype : Subtype) (c : Class) → subtype.base.class ≡ c → Maps (qualification subtype)
+qualification_maps subtype class.Integer is = let has = ap has_numbers is in maps_numbers has (λ of taken. of_numbers subtype.base of has taken)
+qualification_maps subtype class.Boolean is = keeps_truths (ap has_truths is) refl refl (ap (λ c. bounds_in c (span_of subtype)) is)
+qualification_maps subtype class.Enumeration is = let has = ap has_numbers is in maps_numbers has (λ of taken. of_numbers subtype.base of has taken)
+
+-- the function of one attribute, or that of another
+either_maps : (b : Bool) (m k : Mapping) (rest : Option Mapping) → Maps m → (rest ≡ Some k → Maps k) → (if b then Some m else rest) ≡ Some k → Maps k
+either_maps true m k rest first more h = subst Maps (let one : m ≡ k = cc in one) first
+either_maps false m k rest first more h = more h
+
+attribute_maps : (base : BaseType) (designator : List ℕ) (m : Mapping) → has_numbers base.class ≡ true → attribute_function base designator ≡ Some m → Maps m
+attribute_maps base designator m has h =
+    either_maps (is_word designator (codes "pos")) _ m _ (maps_numbers refl (λ of taken. of_numbers base of has taken))
+    (either_maps (is_word designator (codes "val")) _ m _ (maps_numbers has number_is_ordered)
+    (either_maps (is_word designator (codes "succ")) _ m _ (maps_numbers has (λ of taken. of_numbers base of has taken))
+    (either_maps (is_word designator (codes "pred")) _ m None (maps_numbers has (λ of taken. of_numbers base of has taken)) (λ none. absurd (cc))))) h
+
+function_is : (place : Place) (o : Option Mapping) (m : Mapping) → function_at place o ≡ Ok m → o ≡ Some m
+function_is place (Some k) m h = ap Some (given_is k m h)
+function_is place None m h = absurd (cc)
+
+form_maps : (place : Place) (subtype : Subtype) (f : FunctionForm) (m : Mapping) → applied_form place subtype f ≡ Ok m → Maps m
+form_maps place subtype form.Simple m h =
+    let known = kept N10 place (is_numeric subtype.base.class) _ m h in subst Maps (given_is (conversion subtype) m known.1) (maps_numbers (numeric_has_numbers subtype.base.class known.0) number_is_ordered)
+form_maps place subtype (form.Attribute designator) m h =
+    let known = kept _ place (has_attribute subtype designator.text) _ m h in
+    attribute_maps subtype.base designator.text m (attribute_numbers subtype designator.text known.0) (function_is place (attribute_function subtype.base designator.text) m known.1)
+form_maps place subtype form.Qualified m h = subst Maps (given_is (qualification subtype) m h) (qualification_maps subtype subtype.base.class refl)
+
+application_maps : (function : CoreFunction) (m : Mapping) → application function ≡ Ok m → Maps m
+application_maps function m h =
+    let named = bound (named_type function.name) (λ subtype. applied_form function.name.name.place subtype function.form) m h in form_maps function.name.name.place named.0 function.form m named.2
+
+-- the typing of what it makes of an operand
+abbrev pub result_typing : CoreFunction → Mapping → Typing → Typing
+result_typing function m o = typing (Of m.result) (shifted_value m.shift o.value) function.name.name.place
+
+result_parts : (function : CoreFunction) (m : Mapping) (o t : Typing) → mapped function.name.name.place m o ≡ Ok t → (is_taken m.operand o.of ≡ true) × AreOne (result_typing function m o) t
+result_parts function m o t h =
+    let place = function.name.name.place in
+    let taken = kept _ o.place (is_taken m.operand o.of) _ t h in
+    let lies = kept _ o.place (lies_in_operand m.operand o.value) _ t taken.1 in
+    let held = kept _ place (is_held o.value (shifted_value m.shift o.value)) _ t lies.1 in
+    let within = kept _ place (lies_within m.bounds (shifted_value m.shift o.value)) _ t held.1 in
+    (taken.0, within.1)
+
+-- ---- all forms
+
 -- what is shown of each form, of the parts of which it is known, is shown of every expression that breaks no rule
 pub record Cases (P : CoreExpr → Typing → Type 0) : Type 0 where
   pub number : (n : ℤ) (place : Place) → P (Number n place) (typing Universal (Some n) place)
@@ -183,6 +258,8 @@ pub record Cases (P : CoreExpr → Typing → Type 0) : Type 0 where
   pub named_number : (name : CoreName) (n : ℤ) → judged (Name name) ≡ Ok (typing Universal (Some n) name.name.place) → P (Name name) (typing Universal (Some n) name.name.place)
   pub attribute : (prefix : CoreName) (designator : Identifier) (base : BaseType) (n : ℤ) → has_numbers base.class ≡ true → judged (Attribute prefix designator) ≡ Ok (typing (Of base) (Some n) prefix.name.place)
       → P (Attribute prefix designator) (typing (Of base) (Some n) prefix.name.place)
+  pub applied : (function : CoreFunction) (place : Place) (a : CoreExpr) (m : Mapping) (o : Typing) → application function ≡ Ok m → Maps m → is_taken m.operand o.of ≡ true → judged a ≡ Ok o
+      → judged (Applied function place a) ≡ Ok (result_typing function m o) → P a o → P (Applied function place a) (result_typing function m o)
   pub parenthesized : (place : Place) (a : CoreExpr) (o : Typing) → P a o → P (Parenthesized place a) (typing o.of o.value place)
   pub prefix : (op : PrefixOp) (place : Place) (a : CoreExpr) (o : Typing) → operand_fits op o.of ≡ true → judged (Prefix op place a) ≡ Ok (typing o.of (signed_result op o.value) place) → P a o
       → P (Prefix op place a) (typing o.of (signed_result op o.value) place)
@@ -214,10 +291,19 @@ module _ (P : CoreExpr → Typing → Type 0) (c : Cases P) where
     attribute = λ prefix designator t h.
         let subtype = bound (named_type prefix) _ t (sym (fold-Attribute expr_step prefix designator) ∙ h) in
         let base = subtype.0.base in
-        let known = kept _ prefix.name.place (has_numbers base.class && is_attribute designator.text) _ t subtype.2 in
+        let known = kept _ prefix.name.place (has_attribute subtype.0 designator.text) _ t subtype.2 in
+        let end = kept _ prefix.name.place (is_attribute designator.text) _ t known.1 in
         let n = attribute_of subtype.0 designator.text in
-        typing_is (Attribute prefix designator) t (typing (Of base) (Some n) prefix.name.place) known.1
-        (c.attribute prefix designator base n (and_parts (has_numbers base.class) (is_attribute designator.text) known.0).0 (h ∙ sym known.1));
+        typing_is (Attribute prefix designator) t (typing (Of base) (Some n) prefix.name.place) end.1
+        (c.attribute prefix designator base n (attribute_numbers subtype.0 designator.text known.0) (h ∙ sym end.1));
+    applied = λ function place a p t h.
+        let known = bound (application function) (λ m. judged a >>= λ o. mapped function.name.name.place m o) t (sym (fold-Applied expr_step function place a) ∙ h) in
+        let m = known.0 in
+        let operand = bound (judged a) (λ o. mapped function.name.name.place m o) t known.2 in
+        let o = operand.0 in
+        let parts = result_parts function m o t operand.2 in
+        typing_is (Applied function place a) t (result_typing function m o) parts.1
+        (c.applied function place a m o known.1 (application_maps function m known.1) parts.0 operand.1 (h ∙ sym parts.1) (p o operand.1));
     parenthesized = λ place a p t h.
         let operand = bound (judged a) (λ o. Ok (typing o.of o.value place)) t (sym (fold-Parenthesized expr_step place a) ∙ h) in
         typing_is (Parenthesized place a) t (typing operand.0.of operand.0.value place) operand.2 (c.parenthesized place a operand.0 (p operand.0 operand.1));
@@ -288,6 +374,56 @@ arms_typed place e a b h =
     let first = bound (test e) (λ _. judged_command a >>= λ _. judged_command b) tt h in
     let arms = both_typed a b first.2 in
     (first.1, arms.0, arms.1)
+
+-- so are the alternatives for a selector of a type
+abbrev pub AreTyped : ExprType → Alternatives → Type 0
+AreTyped of alternatives = judged_alternatives of alternatives ≡ Ok tt
+
+-- a selector has an order, and each value that it may have has one alternative
+pub record TypedSelect (selector : CoreExpr) (alternatives : Alternatives) : Type 0 where
+  pub typing : Typing
+  pub typed : judged selector ≡ Ok typing
+  pub ordered : is_ordered typing.of ≡ true
+  pub others_last : has_others_last alternatives ≡ true
+  pub once : are_given_once (extent selector) alternatives ≡ true
+  pub parts : AreTyped typing.of alternatives
+
+pub last_typed : (of : ExprType) (choices : Option (List CoreChoice)) (a : Command) → AreTyped of (Last choices a) → (judged_choices of choices ≡ Ok tt) × IsTyped a
+last_typed of choices a h = let first = bound (judged_choices of choices) (λ _. judged_command a) tt h in (first.1, first.2)
+
+pub when_typed : (of : ExprType) (choices : Option (List CoreChoice)) (a : Command) (rest : Alternatives) → AreTyped of (When choices a rest) → (judged_choices of choices ≡ Ok tt) × IsTyped a × AreTyped of rest
+when_typed of choices a rest h =
+    let first = bound (judged_choices of choices) (λ _. judged_command a >>= λ _. judged_alternatives of rest) tt h in
+    let second = bound (judged_command a) (λ _. judged_alternatives of rest) tt first.2 in
+    (first.1, second.1, second.2)
+
+both_judged : {A : Type 0} (f : A → Judged ⊤) (xs ys : List A) → each f xs ≡ Ok tt → each f ys ≡ Ok tt → each f (xs ++ ys) ≡ Ok tt
+both_judged f [] ys h k = k
+both_judged f (x ∷ xs) ys h k = let parts = bound (f x) (λ _. each f xs) tt h in ap (λ (r : Judged ⊤). r >>= λ _. each f (xs ++ ys)) parts.1 ∙ both_judged f xs ys parts.2 k
+
+-- all choices break no rule
+choices_judged : (of : ExprType) (alternatives : Alternatives) → AreTyped of alternatives → each (judged_choice of) (choices_in alternatives) ≡ Ok tt
+choices_judged of (Last choices a) h = (last_typed of choices a h).0
+choices_judged of (When choices a rest) h = let parts = when_typed of choices a rest h in both_judged (judged_choice of) (listed choices) (choices_in rest) parts.0 (choices_judged of rest parts.2)
+
+pub select_typed : (place : Place) (selector : CoreExpr) (alternatives : Alternatives) → IsTyped (Select place selector alternatives) → TypedSelect selector alternatives
+select_typed place selector alternatives h =
+    let right = kept _ place (has_right_choices selector alternatives) _ tt h in
+    let known = bound (selected selector) (λ of. judged_alternatives of alternatives) tt right.1 in
+    let whole = bound (judged selector) _ known.0 known.1 in
+    let ordered = kept _ whole.0.place (is_ordered whole.0.of) _ known.0 whole.2 in
+    let one = given_is whole.0.of known.0 ordered.1 in
+    let parts = subst (λ of. AreTyped of alternatives) (sym one) known.2 in
+    let rules = and_parts (has_others_last alternatives) _ right.0 in
+    let heads : judged_heads selector alternatives ≡ Ok tt = ap (λ (r : Judged ExprType). r >>= λ of. each (judged_choice of) (choices_in alternatives)) known.1 ∙ choices_judged known.0 alternatives known.2 in
+    record {
+      typing = whole.0;
+      typed = whole.1;
+      ordered = ordered.0;
+      others_last = rules.0;
+      once = sym (ap (λ (r : Judged ⊤). not (is_ok r) || are_given_once (extent selector) alternatives) heads) ∙ rules.1;
+      parts = parts;
+    }
 
 -- the precondition and the statements of a subprogram break no rule
 pub record TypedSub (sub : Sub) : Type 0 where

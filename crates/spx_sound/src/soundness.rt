@@ -3,7 +3,7 @@ ghost use Rattle.spx_paths.specs.Fit.{Clean, Fit};
 ghost use Rattle.spx_meaning.specs.Laws.{NeverBad};
 
 use spx_core::Program;
-use spx_core::laws::{names_are_scoped, rules_hold};
+use spx_core::laws::{initial_values_fit, names_are_scoped, rules_hold};
 
 /// Conditions that need no proof are valid.
 pub fn clean_is_fit(program: &Program)
@@ -18,5 +18,6 @@ pub fn never_bad(program: &Program)
     ensures { Fit program.now → NeverBad program.now }
 {
     names_are_scoped();
+    initial_values_fit();
     rules_hold();
 }

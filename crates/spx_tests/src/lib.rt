@@ -8,8 +8,6 @@ mod folding;
 #[cfg(test)]
 mod lexemes;
 #[cfg(test)]
-mod negation;
-#[cfg(test)]
 mod numbers;
 #[cfg(test)]
 mod outside;
@@ -23,7 +21,5 @@ mod sequents;
 mod sharing;
 #[cfg(test)]
 mod stores;
-#[cfg(test)]
-mod trees;
 #[cfg(test)]
 mod units;

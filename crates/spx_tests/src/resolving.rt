@@ -1,14 +1,15 @@
 // Programs that are made from units.
 use spx_core::{
-    Breach, CoreDecl, CoreStmt, Entity, INTEGER, RuleName, TypeRow, VarId, variable_of,
+    Breach, CoreDecl, CoreFunction, CoreName, CoreStmt, Entity, INTEGER, INTEGER_FIRST,
+    INTEGER_LAST, RuleName, Span, TypeRow, VarId, variable_of,
 };
 use spx_resolve::make_program;
 use spx_text::{Place, Text};
 use spx_tree::{
-    Decl, Expr, FormalPart, Identifier, Name, Param, Range, Stmt, Subprogram, TypeDef, Unit,
-    WrittenMode,
+    Decl, Expr, FormalPart, FunctionForm, Identifier, Name, Param, Range, Stmt, Subprogram,
+    TypeDef, Unit, WrittenMode,
 };
-use spx_types::{TypeFault, type_row};
+use spx_types::{TypeFault, application, type_row};
 use sqlite_items::Items;
 use std::alloc::{AllocError, Global};
 use std::test::Fail;
@@ -72,11 +73,12 @@ fn types(alloc: Global) -> Result<Items<Decl>, AllocError> {
     Ok(declarations)
 }
 
-// procedure Set (X : in out Integer) is (the types) x : Integer; begin x := 7; end;
+// procedure Set (X : in out Integer) is (the types) x : Integer := 3; begin x := 7; end;
 fn units(alloc: Global) -> Result<Items<Unit>, AllocError> {
     let mut declarations = types(alloc)?;
     let type_name = Name::Simple(identifier(alloc, "Integer")?);
-    declarations.push(Decl::Variables(identifiers(alloc, "x")?, type_name))?;
+    let three = Some(Expr::Number(3, here()));
+    declarations.push(Decl::Variables(identifiers(alloc, "x")?, type_name, three))?;
     let mut statements = Items::new(alloc);
     let target = Name::Simple(identifier(alloc, "x")?);
     statements.push(Stmt::Assignment(target, Expr::Number(7, here())))?;
@@ -107,7 +109,8 @@ fn a_program_is_made(rt: HostRuntime) -> Result<(), Fail> {
     for sub in program.subs.as_slice() {
         assert_eq!(rt; sub.formal_count, 1);
         for decl in sub.declarations.as_slice() {
-            if let CoreDecl::Variables(names, type_name) = decl {
+            if let CoreDecl::Variables(names, type_name, value) = decl {
+                assert!(rt; value.is_some());
                 assert!(rt; names.as_slice().iter().all(|name| name.again));
                 assert_eq!(rt; type_name.root.entity, Some(Entity::TypeName(INTEGER)));
             }
@@ -118,6 +121,24 @@ fn a_program_is_made(rt: HostRuntime) -> Result<(), Fail> {
             }
         }
     }
+    Ok(())
+}
+
+#[test]
+fn a_conversion_has_the_bounds_of_its_type(rt: HostRuntime) -> Result<(), Fail> {
+    let function = CoreFunction {
+        name: CoreName {
+            name: identifier(rt.alloc(), "Integer")?,
+            entity: Some(Entity::TypeName(INTEGER)),
+        },
+        form: FunctionForm::Simple,
+    };
+    let bounds = Span {
+        first: INTEGER_FIRST,
+        last: INTEGER_LAST,
+    };
+    let mapping = application(&function).ok();
+    assert_eq!(rt; mapping.and_then(|mapping| mapping.bounds), Some(bounds));
     Ok(())
 }
 

@@ -1,6 +1,6 @@
 // Sequents that need no proof.
 use spx_simplify::closes;
-use spx_term::{Name, Sequent, Sort, Symbol, Term, TermOp, TermPrefix};
+use spx_term::{Name, Sequent, Sort, Symbol, Term, TermOp};
 use sqlite_items::Items;
 use std::alloc::{AllocError, Global};
 use std::test::Fail;
@@ -75,42 +75,6 @@ fn closes_by_intervals(rt: HostRuntime) -> Result<(), Fail> {
     Ok(())
 }
 
-/// Whether `- X op bound` closes under the hypotheses `X >= low` and `X <= high`.
-fn closes_minus(
-    alloc: Global,
-    (low, high): (i128, i128),
-    (op, bound): (TermOp, i128),
-) -> Result<bool, AllocError> {
-    let mut hyps = Items::new(alloc);
-    for (op, value) in [(TermOp::GreaterOrEqual, low), (TermOp::LessOrEqual, high)] {
-        hyps.push(Term::infix(alloc, op, variable(), Term::Number(value))?)?;
-    }
-    let left = Term::prefix(alloc, TermPrefix::Minus, variable())?;
-    let goal = Term::infix(alloc, op, left, Term::Number(bound))?;
-    closes(alloc, &Sequent { hyps, goal })
-}
-
-#[test]
-fn closes_a_minus(rt: HostRuntime) -> Result<(), Fail> {
-    use TermOp::{Equal, GreaterOrEqual, LessOrEqual};
-    for (range, comparison, closed) in [
-        ((FIRST, LAST), (LessOrEqual, LAST), false),
-        ((FIRST + 1, LAST), (LessOrEqual, LAST), true),
-        ((FIRST, LAST), (GreaterOrEqual, FIRST), true),
-        ((2, 3), (GreaterOrEqual, -3), true),
-        ((2, 3), (GreaterOrEqual, -2), false),
-        ((2, 3), (LessOrEqual, -2), true),
-        ((2, 3), (LessOrEqual, -3), false),
-        ((3, 3), (Equal, -3), true),
-        ((-GREATEST - 1, 0), (LessOrEqual, GREATEST), false),
-        ((-GREATEST, 0), (LessOrEqual, GREATEST), true),
-    ] {
-        let answer = closes_minus(rt.alloc(), range, comparison)?;
-        assert_eq!(rt; answer, closed, "{range:?} {comparison:?}");
-    }
-    Ok(())
-}
-
 /// Whether `((0 + X) /= 7) and (X op 7)` closes under a hypothesis.
 fn closes_conjunction(alloc: Global, hyp: Term, op: TermOp) -> Result<bool, AllocError> {
     let mut hyps = Items::new(alloc);
@@ -134,31 +98,6 @@ fn closes_by_form(rt: HostRuntime) -> Result<(), Fail> {
         let hyp = Term::infix(rt.alloc(), op, variable(), right)?;
         let answer = closes_conjunction(rt.alloc(), hyp, second)?;
         assert_eq!(rt; answer, closed, "{op:?} {second:?}");
-    }
-    Ok(())
-}
-
-fn above_one(alloc: Global) -> Result<Term, AllocError> {
-    Term::infix(alloc, TermOp::Greater, variable(), Term::Number(1))
-}
-
-/// Whether `X < bound` closes under a hypothesis.
-fn closes_below(alloc: Global, hyp: Term, bound: i128) -> Result<bool, AllocError> {
-    let mut hyps = Items::new(alloc);
-    hyps.push(hyp)?;
-    let goal = Term::infix(alloc, TermOp::Less, variable(), Term::Number(bound))?;
-    closes(alloc, &Sequent { hyps, goal })
-}
-
-#[test]
-fn closes_by_a_negation(rt: HostRuntime) -> Result<(), Fail> {
-    let alloc = rt.alloc();
-    for (bound, closed) in [(2, true), (1, false)] {
-        let negation = Term::prefix(alloc, TermPrefix::Not, above_one(alloc)?)?;
-        assert_eq!(rt; closes_below(alloc, negation, bound)?, closed);
-        let above = above_one(alloc)?;
-        let implication = Term::infix(alloc, TermOp::Implies, above, Term::Truth(false))?;
-        assert_eq!(rt; closes_below(alloc, implication, bound)?, closed);
     }
     Ok(())
 }
@@ -187,21 +126,6 @@ fn closes_a_deep_sum(rt: HostRuntime) -> Result<(), Fail> {
         let sum = sum_of_ones(alloc, 700)?;
         let goal = Term::infix(alloc, TermOp::LessOrEqual, sum, Term::Number(bound))?;
         assert_eq!(rt; closes_at_most_zero(alloc, goal)?, closed, "{bound}");
-    }
-    Ok(())
-}
-
-#[test]
-fn closes_a_deep_conjunction(rt: HostRuntime) -> Result<(), Fail> {
-    let alloc = rt.alloc();
-    for (last, closed) in [(1, true), (0, false)] {
-        let mut goal = Term::infix(alloc, TermOp::Less, variable(), Term::Number(last))?;
-        for at in 1..700usize {
-            let bound = Term::Number(at as i128);
-            let first = Term::infix(alloc, TermOp::Less, variable(), bound)?;
-            goal = Term::infix(alloc, TermOp::And, first, goal)?;
-        }
-        assert_eq!(rt; closes_at_most_zero(alloc, goal)?, closed, "{last}");
     }
     Ok(())
 }

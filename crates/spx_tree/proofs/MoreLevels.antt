@@ -1,9 +1,12 @@
 -- What is a text within so many levels is one within more.
 use Rattle.std.proofs.Common.{ℕ, zero, suc, ◌-◌, ◌≤◌, List, [], ◌∷◌, Option, Some, None, arith}
 use Rattle.spx_tree.specs.declared.expression.Layer.{Layer}
+use Rattle.spx_tree.specs.declared.expression.Layer.TheVariants as layer
 use Rattle.spx_tree.specs.declared.expression.Expr.{Expr}
 use Rattle.spx_tree.specs.declared.statement.Stmt.{Stmt, Stmt-F, out-Stmt}
 use Rattle.spx_tree.specs.declared.statement.Arm.{Arm, out-Arm}
+use Rattle.spx_tree.specs.declared.statement.Alternative.{Alternative, out-Alternative}
+use Rattle.spx_tree.specs.declared.statement.Choice.{Choice}
 use Rattle.spx_tree.specs.declared.declaration.Decl.{Decl}
 use Rattle.spx_tree.specs.declared.declaration.Decl.TheVariants as decl
 use Rattle.spx_tree.specs.declared.declaration.Range.{Range}
@@ -12,7 +15,7 @@ use Rattle.spx_tree.specs.declared.declaration.TypeDef.TheVariants as definition
 use Rattle.spx_tree.specs.declared.annotation.Precondition.{Precondition}
 use Rattle.spx_tree.specs.declared.subprogram.Unit.{Unit}
 use Rattle.spx_tree.specs.declared.subprogram.Unit.TheVariants as unit
-use Rattle.spx_tree.specs.Grammar.{Each, OneOrMore, OfLayer, IsArm, IsFormed, Within, IsStmt, IsStmts, IsPrecondition, IfThere, IsDecl, IsDefinition, IsRange, IsUnit, IsFile}
+use Rattle.spx_tree.specs.Grammar.{Each, OneOrMore, OfLayer, IsArm, IsChoice, IsAlternative, IsExpr, IsFormed, Within, IsStmt, IsStmts, IsPrecondition, IfThere, IsDecl, IsDefinition, IsRange, IsUnit, IsFile}
 
 each_more : {A : Type 0} (P Q : A → Type 0) → ((x : A) → P x → Q x) → (xs : List A) → Each P xs → Each Q xs
 each_more P Q h [] f = tt
@@ -34,11 +37,23 @@ module _ (m n : ℕ) (le : m ≤ n) (inner : (x : Stmt) → Within m x → Withi
   arm_more : (x : Arm) → IsArm m (Within m) (out-Arm x) → IsArm n (Within n) (out-Arm x)
   arm_more x f = (layer_more (m - 1) (n - 1) (omega arith) _ (out-Arm x).condition f.0, one_more (Within m) (Within n) inner (out-Arm x).body f.1)
 
-  formed_more : (y : Stmt-F Stmt Arm) → IsFormed m (Within m) y → IsFormed n (Within n) y
+  choice_more : (x : Choice) → IsChoice (m - 1) x → IsChoice (n - 1) x
+  choice_more x f = record {
+    low = layer_more (m - 1) (n - 1) (omega arith) _ x.low f.low;
+    high = there_more (OfLayer layer.Sum (m - 1)) (OfLayer layer.Sum (n - 1)) (layer_more (m - 1) (n - 1) (omega arith) layer.Sum) x.high f.high;
+  }
+
+  alternative_more : (x : Alternative) → IsAlternative m (Within m) (out-Alternative x) → IsAlternative n (Within n) (out-Alternative x)
+  alternative_more x f =
+      (there_more (OneOrMore (IsChoice (m - 1))) (OneOrMore (IsChoice (n - 1))) (one_more (IsChoice (m - 1)) (IsChoice (n - 1)) choice_more) (out-Alternative x).choices f.0, one_more (Within m) (Within n) inner (out-Alternative x).body f.1)
+
+  formed_more : (y : Stmt-F Stmt Alternative Arm) → IsFormed m (Within m) y → IsFormed n (Within n) y
   formed_more (Stmt-F.Null place) f = tt
   formed_more (Stmt-F.Assignment target e) f = layer_more m n le _ e f
   formed_more (Stmt-F.If arms otherwise closing) f =
       (let some = f.0 in omega arith, one_more (λ a. IsArm m (Within m) (out-Arm a)) (λ a. IsArm n (Within n) (out-Arm a)) arm_more arms f.1, there_more (OneOrMore (Within m)) (OneOrMore (Within n)) (one_more (Within m) (Within n) inner) otherwise f.2)
+  formed_more (Stmt-F.Case place selector alternatives closing) f =
+      (let some = f.0 in omega arith, layer_more (m - 1) (n - 1) (omega arith) _ selector f.1, one_more (λ a. IsAlternative m (Within m) (out-Alternative a)) (λ a. IsAlternative n (Within n) (out-Alternative a)) alternative_more alternatives f.2)
 
 within_more : (m n : ℕ) → m ≤ n → (x : Stmt) → Within m x → Within n x
 within_more zero n le x f = absurd f
@@ -64,7 +79,7 @@ module _ (m n : ℕ) (le : m ≤ n) where
   definition_more (definition.Enumeration place literals) f = f
 
   decl_more : (x : Decl) → IsDecl m x → IsDecl n x
-  decl_more (decl.Variables names type_name) f = f
+  decl_more (decl.Variables names type_name value) f = (f.0, there_more (IsExpr m) (IsExpr n) (layer_more m n le _) value f.1)
   decl_more (decl.Constants names type_name value) f = (f.0, layer_more m n le _ value f.1)
   decl_more (decl.FullType name definition) f = definition_more definition f
   decl_more (decl.Subtype name parent range) f = there_more (IsRange m) (IsRange n) range_more range f

@@ -57,6 +57,7 @@ keeps k.Null = ItsPlace
 keeps k.End = ItsPlace
 keeps k.If = ItsPlace
 keeps k.Elsif = ItsPlace
+keeps k.Case = ItsPlace
 keeps _ = KindAlone
 
 -- the bytes of a token

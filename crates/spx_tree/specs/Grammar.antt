@@ -17,6 +17,8 @@ use Rattle.spx_tree.specs.declared.declaration.TypeDef.{TypeDef}
 use Rattle.spx_tree.specs.declared.declaration.TypeDef.TheVariants as definition
 use Rattle.spx_tree.specs.declared.statement.Stmt.{Stmt, Stmt-F, out-Stmt}
 use Rattle.spx_tree.specs.declared.statement.Arm.{Arm, Arm-F, out-Arm}
+use Rattle.spx_tree.specs.declared.statement.Alternative.{Alternative, Alternative-F, out-Alternative}
+use Rattle.spx_tree.specs.declared.statement.Choice.{Choice}
 use Rattle.spx_tree.specs.declared.annotation.Exports.{Exports}
 use Rattle.spx_tree.specs.declared.annotation.Exports.TheVariants as exported
 use Rattle.spx_tree.specs.declared.annotation.Imports.{Imports}
@@ -28,7 +30,7 @@ use Rattle.spx_tree.specs.declared.subprogram.FormalPart.{FormalPart}
 use Rattle.spx_tree.specs.declared.subprogram.Subprogram.{Subprogram}
 use Rattle.spx_tree.specs.declared.subprogram.Unit.{Unit}
 use Rattle.spx_tree.specs.declared.subprogram.Unit.TheVariants as unit
-use Rattle.spx_tree.specs.Written.{parenthesized, signed, operation, in_type, in_range}
+use Rattle.spx_tree.specs.Written.{applied, parenthesized, signed, operation, in_type, in_range}
 
 -- Lists.
 
@@ -61,6 +63,7 @@ IsNames names = OneOrMore (λ name. ⊤) names
 abbrev pub height : Expr → ℕ
 height (expr.Number value place) = 0
 height (expr.Name name) = 0
+height (applied function place operand) = height operand + 1
 height (parenthesized place inner) = height inner + 1
 height (signed op place operand) = height operand + 1
 height (operation op place left right) = max (height left) (height right) + 1
@@ -111,6 +114,7 @@ layer_in (operation op place left right) = layer_of op
 layer_in (signed op place operand) = layer_before op
 layer_in (in_type op place tested type_name) = layer.Relation
 layer_in (in_range op place tested low high) = layer.Relation
+layer_in (applied function place operand) = layer.Primary
 layer_in (parenthesized place inner) = layer.Primary
 layer_in (expr.Number value place) = layer.Primary
 layer_in (expr.Name name) = layer.Primary
@@ -121,6 +125,7 @@ HasOperator op (operation other place left right) = other ≡ op
 HasOperator op (signed other place operand) = ⊥
 HasOperator op (in_type other place tested type_name) = ⊥
 HasOperator op (in_range other place tested low high) = ⊥
+HasOperator op (applied function place operand) = ⊥
 HasOperator op (parenthesized place inner) = ⊥
 HasOperator op (expr.Number value place) = ⊥
 HasOperator op (expr.Name name) = ⊥
@@ -162,6 +167,7 @@ IsUpTo layer e = rank (layer_in e) ≤ rank layer
 abbrev pub Layered : Expr → Type 0
 Layered (expr.Number value place) = ⊤
 Layered (expr.Name name) = ⊤
+Layered (applied function place operand) = Layered operand
 Layered (parenthesized place inner) = Layered inner
 Layered (signed op place operand) = Layered operand × IsUpTo (operand_layer op) operand
 Layered (operation op place left right) = Layered left × Layered right × LeftFits op left × IsUpTo (right_layer (layer_of op)) right
@@ -171,7 +177,8 @@ Layered (in_range op place tested low high) = Layered tested × IsUpTo layer.Sum
 -- An expression of this layer, or of one before it, within so many levels:
 -- expression = relation {"and" relation} | relation {"or" relation} | relation {"xor" relation} | relation {"and" "then" relation} | relation {"or" "else" relation}
 -- relation = sum [relational operator sum] | sum ["not"] "in" (name | sum ".." sum);  sum = [sign] term {adding operator term}
--- term = factor {multiplying operator factor};  factor = primary ["**" primary] | "abs" primary | "not" primary;  primary = number | name | "(" expression ")"
+-- term = factor {multiplying operator factor};  factor = primary ["**" primary] | "abs" primary | "not" primary
+-- primary = number | name | identifier ["'" identifier] "(" expression ")" | identifier "'" "(" expression ")" | "(" expression ")"
 pub record OfLayer (layer : Layer) (levels : ℕ) (e : Expr) : Type 0 where
   pub low : height e ≤ levels
   pub layered : Layered e
@@ -193,10 +200,10 @@ abbrev pub IsDefinition : ℕ → TypeDef → Type 0
 IsDefinition levels (definition.Integer range) = IsRange levels range
 IsDefinition levels (definition.Enumeration place literals) = IsIdentifiers literals
 
--- identifiers ":" name ";" | identifiers ":" "constant" [name] ":=" expression ";" (Ada 95 RM 3.3.1, 3.3.2)
+-- identifiers ":" name [":=" expression] ";" | identifiers ":" "constant" [name] ":=" expression ";" (Ada 95 RM 3.3.1, 3.3.2)
 -- | "type" identifier "is" definition ";" (3.2.1) | "subtype" identifier "is" name ["range" range] ";" (3.2.2)
 abbrev pub IsDecl : ℕ → Decl → Type 0
-IsDecl levels (decl.Variables names type_name) = IsIdentifiers names
+IsDecl levels (decl.Variables names type_name value) = IsIdentifiers names × IfThere (IsExpr levels) value
 IsDecl levels (decl.Constants names type_name value) = IsIdentifiers names × IsExpr levels value
 IsDecl levels (decl.FullType name definition) = IsDefinition levels definition
 IsDecl levels (decl.Subtype name parent range) = IfThere (IsRange levels) range
@@ -204,21 +211,33 @@ IsDecl levels (decl.Subtype name parent range) = IfThere (IsRange levels) range
 -- Statements (Ada 95 RM 5).
 
 -- an arm whose condition and statements are one level down
-abbrev pub IsArm : ℕ → (Stmt → Type 0) → Arm-F Stmt Arm → Type 0
+abbrev pub IsArm : ℕ → (Stmt → Type 0) → Arm-F Stmt Alternative Arm → Type 0
 IsArm levels Inner arm = IsExpr (levels - 1) arm.condition × OneOrMore Inner arm.body
 
+-- sum [".." sum] (Ada 95 RM 3.8.1)
+pub record IsChoice (levels : ℕ) (choice : Choice) : Type 0 where
+  pub low : OfLayer layer.Sum levels choice.low
+  pub high : IfThere (OfLayer layer.Sum levels) choice.high
+
+-- an alternative whose choices and statements are one level down
+abbrev pub IsAlternative : ℕ → (Stmt → Type 0) → Alternative-F Stmt Alternative Arm → Type 0
+IsAlternative levels Inner alternative = IfThere (OneOrMore (IsChoice (levels - 1))) alternative.choices × OneOrMore Inner alternative.body
+
 -- one level: "null" ";" (Ada 95 RM 5.1) | name ":=" expression ";" (5.2) | "if" arm {"elsif" arm} ["else" statements] "end" "if" ";" (5.3)
-abbrev pub IsFormed : ℕ → (Stmt → Type 0) → Stmt-F Stmt Arm → Type 0
+-- | "case" expression "is" alternative {alternative} "end" "case" ";" (5.4)
+abbrev pub IsFormed : ℕ → (Stmt → Type 0) → Stmt-F Stmt Alternative Arm → Type 0
 IsFormed levels Inner (Stmt-F.Null place) = ⊤
 IsFormed levels Inner (Stmt-F.Assignment target value) = IsExpr levels value
 IsFormed levels Inner (Stmt-F.If arms otherwise closing) = (0 < levels) × OneOrMore (λ arm. IsArm levels Inner (out-Arm arm)) arms × IfThere (OneOrMore Inner) otherwise
+IsFormed levels Inner (Stmt-F.Case place selector alternatives closing) =
+    (0 < levels) × IsExpr (levels - 1) selector × OneOrMore (λ alternative. IsAlternative levels Inner (out-Alternative alternative)) alternatives
 
 -- a statement one level below a place where so many levels are left
 abbrev pub Within : ℕ → Stmt → Type 0
 Within zero x = ⊥
 Within (suc levels) x = IsFormed levels (Within levels) (out-Stmt x)
 
--- a statement within so many levels: an "if" opens one
+-- a statement within so many levels: an "if" and a "case" open one
 abbrev pub IsStmt : ℕ → Stmt → Type 0
 IsStmt levels x = IsFormed levels (Within levels) (out-Stmt x)
 

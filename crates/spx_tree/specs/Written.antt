@@ -14,7 +14,10 @@ use Rattle.spx_tree.specs.declared.expression.Name.{Name}
 use Rattle.spx_tree.specs.declared.expression.Name.TheVariants.{Simple, Attribute}
 use Rattle.spx_tree.specs.declared.expression.Expr.{Expr, end_of-Expr, more_of-Expr}
 use Rattle.spx_tree.specs.declared.expression.Expr.TheVariants as expr
-use Rattle.spx_tree.specs.declared.expression.Expr.TheVariants.{Parenthesized', Prefix', Infix', InType', InRange'}
+use Rattle.spx_tree.specs.declared.expression.Expr.TheVariants.{Applied', Parenthesized', Prefix', Infix', InType', InRange'}
+use Rattle.spx_tree.specs.declared.expression.Function.{Function}
+use Rattle.spx_tree.specs.declared.expression.FunctionForm.{FunctionForm}
+use Rattle.spx_tree.specs.declared.expression.FunctionForm.TheVariants as function
 use Rattle.spx_tree.specs.declared.declaration.Decl.{Decl}
 use Rattle.spx_tree.specs.declared.declaration.Decl.TheVariants as decl
 use Rattle.spx_tree.specs.declared.declaration.Range.{Range}
@@ -22,6 +25,8 @@ use Rattle.spx_tree.specs.declared.declaration.TypeDef.{TypeDef}
 use Rattle.spx_tree.specs.declared.declaration.TypeDef.TheVariants as definition
 use Rattle.spx_tree.specs.declared.statement.Stmt.{Stmt, Stmt-F, fold-Stmt}
 use Rattle.spx_tree.specs.declared.statement.Arm.{Arm, Arm-F, fold-Arm}
+use Rattle.spx_tree.specs.declared.statement.Alternative.{Alternative, Alternative-F, fold-Alternative}
+use Rattle.spx_tree.specs.declared.statement.Choice.{Choice}
 use Rattle.spx_tree.specs.declared.annotation.Exports.{Exports}
 use Rattle.spx_tree.specs.declared.annotation.Exports.TheVariants as exported
 use Rattle.spx_tree.specs.declared.annotation.DerivesItem.{DerivesItem}
@@ -127,6 +132,16 @@ sign_kind sign.Minus = k.Minus
 sign_kind sign.Abs = k.Abs
 sign_kind sign.Not = k.Not
 
+-- nothing | "'" identifier | "'"
+abbrev pub written_form : Bool → FunctionForm → List Form
+written_form marked function.Simple = []
+written_form marked (function.Attribute designator) = bare marked k.Apostrophe ∷ named marked designator ∷ []
+written_form marked function.Qualified = bare marked k.Apostrophe ∷ []
+
+-- a function and its operand
+pattern abbrev pub applied : Function → Place → Expr → Expr
+applied function place operand = Applied' function place tt (more_of-Expr operand end_of-Expr)
+
 -- an expression in parentheses
 pattern abbrev pub parenthesized : Place → Expr → Expr
 parenthesized place inner = Parenthesized' place tt (more_of-Expr inner end_of-Expr)
@@ -147,10 +162,12 @@ in_type op place tested type_name = InType' op place tt (more_of-Expr tested end
 pattern abbrev pub in_range : MemberOp → Place → Expr → Expr → Expr → Expr
 in_range op place tested low high = InRange' op place tt (more_of-Expr tested end_of-Expr) tt (more_of-Expr low end_of-Expr) tt (more_of-Expr high end_of-Expr)
 
--- number | name | "(" expression ")" | operator operand | operand operator operand | operand ["not"] "in" name | operand ["not"] "in" operand ".." operand
+-- number | name | function "(" expression ")" | "(" expression ")" | operator operand | operand operator operand | operand ["not"] "in" name | operand ["not"] "in" operand ".." operand
 abbrev pub written_expr : Bool → Expr → List Form
 written_expr marked (expr.Number value place) = literal marked value place ∷ []
 written_expr marked (expr.Name name) = written_name marked name
+written_expr marked (applied function place operand) =
+    named marked function.name ∷ (written_form marked function.form ++ (placed marked k.LeftParenthesis place ∷ (written_expr marked operand ++ bare marked k.RightParenthesis ∷ [])))
 written_expr marked (parenthesized place inner) = placed marked k.LeftParenthesis place ∷ (written_expr marked inner ++ bare marked k.RightParenthesis ∷ [])
 written_expr marked (signed op place operand) = placed marked (sign_kind op) place ∷ written_expr marked operand
 written_expr marked (operation op place left right) = written_expr marked left ++ (written_operator marked op place ++ written_expr marked right)
@@ -173,9 +190,14 @@ abbrev pub written_definition : TypeDef → List Form
 written_definition (definition.Integer range) = written_constraint range
 written_definition (definition.Enumeration place literals) = placed program k.LeftParenthesis place ∷ (written_identifiers program literals ++ bare program k.RightParenthesis ∷ [])
 
--- identifiers ":" name ";" | identifiers ":" "constant" [name] ":=" expression ";" | "type" identifier "is" definition ";" | "subtype" identifier "is" name ["range" range] ";"
+-- ":=" expression
+abbrev pub written_initial : Expr → List Form
+written_initial value = bare program k.Assignment ∷ written_expr program value
+
+-- identifiers ":" name [":=" expression] ";" | identifiers ":" "constant" [name] ":=" expression ";" | "type" identifier "is" definition ";" | "subtype" identifier "is" name ["range" range] ";"
 abbrev pub written_decl : Decl → List Form
-written_decl (decl.Variables names type_name) = written_identifiers program names ++ bare program k.Colon ∷ (written_name program type_name ++ bare program k.Semicolon ∷ [])
+written_decl (decl.Variables names type_name value) =
+    written_identifiers program names ++ bare program k.Colon ∷ (written_name program type_name ++ (optional written_initial value ++ bare program k.Semicolon ∷ []))
 written_decl (decl.Constants names type_name value) =
     written_identifiers program names
     ++ bare program k.Colon ∷ bare program k.Constant ∷ (optional (written_name program) type_name ++ bare program k.Assignment ∷ (written_expr program value ++ bare program k.Semicolon ∷ []))
@@ -190,7 +212,7 @@ written_decls decls = joined (map written_decl decls)
 -- Statements (Ada 95 RM 5).
 
 -- an arm, by its word "if" or "elsif": word expression "then" statements
-abbrev pub arm_step : Arm-F (List Form) (Kind → List Form) → Kind → List Form
+abbrev pub arm_step : Arm-F (List Form) (List Form) (Kind → List Form) → Kind → List Form
 arm_step arm word = placed program word arm.place ∷ (written_expr program arm.condition ++ bare program k.Then ∷ joined arm.body)
 
 -- {"elsif" arm}
@@ -208,19 +230,43 @@ abbrev pub else_part : Option (List (List Form)) → List Form
 else_part None = []
 else_part (Some stmts) = bare program k.Else ∷ joined stmts
 
+-- ".." expression
+abbrev pub written_upper : Expr → List Form
+written_upper high = bare program k.DoubleDot ∷ written_expr program high
+
+-- expression [".." expression]
+abbrev pub written_choice : Choice → List Form
+written_choice choice = written_expr program choice.low ++ optional written_upper choice.high
+
+-- "others" | choice {"|" choice}
+abbrev pub written_choices : Option (List Choice) → List Form
+written_choices None = bare program k.Others ∷ []
+written_choices (Some choices) = separated (bare program k.Bar) written_choice choices
+
+-- "when" choices "=>" statements
+abbrev pub alternative_step : Alternative-F (List Form) (List Form) (Kind → List Form) → List Form
+alternative_step alternative = bare program k.When ∷ (written_choices alternative.choices ++ bare program k.Arrow ∷ joined alternative.body)
+
 -- one level, whose parts are written: "null" ";" | name ":=" expression ";" | "if" arm {"elsif" arm} ["else" statements] "end" "if" ";"
-abbrev pub stmt_step : Stmt-F (List Form) (Kind → List Form) → List Form
+-- | "case" expression "is" alternative {alternative} "end" "case" ";"
+abbrev pub stmt_step : Stmt-F (List Form) (List Form) (Kind → List Form) → List Form
 stmt_step (Stmt-F.Null place) = placed program k.Null place ∷ bare program k.Semicolon ∷ []
 stmt_step (Stmt-F.Assignment target value) = written_name program target ++ bare program k.Assignment ∷ (written_expr program value ++ bare program k.Semicolon ∷ [])
 stmt_step (Stmt-F.If arms otherwise closing) = all_arms arms ++ (else_part otherwise ++ placed program k.End closing.end ∷ placed program k.If closing.word ∷ bare program k.Semicolon ∷ [])
+stmt_step (Stmt-F.Case place selector alternatives closing) =
+    placed program k.Case place ∷ (written_expr program selector ++ bare program k.Is ∷ (joined alternatives ++ placed program k.End closing.end ∷ placed program k.Case closing.word ∷ bare program k.Semicolon ∷ []))
 
 -- statement
 abbrev pub written_stmt : Stmt → List Form
-written_stmt = fold-Stmt (List Form) (Kind → List Form) stmt_step arm_step
+written_stmt = fold-Stmt (List Form) (List Form) (Kind → List Form) stmt_step alternative_step arm_step
 
 -- an arm, by its word
 abbrev pub written_arm : Arm → Kind → List Form
-written_arm = fold-Arm (List Form) (Kind → List Form) stmt_step arm_step
+written_arm = fold-Arm (List Form) (List Form) (Kind → List Form) stmt_step alternative_step arm_step
+
+-- an alternative
+abbrev pub written_alternative : Alternative → List Form
+written_alternative = fold-Alternative (List Form) (List Form) (Kind → List Form) stmt_step alternative_step arm_step
 
 -- statement {statement}
 abbrev pub written_stmts : List Stmt → List Form

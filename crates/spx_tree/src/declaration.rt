@@ -26,8 +26,8 @@ pub enum TypeDef {
 /// A declaration in the declarative part of a body (Ada 95 RM 3.11).
 #[derive(Debug, Drop)]
 pub enum Decl {
-    /// `names : type_name` (Ada 95 RM 3.3.1)
-    Variables(Items<Identifier>, Name),
+    /// `names : type_name [:= initial_value]` (Ada 95 RM 3.3.1)
+    Variables(Items<Identifier>, Name, Option<Expr>),
     /// `names : constant [type_name] := value` (Ada 95 RM 3.3.1, 3.3.2)
     Constants(Items<Identifier>, Option<Name>, Expr),
     /// `type name is definition` (Ada 95 RM 3.2.1)
@@ -80,15 +80,25 @@ fn copy_range(alloc: Global, range: &Option<Range>) -> Result<Option<Range>, All
     }
 }
 
+fn copy_value(alloc: Global, value: &Option<Expr>) -> Result<Option<Expr>, AllocError>
+    ensures { IfOk result (λ copied. copied ≡ value.now) }
+{
+    match value {
+        Some(expr) => Ok(Some(expr.copy(alloc)?)),
+        None => Ok(None),
+    }
+}
+
 impl Decl {
     /// An equal declaration.
     pub fn copy(&self, alloc: Global) -> Result<Decl, AllocError>
         ensures { IfOk result (λ decl. decl ≡ self.now) }
     {
         match self {
-            Decl::Variables(names, type_name) => {
+            Decl::Variables(names, type_name, value) => {
                 let names = copy_identifiers(alloc, names.as_slice())?;
-                Ok(Decl::Variables(names, type_name.copy(alloc)?))
+                let type_name = type_name.copy(alloc)?;
+                Ok(Decl::Variables(names, type_name, copy_value(alloc, value)?))
             }
             Decl::Constants(names, type_name, value) => {
                 let names = copy_identifiers(alloc, names.as_slice())?;

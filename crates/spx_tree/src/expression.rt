@@ -74,12 +74,32 @@ pub enum Name {
     Attribute(Identifier, Identifier),
 }
 
+/// What is applied to an operand in parentheses (Ada 95 RM 4.1.4, 4.6, 4.7).
+#[derive(Debug, Drop)]
+pub struct Function {
+    pub name: Identifier,
+    pub form: FunctionForm,
+}
+
+/// What follows the name of a function.
+#[derive(Debug, Drop)]
+pub enum FunctionForm {
+    /// `name (operand)`
+    Simple,
+    /// `name'designator (operand)`
+    Attribute(Identifier),
+    /// `name'(operand)`
+    Qualified,
+}
+
 /// An expression. An infix operation and a membership test stand at the first word of their operator, every other node at
 /// its first token.
 #[derive(Debug, Drop)]
 pub enum Expr {
     Number(i128, Place),
     Name(Name),
+    /// A function and its operand, with the place of `(`.
+    Applied(Function, Place, Boxed<Expr>),
     /// At `(`.
     Parenthesized(Place, Boxed<Expr>),
     Prefix(PrefixOp, Place, Boxed<Expr>),
@@ -131,6 +151,32 @@ impl Name {
     }
 }
 
+impl FunctionForm {
+    /// An equal form.
+    pub fn copy(&self, alloc: Global) -> Result<FunctionForm, AllocError>
+        ensures { IfOk result (λ form. form ≡ self.now) }
+    {
+        match self {
+            FunctionForm::Simple => Ok(FunctionForm::Simple),
+            FunctionForm::Attribute(designator) => {
+                Ok(FunctionForm::Attribute(designator.copy(alloc)?))
+            }
+            FunctionForm::Qualified => Ok(FunctionForm::Qualified),
+        }
+    }
+}
+
+impl Function {
+    /// An equal function.
+    pub fn copy(&self, alloc: Global) -> Result<Function, AllocError>
+        ensures { IfOk result (λ function. function ≡ self.now) }
+    {
+        let name = self.name.copy(alloc)?;
+        let form = self.form.copy(alloc)?;
+        Ok(Function { name, form })
+    }
+}
+
 pub(crate) fn copy_names(alloc: Global, names: &[Name]) -> Result<Items<Name>, AllocError>
     ensures { IfOk result (λ copies. copies ≡ names.now) }
 {
@@ -150,6 +196,11 @@ impl Expr {
         match self {
             Expr::Number(value, place) => Ok(Expr::Number(*value, *place)),
             Expr::Name(name) => Ok(Expr::Name(name.copy(alloc)?)),
+            Expr::Applied(function, place, operand) => {
+                let function = function.copy(alloc)?;
+                let operand = Boxed::new(alloc, operand.get().copy(alloc)?)?;
+                Ok(Expr::Applied(function, *place, operand))
+            }
             Expr::Parenthesized(place, inner) => {
                 let inner = Boxed::new(alloc, inner.get().copy(alloc)?)?;
                 Ok(Expr::Parenthesized(*place, inner))

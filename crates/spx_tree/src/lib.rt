@@ -15,9 +15,10 @@ mod token;
 pub use annotation::{Derives, DerivesItem, Exports, Imports, Precondition};
 pub use declaration::{Decl, Range, TypeDef};
 pub use expression::{
-    Expr, Identifier, InfixOp, Layer, MemberOp, Name, PrefixOp, copy_identifiers,
+    Expr, Function, FunctionForm, Identifier, InfixOp, Layer, MemberOp, Name, PrefixOp,
+    copy_identifiers,
 };
 pub use laws::{one_spelling, one_stop};
-pub use statement::{Arm, Closing, Stmt};
+pub use statement::{Alternative, Arm, Choice, Closing, Stmt};
 pub use subprogram::{FormalPart, Param, Subprogram, Unit, WrittenMode};
 pub use token::{ANNOTATION_WORDS, Kind, RESERVED_WORDS, Token};

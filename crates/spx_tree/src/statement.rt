@@ -16,6 +16,8 @@ pub enum Stmt {
     Assignment(Name, Expr),
     /// The arms, one or more, the statements after `else`, and the closing words (Ada 95 RM 5.3).
     If(Items<Arm>, Option<Items<Stmt>>, Closing),
+    /// At the word `case`: the selector, the alternatives, one or more, and the closing words (Ada 95 RM 5.4).
+    Case(Place, Expr, Items<Alternative>, Closing),
 }
 
 /// A condition and the statements after `then`, at the word `if` or `elsif`.
@@ -25,6 +27,21 @@ pub struct Arm {
     pub place: Place,
     pub condition: Expr,
     pub body: Items<Stmt>,
+}
+
+/// The statements for some values of a selector. With no choices it is for `others`.
+#[cycle(statement)]
+#[derive(Debug, Drop)]
+pub struct Alternative {
+    pub choices: Option<Items<Choice>>,
+    pub body: Items<Stmt>,
+}
+
+/// `low` or `low .. high` (Ada 95 RM 3.8.1)
+#[derive(Debug, Drop)]
+pub struct Choice {
+    pub low: Expr,
+    pub high: Option<Expr>,
 }
 
 /// The places of `end` and of the word after it, as in `end if`.
@@ -55,6 +72,57 @@ impl Stmt {
                 let stmts = copy_statements(alloc, stmts.as_slice())?;
                 Ok(Stmt::If(arms, Some(stmts), *closing))
             }
+            Stmt::Case(place, selector, alternatives, closing) => {
+                let selector = selector.copy(alloc)?;
+                let alternatives = copy_alternatives(alloc, alternatives.as_slice())?;
+                Ok(Stmt::Case(*place, selector, alternatives, *closing))
+            }
+        }
+    }
+}
+
+impl Choice {
+    /// An equal choice.
+    pub fn copy(&self, alloc: Global) -> Result<Choice, AllocError>
+        ensures { IfOk result (λ choice. choice ≡ self.now) }
+    {
+        let low = self.low.copy(alloc)?;
+        match &self.high {
+            Some(high) => Ok(Choice {
+                low,
+                high: Some(high.copy(alloc)?),
+            }),
+            None => Ok(Choice { low, high: None }),
+        }
+    }
+}
+
+fn copy_choices(alloc: Global, choices: &[Choice]) -> Result<Items<Choice>, AllocError>
+    ensures { IfOk result (λ copies. copies ≡ choices.now) }
+{
+    let mut copies = Items::new(alloc);
+    for choice in choices {
+        copies.push(choice.copy(alloc)?)?;
+    }
+    Ok(copies)
+}
+
+impl Alternative {
+    /// An equal alternative.
+    #[cycle(copy)]
+    pub fn copy(&self, alloc: Global) -> Result<Alternative, AllocError>
+        ensures { IfOk result (λ alternative. alternative ≡ self.now) }
+    {
+        let body = copy_statements(alloc, self.body.as_slice())?;
+        match &self.choices {
+            Some(choices) => Ok(Alternative {
+                choices: Some(copy_choices(alloc, choices.as_slice())?),
+                body,
+            }),
+            None => Ok(Alternative {
+                choices: None,
+                body,
+            }),
         }
     }
 }
@@ -82,6 +150,20 @@ fn copy_arms(alloc: Global, arms: &[Arm]) -> Result<Items<Arm>, AllocError>
     let mut copies = Items::new(alloc);
     for arm in arms {
         copies.push(arm.copy(alloc)?)?;
+    }
+    Ok(copies)
+}
+
+#[cycle(copy)]
+fn copy_alternatives(
+    alloc: Global,
+    alternatives: &[Alternative],
+) -> Result<Items<Alternative>, AllocError>
+    ensures { IfOk result (λ copies. copies ≡ alternatives.now) }
+{
+    let mut copies = Items::new(alloc);
+    for alternative in alternatives {
+        copies.push(alternative.copy(alloc)?)?;
     }
     Ok(copies)
 }

@@ -23,7 +23,7 @@ use Rattle.spx_meaning.specs.Runs.{entry_of}
 use Rattle.spx_meaning.specs.Laws.{AreDerived, OthersAreKept, TwoRuns}
 use Rattle.spx_core.specs.Scopes.{Scoped}
 use Rattle.spx_core.proofs.Callers.FlowLaws.{unread}
-use Rattle.spx_meaning.proofs.Callers.Scopes.{local_starts_unset, mode_is}
+use Rattle.spx_meaning.proofs.Callers.Scopes.{local_starts, mode_is}
 use Rattle.spx_meaning.proofs.Callers.Entries.{cleared_agree}
 use Rattle.spx_meaning.proofs.Callers.Runs.{call_ended}
 use Rattle.spx_meaning.proofs.Callers.Flows.{kept, determined}
@@ -46,12 +46,12 @@ module _ (p : Program) (sub : Sub) (scoped : Scoped p sub) where
       by_derives true is = is
       by_derives false is = absurd (fits.none_missing u y (by_read (reads u (body_effect sub)) refl, export, flow, is))
 
-  -- two bodies begin with one value of a variable where the calls do; a local has none
+  -- two bodies begin with one value of a variable where the calls do; a local has the one with which it is declared
   begin_alike : (s t : Store) (u : VarId) → (is_local u sub ≡ false → look s u ≡ look t u) → look (entry_of p sub s) u ≡ look (entry_of p sub t) u
   begin_alike s t u agree = by_local (is_local u sub) refl
     where
       by_local : (b : Bool) → is_local u sub ≡ b → look (entry_of p sub s) u ≡ look (entry_of p sub t) u
-      by_local true is = local_starts_unset p sub scoped u is s ∙ sym (local_starts_unset p sub scoped u is t)
+      by_local true is = local_starts p sub scoped u is s ∙ sym (local_starts p sub scoped u is t)
       by_local false is = cleared_agree p s t sub.vars u (agree is)
 
   pub are_derived : HasNoFinding p sub → AreDerived p sub

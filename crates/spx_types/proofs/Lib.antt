@@ -1,0 +1,2 @@
+pub mod CaseForms
+mod ChoiceSteps

@@ -1,3 +1,4 @@
 pub mod Arms
+pub mod Choices
 pub mod TypeIds
 pub mod Rows

@@ -15,7 +15,7 @@ use Rattle.spx_types.specs.declared.row.TypeFault.TheVariants.{Breach, Memory}
 abbrev pub row_by : CoreDecl → Judged TypeRow
 row_by (FullType name definition) = Ok (row_of name)
 row_by (Subtype name parent range) = Ok (row_of name)
-row_by (Variables names type_name) = Err (record { rule = N3; place = type_name.root.name.place })
+row_by (Variables names type_name value) = Err (record { rule = N3; place = type_name.root.name.place })
 row_by (Constants names type_name value) = Err (record { rule = N3; place = place_of value })
 
 abbrev pub row_declared : CoreDecl → Judged TypeRow

@@ -1,6 +1,6 @@
 // The rules on declarations (Ada 95 RM 3.2, 3.3, 3.5, 8.3).
 ghost use Rattle.std.specs.Prelude.{◌≡◌};
-ghost use Rattle.spx_core.specs.Judged.{each};
+ghost use Rattle.spx_core.specs.Judged.{each, if_there};
 ghost use Rattle.spx_core.specs.Statements as rules;
 
 use crate::expression::judge;
@@ -121,18 +121,33 @@ fn judge_constraint(place: Place, parent: Subtype, range: &Option<CoreRange>) ->
     range_within(Some(parent.base), parent.first, parent.last, range)
 }
 
+/// A static value of this type is needed.
+fn value_of_type(subtype: Subtype, value: &CoreExpr) -> Result<i128, Breach>
+    ensures { result ≡ rules.value_of_type subtype value.now }
+{
+    let value = judge(value)?;
+    static_between(subtype.base, subtype.first, subtype.last, value)
+}
+
 /// The value of constants of this type, or of named numbers.
 fn judge_value(type_name: &Option<Reference>, value: &CoreExpr) -> Result<i128, Breach>
     ensures { result ≡ rules.judged_value type_name.now value.now }
 {
     match type_name {
         None => static_number(judge(value)?),
-        Some(type_name) => {
-            let subtype = referred_type(type_name)?;
-            let value = judge(value)?;
-            static_between(subtype.base, subtype.first, subtype.last, value)
-        }
+        Some(type_name) => value_of_type(referred_type(type_name)?, value),
     }
+}
+
+/// The first broken rule in the initial value of variables of this type, if they have one.
+fn judge_initial(subtype: Subtype, value: &Option<CoreExpr>) -> Result<(), Breach>
+    ensures { result ≡ if_there (rules.judged_initial subtype) value.now }
+{
+    let Some(value) = value else {
+        return Ok(());
+    };
+    value_of_type(subtype, value)?;
+    Ok(())
 }
 
 /// The first broken rule in a declaration.
@@ -140,7 +155,10 @@ pub fn judge_decl(decl: &CoreDecl) -> Result<(), Breach>
     ensures { result ≡ rules.judged_decl decl.now }
 {
     match decl {
-        CoreDecl::Variables(names, type_name) => declared(names.as_slice(), type_name),
+        CoreDecl::Variables(names, type_name, value) => {
+            all_declared_once(names.as_slice())?;
+            judge_initial(referred_type(type_name)?, value)
+        }
         CoreDecl::Constants(names, type_name, value) => {
             all_declared_once(names.as_slice())?;
             judge_value(type_name, value)?;

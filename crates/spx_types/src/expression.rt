@@ -3,9 +3,11 @@ ghost use Rattle.std.specs.Prelude.{◌≡◌};
 ghost use Rattle.spx_core.specs.Judged as rules;
 ghost use Rattle.spx_types.specs.TypeIds.{base_id, static, type_id};
 
+use crate::attributes::attribute;
 use crate::declaration::static_at;
+use crate::functions::{application, mapped};
 use crate::membership::{member_of_range, member_of_type, ordered_type};
-use crate::names::{attribute, keeps, named_value};
+use crate::names::{keeps, named_value};
 use crate::types::{
     is_boolean, is_of, left_type, operand_fits, operands_fit, result_type, right_type,
 };
@@ -74,6 +76,10 @@ pub fn judge(expr: &CoreExpr) -> Result<Typing, Breach>
         }),
         CoreExpr::Name(name) => named_value(name),
         CoreExpr::Attribute(prefix, designator) => attribute(prefix, designator),
+        CoreExpr::Applied(function, _, operand) => {
+            let mapping = application(function)?;
+            mapped(function.name.name.place, mapping, judge(operand.get())?)
+        }
         CoreExpr::Parenthesized(place, inner) => {
             let inner = judge(inner.get())?;
             Ok(Typing {

@@ -5,8 +5,13 @@
 //! first in it. Only `type_row` allocates.
 #![tactic(auto)]
 
+mod attributes;
+mod choices;
+mod coverage;
 mod declaration;
 mod expression;
+mod extent;
+mod functions;
 mod membership;
 mod names;
 mod program;
@@ -16,6 +21,7 @@ mod types;
 mod values;
 
 pub use expression::{judge, static_value, type_of};
+pub use functions::application;
 pub use names::keeps;
 pub use program::judge_program;
 pub use row::{TypeFault, type_row};

@@ -4,14 +4,12 @@ ghost use Rattle.spx_core.specs.declared.rule.ExprType.TheVariants.{Of};
 ghost use Rattle.spx_core.specs.Judged as rules;
 ghost use Rattle.spx_core.specs.Types.{position_in};
 
-use crate::types::has_numbers;
 use crate::values::position_in;
 use spx_core::{
     Breach, CoreName, Entity, ExprType, Object, Reference, RuleName, Step, Subtype, Typing,
     UNIVERSAL,
 };
-use spx_text::{Place, Text};
-use spx_tree::Identifier;
+use spx_text::Place;
 
 /// Whether a rule is kept at the place: its breach, where it is not.
 pub fn keeps(rule: RuleName, place: Place, kept: bool) -> Result<(), Breach>
@@ -35,7 +33,7 @@ fn entity_of(name: &CoreName) -> Result<Entity, Breach>
 }
 
 /// The type that a name denotes.
-fn named_type(name: &CoreName) -> Result<Subtype, Breach>
+pub fn named_type(name: &CoreName) -> Result<Subtype, Breach>
     ensures { result ≡ rules.named_type name.now }
 {
     match entity_of(name)? {
@@ -150,42 +148,4 @@ pub fn referred_target(reference: &Reference) -> Result<Subtype, Breach>
     let subtype = named_target(&reference.root)?;
     whole(reference)?;
     Ok(subtype)
-}
-
-fn is_first(designator: &Text) -> bool
-    ensures { result ≡ rules.is_first designator.now }
-{
-    designator.as_bytes().eq_ignore_ascii_case(b"first")
-}
-
-fn is_attribute(designator: &Text) -> bool
-    ensures { result ≡ rules.is_attribute designator.now }
-{
-    is_first(designator) || designator.as_bytes().eq_ignore_ascii_case(b"last")
-}
-
-/// The value of `'First` or `'Last`.
-fn attribute_of(subtype: Subtype, designator: &Text) -> i128
-    ensures { result ≡ rules.attribute_of subtype designator.now }
-{
-    if is_first(designator) {
-        subtype.first
-    } else {
-        subtype.last
-    }
-}
-
-/// The value of an attribute of a type that has an order.
-pub fn attribute(prefix: &CoreName, designator: &Identifier) -> Result<Typing, Breach>
-    ensures { result ≡ rules.attribute prefix.now designator.now }
-{
-    let place = prefix.name.place;
-    let subtype = named_type(prefix)?;
-    let kept = has_numbers(subtype.base.class) && is_attribute(&designator.text);
-    keeps(RuleName::N3, place, kept)?;
-    Ok(Typing {
-        of: ExprType::Of(subtype.base),
-        value: Some(attribute_of(subtype, &designator.text)),
-        place,
-    })
 }

@@ -65,7 +65,7 @@ pub fn type_row(alloc: Global, _program: &Program, decl: &CoreDecl) -> Result<Ty
     match decl {
         CoreDecl::FullType(name, _) => Ok(row_of(alloc, name)?),
         CoreDecl::Subtype(name, _, _) => Ok(row_of(alloc, name)?),
-        CoreDecl::Variables(_, type_name) => Err(TypeFault::Breach(Breach {
+        CoreDecl::Variables(_, type_name, _) => Err(TypeFault::Breach(Breach {
             rule: RuleName::N3,
             place: type_name.root.name.place,
         })),

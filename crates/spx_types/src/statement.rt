@@ -5,10 +5,15 @@ ghost use Rattle.spx_core.specs.Commands.{command, commands};
 ghost use Rattle.spx_core.specs.Judged.{each};
 ghost use Rattle.spx_core.specs.Statements as rules;
 ghost use Rattle.spx_types.specs.Arms.{FoundInArms};
+ghost use Rattle.spx_types.specs.Choices.{alternatives_in, done_in};
 
+use crate::choices::{judge_choices, judge_selector};
 use crate::expression::{condition, judge, operand_of};
 use crate::names::{referred_object, referred_target};
-use spx_core::{Breach, CoreArm, CoreDerivesItem, CoreExpr, CorePrecondition, CoreStmt, Reference};
+use spx_core::{
+    Breach, CoreAlternative, CoreArm, CoreDerivesItem, CoreExpr, CorePrecondition, CoreStmt,
+    ExprType, Reference,
+};
 
 fn judge_variable(reference: &Reference) -> Result<(), Breach>
     ensures { result ≡ rules.judged_variable reference.now }
@@ -85,6 +90,26 @@ fn judge_body(arm: &CoreArm) -> Result<(), Breach>
     judge_stmts(arm.body.as_slice())
 }
 
+/// The first broken rule in alternatives for values of this type.
+#[cycle(judge_stmt)]
+#[tactic(auto, using(crate::proofs::ChoiceSteps::alternatives_judged))]
+fn judge_alternatives(of: ExprType, alternatives: &[CoreAlternative]) -> Result<(), Breach>
+    ensures { result ≡ rules.judged_alternatives of (alternatives_in alternatives.now) }
+{
+    for alternative in alternatives {
+        judge_choices(of, alternative)?;
+        judge_chosen(alternative)?;
+    }
+    Ok(())
+}
+
+#[cycle(judge_stmt)]
+fn judge_chosen(alternative: &CoreAlternative) -> Result<(), Breach>
+    ensures { result ≡ rules.judged_command (done_in alternative.now) }
+{
+    judge_stmts(alternative.body.as_slice())
+}
+
 #[cycle(judge_stmt)]
 fn judge_stmt(stmt: &CoreStmt) -> Result<(), Breach>
     ensures { result ≡ rules.judged_command (command stmt.now) }
@@ -96,6 +121,11 @@ fn judge_stmt(stmt: &CoreStmt) -> Result<(), Breach>
         CoreStmt::If(arms, Some(stmts), _) => {
             judge_arms(arms.as_slice())?;
             judge_stmts(stmts.as_slice())
+        }
+        CoreStmt::Case(place, selector, alternatives, _) => {
+            let alternatives = alternatives.as_slice();
+            let of = judge_selector(*place, selector, alternatives)?;
+            judge_alternatives(of, alternatives)
         }
     }
 }

@@ -2,18 +2,18 @@
 ghost use Rattle.std.specs.Prelude.{◌≡◌};
 ghost use Rattle.spx_core.specs.Types as is;
 
-use spx_core::{BOOLEAN, BaseType, Class, ExprType, INTEGER};
+use spx_core::{BOOLEAN, BaseType, Class, ExprType, INTEGER, OperandType};
 use spx_tree::{InfixOp, PrefixOp};
 
 /// The values are numbers, with arithmetic.
-fn is_numeric(class: Class) -> bool
+pub fn is_numeric(class: Class) -> bool
     ensures { result ≡ is.is_numeric class }
 {
     matches!(class, Class::Integer)
 }
 
 /// The values are literals.
-fn has_literals(class: Class) -> bool
+pub fn has_literals(class: Class) -> bool
     ensures { result ≡ is.has_literals class }
 {
     matches!(class, Class::Enumeration)
@@ -70,7 +70,7 @@ pub fn is_number(of: ExprType) -> bool
 }
 
 /// Whether the values of this type have an order: all but truth values.
-fn is_ordered(of: ExprType) -> bool
+pub fn is_ordered(of: ExprType) -> bool
     ensures { result ≡ is.is_ordered of }
 {
     match of {
@@ -186,5 +186,26 @@ pub fn result_type(op: InfixOp, of: ExprType) -> ExprType
         | InfixOp::Rem
         | InfixOp::Power => of,
         _ => ExprType::Of(BOOLEAN.base),
+    }
+}
+
+/// Whether a function takes an operand of this type.
+pub fn is_taken(operand: OperandType, of: ExprType) -> bool
+    ensures { result ≡ is.is_taken operand of }
+{
+    match operand {
+        OperandType::AnyNumber => is_number(of),
+        OperandType::ValueOf(base) => is_of(base, of),
+    }
+}
+
+/// Whether an expression is of the type of a selector.
+pub fn is_same_type(selector: ExprType, of: ExprType) -> bool
+    ensures { result ≡ is.is_same_type selector of }
+{
+    match (selector, of) {
+        (ExprType::Universal, ExprType::Universal) => true,
+        (ExprType::Universal, ExprType::Of(_)) => false,
+        (ExprType::Of(base), of) => is_of(base, of),
     }
 }

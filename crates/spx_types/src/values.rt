@@ -1,12 +1,13 @@
 // Static values: ranges, and operations (Ada 95 RM 3.5, 4.5, 4.9).
 ghost use Rattle.std.specs.Prelude.{◌≡◌, Some};
+ghost use Rattle.spx_core.specs.declared.rule.ExprType.TheVariants.{Of};
 ghost use Rattle.spx_core.specs.Types as is;
 ghost use Rattle.spx_num.specs.Exact.{exact};
 ghost use Rattle.spx_num.specs.Widths.{fitting};
 ghost use Rattle.spx_tree.specs.declared.expression.InfixOp.TheVariants as op;
 ghost use Rattle.spx_tree.specs.declared.expression.PrefixOp.TheVariants as sign;
 
-use spx_core::{Class, ExprType};
+use spx_core::{BaseType, Class, ExprType, OperandType, Shift, Span, Subtype, UNIVERSAL};
 use spx_num::{Op, checked, modulo, power, quot, rem};
 use spx_tree::{InfixOp, MemberOp, PrefixOp};
 
@@ -209,5 +210,76 @@ pub fn member_value(
             Some(truth(tested(op, is_between(first, last, n))))
         }
         _ => None,
+    }
+}
+
+/// The values of a subtype.
+pub fn span_of(subtype: Subtype) -> Span
+    ensures { result ≡ is.span_of subtype }
+{
+    Span {
+        first: subtype.first,
+        last: subtype.last,
+    }
+}
+
+/// The values of a base type.
+pub fn span_of_base(base: BaseType) -> Span
+    ensures { result ≡ is.span_of_type (Of base) }
+{
+    Span {
+        first: base.first,
+        last: base.last,
+    }
+}
+
+/// The values of a type.
+pub fn span_of_type(of: ExprType) -> Span
+    ensures { result ≡ is.span_of_type of }
+{
+    match of {
+        ExprType::Universal => span_of(UNIVERSAL),
+        ExprType::Of(base) => span_of_base(base),
+    }
+}
+
+/// Whether the value of an operand is one of the type that a function asks for, if it is static.
+pub fn lies_in_operand(operand: OperandType, value: Option<i128>) -> bool
+    ensures { result ≡ is.lies_in_operand operand value }
+{
+    match operand {
+        OperandType::AnyNumber => true,
+        OperandType::ValueOf(base) => lies_in(ExprType::Of(base), value),
+    }
+}
+
+/// Whether a value lies where the result of a function must, if it is static.
+pub fn lies_within(bounds: Option<Span>, value: Option<i128>) -> bool
+    ensures { result ≡ is.lies_within bounds value }
+{
+    match bounds {
+        Some(span) => lies_between(span.first, span.last, value),
+        None => true,
+    }
+}
+
+#[tactic(auto, using(spx_num::specs::Widths::fits_laws))]
+fn shifted(shift: Shift, n: i128) -> Option<i128>
+    ensures { result ≡ fitting (is.shifted shift n) }
+{
+    match shift {
+        Shift::Same => Some(n),
+        Shift::Next => exact(Op::Add, n, 1),
+        Shift::Previous => exact(Op::Sub, n, 1),
+    }
+}
+
+/// What a function makes of a value, where the operand is static and 128 bits hold it.
+pub fn shifted_value(shift: Shift, operand: Option<i128>) -> Option<i128>
+    ensures { result ≡ is.shifted_value shift operand }
+{
+    match operand {
+        Some(n) => shifted(shift, n),
+        None => None,
     }
 }

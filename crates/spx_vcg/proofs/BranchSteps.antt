@@ -31,12 +31,15 @@ use Rattle.spx_vcg.specs.WalkSteps.{state, Longer, OnlyAdds, OnlyTerms, Keeps, W
 use Rattle.spx_vcg.specs.PathWalk.{Passes, Comes, PassesArm, Takes, negated, Marks, IsBack}
 use Rattle.spx_vcg.proofs.ConditionTerms.{applied-Prefix}
 use Rattle.spx_vcg.proofs.SharedIds.{state_kept}
-use Rattle.spx_vcg.proofs.SharedSteps.{adds_twice, longer_not, only_means, only_walks, walks_twice, wider_values}
+use Rattle.spx_vcg.proofs.SharedSteps.{adds_not, adds_twice, longer_not, only_means, only_walks, walks_twice, wider_values}
 use Rattle.spx_vcg.proofs.StartSteps.{claims_end, no_lefts}
 
 -- ---- relations between walks
 pub comes_twice : {p : Program} {a b c : Walk} {e f g : Command} → Comes p a b e f → Comes p b c f g → Comes p a c e g
 comes_twice {p} l r = record { whole = r.whole; adds = adds_twice l.adds r.adds; same = λ sub made. l.same sub made ∙ r.same sub made }
+
+pub comes_not : {p : Program} {w : Walk} → Whole w → Comes p w w Skip Skip
+comes_not {p} {w} whole = record { whole = whole; adds = adds_not w; same = λ sub made. refl }
 
 -- ---- a negated condition
 pub after_negation : {old mid new : Walk} {condition negation : TermId} (t : Term) → Whole old → OnlyTerms old mid → Adds old.terms mid.terms negation (Prefix Not (tree_at old.terms condition)) → Means old condition t
@@ -174,8 +177,8 @@ module _ {p : Program} {a b : Walk} (start following : Command) (stmts : List Co
       let here = at_statement (Set target value) e in
       record { whole = passes.whole; adds = adds_twice here.adds passes.adds; same = λ sub made. here.same sub made ∙ (passes.goes sub).same (walk p sub (Then next following) ending ending made) }
 
-  pub after_if : {c : Walk} (d then : Command) → command stmt ≡ d → then ≡ Then next following → Comes p b c (Then d then) Skip → Comes p a c start Skip
-  after_if {c} d then e f comes =
+  pub after_branch : {c : Walk} (d then : Command) → command stmt ≡ d → then ≡ Then next following → Comes p b c (Then d then) Skip → Comes p a c start Skip
+  after_branch {c} d then e f comes =
       let here = at_statement d e in
       record {
         whole = comes.whole;

@@ -12,7 +12,11 @@ use Rattle.spx_core.specs.declared.entity.VarId.{VarId}
 use Rattle.spx_core.specs.declared.name.Reference.{Reference}
 use Rattle.spx_core.specs.declared.expression.CoreExpr.{CoreExpr}
 use Rattle.spx_core.specs.declared.expression.CoreExpr.TheVariants as expr
+use Rattle.spx_core.specs.declared.function.CoreFunction.{CoreFunction}
+use Rattle.spx_core.specs.declared.function.Mapping.{Mapping}
+use Rattle.spx_core.specs.declared.function.Shift.{Shift}
 use Rattle.spx_core.specs.declared.program.Program.{Program}
+use Rattle.spx_core.specs.Judged.{Judged, application}
 use Rattle.spx_core.specs.Places.{place_of}
 use Rattle.spx_core.specs.Resolved.{subtype_of}
 use Rattle.spx_term.specs.declared.condition.CondKind.{CondKind}
@@ -24,18 +28,19 @@ use Rattle.spx_term.specs.Folding.{term_of as static_term}
 use Rattle.spx_term.specs.Steps.{Tree, Prove, assume_all}
 use Rattle.spx_meaning.specs.Evaluation.{term_op}
 use Rattle.spx_meaning.specs.Literals.{base_of, literal}
-use Rattle.spx_paths.specs.Terms.{member_term, signed_term, term_of}
-use Rattle.spx_paths.specs.Checks.{checked_under, checks, guarded, operation_check, right_lefts, sign_check}
+use Rattle.spx_paths.specs.Terms.{member_term, moved_term, signed_term, term_of}
+use Rattle.spx_paths.specs.Checks.{checked_under, checks, guarded, mapping_check, operation_check, right_lefts, sign_check}
 use Rattle.spx_arena.specs.declared.terms.TermId.{TermId}
 use Rattle.spx_arena.specs.Claims.{AreIds, trees_at}
 use Rattle.spx_arena.specs.Sharing.{Adds, Grows, tree_at}
 use Rattle.spx_vcg.specs.declared.walk.Walk.{Walk}
 use Rattle.spx_vcg.specs.ConditionWalk.{applied}
+use Rattle.spx_vcg.specs.Functions.{shift_in}
 use Rattle.spx_vcg.specs.States.{AddsAll}
 use Rattle.spx_vcg.specs.WalkSteps.{state, OnlyTerms, Keeps, Walks, Means, MeanAll, Makes, Evaluates, Whole}
 use Rattle.spx_vcg.proofs.Operators.{same_lefts}
 use Rattle.spx_vcg.proofs.ConditionTerms.{applied-Prefix, applied-guarded}
-use Rattle.spx_vcg.proofs.Expressions.{in_range_checks, in_range_term, in_type_checks, in_type_term, infix_checks, infix_term, parenthesized_checks, parenthesized_term, prefix_checks, prefix_term, static_free, static_is}
+use Rattle.spx_vcg.proofs.Expressions.{applied_checks, applied_term, in_range_checks, in_range_term, in_type_checks, in_type_term, infix_checks, infix_term, parenthesized_checks, parenthesized_term, prefix_checks, prefix_term, static_free, static_is}
 use Rattle.spx_vcg.proofs.SharedSteps.{all_kept, keeps_twice, means_kept, only_all, only_keeps, only_means, only_terms, only_walks, walks_along, walks_twice}
 
 -- ---- a check
@@ -134,6 +139,24 @@ module _ {p : Program} {lefts : List TermId} {w : Walk} {e : CoreExpr} (whole : 
           record {
             walks = walks_along (prefix_checks p entries e ls none o place a is) (walks_twice first.walks (walks_twice second.walks (subst (λ (b : BaseType). Walks y z (sign_check ls o b place t)) base_is (check ls t lefts_here here))));
             means = means_kept ky.whole kz wid here;
+          };
+    }
+
+    pub eval_applied : {x y z : Walk} {i id : TermId} {h : Shift} {mapping : Judged Mapping} {at : Place} (function : CoreFunction) (place : Place) (a : CoreExpr) → e ≡ expr.Applied function place a → Keeps w x → i.0 < length x.terms → Evaluates p lefts w x a i
+        → Keeps x y → id.0 < length y.terms → h ≡ shift_in (application function) → ((t : Term) → Means x i t → Makes x y (λ rest. rest) id (moved_term h t))
+        → Keeps y z → mapping ≡ application function → at ≡ place_of a → ((ls : List Term) (t : Term) → MeanAll y lefts ls → Means y id (moved_term (shift_in mapping) t) → Walks y z (mapping_check ls mapping at t)) → Evaluates p lefts w z e id
+    eval_applied {x} {y} {z} {i} {id} {h} {mapping} {at} function place a is kx wi v ky wid shift_is moved kz mapping_is at_is check = record {
+      makes = λ entries ls ml.
+          let ta = term_of p entries a in
+          let j = application function in
+          let first = v.makes entries ls ml in
+          let second : Makes x y (λ rest. rest) id (moved_term (shift_in j) ta) = subst (λ (k : Shift). Makes x y (λ rest. rest) id (moved_term k ta)) shift_is (moved ta first.means) in
+          let third : Walks y z (mapping_check ls j (place_of a) ta) =
+          subst (λ (m : Judged Mapping). Means y id (moved_term (shift_in m) ta) → Walks y z (mapping_check ls m (place_of a) ta)) mapping_is
+          (subst (λ (q : Place). Means y id (moved_term (shift_in mapping) ta) → Walks y z (mapping_check ls mapping q ta)) at_is (check ls ta (all_kept whole (keeps_twice kx ky) are ml))) second.means in
+          record {
+            walks = walks_along (applied_checks p entries e ls none function place a is) (walks_twice first.walks (walks_twice second.walks third));
+            means = means_kept ky.whole kz wid (subst (Means y id) (sym (applied_term p entries e none function place a is)) second.means);
           };
     }
 

@@ -1,5 +1,5 @@
 -- Terms in which all names have the terms of a state, at each form.
-use Rattle.std.proofs.Common.{◌≡◌, ℤ, Bool, true, List, [], ◌∷◌, map, refl, ap, ◌∙◌}
+use Rattle.std.proofs.Common.{◌≡◌, ℤ, pos, Bool, true, List, [], ◌∷◌, map, refl, ap, ◌∙◌}
 use Rattle.std.proofs.lemmas.Int.{to_z-of_z}
 use Rattle.spx_tree.specs.declared.expression.MemberOp.{MemberOp}
 use Rattle.spx_tree.specs.declared.expression.MemberOp.TheVariants.{In, NotIn}
@@ -8,6 +8,8 @@ use Rattle.spx_tree.specs.declared.expression.PrefixOp.TheVariants as prefix
 use Rattle.spx_core.specs.declared.entity.Class.{Class}
 use Rattle.spx_core.specs.declared.entity.Class.TheVariants as class
 use Rattle.spx_core.specs.declared.entity.Subtype.{Subtype}
+use Rattle.spx_core.specs.declared.function.Shift.{Shift}
+use Rattle.spx_core.specs.declared.function.Shift.TheVariants as shift
 use Rattle.spx_term.specs.declared.term.Name.{Name}
 use Rattle.spx_term.specs.declared.term.TermOp.{TermOp}
 use Rattle.spx_term.specs.declared.term.TermOp.TheVariants as operator
@@ -21,7 +23,7 @@ use Rattle.spx_term.proofs.Terms.{fold-Number, fold-Truth, fold-Variable, fold-P
 use Rattle.spx_term.specs.Folding.{term_of as static_term}
 use Rattle.spx_term.specs.Goals.{goal_of}
 use Rattle.spx_paths.specs.Checks.{guarded, in_class, in_range, in_type, under}
-use Rattle.spx_paths.specs.Terms.{between, member_term, signed_term}
+use Rattle.spx_paths.specs.Terms.{between, member_term, moved_term, signed_term}
 use Rattle.spx_vcg.specs.ConditionWalk.{State, applied_step, applied}
 
 pub applied-Number : (s : State) (n : ℤ) → applied s (Number n) ≡ Number n
@@ -56,6 +58,11 @@ applied-signed_term s prefix.Plus t = refl
 applied-signed_term s prefix.Minus t = applied-Prefix s sign.Minus t
 applied-signed_term s prefix.Abs t = applied-Prefix s sign.Abs t
 applied-signed_term s prefix.Not t = applied-Prefix s sign.Not t
+
+pub applied-moved_term : (s : State) (h : Shift) (t : Term) → applied s (moved_term h t) ≡ moved_term h (applied s t)
+applied-moved_term s shift.Same t = refl
+applied-moved_term s shift.Next t = applied-Infix s operator.Add t (Number (pos 1)) ∙ ap (Infix operator.Add (applied s t)) (applied-Number s (pos 1))
+applied-moved_term s shift.Previous t = applied-Infix s operator.Subtract t (Number (pos 1)) ∙ ap (Infix operator.Subtract (applied s t)) (applied-Number s (pos 1))
 
 pub applied-between : (s : State) (t low high : Term) → applied s (between t low high) ≡ between (applied s t) (applied s low) (applied s high)
 applied-between s t low high =

@@ -1,5 +1,5 @@
 -- Terms and checks of expressions, where a value is static and where none is.
-use Rattle.std.proofs.Common.{◌≡◌, ℤ, pos, List, Option, Some, None, refl, sym, ap, ◌∙◌}
+use Rattle.std.proofs.Common.{◌≡◌, ℤ, pos, List, Option, Some, None, Ok, Err, refl, sym, ap, ◌∙◌}
 use Rattle.std.specs.Prelude.{is_some}
 use Rattle.spx_text.specs.declared.place.Place.{Place}
 use Rattle.spx_tree.specs.declared.expression.Identifier.{Identifier}
@@ -11,8 +11,10 @@ use Rattle.spx_core.specs.declared.name.CoreName.{CoreName}
 use Rattle.spx_core.specs.declared.name.Reference.{Reference}
 use Rattle.spx_core.specs.declared.expression.CoreExpr.{CoreExpr, CoreExpr-F}
 use Rattle.spx_core.specs.declared.expression.CoreExpr.TheVariants as expr
+use Rattle.spx_core.specs.declared.function.CoreFunction.{CoreFunction}
+use Rattle.spx_core.specs.declared.function.Mapping.{Mapping}
 use Rattle.spx_core.specs.declared.program.Program.{Program}
-use Rattle.spx_core.specs.Judged.{expr_step}
+use Rattle.spx_core.specs.Judged.{Judged, application, expr_step}
 use Rattle.spx_core.specs.Places.{place_of}
 use Rattle.spx_core.specs.Uses.{variable_of}
 use Rattle.spx_core.proofs.Callers.Expressions.{fold-Number, induct}
@@ -24,9 +26,10 @@ use Rattle.spx_term.specs.Folding.{term_of as static_term}
 use Rattle.spx_term.specs.Steps.{Tree}
 use Rattle.spx_meaning.specs.Evaluation.{term_op}
 use Rattle.spx_meaning.specs.Literals.{base_of, literal, literal_in}
-use Rattle.spx_paths.specs.Terms.{first_term, last_term, literal_or, member_term, named, now_term, signed_term, term_of, term_with-Attribute, term_with-InRange, term_with-InType, term_with-Infix, term_with-Name, term_with-Number, term_with-Parenthesized, term_with-Prefix}
-use Rattle.spx_paths.specs.Checks.{checks, checks-Attribute, checks-InRange, checks-InType, checks-Infix, checks-Name, checks-Number, checks-Parenthesized, checks-Prefix, operation_check, right_lefts, sign_check, unless_static}
-use Rattle.spx_paths.proofs.CheckLaws.{literal-Parenthesized, static_unchecked}
+use Rattle.spx_paths.specs.Terms.{first_term, last_term, literal_or, mapped_term, member_term, moved_term, named, now_term, signed_term, term_of, term_with-Applied, term_with-Attribute, term_with-InRange, term_with-InType, term_with-Infix, term_with-Name, term_with-Number, term_with-Parenthesized, term_with-Prefix}
+use Rattle.spx_paths.specs.Checks.{checks, checks-Applied, checks-Attribute, checks-InRange, checks-InType, checks-Infix, checks-Name, checks-Number, checks-Parenthesized, checks-Prefix, mapping_check, operation_check, right_lefts, sign_check, unless_static}
+use Rattle.spx_vcg.specs.Functions.{shift_in}
+use Rattle.spx_vcg.proofs.CheckLaws.{literal-Parenthesized, static_unchecked}
 use Rattle.spx_vcg.proofs.ConditionTerms.{static_number}
 
 -- ---- static expressions
@@ -45,6 +48,7 @@ static_is p entries = induct (λ e. (s : Value) → literal e ≡ Some s → ter
   number = λ n place s is. term_with-Number (now_term p) entries n place ∙ sym (static_number n) ∙ ap static_term (sym (of_number n place s is));
   name = λ name s is. term_with-Name (now_term p) entries name ∙ or_static _ s _ is;
   attribute = λ prefix designator s is. term_with-Attribute (now_term p) entries prefix designator ∙ or_static _ s _ is;
+  applied = λ function place a more s is. term_with-Applied (now_term p) entries function place a ∙ or_static _ s _ is;
   parenthesized = λ place a more s is. term_with-Parenthesized (now_term p) entries place a ∙ more s (sym (literal-Parenthesized place a) ∙ is);
   prefix = λ op place a more s is. term_with-Prefix (now_term p) entries op place a ∙ or_static _ s _ is;
   «infix» = λ op place a b first second s is. term_with-Infix (now_term p) entries op place a b ∙ or_static _ s _ is;
@@ -55,6 +59,11 @@ static_is p entries = induct (λ e. (s : Value) → literal e ≡ Some s → ter
 -- and no checks
 pub static_free : (p : Program) (entries : VarId → Term) (lefts : List Term) (e : CoreExpr) (s : Value) → literal e ≡ Some s → (rest : Tree) → checks p entries lefts e rest ≡ rest
 static_free p entries lefts e s is = static_unchecked p entries lefts e (ap is_some is)
+
+-- ---- functions
+pub mapped_is : (j : Judged Mapping) (t : Term) → mapped_term j t ≡ moved_term (shift_in j) t
+mapped_is (Ok mapping) t = refl
+mapped_is (Err breach) t = refl
 
 -- ---- where no value is static
 module _ (p : Program) (entries : VarId → Term) (e : CoreExpr) where
@@ -76,6 +85,9 @@ module _ (p : Program) (entries : VarId → Term) (e : CoreExpr) where
 
     pub attribute_term : (prefix : CoreName) (designator : Identifier) → e ≡ expr.Attribute prefix designator → meant e ≡ Number (pos 0)
     attribute_term prefix designator is = ap meant is ∙ term_with-Attribute (now_term p) entries prefix designator ∙ or_else (expr.Attribute prefix designator) _ is
+
+    pub applied_term : (function : CoreFunction) (place : Place) (a : CoreExpr) → e ≡ expr.Applied function place a → meant e ≡ moved_term (shift_in (application function)) (meant a)
+    applied_term function place a is = ap meant is ∙ term_with-Applied (now_term p) entries function place a ∙ or_else (expr.Applied function place a) _ is ∙ mapped_is (application function) (meant a)
 
     pub prefix_term : (op : PrefixOp) (place : Place) (a : CoreExpr) → e ≡ expr.Prefix op place a → meant e ≡ signed_term op (meant a)
     prefix_term op place a is = ap meant is ∙ term_with-Prefix (now_term p) entries op place a ∙ or_else (expr.Prefix op place a) _ is
@@ -109,6 +121,9 @@ module _ (p : Program) (entries : VarId → Term) (e : CoreExpr) where
     module _ (none : None ≡ literal e) where
       unless : (d : CoreExpr) (rest more : Tree) → e ≡ d → unless_static (literal d) rest more ≡ more
       unless d rest more is = ap (λ o. unless_static o rest more) (sym (none ∙ ap literal is))
+
+      pub applied_checks : (function : CoreFunction) (place : Place) (a : CoreExpr) → e ≡ expr.Applied function place a → (rest : Tree) → asked e rest ≡ asked a (mapping_check lefts (application function) (place_of a) (meant a) rest)
+      applied_checks function place a is rest = ap (λ d. asked d rest) is ∙ checks-Applied p entries lefts function place a rest ∙ unless (expr.Applied function place a) rest _ is
 
       pub prefix_checks : (op : PrefixOp) (place : Place) (a : CoreExpr) → e ≡ expr.Prefix op place a → (rest : Tree) → asked e rest ≡ asked a (sign_check lefts op (base_of e) place (meant e) rest)
       prefix_checks op place a is rest =

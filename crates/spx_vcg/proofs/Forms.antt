@@ -5,17 +5,23 @@ use Rattle.spx_text.specs.declared.place.Place.{Place}
 use Rattle.spx_tree.specs.declared.statement.Closing.{Closing}
 use Rattle.spx_core.specs.declared.expression.CoreExpr.{CoreExpr}
 use Rattle.spx_core.specs.declared.name.Reference.{Reference}
+use Rattle.spx_core.specs.declared.statement.CoreAlternative.{CoreAlternative, out-CoreAlternative, fold_out-CoreAlternative}
 use Rattle.spx_core.specs.declared.statement.CoreArm.{CoreArm, out-CoreArm, fold_out-CoreArm}
+use Rattle.spx_core.specs.declared.statement.CoreChoice.{CoreChoice}
 use Rattle.spx_core.specs.declared.statement.CoreStmt.{CoreStmt, CoreStmt-F, out-CoreStmt, map-CoreStmt, fold_out-CoreStmt}
-use Rattle.spx_core.specs.declared.statement.CoreStmt.TheVariants.{Null, Assignment, If, outs-Null, outs-Assignment, outs-If}
-use Rattle.spx_core.specs.Commands.{Command, Skip, Set, Then, Choose, arm_before, arm_step, arms_before, command, commands, stmt_step}
+use Rattle.spx_core.specs.declared.statement.CoreStmt.TheVariants.{Null, Assignment, If, Case, outs-Null, outs-Assignment, outs-If, outs-Case}
+use Rattle.spx_core.specs.Commands.{Command, Skip, Set, Then, Choose, alternative, alternative_step, arm_before, arm_step, arms_before, command, commands, select, stmt_step}
 use Rattle.spx_vcg.specs.declared.branches.Rest.{Rest, Rest-F, out-Rest, map-Rest, fold-Rest, fold_out-Rest}
 use Rattle.spx_vcg.specs.declared.branches.Rest.TheVariants.{End, After, outs-End, outs-After}
 use Rattle.spx_vcg.specs.Following.{after, after_step, done_otherwise}
 
-at_layer : (s : CoreStmt) (layer : CoreStmt-F CoreStmt CoreArm) → out-CoreStmt s ≡ layer → command s ≡ stmt_step (map-CoreStmt CoreStmt CoreArm Command (Command → Command) command arm_before layer)
+-- the choices of an alternative and what is done in it
+abbrev pub Part : Type 0
+Part = Option (List CoreChoice) × Command
+
+at_layer : (s : CoreStmt) (layer : CoreStmt-F CoreStmt CoreAlternative CoreArm) → out-CoreStmt s ≡ layer → command s ≡ stmt_step (map-CoreStmt CoreStmt CoreAlternative CoreArm Command Part (Command → Command) command alternative arm_before layer)
 at_layer s layer is =
-    fold_out-CoreStmt Command (Command → Command) stmt_step arm_step s ∙ ap (λ x. stmt_step (map-CoreStmt CoreStmt CoreArm Command (Command → Command) command arm_before x)) is
+    fold_out-CoreStmt Command Part (Command → Command) stmt_step alternative_step arm_step s ∙ ap (λ x. stmt_step (map-CoreStmt CoreStmt CoreAlternative CoreArm Command Part (Command → Command) command alternative arm_before x)) is
 
 pub null_is : (s : CoreStmt) (place : Place) → s ≡ Null place → command s ≡ Skip
 null_is s place is = at_layer s (CoreStmt-F.Null place) (ap out-CoreStmt is ∙ outs-Null place)
@@ -31,6 +37,14 @@ if_at s arms (Some stmts) closing is = at_layer s (CoreStmt-F.If arms (Some stmt
 pub if_is : (s : CoreStmt) (arms : List CoreArm) (otherwise : Option (List CoreStmt)) (closing : Closing) → s ≡ If arms otherwise closing
     → (xs : List CoreArm) (ss : List CoreStmt) → xs ≡ arms → ss ≡ done_otherwise otherwise → command s ≡ arms_before (commands ss) (map arm_before xs)
 if_is s arms otherwise closing is xs ss e f = if_at s arms otherwise closing is ∙ (λ i. arms_before (commands (sym f i)) (map arm_before (sym e i)))
+
+pub case_is : (s : CoreStmt) (place : Place) (selector : CoreExpr) (alternatives : List CoreAlternative) (closing : Closing) → s ≡ Case place selector alternatives closing
+    → (xs : List CoreAlternative) → xs ≡ alternatives → command s ≡ select place selector (map alternative xs)
+case_is s place selector alternatives closing is xs e =
+    at_layer s (CoreStmt-F.Case place selector alternatives closing) (ap out-CoreStmt is ∙ outs-Case place selector alternatives closing) ∙ ap (λ ys. select place selector (map alternative ys)) (sym e)
+
+pub alternative_is : (a : CoreAlternative) → alternative a ≡ ((out-CoreAlternative a).choices, commands (out-CoreAlternative a).body)
+alternative_is a = rw (fold_out-CoreAlternative) refl
 
 pub arm_is : (arm : CoreArm) (otherwise : Command) → arm_before arm otherwise ≡ Choose (out-CoreArm arm).place (out-CoreArm arm).condition (commands (out-CoreArm arm).body) otherwise
 arm_is arm otherwise = rw (fold_out-CoreArm) refl

@@ -1,6 +1,7 @@
 pub mod ConditionTerms
 pub mod ConditionStates
 pub mod ConditionForward
+pub mod CheckLaws
 pub mod Expressions
 pub mod Parts
 pub mod SharedIds
@@ -8,6 +9,9 @@ pub mod SharedTerms
 pub mod SharedSteps
 pub mod GoalSteps
 pub mod Operators
+pub mod ChoiceIds
+pub mod ChoiceTerms
+pub mod ChoiceSteps
 pub mod CheckSteps
 pub mod StartSteps
 pub mod Sizes

@@ -14,10 +14,14 @@ use Rattle.spx_core.specs.declared.name.CoreName.{CoreName}
 use Rattle.spx_core.specs.declared.name.Reference.{Reference}
 use Rattle.spx_core.specs.declared.expression.CoreExpr.{CoreExpr}
 use Rattle.spx_core.specs.declared.expression.CoreExpr.TheVariants as expr
+use Rattle.spx_core.specs.declared.function.CoreFunction.{CoreFunction}
+use Rattle.spx_core.specs.declared.function.Shift.{Shift}
+use Rattle.spx_core.specs.declared.function.Shift.TheVariants as shift
 use Rattle.spx_core.specs.declared.program.Program.{Program}
+use Rattle.spx_core.specs.Judged.{application}
 use Rattle.spx_core.specs.Uses.{variable_of}
 use Rattle.spx_term.specs.declared.term.Term.{Term}
-use Rattle.spx_term.specs.declared.term.Term.TheVariants.{Infix}
+use Rattle.spx_term.specs.declared.term.Term.TheVariants.{Infix, Number}
 use Rattle.spx_term.specs.declared.term.TermOp.TheVariants as operator
 use Rattle.spx_term.specs.declared.term.TermPrefix.TheVariants as sign
 use Rattle.spx_term.specs.declared.value.Value.{Value}
@@ -27,11 +31,12 @@ use Rattle.spx_term.specs.Folding.{term_of as static_term}
 use Rattle.spx_term.specs.Steps.{Tree, Assume, assume_all, assume_parts}
 use Rattle.spx_meaning.specs.Evaluation.{term_op}
 use Rattle.spx_meaning.specs.Literals.{literal}
-use Rattle.spx_paths.specs.Terms.{between, first_term, last_term, member_term, named, now, now_term, signed_term, term_of}
+use Rattle.spx_paths.specs.Terms.{between, first_term, last_term, member_term, moved_term, named, now, now_term, signed_term, term_of}
 use Rattle.spx_vcg.specs.ConditionWalk.{State, applied}
+use Rattle.spx_vcg.specs.Functions.{shift_in}
 use Rattle.spx_vcg.specs.PathWalk.{HasParts}
 use Rattle.spx_vcg.proofs.ConditionTerms.{applied-Infix, applied-member_term}
-use Rattle.spx_vcg.proofs.Expressions.{attribute_term, in_range_term, in_type_term, infix_term, name_term, number_term, parenthesized_term, prefix_term, static_is}
+use Rattle.spx_vcg.proofs.Expressions.{applied_term, attribute_term, in_range_term, in_type_term, infix_term, name_term, number_term, parenthesized_term, prefix_term, static_is}
 
 -- the term is its only part
 abbrev pub IsOne : Term → Type 0
@@ -53,6 +58,11 @@ one_signed prefix.Plus t not_plus = absurd (not_plus refl)
 one_signed prefix.Minus t not_plus = conjuncts-Prefix sign.Minus t
 one_signed prefix.Abs t not_plus = conjuncts-Prefix sign.Abs t
 one_signed prefix.Not t not_plus = conjuncts-Prefix sign.Not t
+
+one_moved : (h : Shift) (t : Term) → (h ≡ shift.Same → ⊥) → IsOne (moved_term h t)
+one_moved shift.Same t not_same = absurd (not_same refl)
+one_moved shift.Next t not_same = conjuncts-Infix operator.Add t (Number (pos 1))
+one_moved shift.Previous t not_same = conjuncts-Infix operator.Subtract t (Number (pos 1))
 
 one_operation : (o : InfixOp) (a b : Term) → (o ≡ op.And → ⊥) → (o ≡ op.AndThen → ⊥) → IsOne (Infix (term_op o) a b)
 one_operation op.Add a b f g = conjuncts-Infix operator.Add a b
@@ -88,7 +98,7 @@ none_static (Some s) h = absurd (true≢false h)
 two_parts : (a b : Term) → conjuncts (Infix operator.And a b) ≡ conjuncts a ++ conjuncts b
 two_parts a b = conjuncts-Infix operator.And a b
 
-between_parts : (t low high : Term) → conjuncts (between t low high) ≡ Infix operator.GreaterOrEqual t low ∷ Infix operator.LessOrEqual t high ∷ []
+pub between_parts : (t low high : Term) → conjuncts (between t low high) ≡ Infix operator.GreaterOrEqual t low ∷ Infix operator.LessOrEqual t high ∷ []
 between_parts t low high =
     two_parts (Infix operator.GreaterOrEqual t low) (Infix operator.LessOrEqual t high)
     ∙ (λ i. conjuncts-Infix operator.GreaterOrEqual t low i ++ conjuncts-Infix operator.LessOrEqual t high i)
@@ -132,6 +142,12 @@ module _ (p : Program) (entries : VarId → Term) (e : CoreExpr) where
 
     pub attribute_part : (prefix : CoreName) (designator : Identifier) → e ≡ expr.Attribute prefix designator → IsOne (meant e)
     attribute_part prefix designator is = along (attribute_term p entries e none prefix designator is) (conjuncts-Number (pos 0))
+
+    pub same_parts : {h : Shift} (function : CoreFunction) (place : Place) (a : CoreExpr) → e ≡ expr.Applied function place a → h ≡ shift_in (application function) → h ≡ shift.Same → (rest : Tree) → assume_parts (meant e) rest ≡ assume_parts (meant a) rest
+    same_parts function place a is at same rest = ap (λ t. assume_parts t rest) (applied_term p entries e none function place a is ∙ ap (λ (x : Shift). moved_term x (meant a)) (sym at ∙ same))
+
+    pub moved_part : {h : Shift} (function : CoreFunction) (place : Place) (a : CoreExpr) → e ≡ expr.Applied function place a → h ≡ shift_in (application function) → (h ≡ shift.Same → ⊥) → IsOne (meant e)
+    moved_part function place a is at not_same = along (applied_term p entries e none function place a is) (one_moved (shift_in (application function)) (meant a) (λ same. not_same (at ∙ same)))
 
     pub plus_parts : (o : PrefixOp) (place : Place) (a : CoreExpr) → e ≡ expr.Prefix o place a → o ≡ prefix.Plus → (rest : Tree) → assume_parts (meant e) rest ≡ assume_parts (meant a) rest
     plus_parts o place a is plus rest = ap (λ t. assume_parts t rest) (prefix_term p entries e none o place a is ∙ ap (λ x. signed_term x (meant a)) plus)

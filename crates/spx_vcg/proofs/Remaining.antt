@@ -1,17 +1,31 @@
 -- How many statements and arms a walk may still come to.
-use Rattle.std.proofs.Common.{◌≡◌, ℕ, ◌+◌, ◌*◌, ◌<◌, ◌≤◌, List, [], ◌∷◌, length, map, drop, get_or, zero, suc, ap, arith}
+use Rattle.std.proofs.Common.{◌≡◌, ℕ, ◌+◌, ◌*◌, ◌<◌, ◌≤◌, List, [], ◌∷◌, length, map, drop, get_or, zero, suc, refl, ap, arith}
+use Rattle.spx_text.specs.declared.place.Place.{Place}
+use Rattle.spx_core.specs.declared.expression.CoreExpr.{CoreExpr}
+use Rattle.spx_core.specs.declared.statement.CoreAlternative.{CoreAlternative, out-CoreAlternative}
 use Rattle.spx_core.specs.declared.statement.CoreArm.{CoreArm, out-CoreArm}
 use Rattle.spx_core.specs.declared.statement.CoreStmt.{CoreStmt}
-use Rattle.spx_core.specs.Commands.{Command, Skip, Set, Then, Choose, arm_before, arms_before, command, commands}
+use Rattle.spx_core.specs.Commands.{Command, Skip, Set, Then, Choose, Select, Alternatives, Last, When, alternative, alternatives_of, arm_before, arms_before, command, commands, select}
 use Rattle.spx_vcg.proofs.BranchSteps.{here_is}
-use Rattle.spx_vcg.proofs.Forms.{arm_is}
+use Rattle.spx_vcg.proofs.Forms.{Part, alternative_is, arm_is}
 
 -- those of a command
-abbrev pub size : Command → ℕ
-size Skip = 1
-size (Set target value) = 1
-size (Then a b) = 1 + (size a + size b)
-size (Choose place condition a b) = 1 + (size a + size b)
+abbrev mutual
+  pub size : Command → ℕ
+  size Skip = 1
+  size (Set target value) = 1
+  size (Then a b) = 1 + (size a + size b)
+  size (Choose place condition a b) = 1 + (size a + size b)
+  size (Select place selector alternatives) = 1 + size_for alternatives
+
+  pub size_for : Alternatives → ℕ
+  size_for (Last choices a) = 1 + size a
+  size_for (When choices a more) = 1 + (size a + size_for more)
+
+-- those of alternatives
+abbrev pub sizes : List Part → ℕ
+sizes [] = 0
+sizes (a ∷ more) = 1 + (size a.1 + sizes more)
 
 -- those of what follows
 abbrev pub left : Command → ℕ
@@ -19,12 +33,14 @@ left Skip = 0
 left (Set target value) = 0
 left (Then a b) = size a + left b
 left (Choose place condition a b) = 0
+left (Select place selector alternatives) = 0
 
 pub size_positive : (c : Command) → 0 < size c
 size_positive Skip = omega arith
 size_positive (Set target value) = omega arith
 size_positive (Then a b) = omega arith
 size_positive (Choose place condition a b) = omega arith
+size_positive (Select place selector alternatives) = omega arith
 
 arm_size : (arm : CoreArm) (otherwise : Command) → size (arm_before arm otherwise) ≡ 1 + (size (commands (out-CoreArm arm).body) + size otherwise)
 arm_size arm otherwise = ap size (arm_is arm otherwise)
@@ -41,19 +57,36 @@ body_smaller o (a ∷ arms) (suc i) d within =
     let w = body_smaller o arms i d (omega arith) in
     omega arith
 
+sizes_are : (first : Part) (more : List Part) → size_for (alternatives_of first more) ≡ sizes (first ∷ more)
+sizes_are first [] = omega arith
+sizes_are first (second ∷ more) = let w = sizes_are second more in omega arith
+
+pub select_size : (place : Place) (selector : CoreExpr) (alternatives : List Part) → size (select place selector alternatives) ≡ 1 + sizes alternatives
+select_size place selector [] = refl
+select_size place selector (first ∷ more) = ap (λ n. 1 + n) (sizes_are first more)
+
+-- what is done in an alternative
+pub alternative_smaller : (alternatives : List CoreAlternative) (i : ℕ) (d : CoreAlternative) → i < length alternatives → size (commands (out-CoreAlternative (get_or alternatives i d)).body) ≤ sizes (map alternative alternatives)
+alternative_smaller [] i d within = absurd (omega arith)
+alternative_smaller (a ∷ alternatives) zero d within = let e = ap (λ (x : Part). size x.1) (alternative_is a) in omega arith
+alternative_smaller (a ∷ alternatives) (suc i) d within = let w = alternative_smaller alternatives i d (omega arith) in omega arith
+
 rest_smaller : (stmts : List CoreStmt) (i : ℕ) → size (commands (drop i stmts)) ≤ size (commands stmts)
 rest_smaller stmts zero = omega arith
 rest_smaller [] (suc i) = omega arith
 rest_smaller (s ∷ stmts) (suc i) = let w = rest_smaller stmts i in omega arith
 
-pub if_smaller : (stmts : List CoreStmt) (i : ℕ) (stmt : CoreStmt) → i < length stmts → stmt ≡ get_or stmts i stmt → (d following more : Command) → command stmt ≡ d → more ≡ Then (commands (drop (i + 1) stmts)) following
+pub branch_smaller : (stmts : List CoreStmt) (i : ℕ) (stmt : CoreStmt) → i < length stmts → stmt ≡ get_or stmts i stmt → (d following more : Command) → command stmt ≡ d → more ≡ Then (commands (drop (i + 1) stmts)) following
     → 4 * (size d + left more) + 3 < 4 * (size (commands stmts) + left following)
-if_smaller stmts i stmt within is d following more e f =
+branch_smaller stmts i stmt within is d following more e f =
     let here = ap size (here_is stmts i stmt within is) in
     let this = ap size e in
     let more_left = ap left f in
     let all = rest_smaller stmts i in
     omega arith
 
-pub follows_smaller : (stmts next : Command) (following more : Command) → following ≡ Then next more → 4 * (size next + left more) < 4 * (size stmts + left following)
-follows_smaller stmts next following more e = let w = size_positive stmts in let f = ap left e in omega arith
+pub follow_smaller : (stmts following : Command) → 4 * left following + 1 < 4 * (size stmts + left following)
+follow_smaller stmts following = let w = size_positive stmts in omega arith
+
+pub follows_smaller : (next following more : Command) → following ≡ Then next more → 4 * (size next + left more) < 4 * left following + 1
+follows_smaller next following more e = let f = ap left e in omega arith

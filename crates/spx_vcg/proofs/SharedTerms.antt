@@ -8,14 +8,15 @@ use Rattle.spx_term.specs.declared.term.TermOp.{TermOp}
 use Rattle.spx_term.specs.declared.term.Term.TheVariants.{Number, Variable, Infix}
 use Rattle.spx_core.specs.declared.entity.VarId.{VarId}
 use Rattle.spx_core.specs.declared.expression.CoreExpr.{CoreExpr}
+use Rattle.spx_core.specs.declared.function.Shift.{Shift}
 use Rattle.spx_core.specs.declared.program.Program.{Program}
-use Rattle.spx_paths.specs.Terms.{member_term, now_term, signed_term, term_of}
+use Rattle.spx_paths.specs.Terms.{member_term, moved_term, now_term, signed_term, term_of}
 use Rattle.spx_arena.specs.declared.terms.TermId.{TermId}
 use Rattle.spx_arena.specs.Sharing.{Adds, Grows, IsId, tree_at}
 use Rattle.spx_arena.proofs.Growth.{adds_along, grows_twice}
 use Rattle.spx_vcg.specs.ConditionWalk.{State, applied}
 use Rattle.spx_vcg.specs.States.{Given, given, value_or, state_in, AddsMeaning, AreValues}
-use Rattle.spx_vcg.proofs.ConditionTerms.{applied-Infix, applied-Number, applied-member_term, applied-signed_term}
+use Rattle.spx_vcg.proofs.ConditionTerms.{applied-Infix, applied-Number, applied-member_term, applied-moved_term, applied-signed_term}
 use Rattle.spx_vcg.proofs.SharedIds.{state_kept}
 
 pub ruleset adds_laws = (adds_along)
@@ -58,6 +59,13 @@ module _ (old : List Term) (values : Given) (are : AreValues (length old) values
   adds_signed a op p r e = record {
     grown = grows_twice p.grown r.grown;
     made = (adds_along r (ap (signed_term op) p.made.tree ∙ sym (applied-signed_term here op a) ∙ ap (applied here) (sym e))).made;
+  }
+
+  -- a function of a type
+  pub adds_moved : {mid new : List Term} {i id : TermId} (a : Term) {t : Term} (h : Shift) → Adds old mid i (applied here a) → Adds mid new id (moved_term h (tree_at mid i)) → t ≡ moved_term h a → Adds old new id (applied here t)
+  adds_moved a h p r e = record {
+    grown = grows_twice p.grown r.grown;
+    made = (adds_along r (ap (moved_term h) p.made.tree ∙ sym (applied-moved_term here h a) ∙ ap (applied here) (sym e))).made;
   }
 
   -- an operation on two

@@ -12,21 +12,24 @@ use Rattle.spx_core.specs.declared.subprogram.CorePrecondition.{CorePrecondition
 use Rattle.spx_core.specs.declared.subprogram.Sub.{Sub}
 use Rattle.spx_core.specs.Commands.{Set, Skip, Then, commands}
 use Rattle.spx_core.specs.Dependency.{exports}
-use Rattle.spx_core.specs.Formals.{formals}
+use Rattle.spx_core.specs.Formals.{formals, locals}
 use Rattle.spx_core.specs.Places.{place_of}
 use Rattle.spx_core.specs.Uses.{variable_of}
 use Rattle.spx_term.specs.declared.condition.CondKind.TheVariants.{Range}
 use Rattle.spx_term.specs.declared.term.Name.{Name}
 use Rattle.spx_term.specs.declared.term.Term.{Term}
 use Rattle.spx_term.specs.declared.term.Term.TheVariants.{Variable}
+use Rattle.spx_term.specs.declared.value.Value.{Value}
 use Rattle.spx_term.specs.Conjuncts.{conjuncts}
+use Rattle.spx_term.specs.Folding.{term_of as static_term}
 use Rattle.spx_term.specs.Steps.{Tree, Assume, Assign, assume_all, assume_parts, Cut, tidy, claims_of}
+use Rattle.spx_meaning.specs.Runs.{initial_value}
 use Rattle.spx_meaning.specs.Stores.{type_of}
 use Rattle.spx_paths.specs.Checks.{checked_under, checks, in_type}
 use Rattle.spx_paths.specs.Conditions.{body_claims}
 use Rattle.spx_paths.specs.Prefixes.{entered, known_of}
 use Rattle.spx_paths.specs.Terms.{now, entry, now_term, entry_term, term_of}
-use Rattle.spx_paths.specs.Walks.{assigned, checked_in, ending, entering, first_facts, import_facts, pre_facts, range_check, start_tree, walk}
+use Rattle.spx_paths.specs.Walks.{assigned, checked_in, ending, entering, first_facts, import_facts, initializing, pre_facts, range_check, start_tree, starting_with, walk}
 use Rattle.spx_arena.specs.declared.terms.TermId.{TermId}
 use Rattle.spx_arena.specs.Claims.{AreIds, AreLists, AreClaims, trees_at, claims_at}
 use Rattle.spx_arena.specs.Facts.{facts_at}
@@ -84,6 +87,12 @@ after_enter {old} {mid} {new} {id} p v b first name k m set fs nm is =
     let done : Goes old new (Assign name (Variable first)) = goes_twice (goes_of k m.walks) (set (Variable first) m.means) in
     subst (λ b. Goes old new (entered p b v)) (sym is) (subst (λ (n : Name). Goes old new (Assign n (Variable (entry p v)))) nm (subst (λ (n : Name). Goes old new (Assign name (Variable n))) fs done))
 
+pub after_initialize : {old mid new : Walk} {id : TermId} (p : Program) (v : VarId) (o : Option Value) (s : Value) (name : Name) → Keeps old mid → Makes old mid (λ rest. rest) id (static_term s)
+    → ((t : Term) → Means mid id t → Goes mid new (Assign name t)) → name ≡ now p v → o ≡ Some s → Goes old new (starting_with (now p v) o)
+after_initialize {old} {mid} {new} {id} p v o s name k m set nm is =
+    let done : Goes old new (Assign name (static_term s)) = goes_twice (goes_of k m.walks) (set (static_term s) m.means) in
+    subst (λ (x : Option Value). Goes old new (starting_with (now p v) x)) (sym is) (subst (λ (n : Name). Goes old new (Assign n (static_term s))) nm done)
+
 pub after_import : {old mid new : Walk} {id : TermId} (p : Program) (v : VarId) (b : Bool) (subtype : Subtype) (name : Name) → Keeps old mid → Makes old mid (λ rest. rest) id (Variable name) → Keeps mid new
     → ((t : Term) → Means mid id t → Walks mid new (assume_all (in_type subtype t))) → subtype ≡ type_of p v → name ≡ now p v → b ≡ true → Goes old new (assume_all (known_of p b v))
 after_import {old} {mid} {new} {id} p v b subtype name k m l facts st nm is =
@@ -134,17 +143,18 @@ pub claims_end : (w : Walk) → claims_from w Cut ≡ claims_at w.terms w.facts.
 unfolding claims_from
 claims_end w = append-nil (claims_at w.terms w.facts.lists w.claims)
 
-pub all_claims : (a b c d e : Walk) (p : Program) (sub : Sub) → Starts a
-    → Goes a b (entering p sub (formals sub)) → Goes b c (assume_all (flat_map (import_facts p sub) (formals sub))) → Goes c d (assume_all (pre_facts p sub sub.pre)) → Comes p d e (Then (commands sub.statements) Skip) Skip
+pub all_claims : (a b i c d e : Walk) (p : Program) (sub : Sub) → Starts a
+    → Goes a b (entering p sub (formals sub)) → Goes b i (initializing p (locals sub)) → Goes i c (assume_all (flat_map (import_facts p sub) (formals sub))) → Goes c d (assume_all (pre_facts p sub sub.pre)) → Comes p d e (Then (commands sub.statements) Skip) Skip
     → claims_at e.terms e.facts.lists e.claims ≡ map tidy (body_claims p sub)
-all_claims a b c d e p sub starts enter import require body =
+all_claims a b i c d e p sub starts enter initialize import require body =
     let rest = walk p sub (commands sub.statements) ending ending 0 in
     sym (claims_end e)
     ∙ sym (body.same sub 0)
     ∙ sym (require.same rest)
     ∙ sym (import.same (assume_all (pre_facts p sub sub.pre) rest))
-    ∙ ap (claims_from b) (sym (assume_all-append (flat_map (import_facts p sub) (formals sub)) (pre_facts p sub sub.pre) rest))
-    ∙ sym (enter.same (assume_all (first_facts p sub) rest))
+    ∙ ap (claims_from i) (sym (assume_all-append (flat_map (import_facts p sub) (formals sub)) (pre_facts p sub sub.pre) rest))
+    ∙ sym (initialize.same (assume_all (first_facts p sub) rest))
+    ∙ sym (enter.same (initializing p (locals sub) (assume_all (first_facts p sub) rest)))
     ∙ claims_start a (start_tree p sub) starts
     ∙ forward_from_start (start_tree p sub)
     ∙ ap (map tidy) (sym (append-nil (claims_of (start_tree p sub))))
@@ -167,3 +177,12 @@ enter_step a b c p sub vs i v d within is before g rest =
     before rest
     ∙ ap (λ us. claims_from b (entering p sub us rest)) (drop-cons vs i d within ∙ (λ k. sym is k ∷ drop (sym (add-one i) k) vs))
     ∙ g.same (entering p sub (drop (i + 1) vs) rest)
+
+pub initialize_step : (a b c : Walk) (p : Program) (vs : List VarId) (i : ℕ) (v d : VarId) → i < length vs → v ≡ get_or vs i d
+    → ((rest : Tree) → claims_from a (initializing p vs rest) ≡ claims_from b (initializing p (drop i vs) rest))
+    → Goes b c (starting_with (now p v) (initial_value p v))
+    → (rest : Tree) → claims_from a (initializing p vs rest) ≡ claims_from c (initializing p (drop (i + 1) vs) rest)
+initialize_step a b c p vs i v d within is before g rest =
+    before rest
+    ∙ ap (λ us. claims_from b (initializing p us rest)) (drop-cons vs i d within ∙ (λ k. sym is k ∷ drop (sym (add-one i) k) vs))
+    ∙ g.same (initializing p (drop (i + 1) vs) rest)

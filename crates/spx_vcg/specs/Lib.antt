@@ -4,3 +4,4 @@ pub mod WalkSteps
 pub mod PathWalk
 pub mod Following
 pub mod Largeness
+pub mod Functions

@@ -1,20 +1,22 @@
 -- What the walk of commands has made, to the end of each path.
-use Rattle.std.specs.Prelude.{◌≡◌, ℕ, length, map, take}
+use Rattle.std.specs.Prelude.{◌≡◌, ℕ, List, [], ◌∷◌, length, map, take, Option}
 use Rattle.spx_core.specs.declared.expression.CoreExpr.{CoreExpr}
 use Rattle.spx_core.specs.declared.program.Program.{Program}
 use Rattle.spx_core.specs.declared.subprogram.Sub.{Sub}
-use Rattle.spx_core.specs.Commands.{Command, Then}
+use Rattle.spx_core.specs.declared.statement.CoreChoice.{CoreChoice}
+use Rattle.spx_core.specs.Commands.{Command, Then, alternatives_of}
 use Rattle.spx_term.specs.declared.term.Term.{Term}
 use Rattle.spx_term.specs.declared.term.Term.TheVariants.{Prefix}
 use Rattle.spx_term.specs.declared.term.TermPrefix.TheVariants.{Not}
 use Rattle.spx_term.specs.Conjuncts.{conjuncts}
-use Rattle.spx_term.specs.Steps.{Tree, Assume, Split, assume_parts}
+use Rattle.spx_term.specs.Steps.{Tree, Assume, Cut, Split, assume_all, assume_parts}
 use Rattle.spx_paths.specs.Terms.{entry_term, term_of}
-use Rattle.spx_paths.specs.Walks.{ending, walk}
+use Rattle.spx_paths.specs.Walks.{ending, walk, walk_for}
+use Rattle.spx_arena.specs.declared.terms.TermId.{TermId}
 use Rattle.spx_vcg.specs.declared.branches.Mark.{Mark}
 use Rattle.spx_vcg.specs.declared.walk.Walk.{Walk}
 use Rattle.spx_vcg.specs.ConditionWalk.{State, applied}
-use Rattle.spx_vcg.specs.WalkSteps.{state, Whole, OnlyAdds, claims_from, Goes, Walks}
+use Rattle.spx_vcg.specs.WalkSteps.{state, Whole, OnlyAdds, claims_from, Goes, MeanAll, Means, Walks}
 
 -- the walk has come along a command that goes on
 pub record Passes (p : Program) (old new : Walk) (c : Command) : Type 0 where
@@ -38,6 +40,24 @@ pub record Takes (p : Program) (old new : Walk) (condition : CoreExpr) (c : Comm
   pub adds : OnlyAdds old new
   pub kept : state new ≡ state old
   pub goes : (sub : Sub) (made : ℕ) → Walks old new (Split (assume_parts (term_of p (entry_term p sub) condition) (walk p sub c ending ending made)))
+
+-- the claims under these facts are made, and values and facts are as they were
+pub record TakesUnder (p : Program) (old new : Walk) (facts : List TermId) (c : Command) : Type 0 where
+  pub whole : Whole new
+  pub adds : OnlyAdds old new
+  pub kept : state new ≡ state old
+  pub goes : (ts : List Term) → MeanAll old facts ts → (sub : Sub) (made : ℕ) → Walks old new (Split (assume_all ts (walk p sub c ending ending made)))
+
+-- the alternatives that are left for a value after earlier choices, each with what follows it; where none is left, nothing
+abbrev pub left_for : Program → Sub → Term → List Term → List (Option (List CoreChoice) × Command) → Command → ℕ → Tree
+left_for p sub t earlier [] following made = Cut
+left_for p sub t earlier (first ∷ more) following made = walk_for p sub t earlier (alternatives_of first more) (walk p sub following ending ending) ending made
+
+-- the claims of these alternatives are made, for what this id stands for
+pub record TakesEach (p : Program) (old new : Walk) (value : TermId) (alternatives : List (Option (List CoreChoice) × Command)) (following : Command) : Type 0 where
+  pub whole : Whole new
+  pub adds : OnlyAdds old new
+  pub same : (t : Term) → Means old value t → (sub : Sub) (made : ℕ) → claims_from old (left_for p sub t [] alternatives following made) ≡ claims_from new Cut
 
 -- a condition is false
 abbrev pub negated : Term → Tree → Tree

@@ -1,16 +1,19 @@
 // The walk through statements to the end of each path. What paths have in common is walked once.
 ghost use Rattle.std.specs.Prelude.{◌≡◌, ◌<◌, length, map, IfOk, OnOk};
-ghost use Rattle.spx_core.specs.Commands.{Skip, Then, arm_before, arms_before, commands};
+ghost use Rattle.spx_text.specs.declared.place.Place.{Place};
+ghost use Rattle.spx_core.specs.Commands.{Skip, Then, alternative, arm_before, arms_before, commands, select};
 ghost use Rattle.spx_term.specs.declared.term.Term.{Term};
 ghost use Rattle.spx_vcg.specs.Following.{after, done_otherwise};
 ghost use Rattle.spx_vcg.specs.WalkSteps.{Keeps, Means, Walks, Whole};
-ghost use Rattle.spx_vcg.specs.PathWalk.{Comes, Marks, IsBack, Takes, negated, PassesArm};
+ghost use Rattle.spx_arena.specs.Claims.{AreIds};
+ghost use Rattle.spx_vcg.specs.PathWalk.{Comes, Marks, IsBack, Takes, TakesEach, TakesUnder, negated, PassesArm};
 
+use crate::choices::alternative_facts;
 use crate::ids::negated_id;
 use crate::values::Values;
 use crate::walk::Walk;
 use spx_arena::{FactsId, TermId};
-use spx_core::{CoreArm, CoreExpr, CoreStmt, Program};
+use spx_core::{CoreAlternative, CoreArm, CoreExpr, CoreStmt, Program};
 use sqlite_items::Items;
 use std::alloc::{AllocError, Global};
 
@@ -142,6 +145,88 @@ impl Walk {
         Ok(())
     }
 
+    /// An alternative and what follows it. These are facts in it, and no longer after it.
+    #[cycle(path)]
+    fn alternative(
+        &mut self,
+        alloc: Global,
+        program: &Program,
+        facts: &[TermId],
+        body: &[CoreStmt],
+        rest: &Rest,
+    ) -> Result<(), AllocError>
+        requires whole { Whole self.old }
+        requires within { AreIds (length self.old.terms) facts.now }
+        ensures { OnOk result (TakesUnder program.now self.old self.new facts.now (Then (commands body.now) (after rest.now))) }
+    {
+        let mark = self.mark()?;
+        self.assume_all(facts)?;
+        self.path(alloc, program, body, rest)?;
+        self.back_to(mark);
+        Ok(())
+    }
+
+    /// Alternatives from the first on, each with what follows. That for `others` knows that the value is of no choice before it.
+    #[cycle(path)]
+    fn alternatives(
+        &mut self,
+        alloc: Global,
+        program: &Program,
+        value: TermId,
+        alternatives: &[CoreAlternative],
+        rest: &Rest,
+    ) -> Result<(), AllocError>
+        requires whole { Whole self.old }
+        requires within { value.0 < length self.old.terms }
+        ensures { OnOk result (TakesEach program.now self.old self.new value (map alternative alternatives.now) (after rest.now)) }
+    {
+        let mut earlier = Items::new(alloc);
+        for alternative in alternatives {
+            let choices = &alternative.choices;
+            let facts = alternative_facts(alloc, &mut self.terms, value, &mut earlier, choices)?;
+            let body = alternative.body.as_slice();
+            self.alternative(alloc, program, facts.as_slice(), body, rest)?;
+        }
+        Ok(())
+    }
+
+    /// The alternatives for the value of a selector, each with what follows.
+    #[cycle(path)]
+    fn case(
+        &mut self,
+        alloc: Global,
+        program: &Program,
+        selector: &CoreExpr,
+        alternatives: &[CoreAlternative],
+        rest: &Rest,
+    ) -> Result<(), AllocError>
+        requires { Whole self.old }
+        ensures { OnOk result ((place : Place) → Comes program.now self.old self.new (Then (select place selector.now (map alternative alternatives.now)) (after rest.now)) Skip) }
+    {
+        if alternatives.is_empty() {
+            self.follow(alloc, program, rest)?;
+            return Ok(());
+        }
+        let value = self.checked_id(alloc, program, &[], selector)?;
+        self.alternatives(alloc, program, value, alternatives, rest)?;
+        Ok(())
+    }
+
+    /// What follows, to the end of each path.
+    #[cycle(path)]
+    fn follow(&mut self, alloc: Global, program: &Program, rest: &Rest) -> Result<(), AllocError>
+        requires { Whole self.old }
+        ensures { OnOk result (Comes program.now self.old self.new (after rest.now) Skip) }
+    {
+        match rest {
+            Rest::End => Ok(()),
+            Rest::After(stmts, rest) => {
+                self.path(alloc, program, &*stmts, &*rest)?;
+                Ok(())
+            }
+        }
+    }
+
     /// Statements and what follows them, to the end of each path.
     #[cycle(path)]
     pub fn path(
@@ -163,23 +248,19 @@ impl Walk {
                 }
                 CoreStmt::If(arms, otherwise, _) => {
                     let following = Rest::more(&stmts[at + 1..], &*rest);
-                    self.arms(
-                        alloc,
-                        program,
-                        arms.as_slice(),
-                        done_otherwise(otherwise),
-                        &following,
-                    )?;
+                    let otherwise = done_otherwise(otherwise);
+                    self.arms(alloc, program, arms.as_slice(), otherwise, &following)?;
+                    return Ok(());
+                }
+                CoreStmt::Case(_, selector, alternatives, _) => {
+                    let following = Rest::more(&stmts[at + 1..], &*rest);
+                    let alternatives = alternatives.as_slice();
+                    self.case(alloc, program, selector, alternatives, &following)?;
                     return Ok(());
                 }
             }
         }
-        match rest {
-            Rest::End => Ok(()),
-            Rest::After(stmts, rest) => {
-                self.path(alloc, program, &*stmts, &*rest)?;
-                Ok(())
-            }
-        }
+        self.follow(alloc, program, rest)?;
+        Ok(())
     }
 }

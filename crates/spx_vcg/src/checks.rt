@@ -7,20 +7,23 @@ ghost use Rattle.spx_term.specs.declared.term.Term.{Term};
 ghost use Rattle.spx_term.specs.declared.term.Term.TheVariants as term;
 ghost use Rattle.spx_meaning.specs.Evaluation.{term_op};
 ghost use Rattle.spx_meaning.specs.Literals.{literal};
-ghost use Rattle.spx_paths.specs.Checks.{base_check, divisor_check, exponent_check, operation_check, right_lefts, sign_check};
-ghost use Rattle.spx_paths.specs.Terms.{member_term, signed_term};
+ghost use Rattle.spx_core.specs.declared.function.CoreFunction.{CoreFunction};
+ghost use Rattle.spx_paths.specs.Checks.{base_check, bounds_check, divisor_check, exponent_check, mapping_check, operation_check, right_lefts, sign_check};
+ghost use Rattle.spx_paths.specs.Terms.{member_term, moved_term, signed_term};
+ghost use Rattle.spx_vcg.specs.Functions.{shift_in};
 ghost use Rattle.spx_arena.specs.Claims.{AreIds};
 ghost use Rattle.spx_vcg.specs.WalkSteps.{Evaluates, Keeps, Makes, MeanAll, Means, Walks, Whole};
 
 use crate::goals::{in_range, one_goal};
-use crate::ids::{self, negated_id, subtype_of, term_op};
+use crate::ids::{self, negated_id, shift_of, subtype_of, term_op};
 use crate::walk::Walk;
 use spx_arena::TermId;
-use spx_core::{BaseType, CoreExpr, Program};
+use spx_core::{BaseType, Breach, CoreExpr, Mapping, Program, Shift, Span};
 use spx_paths::{base_of, literal};
 use spx_term::{CondKind, TermOp, Value};
 use spx_text::Place;
 use spx_tree::{InfixOp, MemberOp, PrefixOp};
+use spx_types::application;
 use sqlite_items::Items;
 use std::alloc::{AllocError, Global};
 
@@ -160,6 +163,67 @@ impl Walk {
         }
     }
 
+    /// Proves that a result lies in the bounds of a function.
+    fn check_bounds(
+        &mut self,
+        alloc: Global,
+        lefts: &[TermId],
+        bounds: Option<Span>,
+        place: Place,
+        value: TermId,
+    ) -> Result<(), AllocError>
+        requires whole { Whole self.old }
+        requires lefts { AreIds (length self.old.terms) lefts.now }
+        requires within { value.0 < length self.old.terms }
+        ensures keeps { OnOk result (Keeps self.old self.new) }
+        ensures walks { OnOk result ((ls : List Term) (t : Term) → MeanAll self.old lefts.now ls → Means self.old value t → Walks self.old self.new (bounds_check ls bounds place t)) }
+    {
+        match bounds {
+            None => Ok(()),
+            Some(span) => {
+                let goals = in_range(alloc, &mut self.terms, span.first, span.last, value)?;
+                self.check(alloc, lefts, CondKind::Range, place, goals)?;
+                Ok(())
+            }
+        }
+    }
+
+    /// The check of the result of a function, whose operand stands at the place.
+    fn check_mapping(
+        &mut self,
+        alloc: Global,
+        lefts: &[TermId],
+        mapping: Result<Mapping, Breach>,
+        place: Place,
+        value: TermId,
+    ) -> Result<(), AllocError>
+        requires whole { Whole self.old }
+        requires lefts { AreIds (length self.old.terms) lefts.now }
+        requires within { value.0 < length self.old.terms }
+        ensures keeps { OnOk result (Keeps self.old self.new) }
+        ensures walks { OnOk result ((ls : List Term) (t : Term) → MeanAll self.old lefts.now ls → Means self.old value (moved_term (shift_in mapping) t) → Walks self.old self.new (mapping_check ls mapping place t)) }
+    {
+        match mapping {
+            Ok(mapping) => {
+                self.check_bounds(alloc, lefts, mapping.bounds, place, value)?;
+                Ok(())
+            }
+            Err(_) => Ok(()),
+        }
+    }
+
+    /// The id of what a function makes of its operand.
+    fn moved_id(&mut self, shift: Shift, operand: TermId) -> Result<TermId, AllocError>
+        requires whole { Whole self.old }
+        requires within { operand.0 < length self.old.terms }
+        ensures keeps { OnOk result (Keeps self.old self.new) }
+        ensures within { IfOk result (λ id. id.0 < length self.new.terms) }
+        ensures makes { IfOk result (λ id. (a : Term) → Means self.old operand a → Makes self.old self.new (λ rest. rest) id (moved_term shift a)) }
+    {
+        let id = ids::moved_id(&mut self.terms, shift, operand)?;
+        Ok(id)
+    }
+
     /// The id of an operation on one operand.
     fn signed_id(&mut self, op: PrefixOp, operand: TermId) -> Result<TermId, AllocError>
         requires whole { Whole self.old }
@@ -267,6 +331,34 @@ impl Walk {
         Ok(id)
     }
 
+    /// The checks of a function and of its operand, and its term.
+    #[cycle(checked_id)]
+    fn checked_applied(
+        &mut self,
+        alloc: Global,
+        program: &Program,
+        lefts: &[TermId],
+        expr: &CoreExpr,
+    ) -> Result<TermId, AllocError>
+        requires whole { Whole self.old }
+        requires lefts { AreIds (length self.old.terms) lefts.now }
+        requires none { None ≡ literal expr.now }
+        requires form { (function : CoreFunction) × (place : Place) × (a : CoreExpr) × (expr.now ≡ core.Applied function place a) }
+        ensures keeps { OnOk result (Keeps self.old self.new) }
+        ensures within { IfOk result (λ id. id.0 < length self.new.terms) }
+        ensures makes { IfOk result (Evaluates program.now lefts.now self.old self.new expr.now) }
+    {
+        let CoreExpr::Applied(function, _, operand) = expr else {
+            unreachable!();
+        };
+        let mapping = application(function);
+        let at = operand.get().place();
+        let first = self.checked_id(alloc, program, lefts, operand.get())?;
+        let id = self.moved_id(shift_of(function), first)?;
+        self.check_mapping(alloc, lefts, mapping, at, id)?;
+        Ok(id)
+    }
+
     /// The checks of a test for a type, which are those of the tested value, and its term.
     #[cycle(checked_id)]
     fn checked_in_type(
@@ -317,6 +409,7 @@ impl Walk {
             CoreExpr::Number(_, _) => Ok(self.term_id(program, expr)?),
             CoreExpr::Name(_) => Ok(self.term_id(program, expr)?),
             CoreExpr::Attribute(_, _) => Ok(self.term_id(program, expr)?),
+            CoreExpr::Applied(_, _, _) => Ok(self.checked_applied(alloc, program, lefts, expr)?),
             CoreExpr::Parenthesized(_, inner) => {
                 Ok(self.checked_id(alloc, program, lefts, inner.get())?)
             }

@@ -7,20 +7,12 @@ ghost use Rattle.spx_arena.specs.Claims.{AreIds, trees_at};
 ghost use Rattle.spx_arena.specs.Sharing.{tree_at, Adds};
 ghost use Rattle.spx_vcg.specs.States.{AddsAll};
 
+use crate::ids::with_number;
 use spx_arena::{Node, TermId, Terms};
 use spx_core::{Class, Subtype};
 use spx_term::TermOp;
 use sqlite_items::Items;
 use std::alloc::{AllocError, Global};
-
-/// The comparison of a term with a number.
-fn compared(terms: &mut Terms, left: TermId, op: TermOp, bound: i128) -> Result<TermId, AllocError>
-    requires { left.0 < length terms.old }
-    ensures { IfOk result (λ id. Adds terms.old terms.new id (term.Infix op (tree_at terms.old left) (term.Number bound))) }
-{
-    let bound = terms.make(Node::Number(bound))?;
-    terms.infix(op, left, bound)
-}
 
 /// The comparison as the only goal.
 pub fn one_goal(
@@ -33,7 +25,7 @@ pub fn one_goal(
     requires { left.0 < length terms.old }
     ensures { IfOk result (λ goals. AddsAll terms.old terms.new goals (term.Infix op (tree_at terms.old left) (term.Number bound) ∷ [])) }
 {
-    let goal = compared(terms, left, op, bound)?;
+    let goal = with_number(terms, left, op, bound)?;
     let goals = Items::from_slice(alloc, &[goal])?;
     Ok(goals)
 }
@@ -49,8 +41,8 @@ pub fn in_range(
     requires { value.0 < length terms.old }
     ensures { IfOk result (λ goals. AddsAll terms.old terms.new goals (in_range first last (tree_at terms.old value))) }
 {
-    let low = compared(terms, value, TermOp::GreaterOrEqual, first)?;
-    let high = compared(terms, value, TermOp::LessOrEqual, last)?;
+    let low = with_number(terms, value, TermOp::GreaterOrEqual, first)?;
+    let high = with_number(terms, value, TermOp::LessOrEqual, last)?;
     let goals = Items::from_slice(alloc, &[low, high])?;
     Ok(goals)
 }

@@ -2,22 +2,25 @@
 ghost use Rattle.std.specs.Prelude.{◌≡◌, ◌<◌, length, IfOk};
 ghost use Rattle.spx_core.specs.Resolved.{subtype_of};
 ghost use Rattle.spx_core.specs.Uses.{variable_of};
+ghost use Rattle.spx_core.specs.Judged.{application};
 ghost use Rattle.spx_term.specs.declared.term.Term.TheVariants as term;
 ghost use Rattle.spx_term.specs.declared.term.TermPrefix.TheVariants.{Not};
 ghost use Rattle.spx_term.specs.Folding.{term_of as static_term};
 ghost use Rattle.spx_meaning.specs.Evaluation.{term_op};
-ghost use Rattle.spx_paths.specs.Terms.{between, member_term, named, now_term, signed_term};
+ghost use Rattle.spx_paths.specs.Terms.{between, member_term, moved_term, named, now_term, signed_term};
 ghost use Rattle.spx_arena.specs.Sharing.{tree_at, Adds};
 ghost use Rattle.spx_vcg.specs.ConditionWalk.{applied};
+ghost use Rattle.spx_vcg.specs.Functions.{shift_in};
 ghost use Rattle.spx_vcg.specs.States.{state_in, AddsMeaning, AreValues};
 
 use crate::names::now;
 use crate::values::Values;
 use spx_arena::{Node, TermId, Terms};
-use spx_core::{CoreExpr, Entity, Program, Subtype, UNIVERSAL, variable_of};
+use spx_core::{CoreExpr, CoreFunction, Entity, Program, Shift, Subtype, UNIVERSAL, variable_of};
 use spx_paths::literal;
 use spx_term::{Name, TermOp, TermPrefix, Value};
 use spx_tree::{InfixOp, MemberOp, PrefixOp};
+use spx_types::application;
 use std::alloc::AllocError;
 
 pub fn term_op(op: InfixOp) -> TermOp
@@ -98,6 +101,48 @@ pub fn name_id(
     }
 }
 
+/// What a function makes of its operand. One that breaks a rule gives it back.
+pub fn shift_of(function: &CoreFunction) -> Shift
+    ensures { result ≡ shift_in (application function.now) }
+{
+    match application(function) {
+        Ok(mapping) => mapping.shift,
+        Err(_) => Shift::Same,
+    }
+}
+
+/// The id of an operation on a term and a number.
+pub fn with_number(
+    terms: &mut Terms,
+    left: TermId,
+    op: TermOp,
+    number: i128,
+) -> Result<TermId, AllocError>
+    requires { left.0 < length terms.old }
+    ensures { IfOk result (λ id. Adds terms.old terms.new id (term.Infix op (tree_at terms.old left) (term.Number number))) }
+{
+    let number = terms.make(Node::Number(number))?;
+    terms.infix(op, left, number)
+}
+
+/// The id of what a function makes of its operand.
+pub fn moved_id(terms: &mut Terms, shift: Shift, operand: TermId) -> Result<TermId, AllocError>
+    requires { operand.0 < length terms.old }
+    ensures { IfOk result (λ id. Adds terms.old terms.new id (moved_term shift (tree_at terms.old operand))) }
+{
+    match shift {
+        Shift::Same => Ok(operand),
+        Shift::Next => {
+            let next = with_number(terms, operand, TermOp::Add, 1)?;
+            Ok(next)
+        }
+        Shift::Previous => {
+            let previous = with_number(terms, operand, TermOp::Subtract, 1)?;
+            Ok(previous)
+        }
+    }
+}
+
 /// The id of the term of an operation on one operand.
 pub fn signed_id(terms: &mut Terms, op: PrefixOp, operand: TermId) -> Result<TermId, AllocError>
     requires { operand.0 < length terms.old }
@@ -120,7 +165,7 @@ pub fn negated_id(terms: &mut Terms, condition: TermId) -> Result<TermId, AllocE
 }
 
 /// That a term lies between two others.
-fn between(
+pub fn between(
     terms: &mut Terms,
     tested: TermId,
     low: TermId,
@@ -182,6 +227,11 @@ pub fn term_id(
         }
         CoreExpr::Attribute(_, _) => {
             let id = terms.make(Node::Number(0))?;
+            Ok(id)
+        }
+        CoreExpr::Applied(function, _, operand) => {
+            let operand = term_id(program, terms, values, operand.get())?;
+            let id = moved_id(terms, shift_of(function), operand)?;
             Ok(id)
         }
         CoreExpr::Parenthesized(_, inner) => {

@@ -9,6 +9,7 @@
 
 mod branches;
 mod checks;
+mod choices;
 mod fault;
 mod goals;
 mod ids;

@@ -1,16 +1,18 @@
 // What is known at the start of a body.
 ghost use Rattle.std.specs.Prelude.{◌≡◌, flat_map, IfOk, OnOk};
-ghost use Rattle.spx_core.specs.Formals.{formals};
+ghost use Rattle.spx_core.specs.Formals.{formals, locals};
 ghost use Rattle.spx_core.specs.Mirror.VarSets.{holds};
 ghost use Rattle.spx_term.specs.Steps.{assume_all};
+ghost use Rattle.spx_meaning.specs.Runs.{initial_value};
 ghost use Rattle.spx_paths.specs.Prefixes.{entered, known_of};
-ghost use Rattle.spx_paths.specs.Walks.{entering, import_facts, pre_facts};
+ghost use Rattle.spx_paths.specs.Terms.{now};
+ghost use Rattle.spx_paths.specs.Walks.{entering, import_facts, initializing, pre_facts, starting_with};
 ghost use Rattle.spx_vcg.specs.WalkSteps.{Goes, Whole};
 
 use crate::names::{entry, now};
 use crate::walk::Walk;
 use spx_core::{Program, Sub, VarId, VarSet};
-use spx_meaning::type_of;
+use spx_meaning::{initial_value, type_of};
 use std::alloc::{AllocError, Global};
 
 impl Walk {
@@ -40,6 +42,30 @@ impl Walk {
         let exports = VarSet::exports(alloc, sub)?;
         for var in sub.formals() {
             self.enter(program, &exports, *var)?;
+        }
+        Ok(())
+    }
+
+    /// A local that is declared with a value begins with it.
+    fn initialize(&mut self, program: &Program, var: VarId) -> Result<(), AllocError>
+        requires { Whole self.old }
+        ensures { OnOk result (Goes self.old self.new (starting_with (now program.now var) (initial_value program.now var))) }
+    {
+        if let Some(value) = initial_value(program, var) {
+            let id = self.static_id(value)?;
+            self.set_value(now(program, var), id)?;
+            return Ok(());
+        }
+        Ok(())
+    }
+
+    /// Each local that is declared with a value begins with it.
+    pub fn initialize_all(&mut self, program: &Program, sub: &Sub) -> Result<(), AllocError>
+        requires { Whole self.old }
+        ensures { OnOk result (Goes self.old self.new (initializing program.now (locals sub.now))) }
+    {
+        for var in sub.locals() {
+            self.initialize(program, *var)?;
         }
         Ok(())
     }

@@ -11,10 +11,11 @@ ghost use Rattle.spx_vcg.specs.PathWalk.{HasParts, Passes};
 ghost use Rattle.spx_vcg.specs.WalkSteps.{state, Goes, Keeps, Means, Walks, Whole};
 
 use crate::goals::in_type;
+use crate::ids::shift_of;
 use crate::names::now;
 use crate::walk::Walk;
 use spx_arena::TermId;
-use spx_core::{Class, CoreExpr, Entity, Program, Reference, Subtype, variable_of};
+use spx_core::{Class, CoreExpr, Entity, Program, Reference, Shift, Subtype, variable_of};
 use spx_meaning::type_of;
 use spx_paths::literal;
 use spx_term::CondKind;
@@ -70,6 +71,10 @@ impl Walk {
             CoreExpr::Number(_, _) => Ok(self.assume_whole(program, condition)?),
             CoreExpr::Name(_) => Ok(self.assume_whole(program, condition)?),
             CoreExpr::Attribute(_, _) => Ok(self.assume_whole(program, condition)?),
+            CoreExpr::Applied(function, _, operand) => match shift_of(function) {
+                Shift::Same => Ok(self.assume_parts(alloc, program, operand.get())?),
+                _ => Ok(self.assume_whole(program, condition)?),
+            },
             CoreExpr::Parenthesized(_, inner) => {
                 Ok(self.assume_parts(alloc, program, inner.get())?)
             }

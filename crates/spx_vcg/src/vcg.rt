@@ -41,6 +41,7 @@ fn walked(alloc: Global, program: &Program, sub: &Sub) -> Result<SharedClaims, A
         claims: Items::new(alloc),
     };
     walk.enter_all(alloc, program, sub)?;
+    walk.initialize_all(program, sub)?;
     walk.assume_imports(alloc, program, sub)?;
     walk.assume_pre(alloc, program, sub)?;
     walk.path(alloc, program, sub.statements.as_slice(), &Rest::End)?;

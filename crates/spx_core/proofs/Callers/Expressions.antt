@@ -10,8 +10,9 @@ use Rattle.spx_core.specs.declared.name.Reference.{Reference}
 use Rattle.spx_core.specs.declared.name.CoreName.{CoreName}
 use Rattle.spx_core.specs.declared.expression.CoreExpr.{CoreExpr, CoreExpr-F, out-CoreExpr, map-CoreExpr, fold-CoreExpr, fold_out-CoreExpr}
 use Rattle.spx_core.specs.declared.expression.CoreExpr.TheBlock.{hidden-the_row-CoreExpr-0}
-use Rattle.spx_core.specs.Shapes.{in_range_of, in_type_of, infix_of, parenthesized_of, prefix_of}
-use Rattle.spx_core.specs.declared.expression.CoreExpr.TheVariants.{Number, Name, Attribute, Parenthesized, Prefix, Infix, InType, InRange, outs-Number, outs-Name, outs-Attribute, outs-Parenthesized, outs-Prefix, outs-Infix, outs-InType, outs-InRange}
+use Rattle.spx_core.specs.declared.function.CoreFunction.{CoreFunction}
+use Rattle.spx_core.specs.Shapes.{applied_of, in_range_of, in_type_of, infix_of, parenthesized_of, prefix_of}
+use Rattle.spx_core.specs.declared.expression.CoreExpr.TheVariants.{Number, Name, Attribute, Applied, Parenthesized, Prefix, Infix, InType, InRange, outs-Number, outs-Name, outs-Attribute, outs-Applied, outs-Parenthesized, outs-Prefix, outs-Infix, outs-InType, outs-InRange}
 
 module _ {A : Type 0} (step : CoreExpr-F A → A) where
   fold_at : (e : CoreExpr) (layer : CoreExpr-F CoreExpr) → out-CoreExpr e ≡ layer → fold-CoreExpr A step e ≡ step (map-CoreExpr CoreExpr A (fold-CoreExpr A step) layer)
@@ -25,6 +26,9 @@ module _ {A : Type 0} (step : CoreExpr-F A → A) where
 
   pub fold-Attribute : (prefix : CoreName) (designator : Identifier) → fold-CoreExpr A step (Attribute prefix designator) ≡ step (CoreExpr-F.Attribute prefix designator)
   fold-Attribute prefix designator = fold_at (Attribute prefix designator) (CoreExpr-F.Attribute prefix designator) (outs-Attribute prefix designator)
+
+  pub fold-Applied : (function : CoreFunction) (place : Place) (a : CoreExpr) → fold-CoreExpr A step (Applied function place a) ≡ step (CoreExpr-F.Applied function place (fold-CoreExpr A step a))
+  fold-Applied function place a = fold_at (Applied function place a) (CoreExpr-F.Applied function place a) (outs-Applied function place a)
 
   pub fold-Parenthesized : (place : Place) (inner : CoreExpr) → fold-CoreExpr A step (Parenthesized place inner) ≡ step (CoreExpr-F.Parenthesized place (fold-CoreExpr A step inner))
   fold-Parenthesized place inner = fold_at (Parenthesized place inner) (CoreExpr-F.Parenthesized place inner) (outs-Parenthesized place inner)
@@ -47,6 +51,7 @@ pub record Cases (P : CoreExpr → Type 0) : Type 0 where
   pub number : (n : ℤ) (place : Place) → P (Number n place)
   pub name : (name : CoreName) → P (Name name)
   pub attribute : (prefix : CoreName) (designator : Identifier) → P (Attribute prefix designator)
+  pub applied : (function : CoreFunction) (place : Place) (a : CoreExpr) → P a → P (Applied function place a)
   pub parenthesized : (place : Place) (a : CoreExpr) → P a → P (Parenthesized place a)
   pub prefix : (op : PrefixOp) (place : Place) (a : CoreExpr) → P a → P (Prefix op place a)
   pub «infix» : (op : InfixOp) (place : Place) (a b : CoreExpr) → P a → P b → P (Infix op place a b)
@@ -58,6 +63,7 @@ unfolding hidden-the_row-CoreExpr-0 hidden
 induct P c (Number n place) = c.number n place
 induct P c (Name name) = c.name name
 induct P c (Attribute prefix designator) = c.attribute prefix designator
+induct P c (applied_of function place a) = c.applied function place a (induct P c a)
 induct P c (parenthesized_of place a) = c.parenthesized place a (induct P c a)
 induct P c (prefix_of op place a) = c.prefix op place a (induct P c a)
 induct P c (infix_of op place a b) = c.infix op place a b (induct P c a) (induct P c b)

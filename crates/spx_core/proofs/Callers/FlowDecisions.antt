@@ -6,7 +6,6 @@ use Rattle.std.proofs.lemmas.Bool.{and_parts, eqb-true, eq-eqb, or_cases, or_lef
 use Rattle.std.proofs.lemmas.List.Folds.{list_any-append}
 use Rattle.spx_text.specs.declared.place.Place.{Place}
 use Rattle.spx_core.specs.declared.entity.VarId.{VarId}
-use Rattle.spx_core.specs.declared.program.Program.{Program}
 use Rattle.spx_core.specs.declared.subprogram.Sub.{Sub}
 use Rattle.spx_core.specs.Uses.{is_same}
 use Rattle.spx_core.specs.Dependency.{Pair, declared_pairs, derives, exports, imports}
@@ -15,7 +14,8 @@ use Rattle.spx_core.specs.Effects.{Effect, Read, nothing, assign, next, choose, 
 use Rattle.spx_core.specs.Flow.{MayFlow}
 use Rattle.spx_core.specs.Marks.{Occurs, marked}
 use Rattle.spx_core.specs.Ways.{Ways, Follow, Free, Goes, Reaches}
-use Rattle.spx_core.specs.FlowRules.{Missing, Unused, Ineffective, MayBeUnset, body_effect, mark, read, left}
+use Rattle.spx_core.specs.declared.program.Program.{Program}
+use Rattle.spx_core.specs.FlowRules.{Missing, Unused, Ineffective, MayBeUnset, body_effect, mark, read, left, starts_set}
 use Rattle.spx_core.proofs.Callers.ListTests.{covers, found, passes}
 use Rattle.spx_core.proofs.Callers.Variables.{same_var}
 use Rattle.spx_core.proofs.Callers.FlowLaws.{without}
@@ -152,23 +152,23 @@ module _ (sub : Sub) where
   ineffective_listed p =
       those (occurrences (body_effect sub)) (λ place. every exports_listed (λ y. neither (flows_or_not (marked place (mark p) (body_effect sub)) (mark p) y)))
 
-  abbrev Unset : Read → Type 0
-  Unset r = MayBeUnset sub r.0 r.1
+  abbrev Unset : Program → Read → Type 0
+  Unset p r = MayBeUnset p sub r.0 r.1
 
   -- a read before it is set, or an export at the end
-  abbrev Cause : Read → Type 0
-  Cause r = (EarlyIn (body_effect sub) r × (imports r.1 sub ≡ false)) ⊎ ((v : VarId) × ((exports v sub ≡ true) × ((imports v sub ≡ false) × Free (Goes (body_effect sub)) v)) × ((sub.end, v) ≡ r))
+  abbrev Cause : Program → Read → Type 0
+  Cause p r = (EarlyIn (body_effect sub) r × (starts_set p sub r.1 ≡ false)) ⊎ ((v : VarId) × ((exports v sub ≡ true) × ((imports v sub ≡ false) × Free (Goes (body_effect sub)) v)) × ((sub.end, v) ≡ r))
 
-  cause : (place : Place) (v : VarId) → MayBeUnset sub place v → Cause (place, v)
-  cause place v (read none way) = inl (way, none)
-  cause place v (left exported none way) = inr (v, (exported, (none, way)), refl)
+  cause : (p : Program) (place : Place) (v : VarId) → MayBeUnset p sub place v → Cause p (place, v)
+  cause p place v (read none way) = inl (way, none)
+  cause p place v (left exported none way) = inr (v, (exported, (none, way)), refl)
 
-  pub unset_listed : Listing Unset
-  unset_listed =
+  pub unset_listed : (p : Program) → Listing (Unset p)
+  unset_listed p =
       listing_as
-      (joined (those (early_reads (body_effect sub)) (λ r. is_false (imports r.1 sub)))
+      (joined (those (early_reads (body_effect sub)) (λ r. is_false (starts_set p sub r.1)))
       (mapped (λ v. (sub.end, v)) (those exports_listed (λ v. both (is_false (imports v sub)) (goes_or_not v (body_effect sub))))))
       (λ r. (
-        λ h. ⊎_elim (λ one. read one.1 one.0) (λ last. subst Unset last.2 (left last.1.0 last.1.1.0 last.1.1.1)) h,
-        λ h. cause r.0 r.1 h,
+        λ h. ⊎_elim (λ one. read one.1 one.0) (λ last. subst (Unset p) last.2 (left last.1.0 last.1.1.0 last.1.1.1)) h,
+        λ h. cause p r.0 r.1 h,
       ))

@@ -5,7 +5,6 @@ use Rattle.std.proofs.lemmas.Bool.{and_parts, both_ways, eqb-true, eq-eqb, or_ca
 use Rattle.spx_text.specs.declared.place.Place.{Place}
 use Rattle.spx_core.specs.declared.entity.VarId.{VarId}
 use Rattle.spx_core.specs.declared.entity.VarKind.{VarKind}
-use Rattle.spx_core.specs.declared.entity.VarKind.TheVariants.{Local}
 use Rattle.spx_core.specs.declared.program.Program.{Program}
 use Rattle.spx_core.specs.declared.subprogram.Sub.{Sub}
 use Rattle.spx_core.specs.Formals.{is_formal, is_local}
@@ -123,7 +122,7 @@ module _ (p : Program) (sub : Sub) (scoped : Scoped p sub) where
   -- it is no variable of the subprogram
   foreign : (is_formal (mark p) sub || is_local (mark p) sub) ≡ true → ⊥
   foreign h =
-      ⊎_elim (λ formal. let kind = scoped.formal_kinds (mark p) formal in no_kind _ kind.1) (λ local. no_kind Local (scoped.local_kinds (mark p) local))
+      ⊎_elim (λ formal. let kind = scoped.formal_kinds (mark p) formal in no_kind _ kind.1) (λ local. let kind = scoped.local_kinds (mark p) local in no_kind _ kind.1)
       (or_cases (is_formal (mark p) sub) (is_local (mark p) sub) h)
 
   pub mark_unset : sets (mark p) (body_effect sub) ≡ false

@@ -13,12 +13,13 @@ use Rattle.spx_core.specs.declared.entity.VarId.{VarId}
 use Rattle.spx_core.specs.declared.name.CoreName.{CoreName}
 use Rattle.spx_core.specs.declared.name.Reference.{Reference}
 use Rattle.spx_core.specs.declared.expression.CoreExpr.{CoreExpr}
-use Rattle.spx_core.specs.declared.expression.CoreExpr.TheVariants.{Number, Name, Attribute, Parenthesized, Prefix, Infix, InType, InRange}
+use Rattle.spx_core.specs.declared.expression.CoreExpr.TheVariants.{Number, Name, Attribute, Applied, Parenthesized, Prefix, Infix, InType, InRange}
+use Rattle.spx_core.specs.declared.function.CoreFunction.{CoreFunction}
 use Rattle.spx_core.specs.Reads.{names_read, names_step}
 use Rattle.spx_core.specs.Judged.{Judged, ◌>>=◌, each}
 use Rattle.spx_core.specs.Uses.{denotes, uses}
 use Rattle.spx_core.proofs.Judgements.{each_of_both}
-use Rattle.spx_core.proofs.Callers.Expressions.{fold-Number, fold-Name, fold-Attribute, fold-Parenthesized, fold-Prefix, fold-Infix, fold-InType, fold-InRange}
+use Rattle.spx_core.proofs.Callers.Expressions.{fold-Number, fold-Name, fold-Attribute, fold-Applied, fold-Parenthesized, fold-Prefix, fold-Infix, fold-InType, fold-InRange}
 
 or_none : (b : Bool) → (b || false) ≡ b
 or_none true = refl
@@ -33,6 +34,9 @@ module _ (v : VarId) where
 
   pub uses-Attribute : (prefix : CoreName) (designator : Identifier) → uses v (Attribute prefix designator) ≡ false
   uses-Attribute prefix designator = ap (list_any (denotes v)) (fold-Attribute names_step prefix designator)
+
+  pub uses-Applied : (function : CoreFunction) (place : Place) (a : CoreExpr) → uses v (Applied function place a) ≡ uses v a
+  uses-Applied function place a = ap (list_any (denotes v)) (fold-Applied names_step function place a)
 
   pub uses-Parenthesized : (place : Place) (a : CoreExpr) → uses v (Parenthesized place a) ≡ uses v a
   uses-Parenthesized place a = ap (list_any (denotes v)) (fold-Parenthesized names_step place a)
@@ -68,7 +72,7 @@ uses_low v op place a low high h = uses-InRange v op place a low high ∙ or_rig
 pub uses_high : (v : VarId) (op : MemberOp) (place : Place) (a low high : CoreExpr) → uses v high ≡ true → uses v (InRange op place a low high) ≡ true
 uses_high v op place a low high h = uses-InRange v op place a low high ∙ or_right (uses v a) (uses v low || uses v high) (or_right (uses v low) (uses v high) h)
 
-pub ruleset uses_forms = (uses-Number, uses-Name, uses-Attribute, uses-Parenthesized, uses-Prefix, uses-Infix, uses-InType, uses-InRange)
+pub ruleset uses_forms = (uses-Number, uses-Name, uses-Attribute, uses-Applied, uses-Parenthesized, uses-Prefix, uses-Infix, uses-InType, uses-InRange)
 
 -- ---- a rule on each name that is read
 
@@ -85,6 +89,9 @@ module _ (f : CoreName → Judged ⊤) where
 
   pub each-Attribute : (prefix : CoreName) (designator : Identifier) → each f (names_read (Attribute prefix designator)) ≡ Ok tt
   each-Attribute prefix designator = ap (each f) (fold-Attribute names_step prefix designator)
+
+  pub each-Applied : (function : CoreFunction) (place : Place) (a : CoreExpr) → each f (names_read (Applied function place a)) ≡ each f (names_read a)
+  each-Applied function place a = ap (each f) (fold-Applied names_step function place a)
 
   pub each-Parenthesized : (place : Place) (a : CoreExpr) → each f (names_read (Parenthesized place a)) ≡ each f (names_read a)
   each-Parenthesized place a = ap (each f) (fold-Parenthesized names_step place a)
@@ -105,4 +112,4 @@ module _ (f : CoreName → Judged ⊤) where
       ∙ each_of_both f (names_read a) (names_read low ++ names_read high)
       ∙ ap (λ r. each f (names_read a) >>= λ _. r) (each_of_both f (names_read low) (names_read high))
 
-pub ruleset each_forms = (each-Number, each-Name, each-Attribute, each-Parenthesized, each-Prefix, each-Infix, each-InType, each-InRange)
+pub ruleset each_forms = (each-Number, each-Name, each-Attribute, each-Applied, each-Parenthesized, each-Prefix, each-Infix, each-InType, each-InRange)

@@ -4,17 +4,17 @@ use Rattle.std.proofs.lemmas.Bool.{eq-eqb}
 use Rattle.spx_text.specs.declared.place.Place.{Place}
 use Rattle.spx_core.specs.declared.entity.VarId.{VarId}
 use Rattle.spx_core.specs.declared.expression.CoreExpr.{CoreExpr}
-use Rattle.spx_core.specs.declared.expression.CoreExpr.TheVariants.{Name, Prefix, Infix, InType, InRange}
-use Rattle.spx_core.specs.Judged.{named_value}
+use Rattle.spx_core.specs.declared.expression.CoreExpr.TheVariants.{Name, Applied, Prefix, Infix, InType, InRange}
+use Rattle.spx_core.specs.Judged.{application, named_value}
 use Rattle.spx_core.specs.Places.{place_of}
 use Rattle.spx_core.specs.Uses.{is_same, uses, variable_of}
 use Rattle.spx_meaning.specs.Stores.{Store, look, type_of}
 use Rattle.spx_meaning.specs.Frames.{Frame}
 use Rattle.spx_meaning.specs.Literals.{base_of, literal, literal_in}
-use Rattle.spx_meaning.specs.Evaluation.{Gives, with_value, applied, applied_sign, checked, decided, first_in, last_in, member, signed, read, read_at, static_or, eval, eval-Number, eval-Name, eval-Attribute, eval-Parenthesized, eval-Prefix, eval-Infix, eval-InType, eval-InRange}
+use Rattle.spx_meaning.specs.Evaluation.{Gives, with_value, applied, applied_sign, checked, decided, first_in, last_in, mapped_value, mapping_checked, member, signed, read, read_at, static_or, eval, eval-Number, eval-Name, eval-Attribute, eval-Applied, eval-Parenthesized, eval-Prefix, eval-Infix, eval-InType, eval-InRange}
 use Rattle.spx_meaning.specs.Annotations.{reading_of, seen, value_or, meant, meant_step}
-use Rattle.spx_core.proofs.Callers.ReadsLaws.{uses-Name, uses-Parenthesized, uses-Prefix, uses-InType, uses_left, uses_right, uses_tested, uses_low, uses_high}
-use Rattle.spx_core.proofs.Callers.Expressions.{Cases, induct, fold-Number, fold-Name, fold-Attribute, fold-Parenthesized, fold-Prefix, fold-Infix, fold-InType, fold-InRange}
+use Rattle.spx_core.proofs.Callers.ReadsLaws.{uses-Name, uses-Applied, uses-Parenthesized, uses-Prefix, uses-InType, uses_left, uses_right, uses_tested, uses_low, uses_high}
+use Rattle.spx_core.proofs.Callers.Expressions.{Cases, induct, fold-Number, fold-Name, fold-Attribute, fold-Applied, fold-Parenthesized, fold-Prefix, fold-Infix, fold-InType, fold-InRange}
 
 -- the stores agree on the variables that the expression uses
 abbrev pub AgreeOnUses : CoreExpr → Store → Store → Type 0
@@ -33,6 +33,10 @@ module _ (f g : Frame) (n m : ℕ) (s t : Store) where
     number = λ k place agree. eval-Number f n s k place ∙ sym (eval-Number g m t k place);
     name = λ name agree. eval-Name f n s name ∙ ap (static_or (literal (Name name))) (read_same name.name.place (variable_of name.entity) (λ v h. agree v (uses-Name v name ∙ h))) ∙ sym (eval-Name g m t name);
     attribute = λ prefix designator agree. eval-Attribute f n s prefix designator ∙ sym (eval-Attribute g m t prefix designator);
+    applied = λ function place a p agree.
+        eval-Applied f n s function place a
+        ∙ ap (λ x. static_or (literal (Applied function place a)) (with_value x (λ u. mapping_checked (application function) (place_of a) u))) (p (λ v h. agree v (uses-Applied v function place a ∙ h)))
+        ∙ sym (eval-Applied g m t function place a);
     parenthesized = λ place a p agree.
         eval-Parenthesized f n s place a ∙ p (λ v h. agree v (uses-Parenthesized v place a ∙ h)) ∙ sym (eval-Parenthesized g m t place a);
     prefix = λ op place a p agree.
@@ -76,6 +80,10 @@ module _ (f g : Frame) (one : f.program ≡ g.program) (s t : Store) where
     name = λ name agree.
         fold-Name (meant_step f s) name ∙ ap (value_or (literal_in (named_value name))) (reading_same (variable_of name.entity) (λ v h. agree v (uses-Name v name ∙ h))) ∙ sym (fold-Name (meant_step g t) name);
     attribute = λ prefix designator agree. fold-Attribute (meant_step f s) prefix designator ∙ sym (fold-Attribute (meant_step g t) prefix designator);
+    applied = λ function place a p agree.
+        fold-Applied (meant_step f s) function place a
+        ∙ ap (mapped_value (application function)) (p (λ v h. agree v (uses-Applied v function place a ∙ h)))
+        ∙ sym (fold-Applied (meant_step g t) function place a);
     parenthesized = λ place a p agree.
         fold-Parenthesized (meant_step f s) place a
         ∙ p (λ v h. agree v (uses-Parenthesized v place a ∙ h))

@@ -1,20 +1,22 @@
 -- What a variable is after two runs of a command is decided by what flows to it.
-use Rattle.std.proofs.Common.{◌≡◌, ℕ, Bool, true, false, ◌||◌, Some, refl, sym, ap, ◌∙◌, subst, inl, inr}
+use Rattle.std.proofs.Common.{◌≡◌, ℕ, Bool, true, false, ◌||◌, List, Option, Some, refl, sym, ap, ◌∙◌, subst, inl, inr}
 use Rattle.std.specs.Prelude.{⊤, if◌then◌else◌}
 use Rattle.std.proofs.lemmas.Bool.{or_parts}
 use Rattle.spx_text.specs.declared.place.Place.{Place}
 use Rattle.spx_core.specs.declared.entity.VarId.{VarId}
 use Rattle.spx_core.specs.declared.name.Reference.{Reference}
 use Rattle.spx_core.specs.declared.expression.CoreExpr.{CoreExpr}
-use Rattle.spx_core.specs.Commands.{Command, Skip, Set, Then, Choose}
+use Rattle.spx_core.specs.Commands.{Command, Skip, Set, Then, Choose, Select, Alternatives, Last, When}
+use Rattle.spx_core.specs.declared.statement.CoreChoice.{CoreChoice}
 use Rattle.spx_core.specs.Uses.{denotes}
-use Rattle.spx_core.specs.Effects.{effect, sets}
+use Rattle.spx_core.specs.Effects.{Effect, Read, choose, effect, effect_among, is_read, reads_of, sets}
 use Rattle.spx_core.specs.Flow.{MayFlow}
+use Rattle.spx_term.specs.declared.value.Value.{Value}
 use Rattle.spx_term.specs.Meaning.{as_truth}
 use Rattle.spx_meaning.specs.Stores.{Store, look}
 use Rattle.spx_meaning.specs.Frames.{Frame}
 use Rattle.spx_meaning.specs.Evaluation.{eval}
-use Rattle.spx_meaning.specs.Runs.{Outcome, Ended, Left, Bad, Later, then_do, run}
+use Rattle.spx_meaning.specs.Runs.{Outcome, Ended, Left, Bad, Later, then_do, has_value, run, run_for}
 use Rattle.spx_meaning.specs.Laws.{Agree}
 use Rattle.spx_core.proofs.Callers.FlowLaws.{keeps, reads_uses}
 use Rattle.spx_meaning.proofs.Callers.Evaluation.{eval_same}
@@ -27,17 +29,27 @@ either_arm : (b : Bool) (o o' : Outcome) (t : Store) (P : Type 0) → (o ≡ End
 either_arm true o o' t P first second ended = first ended
 either_arm false o o' t P first second ended = second ended
 
-pub kept : (f : Frame) (n : ℕ) (s s' : Store) (c : Command) (v : VarId) → run f n s c ≡ Ended s' → sets v (effect c) ≡ false → look s' v ≡ look s v
-kept f n s s' Skip v ended h = ap (λ x. look x v) (sym (same_store s s' ended))
-kept f n s s' (Set target e) v ended h = let a : Assigns f n target e s s' = assignment f n s s' target e ended in a.kept v h
-kept f n s s' (Then a b) v ended h =
-    let first = then_ended _ _ s' ended in
-    let unset = or_parts (sets v (effect a)) (sets v (effect b)) h in
-    kept f n first.0 s' b v first.2 unset.1 ∙ kept f n s first.0 a v first.1 unset.0
-kept f n s s' (Choose place condition a b) v ended h =
-    let used = use_ended (eval f n s condition) (λ x. if as_truth x then run f n s a else run f n s b) s' ended in
-    let unset = or_parts (sets v (effect a)) (sets v (effect b)) h in
-    either_arm (as_truth used.0) (run f n s a) (run f n s b) s' (look s' v ≡ look s v) (λ e. kept f n s s' a v e unset.0) (λ e. kept f n s s' b v e unset.1) used.2
+mutual
+  pub kept : (f : Frame) (n : ℕ) (s s' : Store) (c : Command) (v : VarId) → run f n s c ≡ Ended s' → sets v (effect c) ≡ false → look s' v ≡ look s v
+  kept f n s s' Skip v ended h = ap (λ x. look x v) (sym (same_store s s' ended))
+  kept f n s s' (Set target e) v ended h = let a : Assigns f n target e s s' = assignment f n s s' target e ended in a.kept v h
+  kept f n s s' (Then a b) v ended h =
+      let first = then_ended _ _ s' ended in
+      let unset = or_parts (sets v (effect a)) (sets v (effect b)) h in
+      kept f n first.0 s' b v first.2 unset.1 ∙ kept f n s first.0 a v first.1 unset.0
+  kept f n s s' (Choose place condition a b) v ended h =
+      let used = use_ended (eval f n s condition) (λ x. if as_truth x then run f n s a else run f n s b) s' ended in
+      let unset = or_parts (sets v (effect a)) (sets v (effect b)) h in
+      either_arm (as_truth used.0) (run f n s a) (run f n s b) s' (look s' v ≡ look s v) (λ e. kept f n s s' a v e unset.0) (λ e. kept f n s s' b v e unset.1) used.2
+  kept f n s s' (Select place selector alternatives) v ended h =
+      let used = use_ended (eval f n s selector) (λ x. run_for x f n s alternatives) s' ended in
+      kept_among f n s s' used.0 (reads_of selector) place alternatives v used.2 h
+
+  kept_among : (f : Frame) (n : ℕ) (s s' : Store) (x : Value) (tests : List Read) (place : Place) (alternatives : Alternatives) (v : VarId) → run_for x f n s alternatives ≡ Ended s' → sets v (effect_among tests place alternatives) ≡ false → look s' v ≡ look s v
+  kept_among f n s s' x tests place (Last choices a) v ended h = kept f n s s' a v ended (or_parts (sets v (effect a)) (sets v (effect a)) h).0
+  kept_among f n s s' x tests place (When choices a rest) v ended h =
+      let unset = or_parts (sets v (effect a)) (sets v (effect_among tests place rest)) h in
+      either_arm (has_value choices x) (run f n s a) (run_for x f n s rest) s' (look s' v ≡ look s v) (λ e. kept f n s s' a v e unset.0) (λ e. kept_among f n s s' x tests place rest v e unset.1) ended
 
 -- ---- pairs of runs
 
@@ -63,6 +75,26 @@ pair_of R s t (Ended s') Later h = tt
 pair_of R s t (Left s') o h = tt
 pair_of R s t (Bad kind place) o h = tt
 pair_of R s t Later o h = tt
+
+-- what more flows decide
+pair_wider : (R Q : VarId → VarId → Type 0) (s t : Store) (o o' : Outcome) → ((u w : VarId) → R u w → Q u w) → Pair R s t o o' → Pair Q s t o o'
+pair_wider R Q s t (Ended s') (Ended t') wider first = λ w agree. first w (λ u r. agree u (wider u w r))
+pair_wider R Q s t (Ended s') (Left t') wider first = tt
+pair_wider R Q s t (Ended s') (Bad kind place) wider first = tt
+pair_wider R Q s t (Ended s') Later wider first = tt
+pair_wider R Q s t (Left s') o wider first = tt
+pair_wider R Q s t (Bad kind place) o wider first = tt
+pair_wider R Q s t Later o wider first = tt
+
+-- where both choose one arm
+pair_arm : (R : VarId → VarId → Type 0) (s t : Store) (b : Bool) (o o' q q' : Outcome) → Pair R s t o o' → Pair R s t q q' → Pair R s t (if b then o else q) (if b then o' else q')
+pair_arm R s t true o o' q q' first second = first
+pair_arm R s t false o o' q q' first second = second
+
+-- what a selector reads flows to all that an alternative sets
+from_tests : (tests : List Read) (place : Place) (alternatives : Alternatives) (u w : VarId) → sets w (effect_among tests place alternatives) ≡ true → is_read u tests ≡ true → MayFlow (effect_among tests place alternatives) u w
+from_tests tests place (Last choices a) u w is read = inr (inr (is, read))
+from_tests tests place (When choices a rest) u w is read = inr (inr (is, read))
 
 -- one after the other
 pair_composed : (R Q : VarId → VarId → Type 0) (s t s' t' : Store) (o o' : Outcome) → Determined R s t s' t' → Pair Q s' t' o o' → Pair (λ u w. (v : VarId) × R u v × Q v w) s t o o'
@@ -126,12 +158,42 @@ module _ (f g : Frame) (n m : ℕ) where
     pair_choose : Pair (MayFlow (effect choice)) s t (run f n s choice) (run g m t choice)
     pair_choose = pair_of _ s t (run f n s choice) (run g m t choice) (λ s' t' ended ended' w agree. by_set s' t' ended ended' w agree (sets w (effect a) || sets w (effect b)) refl)
 
-  -- the flows of a command decide any two runs of it
-  pub pairs : (s t : Store) (c : Command) → Pair (MayFlow (effect c)) s t (run f n s c) (run g m t c)
-  pairs s t Skip = λ w agree. agree w refl
-  pairs s t (Set target e) = pair_set s t target e
-  pairs s t (Then a b) = pair_then (MayFlow (effect a)) (MayFlow (effect b)) s t (run f n s a) (run g m t a) (λ x. run f n x b) (λ y. run g m y b) (pairs s t a) (λ s' t'. pairs s' t' b)
-  pairs s t (Choose place condition a b) = pair_choose s t place condition a b (pairs s t a) (pairs s t b)
+  module _ (s t : Store) (place : Place) (selector : CoreExpr) (alternatives : Alternatives) where
+    abbrev selection : Command
+    selection = Select place selector alternatives
+
+    abbrev ForOneValue : Type 0
+    ForOneValue = (x : Value) → Pair (MayFlow (effect selection)) s t (run_for x f n s alternatives) (run_for x g m t alternatives)
+
+    -- what an alternative sets comes from the selector, and what none sets is kept
+    by_selected : ForOneValue → (s' t' : Store) → run f n s selection ≡ Ended s' → run g m t selection ≡ Ended t' → (w : VarId) → Agree (λ u. MayFlow (effect selection) u w) s t → (d : Bool) → sets w (effect selection) ≡ d → look s' w ≡ look t' w
+    by_selected each s' t' ended ended' w agree true is =
+        let x = use_ended (eval f n s selector) (λ z. run_for z f n s alternatives) s' ended in
+        let y = use_ended (eval g m t selector) (λ z. run_for z g m t alternatives) t' ended' in
+        let flows : (u : VarId) → is_read u (reads_of selector) ≡ true → MayFlow (effect selection) u w = λ u read. from_tests (reads_of selector) place alternatives u w is read in
+        let same : y.0 ≡ x.0 = same_gift y.0 x.0 (sym y.1 ∙ sym (eval_same f g n m s t selector (λ u h. agree u (flows u (reads_uses u selector ∙ h)))) ∙ x.1) in
+        pair_ended (MayFlow (effect selection)) s t s' t' (run_for x.0 f n s alternatives) (run_for x.0 g m t alternatives) (each x.0) x.2 (subst (λ z. run_for z g m t alternatives ≡ Ended t') same y.2) w agree
+    by_selected each s' t' ended ended' w agree false is =
+        kept f n s s' selection w ended is ∙ agree w ((keeps (effect selection) w w is).1 refl) ∙ sym (kept g m t t' selection w ended' is)
+
+    pair_select : ForOneValue → Pair (MayFlow (effect selection)) s t (run f n s selection) (run g m t selection)
+    pair_select each = pair_of _ s t (run f n s selection) (run g m t selection) (λ s' t' ended ended' w agree. by_selected each s' t' ended ended' w agree (sets w (effect selection)) refl)
+
+  mutual
+    -- the flows of a command decide any two runs of it
+    pub pairs : (s t : Store) (c : Command) → Pair (MayFlow (effect c)) s t (run f n s c) (run g m t c)
+    pairs s t Skip = λ w agree. agree w refl
+    pairs s t (Set target e) = pair_set s t target e
+    pairs s t (Then a b) = pair_then (MayFlow (effect a)) (MayFlow (effect b)) s t (run f n s a) (run g m t a) (λ x. run f n x b) (λ y. run g m y b) (pairs s t a) (λ s' t'. pairs s' t' b)
+    pairs s t (Choose place condition a b) = pair_choose s t place condition a b (pairs s t a) (pairs s t b)
+    pairs s t (Select place selector alternatives) = pair_select s t place selector alternatives (λ x. pairs_among s t x (reads_of selector) place alternatives)
+
+    pairs_among : (s t : Store) (x : Value) (tests : List Read) (place : Place) (alternatives : Alternatives) → Pair (MayFlow (effect_among tests place alternatives)) s t (run_for x f n s alternatives) (run_for x g m t alternatives)
+    pairs_among s t x tests place (Last choices a) = pair_wider (MayFlow (effect a)) _ s t (run f n s a) (run g m t a) (λ u w flow. inl flow) (pairs s t a)
+    pairs_among s t x tests place (When choices a rest) =
+        pair_arm (MayFlow (choose tests (effect a) (effect_among tests place rest) place)) s t (has_value choices x) (run f n s a) (run g m t a) (run_for x f n s rest) (run_for x g m t rest)
+        (pair_wider (MayFlow (effect a)) _ s t (run f n s a) (run g m t a) (λ u w flow. inl flow) (pairs s t a))
+        (pair_wider (MayFlow (effect_among tests place rest)) _ s t (run_for x f n s rest) (run_for x g m t rest) (λ u w flow. inr (inl flow)) (pairs_among s t x tests place rest))
 
 pub determined : (f g : Frame) (n m : ℕ) (s t s' t' : Store) (c : Command) → run f n s c ≡ Ended s' → run g m t c ≡ Ended t' → Determined (MayFlow (effect c)) s t s' t'
 determined f g n m s t s' t' c ended ended' = pair_ended (MayFlow (effect c)) s t s' t' (run f n s c) (run g m t c) (pairs f g n m s t c) ended ended'

@@ -15,22 +15,24 @@ use Rattle.spx_tree.specs.declared.expression.Layer.{Layer}
 use Rattle.spx_tree.specs.declared.expression.Layer.TheVariants as layer
 use Rattle.spx_tree.specs.declared.expression.Name.{Name}
 use Rattle.spx_tree.specs.declared.expression.Name.TheVariants.{Simple, Attribute}
+use Rattle.spx_tree.specs.declared.expression.Function.{Function}
+use Rattle.spx_tree.specs.declared.expression.FunctionForm.TheVariants as forms
 use Rattle.spx_tree.specs.declared.expression.Expr.{Expr}
 use Rattle.spx_tree.specs.declared.expression.Expr.TheBlock.{hidden-the_row-Expr-0}
 use Rattle.spx_tree.specs.declared.expression.Expr.TheVariants as expr
 use Rattle.spx_tree.specs.Form.{Form, bare, placed, named}
 use Rattle.spx_tree.specs.Goes.{Expected}
 use Rattle.spx_tree.specs.Written as written
-use Rattle.spx_tree.specs.Written.{sign_kind, operator_kind, second_word, written_operator, written_member, written_name, written_expr, parenthesized}
+use Rattle.spx_tree.specs.Written.{sign_kind, operator_kind, second_word, written_operator, written_member, written_form, written_name, written_expr, parenthesized}
 use Rattle.spx_tree.specs.Grammar.{height, layer_of, layer_before, layer_in, rank, right_layer, operand_layer, HasOperator, FitsLeft, LeftFits, IsUpTo, Layered, OfLayer, IsExpr}
 use Rattle.spx_parse_body.specs.declared.expressions.Tall.{Tall}
 use Rattle.spx_parse_body.specs.declared.operators.Chain.{Chain}
 use Rattle.spx_parse_body.specs.declared.operators.Chain.TheVariants as chain
 use Rattle.spx_parse_body.specs.declared.operators.Relator.{Relator}
 use Rattle.spx_parse_body.specs.declared.operators.Relator.TheVariants as relators
-use Rattle.spx_parse_body.specs.Reading.{Reader, ◌>>=◌, pure, refuse, peek}
+use Rattle.spx_parse_body.specs.Reading.{Reader, refuse, peek, taking}
 use Rattle.spx_parse_body.specs.Operators.{sign_of, abs_or_not, power_of, relator_of, logical, short_circuit, goes_on, second, whole_by, whole_operator}
-use Rattle.spx_parse_body.specs.Expressions.{leaf, enclosed, prefixed, joined, in_type, in_range, plain_name, name_by, name, literal, in_parentheses, primary_by, primary, operated, joined_by, power_by, power, factor_by, factor, step_by, chain_step, chained, term, signed_by, signed, sum, type_by, member_by, member, inside, outside, relation_by, relation, combined, opening_by, opening, combination_by, combination, read, below, at_layer, expression, simple_expression, expression_below}
+use Rattle.spx_parse_body.specs.Expressions.{leaf, function_of, applied, enclosed, prefixed, joined, in_type, in_range, plain_name, name_by, name, literal, in_parentheses, application, attribute_by, attribute, with_apostrophe_by, with_apostrophe, with_identifier_by, with_identifier, primary_by, primary, operated, joined_by, power_by, power, factor_by, factor, step_by, chain_step, chained, term, signed_by, signed, sum, type_by, member_by, member, inside, outside, relation_by, relation, combined, opening_by, opening, combination_by, combination, read, below, at_layer, expression, simple_expression, expression_below, simple_expression_below}
 use Rattle.spx_parse_body.proofs.Callers.Lawful.{Ends, Any, Sees, Always, ends_here}
 use Rattle.spx_parse_body.proofs.Callers.Loops.{Shrinks}
 use Rattle.spx_parse_body.proofs.Callers.Good.{Good, no_level, Turn, Case, absent, present, good_before, good_bind, good_pure, good_refuse, good_given, good_fewer, good_weaken, good_expect, good_expect_place, good_identifier, good_choose, good_option, good_loop, shrinks, Starts, starts_bind, starts_expect, starts_identifier, starts_number, starts_open}
@@ -51,6 +53,11 @@ pub record IsTall (levels : ℕ) (layer : Layer) (m : Tall) : Type 0 where
 enclosed_text : (marked : Bool) (place : Place) (inner : Expr) → written_expr marked (expr.Parenthesized place inner) ≡ placed marked k.LeftParenthesis place ∷ (written_expr marked inner ++ bare marked k.RightParenthesis ∷ [])
 unfolding hidden-the_row-Expr-0 hidden
 enclosed_text marked place inner = refl
+
+applied_text : (marked : Bool) (function : Function) (place : Place) (operand : Expr)
+    → written_expr marked (expr.Applied function place operand) ≡ named marked function.name ∷ (written_form marked function.form ++ (placed marked k.LeftParenthesis place ∷ (written_expr marked operand ++ bare marked k.RightParenthesis ∷ [])))
+unfolding hidden-the_row-Expr-0 hidden
+applied_text marked function place operand = refl
 
 prefixed_text : (marked : Bool) (o : PrefixOp) (place : Place) (operand : Expr) → written_expr marked (expr.Prefix o place operand) ≡ placed marked (sign_kind o) place ∷ written_expr marked operand
 unfolding hidden-the_row-Expr-0 hidden
@@ -83,6 +90,10 @@ enclosed_is : (place : Place) (inner : Expr) → Layered inner → Is (expr.Pare
 unfolding hidden-the_row-Expr-0 hidden
 enclosed_is place inner l = record { measured = refl; layered = l; layer_is = refl }
 
+applied_is : (function : Function) (place : Place) (operand : Expr) → Layered operand → Is (expr.Applied function place operand) (height operand + 1) layer.Primary
+unfolding hidden-the_row-Expr-0 hidden
+applied_is function place operand l = record { measured = refl; layered = l; layer_is = refl }
+
 prefixed_is : (o : PrefixOp) (place : Place) (operand : Expr) → Layered operand → IsUpTo (operand_layer o) operand → Is (expr.Prefix o place operand) (height operand + 1) (layer_before o)
 unfolding hidden-the_row-Expr-0 hidden
 prefixed_is o place operand l r = record { measured = refl; layered = (l, r); layer_is = refl }
@@ -113,6 +124,10 @@ module _ (levels : ℕ) (some : 0 < levels) (place : Place) where
   enclosed_fit : (inner : Tall) → IsTall (levels - 1) layer.Expression inner → IsTall levels layer.Primary (enclosed place inner)
   enclosed_fit inner i = tall_is levels (height inner.expr + 1) layer.Primary (enclosed place inner) (enclosed_is place inner.expr i.layered) (ap (λ (h : ℕ). h + 1) i.measured) (let b = i.low in let m = i.measured in omega arith)
 
+  applied_fit : (function : Function) (operand : Tall) → IsTall (levels - 1) layer.Expression operand → IsTall levels layer.Primary (applied function place operand)
+  applied_fit function operand i =
+      tall_is levels (height operand.expr + 1) layer.Primary (applied function place operand) (applied_is function place operand.expr i.layered) (ap (λ (h : ℕ). h + 1) i.measured) (let b = i.low in let m = i.measured in omega arith)
+
   prefixed_fit : (o : PrefixOp) (operand : Tall) → IsTall (levels - 1) (operand_layer o) operand → IsTall levels (layer_before o) (prefixed o place operand)
   prefixed_fit o operand i =
       tall_is levels (height operand.expr + 1) (layer_before o) (prefixed o place operand) (prefixed_is o place operand.expr i.layered i.of_layer) (ap (λ (h : ℕ). h + 1) i.measured) (let b = i.low in let m = i.measured in omega arith)
@@ -141,6 +156,15 @@ module _ (levels : ℕ) (place : Place) (a : Layer) (left : Tall) (l : IsTall le
       let c = j.low in
       tall_is levels (max (height left.expr) (max (height low.expr) (height high.expr)) + 1) layer.Relation (in_range o place left low high)
       (in_range_is o place left.expr low.expr high.expr l.layered (omega arith) i.layered i.of_layer j.layered j.of_layer) (ap (λ (x : ℕ). max x (max low.height high.height) + 1) m ∙ ap₂ (λ (x y : ℕ). max (height left.expr) (max x y) + 1) n p) (omega arith)
+
+-- what stands before the operand of a function
+abbrev written_function : Bool → Function → List Form
+written_function marked function = named marked function.name ∷ written_form marked function.form
+
+-- the text of a function and its operand, as it is read
+application_text : (marked : Bool) (function : Function) (place : Place) (operand : Tall)
+    → ((written_function marked function ++ placed marked k.LeftParenthesis place ∷ []) ++ spelled marked operand) ++ bare marked k.RightParenthesis ∷ [] ≡ spelled marked (applied function place operand)
+application_text marked function place operand = let e = applied_text marked function place operand.expr in simp (append_assoc, e)
 
 -- the text of an operation, as it is read
 joined_text : (marked : Bool) (o : InfixOp) (kind : Kind) (place : Place) (left right : Tall) → kind ≡ operator_kind o
@@ -225,6 +249,7 @@ Opened levels m (Some o) = IsLeft levels (chain.Logical o) m
 plain_is : (e : Expr) (n : Name) → plain_name e ≡ Some n → e ≡ expr.Name n
 plain_is (expr.Name m) n e = cc
 plain_is (expr.Number value place) n e = absurd cc
+plain_is (written.applied function place operand) n e = absurd cc
 plain_is (parenthesized place inner) n e = absurd cc
 plain_is (written.signed o place operand) n e = absurd cc
 plain_is (written.operation o place left right) n e = absurd cc
@@ -233,9 +258,6 @@ plain_is (written.in_range o place tested low high) n e = absurd cc
 
 -- What reads one level down, at a number of levels and at the next.
 module _ (marked : Bool) (below below' : Layer → Reader Tall) (levels : ℕ) (good : (layer : Layer) → Good (0 < levels) ⊤ (spelled marked) (IsTall (levels - 1) layer) [] Any (below layer) (below' layer)) where
-  named_starts : {L P : Type 0} {on : List Form → Type 0} → ((fs : List Form) → on fs → peek marked fs ≡ Some k.Identifier) → Starts L P (spelled marked) (IsTall levels layer.Primary) [] on (name marked >>= λ n. pure (leaf (expr.Name n))) (name marked >>= λ n. pure (leaf (expr.Name n)))
-  named_starts seen = starts_bind (name_starts marked seen) (λ n. good_pure (leaf (expr.Name n)) (λ l w. refl) (λ l w. is_leaf levels (expr.Name n) refl tt refl))
-
   literal_starts : {L P : Type 0} {on : List Form → Type 0} → ((fs : List Form) → on fs → peek marked fs ≡ Some k.Number) → Starts L P (spelled marked) (IsTall levels layer.Primary) [] on (literal marked) (literal marked)
   unfolding literal
   literal_starts seen = starts_bind (starts_number marked seen) (λ v. good_pure (leaf (expr.Number v.0 v.1)) (λ l w. refl) (λ l w. is_leaf levels (expr.Number v.0 v.1) refl tt refl))
@@ -254,9 +276,68 @@ module _ (marked : Bool) (below below' : Layer → Reader Tall) (levels : ℕ) (
       good_bind (good_expect marked k.RightParenthesis) (λ u.
       good_pure (enclosed place inner) (λ l w. sym (enclosed_text marked place inner.expr)) (λ l w. enclosed_fit levels l place inner w.0.1))))
 
+  -- ---- what an identifier begins
+
+  abbrev named_as : Name → Tall
+  named_as n = leaf (expr.Name n)
+
+  named_fit : (n : Name) → IsTall levels layer.Primary (named_as n)
+  named_fit n = is_leaf levels (expr.Name n) refl tt refl
+
+  -- where what stands before the operand begins a text
+  application_starts : {L P : Type 0} {on : List Form → Type 0} (function : Function) → ((fs : List Form) → on fs → peek marked fs ≡ Some k.LeftParenthesis) → Ends (spelled marked) (IsTall levels layer.Primary) (written_function marked function)
+      → Starts L P (spelled marked) (IsTall levels layer.Primary) (written_function marked function) on (application marked below levels function) (application marked below' (suc levels) function)
+  unfolding application
+  application_starts function seen ends =
+      starts_open marked k.LeftParenthesis seen levels 0 refl (λ w. omega arith) (λ w. ends) (λ place.
+      good_bind (good_given (λ l. l) (λ l w. tt) (good layer.Expression)) (λ operand.
+      good_bind (good_expect marked k.RightParenthesis) (λ u.
+      good_pure (applied function place operand) (λ l w. application_text marked function place operand) (λ l w. applied_fit levels l place function operand w.0.1))))
+
+  attribute_case : {L P : Type 0} (prefix designator : Identifier) (kind : Option Kind)
+      → Case L P (spelled marked) (IsTall levels layer.Primary) (spelled marked (named_as (Attribute prefix designator))) (Sees (peek marked) kind) (named_as (Attribute prefix designator)) (attribute_by marked below levels prefix designator kind) (attribute_by marked below' (suc levels) prefix designator kind)
+  attribute_case prefix designator (Some k.LeftParenthesis) =
+      present (application_starts (function_of prefix (forms.Attribute designator)) (λ fs here. here) (ends_here (spelled marked) (IsTall levels layer.Primary) (named_as (Attribute prefix designator)) (named_fit (Attribute prefix designator))))
+  attribute_case prefix designator _ = absent refl refl (λ l w. refl) (λ l w. named_fit (Attribute prefix designator))
+
+  attribute_good : {L P : Type 0} (prefix : Identifier) → Good L P (spelled marked) (IsTall levels layer.Primary) (named marked prefix ∷ bare marked k.Apostrophe ∷ []) Any (attribute marked below levels prefix) (attribute marked below' (suc levels) prefix)
+  unfolding attribute
+  attribute_good prefix =
+      good_bind (good_identifier marked) (λ designator.
+      good_option (peek marked) (λ t xs ys. refl) (named_as (Attribute prefix designator)) (attribute_by marked below levels prefix designator) (attribute_by marked below' (suc levels) prefix designator) refl refl (attribute_case prefix designator))
+
+  -- an attribute goes on with an apostrophe
+  with_apostrophe_ends : (prefix : Identifier) → Ends (spelled marked) (IsTall levels layer.Primary) (named marked prefix ∷ bare marked k.Apostrophe ∷ [])
+  with_apostrophe_ends prefix = record { more = named marked prefix ∷ []; value = named_as (Attribute prefix prefix); text = refl; fit = named_fit (Attribute prefix prefix) }
+
+  with_apostrophe_case : {L P : Type 0} (prefix : Identifier) (kind : Option Kind)
+      → Good L P (spelled marked) (IsTall levels layer.Primary) (named marked prefix ∷ bare marked k.Apostrophe ∷ []) (Sees (peek marked) kind) (with_apostrophe_by marked below levels prefix kind) (with_apostrophe_by marked below' (suc levels) prefix kind)
+  with_apostrophe_case prefix (Some k.LeftParenthesis) = (application_starts (function_of prefix forms.Qualified) (λ fs here. here) (with_apostrophe_ends prefix)).good
+  with_apostrophe_case prefix _ = good_fewer (λ fs here. tt) (attribute_good prefix)
+
+  with_apostrophe_starts : {L P : Type 0} {on : List Form → Type 0} (prefix : Identifier) → ((fs : List Form) → on fs → peek marked fs ≡ Some k.Apostrophe)
+      → Starts L P (spelled marked) (IsTall levels layer.Primary) (named marked prefix ∷ []) on (with_apostrophe marked below levels prefix) (with_apostrophe marked below' (suc levels) prefix)
+  unfolding with_apostrophe attribute taking
+  with_apostrophe_starts prefix seen =
+      starts_bind (starts_expect marked k.Apostrophe seen refl) (λ u.
+      good_choose (peek marked) (λ t xs ys. refl) (with_apostrophe_by marked below levels prefix) (with_apostrophe_by marked below' (suc levels) prefix) refl refl (with_apostrophe_case prefix))
+
+  with_identifier_case : {L P : Type 0} (prefix : Identifier) (kind : Option Kind)
+      → Case L P (spelled marked) (IsTall levels layer.Primary) (named marked prefix ∷ []) (Sees (peek marked) kind) (named_as (Simple prefix)) (with_identifier_by marked below levels prefix kind) (with_identifier_by marked below' (suc levels) prefix kind)
+  with_identifier_case prefix (Some k.Apostrophe) = present (with_apostrophe_starts prefix (λ fs here. here))
+  with_identifier_case prefix (Some k.LeftParenthesis) =
+      present (application_starts (function_of prefix forms.Simple) (λ fs here. here) (ends_here (spelled marked) (IsTall levels layer.Primary) (named_as (Simple prefix)) (named_fit (Simple prefix))))
+  with_identifier_case prefix _ = absent refl refl (λ l w. refl) (λ l w. named_fit (Simple prefix))
+
+  with_identifier_starts : {L P : Type 0} {on : List Form → Type 0} → ((fs : List Form) → on fs → peek marked fs ≡ Some k.Identifier) → Starts L P (spelled marked) (IsTall levels layer.Primary) [] on (with_identifier marked below levels) (with_identifier marked below' (suc levels))
+  unfolding with_identifier
+  with_identifier_starts seen =
+      starts_bind (starts_identifier marked seen) (λ prefix.
+      good_option (peek marked) (λ t xs ys. refl) (named_as (Simple prefix)) (with_identifier_by marked below levels prefix) (with_identifier_by marked below' (suc levels) prefix) refl refl (with_identifier_case prefix))
+
   primary_case : {L P : Type 0} (kind : Option Kind) → Good L P (spelled marked) (IsTall levels layer.Primary) [] (Sees (peek marked) kind) (primary_by marked below levels kind) (primary_by marked below' (suc levels) kind)
   primary_case (Some k.Number) = (literal_starts (λ fs here. here)).good
-  primary_case (Some k.Identifier) = (named_starts (λ fs here. here)).good
+  primary_case (Some k.Identifier) = (with_identifier_starts (λ fs here. here)).good
   primary_case (Some k.LeftParenthesis) = (parentheses_starts (λ fs here. here)).good
   primary_case _ = good_refuse (λ l w. primary_ends)
 
@@ -536,3 +617,8 @@ pub expression_below_good : {P : Type 0} (marked : Bool) (levels : ℕ) → Good
 unfolding expression_below
 expression_below_good marked levels =
     good_bind (good_given (λ l. l) (λ l w. tt) (below_good marked levels layer.Expression)) (λ m. good_pure m.expr (λ l w. refl) (λ l w. of_layer_is (levels - 1) layer.Expression m w.1))
+
+pub simple_expression_below_good : {P : Type 0} (marked : Bool) (levels : ℕ) → Good (0 < levels) P (written_expr marked) (OfLayer layer.Sum (levels - 1)) [] Any (simple_expression_below marked levels) (simple_expression_below marked (suc levels))
+unfolding simple_expression_below
+simple_expression_below_good marked levels =
+    good_bind (good_given (λ l. l) (λ l w. tt) (below_good marked levels layer.Sum)) (λ m. good_pure m.expr (λ l w. refl) (λ l w. of_layer_is (levels - 1) layer.Sum m w.1))

@@ -15,12 +15,15 @@ use Rattle.spx_tree.specs.declared.expression.Layer.{Layer}
 use Rattle.spx_tree.specs.declared.expression.Layer.TheVariants as layer
 use Rattle.spx_tree.specs.declared.expression.Name.{Name}
 use Rattle.spx_tree.specs.declared.expression.Name.TheVariants.{Simple, Attribute}
+use Rattle.spx_tree.specs.declared.expression.Function.{Function}
+use Rattle.spx_tree.specs.declared.expression.FunctionForm.{FunctionForm}
+use Rattle.spx_tree.specs.declared.expression.FunctionForm.TheVariants as forms
 use Rattle.spx_tree.specs.declared.expression.Expr.{Expr}
 use Rattle.spx_tree.specs.declared.expression.Expr.TheBlock.{hidden-the_row-Expr-0}
 use Rattle.spx_tree.specs.declared.expression.Expr.TheVariants as expr
 use Rattle.spx_tree.specs.Form.{Form, Kept, Nothing, Where, Spelled, Valued, placed, bare, named}
 use Rattle.spx_tree.specs.Written as written
-use Rattle.spx_tree.specs.Written.{parenthesized, sign_kind, operator_kind, second_word, written_operator, written_member, written_name, written_expr}
+use Rattle.spx_tree.specs.Written.{parenthesized, sign_kind, operator_kind, second_word, written_operator, written_member, written_form, written_name, written_expr}
 use Rattle.spx_tree.specs.Grammar.{height, layer_of, layer_before, layer_in, rank, right_layer, operand_layer, HasOperator, FitsLeft, IsUpTo, Layered, OfLayer, IsExpr}
 use Rattle.spx_parse_body.specs.declared.expressions.Tall.{Tall}
 use Rattle.spx_parse_body.specs.declared.operators.Chain.{Chain}
@@ -29,7 +32,7 @@ use Rattle.spx_parse_body.specs.declared.operators.Relator.{Relator}
 use Rattle.spx_parse_body.specs.declared.operators.Relator.TheVariants as relators
 use Rattle.spx_parse_body.specs.Reading.{Outcome, Reader, and_then, peek}
 use Rattle.spx_parse_body.specs.Operators.{sign_of, abs_or_not, power_of, multiplying, adding, relator_of, logical, if_then, if_else, same_logical, goes_on, second, whole_by, whole_operator}
-use Rattle.spx_parse_body.specs.Expressions.{name_by, name, literal, in_parentheses, primary_by, primary, operated, joined_by, power_by, power, factor_by, factor, step_by, chain_step, chained, term, signed_by, signed, sum, type_by, member_by, member, inside, outside, relation_by, relation, combined, opening_by, opening, combination_by, combination, read, below, at_layer, expression, simple_expression, expression_below}
+use Rattle.spx_parse_body.specs.Expressions.{function_of, name_by, name, literal, in_parentheses, application, attribute_by, attribute, with_apostrophe_by, with_apostrophe, with_identifier_by, with_identifier, primary_by, primary, operated, joined_by, power_by, power, factor_by, factor, step_by, chain_step, chained, term, signed_by, signed, sum, type_by, member_by, member, inside, outside, relation_by, relation, combined, opening_by, opening, combination_by, combination, read, below, at_layer, expression, simple_expression, expression_below, simple_expression_below}
 use Rattle.spx_parse_body.proofs.Callers.Loops.{Shrinks}
 use Rattle.spx_parse_body.proofs.Callers.Reaches.{Reaches, reaches_bind, reaches_pure, reaches_choose, reaches_deeper, reaches_expect, reaches_expect_place, reaches_identifier, reaches_number, peek_front, loop_turn, loop_over}
 use Rattle.spx_parse_body.proofs.Callers.Operators.{chain_layer}
@@ -42,6 +45,7 @@ measure x = record { expr = x; height = height x }
 -- the rank of the least layer that a form of this kind goes on with, or a greater number
 abbrev pub strength : Option Kind → ℕ
 strength (Some k.Apostrophe) = 0
+strength (Some k.LeftParenthesis) = 0
 strength (Some k.DoubleAsterisk) = 1
 strength (Some k.Asterisk) = 2
 strength (Some k.Slash) = 2
@@ -80,9 +84,6 @@ Again marked p levels layer = (x : Expr) (fs zs : List Form) → height x ≤ le
 op_strength : (o : InfixOp) → strength (Some (operator_kind o)) ≡ rank (layer_of o)
 op_strength op.Add = refl
 op_strength _ = refl
-
-no_tick : (kind : Option Kind) → 0 < strength kind → kind ≡ Some k.Apostrophe → ⊥
-no_tick kind s e = let n = ap strength e in omega arith
 
 no_power : (kind : Option Kind) → 1 < strength kind → power_of kind ≡ None
 no_power (Some k.DoubleAsterisk) s = absurd (omega arith)
@@ -247,6 +248,7 @@ name_front marked (Attribute prefix designator) zs = peek_here marked k.Identifi
 abbrev front_kind : Expr → Kind
 front_kind (expr.Number value place) = k.Number
 front_kind (expr.Name x) = k.Identifier
+front_kind (written.applied function place operand) = k.Identifier
 front_kind (parenthesized place inner) = k.LeftParenthesis
 front_kind (written.signed o place operand) = sign_kind o
 front_kind (written.operation o place left right) = front_kind left
@@ -256,6 +258,8 @@ front_kind (written.in_range o place tested low high) = front_kind tested
 front : (marked : Bool) (x : Expr) (zs : List Form) → peek marked (written_expr marked x ++ zs) ≡ Some (front_kind x)
 front marked (expr.Number value place) zs = peek_here marked k.Number (Valued value place) zs
 front marked (expr.Name x) zs = name_front marked x zs
+front marked (written.applied function place operand) zs =
+    peek_here marked k.Identifier (Spelled function.name.text function.name.place) ((written_form marked function.form ++ (placed marked k.LeftParenthesis place ∷ (written_expr marked operand ++ bare marked k.RightParenthesis ∷ []))) ++ zs)
 front marked (parenthesized place inner) zs = peek_here marked k.LeftParenthesis (Where place) ((written_expr marked inner ++ bare marked k.RightParenthesis ∷ []) ++ zs)
 front marked (written.signed o place operand) zs = peek_here marked (sign_kind o) (Where place) (written_expr marked operand ++ zs)
 front marked (written.operation o place left right) zs = ap (peek marked) (append_assoc (written_expr marked left) (written_operator marked o place ++ written_expr marked right) zs) ∙ front marked left ((written_operator marked o place ++ written_expr marked right) ++ zs)
@@ -275,11 +279,33 @@ sign_no_second _ = (refl, refl)
 front_no_second : (x : Expr) → NoSecond (front_kind x)
 front_no_second (expr.Number value place) = (refl, refl)
 front_no_second (expr.Name x) = (refl, refl)
+front_no_second (written.applied function place operand) = (refl, refl)
 front_no_second (parenthesized place inner) = (refl, refl)
 front_no_second (written.signed o place operand) = sign_no_second o
 front_no_second (written.operation o place left right) = front_no_second left
 front_no_second (written.in_type o place tested type_name) = front_no_second tested
 front_no_second (written.in_range o place tested low high) = front_no_second tested
+
+sign_no_others : (o : PrefixOp) → sign_kind o ≡ k.Others → ⊥
+sign_no_others sign.Plus e = cc
+sign_no_others _ e = cc
+
+front_no_others : (x : Expr) → front_kind x ≡ k.Others → ⊥
+front_no_others (expr.Number value place) e = cc
+front_no_others (expr.Name x) e = cc
+front_no_others (written.applied function place operand) e = cc
+front_no_others (parenthesized place inner) e = cc
+front_no_others (written.signed o place operand) e = sign_no_others o e
+front_no_others (written.operation o place left right) e = front_no_others left e
+front_no_others (written.in_type o place tested type_name) e = front_no_others tested e
+front_no_others (written.in_range o place tested low high) e = front_no_others tested e
+
+-- no expression begins with the word "others"
+pub not_others : (marked : Bool) (x : Expr) (zs : List Form) → peek marked (written_expr marked x ++ zs) ≡ Some k.Others → ⊥
+not_others marked x zs e = front_no_others x (some_is (front_kind x) k.Others (sym (front marked x zs) ∙ e))
+  where
+    some_is : (a b : Kind) → Some a ≡ Some b → a ≡ b
+    some_is a b e = cc
 
 -- what stands on the left is of no later layer
 left_low : (a : Layer) (o : InfixOp) (x : Expr) → rank a ≤ 4 → FitsLeft a o x → rank (layer_in x) ≤ rank a
@@ -294,6 +320,7 @@ left_low layer.Expression o x h f = absurd (omega arith)
 unsigned : (x : Expr) → Layered x → rank (layer_in x) ≤ 2 → sign_of (Some (front_kind x)) ≡ None
 unsigned (expr.Number value place) l r = refl
 unsigned (expr.Name x) l r = refl
+unsigned (written.applied function place operand) l r = refl
 unsigned (parenthesized place inner) l r = refl
 unsigned (written.signed o place operand) l r = elim (before_cases o) [ inl e ↦ let h = ap rank e.0 in absurd (omega arith) | inr e ↦ e.2 ]
 unsigned (written.operation o place left right) l r = unsigned left l.0 (let h = left_low (layer_of o) o left (omega arith) l.2 in omega arith)
@@ -304,6 +331,7 @@ unsigned (written.in_range o place tested low high) l r = absurd (omega arith)
 wordless : (x : Expr) → rank (layer_in x) ≤ 0 → abs_or_not (Some (front_kind x)) ≡ None
 wordless (expr.Number value place) r = refl
 wordless (expr.Name x) r = refl
+wordless (written.applied function place operand) r = refl
 wordless (parenthesized place inner) r = refl
 wordless (written.signed o place operand) r = let h = some_before o in absurd (omega arith)
 wordless (written.operation o place left right) r = let h = some_rank o in absurd (omega arith)
@@ -312,7 +340,7 @@ wordless (written.in_range o place tested low high) r = absurd (omega arith)
 
 -- ---- expressions
 
-bare_free : (marked : Bool) (kind : Kind) (zs : List Form) → strength (Some kind) ≡ 6 → Free layer.Expression (peek marked (bare marked kind ∷ zs))
+pub bare_free : (marked : Bool) (kind : Kind) (zs : List Form) → strength (Some kind) ≡ 6 → Free layer.Expression (peek marked (bare marked kind ∷ zs))
 bare_free marked kind zs h = let e = ap strength (peek_here marked kind Nothing zs) ∙ h in omega arith
 
 second_again : (marked : Bool) (o : InfixOp) (fs zs : List Form) → fs ≡ second_word marked o ++ zs → Reaches (second marked o) fs tt zs
@@ -350,6 +378,68 @@ module _ (marked : Bool) (below : Layer → Reader Tall) (levels : ℕ) (shrinks
       reaches_bind _ (again some layer.Expression inner us (bare marked k.RightParenthesis ∷ zs) (omega arith) l (rank_low (layer_in inner)) (bare_free marked k.RightParenthesis zs refl) a) (λ vs b.
       reaches_bind _ (reaches_expect marked k.RightParenthesis b) (λ ws d. reaches_pure d))))
 
+  -- ---- what an identifier begins
+
+  simple_plain : (prefix : Identifier) (kind : Option Kind) (us zs : List Form) → 0 < strength kind → us ≡ zs → Reaches (with_identifier_by marked below levels prefix kind) us (measure (expr.Name (Simple prefix))) zs
+  simple_plain prefix (Some k.Apostrophe) us zs free e = absurd (omega arith)
+  simple_plain prefix (Some k.LeftParenthesis) us zs free e = absurd (omega arith)
+  simple_plain prefix _ us zs free e = reaches_pure e
+
+  attribute_plain : (prefix designator : Identifier) (kind : Option Kind) (us zs : List Form) → 0 < strength kind → us ≡ zs → Reaches (attribute_by marked below levels prefix designator kind) us (measure (expr.Name (Attribute prefix designator))) zs
+  attribute_plain prefix designator (Some k.LeftParenthesis) us zs free e = absurd (omega arith)
+  attribute_plain prefix designator _ us zs free e = reaches_pure e
+
+  plain_again : (x : Name) (fs zs : List Form) → 0 < strength (peek marked zs) → fs ≡ written_name marked x ++ zs → Reaches (with_identifier marked below levels) fs (measure (expr.Name x)) zs
+  unfolding with_identifier with_apostrophe attribute
+  plain_again (Simple prefix) fs zs free e =
+      reaches_bind _ (reaches_identifier marked e) (λ us a. reaches_choose (peek marked) (with_identifier_by marked below levels prefix) (peek marked zs) (peek_front marked us a) (simple_plain prefix (peek marked zs) us zs free a))
+  plain_again (Attribute prefix designator) fs zs free e =
+      reaches_bind _ (reaches_identifier marked e) (λ us a.
+      reaches_choose (peek marked) (with_identifier_by marked below levels prefix) (Some k.Apostrophe) (peek_front marked us a ∙ peek_here marked k.Apostrophe Nothing (named marked designator ∷ zs))
+      (reaches_bind _ (reaches_expect marked k.Apostrophe a) (λ vs b.
+      reaches_choose (peek marked) (with_apostrophe_by marked below levels prefix) (Some k.Identifier) (peek_front marked vs b ∙ peek_here marked k.Identifier (Spelled designator.text designator.place) zs)
+      (reaches_bind _ (reaches_identifier marked b) (λ ws d. reaches_choose (peek marked) (attribute_by marked below levels prefix designator) (peek marked zs) (peek_front marked ws d) (attribute_plain prefix designator (peek marked zs) ws zs free d))))))
+
+  -- the operand of a function, and what stands after it
+  abbrev from_operand : Place → Expr → List Form → List Form
+  from_operand place x zs = placed marked k.LeftParenthesis place ∷ (written_expr marked x ++ bare marked k.RightParenthesis ∷ zs)
+
+  operand_seen : (place : Place) (x : Expr) (us zs : List Form) → us ≡ from_operand place x zs → peek marked us ≡ Some k.LeftParenthesis
+  operand_seen place x us zs e = peek_front marked us e ∙ peek_here marked k.LeftParenthesis (Where place) (written_expr marked x ++ bare marked k.RightParenthesis ∷ zs)
+
+  application_again : (function : Function) (place : Place) (x : Expr) (fs zs : List Form) → height x + 1 ≤ levels → Layered x → fs ≡ from_operand place x zs → Reaches (application marked below levels function) fs (measure (written.applied function place x)) zs
+  unfolding application hidden-the_row-Expr-0 hidden
+  application_again function place x fs zs low l e =
+      let some : 0 < levels = omega arith in
+      reaches_deeper some
+      (reaches_bind _ (reaches_expect_place marked k.LeftParenthesis e) (λ us a.
+      reaches_bind _ (again some layer.Expression x us (bare marked k.RightParenthesis ∷ zs) (omega arith) l (rank_low (layer_in x)) (bare_free marked k.RightParenthesis zs refl) a) (λ vs b.
+      reaches_bind _ (reaches_expect marked k.RightParenthesis b) (λ ws d. reaches_pure d))))
+
+  applied_again : (name : Identifier) (form : FunctionForm) (place : Place) (x : Expr) (fs zs : List Form) → height x + 1 ≤ levels → Layered x → fs ≡ named marked name ∷ (written_form marked form ++ from_operand place x zs)
+      → Reaches (with_identifier marked below levels) fs (measure (written.applied (function_of name form) place x)) zs
+  unfolding with_identifier with_apostrophe attribute
+  applied_again name (forms.Simple) place x fs zs low l e =
+      reaches_bind _ (reaches_identifier marked e) (λ us a.
+      reaches_choose (peek marked) (with_identifier_by marked below levels name) (Some k.LeftParenthesis) (operand_seen place x us zs a) (application_again (function_of name forms.Simple) place x us zs low l a))
+  applied_again name (forms.Attribute designator) place x fs zs low l e =
+      reaches_bind _ (reaches_identifier marked e) (λ us a.
+      reaches_choose (peek marked) (with_identifier_by marked below levels name) (Some k.Apostrophe) (peek_front marked us a ∙ peek_here marked k.Apostrophe Nothing (named marked designator ∷ from_operand place x zs))
+      (reaches_bind _ (reaches_expect marked k.Apostrophe a) (λ vs b.
+      reaches_choose (peek marked) (with_apostrophe_by marked below levels name) (Some k.Identifier) (peek_front marked vs b ∙ peek_here marked k.Identifier (Spelled designator.text designator.place) (from_operand place x zs))
+      (reaches_bind _ (reaches_identifier marked b) (λ ws d.
+      reaches_choose (peek marked) (attribute_by marked below levels name designator) (Some k.LeftParenthesis) (operand_seen place x ws zs d) (application_again (function_of name (forms.Attribute designator)) place x ws zs low l d))))))
+  applied_again name (forms.Qualified) place x fs zs low l e =
+      reaches_bind _ (reaches_identifier marked e) (λ us a.
+      reaches_choose (peek marked) (with_identifier_by marked below levels name) (Some k.Apostrophe) (peek_front marked us a ∙ peek_here marked k.Apostrophe Nothing (from_operand place x zs))
+      (reaches_bind _ (reaches_expect marked k.Apostrophe a) (λ vs b.
+      reaches_choose (peek marked) (with_apostrophe_by marked below levels name) (Some k.LeftParenthesis) (operand_seen place x vs zs b) (application_again (function_of name forms.Qualified) place x vs zs low l b))))
+
+  applied_flat : (f p w zs : List Form) → (f ++ (p ++ (w ++ bare marked k.RightParenthesis ∷ []))) ++ zs ≡ f ++ (p ++ (w ++ bare marked k.RightParenthesis ∷ zs))
+  applied_flat f p w zs = simp append_assoc
+
+  -- ---- primaries
+
   primary_again : Again marked (primary marked below levels) levels layer.Primary
   unfolding primary literal
   primary_again (expr.Number value place) fs zs low l r free e =
@@ -357,7 +447,11 @@ module _ (marked : Bool) (below : Layer → Reader Tall) (levels : ℕ) (shrinks
       (reaches_bind _ (reaches_number marked e) (λ us a. reaches_pure a))
   primary_again (expr.Name x) fs zs low l r free e =
       reaches_choose (peek marked) (primary_by marked below levels) (Some k.Identifier) (peek_front marked fs e ∙ name_front marked x zs)
-      (reaches_bind _ (name_again marked x fs zs (no_tick (peek marked zs) free) e) (λ us a. reaches_pure a))
+      (plain_again x fs zs free e)
+  primary_again (written.applied function place x) fs zs low l r free e =
+      let flat = e ∙ ap (λ (us : List Form). named marked function.name ∷ us) (applied_flat (written_form marked function.form) (placed marked k.LeftParenthesis place ∷ []) (written_expr marked x) zs) in
+      reaches_choose (peek marked) (primary_by marked below levels) (Some k.Identifier) (peek_front marked fs flat ∙ peek_here marked k.Identifier (Spelled function.name.text function.name.place) (written_form marked function.form ++ from_operand place x zs))
+      (applied_again function.name function.form place x fs zs low l flat)
   primary_again (parenthesized place inner) fs zs low l r free e =
       let flat = e ∙ ap (λ (us : List Form). placed marked k.LeftParenthesis place ∷ us) (append_assoc (written_expr marked inner) (bare marked k.RightParenthesis ∷ []) zs) in
       reaches_choose (peek marked) (primary_by marked below levels) (Some k.LeftParenthesis) (peek_front marked fs flat ∙ peek_here marked k.LeftParenthesis (Where place) (written_expr marked inner ++ bare marked k.RightParenthesis ∷ zs))
@@ -447,6 +541,7 @@ module _ (marked : Bool) (below : Layer → Reader Tall) (levels : ℕ) (shrinks
         | inl is ↦ let h = ap rank is.0 in absurd (omega arith)
         | inr is ↦ let h = ap rank is.1 in word_factor o place x fs zs is.3 low l.0 l.1 (omega arith) e
       ]
+  factor_again (written.applied function place x) fs zs low l r free e = plain_factor (written.applied function place x) fs zs low l (omega arith) free e
   factor_again (parenthesized place inner) fs zs low l r free e = plain_factor (parenthesized place inner) fs zs low l (omega arith) free e
   factor_again (expr.Number value place) fs zs low l r free e = plain_factor (expr.Number value place) fs zs low l (omega arith) free e
   factor_again (expr.Name x) fs zs low l r free e = plain_factor (expr.Name x) fs zs low l (omega arith) free e
@@ -487,6 +582,7 @@ module _ (marked : Bool) (below : Layer → Reader Tall) (levels : ℕ) (shrinks
       let low_x : height x ≤ levels = omega arith in
       term_case o place x y fs zs low l free e (layers layer.Term (layer_of o) r) (λ h f. term_goes x fs (from_operator o place y zs) low_x l.0 h f (e ∙ flat o place x y zs))
   term_goes (written.signed o place x) fs zs low l r free e = term_base (written.signed o place x) fs zs low l (elim (before_cases o) [ inl is ↦ let h = ap rank is.0 in absurd (omega arith) | inr is ↦ let h = ap rank is.0 in omega arith ]) free e
+  term_goes (written.applied function place x) fs zs low l r free e = term_base (written.applied function place x) fs zs low l (omega arith) free e
   term_goes (parenthesized place inner) fs zs low l r free e = term_base (parenthesized place inner) fs zs low l (omega arith) free e
   term_goes (expr.Number value place) fs zs low l r free e = term_base (expr.Number value place) fs zs low l (omega arith) free e
   term_goes (expr.Name x) fs zs low l r free e = term_base (expr.Name x) fs zs low l (omega arith) free e
@@ -535,6 +631,7 @@ module _ (marked : Bool) (below : Layer → Reader Tall) (levels : ℕ) (shrinks
         | inl is ↦ let h = ap rank is.1 in sum_from (written.signed o place x) fs zs (signed_term o place x fs zs is.2 low l.0 l.1 (omega arith) e)
         | inr is ↦ let h = ap rank is.0 in sum_base (written.signed o place x) fs zs low l (omega arith) free e
       ]
+  sum_goes (written.applied function place x) fs zs low l r free e = sum_base (written.applied function place x) fs zs low l (omega arith) free e
   sum_goes (parenthesized place inner) fs zs low l r free e = sum_base (parenthesized place inner) fs zs low l (omega arith) free e
   sum_goes (expr.Number value place) fs zs low l r free e = sum_base (expr.Number value place) fs zs low l (omega arith) free e
   sum_goes (expr.Name x) fs zs low l r free e = sum_base (expr.Name x) fs zs low l (omega arith) free e
@@ -612,6 +709,7 @@ module _ (marked : Bool) (below : Layer → Reader Tall) (levels : ℕ) (shrinks
         | inr lower ↦ relation_plain (written.operation o place x y) fs zs low l (omega arith) free e
       ]
   relation_again (written.signed o place x) fs zs low l r free e = relation_plain (written.signed o place x) fs zs low l (elim (before_cases o) [ inl is ↦ let h = ap rank is.0 in omega arith | inr is ↦ let h = ap rank is.0 in omega arith ]) free e
+  relation_again (written.applied function place x) fs zs low l r free e = relation_plain (written.applied function place x) fs zs low l (omega arith) free e
   relation_again (parenthesized place inner) fs zs low l r free e = relation_plain (parenthesized place inner) fs zs low l (omega arith) free e
   relation_again (expr.Number value place) fs zs low l r free e = relation_plain (expr.Number value place) fs zs low l (omega arith) free e
   relation_again (expr.Name x) fs zs low l r free e = relation_plain (expr.Name x) fs zs low l (omega arith) free e
@@ -686,6 +784,7 @@ module _ (marked : Bool) (below : Layer → Reader Tall) (levels : ℕ) (shrinks
       (λ h f. subst (λ (q : InfixOp). combination marked below levels fs ≡ chained marked below levels (chain.Logical q) (measure x) (from_operator p place y zs)) (sym has)
       (combination_goes o is x (subst (λ (q : InfixOp). HasOperator q x) has h) fs (from_operator p place y zs) low_x l.0 f (e ∙ flat p place x y zs))))
   combination_goes o is (written.signed p place x) has fs zs low l free e = absurd has
+  combination_goes o is (written.applied function place x) has fs zs low l free e = absurd has
   combination_goes o is (parenthesized place inner) has fs zs low l free e = absurd has
   combination_goes o is (expr.Number value place) has fs zs low l free e = absurd has
   combination_goes o is (expr.Name x) has fs zs low l free e = absurd has
@@ -703,6 +802,7 @@ module _ (marked : Bool) (below : Layer → Reader Tall) (levels : ℕ) (shrinks
         | inr lower ↦ combination_plain (written.operation o place x y) fs zs low l (omega arith) free e
       ]
   combination_again (written.signed o place x) fs zs low l r free e = combination_plain (written.signed o place x) fs zs low l (elim (before_cases o) [ inl is ↦ let h = ap rank is.0 in omega arith | inr is ↦ let h = ap rank is.0 in omega arith ]) free e
+  combination_again (written.applied function place x) fs zs low l r free e = combination_plain (written.applied function place x) fs zs low l (omega arith) free e
   combination_again (parenthesized place inner) fs zs low l r free e = combination_plain (parenthesized place inner) fs zs low l (omega arith) free e
   combination_again (expr.Number value place) fs zs low l r free e = combination_plain (expr.Number value place) fs zs low l (omega arith) free e
   combination_again (expr.Name x) fs zs low l r free e = combination_plain (expr.Name x) fs zs low l (omega arith) free e
@@ -737,6 +837,10 @@ simple_expression_again marked levels x fs zs fit free e = reaches_bind _ (at_la
 pub expression_below_again : (marked : Bool) (levels : ℕ) → 0 < levels → (x : Expr) (fs zs : List Form) → IsExpr (levels - 1) x → Free layer.Expression (peek marked zs) → fs ≡ written_expr marked x ++ zs → Reaches (expression_below marked levels) fs x zs
 unfolding expression_below
 expression_below_again marked levels some x fs zs fit free e = reaches_bind _ (below_again marked levels some layer.Expression x fs zs fit.low fit.layered fit.of_layer free e) (λ us a. reaches_pure a)
+
+pub simple_expression_below_again : (marked : Bool) (levels : ℕ) → 0 < levels → (x : Expr) (fs zs : List Form) → OfLayer layer.Sum (levels - 1) x → Free layer.Sum (peek marked zs) → fs ≡ written_expr marked x ++ zs → Reaches (simple_expression_below marked levels) fs x zs
+unfolding simple_expression_below
+simple_expression_below_again marked levels some x fs zs fit free e = reaches_bind _ (below_again marked levels some layer.Sum x fs zs fit.low fit.layered fit.of_layer free e) (λ us a. reaches_pure a)
 
 -- no expression goes on with a semicolon
 pub semicolon_free : (marked : Bool) (zs : List Form) → Free layer.Expression (peek marked (bare marked k.Semicolon ∷ zs))

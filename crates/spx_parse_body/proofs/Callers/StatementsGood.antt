@@ -1,35 +1,38 @@
 -- The readers of statements keep the laws of readers.
 use Rattle.std.specs.Prelude.{⊤}
-use Rattle.std.proofs.Common.{◌≡◌, ℕ, zero, suc, ◌<◌, true, List, [], ◌∷◌, ◌++◌, map, Option, Some, None, refl, sym, ap, subst, ◌∙◌, append_assoc, arith}
+use Rattle.std.proofs.Common.{◌≡◌, ℕ, zero, suc, ◌-◌, ◌<◌, true, List, [], ◌∷◌, ◌++◌, map, Option, Some, None, refl, sym, ap, subst, ◌∙◌, append_assoc, arith}
 use Rattle.std.proofs.lemmas.List.{append-nil}
 use Rattle.spx_text.specs.declared.place.Place.{Place}
 use Rattle.spx_tree.specs.declared.token.Kind.{Kind}
 use Rattle.spx_tree.specs.declared.token.Kind.TheVariants as k
+use Rattle.spx_tree.specs.declared.expression.Layer.TheVariants as layer
 use Rattle.spx_tree.specs.declared.expression.Expr.{Expr}
 use Rattle.spx_tree.specs.declared.statement.Closing.{Closing}
+use Rattle.spx_tree.specs.declared.statement.Choice.{Choice}
+use Rattle.spx_tree.specs.declared.statement.Alternative.{Alternative, out-Alternative}
 use Rattle.spx_tree.specs.declared.statement.Arm.{Arm, out-Arm}
 use Rattle.spx_tree.specs.declared.statement.Stmt.{Stmt, Stmt-F, out-Stmt}
-use Rattle.spx_tree.specs.declared.statement.Stmt.TheVariants.{Null, Assignment, If, outs-Null, outs-Assignment, outs-If}
+use Rattle.spx_tree.specs.declared.statement.Stmt.TheVariants.{Null, Assignment, If, Case, outs-Null, outs-Assignment, outs-If, outs-Case}
 use Rattle.spx_tree.specs.Form.{Form, bare, placed}
-use Rattle.spx_tree.specs.Written.{program, optional, elsif_arms, all_arms, written_stmt, written_arm, written_stmts}
-use Rattle.spx_tree.specs.Grammar.{OneOrMore, IsArm, IsFormed, Within, IsStmt}
-use Rattle.spx_tree.proofs.WrittenLevels.{written_level, spelled_stmt, spelled_arm, elsif_joined}
-use Rattle.spx_parse_body.specs.Reading.{Reader, peek, sees, refuse, item_step}
+use Rattle.spx_tree.specs.Written.{program, joined, optional, elsif_arms, all_arms, written_upper, written_choice, written_choices, written_expr, written_stmt, written_arm, written_alternative, written_stmts, separated}
+use Rattle.spx_tree.specs.Grammar.{OneOrMore, IfThere, OfLayer, IsArm, IsChoice, IsAlternative, IsFormed, Within, IsStmt}
+use Rattle.spx_tree.proofs.WrittenLevels.{written_level, spelled_stmt, spelled_arm, spelled_alternative, elsif_joined}
+use Rattle.spx_parse_body.specs.Reading.{Reader, ◌>>=◌, ◌>>◌, pure, peek, sees, refuse, expect, item_step}
 use Rattle.spx_parse_body.specs.Statements as read
-use Rattle.spx_parse_body.specs.Statements.{null_statement, assignment, arm, elsif_arm, if_statement, stmt_by, stmt, starts_stmt, sees_stmt, more_stmts, some_stmts, stmts_below, stmts}
+use Rattle.spx_parse_body.specs.Statements.{null_statement, assignment, upper, choice, more_choices, some_choices, choices_by, choices, arm, elsif_arm, if_statement, alternative, more_alternatives, alternatives, case_statement, stmt_by, stmt, starts_stmt, sees_stmt, more_stmts, some_stmts, stmts_below, stmts}
 use Rattle.spx_parse_body.proofs.Callers.Loops.{Shrinks}
-use Rattle.spx_parse_body.proofs.Callers.Lawful.{Ends, Any, Sees}
+use Rattle.spx_parse_body.proofs.Callers.Lawful.{Ends, Any, Sees, Always, just}
 use Rattle.spx_parse_body.proofs.Callers.Good.{Good, Starts, Adds, no_level, good_bind, good_then, good_as, good_before, good_given, good_more, good_pure, good_refuse, good_expect, good_expect_place, good_choose, list_shrinks, starts_bind, starts_choose, starts_expect, starts_open, starts_place}
-use Rattle.spx_parse_body.proofs.Callers.Separated.{all_added, good_if_seen, good_some_items, items_shrinks, joined_added, sees_kind}
-use Rattle.spx_parse_body.proofs.Callers.ExpressionsGood.{name_starts, expression_good, expression_below_good}
+use Rattle.spx_parse_body.proofs.Callers.Separated.{all_added, good_if_seen, good_separated, good_some_items, items_shrinks, joined_added, sees_kind, separated_shrinks}
+use Rattle.spx_parse_body.proofs.Callers.ExpressionsGood.{name_starts, expression_good, expression_below_good, simple_expression_below_good}
 
 -- ---- what is written and asked, by the last level
 
 -- a statement whose last level is this
-pub spelled_as : (x : Stmt) (y : Stmt-F Stmt Arm) → out-Stmt x ≡ y → written_stmt x ≡ written_level y
+pub spelled_as : (x : Stmt) (y : Stmt-F Stmt Alternative Arm) → out-Stmt x ≡ y → written_stmt x ≡ written_level y
 spelled_as x y e = spelled_stmt x ∙ ap written_level e
 
-fits_as : (levels : ℕ) (x : Stmt) (y : Stmt-F Stmt Arm) → out-Stmt x ≡ y → IsFormed levels (Within levels) y → IsStmt levels x
+fits_as : (levels : ℕ) (x : Stmt) (y : Stmt-F Stmt Alternative Arm) → out-Stmt x ≡ y → IsFormed levels (Within levels) y → IsStmt levels x
 fits_as levels x y e f = subst (IsFormed levels (Within levels)) (sym e) f
 
 -- statements one level down
@@ -71,6 +74,54 @@ null_starts levels here =
 
 stmt_ends : (levels : ℕ) → Ends written_stmt (IsStmt levels) []
 stmt_ends levels = ((null_starts {L = ⊤} {P = ⊤} {on = λ fs. peek program fs ≡ Some k.Null} levels (λ fs here. here)).good.law tt tt).ends
+
+-- ---- choices
+
+-- a choice of a case statement within so many levels
+abbrev pub FitsChoice : ℕ → Choice → Type 0
+FitsChoice levels x = IsChoice (levels - 1) x
+
+-- what the choices of an alternative are
+abbrev pub FitChoices : ℕ → Option (List Choice) → Type 0
+FitChoices levels xs = IfThere (OneOrMore (FitsChoice levels)) xs
+
+upper_starts : {P : Type 0} (levels : ℕ) → Starts (0 < levels) P written_upper (OfLayer layer.Sum (levels - 1)) [] (Sees (sees program k.DoubleDot) true) (upper levels) (upper (suc levels))
+unfolding upper
+upper_starts levels = starts_bind (starts_expect program k.DoubleDot (sees_kind program k.DoubleDot) refl) (λ u. good_as (λ l w x f. (refl, f)) (simple_expression_below_good program levels))
+
+choice_good : {P : Type 0} (levels : ℕ) → Good (0 < levels) P written_choice (FitsChoice levels) [] Any (choice levels) (choice (suc levels))
+unfolding choice
+choice_good levels =
+    good_bind (simple_expression_below_good program levels) (λ low.
+    good_bind (good_if_seen written_upper (OfLayer layer.Sum (levels - 1)) program k.DoubleDot (upper_starts levels)) (λ high.
+    good_pure (record { low = low; high = high }) (λ l w. refl) (λ l w. record { low = w.0.1; high = w.1 })))
+
+some_choices_good : {P : Type 0} (levels : ℕ) → Good (0 < levels) P (separated (bare program k.Bar) written_choice) (OneOrMore (FitsChoice levels)) [] Any (some_choices levels) (some_choices (suc levels))
+unfolding some_choices more_choices
+some_choices_good levels = good_separated written_choice (FitsChoice levels) program k.Bar (sees program k.Bar) (λ t xs ys. refl) refl (sees_kind program k.Bar) refl (choice_good levels)
+
+pub choices_shrinks : (levels : ℕ) → 0 < levels → Shrinks (sees program k.Bar) (item_step (expect program k.Bar >> choice levels))
+choices_shrinks levels some = separated_shrinks written_choice (FitsChoice levels) program k.Bar (sees program k.Bar) (λ t xs ys. refl) refl (sees_kind program k.Bar) refl (choice_good levels) some
+
+others_after : {P : Type 0} (levels : ℕ) (others : Option ⊤) → Good (0 < levels) P written_choices (FitChoices levels) (optional (just program k.Others) others) Any (choices_by levels others) (choices_by (suc levels) others)
+others_after levels (Some others) = good_pure None (λ l w. refl) (λ l w. tt)
+others_after levels None = good_bind (some_choices_good levels) (λ xs. good_pure (Some xs) (λ l w. refl) (λ l w. w.1))
+
+choices_good : {P : Type 0} (levels : ℕ) → Good (0 < levels) P written_choices (FitChoices levels) [] Any (choices levels) (choices (suc levels))
+unfolding choices
+choices_good levels = good_bind (good_if_seen (just program k.Others) Always program k.Others (starts_expect program k.Others (sees_kind program k.Others) refl)) (λ others. others_after levels others)
+
+-- an alternative of a statement within so many levels
+abbrev pub FitsAlternative : ℕ → Alternative → Type 0
+FitsAlternative levels x = IsAlternative levels (Within levels) (out-Alternative x)
+
+abbrev pub made_alternative : Option (List Choice) → List Stmt → Alternative
+made_alternative choices body = record { choices = choices; body = body }
+
+abbrev pub written_alternatives : List Alternative → List Form
+written_alternatives xs = joined (map written_alternative xs)
+
+-- ---- statements
 
 -- What reads statements one level down, at a number of levels and at the next.
 module _ (inner inner' : Reader (List Stmt)) (levels : ℕ) (good : Good (0 < levels) ⊤ written_stmts (IsInner levels) [] Any inner inner') where
@@ -128,10 +179,53 @@ module _ (inner inner' : Reader (List Stmt)) (levels : ℕ) (good : Good (0 < le
       good_pure (If arms otherwise (record { end = end; word = word })) (λ l w. if_text arms otherwise (record { end = end; word = word }))
       (λ l w. fits_as levels (If arms otherwise (record { end = end; word = word })) _ (outs-If arms otherwise (record { end = end; word = word })) (l, w.0.0.0.0.1, w.0.0.0.1)))))))))
 
+  -- "when" choices "=>" statements
+  alternative_after : {P : Type 0} → Good (0 < levels) P written_alternative (FitsAlternative levels) (bare program k.When ∷ []) Any (choices levels >>= λ xs. expect program k.Arrow >>= λ u. inner >>= λ body. pure (made_alternative xs body))
+      (choices (suc levels) >>= λ xs. expect program k.Arrow >>= λ u. inner' >>= λ body. pure (made_alternative xs body))
+  alternative_after =
+      good_bind (choices_good levels) (λ xs.
+      good_bind (good_expect program k.Arrow) (λ u.
+      good_bind (good_given (λ l. l) (λ l w. tt) good) (λ body.
+      good_pure (made_alternative xs body) (λ l w. let e = spelled_alternative (made_alternative xs body) in simp (append_assoc, e)) (λ l w. (w.0.0.1, w.1)))))
+
+  alternative_good : {P : Type 0} → Good (0 < levels) P written_alternative (FitsAlternative levels) [] Any (alternative inner levels) (alternative inner' (suc levels))
+  unfolding alternative
+  alternative_good = good_bind (good_expect program k.When) (λ u. alternative_after)
+
+  alternative_starts : {P : Type 0} → Starts (0 < levels) P written_alternative (FitsAlternative levels) [] (Sees (sees program k.When) true) (alternative inner levels) (alternative inner' (suc levels))
+  unfolding alternative
+  alternative_starts =
+      starts_bind (starts_expect program k.When (sees_kind program k.When) refl) (λ u. alternative_after)
+
+  pub alternative_shrinks : 0 < levels → Shrinks (sees program k.When) (item_step (alternative inner levels))
+  alternative_shrinks some = items_shrinks written_alternative (FitsAlternative levels) (sees program k.When) (λ t xs ys. refl) refl {L = 0 < levels} alternative_starts some
+
+  alternatives_good : {P : Type 0} → Good (0 < levels) P written_alternatives (OneOrMore (FitsAlternative levels)) [] Any (alternatives inner levels) (alternatives inner' (suc levels))
+  unfolding alternatives more_alternatives
+  alternatives_good = good_some_items written_alternative (FitsAlternative levels) (sees program k.When) (λ t xs ys. refl) refl alternative_starts alternative_good
+
+  case_text : (place : Place) (selector : Expr) (xs : List Alternative) (closing : Closing)
+      → (((((placed program k.Case place ∷ [] ++ written_expr program selector) ++ bare program k.Is ∷ []) ++ written_alternatives xs) ++ placed program k.End closing.end ∷ []) ++ placed program k.Case closing.word ∷ []) ++ bare program k.Semicolon ∷ [] ≡ written_stmt (Case place selector xs closing)
+  case_text place selector xs closing = let e = spelled_as (Case place selector xs closing) _ (outs-Case place selector xs closing) in simp (append_assoc, e)
+
+  case_starts : {L P : Type 0} {on : List Form → Type 0} → ((fs : List Form) → on fs → peek program fs ≡ Some k.Case) → Starts L P written_stmt (IsStmt levels) [] on (case_statement inner levels) (case_statement inner' (suc levels))
+  unfolding case_statement
+  case_starts here =
+      starts_open program k.Case here levels 0 refl (λ w. omega arith) (λ w. stmt_ends levels) (λ place.
+      good_bind (expression_below_good program levels) (λ selector.
+      good_bind (good_expect program k.Is) (λ u.
+      good_bind alternatives_good (λ xs.
+      good_bind (good_expect_place program k.End) (λ end.
+      good_bind (good_expect_place program k.Case) (λ word.
+      good_bind (good_expect program k.Semicolon) (λ v.
+      good_pure (Case place selector xs (record { end = end; word = word })) (λ l w. case_text place selector xs (record { end = end; word = word }))
+      (λ l w. fits_as levels (Case place selector xs (record { end = end; word = word })) _ (outs-Case place selector xs (record { end = end; word = word })) (l, w.0.0.0.0.0.1, w.0.0.0.1)))))))))
+
   stmt_case : {L P : Type 0} (kind : Option Kind) → Good L P written_stmt (IsStmt levels) [] (Sees (peek program) kind) (stmt_by inner levels kind) (stmt_by inner' (suc levels) kind)
   stmt_case (Some k.Null) = (null_starts levels (λ fs here. here)).good
   stmt_case (Some k.Identifier) = (assignment_starts (λ fs here. here)).good
   stmt_case (Some k.If) = (if_starts (λ fs here. here)).good
+  stmt_case (Some k.Case) = (case_starts (λ fs here. here)).good
   stmt_case _ = good_refuse (λ l w. stmt_ends levels)
 
   stmt_good : {L P : Type 0} → Good L P written_stmt (IsStmt levels) [] Any (stmt inner levels) (stmt inner' (suc levels))
@@ -142,6 +236,7 @@ module _ (inner inner' : Reader (List Stmt)) (levels : ℕ) (good : Good (0 < le
   begun_case (Some k.Null) e = null_starts levels (λ fs here. here)
   begun_case (Some k.Identifier) e = assignment_starts (λ fs here. here)
   begun_case (Some k.If) e = if_starts (λ fs here. here)
+  begun_case (Some k.Case) e = case_starts (λ fs here. here)
   begun_case _ e = absurd cc
 
   stmt_begins : {L P : Type 0} → Starts L P written_stmt (IsStmt levels) [] (Sees sees_stmt true) (stmt inner levels) (stmt inner' (suc levels))
@@ -164,6 +259,9 @@ stmts_below_good (suc n) = some_stmts_good (stmts_below n) (stmts_below (suc n))
 
 pub arms_shrinks : (levels : ℕ) → 0 < levels → Shrinks (sees program k.Elsif) (item_step (elsif_arm (stmts_below levels) levels))
 arms_shrinks levels some = elsif_shrinks (stmts_below levels) (stmts_below (suc levels)) levels (stmts_below_good levels) some
+
+pub alternatives_shrinks : (levels : ℕ) → 0 < levels → Shrinks (sees program k.When) (item_step (alternative (stmts_below levels) levels))
+alternatives_shrinks levels some = alternative_shrinks (stmts_below levels) (stmts_below (suc levels)) levels (stmts_below_good levels) some
 
 pub stmts_shrinks : (levels : ℕ) → Shrinks sees_stmt (item_step (stmt (stmts_below levels) levels))
 stmts_shrinks levels = stmt_shrinks (stmts_below levels) (stmts_below (suc levels)) levels (stmts_below_good levels)

@@ -1,30 +1,34 @@
 -- The forms of statements are read as those.
-use Rattle.std.proofs.Common.{◌≡◌, ℕ, zero, suc, ◌<◌, true, false, List, [], ◌∷◌, ◌++◌, map, Option, Some, None, refl, sym, ap, ◌∙◌, append_assoc, arith}
+use Rattle.std.proofs.Common.{◌≡◌, ℕ, zero, suc, ◌-◌, ◌<◌, true, false, List, [], ◌∷◌, ◌++◌, map, Option, Some, None, refl, sym, ap, ◌∙◌, append_assoc, arith}
+use Rattle.spx_text.specs.declared.place.Place.{Place}
 use Rattle.spx_tree.specs.declared.token.Kind.{Kind}
 use Rattle.spx_tree.specs.declared.token.Kind.TheVariants as k
 use Rattle.spx_tree.specs.declared.expression.Name.{Name}
 use Rattle.spx_tree.specs.declared.expression.Name.TheVariants.{Simple, Attribute}
+use Rattle.spx_tree.specs.declared.expression.Layer.TheVariants as layer
 use Rattle.spx_tree.specs.declared.expression.Expr.{Expr}
 use Rattle.spx_tree.specs.declared.statement.Closing.{Closing}
+use Rattle.spx_tree.specs.declared.statement.Choice.{Choice}
+use Rattle.spx_tree.specs.declared.statement.Alternative.{Alternative, out-Alternative, roll-out-Alternative}
 use Rattle.spx_tree.specs.declared.statement.Arm.{Arm, Arm-F, out-Arm, roll-out-Arm}
 use Rattle.spx_tree.specs.declared.statement.Stmt.{Stmt, Stmt-F, out-Stmt, roll-Stmt, roll-out-Stmt}
-use Rattle.spx_tree.specs.declared.statement.Stmt.TheVariants.{Null, Assignment, If, outs-Null, outs-Assignment, outs-If}
+use Rattle.spx_tree.specs.declared.statement.Stmt.TheVariants.{Null, Assignment, If, Case, outs-Null, outs-Assignment, outs-If, outs-Case}
 use Rattle.spx_tree.specs.Form.{Form, bare, placed}
-use Rattle.spx_tree.specs.Written.{program, optional, written_name, written_expr, elsif_arms, written_stmt, written_arm, written_stmts}
-use Rattle.spx_tree.specs.Grammar.{Each, OneOrMore, IfThere, IsExpr, IsFormed, Within, IsStmt}
-use Rattle.spx_tree.proofs.WrittenLevels.{written_level, spelled_stmt, spelled_arm, elsif_joined}
+use Rattle.spx_tree.specs.Written.{program, optional, separated, following, written_name, written_expr, written_upper, written_choice, written_choices, elsif_arms, written_stmt, written_arm, written_alternative, written_stmts}
+use Rattle.spx_tree.specs.Grammar.{Each, OneOrMore, IfThere, OfLayer, IsExpr, IsFormed, Within, IsStmt}
+use Rattle.spx_tree.proofs.WrittenLevels.{written_level, spelled_stmt, spelled_arm, spelled_alternative, elsif_joined}
 use Rattle.spx_parse_body.specs.Reading.{Reader, ◌>>◌, peek, is_kind, sees, expect, optional_by, if_seen, item_step}
 use Rattle.spx_parse_body.proofs.Callers.Shaped.{kind_self}
 use Rattle.spx_parse_body.specs.Statements as read
-use Rattle.spx_parse_body.specs.Statements.{assignment, arm, elsif_arm, if_statement, null_statement, stmt_by, stmt, starts_stmt, sees_stmt, more_stmts, some_stmts, stmts_below, stmts}
+use Rattle.spx_parse_body.specs.Statements.{assignment, upper, choice, more_choices, some_choices, choices_by, choices, arm, elsif_arm, if_statement, alternative, more_alternatives, alternatives, case_statement, null_statement, stmt_by, stmt, starts_stmt, sees_stmt, more_stmts, some_stmts, stmts_below, stmts}
 use Rattle.spx_parse_body.proofs.Callers.Loops.{Shrinks}
-use Rattle.spx_parse_body.proofs.Callers.Separated.{not_seen, sees_front, reaches_some_items}
+use Rattle.spx_parse_body.proofs.Callers.Separated.{not_seen, sees_front, reaches_separated, reaches_some_items}
 use Rattle.spx_parse_body.proofs.Callers.Reaches.{Reaches, reaches_bind, reaches_pure, reaches_choose, reaches_deeper, reaches_expect, reaches_expect_place, reaches_is, reaches_items_before, peek_front}
-use Rattle.spx_parse_body.proofs.Callers.ExpressionsReach.{name_again, expression_again, expression_below_again, semicolon_free, then_free}
-use Rattle.spx_parse_body.proofs.Callers.StatementsGood.{IsInner, FitsArm, written_arms, written_else, arms_shrinks, stmts_shrinks}
+use Rattle.spx_parse_body.proofs.Callers.ExpressionsReach.{strength, Free, name_again, expression_again, expression_below_again, simple_expression_below_again, not_others, double_dot_free, bare_free, semicolon_free, sum_free, then_free}
+use Rattle.spx_parse_body.proofs.Callers.StatementsGood.{IsInner, FitsArm, FitsChoice, FitChoices, FitsAlternative, written_arms, written_alternatives, written_else, choices_shrinks, arms_shrinks, alternatives_shrinks, stmts_shrinks}
 
 -- statements with the same last level are the same
-same_out : (x z : Stmt) (y : Stmt-F Stmt Arm) → out-Stmt x ≡ y → out-Stmt z ≡ y → z ≡ x
+same_out : (x z : Stmt) (y : Stmt-F Stmt Alternative Arm) → out-Stmt x ≡ y → out-Stmt z ≡ y → z ≡ x
 same_out x z y e f = sym (roll-out-Stmt z) ∙ ap roll-Stmt (f ∙ sym e) ∙ roll-out-Stmt x
 
 -- what each part begins with
@@ -39,9 +43,10 @@ arms_first : (levels : ℕ) (xs : List Arm) (ws : List Form) → OneOrMore (Fits
 arms_first levels [] ws f = absurd f
 arms_first levels (x ∷ xs) ws f = ap (peek program) (append_assoc (written_arm x k.If) (elsif_arms (map written_arm xs)) ws) ∙ arm_first x k.If (elsif_arms (map written_arm xs) ++ ws)
 
-level_seen : (levels : ℕ) (y : Stmt-F Stmt Arm) (ws : List Form) → IsFormed levels (Within levels) y → sees_stmt (written_level y ++ ws) ≡ true
+level_seen : (levels : ℕ) (y : Stmt-F Stmt Alternative Arm) (ws : List Form) → IsFormed levels (Within levels) y → sees_stmt (written_level y ++ ws) ≡ true
 level_seen levels (Stmt-F.Null place) ws f = refl
 level_seen levels (Stmt-F.Assignment target value) ws f = ap starts_stmt (target_first target _ ws)
+level_seen levels (Stmt-F.Case place selector xs closing) ws f = refl
 level_seen levels (Stmt-F.If arms otherwise closing) ws f = ap sees_stmt (append_assoc (written_arms arms) _ ws) ∙ ap starts_stmt (arms_first levels arms _ f.1)
 
 stmt_seen : (levels : ℕ) (x : Stmt) (ws : List Form) → IsStmt levels x → sees_stmt (written_stmt x ++ ws) ≡ true
@@ -66,8 +71,76 @@ if_flat : (arms : List Arm) (otherwise : Option (List Stmt)) (closing : Closing)
 if_flat arms None closing zs = simp append_assoc
 if_flat arms (Some xs) closing zs = simp append_assoc
 
+-- ---- choices
+
+-- no choice goes on with the next form
+abbrev Past : List Form → Type 0
+Past zs = Free layer.Expression (peek program zs)
+
+no_dots : (zs : List Form) → Past zs → sees program k.DoubleDot zs ≡ false
+no_dots zs past = not_seen program k.DoubleDot zs (λ e. let s = ap strength e in omega arith)
+
+-- what stands after the choices of an alternative
+abbrev from_arrow : List Form → List Form
+from_arrow zs = bare program k.Arrow ∷ zs
+
+module _ (levels : ℕ) (some : 0 < levels) where
+  upper_again : (x : Expr) (fs zs : List Form) → OfLayer layer.Sum (levels - 1) x → Past zs → fs ≡ written_upper x ++ zs → Reaches (upper levels) fs x zs
+  unfolding upper
+  upper_again x fs zs f past h = reaches_bind _ (reaches_expect program k.DoubleDot h) (λ us a. simple_expression_below_again program levels some x us zs f (sum_free (peek program zs) past) a)
+
+  upper_option : (x : Option Expr) (fs zs : List Form) → IfThere (OfLayer layer.Sum (levels - 1)) x → Past zs → fs ≡ optional written_upper x ++ zs → Reaches (if_seen program k.DoubleDot (upper levels)) fs x zs
+  unfolding if_seen
+  upper_option None fs zs f past h = reaches_choose (sees program k.DoubleDot) (optional_by (upper levels)) false (ap (sees program k.DoubleDot) h ∙ no_dots zs past) (reaches_pure h)
+  upper_option (Some x) fs zs f past h =
+      reaches_choose (sees program k.DoubleDot) (optional_by (upper levels)) true (ap (sees program k.DoubleDot) h ∙ kind_self k.DoubleDot) (reaches_bind _ (upper_again x fs zs f past h) (λ us a. reaches_pure a))
+
+  -- what stands after the first sum of a choice does not go on with it
+  low_free : (x : Option Expr) (zs : List Form) → Past zs → Free layer.Sum (peek program (optional written_upper x ++ zs))
+  low_free None zs past = sum_free (peek program zs) past
+  low_free (Some x) zs past = double_dot_free program (written_expr program x ++ zs)
+
+  choice_again : (x : Choice) (fs zs : List Form) → FitsChoice levels x → Past zs → fs ≡ written_choice x ++ zs → Reaches (choice levels) fs x zs
+  unfolding choice
+  choice_again x fs zs f past h =
+      reaches_bind _ (simple_expression_below_again program levels some x.low fs (optional written_upper x.high ++ zs) f.low (low_free x.high zs past) (h ∙ append_assoc (written_expr program x.low) (optional written_upper x.high) zs)) (λ us a.
+      reaches_bind _ (upper_option x.high us zs f.high past a) (λ vs b. reaches_pure b))
+
+  some_choices_again : (xs : List Choice) (fs zs : List Form) → OneOrMore (FitsChoice levels) xs → fs ≡ separated (bare program k.Bar) written_choice xs ++ from_arrow zs → Reaches (some_choices levels) fs xs (from_arrow zs)
+  unfolding some_choices more_choices
+  some_choices_again xs fs zs f h =
+      reaches_separated written_choice (FitsChoice levels) program k.Bar Past (sees program k.Bar) (choices_shrinks levels some) (λ ws. (kind_self k.Bar, bare_free program k.Bar ws refl)) choice_again xs fs (from_arrow zs) f
+      (not_seen program k.Bar (from_arrow zs) (λ e. cc)) (bare_free program k.Arrow zs refl) h
+
+  no_others : (xs : List Choice) (zs : List Form) → OneOrMore (FitsChoice levels) xs → sees program k.Others (separated (bare program k.Bar) written_choice xs ++ zs) ≡ false
+  no_others [] zs f = absurd f
+  no_others (x ∷ xs) zs f =
+      let low : List Form = written_expr program x.low in
+      let rest : List Form = optional written_upper x.high ++ (following (bare program k.Bar) written_choice xs ++ zs) in
+      let flat : ((low ++ optional written_upper x.high) ++ following (bare program k.Bar) written_choice xs) ++ zs ≡ low ++ rest = simp append_assoc in
+      not_seen program k.Others _ (λ e. not_others program x.low rest (sym (peek_front program _ flat) ∙ e))
+
+  choices_again : (xs : Option (List Choice)) (fs zs : List Form) → FitChoices levels xs → fs ≡ written_choices xs ++ from_arrow zs → Reaches (choices levels) fs xs (from_arrow zs)
+  unfolding choices if_seen
+  choices_again None fs zs f h =
+      reaches_bind _ (reaches_choose (sees program k.Others) (optional_by (expect program k.Others)) true (ap (sees program k.Others) h ∙ kind_self k.Others) (reaches_bind _ (reaches_expect program k.Others h) (λ us a. reaches_pure a))) (λ us a. reaches_pure a)
+  choices_again (Some xs) fs zs f h =
+      reaches_bind _ (reaches_choose (sees program k.Others) (optional_by (expect program k.Others)) false (ap (sees program k.Others) h ∙ no_others xs (from_arrow zs) f) (reaches_pure h)) (λ us a.
+      reaches_bind _ (some_choices_again xs us zs f a) (λ vs b. reaches_pure b))
+
+-- ---- statements
+
+-- the last words of a case statement
+abbrev from_end_case : Closing → List Form → List Form
+from_end_case closing zs = placed program k.End closing.end ∷ placed program k.Case closing.word ∷ bare program k.Semicolon ∷ zs
+
+case_flat : (place : Place) (selector : Expr) (xs : List Alternative) (closing : Closing) (zs : List Form)
+    → written_level (Stmt-F.Case place selector xs closing) ++ zs ≡ placed program k.Case place ∷ (written_expr program selector ++ bare program k.Is ∷ (written_alternatives xs ++ from_end_case closing zs))
+case_flat place selector xs closing zs = simp append_assoc
+
 -- What reads statements one level down reads them before what begins none.
 module _ (inner : Reader (List Stmt)) (levels : ℕ) (stmt_shrinks : Shrinks sees_stmt (item_step (stmt inner levels))) (arm_shrinks : 0 < levels → Shrinks (sees program k.Elsif) (item_step (elsif_arm inner levels)))
+    (alternative_shrinks : 0 < levels → Shrinks (sees program k.When) (item_step (alternative inner levels)))
     (again : 0 < levels → (xs : List Stmt) (fs zs : List Form) → IsInner levels xs → sees_stmt zs ≡ false → fs ≡ written_stmts xs ++ zs → Reaches inner fs xs zs) where
   assignment_again : (target : Name) (value : Expr) (fs zs : List Form) → IsExpr levels value → fs ≡ written_level (Stmt-F.Assignment target value) ++ zs → Reaches (assignment inner levels) fs (Assignment target value) zs
   unfolding assignment
@@ -79,7 +152,7 @@ module _ (inner : Reader (List Stmt)) (levels : ℕ) (stmt_shrinks : Shrinks see
       reaches_bind _ (reaches_expect program k.Semicolon d) (λ xs e. reaches_pure e))))
 
   module _ (some : 0 < levels) where
-    abbrev arm_rest : Arm-F Stmt Arm → List Form → List Form
+    abbrev arm_rest : Arm-F Stmt Alternative Arm → List Form → List Form
     arm_rest x zs = written_expr program x.condition ++ bare program k.Then ∷ (written_stmts x.body ++ zs)
 
     -- an arm after its word
@@ -134,8 +207,53 @@ module _ (inner : Reader (List Stmt)) (levels : ℕ) (stmt_shrinks : Shrinks see
         reaches_bind _ (reaches_expect_place program k.If a5) (λ t6 a6.
         reaches_bind _ (reaches_expect program k.Semicolon a6) (λ t7 a7. reaches_pure a7))))))))
 
+    -- ---- alternatives
+
+    abbrev from_choices : Option (List Choice) → List Stmt → List Form → List Form
+    from_choices choices body zs = written_choices choices ++ from_arrow (written_stmts body ++ zs)
+
+    alternative_flat : (x : Alternative) (zs : List Form) → written_alternative x ++ zs ≡ bare program k.When ∷ from_choices (out-Alternative x).choices (out-Alternative x).body zs
+    alternative_flat x zs = ap (λ (fs : List Form). fs ++ zs) (spelled_alternative x) ∙ simp append_assoc
+
+    alternative_again : (x : Alternative) (fs zs : List Form) → FitsAlternative levels x → sees_stmt zs ≡ false → fs ≡ written_alternative x ++ zs → Reaches (alternative inner levels) fs x zs
+    unfolding alternative
+    alternative_again x fs zs f over h =
+        reaches_bind _ (reaches_expect program k.When (h ∙ alternative_flat x zs)) (λ us a.
+        reaches_bind _ (choices_again levels some (out-Alternative x).choices us (written_stmts (out-Alternative x).body ++ zs) f.0 a) (λ vs b.
+        reaches_bind _ (reaches_expect program k.Arrow b) (λ ws d.
+        reaches_bind _ (again some (out-Alternative x).body ws zs f.1 over d) (λ ts e.
+        reaches_is (roll-out-Alternative x) (reaches_pure e)))))
+
+    alternative_begun : (x : Alternative) (ws : List Form) → FitsAlternative levels x → (sees program k.When (written_alternative x ++ ws) ≡ true) × (sees_stmt (written_alternative x ++ ws) ≡ false)
+    alternative_begun x ws f = (ap (sees program k.When) (alternative_flat x ws) ∙ kind_self k.When, ap sees_stmt (alternative_flat x ws))
+
+    no_stmt_before : (xs : List Alternative) (zs : List Form) → Each (FitsAlternative levels) xs → sees_stmt zs ≡ false → sees_stmt (written_alternatives xs ++ zs) ≡ false
+    no_stmt_before [] zs f over = over
+    no_stmt_before (x ∷ xs) zs f over = ap sees_stmt (append_assoc (written_alternative x) (written_alternatives xs) zs) ∙ (alternative_begun x (written_alternatives xs ++ zs) f.0).1
+
+    alternatives_again : (xs : List Alternative) (fs zs : List Form) → OneOrMore (FitsAlternative levels) xs → sees program k.When zs ≡ false → sees_stmt zs ≡ false → fs ≡ written_alternatives xs ++ zs → Reaches (alternatives inner levels) fs xs zs
+    unfolding alternatives more_alternatives
+    alternatives_again [] fs zs f over free h = absurd f
+    alternatives_again (x ∷ xs) fs zs f over free h =
+        reaches_bind _ (alternative_again x fs (written_alternatives xs ++ zs) f.0 (no_stmt_before xs zs f.1 free) (h ∙ append_assoc (written_alternative x) (written_alternatives xs) zs)) (λ us a.
+        reaches_items_before (λ ws. sees_stmt ws ≡ false) written_alternative (FitsAlternative levels) (sees program k.When) (alternative inner levels) (alternative_shrinks some) alternative_begun alternative_again (x ∷ []) xs us zs f.1 over free a)
+
+    case_again : (place : Place) (selector : Expr) (xs : List Alternative) (closing : Closing) (fs zs : List Form) → IsExpr (levels - 1) selector → OneOrMore (FitsAlternative levels) xs
+        → fs ≡ written_level (Stmt-F.Case place selector xs closing) ++ zs → Reaches (case_statement inner levels) fs (Case place selector xs closing) zs
+    unfolding case_statement
+    case_again place selector xs closing fs zs f g h =
+        let ending : List Form = from_end_case closing zs in
+        reaches_deeper some
+        (reaches_bind _ (reaches_expect_place program k.Case (h ∙ case_flat place selector xs closing zs)) (λ t1 a1.
+        reaches_bind _ (expression_below_again program levels some selector t1 (bare program k.Is ∷ (written_alternatives xs ++ ending)) f (bare_free program k.Is (written_alternatives xs ++ ending) refl) a1) (λ t2 a2.
+        reaches_bind _ (reaches_expect program k.Is a2) (λ t3 a3.
+        reaches_bind _ (alternatives_again xs t3 ending g (not_seen program k.When ending (λ e. cc)) refl a3) (λ t4 a4.
+        reaches_bind _ (reaches_expect_place program k.End a4) (λ t5 a5.
+        reaches_bind _ (reaches_expect_place program k.Case a5) (λ t6 a6.
+        reaches_bind _ (reaches_expect program k.Semicolon a6) (λ t7 a7. reaches_pure a7))))))))
+
   -- by the last level of the statement
-  level_again : (x : Stmt) (y : Stmt-F Stmt Arm) (fs zs : List Form) → out-Stmt x ≡ y → IsFormed levels (Within levels) y → fs ≡ written_level y ++ zs → Reaches (stmt inner levels) fs x zs
+  level_again : (x : Stmt) (y : Stmt-F Stmt Alternative Arm) (fs zs : List Form) → out-Stmt x ≡ y → IsFormed levels (Within levels) y → fs ≡ written_level y ++ zs → Reaches (stmt inner levels) fs x zs
   unfolding stmt null_statement
   level_again x (Stmt-F.Null place) fs zs out f h =
       reaches_is (same_out x (Null place) _ out (outs-Null place))
@@ -148,6 +266,9 @@ module _ (inner : Reader (List Stmt)) (levels : ℕ) (stmt_shrinks : Shrinks see
   level_again x (Stmt-F.If arms otherwise closing) fs zs out f h =
       reaches_is (same_out x (If arms otherwise closing) _ out (outs-If arms otherwise closing))
       (reaches_choose (peek program) (stmt_by inner levels) (Some k.If) (peek_front program fs (h ∙ if_flat arms otherwise closing zs) ∙ arms_first levels arms _ f.1) (if_again f.0 arms otherwise closing fs zs f.1 f.2 h))
+  level_again x (Stmt-F.Case place selector xs closing) fs zs out f h =
+      reaches_is (same_out x (Case place selector xs closing) _ out (outs-Case place selector xs closing))
+      (reaches_choose (peek program) (stmt_by inner levels) (Some k.Case) (peek_front program fs h) (case_again f.0 place selector xs closing fs zs f.1 f.2 h))
 
   stmt_again : (x : Stmt) (fs zs : List Form) → IsStmt levels x → fs ≡ written_stmt x ++ zs → Reaches (stmt inner levels) fs x zs
   stmt_again x fs zs f h = level_again x (out-Stmt x) fs zs refl f (h ∙ ap (λ (ws : List Form). ws ++ zs) (spelled_stmt x))
@@ -159,9 +280,9 @@ module _ (inner : Reader (List Stmt)) (levels : ℕ) (stmt_shrinks : Shrinks see
 stmts_below_again : (levels : ℕ) → 0 < levels → (xs : List Stmt) (fs zs : List Form) → IsInner levels xs → sees_stmt zs ≡ false → fs ≡ written_stmts xs ++ zs → Reaches (stmts_below levels) fs xs zs
 unfolding stmts_below
 stmts_below_again zero some xs fs zs f over h = absurd (omega arith)
-stmts_below_again (suc n) some xs fs zs f over h = some_stmts_again (stmts_below n) n (stmts_shrinks n) (arms_shrinks n) (stmts_below_again n) xs fs zs f over h
+stmts_below_again (suc n) some xs fs zs f over h = some_stmts_again (stmts_below n) n (stmts_shrinks n) (arms_shrinks n) (alternatives_shrinks n) (stmts_below_again n) xs fs zs f over h
 
 -- The forms of statements are read as those, before what begins no statement.
 pub stmts_again : (levels : ℕ) (xs : List Stmt) (fs zs : List Form) → OneOrMore (IsStmt levels) xs → sees_stmt zs ≡ false → fs ≡ written_stmts xs ++ zs → Reaches (stmts levels) fs xs zs
 unfolding stmts
-stmts_again levels xs fs zs f over h = some_stmts_again (stmts_below levels) levels (stmts_shrinks levels) (arms_shrinks levels) (stmts_below_again levels) xs fs zs f over h
+stmts_again levels xs fs zs f over h = some_stmts_again (stmts_below levels) levels (stmts_shrinks levels) (arms_shrinks levels) (alternatives_shrinks levels) (stmts_below_again levels) xs fs zs f over h

@@ -3,15 +3,17 @@ use Rattle.std.specs.Prelude.{⊤}
 use Rattle.std.proofs.Common.{◌≡◌, ℕ, ◌<◌, Bool, true, false, List, [], ◌∷◌, ◌++◌, length, Ok, refl, ap, ◌∙◌}
 use Rattle.spx_tree.specs.declared.token.Kind.{Kind}
 use Rattle.spx_tree.specs.declared.token.Kind.TheVariants as k
+use Rattle.spx_tree.specs.declared.statement.Choice.{Choice}
+use Rattle.spx_tree.specs.declared.statement.Alternative.{Alternative}
 use Rattle.spx_tree.specs.declared.statement.Arm.{Arm}
 use Rattle.spx_tree.specs.declared.statement.Stmt.{Stmt}
 use Rattle.spx_tree.specs.Written.{program}
 use Rattle.spx_tree.specs.Form.{Form}
 use Rattle.spx_parse_body.specs.Reading.{Outcome, Reader, and_then, ◌>>=◌, ◌>>◌, pure, sees, expect, turn, loop, item_step}
-use Rattle.spx_parse_body.specs.Statements.{elsif_arm, elsif_arms, sees_stmt, stmt, more_stmts, stmts_below}
+use Rattle.spx_parse_body.specs.Statements.{choice, more_choices, elsif_arm, elsif_arms, alternative, more_alternatives, sees_stmt, stmt, more_stmts, stmts_below}
 use Rattle.spx_parse_body.proofs.Callers.Loops.{Shrinks, loop_is}
 use Rattle.spx_parse_body.proofs.Levels.{and_then_assoc}
-use Rattle.spx_parse_body.proofs.Callers.StatementsGood.{arms_shrinks, stmts_shrinks}
+use Rattle.spx_parse_body.proofs.Callers.StatementsGood.{choices_shrinks, arms_shrinks, alternatives_shrinks, stmts_shrinks}
 
 -- one turn of a list, as the code takes it
 abbrev pub items_by : {A : Type 0} → Reader A → (List A → Reader (List A)) → List A → Bool → Reader (List A)
@@ -42,6 +44,17 @@ pub elsif_arms_is : (levels : ℕ) (found : List Arm) (fs : List Form) → 0 < l
     → elsif_arms (stmts_below levels) levels found fs ≡ items_by (elsif_arm (stmts_below levels) levels) (elsif_arms (stmts_below levels) levels) found (sees program k.Elsif fs) fs
 unfolding elsif_arms
 elsif_arms_is levels found fs some = items_is (sees program k.Elsif) (elsif_arm (stmts_below levels) levels) (arms_shrinks levels some) found fs
+
+pub more_choices_is : (levels : ℕ) (found : List Choice) (fs : List Form) → 0 < levels → more_choices levels found fs ≡ next_by program k.Bar (choice levels) (more_choices levels) found (sees program k.Bar fs) fs
+unfolding more_choices
+more_choices_is levels found fs some =
+    items_is (sees program k.Bar) (expect program k.Bar >> choice levels) (choices_shrinks levels some) found fs
+    ∙ next_is program k.Bar (choice levels) (loop (sees program k.Bar) (item_step (expect program k.Bar >> choice levels))) found (sees program k.Bar fs) fs
+
+pub more_alternatives_is : (levels : ℕ) (found : List Alternative) (fs : List Form) → 0 < levels
+    → more_alternatives (stmts_below levels) levels found fs ≡ items_by (alternative (stmts_below levels) levels) (more_alternatives (stmts_below levels) levels) found (sees program k.When fs) fs
+unfolding more_alternatives
+more_alternatives_is levels found fs some = items_is (sees program k.When) (alternative (stmts_below levels) levels) (alternatives_shrinks levels some) found fs
 
 -- ---- an item takes a form
 

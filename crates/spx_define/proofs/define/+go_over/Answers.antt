@@ -1,14 +1,15 @@
-use Rattle.std.proofs.Common.{◌+◌, drop, map, refl, subst, sym}
-use Rattle.std.proofs.lemmas.List.{drop_all}
+use Rattle.std.proofs.Common.{◌≡◌, ◌+◌, ◌-◌, ◌<◌, arith, ap, drop, length, map, refl, rules, subst, sym, ◌∙◌}
+use Rattle.std.proofs.lemmas.List.{drop_all, length-drop}
 use Rattle.std.proofs.lemmas.Result.{on_ok_weaker}
 use Rattle.spx_core.specs.declared.statement.CoreArm.{out-CoreArm}
-use Rattle.spx_core.specs.Commands.{Skip, arm_before, arms_before, command, commands}
+use Rattle.spx_core.specs.declared.statement.CoreAlternative.{out-CoreAlternative}
+use Rattle.spx_core.specs.Commands.{Choose, Skip, alternative, arm_before, arms_before, command, commands, select}
 use Rattle.spx_core.specs.Uses.{variable_of}
 use Rattle.spx_core.specs.Effects.{effect, effects, reads_of}
 use Rattle.spx_define.specs.Passes.{Passes, PassesBefore}
-use Rattle.spx_define.proofs.CommandForms.{command-Assignment, command-If, command-If-else, command_arm}
-use Rattle.spx_define.proofs.PassLaws.{passes_assign, passes_choose, passes_copied, passes_next, passes_nothing}
-use Rattle.spx_define.proofs.Elements.{left_of}
+use Rattle.spx_define.proofs.CommandForms.{command-Assignment, command-If, command-If-else, command_arm, select_last, select_more}
+use Rattle.spx_define.proofs.PassLaws.{passes_assign, passes_choose, passes_copied, passes_next, passes_nothing, passes_once}
+use Rattle.spx_define.proofs.Elements.{left_before, left_last, left_of}
 use Rattle.spx_define.proofs.define.+go_over.Goals as goal
 
 pub go_over-returns-in_ok-add_unset_names-in-Assignment : goal.go_over-returns-in_ok-add_unset_names-in-Assignment
@@ -68,17 +69,71 @@ go_over_all-returns t c =
     let found = c.loop-stmt.found.keys in
     c.loop-stmt.invariant set found (subst (λ l. Passes (effects l) set set found found) (sym (drop_all c.loop-stmt.stmt-index c.args.stmts.now c.loop-stmt-test.false)) (passes_nothing set set found (λ v. refl)))
 
-pub go_over_arm-returns : goal.go_over_arm-returns
-go_over_arm-returns t c otherwise start rest =
+pub go_over_branch-returns : goal.go_over_branch-returns
+go_over_branch-returns t c place otherwise start rest =
     let set = c.args.set.now in
-    let arm = out-CoreArm c.args.arm.now in
+    let body = effects c.args.body.now in
     let ends = c.args.ends.now in
     let new_ends = c.in_ok-ends.field-0 in
     let old = c.args.found.now.keys in
     let mid = c.add_unset_names.new.found.keys in
     let new = c.go_over_all.new.found.keys in
-    let copy = c.in_ok-end.end in
     let end = c.go_over_all.new.set in
-    let first = passes_copied (effects arm.body) set copy end mid new c.in_ok-end.ensures (subst (λ stmts. Passes (effects stmts) copy end mid new) c.as_slice.ensures c.in_ok-go_over_all.ensures) in
-    subst (λ k. Passes (effect k) set new_ends start new) (sym (command_arm c.args.arm.now otherwise))
-    (passes_choose (reads_of arm.condition) (effects arm.body) (effect otherwise) arm.place set ends end new_ends start old mid new rest c.in_ok-add_unset_names.ensures first c.in_ok-ends.ensures)
+    passes_choose (reads_of c.args.test.now) body (effect otherwise) place set ends end new_ends start old mid new rest c.in_ok-add_unset_names.ensures
+    (passes_copied body set c.in_ok-end.end end mid new c.in_ok-end.ensures c.in_ok-go_over_all.ensures) c.in_ok-ends.ensures
+
+pub go_over_arms-loop-k-preserved : goal.go_over_arms-loop-k-preserved
+go_over_arms-loop-k-preserved t c otherwise start rest =
+    let arms = c.args.arms.now in
+    let k = c.loop-k.k in
+    let arm = c.index-arms-k.result in
+    let others = arms_before otherwise (map arm_before (drop k arms)) in
+    let set = c.args.set.now in
+    let new = c.go_over_branch.new in
+    let within : k - 1 < length arms = omega arith in
+    let chosen = c.in_ok-go_over_branch.ensures (out-CoreArm arm).place others start (c.loop-k.invariant otherwise start rest) in
+    let done = subst (λ stmts. Passes (effect (Choose (out-CoreArm arm).place (out-CoreArm arm).condition (commands stmts) others)) set new.ends start new.found.keys) c.as_slice.ensures chosen in
+    subst (λ xs. Passes (effect (arms_before otherwise (map arm_before xs))) set new.ends start new.found.keys) (sym (left_before arms k arm c.loop-k-test.true within c.index-arms-k.is))
+    (subst (λ k. Passes (effect k) set new.ends start new.found.keys) (sym (command_arm arm others)) done)
+
+pub go_over_case-loop-k-init : goal.go_over_case-loop-k-init
+go_over_case-loop-k-init t c place =
+    let alternatives = c.args.alternatives.now in
+    let a = c.index-alternatives-last.result in
+    let body = effects (out-CoreAlternative a).body in
+    let selector = c.args.selector.now in
+    let set = c.args.set.now in
+    let copy = c.in_ok-ends.ends in
+    let ends = c.go_over_all.new.set in
+    let old = c.args.found.now.keys in
+    let mid = c.add_unset_names.new.found.keys in
+    let new = c.go_over_all.new.found.keys in
+    let end : length alternatives - 1 + 1 ≡ length alternatives = search rules in
+    let stmts = c.as_slice.ensures ∙ ap (λ x. (out-CoreAlternative x).body) (sym c.index-alternatives-last.is) in
+    let only = passes_copied body set copy ends mid new c.in_ok-ends.ensures (subst (λ ss. Passes (effects ss) copy ends mid new) stmts c.in_ok-go_over_all.ensures) in
+    subst (λ left. Passes (effect (select place selector (map alternative left))) set ends old new) (sym (left_last alternatives (length alternatives - 1) a end c.index-alternatives-last.is))
+    (subst (λ e. Passes e set ends old new) (sym (select_last place selector a)) (passes_once (reads_of selector) body place set ends old mid new c.in_ok-add_unset_names.ensures only))
+
+pub go_over_case-loop-k-preserved : goal.go_over_case-loop-k-preserved
+go_over_case-loop-k-preserved t c place =
+    let alternatives = c.args.alternatives.now in
+    let k = c.loop-k.k in
+    let a = c.index-alternatives-k.result in
+    let rest = drop k alternatives in
+    let selector = c.args.selector.now in
+    let set = c.args.set.now in
+    let old = c.args.found.now.keys in
+    let new = c.go_over_branch.new in
+    let within : k - 1 < length alternatives = omega arith in
+    let long : length rest ≡ length alternatives - k = length-drop k alternatives in
+    let some : 0 < length rest = omega arith in
+    let chosen = c.in_ok-go_over_branch.ensures place (select place selector (map alternative rest)) old (c.loop-k.invariant place) in
+    let body = c.as_slice-body.ensures ∙ ap (λ x. (out-CoreAlternative x).body) (sym c.index-alternatives-k.is) in
+    subst (λ left. Passes (effect (select place selector (map alternative left))) set new.ends old new.found.keys) (sym (left_before alternatives k a c.loop-k-test.true within c.index-alternatives-k.is))
+    (subst (λ e. Passes e set new.ends old new.found.keys) (sym (select_more place selector a rest some))
+    (subst (λ stmts. Passes (effect (Choose place selector (commands stmts) (select place selector (map alternative rest)))) set new.ends old new.found.keys) body chosen))
+
+pub go_over_case-returns : goal.go_over_case-returns
+go_over_case-returns t c place =
+    let last : c.loop-k.k ≡ 0 = omega arith in
+    subst (λ n. Passes (effect (select place c.args.selector.now (map alternative (drop n c.args.alternatives.now)))) c.args.set.now c.loop-k.ends c.args.found.now.keys c.loop-k.found.keys) last (c.loop-k.invariant place)

@@ -1,6 +1,7 @@
 use Rattle.std.proofs.Common.{ℕ, List, drop, map}
-use Rattle.spx_core.specs.Commands.{arm_before, arms_before}
-use Rattle.spx_core.specs.Effects.{Read, effects}
+use Rattle.spx_text.specs.declared.place.Place.{Place}
+use Rattle.spx_core.specs.Commands.{alternative, arm_before, arms_before, select}
+use Rattle.spx_core.specs.Effects.{Read, effect, effects}
 use Rattle.spx_define.specs.Passes.{Passes, PassesBefore}
 use Rattle.spx_define.proofs.define.+go_over.Given as goal
 
@@ -12,3 +13,7 @@ invariant-go_over_all-loop-stmt l =
 -- the arms from k on have been gone over
 abbrev pub invariant-go_over_arms-loop-k : goal.invariant-go_over_arms-loop-k
 invariant-go_over_arms-loop-k l = PassesBefore (λ otherwise. arms_before otherwise (map arm_before (drop l.k l.arms))) l.set l.initial.ends l.ends l.initial.found.keys l.found.keys
+
+-- the alternatives from k on have been gone over
+abbrev pub invariant-go_over_case-loop-k : goal.invariant-go_over_case-loop-k
+invariant-go_over_case-loop-k l = (place : Place) → Passes (effect (select place l.selector (map alternative (drop l.k l.alternatives)))) l.set l.ends l.fn.found.keys l.found.keys

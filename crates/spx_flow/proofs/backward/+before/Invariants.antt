@@ -1,7 +1,7 @@
 use Rattle.std.proofs.Common.{drop, map}
-use Rattle.spx_core.specs.Commands.{arm_before, arms_before}
-use Rattle.spx_core.specs.Effects.{effects}
-use Rattle.spx_flow.specs.Branches.{Arms}
+use Rattle.spx_core.specs.Commands.{alternative, arm_before, arms_before, select}
+use Rattle.spx_core.specs.Effects.{effect, effects}
+use Rattle.spx_flow.specs.Branches.{Arms, Done}
 use Rattle.spx_flow.specs.BackwardSteps.{StepsBack}
 use Rattle.spx_flow.proofs.backward.+before.Given as goal
 
@@ -13,3 +13,7 @@ invariant-before_all-loop-k l = StepsBack l.vars (effects (drop l.k l.stmts)) l.
 abbrev pub invariant-before_arms-loop-k : goal.invariant-before_arms-loop-k
 invariant-before_arms-loop-k l =
     Arms (λ e. StepsBack l.vars e l.rho) l.vars (λ otherwise. arms_before otherwise (map arm_before (drop l.k l.arms))) l.initial.starts l.starts l.initial.targets.keys l.targets.keys l.initial.mu l.mu
+
+-- the alternatives from k on have been gone over
+abbrev pub invariant-before_case-loop-k : goal.invariant-before_case-loop-k
+invariant-before_case-loop-k l = Done (λ e. StepsBack l.vars e l.rho) (effect (select l.place l.selector (map alternative (drop l.k l.alternatives)))) l.starts l.targets.keys l.fn.mu l.mu

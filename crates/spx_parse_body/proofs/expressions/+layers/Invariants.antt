@@ -32,6 +32,18 @@ decreases-power l = 20 * l.levels + 7
 abbrev pub decreases-primary : goal.decreases-primary
 decreases-primary l = 20 * l.levels + 6
 
+abbrev pub decreases-with_identifier : goal.decreases-with_identifier
+decreases-with_identifier l = 20 * l.levels + 5
+
+abbrev pub decreases-with_apostrophe : goal.decreases-with_apostrophe
+decreases-with_apostrophe l = 20 * l.levels + 4
+
+abbrev pub decreases-attribute : goal.decreases-attribute
+decreases-attribute l = 20 * l.levels + 3
+
+abbrev pub decreases-application : goal.decreases-application
+decreases-application l = 20 * l.levels + 1
+
 abbrev pub decreases-inside : goal.decreases-inside
 decreases-inside l = 20 * l.levels + 5
 

@@ -4,12 +4,17 @@ use Rattle.spx_text.specs.declared.place.Place.{Place}
 use Rattle.spx_tree.specs.declared.expression.InfixOp.{InfixOp}
 use Rattle.spx_tree.specs.declared.expression.PrefixOp.{PrefixOp}
 use Rattle.spx_tree.specs.declared.expression.MemberOp.{MemberOp}
+use Rattle.spx_tree.specs.declared.expression.Function.{Function}
 use Rattle.spx_tree.specs.declared.expression.Name.{Name}
 use Rattle.spx_tree.specs.declared.expression.Expr.{Expr}
 use Rattle.spx_tree.specs.declared.expression.Expr.TheBlock.{hidden-the_row-Expr-0}
 use Rattle.spx_tree.specs.declared.expression.Expr.TheVariants as expr
 use Rattle.spx_parse_body.specs.Expressions.{plain_name}
 use Rattle.spx_parse_body.proofs.expressions.plain_name.Goals as goal
+
+applied_none : (function : Function) (place : Place) (operand : Expr) → None ≡ plain_name (expr.Applied function place operand)
+unfolding hidden-the_row-Expr-0 hidden
+applied_none function place operand = refl
 
 parenthesized_none : (place : Place) (inner : Expr) → None ≡ plain_name (expr.Parenthesized place inner)
 unfolding hidden-the_row-Expr-0 hidden
@@ -30,6 +35,9 @@ in_type_none o place tested type_name = refl
 in_range_none : (o : MemberOp) (place : Place) (tested low high : Expr) → None ≡ plain_name (expr.InRange o place tested low high)
 unfolding hidden-the_row-Expr-0 hidden
 in_range_none o place tested low high = refl
+
+pub returns-in-Applied : goal.returns-in-Applied
+returns-in-Applied c = applied_none c.in-Applied.field-0 c.in-Applied.field-1 c.in-Applied.field-2 ∙ sym (ap plain_name c.in-Applied.is)
 
 pub returns-in-Parenthesized : goal.returns-in-Parenthesized
 returns-in-Parenthesized c = parenthesized_none c.in-Parenthesized.field-0 c.in-Parenthesized.field-1 ∙ sym (ap plain_name c.in-Parenthesized.is)

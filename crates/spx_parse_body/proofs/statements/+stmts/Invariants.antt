@@ -1,5 +1,5 @@
 use Rattle.std.proofs.Common.{◌≡◌, ◌*◌, ◌+◌, [], ◌∷◌, length}
-use Rattle.spx_parse_body.specs.Statements.{elsif_arms, more_stmts, stmts, stmts_below}
+use Rattle.spx_parse_body.specs.Statements.{alternatives, elsif_arms, more_alternatives, more_stmts, stmts, stmts_below}
 use Rattle.spx_parse_body.proofs.statements.+stmts.Given as goal
 
 abbrev pub decreases-stmts : goal.decreases-stmts
@@ -10,6 +10,15 @@ decreases-stmt l = 6 * l.levels + 4
 
 abbrev pub decreases-if_statement : goal.decreases-if_statement
 decreases-if_statement l = 6 * l.levels + 3
+
+abbrev pub decreases-case_statement : goal.decreases-case_statement
+decreases-case_statement l = 6 * l.levels + 3
+
+abbrev pub decreases-alternatives : goal.decreases-alternatives
+decreases-alternatives l = 6 * l.levels + 2
+
+abbrev pub decreases-alternative : goal.decreases-alternative
+decreases-alternative l = 6 * l.levels + 1
 
 abbrev pub decreases-elsif_arms : goal.decreases-elsif_arms
 decreases-elsif_arms l = 6 * l.levels + 2
@@ -37,3 +46,9 @@ invariant-stmts-more l = stmts l.levels l.fn.cursor ≡ more_stmts (stmts_below 
 
 abbrev pub decreases-stmts-more : goal.decreases-stmts-more
 decreases-stmts-more l = length l.cursor
+
+abbrev pub invariant-alternatives-more : goal.invariant-alternatives-more
+invariant-alternatives-more l = alternatives (stmts_below l.levels) l.levels l.fn.cursor ≡ more_alternatives (stmts_below l.levels) l.levels l.alternatives l.cursor
+
+abbrev pub decreases-alternatives-more : goal.decreases-alternatives-more
+decreases-alternatives-more l = length l.cursor

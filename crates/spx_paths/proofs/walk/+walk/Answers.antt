@@ -1,16 +1,18 @@
-use Rattle.std.proofs.Common.{◌≡◌, ◌+◌, List, drop, subst, ap, ap₂, ◌∙◌, sym}
+use Rattle.std.proofs.Common.{◌≡◌, ◌+◌, List, drop, map, subst, ap, ap₂, ◌∙◌, sym}
 use Rattle.std.proofs.lemmas.Iterator.Adapters.{YieldsList-from_vec}
 use Rattle.std.proofs.lemmas.Iterator.Consumers.{YieldsList-end}
 use Rattle.std.proofs.lemmas.List.{drop_all, map-id}
+use Rattle.spx_core.specs.declared.statement.CoreAlternative.{CoreAlternative, out-CoreAlternative}
 use Rattle.spx_core.specs.declared.statement.CoreArm.{CoreArm}
 use Rattle.spx_core.specs.declared.statement.CoreStmt.{CoreStmt}
 use Rattle.spx_core.specs.declared.statement.CoreStmt.TheVariants as stmt
-use Rattle.spx_core.specs.Commands.{Command, Set, Skip, command, commands}
-use Rattle.spx_paths.specs.Prefixes.{Arrive, ArriveEach, after_each, with_arms}
+use Rattle.spx_core.specs.Commands.{Command, Set, Skip, alternative, command, commands, select}
+use Rattle.spx_paths.specs.Prefixes.{Arrive, ArriveEach, Walked, after_each, with_arms}
 use Rattle.spx_paths.proofs.PrefixLaws.{each_none}
 use Rattle.std.specs.Prelude.{IfOk}
-use Rattle.spx_paths.specs.Walks.{walk}
-use Rattle.spx_paths.proofs.ArriveLaws.{arm_arrives, arms_more, assignment_is, each_arrive, from_one, if_alone_is, if_arrives, if_else_is, null_is}
+use Rattle.spx_term.specs.Steps.{assume_all}
+use Rattle.spx_paths.specs.Walks.{alternative_facts, walk}
+use Rattle.spx_paths.proofs.ArriveLaws.{alternatives_more, arm_arrives, arms_more, assignment_is, case_arrives, case_is, each_arrive, from_one, if_alone_is, if_arrives, if_else_is, none_is, null_is}
 use Rattle.spx_paths.proofs.walk.+walk.Goals as goal
 
 pub walk_arm-returns : goal.walk_arm-returns
@@ -90,3 +92,33 @@ walk_stmt-returns-in_ok-append-in-Some t c =
     ∙ ap₂ (λ (xs : List CoreArm) (ys : List CoreStmt). with_arms xs (commands ys)) (sym c.as_slice.ensures) (sym c.as_slice-in-Some.ensures) in
     subst (λ (cmd : Command). Arrive c.args.program.now cmd c.args.path.steps c.append-in-Some.new.self.items) (sym is)
     (if_arrives c.args.program.now arms (commands stmts) _ _ walked.found.items other.field-0.items _ walked.ensures other.ensures c.in_ok-append-in-Some.ensures.items)
+
+pub walk_alternatives-loop-chosen-init : goal.walk_alternatives-loop-chosen-init
+walk_alternatives-loop-chosen-init t c = λ sub rest leave made. rw (c.new-found.ensures.items, each_none, c.new-earlier.ensures)
+
+pub walk_alternatives-loop-chosen-preserved : goal.walk_alternatives-loop-chosen-preserved
+walk_alternatives-loop-chosen-preserved t c =
+    let value = c.args.value.now in
+    let steps = c.args.path.now.steps in
+    let chosen = c.chosen-item.result in
+    let taken = c.in_ok-taken.taken.steps in
+    alternatives_more c.args.program.now value c.args.alternatives.now c.loop-chosen.chosen-index chosen c.loop-chosen.earlier _ steps taken c.loop-chosen.found.items c.in_ok-walk_alternative.field-0.items _ c.loop-chosen-test.true c.chosen-item.is c.loop-chosen.invariant
+    (subst (λ terms. Walked steps taken (assume_all (alternative_facts value terms (out-CoreAlternative chosen).choices))) c.as_slice.ensures c.in_ok-taken.ensures)
+    c.in_ok-walk_alternative.ensures
+    c.in_ok-append.ensures.items
+    c.in_ok-add_choices.ensures
+
+pub walk_case-returns-then-is_empty : goal.walk_case-returns-then-is_empty
+walk_case-returns-then-is_empty t c = λ place.
+    subst (λ (cmd : Command). IfOk c.one.result (λ found. Arrive c.args.program.now cmd c.args.path.steps found.items)) (sym (none_is c.args.alternatives.now place c.args.selector.now (sym c.is_empty.ensures ∙ c.if-is_empty.true))) (c.one.ensures c.args.program.now)
+
+pub walk_case-returns : goal.walk_case-returns
+walk_case-returns t c = λ place.
+    case_arrives c.args.program.now place c.args.selector.now c.in_ok-value.value c.args.alternatives.now c.args.path.steps _ c.in_ok-found.found.items (sym c.is_empty.ensures ∙ c.if-is_empty.false) c.in_ok-value.ensures c.in_ok-check_expr.ensures c.in_ok-found.ensures
+
+pub walk_stmt-returns-in-Case : goal.walk_stmt-returns-in-Case
+walk_stmt-returns-in-Case t c =
+    let at = c.in-Case in
+    let is : command c.args.stmt.now ≡ select at.field-0 at.selector (map alternative c.as_slice-in-Case.result.now)
+    = ap command at.is ∙ case_is at.field-0 at.selector at.alternatives at.field-3 ∙ ap (λ (xs : List CoreAlternative). select at.field-0 at.selector (map alternative xs)) (sym c.as_slice-in-Case.ensures) in
+    subst (λ (cmd : Command). IfOk c.walk_case.result (λ found. Arrive c.args.program.now cmd c.args.path.steps found.items)) (sym is) (c.walk_case.ensures at.field-0)

@@ -2,7 +2,7 @@ use Rattle.std.proofs.Common.{◌≡◌, ℕ, drop}
 use Rattle.spx_core.specs.declared.subprogram.Sub.{Sub}
 use Rattle.spx_core.specs.Commands.{command, commands}
 use Rattle.spx_term.specs.Steps.{Tree}
-use Rattle.spx_paths.specs.Prefixes.{ArriveBefore, ArriveEach, after, after_each, with_arms}
+use Rattle.spx_paths.specs.Prefixes.{ArriveBefore, ArriveEach, ArriveWhen, after, after_each, with_arms}
 use Rattle.spx_paths.specs.Walks.{walk}
 use Rattle.spx_paths.proofs.walk.+walk.Given as goal
 
@@ -16,3 +16,6 @@ invariant-walk_from_each-loop-path l = ArriveEach l.program (command l.stmt) l.y
 
 abbrev pub invariant-walk_arms-loop-arm : goal.invariant-walk_arms-loop-arm
 invariant-walk_arms-loop-arm l = ArriveBefore l.program (with_arms l.arms) (with_arms (drop l.arm-index l.arms)) l.initial.path.steps l.path.steps l.found.items
+
+abbrev pub invariant-walk_alternatives-loop-chosen : goal.invariant-walk_alternatives-loop-chosen
+invariant-walk_alternatives-loop-chosen l = ArriveWhen l.program l.value l.alternatives l.earlier (drop l.chosen-index l.alternatives) l.path.steps l.found.items

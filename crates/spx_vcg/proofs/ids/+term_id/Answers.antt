@@ -4,13 +4,13 @@ use Rattle.std.specs.Int.{w128}
 use Rattle.spx_core.specs.declared.expression.CoreExpr.{CoreExpr}
 use Rattle.spx_term.specs.declared.term.Term.{Term}
 use Rattle.spx_term.specs.declared.term.Term.TheVariants.{Infix, Number}
-use Rattle.spx_paths.specs.Terms.{member_term, signed_term, term_of}
+use Rattle.spx_paths.specs.Terms.{member_term, moved_term, signed_term, term_of}
 use Rattle.spx_arena.proofs.Growth.{adds_along}
 use Rattle.spx_vcg.specs.ConditionWalk.{applied}
 use Rattle.spx_vcg.specs.States.{state_in}
 use Rattle.spx_vcg.proofs.ConditionTerms.{applied-Number, applied-static_term}
-use Rattle.spx_vcg.proofs.Expressions.{attribute_term, in_range_term, in_type_term, infix_term, name_term, number_term, parenthesized_term, prefix_term, static_is}
-use Rattle.spx_vcg.proofs.SharedTerms.{adds_infix, adds_meaning, adds_member, adds_range, adds_signed, meaning_adds, number_here, number_made}
+use Rattle.spx_vcg.proofs.Expressions.{applied_term, attribute_term, in_range_term, in_type_term, infix_term, name_term, number_term, parenthesized_term, prefix_term, static_is}
+use Rattle.spx_vcg.proofs.SharedTerms.{adds_infix, adds_meaning, adds_member, adds_moved, adds_range, adds_signed, meaning_adds, number_here, number_made}
 use Rattle.spx_vcg.proofs.ids.+term_id.Goals as goal
 
 pub returns-in-Some : goal.returns-in-Some
@@ -35,11 +35,17 @@ returns-in_ok-id-in-Attribute t c = adds_meaning (λ entries.
     let e = c.in_ok-id-in-Attribute.ensures in
     adds_along (number_made (pos 0) refl e.grown e.made) (sym (applied-Number s (pos 0)) ∙ ap (applied s) (sym (attribute_term c.args.program.now entries c.args.expr.now c.in_default.ensures c.in-Attribute.field-0 c.in-Attribute.field-1 c.in-Attribute.is))))
 
+pub returns-in_ok-id-in-Applied : goal.returns-in_ok-id-in-Applied
+returns-in_ok-id-in-Applied t c = adds_meaning (λ entries.
+    let meant : CoreExpr → Term = term_of c.args.program.now entries in
+    adds_moved c.args.terms.now c.args.values.now c.requires (meant c.get.result.now) c.shift_of.result (meaning_adds c.in_ok-operand-in-Applied.ensures entries) c.in_ok-id-in-Applied.ensures
+    (applied_term c.args.program.now entries c.args.expr.now c.in_default.ensures c.in-Applied.function c.in-Applied.field-1 c.in-Applied.operand c.in-Applied.is ∙ (λ i. moved_term (sym c.shift_of.ensures i) (meant (sym c.get.ensures i)))))
+
 pub returns-in_ok-id-in-Parenthesized : goal.returns-in_ok-id-in-Parenthesized
 returns-in_ok-id-in-Parenthesized t c = adds_meaning (λ entries.
     let meant : CoreExpr → Term = term_of c.args.program.now entries in
     let s = state_in c.args.terms.now c.args.values.now in
-    adds_along (meaning_adds c.in_ok-id-in-Parenthesized.ensures entries) (ap (applied s) (ap meant c.get.ensures ∙ sym (parenthesized_term c.args.program.now entries c.args.expr.now c.in-Parenthesized.field-0 c.in-Parenthesized.inner c.in-Parenthesized.is))))
+    adds_along (meaning_adds c.in_ok-id-in-Parenthesized.ensures entries) (ap (applied s) (ap meant c.get-in-Parenthesized.ensures ∙ sym (parenthesized_term c.args.program.now entries c.args.expr.now c.in-Parenthesized.field-0 c.in-Parenthesized.inner c.in-Parenthesized.is))))
 
 pub returns-in_ok-id-in-Prefix : goal.returns-in_ok-id-in-Prefix
 returns-in_ok-id-in-Prefix t c = adds_meaning (λ entries.

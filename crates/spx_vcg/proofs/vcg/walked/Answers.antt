@@ -12,7 +12,7 @@ returns-clause-claims c =
     let p = c.args.program.now in
     let before = c.assume_pre.new.self in
     let last = c.path.new.self in
-    all_claims (record { terms = c.new.result; values = c.new-2.result; facts = record { present = c.new-3.result; lists = c.new-lists.result; at = c.none.result }; claims = c.new-4.result }) c.enter_all.new.self c.assume_imports.new.self before last p c.args.sub.now
+    all_claims (record { terms = c.new.result; values = c.new-2.result; facts = record { present = c.new-3.result; lists = c.new-lists.result; at = c.none.result }; claims = c.new-4.result }) c.enter_all.new.self c.initialize_all.new.self c.assume_imports.new.self before last p c.args.sub.now
     (record { values = c.new-2.ensures; keys = c.new-3.ensures.empty; lists = c.new-lists.ensures; at = c.none.ensures.first; claims = c.new-4.ensures })
-    c.in_ok-enter_all.ensures c.in_ok-assume_imports.ensures c.in_ok-assume_pre.ensures
+    c.in_ok-enter_all.ensures c.in_ok-initialize_all.ensures c.in_ok-assume_imports.ensures c.in_ok-assume_pre.ensures
     (subst (λ (ss : List CoreStmt). Comes p before last (Then (commands ss) Skip) Skip) c.as_slice.ensures (subst (λ d. Comes p before last (Then (commands c.as_slice.result.now) d) Skip) (nothing_follows End refl) c.in_ok-path.ensures))

@@ -7,7 +7,7 @@ use Rattle.spx_core.specs.Places.{place_of}
 use Rattle.spx_arena.specs.declared.terms.TermId.{TermId}
 use Rattle.spx_vcg.specs.declared.walk.Walk.{Walk}
 use Rattle.spx_vcg.specs.WalkSteps.{Evaluates}
-use Rattle.spx_vcg.proofs.CheckSteps.{eval_free, eval_in_range, eval_in_type, eval_infix, eval_parenthesized, eval_prefix, eval_static, makes_number}
+use Rattle.spx_vcg.proofs.CheckSteps.{eval_applied, eval_free, eval_in_range, eval_in_type, eval_infix, eval_parenthesized, eval_prefix, eval_static, makes_number}
 use Rattle.spx_vcg.proofs.Expressions.{attribute_free, name_free, number_free}
 use Rattle.spx_vcg.proofs.SharedSteps.{id_kept, ids_kept, keeps_twice}
 use Rattle.spx_vcg.proofs.walk.Walk.+checked_id.Goals as goal
@@ -43,6 +43,22 @@ checked_id-returns-in_ok-check_sign-in-Prefix-clause-makes t c =
     c.in_ok-operand-in-Prefix.ensures.keeps c.in_ok-operand-in-Prefix.ensures.within (at_part c.get-in-Prefix.ensures c.in_ok-operand-in-Prefix.ensures.makes)
     c.in_ok-id-in-Prefix.ensures.keeps c.in_ok-id-in-Prefix.ensures.within c.in_ok-id-in-Prefix.ensures.makes
     c.in_ok-check_sign-in-Prefix.ensures.keeps c.base_of.ensures c.in_ok-check_sign-in-Prefix.ensures.walks
+
+pub checked_applied-returns-clause-keeps : goal.checked_applied-returns-clause-keeps
+checked_applied-returns-clause-keeps t c = keeps_twice c.in_ok-first.ensures.keeps (keeps_twice c.in_ok-id.ensures.keeps c.in_ok-check_mapping.ensures.keeps)
+
+pub checked_applied-returns-clause-within : goal.checked_applied-returns-clause-within
+checked_applied-returns-clause-within t c = id_kept c.in_ok-id.ensures.keeps.whole c.in_ok-check_mapping.ensures.keeps _ c.in_ok-id.ensures.within
+
+pub checked_applied-returns-clause-makes : goal.checked_applied-returns-clause-makes
+checked_applied-returns-clause-makes t c =
+    eval_applied c.requires.whole c.requires.none c.requires.lefts c.in-Applied.function c.in-Applied.field-1 c.in-Applied.operand c.in-Applied.is
+    c.in_ok-first.ensures.keeps c.in_ok-first.ensures.within (at_part c.get-2.ensures c.in_ok-first.ensures.makes)
+    c.in_ok-id.ensures.keeps c.in_ok-id.ensures.within c.shift_of.ensures c.in_ok-id.ensures.makes
+    c.in_ok-check_mapping.ensures.keeps c.application-mapping.ensures (c.place-at.ensures ∙ ap place_of c.get.ensures) c.in_ok-check_mapping.ensures.walks
+
+pub checked_applied-check_mapping-requires-clause-lefts : goal.checked_applied-check_mapping-requires-clause-lefts
+checked_applied-check_mapping-requires-clause-lefts t c = ids_kept c.requires.whole (keeps_twice c.in_ok-first.ensures.keeps c.in_ok-id.ensures.keeps) c.args.lefts.now c.requires.lefts
 
 pub checked_infix-returns-clause-keeps : goal.checked_infix-returns-clause-keeps
 checked_infix-returns-clause-keeps t c =

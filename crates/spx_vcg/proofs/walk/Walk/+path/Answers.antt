@@ -1,13 +1,20 @@
-use Rattle.std.proofs.Common.{◌+◌, ◌*◌, ◌<◌, ◌≤◌, List, map, arith, rules, subst, sym, ap, ◌∙◌}
+use Rattle.std.proofs.Common.{◌+◌, ◌*◌, ◌<◌, ◌≤◌, List, ◌∷◌, drop, map, arith, rules, subst, sym, ap, ◌∙◌}
 use Rattle.std.proofs.lemmas.List.{take_rest}
+use Rattle.spx_core.specs.declared.statement.CoreAlternative.{CoreAlternative, out-CoreAlternative}
 use Rattle.spx_core.specs.declared.statement.CoreArm.{CoreArm, out-CoreArm}
 use Rattle.spx_core.specs.declared.statement.CoreStmt.{CoreStmt}
-use Rattle.spx_core.specs.Commands.{Then, arm_before, arms_before, commands}
+use Rattle.spx_core.specs.Commands.{Skip, Then, alternative, arm_before, arms_before, commands, select}
 use Rattle.spx_vcg.specs.Following.{after}
+use Rattle.spx_arena.proofs.Ids.{wider_ids}
+use Rattle.spx_arena.specs.Claims.{AreIds}
+use Rattle.spx_vcg.specs.ConditionWalk.{State, applied}
 use Rattle.spx_vcg.specs.PathWalk.{Comes, Takes}
-use Rattle.spx_vcg.proofs.BranchSteps.{after_arm, after_if, after_null, after_set, after_taken, at_end, comes_twice, last_arm, next_arm}
-use Rattle.spx_vcg.proofs.Forms.{arm_is, assignment_is, follows_is, if_is, nothing_follows, null_is}
-use Rattle.spx_vcg.proofs.Remaining.{body_smaller, follows_smaller, if_smaller, left, otherwise_smaller, size}
+use Rattle.spx_vcg.proofs.BranchSteps.{after_arm, after_branch, after_null, after_set, after_taken, at_end, comes_not, comes_twice, last_arm, next_arm}
+use Rattle.spx_vcg.proofs.CheckSteps.{only_at}
+use Rattle.spx_vcg.proofs.ChoiceSteps.{after_case, after_under, here_alternative, next_alternative, no_case}
+use Rattle.spx_vcg.proofs.Forms.{arm_is, assignment_is, case_is, follows_is, if_is, nothing_follows, null_is}
+use Rattle.spx_vcg.proofs.Remaining.{alternative_smaller, body_smaller, branch_smaller, follow_smaller, follows_smaller, left, otherwise_smaller, select_size, size, sizes}
+use Rattle.spx_vcg.proofs.SharedSteps.{adds_twice, only_keeps, state_same}
 use Rattle.spx_vcg.proofs.walk.Walk.+path.Goals as goal
 
 pub taken-returns : goal.taken-returns
@@ -54,35 +61,101 @@ path-loop-at-preserved t c =
 
 pub path-arms-requires : goal.path-arms-requires
 path-arms-requires t c =
-    let d = arms_before (commands c.done_otherwise.result.now) (map arm_before c.as_slice.result.now) in
+    let d = arms_before (commands c.done_otherwise-otherwise.result.now) (map arm_before c.as_slice.result.now) in
     let more = after c.more-following.result in
     let falls : 4 * (size d + left more) + 3 < 4 * (size (commands c.args.stmts.now) + left (after c.args.rest.now)) =
-    if_smaller c.args.stmts.now c.loop-at.at c.index-stmts-at.result c.loop-at-test.true c.index-stmts-at.is d (after c.args.rest.now) more
-    (if_is _ c.in-If.arms c.in-If.otherwise c.in-If.field-2 c.in-If.is _ _ c.as_slice.ensures c.done_otherwise.ensures)
+    branch_smaller c.args.stmts.now c.loop-at.at c.index-stmts-at.result c.loop-at-test.true c.index-stmts-at.is d (after c.args.rest.now) more
+    (if_is _ c.in-If.arms c.in-If.otherwise c.in-If.field-2 c.in-If.is _ _ c.as_slice.ensures c.done_otherwise-otherwise.ensures)
     (c.more-following.ensures ∙ ap (λ (ss : List CoreStmt). Then (commands ss) (after c.args.rest.now)) (take_rest c.args.stmts.now (c.loop-at.at + 1))) in
     (search rules, c.loop-at.invariant.whole)
 
 pub path-returns-in-If : goal.path-returns-in-If
 path-returns-in-If t c =
-    after_if (Then (commands c.args.stmts.now) (after c.args.rest.now)) (after c.args.rest.now) c.args.stmts.now c.loop-at.at c.index-stmts-at.result c.loop-at-test.true c.index-stmts-at.is c.loop-at.invariant
-    (arms_before (commands c.done_otherwise.result.now) (map arm_before c.as_slice.result.now)) (after c.more-following.result)
-    (if_is _ c.in-If.arms c.in-If.otherwise c.in-If.field-2 c.in-If.is _ _ c.as_slice.ensures c.done_otherwise.ensures)
+    after_branch (Then (commands c.args.stmts.now) (after c.args.rest.now)) (after c.args.rest.now) c.args.stmts.now c.loop-at.at c.index-stmts-at.result c.loop-at-test.true c.index-stmts-at.is c.loop-at.invariant
+    (arms_before (commands c.done_otherwise-otherwise.result.now) (map arm_before c.as_slice.result.now)) (after c.more-following.result)
+    (if_is _ c.in-If.arms c.in-If.otherwise c.in-If.field-2 c.in-If.is _ _ c.as_slice.ensures c.done_otherwise-otherwise.ensures)
     (c.more-following.ensures ∙ ap (λ (ss : List CoreStmt). Then (commands ss) (after c.args.rest.now)) (take_rest c.args.stmts.now (c.loop-at.at + 1))) c.in_ok-arms-in-If.ensures
 
-pub path-path-requires : goal.path-path-requires
-path-path-requires t c =
-    let falls : 4 * (size (commands c.in-After.stmts.now) + left (after c.in-After.rest.now)) < 4 * (size (commands c.args.stmts.now) + left (after c.args.rest.now)) =
-    follows_smaller (commands c.args.stmts.now) (commands c.in-After.stmts.now) (after c.args.rest.now) (after c.in-After.rest.now) (follows_is _ c.in-After.stmts c.in-After.rest c.in-After.is) in
+pub path-case-requires : goal.path-case-requires
+path-case-requires t c =
+    let parts = map alternative c.as_slice-alternatives.result.now in
+    let d = select c.in-Case.field-0 c.in-Case.selector parts in
+    let more = after c.more-following-in-Case.result in
+    let falls : 4 * (size d + left more) + 3 < 4 * (size (commands c.args.stmts.now) + left (after c.args.rest.now)) =
+    branch_smaller c.args.stmts.now c.loop-at.at c.index-stmts-at.result c.loop-at-test.true c.index-stmts-at.is d (after c.args.rest.now) more
+    (case_is _ c.in-Case.field-0 c.in-Case.selector c.in-Case.alternatives c.in-Case.field-3 c.in-Case.is _ c.as_slice-alternatives.ensures)
+    (c.more-following-in-Case.ensures ∙ ap (λ (ss : List CoreStmt). Then (commands ss) (after c.args.rest.now)) (take_rest c.args.stmts.now (c.loop-at.at + 1))) in
+    let e = select_size c.in-Case.field-0 c.in-Case.selector parts in
+    let under : 4 * (1 + sizes parts + left more) + 3 < 4 * (size (commands c.args.stmts.now) + left (after c.args.rest.now)) = omega arith in
     (search rules, c.loop-at.invariant.whole)
 
-pub path-returns-in-End : goal.path-returns-in-End
-path-returns-in-End t c =
-    let start = Then (commands c.args.stmts.now) (after c.args.rest.now) in
-    subst (λ d. Comes c.args.program.now c.args.self.now c.loop-at.self start d) (nothing_follows _ c.in-End.is) (at_end start (after c.args.rest.now) c.args.stmts.now c.loop-at.at (omega (arith, c.loop-at-test.false)) c.loop-at.invariant)
+pub path-returns-in-Case : goal.path-returns-in-Case
+path-returns-in-Case t c =
+    after_branch (Then (commands c.args.stmts.now) (after c.args.rest.now)) (after c.args.rest.now) c.args.stmts.now c.loop-at.at c.index-stmts-at.result c.loop-at-test.true c.index-stmts-at.is c.loop-at.invariant
+    (select c.in-Case.field-0 c.in-Case.selector (map alternative c.as_slice-alternatives.result.now)) (after c.more-following-in-Case.result)
+    (case_is _ c.in-Case.field-0 c.in-Case.selector c.in-Case.alternatives c.in-Case.field-3 c.in-Case.is _ c.as_slice-alternatives.ensures)
+    (c.more-following-in-Case.ensures ∙ ap (λ (ss : List CoreStmt). Then (commands ss) (after c.args.rest.now)) (take_rest c.args.stmts.now (c.loop-at.at + 1))) (c.in_ok-case-in-Case.ensures c.in-Case.field-0)
 
-pub path-returns-in_ok-path-in-After : goal.path-returns-in_ok-path-in-After
-path-returns-in_ok-path-in-After t c =
-    let start = Then (commands c.args.stmts.now) (after c.args.rest.now) in
-    comes_twice
-    (subst (λ d. Comes c.args.program.now c.args.self.now c.loop-at.self start d) (follows_is _ c.in-After.stmts c.in-After.rest c.in-After.is) (at_end start (after c.args.rest.now) c.args.stmts.now c.loop-at.at (omega (arith, c.loop-at-test.false)) c.loop-at.invariant))
-    c.in_ok-path-in-After.ensures
+pub path-follow-requires : goal.path-follow-requires
+path-follow-requires t c =
+    let falls : 4 * left (after c.args.rest.now) + 1 < 4 * (size (commands c.args.stmts.now) + left (after c.args.rest.now)) = follow_smaller (commands c.args.stmts.now) (after c.args.rest.now) in
+    (search rules, c.loop-at.invariant.whole)
+
+pub path-returns : goal.path-returns
+path-returns t c =
+    comes_twice (at_end (Then (commands c.args.stmts.now) (after c.args.rest.now)) (after c.args.rest.now) c.args.stmts.now c.loop-at.at (omega (arith, c.loop-at-test.false)) c.loop-at.invariant) c.in_ok-follow.ensures
+
+pub follow-path-requires : goal.follow-path-requires
+follow-path-requires t c =
+    let falls : 4 * (size (commands c.in-After.stmts.now) + left (after c.in-After.rest.now)) < 4 * left (after c.args.rest.now) + 1 =
+    follows_smaller (commands c.in-After.stmts.now) (after c.args.rest.now) (after c.in-After.rest.now) (follows_is _ c.in-After.stmts c.in-After.rest c.in-After.is) in
+    search rules
+
+pub follow-returns-in-End : goal.follow-returns-in-End
+follow-returns-in-End t c = subst (λ d. Comes c.args.program.now c.args.self.now c.args.self.now d Skip) (sym (nothing_follows _ c.in-End.is)) (comes_not c.requires)
+
+pub follow-returns-in_ok-path-in-After : goal.follow-returns-in_ok-path-in-After
+follow-returns-in_ok-path-in-After t c = subst (λ d. Comes c.args.program.now c.args.self.now c.path.new.self d Skip) (sym (follows_is _ c.in-After.stmts c.in-After.rest c.in-After.is)) c.in_ok-path-in-After.ensures
+
+pub case-returns-then-is_empty : goal.case-returns-then-is_empty
+case-returns-then-is_empty t c = no_case c.args.selector.now c.args.alternatives.now (after c.args.rest.now) (sym c.is_empty.ensures ∙ c.if-is_empty.true) c.in_ok-follow.ensures
+
+pub case-returns : goal.case-returns
+case-returns t c =
+    after_case c.args.selector.now c.args.alternatives.now (after c.args.rest.now) (sym c.is_empty.ensures ∙ c.if-is_empty.false) c.in_ok-value.ensures.keeps c.in_ok-value.ensures.makes c.in_ok-alternatives.ensures
+
+pub alternative-returns : goal.alternative-returns
+alternative-returns t c =
+    after_under c.args.facts.now (Then (commands c.args.body.now) (after c.args.rest.now)) c.in_ok-mark.mark c.requires.whole c.in_ok-mark.ensures c.in_ok-assume_all.ensures.keeps c.in_ok-assume_all.ensures.walks c.in_ok-path.ensures c.back_to.ensures
+
+pub alternatives-alternative-requires : goal.alternatives-alternative-requires
+alternatives-alternative-requires t c =
+    let rest = after c.args.rest.now in
+    let parts = map alternative c.args.alternatives.now in
+    let within = alternative_smaller c.args.alternatives.now c.loop-alternative.alternative-index c.alternative-item.result c.loop-alternative-test.true in
+    let smaller : size (commands (out-CoreAlternative c.alternative-item.result).body) ≤ sizes parts = subst (λ (a : CoreAlternative). size (commands (out-CoreAlternative a).body) ≤ sizes parts) (sym c.alternative-item.is) within in
+    let falls : 4 * (size (commands c.as_slice-body.result.now) + left rest) + 1 < 4 * (sizes parts + left rest) + 2 = omega (arith, ap (λ (ss : List CoreStmt). size (commands ss)) c.as_slice-body.ensures) in
+    let whole = c.loop-alternative.invariant.whole in
+    let known = c.in_ok-facts.ensures.facts in
+    (search rules, ((only_keeps whole (only_at c.loop-alternative.self known.grown)).whole, subst (AreIds _) (sym c.as_slice.ensures) known.within))
+
+pub alternatives-loop-alternative-preserved : goal.alternatives-loop-alternative-preserved
+alternatives-loop-alternative-preserved t c =
+    let w = c.loop-alternative.self in
+    let i = c.loop-alternative.alternative-index in
+    let before = c.loop-alternative.invariant in
+    let known = c.in_ok-facts.ensures.facts in
+    let added = c.in_ok-facts.ensures.earlier in
+    let keeps = only_keeps before.whole (only_at w known.grown) in
+    let takes = c.in_ok-alternative.ensures in
+    let here = here_alternative c.args.alternatives.now i c.alternative-item.result c.loop-alternative-test.true c.alternative-item.is in
+    record {
+      whole = takes.whole;
+      adds = adds_twice before.adds (adds_twice keeps.adds takes.adds);
+      kept = takes.kept ∙ state_same before.whole keeps ∙ before.kept;
+      ids = wider_ids c.alternative_facts.new.earlier takes.adds.grown.more added.within;
+      at = λ t m. next_alternative before.whole t
+          (record { tree = before.adds.grown.kept c.args.value c.requires.within ∙ m.tree ∙ ap (λ (u : State). applied u t) (sym before.kept) })
+          (before.at t m) (here ∙ ap (λ (ss : List CoreStmt). ((out-CoreAlternative c.alternative-item.result).choices, commands ss) ∷ map alternative (drop (i + 1) c.args.alternatives.now)) (sym c.as_slice-body.ensures))
+          known added c.as_slice.ensures takes;
+    }

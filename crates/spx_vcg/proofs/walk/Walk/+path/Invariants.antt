@@ -1,9 +1,13 @@
-use Rattle.std.proofs.Common.{◌+◌, ◌*◌, drop, map}
+use Rattle.std.proofs.Common.{◌≡◌, ◌+◌, ◌*◌, drop, length, map}
 use Rattle.spx_core.specs.declared.statement.CoreArm.{out-CoreArm}
-use Rattle.spx_core.specs.Commands.{Then, arm_before, arms_before, commands}
+use Rattle.spx_core.specs.Commands.{Then, alternative, arm_before, arms_before, commands}
+use Rattle.spx_term.specs.declared.term.Term.{Term}
+use Rattle.spx_arena.specs.Claims.{AreIds}
 use Rattle.spx_vcg.specs.Following.{after}
 use Rattle.spx_vcg.specs.PathWalk.{Comes}
-use Rattle.spx_vcg.proofs.Remaining.{left, size}
+use Rattle.spx_vcg.specs.WalkSteps.{state, Means, OnlyAdds, Whole}
+use Rattle.spx_vcg.proofs.ChoiceSteps.{IsAt}
+use Rattle.spx_vcg.proofs.Remaining.{left, size, sizes}
 use Rattle.spx_vcg.proofs.walk.Walk.+path.Given as goal
 
 abbrev pub decreases-path : goal.decreases-path
@@ -17,6 +21,27 @@ decreases-arm l = 4 * (size (commands (out-CoreArm l.arm.now).body) + left (afte
 
 abbrev pub decreases-arms : goal.decreases-arms
 decreases-arms l = 4 * (size (arms_before (commands l.otherwise.now) (map arm_before l.arms.now)) + left (after l.rest.now)) + 3
+
+abbrev pub decreases-alternative : goal.decreases-alternative
+decreases-alternative l = 4 * (size (commands l.body.now) + left (after l.rest.now)) + 1
+
+abbrev pub decreases-alternatives : goal.decreases-alternatives
+decreases-alternatives l = 4 * (sizes (map alternative l.alternatives.now) + left (after l.rest.now)) + 2
+
+abbrev pub decreases-case : goal.decreases-case
+decreases-case l = 4 * (1 + sizes (map alternative l.alternatives.now) + left (after l.rest.now)) + 3
+
+abbrev pub decreases-follow : goal.decreases-follow
+decreases-follow l = 4 * left (after l.rest.now) + 1
+
+abbrev pub invariant-alternatives-loop-alternative : goal.invariant-alternatives-loop-alternative
+invariant-alternatives-loop-alternative l = record {
+  whole : Whole l.self;
+  adds : OnlyAdds l.initial.self l.self;
+  kept : state l.self ≡ state l.initial.self;
+  ids : AreIds (length l.self.terms) l.earlier;
+  at : (t : Term) → Means l.initial.self l.value t → IsAt l.program l.initial.self l.self l.earlier (map alternative l.alternatives) (map alternative (drop l.alternative-index l.alternatives)) (after l.rest) t;
+}
 
 abbrev pub invariant-arms-loop-arm : goal.invariant-arms-loop-arm
 invariant-arms-loop-arm l =

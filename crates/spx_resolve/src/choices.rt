@@ -1,0 +1,68 @@
+// The choices of a `case` (Ada 95 RM 5.4).
+ghost use Rattle.std.specs.Prelude.{◌≡◌, IfOk, map, option_map};
+ghost use Rattle.spx_core.specs.Resolved.{resolved_choice, resolved_expr};
+ghost use Rattle.spx_scope.specs.Seen.{seen};
+
+use crate::expression::resolve_expr;
+use crate::meaning::chosen_by;
+use spx_core::{CoreChoice, CoreExpr};
+use spx_scope::Scope;
+use spx_tree::{Choice, Expr};
+use sqlite_items::Items;
+use std::alloc::{AllocError, Global};
+
+/// The upper bound of a choice, if it has one.
+fn resolve_upper(
+    alloc: Global,
+    high: &Option<Expr>,
+    scope: &Scope<'_>,
+) -> Result<Option<CoreExpr>, AllocError>
+    ensures { IfOk result (λ r. r ≡ option_map (resolved_expr (seen scope.now)) high.now) }
+{
+    match high {
+        Some(high) => Ok(Some(resolve_expr(alloc, high, scope)?)),
+        None => Ok(None),
+    }
+}
+
+/// A choice, with its values.
+fn resolve_choice(
+    alloc: Global,
+    choice: &Choice,
+    scope: &Scope<'_>,
+) -> Result<CoreChoice, AllocError>
+    ensures { IfOk result (λ r. r ≡ resolved_choice (seen scope.now) choice.now) }
+{
+    let low = resolve_expr(alloc, &choice.low, scope)?;
+    let high = resolve_upper(alloc, &choice.high, scope)?;
+    let span = chosen_by(&low, &high);
+    Ok(CoreChoice { low, high, span })
+}
+
+fn resolve_choices(
+    alloc: Global,
+    choices: &[Choice],
+    scope: &Scope<'_>,
+) -> Result<Items<CoreChoice>, AllocError>
+    ensures { IfOk result (λ r. r ≡ map (resolved_choice (seen scope.now)) choices.now) }
+{
+    let mut resolved = Items::new(alloc);
+    for choice in choices {
+        resolved.push(resolve_choice(alloc, choice, scope)?)?;
+    }
+    Ok(resolved)
+}
+
+/// The choices of an alternative, unless it is for `others`.
+pub fn resolve_listed(
+    alloc: Global,
+    choices: &Option<Items<Choice>>,
+    scope: &Scope<'_>,
+) -> Result<Option<Items<CoreChoice>>, AllocError>
+    ensures { IfOk result (λ r. r ≡ option_map (map (resolved_choice (seen scope.now))) choices.now) }
+{
+    match choices {
+        Some(choices) => Ok(Some(resolve_choices(alloc, choices.as_slice(), scope)?)),
+        None => Ok(None),
+    }
+}

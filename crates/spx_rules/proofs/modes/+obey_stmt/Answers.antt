@@ -1,0 +1,25 @@
+use Rattle.std.proofs.Common.{rules, sym, ap, ◌∙◌, drop, ◌+◌}
+use Rattle.std.specs.Prelude.{⊤}
+use Rattle.spx_core.specs.Judged.{Judged, ◌>>=◌}
+use Rattle.spx_core.specs.Obeyed.{obeyed_alternatives}
+use Rattle.spx_types.specs.Choices.{alternatives_in}
+use Rattle.spx_types.proofs.CaseForms.{case_command}
+use Rattle.spx_rules.proofs.CaseRules.{case_obeyed, obeyed_at}
+use Rattle.spx_rules.proofs.modes.+obey_stmt.Goals as goal
+
+pub obey_alternatives-returns-in_err-obey_chosen : goal.obey_alternatives-returns-in_err-obey_chosen
+obey_alternatives-returns-in_err-obey_chosen t c =
+    let e = obeyed_at c.args.alternatives.now c.loop-alternative.alternative-index c.alternative-item.result c.loop-alternative-test.true c.alternative-item.is in
+    let h = sym (c.loop-alternative.invariant ∙ e ∙ ap (λ (x : Judged ⊤). x >>= λ _. obeyed_alternatives (alternatives_in (drop (c.loop-alternative.alternative-index + 1) c.args.alternatives.now))) (sym c.in_err-obey_chosen.ensures)) in
+    search (rules, h)
+
+pub obey_alternatives-loop-alternative-preserved : goal.obey_alternatives-loop-alternative-preserved
+obey_alternatives-loop-alternative-preserved t c =
+    let e = obeyed_at c.args.alternatives.now c.loop-alternative.alternative-index c.alternative-item.result c.loop-alternative-test.true c.alternative-item.is in
+    c.loop-alternative.invariant ∙ e ∙ ap (λ (x : Judged ⊤). x >>= λ _. obeyed_alternatives (alternatives_in (drop (c.loop-alternative.alternative-index + 1) c.args.alternatives.now))) (sym c.in_ok-obey_chosen.ensures)
+
+pub obey_stmt-returns-in-Case : goal.obey_stmt-returns-in-Case
+obey_stmt-returns-in-Case t c =
+    let here = c.in-Case in
+    let h = case_obeyed c.args.stmt.now here.field-0 here.field-1 here.alternatives (case_command c.args.stmt.now here.field-0 here.field-1 here.alternatives here.field-3 here.is) in
+    c.obey_alternatives.ensures ∙ ap (λ alternatives. obeyed_alternatives (alternatives_in alternatives)) c.as_slice-in-Case.ensures ∙ sym h
