@@ -21,7 +21,7 @@ use Rattle.spx_tree.specs.declared.annotation.Exports.{Exports}
 use Rattle.spx_tree.specs.declared.annotation.Exports.TheVariants as exported
 use Rattle.spx_tree.specs.declared.annotation.DerivesItem.{DerivesItem}
 use Rattle.spx_tree.specs.declared.annotation.Derives.{Derives}
-use Rattle.spx_tree.specs.declared.annotation.Precondition.{Precondition}
+use Rattle.spx_tree.specs.declared.annotation.Predicate.{Predicate}
 use Rattle.spx_tree.specs.declared.subprogram.Param.{Param}
 use Rattle.spx_tree.specs.declared.subprogram.FormalPart.{FormalPart}
 use Rattle.spx_tree.specs.declared.subprogram.Subprogram.{Subprogram}
@@ -186,8 +186,8 @@ module _ (regions : Regions) where
   kept_derives derives =
       ap (λ (items : List DerivesItem). let x : Derives = record { place = derives.place; items = items } in x) (kept_each erased_item (resolved_item regions) kept_item derives.items)
 
-  kept_pre : (pre : Precondition) → erased_pre (resolved_pre regions pre) ≡ pre
-  kept_pre pre = ap (λ (e : Expr). let x : Precondition = record { place = pre.place; condition = e } in x) (kept_expr regions pre.condition)
+  kept_pre : (pre : Predicate) → erased_pre (resolved_pre regions pre) ≡ pre
+  kept_pre pre = ap (λ (e : Expr). let x : Predicate = record { place = pre.place; condition = e } in x) (kept_expr regions pre.condition)
 
 -- ---- declarations
 

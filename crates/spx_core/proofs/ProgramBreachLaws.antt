@@ -10,7 +10,7 @@ use Rattle.spx_core.specs.declared.name.Reference.{Reference}
 use Rattle.spx_core.specs.declared.statement.CoreDecl.{CoreDecl}
 use Rattle.spx_core.specs.declared.dependency.CoreDerivesItem.{CoreDerivesItem}
 use Rattle.spx_core.specs.declared.subprogram.CoreParam.{CoreParam}
-use Rattle.spx_core.specs.declared.subprogram.CorePrecondition.{CorePrecondition}
+use Rattle.spx_core.specs.declared.subprogram.CorePredicate.{CorePredicate}
 use Rattle.spx_core.specs.declared.subprogram.Sub.{Sub}
 use Rattle.spx_core.specs.declared.program.Program.{Program}
 use Rattle.spx_core.specs.declared.rule.Breach.{Breach}
@@ -57,7 +57,7 @@ module _ (sub : Sub) where
       (λ e. let n = each_broken judged_variable item.exports b e in broken.exported item n.0 b.rule b.place is n.1 (variable_found n.0 b n.2))
       (λ _ _ e. let n = each_broken judged_variable item.imports b e in broken.imported item n.0 b.rule b.place is n.1 (variable_found n.0 b n.2))
 
-  pre_found : (o : Option CorePrecondition) → sub.pre ≡ o → (b : Breach) → if_there judged_pre o ≡ Err b → At (BreaksSub sub) b
+  pre_found : (o : Option CorePredicate) → sub.pre ≡ o → (b : Breach) → if_there judged_pre o ≡ Err b → At (BreaksSub sub) b
   pre_found None is b h = absurd cc
   pre_found (Some pre) is b h = broken.precondition pre b.rule b.place is (condition_found pre.condition b h)
 

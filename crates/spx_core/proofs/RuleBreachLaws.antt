@@ -14,7 +14,7 @@ use Rattle.spx_core.specs.declared.entity.Entity.TheVariants as entity
 use Rattle.spx_core.specs.declared.name.CoreName.{CoreName}
 use Rattle.spx_core.specs.declared.name.Reference.{Reference}
 use Rattle.spx_core.specs.declared.dependency.CoreDerivesItem.{CoreDerivesItem}
-use Rattle.spx_core.specs.declared.subprogram.CorePrecondition.{CorePrecondition}
+use Rattle.spx_core.specs.declared.subprogram.CorePredicate.{CorePredicate}
 use Rattle.spx_core.specs.declared.subprogram.Sub.{Sub}
 use Rattle.spx_core.specs.declared.program.Program.{Program}
 use Rattle.spx_core.specs.declared.rule.Breach.{Breach}
@@ -22,12 +22,12 @@ use Rattle.spx_core.specs.declared.rule.RuleName.{RuleName}
 use Rattle.spx_core.specs.declared.rule.RuleName.TheVariants.{U2, U7, U8, U11}
 use Rattle.spx_core.specs.Commands.{Command, Skip, Set, Then, Choose, Select, Alternatives, Last, When, commands}
 use Rattle.spx_core.specs.Reads.{names_read}
-use Rattle.spx_core.specs.Uses.{denotes, is_same, mentions, variable_of}
+use Rattle.spx_core.specs.Uses.{denotes, is_same, mentions, variable_of, variable_is}
 use Rattle.spx_core.specs.Dependency.{exports, imports, relation, variables}
 use Rattle.spx_core.specs.Mirror.DerivesItems.{has_export, has_import}
 use Rattle.spx_core.specs.Formals.{formals, is_formal, stands_in}
 use Rattle.spx_core.specs.Judged.{◌>>=◌, each, if_there, keeps}
-use Rattle.spx_core.specs.Obeyed.{Obeys, export_agrees, exports_once, first_rule_breach, import_agrees, is_among, is_constant, is_export_of, is_exported, is_imported, is_listed, is_right_relation, may_be_assigned, mode_denoted, mode_named, names_formal, names_formals, names_once, obeyed, obeyed_alternatives, obeyed_command, obeyed_export, obeyed_import, obeyed_item, obeyed_pre, obeyed_relation, obeyed_sub, pairs_once, place_or, reads_import, unused_imports, variable_is, variable_passes}
+use Rattle.spx_core.specs.Obeyed.{Obeys, export_agrees, exports_once, first_rule_breach, import_agrees, is_among, is_constant, is_export_of, is_exported, is_imported, is_listed, is_right_relation, may_be_assigned, mode_denoted, mode_named, names_formal, names_formals, names_once, obeyed, obeyed_alternatives, obeyed_command, obeyed_export, obeyed_import, obeyed_item, obeyed_pre, obeyed_relation, obeyed_sub, pairs_once, place_or, reads_import, unused_imports, variable_passes}
 use Rattle.spx_core.specs.Rules.{ObeysRules, agrees}
 use Rattle.spx_core.specs.RuleBreaches.{Assigns, BreaksRule, Disagrees, HasBadDerives, IsInRelation, IsVariable, OneAssigns, StandsTwice, exports_named, bad_derives, mode_disagrees, not_imported, constant_assigned, input_assigned, export_twice, import_twice, unused_twice, import_beside_star, formal_left_out, no_formal}
 use Rattle.spx_core.specs.Scopes.{HasItsMode, HaveTheirModes, Scoped}
@@ -317,7 +317,7 @@ some_other : (sub : Sub) (o : Option VarId) → variable_passes (λ v. imports v
 some_other sub (Some v) h = (v, refl, h)
 some_other sub None h = absurd (cc)
 
-pre_breaks : (p : Program) (sub : Sub) (b : Breach) (o : Option CorePrecondition) → sub.pre ≡ o → if_there (obeyed_pre sub) o ≡ Err b → IsBroken p sub b
+pre_breaks : (p : Program) (sub : Sub) (b : Breach) (o : Option CorePredicate) → sub.pre ≡ o → if_there (obeyed_pre sub) o ≡ Err b → IsBroken p sub b
 pre_breaks p sub b None is e = absurd (cc)
 pre_breaks p sub b (Some pre) is e =
     let w = each_broken (reads_import sub) (names_read pre.condition) b e in

@@ -11,19 +11,19 @@ use Rattle.spx_core.specs.declared.entity.Mode.TheVariants.{In, Out, InOut}
 use Rattle.spx_core.specs.declared.name.CoreName.{CoreName}
 use Rattle.spx_core.specs.declared.name.Reference.{Reference}
 use Rattle.spx_core.specs.declared.dependency.CoreDerivesItem.{CoreDerivesItem}
-use Rattle.spx_core.specs.declared.subprogram.CorePrecondition.{CorePrecondition}
+use Rattle.spx_core.specs.declared.subprogram.CorePredicate.{CorePredicate}
 use Rattle.spx_core.specs.declared.subprogram.Sub.{Sub}
 use Rattle.spx_core.specs.declared.program.Program.{Program}
 use Rattle.spx_core.specs.declared.rule.RuleName.TheVariants.{U2, U7, U8, U11}
 use Rattle.spx_core.specs.Reads.{names_read}
-use Rattle.spx_core.specs.Uses.{denotes, mentions, uses, variable_of}
+use Rattle.spx_core.specs.Uses.{denotes, mentions, uses, variable_of, variable_is}
 use Rattle.spx_core.specs.Dependency.{exports, imports, relation}
 use Rattle.spx_core.specs.Mirror.DerivesItems.{has_export, has_import}
 use Rattle.spx_core.specs.Commands.{Command, Skip, Set, Then, Choose, Select, Alternatives, Last, When, commands}
 use Rattle.spx_core.specs.Effects.{Read, effect, effect_among, reads_of, sets}
 use Rattle.spx_core.specs.Formals.{formals, is_formal, mode_of}
 use Rattle.spx_core.specs.Judged.{each, if_there}
-use Rattle.spx_core.specs.Obeyed.{Obeys, export_agrees, exports_once, import_agrees, is_imported, is_exported, is_constant, is_listed, is_right_relation, may_be_assigned, mode_named, names_formals, names_once, obeyed_export, obeyed_import, obeyed_item, obeyed_pre, obeyed_relation, obeyed_alternatives, obeyed_command, obeyed_sub, pairs_once, place_or, reads_import, unused_imports, variable_is, variable_passes}
+use Rattle.spx_core.specs.Obeyed.{Obeys, export_agrees, exports_once, import_agrees, is_imported, is_exported, is_constant, is_listed, is_right_relation, may_be_assigned, mode_named, names_formals, names_once, obeyed_export, obeyed_import, obeyed_item, obeyed_pre, obeyed_relation, obeyed_alternatives, obeyed_command, obeyed_sub, pairs_once, place_or, reads_import, unused_imports, variable_passes}
 use Rattle.spx_core.specs.Rules.{ObeysRules, agrees}
 use Rattle.spx_core.specs.Scopes.{AllHaveTheirModes, HasItsMode, HaveTheirModes, Scoped, TargetsHaveTheirModes}
 use Rattle.spx_core.specs.Erased.{Visible}
@@ -120,7 +120,7 @@ listed sub v all is =
     let each = All-from_recursion (λ w. is_listed sub w ≡ true) (formals sub) (all_pass (is_listed sub) (formals sub) all) in
     subst (λ u. is_listed sub u ≡ true) (same_var w.0 v (eqb-true w.0.0 v.0 w.2)) (All-contains (λ u. is_listed sub u ≡ true) (formals sub) w.0 each w.1)
 
-pre_reads : (sub : Sub) (v : VarId) (pre : CorePrecondition) → if_there (obeyed_pre sub) sub.pre ≡ Ok tt → sub.pre ≡ Some pre → uses v pre.condition ≡ true → imports v sub ≡ true
+pre_reads : (sub : Sub) (v : VarId) (pre : CorePredicate) → if_there (obeyed_pre sub) sub.pre ≡ Ok tt → sub.pre ≡ Some pre → uses v pre.condition ≡ true → imports v sub ≡ true
 pre_reads sub v pre ok is h =
     let name = found (denotes v) (names_read pre.condition) h in
     let passes_here = passes_at (reads_import sub) (names_read pre.condition) (ap (if_there (obeyed_pre sub)) (sym is) ∙ ok) name.0 name.1 in

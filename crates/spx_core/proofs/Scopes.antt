@@ -15,7 +15,7 @@ use Rattle.spx_tree.specs.declared.statement.Arm.{Arm, Arm-F, map-Arm, roll-Arm,
 use Rattle.spx_tree.specs.declared.statement.Alternative.{Alternative, Alternative-F, map-Alternative, roll-Alternative, fold-roll-Alternative}
 use Rattle.spx_tree.specs.declared.annotation.DerivesItem.{DerivesItem}
 use Rattle.spx_tree.specs.declared.annotation.Derives.{Derives}
-use Rattle.spx_tree.specs.declared.annotation.Precondition.{Precondition}
+use Rattle.spx_tree.specs.declared.annotation.Predicate.{Predicate}
 use Rattle.spx_tree.specs.declared.subprogram.Subprogram.{Subprogram}
 use Rattle.spx_tree.specs.declared.subprogram.Unit.{Unit}
 use Rattle.spx_tree.specs.declared.subprogram.Unit.TheVariants as unit
@@ -36,7 +36,7 @@ use Rattle.spx_core.specs.declared.dependency.CoreDerivesItem.{CoreDerivesItem}
 use Rattle.spx_core.specs.declared.program.TypeRow.{TypeRow}
 use Rattle.spx_core.specs.declared.program.Var.{Var}
 use Rattle.spx_core.specs.declared.program.Program.{Program}
-use Rattle.spx_core.specs.declared.subprogram.CorePrecondition.{CorePrecondition}
+use Rattle.spx_core.specs.declared.subprogram.CorePredicate.{CorePredicate}
 use Rattle.spx_core.specs.declared.subprogram.Sub.{Sub}
 use Rattle.spx_core.specs.Commands.{Command, Skip, Set, Then, Choose, Select, Alternatives, Last, When, alternative, alternatives_of, arm_before, arms_before, chain, command, commands, select}
 use Rattle.spx_core.specs.Commands as commands_of
@@ -289,9 +289,9 @@ module _ (p : Program) (more : List TypeRow) (P : VarId → Object → Type 0) (
     alternatives_as_declared (Last choices a) written = command_as_declared a written
     alternatives_as_declared (When choices a rest) written = (command_as_declared a written.0, alternatives_as_declared rest written.1)
 
-  pre_as_declared : (written : Option Precondition) (pre : CorePrecondition) → option_map (resolved_pre regions) written ≡ Some pre → All (IsAsDeclared p) (names_read pre.condition)
+  pre_as_declared : (written : Option Predicate) (pre : CorePredicate) → option_map (resolved_pre regions) written ≡ Some pre → All (IsAsDeclared p) (names_read pre.condition)
   pre_as_declared None pre is = absurd cc
-  pre_as_declared (Some w) pre is = read_as_declared pre.condition (w.condition, ap (λ (x : CorePrecondition). x.condition) (let e : pre ≡ resolved_pre regions w = cc in e))
+  pre_as_declared (Some w) pre is = read_as_declared pre.condition (w.condition, ap (λ (x : CorePredicate). x.condition) (let e : pre ≡ resolved_pre regions w = cc in e))
 
 -- ---- subprograms
 

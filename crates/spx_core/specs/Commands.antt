@@ -21,6 +21,8 @@ mutual
     Choose : Place → CoreExpr → Command → Command → Command
     -- at the word `case`: the alternative for the value of the selector
     Select : Place → CoreExpr → Alternatives → Command
+    -- at the word `check`: nothing, where the condition is true
+    Check : Place → CoreExpr → Command
 
   -- no choices: `others`
   pub data Alternatives : Type 0 where
@@ -65,6 +67,7 @@ stmt_step (CoreStmt-F.Null place) = Skip
 stmt_step (CoreStmt-F.Assignment target value) = Set target value
 stmt_step (CoreStmt-F.If arms otherwise closing) = arms_before (or_skip otherwise) arms
 stmt_step (CoreStmt-F.Case place selector alternatives closing) = select place selector alternatives
+stmt_step (CoreStmt-F.Check place condition) = Check place condition
 
 abbrev pub command : CoreStmt → Command
 command = fold-CoreStmt Command (Option (List CoreChoice) × Command) (Command → Command) stmt_step alternative_step arm_step

@@ -21,7 +21,7 @@ use Rattle.spx_tree.specs.declared.annotation.Exports.{Exports}
 use Rattle.spx_tree.specs.declared.annotation.Exports.TheVariants as exported
 use Rattle.spx_tree.specs.declared.annotation.DerivesItem.{DerivesItem}
 use Rattle.spx_tree.specs.declared.annotation.Derives.{Derives}
-use Rattle.spx_tree.specs.declared.annotation.Precondition.{Precondition}
+use Rattle.spx_tree.specs.declared.annotation.Predicate.{Predicate}
 use Rattle.spx_tree.specs.declared.subprogram.Param.{Param}
 use Rattle.spx_tree.specs.declared.subprogram.FormalPart.{FormalPart}
 use Rattle.spx_tree.specs.declared.subprogram.Subprogram.{Subprogram}
@@ -46,7 +46,7 @@ use Rattle.spx_core.specs.declared.dependency.CoreDerivesItem.{CoreDerivesItem}
 use Rattle.spx_core.specs.declared.dependency.CoreDerives.{CoreDerives}
 use Rattle.spx_core.specs.declared.subprogram.CoreParam.{CoreParam}
 use Rattle.spx_core.specs.declared.subprogram.CoreFormalPart.{CoreFormalPart}
-use Rattle.spx_core.specs.declared.subprogram.CorePrecondition.{CorePrecondition}
+use Rattle.spx_core.specs.declared.subprogram.CorePredicate.{CorePredicate}
 use Rattle.spx_core.specs.declared.subprogram.Sub.{Sub}
 use Rattle.spx_core.specs.declared.program.CoreUnit.{CoreUnit}
 use Rattle.spx_core.specs.declared.program.CoreUnit.TheVariants as core_unit
@@ -74,6 +74,7 @@ erased_function function = record { name = function.name.name; form = function.f
 abbrev pub erased_step : CoreExpr-F Expr → Expr
 erased_step (CoreExpr-F.Number value place) = expr.Number value place
 erased_step (CoreExpr-F.Name name) = expr.Name (Simple name.name)
+erased_step (CoreExpr-F.Entry name allowed) = expr.Entry name.name
 erased_step (CoreExpr-F.Attribute prefix designator) = expr.Name (Attribute prefix.name designator)
 erased_step (CoreExpr-F.Applied function place operand) = expr.Applied (erased_function function) place operand
 erased_step (CoreExpr-F.Parenthesized place inner) = expr.Parenthesized place inner
@@ -99,6 +100,7 @@ erased_stmt_step (CoreStmt-F.Null place) = stmt.Null place
 erased_stmt_step (CoreStmt-F.Assignment target value) = stmt.Assignment (erased_reference target) (erased_expr value)
 erased_stmt_step (CoreStmt-F.If arms otherwise closing) = stmt.If arms otherwise closing
 erased_stmt_step (CoreStmt-F.Case place selector alternatives closing) = stmt.Case place (erased_expr selector) alternatives closing
+erased_stmt_step (CoreStmt-F.Check place condition) = stmt.Check place (erased_expr condition)
 
 abbrev pub erased_stmt : CoreStmt → Stmt
 erased_stmt = fold-CoreStmt Stmt Alternative Arm erased_stmt_step erased_alternative_step erased_arm_step
@@ -132,8 +134,8 @@ erased_item item = record { exports = erased_exports item.null item.exports; imp
 abbrev pub erased_derives : CoreDerives → Derives
 erased_derives derives = record { place = derives.place; items = map erased_item derives.items }
 
-abbrev pub erased_pre : CorePrecondition → Precondition
-erased_pre pre = record { place = pre.place; condition = erased_expr pre.condition }
+abbrev pub erased_predicate : CorePredicate → Predicate
+erased_predicate predicate = record { place = predicate.place; condition = erased_expr predicate.condition }
 
 abbrev pub erased_param : CoreParam → Param
 erased_param param = record { names = map erased_defining param.names; mode = param.mode; type_name = erased_reference param.type_name }
@@ -147,7 +149,8 @@ erased_sub sub = record {
   name = sub.name.name;
   formal_part = option_map erased_formal_part sub.formal_part;
   derives = option_map erased_derives sub.derives;
-  pre = option_map erased_pre sub.pre;
+  pre = option_map erased_predicate sub.pre;
+  post = option_map erased_predicate sub.post;
   declarations = map erased_decl sub.declarations;
   statements = map erased_stmt sub.statements;
   end = sub.end;

@@ -15,7 +15,7 @@ use Rattle.spx_core.specs.declared.entity.Entity.TheVariants as entity
 use Rattle.spx_core.specs.declared.entity.Subtype.{Subtype}
 use Rattle.spx_core.specs.declared.expression.CoreExpr.{CoreExpr, CoreExpr-F, out-CoreExpr}
 use Rattle.spx_core.specs.declared.expression.CoreExpr.TheBlock.{hidden-the_row-CoreExpr-0}
-use Rattle.spx_core.specs.declared.expression.CoreExpr.TheVariants.{Number, Name, Attribute, Applied, Parenthesized, Prefix, Infix, InType, InRange}
+use Rattle.spx_core.specs.declared.expression.CoreExpr.TheVariants.{Number, Name, Entry, Attribute, Applied, Parenthesized, Prefix, Infix, InType, InRange}
 use Rattle.spx_core.specs.declared.function.CoreFunction.{CoreFunction}
 use Rattle.spx_core.specs.declared.function.Mapping.{Mapping}
 use Rattle.spx_core.specs.declared.function.Span.{Span}
@@ -110,6 +110,7 @@ extent (in_type_of op place a name) = own_extent (in_type_of op place a name)
 extent (in_range_of op place a low high) = own_extent (in_range_of op place a low high)
 extent (Number n place) = own_extent (Number n place)
 extent (Name name) = own_extent (Name name)
+extent (Entry name allowed) = own_extent (Entry name allowed)
 extent (Attribute prefix designator) = own_extent (Attribute prefix designator)
 
 pub extent-Number : (n : ℤ) (place : Place) → extent (Number n place) ≡ own_extent (Number n place)
@@ -119,6 +120,10 @@ extent-Number n place = refl
 pub extent-Name : (name : CoreName) → extent (Name name) ≡ own_extent (Name name)
 unfolding extent
 extent-Name name = refl
+
+pub extent-Entry : (name : CoreName) (allowed : Bool) → extent (Entry name allowed) ≡ own_extent (Entry name allowed)
+unfolding extent
+extent-Entry name allowed = refl
 
 pub extent-Attribute : (prefix : CoreName) (designator : Identifier) → extent (Attribute prefix designator) ≡ own_extent (Attribute prefix designator)
 unfolding extent
@@ -148,4 +153,4 @@ pub extent-InRange : (op : MemberOp) (place : Place) (a low high : CoreExpr) →
 unfolding extent hidden-the_row-CoreExpr-0 hidden
 extent-InRange op place a low high = refl
 
-pub ruleset extent_forms = (extent-Number, extent-Name, extent-Attribute, extent-Applied, extent-Parenthesized, extent-Prefix, extent-Infix, extent-InType, extent-InRange)
+pub ruleset extent_forms = (extent-Number, extent-Name, extent-Entry, extent-Attribute, extent-Applied, extent-Parenthesized, extent-Prefix, extent-Infix, extent-InType, extent-InRange)

@@ -3,7 +3,7 @@ use Rattle.std.specs.Prelude.{◌≡◌, ◌↔◌, ◌⊎◌, false, ◌||◌, 
 use Rattle.spx_core.specs.declared.entity.VarId.{VarId}
 use Rattle.spx_core.specs.declared.statement.CoreStmt.{CoreStmt}
 use Rattle.spx_core.specs.Uses.{is_same}
-use Rattle.spx_core.specs.Effects.{Effect, nothing, assign, next, choose, effects, sets, is_read}
+use Rattle.spx_core.specs.Effects.{Effect, nothing, assign, next, choose, observe, effects, sets, is_read}
 
 -- What u holds before may come to what w holds after: a target comes from what the right side reads, each other variable from itself; of two
 -- arms either may be run, and what the condition reads comes to all that an arm sets.
@@ -12,6 +12,7 @@ MayFlow nothing u w = u ≡ w
 MayFlow (assign target reads place) u w = (IsTrue (is_same w target) × IsTrue (is_read u reads)) ⊎ ((is_same w target ≡ false) × (u ≡ w))
 MayFlow (next a b) u w = (v : VarId) × MayFlow a u v × MayFlow b v w
 MayFlow (choose tests a b place) u w = MayFlow a u w ⊎ (MayFlow b u w ⊎ (IsTrue (sets w a || sets w b) × IsTrue (is_read u tests)))
+MayFlow (observe values) u w = u ≡ w
 
 -- the flows of a list are those of two parts that it is cut into, one after the other
 abbrev pub FlowsCompose : Type 0

@@ -19,6 +19,7 @@ use Rattle.spx_core.specs.Judged.{application, attribute, mapped, ordered_type, 
 pub data HasType : CoreExpr → Typing → Type 0 where
   number : (n : ℤ) (place : Place) → HasType (expr.Number n place) (typing Universal (Some n) place)
   name : (name : CoreName) (t : Typing) → named_value name ≡ Ok t → HasType (expr.Name name) t
+  entered : (name : CoreName) (allowed : Bool) (t : Typing) → entry_value name allowed ≡ Ok t → HasType (expr.Entry name allowed) t
   attribute_of : (prefix : CoreName) (designator : Identifier) (t : Typing) → attribute prefix designator ≡ Ok t → HasType (expr.Attribute prefix designator) t
   applied : (function : CoreFunction) (place : Place) (e : CoreExpr) (mapping : Mapping) (o t : Typing) → application function ≡ Ok mapping → HasType e o → mapped function.name.name.place mapping o ≡ Ok t → HasType (expr.Applied function place e) t
   parenthesized : (place : Place) (e : CoreExpr) (t : Typing) → HasType e t → HasType (expr.Parenthesized place e) (typing t.of t.value place)

@@ -26,7 +26,7 @@ use Rattle.spx_core.specs.declared.function.OperandType.TheVariants.{AnyNumber, 
 use Rattle.spx_core.specs.declared.function.Shift.TheVariants as shift
 use Rattle.spx_core.specs.declared.function.Span.{Span}
 use Rattle.spx_core.specs.declared.rule.RuleName.{RuleName}
-use Rattle.spx_core.specs.declared.rule.RuleName.TheVariants.{N1, N3, N10, N12, N14}
+use Rattle.spx_core.specs.declared.rule.RuleName.TheVariants.{N1, N3, N10, N12, N14, N18}
 use Rattle.spx_core.specs.declared.rule.Breach.{Breach}
 use Rattle.spx_core.specs.declared.rule.ExprType.{ExprType}
 use Rattle.spx_core.specs.declared.rule.ExprType.TheVariants.{Universal, Of}
@@ -138,6 +138,13 @@ value_at place (Some other) = Err (record { rule = N3; place = place })
 
 abbrev pub named_value : CoreName → Judged Typing
 named_value name = value_at name.name.place name.entity
+
+-- a value on entry: a variable is needed, which may be named so there (Barnes)
+abbrev pub entry_value : CoreName → Bool → Judged Typing
+entry_value name allowed = do
+  object ← named_object name
+  _ ← keeps N18 name.name.place allowed
+  Ok (typing (Of object.subtype.base) None name.name.place)
 
 -- the attributes of a type that has an order (Ada 95 RM 3.5)
 abbrev pub is_first : List ℕ → Bool
@@ -265,6 +272,7 @@ mapped place mapping operand = do
 abbrev pub expr_step : CoreExpr-F (Judged Typing) → Judged Typing
 expr_step (CoreExpr-F.Number n place) = Ok (typing Universal (Some n) place)
 expr_step (CoreExpr-F.Name name) = named_value name
+expr_step (CoreExpr-F.Entry name allowed) = entry_value name allowed
 expr_step (CoreExpr-F.Attribute prefix designator) = attribute prefix designator
 expr_step (CoreExpr-F.Applied function place operand) = application function >>= λ mapping. operand >>= λ o. mapped function.name.name.place mapping o
 expr_step (CoreExpr-F.Parenthesized place inner) = inner >>= λ e. Ok (typing e.of e.value place)

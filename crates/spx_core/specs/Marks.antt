@@ -4,7 +4,7 @@ use Rattle.std.specs.Prelude.{◌≡◌, ◌↔◌, ◌⊎◌, ◌&&◌, ◌||�
 use Rattle.spx_text.specs.declared.place.Place.{Place}
 use Rattle.spx_core.specs.declared.entity.VarId.{VarId}
 use Rattle.spx_core.specs.Uses.{is_same}
-use Rattle.spx_core.specs.Effects.{Effect, Read, nothing, assign, next, choose, sets, is_read}
+use Rattle.spx_core.specs.Effects.{Effect, Read, nothing, assign, next, choose, observe, sets, is_read}
 use Rattle.spx_core.specs.Flow.{MayFlow}
 
 abbrev pub same_place : Place → Place → Bool
@@ -16,6 +16,7 @@ Occurs nothing p = ⊥
 Occurs (assign target reads place) p = IsSome target × (place ≡ p)
 Occurs (next a b) p = Occurs a p ⊎ Occurs b p
 Occurs (choose tests a b place) p = (place ≡ p) ⊎ (Occurs a p ⊎ Occurs b p)
+Occurs (observe values) p = ⊥
 
 abbrev pub with_mark : Place → VarId → Place → List Read → List Read
 with_mark p m place reads = if same_place place p then (place, m) ∷ reads else reads
@@ -26,6 +27,7 @@ marked p m nothing = nothing
 marked p m (assign target reads place) = assign target (with_mark p m place reads) place
 marked p m (next a b) = next (marked p m a) (marked p m b)
 marked p m (choose tests a b place) = choose (with_mark p m place tests) (marked p m a) (marked p m b) place
+marked p m (observe values) = observe values
 
 -- what the variable holds before may come to what the occurrence reads
 abbrev pub Lambda : Effect → VarId → Place → Type 0
@@ -33,6 +35,7 @@ Lambda nothing u p = ⊥
 Lambda (assign target reads place) u p = IsSome target × (place ≡ p) × IsTrue (is_read u reads)
 Lambda (next a b) u p = Lambda a u p ⊎ ((v : VarId) × MayFlow a u v × Lambda b v p)
 Lambda (choose tests a b place) u p = ((place ≡ p) × IsTrue (is_read u tests)) ⊎ (Lambda a u p ⊎ Lambda b u p)
+Lambda (observe values) u p = ⊥
 
 -- what the occurrence reads may come to what the variable holds after
 abbrev pub Mu : Effect → Place → VarId → Type 0
@@ -40,6 +43,7 @@ Mu nothing p w = ⊥
 Mu (assign target reads place) p w = (place ≡ p) × IsTrue (is_same w target)
 Mu (next a b) p w = ((v : VarId) × Mu a p v × MayFlow b v w) ⊎ Mu b p w
 Mu (choose tests a b place) p w = ((place ≡ p) × IsTrue (sets w a || sets w b)) ⊎ (Mu a p w ⊎ Mu b p w)
+Mu (observe values) p w = ⊥
 
 -- a mark adds the flows from it to what `Mu` says, and no other
 abbrev pub MarkLaw : Type 0

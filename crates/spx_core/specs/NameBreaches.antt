@@ -31,15 +31,15 @@ use Rattle.spx_core.specs.declared.statement.CoreRange.{CoreRange}
 use Rattle.spx_core.specs.declared.statement.CoreTypeDef.TheVariants as definition
 use Rattle.spx_core.specs.declared.dependency.CoreDerivesItem.{CoreDerivesItem}
 use Rattle.spx_core.specs.declared.subprogram.CoreParam.{CoreParam}
-use Rattle.spx_core.specs.declared.subprogram.CorePrecondition.{CorePrecondition}
+use Rattle.spx_core.specs.declared.subprogram.CorePredicate.{CorePredicate}
 use Rattle.spx_core.specs.declared.subprogram.Sub.{Sub}
 use Rattle.spx_core.specs.declared.program.Program.{Program}
 use Rattle.spx_core.specs.declared.rule.RuleName.{RuleName}
-use Rattle.spx_core.specs.declared.rule.RuleName.TheVariants.{N1, N2, N3, N5, N10, N11, N12, N13, N14, N17}
+use Rattle.spx_core.specs.declared.rule.RuleName.TheVariants.{N1, N2, N3, N5, N10, N11, N12, N13, N14, N17, N18}
 use Rattle.spx_core.specs.declared.rule.ExprType.{ExprType}
 use Rattle.spx_core.specs.declared.rule.ExprType.TheVariants.{Of}
 use Rattle.spx_core.specs.declared.rule.Typing.{Typing}
-use Rattle.spx_core.specs.Commands.{Command, Set, Then, Choose, Select, Alternatives, bodies_in, choices_in, commands, has_others, has_others_last, spans_of}
+use Rattle.spx_core.specs.Commands.{Command, Set, Then, Choose, Select, Check, Alternatives, bodies_in, choices_in, commands, has_others, has_others_last, spans_of}
 use Rattle.spx_core.specs.Dependency.{relation}
 use Rattle.spx_core.specs.Extents.{extent}
 use Rattle.spx_core.specs.HasType.{HasType}
@@ -90,6 +90,9 @@ pub data BreaksReference (IsNeeded : Entity → Type 0) (reference : Reference) 
 pub data BreaksExpr : CoreExpr → RuleName → Place → Type 0 where
   -- an object or a literal is needed
   name : (name : CoreName) (rule : RuleName) (place : Place) → BreaksName IsValue name rule place → BreaksExpr (expr.Name name) rule place
+  -- a variable is needed before `~`, and one whose value on entry may be named there
+  entry : (name : CoreName) (allowed : Bool) (rule : RuleName) (place : Place) → BreaksName IsObject name rule place → BreaksExpr (expr.Entry name allowed) rule place
+  entry_not_allowed : (name : CoreName) (v : VarId) (object : Object) → name.entity ≡ Some (entity.Variable v object) → BreaksExpr (expr.Entry name false) N18 name.name.place
   -- a type that has an order is needed before the apostrophe, and `First` or `Last` after it
   prefix : (prefix : CoreName) (designator : Identifier) (rule : RuleName) (place : Place) → BreaksName IsType prefix rule place → BreaksExpr (expr.Attribute prefix designator) rule place
   no_attribute : (prefix : CoreName) (designator : Identifier) (subtype : Subtype) → prefix.entity ≡ Some (entity.TypeName subtype) → has_attribute subtype designator.text ≡ false → BreaksExpr (expr.Attribute prefix designator) N3 prefix.name.place
@@ -188,6 +191,7 @@ pub data BreaksCommand : Command → RuleName → Place → Type 0 where
   choice : (at : Place) (selector : CoreExpr) (alternatives : Alternatives) (choice : CoreChoice) (e : CoreExpr) (t : Typing) (rule : RuleName) (place : Place) → Contains (choices_in alternatives) choice → IsBoundOf choice e → HasType selector t
       → BreaksChoice t.of e rule place → BreaksCommand (Select at selector alternatives) rule place
   alternative : (at : Place) (selector : CoreExpr) (alternatives : Alternatives) (a : Command) (rule : RuleName) (place : Place) → Contains (bodies_in alternatives) a → BreaksCommand a rule place → BreaksCommand (Select at selector alternatives) rule place
+  checked : (at : Place) (c : CoreExpr) (rule : RuleName) (place : Place) → BreaksCondition c rule place → BreaksCommand (Check at c) rule place
 
 -- ---- declarations
 
@@ -245,7 +249,8 @@ pub data BreaksSub (sub : Sub) : RuleName → Place → Type 0 where
   declaration : (d : CoreDecl) (rule : RuleName) (place : Place) → Contains sub.declarations d → BreaksDecl d rule place → BreaksSub sub rule place
   exported : (item : CoreDerivesItem) (name : Reference) (rule : RuleName) (place : Place) → Contains (relation sub) item → Contains item.exports name → BreaksReference IsObject name rule place → BreaksSub sub rule place
   imported : (item : CoreDerivesItem) (name : Reference) (rule : RuleName) (place : Place) → Contains (relation sub) item → Contains item.imports name → BreaksReference IsObject name rule place → BreaksSub sub rule place
-  precondition : (pre : CorePrecondition) (rule : RuleName) (place : Place) → sub.pre ≡ Some pre → BreaksCondition pre.condition rule place → BreaksSub sub rule place
+  precondition : (pre : CorePredicate) (rule : RuleName) (place : Place) → sub.pre ≡ Some pre → BreaksCondition pre.condition rule place → BreaksSub sub rule place
+  postcondition : (post : CorePredicate) (rule : RuleName) (place : Place) → sub.post ≡ Some post → BreaksCondition post.condition rule place → BreaksSub sub rule place
   statements : (rule : RuleName) (place : Place) → BreaksCommand (commands sub.statements) rule place → BreaksSub sub rule place
   -- the name after `end` is another one
   end_differs : (name : Identifier) → sub.end_name ≡ Some name → str_eq_ignore_ascii_case sub.name.name.text name.text ≡ false → BreaksSub sub N5 name.place

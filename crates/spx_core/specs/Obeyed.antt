@@ -11,14 +11,14 @@ use Rattle.spx_core.specs.declared.name.CoreName.{CoreName}
 use Rattle.spx_core.specs.declared.name.Reference.{Reference}
 use Rattle.spx_core.specs.declared.dependency.CoreDerivesItem.{CoreDerivesItem}
 use Rattle.spx_core.specs.declared.dependency.CoreDerives.{CoreDerives}
-use Rattle.spx_core.specs.declared.subprogram.CorePrecondition.{CorePrecondition}
+use Rattle.spx_core.specs.declared.subprogram.CorePredicate.{CorePredicate}
 use Rattle.spx_core.specs.declared.subprogram.Sub.{Sub}
 use Rattle.spx_core.specs.declared.program.Program.{Program}
 use Rattle.spx_core.specs.declared.rule.RuleName.TheVariants.{U2, U7, U8, U11}
 use Rattle.spx_core.specs.declared.rule.Breach.{Breach}
-use Rattle.spx_core.specs.Commands.{Command, Skip, Set, Then, Choose, Select, Alternatives, Last, When, commands}
+use Rattle.spx_core.specs.Commands.{Command, Skip, Set, Then, Choose, Select, Check, Alternatives, Last, When, commands}
 use Rattle.spx_core.specs.Reads.{names_read}
-use Rattle.spx_core.specs.Uses.{mentions, variable_of}
+use Rattle.spx_core.specs.Uses.{mentions, variable_of, variable_is}
 use Rattle.spx_core.specs.Dependency.{relation, exports, imports}
 use Rattle.spx_core.specs.Formals.{formals, is_formal, mode_in}
 use Rattle.spx_core.specs.Judged.{Judged, ◌>>=◌, breach_in, each, if_there, keeps}
@@ -33,12 +33,7 @@ mode_denoted _ = None
 abbrev pub mode_named : CoreName → Option Mode
 mode_named name = mode_denoted name.entity
 
--- a test of the variable that a name denotes
-abbrev pub variable_is : (VarId → Bool) → Option VarId → Bool
-variable_is test (Some v) = test v
-variable_is test None = false
-
--- the same, which a name that denotes no variable passes
+-- a test of the variable that a name denotes, which a name that denotes no variable passes
 abbrev pub variable_passes : (VarId → Bool) → Option VarId → Bool
 variable_passes test (Some v) = test v
 variable_passes test None = true
@@ -136,8 +131,16 @@ obeyed_item sub item = each (obeyed_export sub (is_some item.itself)) item.expor
 abbrev pub reads_import : Sub → CoreName → Judged ⊤
 reads_import sub name = keeps U11 name.name.place (variable_passes (λ v. imports v sub) (variable_of name.entity))
 
-abbrev pub obeyed_pre : Sub → CorePrecondition → Judged ⊤
+abbrev pub obeyed_pre : Sub → CorePredicate → Judged ⊤
 obeyed_pre sub pre = each (reads_import sub) (names_read pre.condition)
+
+-- ---- U11: and a postcondition only formals
+
+abbrev pub reads_formal : Sub → CoreName → Judged ⊤
+reads_formal sub name = keeps U11 name.name.place (variable_passes (λ v. is_formal v sub) (variable_of name.entity))
+
+abbrev pub obeyed_post : Sub → CorePredicate → Judged ⊤
+obeyed_post sub post = each (reads_formal sub) (names_read post.condition)
 
 -- ---- U2: no formal of mode `in` is assigned, and no constant
 
@@ -157,6 +160,7 @@ abbrev mutual
   obeyed_command (Then a b) = obeyed_command a >>= λ _. obeyed_command b
   obeyed_command (Choose place condition a b) = obeyed_command a >>= λ _. obeyed_command b
   obeyed_command (Select place selector alternatives) = obeyed_alternatives alternatives
+  obeyed_command (Check place condition) = Ok tt
 
   pub obeyed_alternatives : Alternatives → Judged ⊤
   obeyed_alternatives (Last choices a) = obeyed_command a
@@ -169,6 +173,7 @@ obeyed_sub sub = do
   _ ← obeyed_relation sub
   _ ← each (obeyed_item sub) (relation sub)
   _ ← if_there (obeyed_pre sub) sub.pre
+  _ ← if_there (obeyed_post sub) sub.post
   obeyed_command (commands sub.statements)
 
 abbrev pub obeyed : Program → Judged ⊤

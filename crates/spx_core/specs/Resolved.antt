@@ -21,7 +21,7 @@ use Rattle.spx_tree.specs.declared.annotation.Exports.{Exports}
 use Rattle.spx_tree.specs.declared.annotation.Exports.TheVariants as exported
 use Rattle.spx_tree.specs.declared.annotation.DerivesItem.{DerivesItem}
 use Rattle.spx_tree.specs.declared.annotation.Derives.{Derives}
-use Rattle.spx_tree.specs.declared.annotation.Precondition.{Precondition}
+use Rattle.spx_tree.specs.declared.annotation.Predicate.{Predicate}
 use Rattle.spx_tree.specs.declared.subprogram.WrittenMode.{WrittenMode}
 use Rattle.spx_tree.specs.declared.subprogram.WrittenMode.TheVariants as written
 use Rattle.spx_tree.specs.declared.subprogram.Param.{Param}
@@ -58,6 +58,8 @@ use Rattle.spx_core.specs.declared.statement.CoreChoice.{CoreChoice}
 use Rattle.spx_core.specs.declared.function.CoreFunction.{CoreFunction}
 use Rattle.spx_core.specs.declared.function.Span.{Span}
 use Rattle.spx_core.specs.declared.statement.CoreStmt.TheVariants as stmt
+use Rattle.spx_core.specs.Uses.{variable_is, variable_of}
+use Rattle.spx_core.specs.Dependency.{is_exported_by, is_imported_by, items_of}
 use Rattle.spx_core.specs.declared.statement.CoreDecl.{CoreDecl}
 use Rattle.spx_core.specs.declared.statement.CoreDecl.TheVariants as decl
 use Rattle.spx_core.specs.declared.statement.CoreRange.{CoreRange}
@@ -67,7 +69,7 @@ use Rattle.spx_core.specs.declared.dependency.CoreDerivesItem.{CoreDerivesItem}
 use Rattle.spx_core.specs.declared.dependency.CoreDerives.{CoreDerives}
 use Rattle.spx_core.specs.declared.subprogram.CoreParam.{CoreParam}
 use Rattle.spx_core.specs.declared.subprogram.CoreFormalPart.{CoreFormalPart}
-use Rattle.spx_core.specs.declared.subprogram.CorePrecondition.{CorePrecondition}
+use Rattle.spx_core.specs.declared.subprogram.CorePredicate.{CorePredicate}
 use Rattle.spx_core.specs.declared.subprogram.Sub.{Sub}
 use Rattle.spx_core.specs.declared.program.CoreUnit.TheVariants as core_unit
 use Rattle.spx_core.specs.declared.program.TypeRow.{TypeRow}
@@ -96,19 +98,31 @@ resolved_value regions (Attribute prefix designator) = expr.Attribute (resolved_
 abbrev pub resolved_function : Regions → Function → CoreFunction
 resolved_function regions function = record { name = resolved_name regions function.name; form = function.form }
 
--- one level, whose parts are resolved
-abbrev pub expr_step : Regions → Expr-F CoreExpr → CoreExpr
-expr_step regions (Expr-F.Number value place) = expr.Number value place
-expr_step regions (Expr-F.Name name) = resolved_value regions name
-expr_step regions (Expr-F.Applied function place operand) = expr.Applied (resolved_function regions function) place operand
-expr_step regions (Expr-F.Parenthesized place inner) = expr.Parenthesized place inner
-expr_step regions (Expr-F.Prefix op place operand) = expr.Prefix op place operand
-expr_step regions (Expr-F.Infix op place left right) = expr.Infix op place left right
-expr_step regions (Expr-F.InType op place tested type_name) = expr.InType op place tested (resolved_reference regions type_name)
-expr_step regions (Expr-F.InRange op place tested low high) = expr.InRange op place tested low high
+-- the name denotes a variable that these items both import and export
+abbrev pub is_changed_by : List CoreDerivesItem → CoreName → Bool
+is_changed_by items name = variable_is (λ v. is_imported_by items v && is_exported_by items v) (variable_of name.entity)
 
+abbrev pub entry_of : List CoreDerivesItem → CoreName → CoreExpr
+entry_of items name = expr.Entry name (is_changed_by items name)
+
+-- One level, whose parts are resolved. Values on entry may be named of the variables that these items both import and export.
+abbrev pub expr_step : List CoreDerivesItem → Regions → Expr-F CoreExpr → CoreExpr
+expr_step items regions (Expr-F.Number value place) = expr.Number value place
+expr_step items regions (Expr-F.Name name) = resolved_value regions name
+expr_step items regions (Expr-F.Entry name) = entry_of items (resolved_name regions name)
+expr_step items regions (Expr-F.Applied function place operand) = expr.Applied (resolved_function regions function) place operand
+expr_step items regions (Expr-F.Parenthesized place inner) = expr.Parenthesized place inner
+expr_step items regions (Expr-F.Prefix op place operand) = expr.Prefix op place operand
+expr_step items regions (Expr-F.Infix op place left right) = expr.Infix op place left right
+expr_step items regions (Expr-F.InType op place tested type_name) = expr.InType op place tested (resolved_reference regions type_name)
+expr_step items regions (Expr-F.InRange op place tested low high) = expr.InRange op place tested low high
+
+abbrev pub resolved_in : List CoreDerivesItem → Regions → Expr → CoreExpr
+resolved_in items regions = fold-Expr CoreExpr (expr_step items regions)
+
+-- in code and in a precondition no value on entry may be named
 abbrev pub resolved_expr : Regions → Expr → CoreExpr
-resolved_expr regions = fold-Expr CoreExpr (expr_step regions)
+resolved_expr regions = resolved_in [] regions
 
 abbrev pub resolved_range : Regions → Range → CoreRange
 resolved_range regions range = record { low = resolved_expr regions range.low; high = resolved_expr regions range.high }
@@ -151,20 +165,21 @@ alternative_step regions alternative = record { choices = option_map (map (resol
 abbrev pub arm_step : Regions → Arm-F CoreStmt CoreAlternative CoreArm → CoreArm
 arm_step regions arm = record { place = arm.place; condition = resolved_expr regions arm.condition; body = arm.body }
 
-abbrev pub stmt_step : Regions → Stmt-F CoreStmt CoreAlternative CoreArm → CoreStmt
-stmt_step regions (Stmt-F.Null place) = stmt.Null place
-stmt_step regions (Stmt-F.Assignment target value) = stmt.Assignment (resolved_reference regions target) (resolved_expr regions value)
-stmt_step regions (Stmt-F.If arms otherwise closing) = stmt.If arms otherwise closing
-stmt_step regions (Stmt-F.Case place selector alternatives closing) = stmt.Case place (resolved_expr regions selector) alternatives closing
+abbrev pub stmt_step : List CoreDerivesItem → Regions → Stmt-F CoreStmt CoreAlternative CoreArm → CoreStmt
+stmt_step items regions (Stmt-F.Null place) = stmt.Null place
+stmt_step items regions (Stmt-F.Assignment target value) = stmt.Assignment (resolved_reference regions target) (resolved_expr regions value)
+stmt_step items regions (Stmt-F.If arms otherwise closing) = stmt.If arms otherwise closing
+stmt_step items regions (Stmt-F.Case place selector alternatives closing) = stmt.Case place (resolved_expr regions selector) alternatives closing
+stmt_step items regions (Stmt-F.Check place condition) = stmt.Check place (resolved_in items regions condition)
 
-abbrev pub resolved_stmt : Regions → Stmt → CoreStmt
-resolved_stmt regions = fold-Stmt CoreStmt CoreAlternative CoreArm (stmt_step regions) (alternative_step regions) (arm_step regions)
+abbrev pub resolved_stmt : List CoreDerivesItem → Regions → Stmt → CoreStmt
+resolved_stmt items regions = fold-Stmt CoreStmt CoreAlternative CoreArm (stmt_step items regions) (alternative_step regions) (arm_step regions)
 
-abbrev pub resolved_arm : Regions → Arm → CoreArm
-resolved_arm regions = fold-Arm CoreStmt CoreAlternative CoreArm (stmt_step regions) (alternative_step regions) (arm_step regions)
+abbrev pub resolved_arm : List CoreDerivesItem → Regions → Arm → CoreArm
+resolved_arm items regions = fold-Arm CoreStmt CoreAlternative CoreArm (stmt_step items regions) (alternative_step regions) (arm_step regions)
 
-abbrev pub resolved_alternative : Regions → Alternative → CoreAlternative
-resolved_alternative regions = fold-Alternative CoreStmt CoreAlternative CoreArm (stmt_step regions) (alternative_step regions) (arm_step regions)
+abbrev pub resolved_alternative : List CoreDerivesItem → Regions → Alternative → CoreAlternative
+resolved_alternative items regions = fold-Alternative CoreStmt CoreAlternative CoreArm (stmt_step items regions) (alternative_step regions) (arm_step regions)
 
 -- the names that are exported; at `null` there are none
 abbrev pub exported_names : Exports → List Name
@@ -187,8 +202,8 @@ resolved_item regions item = record {
 abbrev pub resolved_derives : Regions → Derives → CoreDerives
 resolved_derives regions derives = record { place = derives.place; items = map (resolved_item regions) derives.items }
 
-abbrev pub resolved_pre : Regions → Precondition → CorePrecondition
-resolved_pre regions pre = record { place = pre.place; condition = resolved_expr regions pre.condition }
+abbrev pub resolved_predicate : List CoreDerivesItem → Regions → Predicate → CorePredicate
+resolved_predicate items regions predicate = record { place = predicate.place; condition = resolved_in items regions predicate.condition }
 
 -- ---- declared names
 
@@ -435,16 +450,28 @@ resolved_formal_part name position part = record { place = part.place; params = 
 abbrev pub after_formals : Counts → Option CoreFormalPart → Counts
 after_formals before part = record { vars = before.vars + length (declared_by_params (params_of part)); types = before.types }
 
+-- around the annotations of a heading: they see the formals
+abbrev pub around_annotations : Defining → Option CoreFormalPart → Regions
+around_annotations name part = declaring_all [] (declared_by_params (params_of part)) ∷ around_body name
+
+abbrev pub derives_of : Defining → Option CoreFormalPart → Subprogram → Option CoreDerives
+derives_of name part s = option_map (resolved_derives (around_annotations name part)) s.derives
+
+-- what the relation of a subprogram has
+abbrev pub items_for : Defining → Option CoreFormalPart → Subprogram → List CoreDerivesItem
+items_for name part s = items_of (derives_of name part s)
+
 -- the subprogram of which these parts are resolved, and whose first variable has this position
 abbrev pub sub_of : Defining → ℕ → Subprogram → Option CoreFormalPart → List CoreDecl → Sub
 sub_of name position s part decls = record {
   place = s.place;
   name = name;
   formal_part = part;
-  derives = option_map (resolved_derives (declaring_all [] (declared_by_params (params_of part)) ∷ around_body name)) s.derives;
-  pre = option_map (resolved_pre (declaring_all [] (declared_by_params (params_of part)) ∷ around_body name)) s.pre;
+  derives = derives_of name part s;
+  pre = option_map (resolved_predicate [] (around_annotations name part)) s.pre;
+  post = option_map (resolved_predicate (items_for name part s) (around_annotations name part)) s.post;
   declarations = decls;
-  statements = map (resolved_stmt (declaring_all [] (declared_by_params (params_of part) ++ declared_by_decls decls) ∷ around_body name)) s.statements;
+  statements = map (resolved_stmt (items_for name part s) (declaring_all [] (declared_by_params (params_of part) ++ declared_by_decls decls) ∷ around_body name)) s.statements;
   end = s.end;
   end_name = s.end_name;
   vars = positions position (declared_by_params (params_of part) ++ variables_by_decls decls);

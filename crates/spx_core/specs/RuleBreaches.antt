@@ -9,12 +9,12 @@ use Rattle.spx_core.specs.declared.entity.Mode.TheVariants.{In}
 use Rattle.spx_core.specs.declared.name.CoreName.{CoreName}
 use Rattle.spx_core.specs.declared.name.Reference.{Reference}
 use Rattle.spx_core.specs.declared.dependency.CoreDerivesItem.{CoreDerivesItem}
-use Rattle.spx_core.specs.declared.subprogram.CorePrecondition.{CorePrecondition}
+use Rattle.spx_core.specs.declared.subprogram.CorePredicate.{CorePredicate}
 use Rattle.spx_core.specs.declared.subprogram.Sub.{Sub}
 use Rattle.spx_core.specs.declared.program.Program.{Program}
 use Rattle.spx_core.specs.declared.rule.RuleName.{RuleName}
 use Rattle.spx_core.specs.declared.rule.RuleName.TheVariants.{U2, U7, U8, U11}
-use Rattle.spx_core.specs.Commands.{Command, Skip, Set, Then, Choose, Select, Alternatives, Last, When, commands}
+use Rattle.spx_core.specs.Commands.{Command, Skip, Set, Then, Choose, Select, Check, Alternatives, Last, When, commands}
 use Rattle.spx_core.specs.Reads.{names_read}
 use Rattle.spx_core.specs.Uses.{variable_of}
 use Rattle.spx_core.specs.Dependency.{exports, imports, relation, variables}
@@ -67,6 +67,7 @@ abbrev mutual
   Assigns (Then a b) target = Assigns a target ⊎ Assigns b target
   Assigns (Choose place condition a b) target = Assigns a target ⊎ Assigns b target
   Assigns (Select place selector alternatives) target = OneAssigns alternatives target
+  Assigns (Check place condition) target = ⊥
 
   pub OneAssigns : Alternatives → Reference → Type 0
   OneAssigns (Last choices a) target = Assigns a target
@@ -77,6 +78,7 @@ abbrev mutual
 pub data BreaksRule (p : Program) (sub : Sub) : RuleName → Place → Type 0 where
   bad_derives : HasBadDerives sub → BreaksRule p sub U7 (place_or sub.place sub.derives)
   mode_disagrees : (name : Reference) (v : VarId) → IsInRelation sub name → IsVariable name.root v → Disagrees p sub v → BreaksRule p sub U8 name.root.name.place
-  not_imported : (pre : CorePrecondition) (name : CoreName) (v : VarId) → sub.pre ≡ Some pre → Contains (names_read pre.condition) name → IsVariable name v → imports v sub ≡ false → BreaksRule p sub U11 name.name.place
+  not_imported : (pre : CorePredicate) (name : CoreName) (v : VarId) → sub.pre ≡ Some pre → Contains (names_read pre.condition) name → IsVariable name v → imports v sub ≡ false → BreaksRule p sub U11 name.name.place
+  no_formal_after : (post : CorePredicate) (name : CoreName) (v : VarId) → sub.post ≡ Some post → Contains (names_read post.condition) name → IsVariable name v → is_formal v sub ≡ false → BreaksRule p sub U11 name.name.place
   constant_assigned : (target : Reference) → Assigns (commands sub.statements) target → is_constant target.root.entity ≡ true → BreaksRule p sub U2 target.root.name.place
   input_assigned : (target : Reference) → Assigns (commands sub.statements) target → mode_named target.root ≡ Some In → BreaksRule p sub U2 target.root.name.place

@@ -4,7 +4,7 @@ use Rattle.std.specs.List.{list_all}
 use Rattle.spx_core.specs.declared.entity.VarId.{VarId}
 use Rattle.spx_core.specs.declared.entity.Mode.{Mode}
 use Rattle.spx_core.specs.declared.entity.Mode.TheVariants as mode
-use Rattle.spx_core.specs.declared.subprogram.CorePrecondition.{CorePrecondition}
+use Rattle.spx_core.specs.declared.subprogram.CorePredicate.{CorePredicate}
 use Rattle.spx_core.specs.declared.subprogram.Sub.{Sub}
 use Rattle.spx_core.specs.declared.program.Program.{Program}
 use Rattle.spx_core.specs.Uses.{uses}
@@ -31,4 +31,5 @@ pub record ObeysRules (p : Program) (sub : Sub) : Type 0 where
   -- U8
   pub modes : (v : VarId) (mode : Mode) → IsTrue (is_formal v sub) → mode_of v p ≡ Some mode → IsTrue (agrees mode (imports v sub) (exports v sub))
   -- U11
-  pub precondition : (pre : CorePrecondition) (v : VarId) → sub.pre ≡ Some pre → IsTrue (uses v pre.condition) → IsTrue (imports v sub)
+  pub precondition : (pre : CorePredicate) (v : VarId) → sub.pre ≡ Some pre → IsTrue (uses v pre.condition) → IsTrue (imports v sub)
+  pub postcondition : (post : CorePredicate) (v : VarId) → sub.post ≡ Some post → IsTrue (uses v post.condition) → IsTrue (is_formal v sub)

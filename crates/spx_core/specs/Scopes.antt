@@ -10,13 +10,13 @@ use Rattle.spx_core.specs.declared.entity.Object.{Object}
 use Rattle.spx_core.specs.declared.entity.Entity.TheVariants as entity
 use Rattle.spx_core.specs.declared.name.CoreName.{CoreName}
 use Rattle.spx_core.specs.declared.name.Reference.{Reference}
-use Rattle.spx_core.specs.declared.subprogram.CorePrecondition.{CorePrecondition}
+use Rattle.spx_core.specs.declared.subprogram.CorePredicate.{CorePredicate}
 use Rattle.spx_core.specs.declared.dependency.CoreDerivesItem.{CoreDerivesItem}
 use Rattle.spx_core.specs.declared.program.TypeRow.{TypeRow}
 use Rattle.spx_core.specs.declared.program.Var.{Var}
 use Rattle.spx_core.specs.declared.program.Program.{Program}
 use Rattle.spx_core.specs.declared.subprogram.Sub.{Sub}
-use Rattle.spx_core.specs.Commands.{Command, Skip, Set, Then, Choose, Select, Alternatives, Last, When, commands}
+use Rattle.spx_core.specs.Commands.{Command, Skip, Set, Then, Choose, Select, Check, Alternatives, Last, When, commands}
 use Rattle.spx_core.specs.Reads.{names_read}
 use Rattle.spx_core.specs.Uses.{denotes}
 use Rattle.spx_core.specs.Dependency.{exports, imports, relation}
@@ -44,6 +44,7 @@ abbrev mutual
   TargetsHaveTheirModes p (Then a b) = TargetsHaveTheirModes p a × TargetsHaveTheirModes p b
   TargetsHaveTheirModes p (Choose place condition a b) = TargetsHaveTheirModes p a × TargetsHaveTheirModes p b
   TargetsHaveTheirModes p (Select place selector alternatives) = AllHaveTheirModes p alternatives
+  TargetsHaveTheirModes p (Check place condition) = ⊤
 
   pub AllHaveTheirModes : Program → Alternatives → Type 0
   AllHaveTheirModes p (Last choices a) = TargetsHaveTheirModes p a
@@ -74,6 +75,7 @@ abbrev mutual
   AreAsDeclared p (Then a b) = AreAsDeclared p a × AreAsDeclared p b
   AreAsDeclared p (Choose place condition a b) = All (IsAsDeclared p) (names_read condition) × (AreAsDeclared p a × AreAsDeclared p b)
   AreAsDeclared p (Select place selector alternatives) = All (IsAsDeclared p) (names_read selector) × AllAreAsDeclared p alternatives
+  AreAsDeclared p (Check place condition) = All (IsAsDeclared p) (names_read condition)
 
   pub AllAreAsDeclared : Program → Alternatives → Type 0
   AllAreAsDeclared p (Last choices a) = AreAsDeclared p a
@@ -91,7 +93,8 @@ pub record Scoped (p : Program) (sub : Sub) : Type 0 where
   pub relation_modes : All (HaveTheirModes p) (relation sub)
   pub target_modes : TargetsHaveTheirModes p (commands sub.statements)
   pub body_names : AreAsDeclared p (commands sub.statements)
-  pub pre_names : (pre : CorePrecondition) → sub.pre ≡ Some pre → All (IsAsDeclared p) (names_read pre.condition)
+  pub pre_names : (pre : CorePredicate) → sub.pre ≡ Some pre → All (IsAsDeclared p) (names_read pre.condition)
+  pub post_names : (post : CorePredicate) → sub.post ≡ Some post → All (IsAsDeclared p) (names_read post.condition)
 
 -- a local that is declared with a value has one of its type
 abbrev pub StartsInType : Program → Sub → Type 0

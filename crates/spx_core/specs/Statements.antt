@@ -16,7 +16,7 @@ use Rattle.spx_core.specs.declared.statement.CoreTypeDef.{CoreTypeDef}
 use Rattle.spx_core.specs.declared.statement.CoreTypeDef.TheVariants as definition
 use Rattle.spx_core.specs.declared.dependency.CoreDerivesItem.{CoreDerivesItem}
 use Rattle.spx_core.specs.declared.subprogram.CoreParam.{CoreParam}
-use Rattle.spx_core.specs.declared.subprogram.CorePrecondition.{CorePrecondition}
+use Rattle.spx_core.specs.declared.subprogram.CorePredicate.{CorePredicate}
 use Rattle.spx_core.specs.declared.subprogram.Sub.{Sub}
 use Rattle.spx_core.specs.declared.program.Program.{Program}
 use Rattle.spx_core.specs.declared.rule.Breach.{Breach}
@@ -25,7 +25,7 @@ use Rattle.spx_core.specs.declared.statement.CoreChoice.{CoreChoice}
 use Rattle.spx_core.specs.declared.function.Span.{Span}
 use Rattle.spx_core.specs.declared.rule.ExprType.{ExprType}
 use Rattle.spx_core.specs.declared.rule.Typing.{Typing}
-use Rattle.spx_core.specs.Commands.{Command, Skip, Set, Then, Choose, Select, Alternatives, Last, When, choices_in, commands, has_others, has_others_last, listed, spans_of}
+use Rattle.spx_core.specs.Commands.{Command, Skip, Set, Then, Choose, Select, Check, Alternatives, Last, When, choices_in, commands, has_others, has_others_last, listed, spans_of}
 use Rattle.spx_core.specs.Dependency.{relation}
 use Rattle.spx_core.specs.Judged.{Judged, ◌>>=◌, breach_in, condition, each, if_there, judged, keeps, operand_of, referred_object, referred_target, referred_type}
 use Rattle.spx_core.specs.Extents.{extent}
@@ -121,8 +121,8 @@ judged_item item = each judged_variable item.exports >>= λ _. each judged_varia
 abbrev pub test : CoreExpr → Judged ⊤
 test e = judged e >>= λ t. condition t
 
-abbrev pub judged_pre : CorePrecondition → Judged ⊤
-judged_pre pre = test pre.condition
+abbrev pub judged_predicate : CorePredicate → Judged ⊤
+judged_predicate predicate = test predicate.condition
 
 -- ---- statements (Ada 95 RM 5.2 to 5.4)
 
@@ -179,6 +179,7 @@ abbrev mutual
     _ ← keeps N17 place (has_right_choices selector alternatives)
     of ← selected selector
     judged_alternatives of alternatives
+  judged_command (Check place condition) = test condition
 
   pub judged_alternatives : ExprType → Alternatives → Judged ⊤
   judged_alternatives of (Last choices a) = judged_choices of choices >>= λ _. judged_command a
@@ -194,7 +195,8 @@ abbrev pub judged_sub : Sub → Judged ⊤
 judged_sub sub = do
   _ ← each judged_param (params_of sub.formal_part)
   _ ← each judged_item (relation sub)
-  _ ← if_there judged_pre sub.pre
+  _ ← if_there judged_predicate sub.pre
+  _ ← if_there judged_predicate sub.post
   _ ← each judged_decl sub.declarations
   _ ← judged_command (commands sub.statements)
   if_there (judged_end sub.name) sub.end_name

@@ -4,7 +4,7 @@ use Rattle.std.specs.Option.{option_to_list}
 use Rattle.spx_text.specs.declared.place.Place.{Place}
 use Rattle.spx_core.specs.declared.entity.VarId.{VarId}
 use Rattle.spx_core.specs.Formals.{stands_in}
-use Rattle.spx_core.specs.Effects.{Effect, nothing, assign, next, choose}
+use Rattle.spx_core.specs.Effects.{Effect, nothing, assign, next, choose, observe}
 
 abbrev pub Ways : Type 1
 Ways = List VarId → Type 0
@@ -19,6 +19,7 @@ Goes nothing way = way ≡ []
 Goes (assign target reads place) way = way ≡ option_to_list target
 Goes (next a b) way = Follow (Goes a) (Goes b) way
 Goes (choose tests a b place) way = Goes a way ⊎ Goes b way
+Goes (observe values) way = way ≡ []
 
 -- a way to a read of v at the place p
 abbrev pub Reaches : Effect → Place → VarId → Ways
@@ -26,6 +27,7 @@ Reaches nothing p v way = ⊥
 Reaches (assign target reads place) p v way = Contains reads (p, v) × (way ≡ [])
 Reaches (next a b) p v way = Reaches a p v way ⊎ Follow (Goes a) (Reaches b p v) way
 Reaches (choose tests a b place) p v way = (Contains tests (p, v) × (way ≡ [])) ⊎ (Reaches a p v way ⊎ Reaches b p v way)
+Reaches (observe values) p v way = Contains values (p, v) × (way ≡ [])
 
 -- one of the ways does not set v
 abbrev pub Free : Ways → VarId → Type 0

@@ -33,5 +33,5 @@ pub use rule::{Breach, ExprType, RuleName, Typing};
 pub use statement::{
     CoreAlternative, CoreArm, CoreChoice, CoreDecl, CoreRange, CoreStmt, CoreTypeDef,
 };
-pub use subprogram::{CoreFormalPart, CoreParam, CorePrecondition, Sub};
+pub use subprogram::{CoreFormalPart, CoreParam, CorePredicate, Sub};
 pub use vars::VarSet;

@@ -34,6 +34,8 @@ pub enum RuleName {
     N14,
     /// A `case` in which a value has no alternative, or two, or `others` is not the last choice (Ada 95 RM 5.4).
     N17,
+    /// A value on entry that is named where it may not be (Barnes).
+    N18,
     /// A target that cannot be assigned.
     U2,
     /// A faulty dependency relation.

@@ -46,6 +46,8 @@ pub enum CoreStmt {
     If(Items<CoreArm>, Option<Items<CoreStmt>>, Closing),
     /// At the word `case`: the selector, the alternatives, one or more, and the closing words (Ada 95 RM 5.4).
     Case(Place, CoreExpr, Items<CoreAlternative>, Closing),
+    /// At the word `check`: what must be true there (Barnes).
+    Check(Place, CoreExpr),
 }
 
 /// A condition and the statements after `then`, at the word `if` or `elsif`.

@@ -24,7 +24,7 @@ pub struct CoreFormalPart {
 
 /// A precondition, at the word `pre`.
 #[derive(Debug, Drop)]
-pub struct CorePrecondition {
+pub struct CorePredicate {
     pub place: Place,
     pub condition: CoreExpr,
 }
@@ -36,7 +36,8 @@ pub struct Sub {
     pub name: Defining,
     pub formal_part: Option<CoreFormalPart>,
     pub derives: Option<CoreDerives>,
-    pub pre: Option<CorePrecondition>,
+    pub pre: Option<CorePredicate>,
+    pub post: Option<CorePredicate>,
     pub declarations: Items<CoreDecl>,
     pub statements: Items<CoreStmt>,
     /// The place of the word `end`.

@@ -5,7 +5,7 @@ use Rattle.std.proofs.lemmas.List.Elements.{All-cons, All-nil}
 use Rattle.spx_text.specs.declared.place.Place.{Place}
 use Rattle.spx_core.specs.declared.entity.VarId.{VarId}
 use Rattle.spx_core.specs.declared.program.Program.{Program}
-use Rattle.spx_core.specs.declared.subprogram.CorePrecondition.{CorePrecondition}
+use Rattle.spx_core.specs.declared.subprogram.CorePredicate.{CorePredicate}
 use Rattle.spx_core.specs.declared.subprogram.Sub.{Sub}
 use Rattle.spx_core.specs.Dependency.{imports}
 use Rattle.spx_core.specs.Effects.{effect, next, nothing}
@@ -19,10 +19,10 @@ use Rattle.spx_examples.proofs.IncrementRules.{inc_command}
 use Rattle.spx_examples.proofs.OneVariable.{if_x, XFromX, one_read, no_finding}
 
 -- the procedure, with any precondition, or none, and its program
-abbrev pub inc_with : Option CorePrecondition → Sub
+abbrev pub inc_with : Option CorePredicate → Sub
 inc_with pre = record inc { pre = pre }
 
-abbrev pub increment_with : Option CorePrecondition → Program
+abbrev pub increment_with : Option CorePredicate → Program
 increment_with pre = record increment { subs = inc_with pre ∷ [] }
 
 -- ---- its annotation
@@ -31,7 +31,7 @@ increment_with pre = record increment { subs = inc_with pre ∷ [] }
 pub only_import : (v : VarId) → IsTrue (imports v inc) → x ≡ v
 only_import = if_x (λ b. b || false) refl
 
-declared : (pre : Option CorePrecondition) → XFromX (inc_with pre)
+declared : (pre : Option CorePredicate) → XFromX (inc_with pre)
 declared pre = record {
   formal = if_x (λ b. b || false) refl;
   export = if_x (λ b. b || false) refl;
@@ -84,10 +84,10 @@ only_read at v way (inr past) = absurd past.4
 mark_comes : (at : Place) → Occurs inc_effect at → MayFlow (marked at (mark increment) inc_effect) (mark increment) x
 mark_comes at here = subst (λ q. MayFlow (marked q (mark increment) inc_effect) (mark increment) x) (only_occurrence at here) mark_flows
 
-found : (pre : Option CorePrecondition) → HasNoFinding (increment_with pre) (inc_with pre)
+found : (pre : Option CorePredicate) → HasNoFinding (increment_with pre) (inc_with pre)
 found pre = no_finding (increment_with pre) (inc_with pre) inc_effect effect_is (declared pre) (record { flows = x_flows; marks = mark_comes; reads = only_read })
 
-pub flows : (pre : Option CorePrecondition) → HasNoFlowFinding (increment_with pre)
+pub flows : (pre : Option CorePredicate) → HasNoFlowFinding (increment_with pre)
 flows pre = All-cons (HasNoFinding (increment_with pre)) (inc_with pre) [] (found pre) (All-nil (HasNoFinding (increment_with pre)))
 
 -- ---- what the law says of its body

@@ -3,7 +3,7 @@ use Rattle.std.proofs.Common.{◌≡◌, ◌+◌, List, [], ◌∷◌, ◌++◌,
 use Rattle.std.specs.Prelude.{⊤}
 use denote.Hole.Carrier.{roll, hidden}
 use Rattle.spx_text.specs.declared.place.Place.{Place}
-use Rattle.spx_tree.specs.declared.annotation.Precondition.{Precondition}
+use Rattle.spx_tree.specs.declared.annotation.Predicate.{Predicate}
 use Rattle.spx_tree.specs.declared.expression.Name.{Name}
 use Rattle.spx_tree.specs.declared.expression.Name.TheVariants.{Simple, Attribute}
 use Rattle.spx_tree.specs.declared.expression.Expr.{Expr, Expr-F, roll-Expr, map-Expr, fold-roll-Expr}
@@ -88,10 +88,10 @@ module _ (around : Regions) where
   -- ---- annotations and statements
 
   -- what a precondition is judged to be
-  abbrev pre_now : Precondition → Judged ⊤
+  abbrev pre_now : Predicate → Judged ⊤
   pre_now pre = expr_now around pre.condition >>= λ t. condition t
 
-  pre_is : (pre : Option Precondition) → if_there judged_pre (option_map (resolved_pre around) pre) ≡ if_there pre_now pre
+  pre_is : (pre : Option Predicate) → if_there judged_pre (option_map (resolved_pre around) pre) ≡ if_there pre_now pre
   pre_is None = refl
   pre_is (Some pre) = ap (λ j. j >>= λ t. condition t) (judged_is pre.condition)
 

@@ -31,7 +31,7 @@ use Rattle.spx_core.specs.declared.statement.CoreStmt.{CoreStmt}
 use Rattle.spx_core.specs.declared.statement.CoreStmt.TheVariants as stmt
 use Rattle.spx_core.specs.declared.dependency.CoreDerivesItem.{CoreDerivesItem}
 use Rattle.spx_core.specs.declared.subprogram.CoreParam.{CoreParam}
-use Rattle.spx_core.specs.declared.subprogram.CorePrecondition.{CorePrecondition}
+use Rattle.spx_core.specs.declared.subprogram.CorePredicate.{CorePredicate}
 use Rattle.spx_core.specs.declared.subprogram.Sub.{Sub}
 use Rattle.spx_examples.specs.Branches.{arm}
 use Rattle.spx_examples.specs.Increment.{place, word, x, integer_at}
@@ -64,7 +64,7 @@ abbrev pub with_items : List CoreDerivesItem → Sub
 with_items items = record flag { derives = Some (record { place = place 2 5; items = items }) }
 
 -- the precondition that this name is positive
-abbrev pub pre_on : CoreName → CorePrecondition
+abbrev pub pre_on : CoreName → CorePredicate
 pre_on name = record { place = place 3 5; condition = expr.Infix op.Greater (place 3 11) (expr.Name name) (expr.Number (pos 0) (place 3 13)) }
 
 -- a procedure with this precondition

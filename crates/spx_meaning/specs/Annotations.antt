@@ -11,23 +11,9 @@ use Rattle.spx_term.specs.declared.value.Value.{Value}
 use Rattle.spx_term.specs.declared.value.Value.TheVariants as value
 use Rattle.spx_term.specs.Meaning.{as_truth}
 use Rattle.spx_meaning.specs.Literals.{literal_in}
-use Rattle.spx_meaning.specs.Stores.{Store, look, type_of, first_value}
-use Rattle.spx_meaning.specs.Frames.{Frame}
+use Rattle.spx_meaning.specs.Stores.{Store, reading_of}
+use Rattle.spx_meaning.specs.Frames.{Frame, entry_reading}
 use Rattle.spx_meaning.specs.Evaluation.{applied_sign, applied, mapped_value, member, first_in, last_in}
-
--- an unset variable counts as the first value of its type
-abbrev pub seen : Subtype → Option Value → Value
-seen of (Some x) = x
-seen of None = first_value of
-
--- what a variable counts as
-abbrev pub reading : Program → Store → VarId → Value
-reading p s v = seen (type_of p v) (look s v)
-
--- what denotes no variable counts as 0
-abbrev pub reading_of : Program → Store → Option VarId → Value
-reading_of p s (Some v) = reading p s v
-reading_of p s None = value.Number (pos 0)
 
 -- an attribute without a value counts as 0
 abbrev pub value_or_zero : Option Value → Value
@@ -46,6 +32,7 @@ named_meaning f s name = value_or (literal_in (named_value name)) (reading_of f.
 abbrev pub meant_step : Frame → Store → CoreExpr-F Value → Value
 meant_step f s (CoreExpr-F.Number n place) = value.Number n
 meant_step f s (CoreExpr-F.Name name) = named_meaning f s name
+meant_step f s (CoreExpr-F.Entry name allowed) = entry_reading f name
 meant_step f s (CoreExpr-F.Attribute prefix designator) = value_or_zero (literal_in (attribute prefix designator))
 meant_step f s (CoreExpr-F.Applied function place a) = mapped_value (application function) a
 meant_step f s (CoreExpr-F.Parenthesized place a) = a

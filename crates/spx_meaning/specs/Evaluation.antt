@@ -1,5 +1,5 @@
 -- The value of an expression in code, or the first check that fails.
-use Rattle.std.specs.Prelude.{◌≡◌, refl, ℕ, ℤ, pos, true, false, int_lt, if◌then◌else◌, Option, Some, None, Ok, Err}
+use Rattle.std.specs.Prelude.{◌≡◌, refl, ℕ, ℤ, pos, Bool, true, false, int_lt, if◌then◌else◌, Option, Some, None, Ok, Err}
 use denote.Hole.Carrier.{hidden}
 use Rattle.spx_text.specs.declared.place.Place.{Place}
 use Rattle.spx_tree.specs.declared.expression.Identifier.{Identifier}
@@ -16,7 +16,7 @@ use Rattle.spx_core.specs.declared.name.CoreName.{CoreName}
 use Rattle.spx_core.specs.declared.name.Reference.{Reference}
 use Rattle.spx_core.specs.declared.expression.CoreExpr.{CoreExpr}
 use Rattle.spx_core.specs.declared.expression.CoreExpr.TheBlock.{hidden-the_row-CoreExpr-0}
-use Rattle.spx_core.specs.declared.expression.CoreExpr.TheVariants.{Number, Name, Attribute, Applied, Parenthesized, Prefix, Infix, InType, InRange}
+use Rattle.spx_core.specs.declared.expression.CoreExpr.TheVariants.{Number, Name, Entry, Attribute, Applied, Parenthesized, Prefix, Infix, InType, InRange}
 use Rattle.spx_core.specs.declared.function.CoreFunction.{CoreFunction}
 use Rattle.spx_core.specs.declared.function.Mapping.{Mapping}
 use Rattle.spx_core.specs.declared.function.Shift.{Shift}
@@ -37,7 +37,7 @@ use Rattle.spx_meaning.specs.declared.bad.BadKind.{BadKind}
 use Rattle.spx_meaning.specs.declared.bad.BadKind.TheVariants.{Division, Overflow, Range, Unset}
 use Rattle.spx_meaning.specs.Literals.{base_of, literal}
 use Rattle.spx_meaning.specs.Stores.{Store, look, is_within}
-use Rattle.spx_meaning.specs.Frames.{Frame}
+use Rattle.spx_meaning.specs.Frames.{Frame, entry_reading}
 
 -- what an evaluation gives: a value, a check that fails, or nothing within its bound
 pub data Answer : Type 0 where
@@ -71,6 +71,8 @@ term_op op.Or = term.Or
 term_op op.Xor = term.NotEqual
 term_op op.AndThen = term.And
 term_op op.OrElse = term.Or
+term_op op.Implies = term.Implies
+term_op op.Equivalent = term.Equivalent
 
 -- the value of an operation on two values; numbers have no bound, and a division by 0 and a negative exponent give 0
 abbrev pub applied : InfixOp → Value → Value → Value
@@ -171,10 +173,11 @@ static_or None answer = answer
 -- The value of an expression within a bound, evaluated from left to right; the first operand without a value decides. The right operand of a
 -- short-circuit form is evaluated only where it is needed.
 -- A static expression stands for its exact value and brings no check: a static rule has seen to that value
--- (Ada 95 RM 4.9). An attribute without a value counts as 0.
+-- (Ada 95 RM 4.9). An attribute without a value counts as 0. No code names a value on entry.
 unfoldable pub eval : Frame → ℕ → Store → CoreExpr → Answer
 eval f n s (Number m place) = Gives (value.Number m)
 eval f n s (Name name) = static_or (literal (Name name)) (read s name.name.place (variable_of name.entity))
+eval f n s (Entry name allowed) = Gives (entry_reading f name)
 eval f n s (Attribute prefix designator) = static_or (literal (Attribute prefix designator)) (Gives (value.Number (pos 0)))
 eval f n s (applied_of function place a) = static_or (literal (Applied function place a)) (with_value (eval f n s a) (λ x. mapping_checked (application function) (place_of a) x))
 eval f n s (parenthesized_of place a) = eval f n s a
@@ -194,6 +197,10 @@ module _ (f : Frame) (n : ℕ) (s : Store) where
   pub eval-Name : (name : CoreName) → eval f n s (Name name) ≡ static_or (literal (Name name)) (read s name.name.place (variable_of name.entity))
   unfolding eval
   eval-Name name = refl
+
+  pub eval-Entry : (name : CoreName) (allowed : Bool) → eval f n s (Entry name allowed) ≡ Gives (entry_reading f name)
+  unfolding eval
+  eval-Entry name allowed = refl
 
   pub eval-Attribute : (prefix : CoreName) (designator : Identifier) → eval f n s (Attribute prefix designator) ≡ static_or (literal (Attribute prefix designator)) (Gives (value.Number (pos 0)))
   unfolding eval
@@ -231,4 +238,4 @@ module _ (f : Frame) (n : ℕ) (s : Store) where
   eval-InRange op place a low high = refl
 
 -- evaluation at each form of an expression
-pub ruleset eval_forms = (eval-Number, eval-Name, eval-Attribute, eval-Applied, eval-Parenthesized, eval-Prefix, eval-Infix, eval-InType, eval-InRange)
+pub ruleset eval_forms = (eval-Number, eval-Name, eval-Entry, eval-Entry, eval-Attribute, eval-Applied, eval-Parenthesized, eval-Prefix, eval-Infix, eval-InType, eval-InRange)

@@ -8,9 +8,9 @@ use Rattle.spx_core.specs.declared.entity.VarKind.TheVariants.{Formal, Local, In
 use Rattle.spx_core.specs.declared.program.Var.{Var}
 use Rattle.spx_core.specs.declared.program.Program.{Program}
 use Rattle.spx_core.specs.declared.entity.Mode.TheVariants as mode
-use Rattle.spx_core.specs.declared.subprogram.CorePrecondition.{CorePrecondition}
+use Rattle.spx_core.specs.declared.subprogram.CorePredicate.{CorePredicate}
 use Rattle.spx_core.specs.declared.subprogram.Sub.{Sub}
-use Rattle.spx_core.specs.Commands.{Command, Skip, Set, Then, Choose, Select, Alternatives, Last, When, commands, spans_of}
+use Rattle.spx_core.specs.Commands.{Command, Skip, Set, Then, Choose, Select, Check, Alternatives, Last, When, commands, spans_of}
 use Rattle.spx_core.specs.declared.entity.Subtype.{Subtype}
 use Rattle.spx_core.specs.declared.rule.ExprType.TheVariants.{Of}
 use Rattle.spx_core.specs.declared.statement.CoreChoice.{CoreChoice}
@@ -21,7 +21,7 @@ use Rattle.spx_core.specs.Uses.{variable_of}
 use Rattle.spx_core.specs.Dependency.{exports}
 use Rattle.spx_term.specs.declared.value.Value.{Value}
 use Rattle.spx_meaning.specs.declared.bad.BadKind.{BadKind}
-use Rattle.spx_meaning.specs.declared.bad.BadKind.TheVariants.{Pre, Range, Unset}
+use Rattle.spx_meaning.specs.declared.bad.BadKind.TheVariants as bad
 use Rattle.spx_meaning.specs.Stores.{Store, look, put, declared, type_of, is_in}
 use Rattle.spx_term.specs.Meaning.{as_number, as_truth}
 use Rattle.spx_meaning.specs.Frames.{Frame, around}
@@ -56,7 +56,7 @@ demand false kind place s = Bad kind place
 
 -- gives a variable a value of its type (Ada 95 RM 5.2); what is no variable takes none
 abbrev pub assign : Program → Place → Option VarId → Store → Value → Outcome
-assign p place (Some v) s x = demand (is_in (type_of p v) x) Range place (put s v (Some x))
+assign p place (Some v) s x = demand (is_in (type_of p v) x) bad.Range place (put s v (Some x))
 assign p place None s x = Ended s
 
 -- one of the choices has the value; `others` has every value
@@ -72,6 +72,7 @@ abbrev mutual
   run f n s (Then a b) = then_do (run f n s a) (λ t. run f n t b)
   run f n s (Choose place condition a b) = use_value (eval f n s condition) (λ x. if as_truth x then run f n s a else run f n s b)
   run f n s (Select place selector alternatives) = use_value (eval f n s selector) (λ x. run_for x f n s alternatives)
+  run f n s (Check place condition) = demand (truth f s condition) bad.Check place s
 
   -- the alternative for this value: that with the last choices has all values that are left
   pub run_for : Value → Frame → ℕ → Store → Alternatives → Outcome
@@ -112,25 +113,32 @@ abbrev pub entry_of : Program → Sub → Store → Store
 entry_of p sub s = cleared p s sub.vars
 
 -- whether a precondition is true; none is true
-abbrev pub pre_holds : Frame → Option CorePrecondition → Store → Bool
+abbrev pub pre_holds : Frame → Option CorePredicate → Store → Bool
 pre_holds f (Some pre) s = truth f s pre.condition
 pre_holds f None s = true
 
 -- the precondition, looked at on entry
-abbrev pub demand_pre : Frame → Option CorePrecondition → Store → Outcome
-demand_pre f (Some pre) s = demand (truth f s pre.condition) Pre pre.place s
+abbrev pub demand_pre : Frame → Option CorePredicate → Store → Outcome
+demand_pre f (Some pre) s = demand (truth f s pre.condition) bad.Pre pre.place s
 demand_pre f None s = Ended s
+
+-- the postcondition, looked at on the way out
+abbrev pub demand_post : Frame → Option CorePredicate → Store → Outcome
+demand_post f (Some post) s = demand (truth f s post.condition) bad.Post post.place s
+demand_post f None s = Ended s
 
 -- whether each export is set
 abbrev pub exports_set : Sub → Store → Bool
 exports_set sub s = list_all (λ v. not (exports v sub) || is_some (look s v)) (formals sub)
 
--- the body, from the store with which it begins: the precondition is looked at, the statements are run, and each export must be set at the end
+-- the body, from the store with which it begins: the precondition is looked at, the statements are run, each export must be set at the end, and then the
+-- postcondition is looked at
 abbrev pub run_body : Frame → ℕ → Outcome
 run_body f n =
     then_do (demand_pre f f.sub.pre f.entry) (λ entry.
     then_do (run f n entry (commands f.sub.statements)) (λ t.
-    demand (exports_set f.sub t) Unset f.sub.end t))
+    then_do (demand (exports_set f.sub t) bad.Unset f.sub.end t) (λ u.
+    demand_post f f.sub.post u)))
 
 -- a call: `out` formals start unset, and so do locals that are declared without a value
 abbrev pub call : Program → ℕ → Sub → Store → Outcome

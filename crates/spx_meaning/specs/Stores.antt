@@ -1,5 +1,5 @@
 -- Values in types, and the stores that a run goes through.
-use Rattle.std.specs.Prelude.{ℕ, zero, suc, ℤ, Bool, true, false, ◌&&◌, int_le, List, [], ◌∷◌, Option, Some, None, slice_get}
+use Rattle.std.specs.Prelude.{ℕ, zero, suc, ℤ, pos, Bool, true, false, ◌&&◌, int_le, List, [], ◌∷◌, Option, Some, None, slice_get}
 use Rattle.spx_core.specs.declared.entity.TheConstants.{UNIVERSAL}
 use Rattle.spx_core.specs.declared.entity.Class.{Class}
 use Rattle.spx_core.specs.declared.entity.Class.TheVariants.{Integer, Boolean, Enumeration}
@@ -71,3 +71,19 @@ look s v = at s v.0
 -- the store in which the variable has this value, or is unset, and every other is as before
 abbrev pub put : Store → VarId → Option Value → Store
 put s v x = with_at s v.0 x
+
+-- ---- what annotations see of a store
+
+-- an unset variable counts as the first value of its type
+abbrev pub seen : Subtype → Option Value → Value
+seen of (Some x) = x
+seen of None = first_value of
+
+-- what a variable counts as
+abbrev pub reading : Program → Store → VarId → Value
+reading p s v = seen (type_of p v) (look s v)
+
+-- what denotes no variable counts as 0
+abbrev pub reading_of : Program → Store → Option VarId → Value
+reading_of p s (Some v) = reading p s v
+reading_of p s None = Number (pos 0)

@@ -15,6 +15,10 @@ pub enum BadKind {
     Unset,
     /// The precondition is false.
     Pre,
+    /// The postcondition is false.
+    Post,
+    /// A `check` annotation is false.
+    Check,
 }
 
 /// A failure, and where it stands.

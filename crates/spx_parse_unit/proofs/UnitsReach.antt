@@ -18,7 +18,7 @@ use Rattle.spx_tree.specs.declared.annotation.Exports.TheVariants as exported
 use Rattle.spx_tree.specs.declared.annotation.Imports.{Imports}
 use Rattle.spx_tree.specs.declared.annotation.DerivesItem.{DerivesItem}
 use Rattle.spx_tree.specs.declared.annotation.Derives.{Derives}
-use Rattle.spx_tree.specs.declared.annotation.Precondition.{Precondition}
+use Rattle.spx_tree.specs.declared.annotation.Predicate.{Predicate}
 use Rattle.spx_tree.specs.declared.subprogram.WrittenMode.{WrittenMode}
 use Rattle.spx_tree.specs.declared.subprogram.WrittenMode.TheVariants as modes
 use Rattle.spx_tree.specs.declared.subprogram.Param.{Param}
@@ -28,7 +28,7 @@ use Rattle.spx_tree.specs.declared.subprogram.Unit.{Unit}
 use Rattle.spx_tree.specs.declared.subprogram.Unit.TheVariants as unit
 use Rattle.spx_tree.specs.Form.{Form, bare, placed, named}
 use Rattle.spx_tree.specs.Written.{program, annotation, following, separated, optional, written_identifier, written_identifiers, written_name, written_names, written_expr, written_range, written_constraint, written_definition, written_initial, written_decl, written_decls, written_stmts, written_imports, written_item, written_derives, written_pre, written_mode, written_param, written_params, written_formal_part, written_subprogram, written_unit, written}
-use Rattle.spx_tree.specs.Grammar.{Each, OneOrMore, IfThere, IsIdentifiers, IsNames, IsExpr, IsRange, IsDefinition, IsDecl, HasImportsFor, IsItem, IsDerives, IsPrecondition, IsParam, IsFormalPart, IsSubprogram, IsUnit, IsFile}
+use Rattle.spx_tree.specs.Grammar.{Each, OneOrMore, IfThere, IsIdentifiers, IsNames, IsExpr, IsRange, IsDefinition, IsDecl, HasImportsFor, IsItem, IsDerives, IsPredicate, IsParam, IsFormalPart, IsSubprogram, IsUnit, IsFile}
 use Rattle.spx_parse_body.specs.Reading.{pure, peek, is_kind, sees, identifier, optional_by, if_seen}
 use Rattle.spx_parse_body.specs.Expressions.{name}
 use Rattle.spx_parse_unit.specs.declared.subprograms.HeadingParts.{HeadingParts}
@@ -146,7 +146,7 @@ derives_again x fs zs f h =
     reaches_bind _ (items_again x.items us (bare annotation k.Semicolon ∷ zs) f (λ e. cc) (semicolon_closes zs) a) (λ vs b.
     reaches_bind _ (reaches_expect annotation k.Semicolon b) (λ ws d. reaches_pure d)))
 
-precondition_again : (levels : ℕ) (x : Precondition) (fs zs : List Form) → IsPrecondition levels x → fs ≡ written_pre x ++ zs → Reaches (precondition levels) fs x zs
+precondition_again : (levels : ℕ) (x : Predicate) (fs zs : List Form) → IsPredicate levels x → fs ≡ written_pre x ++ zs → Reaches (precondition levels) fs x zs
 unfolding precondition
 precondition_again levels x fs zs f h =
     let flat = h ∙ ap (λ (us : List Form). placed annotation k.Pre x.place ∷ us) (append_assoc (written_expr annotation x.condition) (bare annotation k.Semicolon ∷ []) zs) in
@@ -340,8 +340,8 @@ formal_part_option x fs zs f over h = reaches_if_seen written_formal_part IsForm
 derives_option : (x : Option Derives) (fs zs : List Form) → IfThere IsDerives x → Lacks annotation k.Derives zs → fs ≡ optional written_derives x ++ zs → Reaches (if_seen annotation k.Derives derives) fs x zs
 derives_option x fs zs f over h = reaches_if_seen written_derives IsDerives annotation k.Derives (λ y ws g. kind_self k.Derives) derives_again x fs zs f (not_seen annotation k.Derives zs over) h
 
-pre_option : (levels : ℕ) (x : Option Precondition) (fs zs : List Form) → IfThere (IsPrecondition levels) x → Lacks annotation k.Pre zs → fs ≡ optional written_pre x ++ zs → Reaches (if_seen annotation k.Pre (precondition levels)) fs x zs
-pre_option levels x fs zs f over h = reaches_if_seen written_pre (IsPrecondition levels) annotation k.Pre (λ y ws g. kind_self k.Pre) (precondition_again levels) x fs zs f (not_seen annotation k.Pre zs over) h
+pre_option : (levels : ℕ) (x : Option Predicate) (fs zs : List Form) → IfThere (IsPredicate levels) x → Lacks annotation k.Pre zs → fs ≡ optional written_pre x ++ zs → Reaches (if_seen annotation k.Pre (precondition levels)) fs x zs
+pre_option levels x fs zs f over h = reaches_if_seen written_pre (IsPredicate levels) annotation k.Pre (λ y ws g. kind_self k.Pre) (precondition_again levels) x fs zs f (not_seen annotation k.Pre zs over) h
 
 each_there : (x : Option Identifier) → IfThere (λ name. ⊤) x
 each_there None = tt
@@ -374,17 +374,17 @@ module _ (levels : ℕ) (x : Subprogram) (zs : List Form) where
   from_derives : List Form
   from_derives = optional written_derives x.derives ++ from_pre
 
-  pre_kind : (p : Option Precondition) (kind : Kind) → (kind ≡ k.Pre → ⊥) → Lacks annotation kind (optional written_pre p ++ from_is)
+  pre_kind : (p : Option Predicate) (kind : Kind) → (kind ≡ k.Pre → ⊥) → Lacks annotation kind (optional written_pre p ++ from_is)
   unfolding from_is
   pre_kind None kind differs e = cc
   pre_kind (Some p) kind differs e = differs cc
 
-  pre_unmarked : (p : Option Precondition) → Lacks program k.LeftParenthesis (optional written_pre p ++ from_is)
+  pre_unmarked : (p : Option Predicate) → Lacks program k.LeftParenthesis (optional written_pre p ++ from_is)
   unfolding from_is
   pre_unmarked None e = cc
   pre_unmarked (Some p) e = cc
 
-  derives_unmarked : (d : Option Derives) (p : Option Precondition) → Lacks program k.LeftParenthesis (optional written_derives d ++ (optional written_pre p ++ from_is))
+  derives_unmarked : (d : Option Derives) (p : Option Predicate) → Lacks program k.LeftParenthesis (optional written_derives d ++ (optional written_pre p ++ from_is))
   derives_unmarked None p e = pre_unmarked p e
   derives_unmarked (Some d) p e = cc
 

@@ -15,7 +15,7 @@ use Rattle.spx_tree.specs.declared.annotation.Exports.TheVariants as exported
 use Rattle.spx_tree.specs.declared.annotation.Imports.{Imports}
 use Rattle.spx_tree.specs.declared.annotation.DerivesItem.{DerivesItem}
 use Rattle.spx_tree.specs.declared.annotation.Derives.{Derives}
-use Rattle.spx_tree.specs.declared.annotation.Precondition.{Precondition}
+use Rattle.spx_tree.specs.declared.annotation.Predicate.{Predicate}
 use Rattle.spx_tree.specs.declared.subprogram.WrittenMode.{WrittenMode}
 use Rattle.spx_tree.specs.declared.subprogram.WrittenMode.TheVariants as modes
 use Rattle.spx_tree.specs.declared.subprogram.Param.{Param}
@@ -113,7 +113,7 @@ derives = do
   pure (record { place = place; items = items })
 
 -- "pre" expression ";"
-unfoldable pub precondition : ℕ → Reader Precondition
+unfoldable pub precondition : ℕ → Reader Predicate
 precondition levels = do
   place ← expect_place annotation k.Pre
   condition ← expression annotation levels

@@ -7,7 +7,7 @@ ghost use Rattle.spx_parse_unit.specs.Units as read;
 ghost use Rattle.spx_parse_body.specs.Answers.{Reads};
 
 use spx_parse_body::{ANNOTATION, Cursor, Stop, expression, name};
-use spx_tree::{Derives, DerivesItem, Exports, Identifier, Imports, Kind, Name, Precondition};
+use spx_tree::{Derives, DerivesItem, Exports, Identifier, Imports, Kind, Name, Predicate};
 use sqlite_items::Items;
 use std::alloc::Global;
 
@@ -184,13 +184,13 @@ pub fn optional_derives(alloc: Global, cursor: &mut Cursor<'_>) -> Result<Option
 
 // precondition = "pre" expression ";"
 #[tactic(auto, unfolding(crate::specs::Units::precondition))]
-fn precondition(alloc: Global, cursor: &mut Cursor<'_>, levels: u32) -> Result<Precondition, Stop>
+fn precondition(alloc: Global, cursor: &mut Cursor<'_>, levels: u32) -> Result<Predicate, Stop>
     ensures { Reads (read.precondition levels cursor.old) result cursor.new }
 {
     let place = cursor.expect_place(ANNOTATION, Kind::Pre)?;
     let condition = expression(alloc, cursor, levels, ANNOTATION)?;
     cursor.expect(ANNOTATION, Kind::Semicolon)?;
-    Ok(Precondition { place, condition })
+    Ok(Predicate { place, condition })
 }
 
 /// Reads a precondition, if there is one.
@@ -199,7 +199,7 @@ pub fn optional_pre(
     alloc: Global,
     cursor: &mut Cursor<'_>,
     levels: u32,
-) -> Result<Option<Precondition>, Stop>
+) -> Result<Option<Predicate>, Stop>
     ensures { Reads (reading.if_seen annotation k.Pre (read.precondition levels) cursor.old) result cursor.new }
 {
     if cursor.sees(ANNOTATION, Kind::Pre) {

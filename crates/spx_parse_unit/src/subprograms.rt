@@ -11,7 +11,7 @@ use crate::declarative::declarations;
 use spx_parse_body::{Cursor, PROGRAM, Stop, name, stmts};
 use spx_text::Place;
 use spx_tree::{
-    Decl, Derives, FormalPart, Identifier, Kind, Param, Precondition, Stmt, Subprogram, Unit,
+    Decl, Derives, FormalPart, Identifier, Kind, Param, Predicate, Stmt, Subprogram, Unit,
     WrittenMode,
 };
 use sqlite_items::Items;
@@ -24,7 +24,7 @@ pub struct HeadingParts {
     pub name: Identifier,
     pub formal_part: Option<FormalPart>,
     pub derives: Option<Derives>,
-    pub pre: Option<Precondition>,
+    pub pre: Option<Predicate>,
 }
 
 /// A subprogram from the word `is` on.

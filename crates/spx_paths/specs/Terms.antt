@@ -1,5 +1,5 @@
 -- From expressions to terms. One translator serves code and annotations.
-use Rattle.std.specs.Prelude.{◌≡◌, refl, ℤ, pos, not, ◌&&◌, if◌then◌else◌, Option, Some, None, Ok, Err}
+use Rattle.std.specs.Prelude.{◌≡◌, refl, ℤ, pos, Bool, not, ◌&&◌, if◌then◌else◌, Option, Some, None, Ok, Err}
 use denote.Hole.Carrier.{hidden}
 use Rattle.spx_text.specs.declared.place.Place.{Place}
 use Rattle.spx_tree.specs.declared.expression.Identifier.{Identifier}
@@ -111,8 +111,7 @@ abbrev pub literal_or : Option Value → Term → Term
 literal_or (Some x) t = static_term x
 literal_or None t = t
 
--- The term of an expression, where variables have these terms for their present values and for their values on entry. No form of an
--- expression reads an entry value yet.
+-- The term of an expression, where variables have these terms for their present values and for their values on entry.
 unfoldable pub term_with : (present entered : VarId → Term) → CoreExpr → Term
 term_with present entered (applied_of function place a) = literal_or (literal (applied_of function place a)) (mapped_term (application function) (term_with present entered a))
 term_with present entered (parenthesized_of place a) = term_with present entered a
@@ -124,6 +123,7 @@ term_with present entered (in_range_of op place a low high) =
     literal_or (literal (in_range_of op place a low high)) (member_term op (term_with present entered a) (term_with present entered low) (term_with present entered high))
 term_with present entered (expr.Number n place) = term.Number n
 term_with present entered (expr.Name name) = literal_or (literal (expr.Name name)) (named present (variable_of name.entity))
+term_with present entered (expr.Entry name allowed) = named entered (variable_of name.entity)
 term_with present entered (expr.Attribute prefix designator) = literal_or (literal (expr.Attribute prefix designator)) (term.Number (pos 0))
 
 module _ (present entered : VarId → Term) where
@@ -164,11 +164,15 @@ module _ (present entered : VarId → Term) where
   unfolding term_with
   term_with-Name name = refl
 
+  pub term_with-Entry : (name : CoreName) (allowed : Bool) → term_with present entered (expr.Entry name allowed) ≡ named entered (variable_of name.entity)
+  unfolding term_with
+  term_with-Entry name allowed = refl
+
   pub term_with-Attribute : (prefix : CoreName) (designator : Identifier) → term_with present entered (expr.Attribute prefix designator) ≡ literal_or (literal (expr.Attribute prefix designator)) (term.Number (pos 0))
   unfolding term_with
   term_with-Attribute prefix designator = refl
 
-pub ruleset term_forms = (term_with-Applied, term_with-Parenthesized, term_with-Prefix, term_with-Infix, term_with-InType, term_with-InRange, term_with-Number, term_with-Name, term_with-Attribute)
+pub ruleset term_forms = (term_with-Applied, term_with-Parenthesized, term_with-Prefix, term_with-Infix, term_with-InType, term_with-InRange, term_with-Number, term_with-Name, term_with-Entry, term_with-Attribute)
 
 -- the term over the names of the present values, with these for the values on entry
 abbrev pub term_of : Program → (VarId → Term) → CoreExpr → Term

@@ -2,9 +2,9 @@
 use Rattle.std.specs.Prelude.{ℕ, ◌+◌, false, if◌then◌else◌, List, [], ◌∷◌, ◌++◌, flat_map, map, Option, Some, None}
 use Rattle.spx_core.specs.declared.entity.VarId.{VarId}
 use Rattle.spx_core.specs.declared.program.Program.{Program}
-use Rattle.spx_core.specs.declared.subprogram.CorePrecondition.{CorePrecondition}
+use Rattle.spx_core.specs.declared.subprogram.CorePredicate.{CorePredicate}
 use Rattle.spx_core.specs.declared.subprogram.Sub.{Sub}
-use Rattle.spx_core.specs.Commands.{Command, Skip, Set, Then, Choose, Select, Alternatives, Last, When, commands}
+use Rattle.spx_core.specs.Commands.{Command, Skip, Set, Then, Choose, Select, Check, Alternatives, Last, When, commands}
 use Rattle.spx_text.specs.declared.place.Place.{Place}
 use Rattle.spx_core.specs.Places.{place_of}
 use Rattle.spx_core.specs.Dependency.{exports, imports}
@@ -13,7 +13,8 @@ use Rattle.spx_core.specs.Uses.{variable_of}
 use Rattle.spx_core.specs.declared.expression.CoreExpr.{CoreExpr}
 use Rattle.spx_core.specs.declared.function.Span.{Span}
 use Rattle.spx_core.specs.declared.statement.CoreChoice.{CoreChoice}
-use Rattle.spx_term.specs.declared.condition.CondKind.TheVariants.{Range}
+use Rattle.spx_term.specs.declared.condition.CondKind.{CondKind}
+use Rattle.spx_term.specs.declared.condition.CondKind.TheVariants as kind
 use Rattle.spx_term.specs.declared.term.TermPrefix.TheVariants.{Not}
 use Rattle.spx_term.specs.declared.term.Term.{Term}
 use Rattle.spx_term.specs.declared.term.Term.TheVariants as term
@@ -33,9 +34,9 @@ use Rattle.spx_core.specs.declared.entity.Subtype.{Subtype}
 
 -- a value that is given to a type lies in it (Ada 95 RM 4.6); truth values are not checked
 abbrev pub checked_in : Class → Subtype → Place → Term → Tree → Tree
-checked_in class.Integer subtype place t rest = check Range place (in_type subtype t) rest
+checked_in class.Integer subtype place t rest = check kind.Range place (in_type subtype t) rest
 checked_in class.Boolean subtype place t rest = rest
-checked_in class.Enumeration subtype place t rest = check Range place (in_type subtype t) rest
+checked_in class.Enumeration subtype place t rest = check kind.Range place (in_type subtype t) rest
 
 abbrev pub range_check : Subtype → Place → Term → Tree → Tree
 range_check subtype place t rest = checked_in subtype.base.class subtype place t rest
@@ -44,6 +45,10 @@ range_check subtype place t rest = checked_in subtype.base.class subtype place t
 abbrev pub assigned : Program → Place → Option VarId → Term → Tree → Tree
 assigned p place (Some v) t rest = range_check (type_of p v) place t (Assign (now p v) t rest)
 assigned p place None t rest = rest
+
+-- an annotation is shown, each part of it for itself, and is known from there on
+abbrev pub asserted : CondKind → Place → Term → Tree → Tree
+asserted kind place t rest = check kind place (conjuncts t) rest
 
 -- ---- alternatives (Ada 95 RM 5.4)
 
@@ -87,6 +92,7 @@ abbrev mutual
       (Split (assume_parts (term_of p (entry_term p sub) condition) (walk p sub a rest leave made)) (Assume (term.Prefix Not (term_of p (entry_term p sub) condition)) (walk p sub b rest leave made)))
   walk p sub (Select place selector alternatives) rest leave made =
       checks p (entry_term p sub) [] selector (walk_for p sub (term_of p (entry_term p sub) selector) [] alternatives rest leave made)
+  walk p sub (Check place condition) rest leave made = asserted kind.Check place (term_of p (entry_term p sub) condition) (rest made)
 
   -- the alternatives for the value of the selector, after earlier choices
   pub walk_for : Program → Sub → Term → List Term → Alternatives → (rest leave : ℕ → Tree) → ℕ → Tree
@@ -102,6 +108,7 @@ abbrev mutual
   arrivals (Then a b) rest leave = arrivals a (arrivals b rest leave) leave
   arrivals (Choose place condition a b) rest leave = arrivals a rest leave + arrivals b rest leave
   arrivals (Select place selector alternatives) rest leave = arrivals_for alternatives rest leave
+  arrivals (Check place condition) rest leave = rest
 
   pub arrivals_for : Alternatives → (rest leave : ℕ) → ℕ
   arrivals_for (Last choices a) rest leave = arrivals a rest leave
@@ -127,7 +134,7 @@ initializing p (v ∷ vs) rest = starting_with (now p v) (initial_value p v) (in
 abbrev pub import_facts : Program → Sub → VarId → List Term
 import_facts p sub v = if imports v sub then in_type (type_of p v) (now_term p v) else []
 
-abbrev pub pre_facts : Program → Sub → Option CorePrecondition → List Term
+abbrev pub pre_facts : Program → Sub → Option CorePredicate → List Term
 pre_facts p sub None = []
 pre_facts p sub (Some pre) = conjuncts (term_of p (entry_term p sub) pre.condition)
 
@@ -135,13 +142,17 @@ pre_facts p sub (Some pre) = conjuncts (term_of p (entry_term p sub) pre.conditi
 abbrev pub first_facts : Program → Sub → List Term
 first_facts p sub = flat_map (import_facts p sub) (formals sub) ++ pre_facts p sub sub.pre
 
--- the end of a body
-abbrev pub ending : ℕ → Tree
-ending made = Cut
+-- the end of a body, where its postcondition is to be shown
+abbrev pub ending_with : Program → Sub → Option CorePredicate → Tree
+ending_with p sub None = Cut
+ending_with p sub (Some post) = asserted kind.Post post.place (term_of p (entry_term p sub) post.condition) Cut
+
+abbrev pub ending : Program → Sub → ℕ → Tree
+ending p sub made = ending_with p sub sub.post
 
 -- the steps from the start of a body
 abbrev pub start_tree : Program → Sub → Tree
-start_tree p sub = entering p sub (formals sub) (initializing p (locals sub) (assume_all (first_facts p sub) (walk p sub (commands sub.statements) ending ending 0)))
+start_tree p sub = entering p sub (formals sub) (initializing p (locals sub) (assume_all (first_facts p sub) (walk p sub (commands sub.statements) (ending p sub) (ending p sub) 0)))
 
 -- a tree from each cut: the start of the body is the only one
 abbrev pub trees_of : Program → Sub → List Tree

@@ -9,7 +9,7 @@ use Rattle.spx_core.specs.declared.statement.CoreDecl.{CoreDecl}
 use Rattle.spx_core.specs.declared.statement.CoreStmt.{CoreStmt}
 use Rattle.spx_core.specs.declared.dependency.CoreDerives.{CoreDerives}
 use Rattle.spx_core.specs.declared.subprogram.CoreFormalPart.{CoreFormalPart}
-use Rattle.spx_core.specs.declared.subprogram.CorePrecondition.{CorePrecondition}
+use Rattle.spx_core.specs.declared.subprogram.CorePredicate.{CorePredicate}
 use Rattle.spx_core.specs.declared.subprogram.Sub.{Sub}
 use Rattle.spx_core.specs.declared.program.TypeRow.{TypeRow}
 use Rattle.spx_core.specs.declared.program.Var.{Var}
@@ -32,7 +32,7 @@ vars_after vars mid after ds es first second =
 
 -- ---- a subprogram of its parts
 
-abbrev sub_with : Defining → Subprogram → Option CoreFormalPart → List CoreDecl → Option CoreDerives → Option CorePrecondition → List CoreStmt → Option Identifier → List VarId → ℕ → Sub
+abbrev sub_with : Defining → Subprogram → Option CoreFormalPart → List CoreDecl → Option CoreDerives → Option CorePredicate → List CoreStmt → Option Identifier → List VarId → ℕ → Sub
 sub_with name s part decls derives pre statements end_name vars count = record {
   place = s.place;
   name = name;
@@ -48,7 +48,7 @@ sub_with name s part decls derives pre statements end_name vars count = record {
 }
 
 module _ (name : Defining) (s : Subprogram) (before : Counts) (part : Option CoreFormalPart) (decls : List CoreDecl) where
-  sub_is : (derives : Option CoreDerives) (pre : Option CorePrecondition) (statements : List CoreStmt) (end_name : Option Identifier) (vars : List VarId) (count : ℕ)
+  sub_is : (derives : Option CoreDerives) (pre : Option CorePredicate) (statements : List CoreStmt) (end_name : Option Identifier) (vars : List VarId) (count : ℕ)
       → derives ≡ option_map (resolved_derives (declaring_all [] (declared_by_params (params_of part)) ∷ around_body name)) s.derives
       → pre ≡ option_map (resolved_pre (declaring_all [] (declared_by_params (params_of part)) ∷ around_body name)) s.pre
       → statements ≡ map (resolved_stmt (declaring_all [] (declared_by_params (params_of part) ++ declared_by_decls decls) ∷ around_body name)) s.statements
@@ -75,7 +75,7 @@ so_many vars types = record { vars = length vars; types = length types }
 
 -- what its functions give is the subprogram
 pub whole : (name : Defining) (s : Subprogram) (before mid after : List Var) (types types' : List TypeRow) (first middle end : ℕ) (formals : Region) (part : Option CoreFormalPart)
-    (decls : List CoreDecl) (derives : Option CoreDerives) (pre : Option CorePrecondition) (statements : List CoreStmt) (end_name : Option Identifier) (vars : List VarId)
+    (decls : List CoreDecl) (derives : Option CoreDerives) (pre : Option CorePredicate) (statements : List CoreStmt) (end_name : Option Identifier) (vars : List VarId)
     → first ≡ length before → middle ≡ length mid → end ≡ length after
     → (part ≡ option_map (resolved_formal_part s.name (length before)) s.formal_part)
     × (formals ≡ declaring_all [] (declared_by_params (params_of part)))

@@ -6,11 +6,11 @@ ghost use Rattle.spx_scope.specs.Seen.{seen};
 use crate::choices::resolve_listed;
 use crate::expression::{resolve_expr, resolve_reference, resolve_references};
 use spx_core::{
-    CoreAlternative, CoreArm, CoreDerives, CoreDerivesItem, CorePrecondition, CoreStmt, Reference,
+    CoreAlternative, CoreArm, CoreDerives, CoreDerivesItem, CorePredicate, CoreStmt, Reference,
 };
 use spx_scope::Scope;
 use spx_text::Place;
-use spx_tree::{Alternative, Arm, Derives, DerivesItem, Exports, Precondition, Stmt};
+use spx_tree::{Alternative, Arm, Derives, DerivesItem, Exports, Predicate, Stmt};
 use sqlite_items::Items;
 use std::alloc::{AllocError, Global};
 
@@ -172,13 +172,13 @@ pub fn resolve_derives(
 /// The precondition of a subprogram, if it has one.
 pub fn resolve_precondition(
     alloc: Global,
-    pre: &Option<Precondition>,
+    pre: &Option<Predicate>,
     scope: &Scope<'_>,
-) -> Result<Option<CorePrecondition>, AllocError>
+) -> Result<Option<CorePredicate>, AllocError>
     ensures { IfOk result (λ r. r ≡ option_map (resolved_pre (seen scope.now)) pre.now) }
 {
     match pre {
-        Some(pre) => Ok(Some(CorePrecondition {
+        Some(pre) => Ok(Some(CorePredicate {
             place: pre.place,
             condition: resolve_expr(alloc, &pre.condition, scope)?,
         })),

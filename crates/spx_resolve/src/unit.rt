@@ -11,7 +11,7 @@ use crate::names::declare;
 use crate::statement::{resolve_derives, resolve_precondition, resolve_stmts};
 use crate::tables::Tables;
 use spx_core::{
-    CoreDecl, CoreDerives, CoreFormalPart, CorePrecondition, CoreStmt, CoreUnit, Defining, Entity,
+    CoreDecl, CoreDerives, CoreFormalPart, CorePredicate, CoreStmt, CoreUnit, Defining, Entity,
     Program, Sub, SubId, Var, VarId,
 };
 use spx_scope::{Region, Scope, Standard};
@@ -68,7 +68,7 @@ fn ids_between(alloc: Global, first: usize, end: usize) -> Result<Items<VarId>, 
 #[derive(Drop)]
 struct Inner {
     derives: Option<CoreDerives>,
-    pre: Option<CorePrecondition>,
+    pre: Option<CorePredicate>,
     declarations: Items<CoreDecl>,
     statements: Items<CoreStmt>,
 }

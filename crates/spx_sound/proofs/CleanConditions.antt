@@ -16,7 +16,7 @@ use Rattle.spx_core.specs.declared.entity.Class.TheVariants as class
 use Rattle.spx_core.specs.declared.entity.Subtype.{Subtype}
 use Rattle.spx_core.specs.declared.entity.VarId.{VarId}
 use Rattle.spx_core.specs.declared.program.Program.{Program}
-use Rattle.spx_core.specs.declared.subprogram.CorePrecondition.{CorePrecondition}
+use Rattle.spx_core.specs.declared.subprogram.CorePredicate.{CorePredicate}
 use Rattle.spx_core.specs.declared.subprogram.Sub.{Sub}
 use Rattle.spx_core.specs.declared.statement.CoreChoice.{CoreChoice}
 use Rattle.spx_core.specs.declared.name.Reference.{Reference}
@@ -409,7 +409,7 @@ module _ (p : Program) (sub : Sub) where
       by_import true = in_type_sorted (type_of p v) (now_term p v) (terms.fold-Variable sort_step (now p v))
       by_import false = tt
 
-  pre_sorted : (pre : Option CorePrecondition) → ((it : CorePrecondition) → pre ≡ Some it → All (IsAsDeclared p) (names_read it.condition)) → if_there judged_pre pre ≡ Ok tt → AreFormulas (pre_facts p sub pre)
+  pre_sorted : (pre : Option CorePredicate) → ((it : CorePredicate) → pre ≡ Some it → All (IsAsDeclared p) (names_read it.condition)) → if_there judged_pre pre ≡ Ok tt → AreFormulas (pre_facts p sub pre)
   pre_sorted None declared typed = tt
   pre_sorted (Some pre) declared typed =
       conjuncts_sorted (term_of p (entry_term p sub) pre.condition) (test_sorted p (entry_term p sub) pre.condition typed (declared pre refl)).formula

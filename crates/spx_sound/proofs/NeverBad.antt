@@ -15,7 +15,7 @@ use Rattle.spx_core.specs.declared.entity.Mode.{Mode}
 use Rattle.spx_core.specs.declared.entity.Mode.TheVariants as mode
 use Rattle.spx_core.specs.declared.entity.Object.{Object}
 use Rattle.spx_core.specs.declared.entity.Subtype.{Subtype}
-use Rattle.spx_core.specs.declared.subprogram.CorePrecondition.{CorePrecondition}
+use Rattle.spx_core.specs.declared.subprogram.CorePredicate.{CorePredicate}
 use Rattle.spx_core.specs.declared.subprogram.Sub.{Sub}
 use Rattle.spx_core.specs.Commands.{commands}
 use Rattle.spx_core.specs.Dependency.{exports, imports}
@@ -39,9 +39,9 @@ use Rattle.spx_term.specs.Folding.{term_of as static_term}
 use Rattle.spx_term.proofs.ConjunctLaws.{parts_hold}
 use Rattle.spx_term.proofs.Terms.{fold-Variable}
 use Rattle.spx_meaning.specs.declared.bad.BadKind.TheVariants.{Pre, Unset}
-use Rattle.spx_meaning.specs.Stores.{Store, look, type_of, first_of_class, is_in, is_within, declared, put}
+use Rattle.spx_meaning.specs.Stores.{Store, look, type_of, first_of_class, is_in, is_within, declared, put, reading, seen}
 use Rattle.spx_meaning.specs.Frames.{Frame, around}
-use Rattle.spx_meaning.specs.Annotations.{meant, reading, seen}
+use Rattle.spx_meaning.specs.Annotations.{meant}
 use Rattle.spx_meaning.specs.Runs.{Outcome, Ended, then_do, demand, run, is_new_kind, starts_new, entry_of, pre_holds, demand_pre, exports_set, call, cleared, initial_value, value_in_type}
 use Rattle.spx_meaning.specs.Laws.{Start, IsNeverBad, NeverBad}
 use Rattle.spx_meaning.proofs.Callers.Entries.{cleared_keeps, cleared_part}
@@ -274,7 +274,7 @@ module _ (p : Program) (sub : Sub) (scoped : Scoped p sub) (initial : StartsInTy
     first_fits : Fits p first first_valuation
     first_fits = record { agrees = first_agrees; respects = valuation_respects p first; in_types = first_in_types }
 
-    pre_first : (pre : Option CorePrecondition) → sub.pre ≡ pre → pre_holds (around p sub s) pre s ≡ true → pre_holds frame pre first ≡ true
+    pre_first : (pre : Option CorePredicate) → sub.pre ≡ pre → pre_holds (around p sub s) pre s ≡ true → pre_holds frame pre first ≡ true
     pre_first None is h = refl
     pre_first (Some pre) is h =
         ap as_truth (meant_same frame (around p sub s) refl first s pre.condition (λ x used. kept_import x (obeys.precondition pre x is used))) ∙ h
@@ -292,7 +292,7 @@ module _ (p : Program) (sub : Sub) (scoped : Scoped p sub) (initial : StartsInTy
             (fold-Variable (value_step first_valuation) (now p x) ∙ first_agrees x ∙ ap (seen (type_of p x)) set.1) set.2
         by_import false is = tt
 
-    pre_facts_hold : (pre : Option CorePrecondition) → pre_holds frame pre first ≡ true → AllHold first_valuation (pre_facts p sub pre)
+    pre_facts_hold : (pre : Option CorePredicate) → pre_holds frame pre first ≡ true → AllHold first_valuation (pre_facts p sub pre)
     pre_facts_hold None h = tt
     pre_facts_hold (Some pre) h =
         parts_hold first_valuation (term_of p (entry_term p sub) pre.condition)
@@ -364,7 +364,7 @@ module _ (p : Program) (sub : Sub) (scoped : Scoped p sub) (initial : StartsInTy
         (walk_good frame n (commands sub.statements) ending ending 0 first first_valuation typed.statements scoped.body_names first_fits (body_safe valid))
         (never_unset frame n first (commands sub.statements) (first_clear flows))
 
-    pre_good : (pre : Option CorePrecondition) → pre_holds frame pre first ≡ true → demand_pre frame pre first ≡ Ended first
+    pre_good : (pre : Option CorePredicate) → pre_holds frame pre first ≡ true → demand_pre frame pre first ≡ Ended first
     pre_good None h = refl
     pre_good (Some pre) h = ap (λ b. demand b Pre pre.place first) h
 

@@ -36,11 +36,11 @@ use Rattle.spx_term.specs.declared.value.Value.{Value}
 use Rattle.spx_term.specs.declared.value.Value.TheVariants as value
 use Rattle.spx_term.specs.Meaning.{same_truth, same_value, value_of_prefix, value_of_op, Valuation, value_step, value_of}
 use Rattle.spx_term.proofs.Terms as terms
-use Rattle.spx_meaning.specs.Stores.{Store}
+use Rattle.spx_meaning.specs.Stores.{Store, reading_of}
 use Rattle.spx_meaning.specs.Frames.{Frame}
 use Rattle.spx_meaning.specs.Literals.{literal, literal_in, value_of as value_in}
 use Rattle.spx_meaning.specs.Evaluation.{applied, applied_sign, first_in, last_in, member, term_op, mapped_value, moved}
-use Rattle.spx_meaning.specs.Annotations.{meant, meant_step, reading_of, value_or, value_or_zero}
+use Rattle.spx_meaning.specs.Annotations.{meant, meant_step, value_or, value_or_zero}
 use Rattle.spx_paths.specs.Terms.{first_term, last_term, member_term, named, now_term, literal_or, signed_term, term_of, term_with-Parenthesized, term_with-Prefix, term_with-Infix, term_with-InType, term_with-InRange, term_with-Name, term_with-Attribute, mapped_term, term_with-Applied}
 use Rattle.spx_core.proofs.Callers.Expressions.{Cases, induct, fold-Number, fold-Name, fold-Attribute, fold-Parenthesized, fold-Prefix, fold-Infix, fold-InType, fold-InRange, fold-Applied}
 use Rattle.spx_sound.proofs.Classes.{number_is_ordered, numbers_are_ordered, numeric_has_numbers, of_numbers}

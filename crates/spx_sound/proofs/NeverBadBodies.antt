@@ -37,10 +37,9 @@ use Rattle.spx_term.proofs.ConjunctLaws.{parts_hold}
 use Rattle.spx_term.proofs.Equality.{same_by-Decides}
 use Rattle.spx_term.proofs.Terms.{fold-Prefix}
 use Rattle.spx_meaning.specs.declared.bad.BadKind.TheVariants.{Range}
-use Rattle.spx_meaning.specs.Stores.{Store, put, type_of, is_in, is_within}
+use Rattle.spx_meaning.specs.Stores.{Store, put, type_of, is_in, is_within, reading, seen}
 use Rattle.spx_meaning.specs.Frames.{Frame}
 use Rattle.spx_meaning.specs.Evaluation.{eval}
-use Rattle.spx_meaning.specs.Annotations.{reading, seen}
 use Rattle.spx_meaning.specs.Runs.{demand, assign, run, has_value, run_for}
 use Rattle.spx_meaning.proofs.Callers.Stores.{look-put_either}
 use Rattle.spx_paths.specs.Terms.{now, entry_term, sort_of_class, sort_of_var, term_of}

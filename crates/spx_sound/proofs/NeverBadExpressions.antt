@@ -49,11 +49,10 @@ use Rattle.spx_term.specs.Steps.{Tree}
 use Rattle.spx_term.proofs.GoalLaws.{goal_holds}
 use Rattle.spx_term.proofs.Terms as terms
 use Rattle.spx_meaning.specs.declared.bad.BadKind.TheVariants.{Division as DivisionBad, Overflow as OverflowBad, Range as RangeBad}
-use Rattle.spx_meaning.specs.Stores.{Store, look, is_in, is_within, type_of}
+use Rattle.spx_meaning.specs.Stores.{Store, look, is_in, is_within, type_of, reading, seen}
 use Rattle.spx_meaning.specs.Frames.{Frame}
 use Rattle.spx_meaning.specs.Literals.{base_of, literal}
 use Rattle.spx_meaning.specs.Evaluation.{Answer, Gives, Fails, with_value, term_op, applied, applied_sign, checked, decided, first_in, in_base, last_in, member, signed, read, read_at, static_or, unless_negative, unless_zero, eval, eval-Number, eval-Name, eval-Attribute, eval-Parenthesized, eval-Prefix, eval-Infix, eval-InType, eval-InRange, mapped_value, moved, mapping_checked, within_bounds, eval-Applied}
-use Rattle.spx_meaning.specs.Annotations.{reading, seen}
 use Rattle.spx_paths.specs.Terms.{between, first_term, last_term, member_term, now, now_term, signed_term, named, literal_or, term_of, term_with-Parenthesized, term_with-Prefix, term_with-Infix, term_with-InType, term_with-InRange, term_with-Number, term_with-Name, term_with-Attribute, mapped_term, moved_term, term_with-Applied}
 use Rattle.spx_paths.specs.Checks.{in_class, in_range, in_type, under, guarded, checked_under, base_check, divisor_check, exponent_check, right_lefts, unless_static, operation_check, sign_check, checks, checks-Parenthesized, checks-Prefix, checks-Infix, checks-InType, checks-InRange, checks-Number, checks-Name, checks-Attribute, bounds_check, mapping_check, checks-Applied}
 use Rattle.spx_core.proofs.Callers.Expressions as every

@@ -19,6 +19,10 @@ pub enum CondKind {
     Overflow,
     /// A value lies in the subtype that it is given to (Ada 95 RM 4.6).
     Range,
+    /// The postcondition of a subprogram is true at its end (Barnes).
+    Post,
+    /// A `check` annotation is true (Barnes).
+    Check,
 }
 
 /// Under the hypotheses the goal holds.

@@ -12,10 +12,10 @@ use Rattle.spx_tree.specs.declared.declaration.Decl.TheVariants as decl
 use Rattle.spx_tree.specs.declared.declaration.Range.{Range}
 use Rattle.spx_tree.specs.declared.declaration.TypeDef.{TypeDef}
 use Rattle.spx_tree.specs.declared.declaration.TypeDef.TheVariants as definition
-use Rattle.spx_tree.specs.declared.annotation.Precondition.{Precondition}
+use Rattle.spx_tree.specs.declared.annotation.Predicate.{Predicate}
 use Rattle.spx_tree.specs.declared.subprogram.Unit.{Unit}
 use Rattle.spx_tree.specs.declared.subprogram.Unit.TheVariants as unit
-use Rattle.spx_tree.specs.Grammar.{Each, OneOrMore, OfLayer, IsArm, IsChoice, IsAlternative, IsExpr, IsFormed, Within, IsStmt, IsStmts, IsPrecondition, IfThere, IsDecl, IsDefinition, IsRange, IsUnit, IsFile}
+use Rattle.spx_tree.specs.Grammar.{Each, OneOrMore, OfLayer, IsArm, IsChoice, IsAlternative, IsExpr, IsFormed, Within, IsStmt, IsStmts, IsPredicate, IfThere, IsDecl, IsDefinition, IsRange, IsUnit, IsFile}
 
 each_more : {A : Type 0} (P Q : A → Type 0) → ((x : A) → P x → Q x) → (xs : List A) → Each P xs → Each Q xs
 each_more P Q h [] f = tt
@@ -50,6 +50,7 @@ module _ (m n : ℕ) (le : m ≤ n) (inner : (x : Stmt) → Within m x → Withi
   formed_more : (y : Stmt-F Stmt Alternative Arm) → IsFormed m (Within m) y → IsFormed n (Within n) y
   formed_more (Stmt-F.Null place) f = tt
   formed_more (Stmt-F.Assignment target e) f = layer_more m n le _ e f
+  formed_more (Stmt-F.Check place condition) f = layer_more m n le _ condition f
   formed_more (Stmt-F.If arms otherwise closing) f =
       (let some = f.0 in omega arith, one_more (λ a. IsArm m (Within m) (out-Arm a)) (λ a. IsArm n (Within n) (out-Arm a)) arm_more arms f.1, there_more (OneOrMore (Within m)) (OneOrMore (Within n)) (one_more (Within m) (Within n) inner) otherwise f.2)
   formed_more (Stmt-F.Case place selector alternatives closing) f =
@@ -67,9 +68,9 @@ module _ (m n : ℕ) (le : m ≤ n) where
   pub stmts_more : (xs : List Stmt) → IsStmts m xs → IsStmts n xs
   stmts_more xs f = one_more (IsStmt m) (IsStmt n) stmt_more xs f
 
-  pre_more : (p : Option Precondition) → IfThere (IsPrecondition m) p → IfThere (IsPrecondition n) p
-  pre_more None f = tt
-  pre_more (Some p) f = layer_more m n le _ p.condition f
+  predicate_more : (p : Option Predicate) → IfThere (IsPredicate m) p → IfThere (IsPredicate n) p
+  predicate_more None f = tt
+  predicate_more (Some p) f = layer_more m n le _ p.condition f
 
   range_more : (x : Range) → IsRange m x → IsRange n x
   range_more x f = record { low = layer_more m n le _ x.low f.low; high = layer_more m n le _ x.high f.high }
@@ -85,7 +86,7 @@ module _ (m n : ℕ) (le : m ≤ n) where
   decl_more (decl.Subtype name parent range) f = there_more (IsRange m) (IsRange n) range_more range f
 
   unit_more : (x : Unit) → IsUnit m x → IsUnit n x
-  unit_more (unit.Subprogram x) f = record { formal_part = f.formal_part; derives = f.derives; pre = pre_more x.pre f.pre; declarations = each_more (IsDecl m) (IsDecl n) decl_more x.declarations f.declarations; statements = stmts_more x.statements f.statements }
+  unit_more (unit.Subprogram x) f = record { formal_part = f.formal_part; derives = f.derives; pre = predicate_more x.pre f.pre; post = predicate_more x.post f.post; declarations = each_more (IsDecl m) (IsDecl n) decl_more x.declarations f.declarations; statements = stmts_more x.statements f.statements }
 
   pub file_more : (xs : List Unit) → IsFile m xs → IsFile n xs
   file_more xs f = each_more (IsUnit m) (IsUnit n) unit_more xs f

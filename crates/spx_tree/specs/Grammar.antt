@@ -24,7 +24,7 @@ use Rattle.spx_tree.specs.declared.annotation.Exports.TheVariants as exported
 use Rattle.spx_tree.specs.declared.annotation.Imports.{Imports}
 use Rattle.spx_tree.specs.declared.annotation.DerivesItem.{DerivesItem}
 use Rattle.spx_tree.specs.declared.annotation.Derives.{Derives}
-use Rattle.spx_tree.specs.declared.annotation.Precondition.{Precondition}
+use Rattle.spx_tree.specs.declared.annotation.Predicate.{Predicate}
 use Rattle.spx_tree.specs.declared.subprogram.Param.{Param}
 use Rattle.spx_tree.specs.declared.subprogram.FormalPart.{FormalPart}
 use Rattle.spx_tree.specs.declared.subprogram.Subprogram.{Subprogram}
@@ -63,6 +63,7 @@ IsNames names = OneOrMore (λ name. ⊤) names
 abbrev pub height : Expr → ℕ
 height (expr.Number value place) = 0
 height (expr.Name name) = 0
+height (expr.Entry identifier) = 0
 height (applied function place operand) = height operand + 1
 height (parenthesized place inner) = height inner + 1
 height (signed op place operand) = height operand + 1
@@ -71,7 +72,7 @@ height (in_type op place tested type_name) = height tested + 1
 height (in_range op place tested low high) = max (height tested) (max (height low) (height high)) + 1
 
 -- the layer of an operator: `**` (Ada 95 RM 4.5.6), multiplying operators (4.5.5), adding operators (4.5.3), relational operators (4.5.2),
--- logical operators and short-circuit forms (4.5.1)
+-- logical operators and short-circuit forms (4.5.1), `->` and `<->` (Barnes)
 abbrev pub layer_of : InfixOp → Layer
 layer_of op.Power = layer.Factor
 layer_of op.Multiply = layer.Term
@@ -91,6 +92,8 @@ layer_of op.Or = layer.Expression
 layer_of op.Xor = layer.Expression
 layer_of op.AndThen = layer.Expression
 layer_of op.OrElse = layer.Expression
+layer_of op.Implies = layer.Predicate
+layer_of op.Equivalent = layer.Predicate
 
 -- the layer of an operator before its operand: signs (4.5.4), `abs` and `not` (4.5.6)
 abbrev pub layer_before : PrefixOp → Layer
@@ -107,6 +110,7 @@ rank layer.Term = 2
 rank layer.Sum = 3
 rank layer.Relation = 4
 rank layer.Expression = 5
+rank layer.Predicate = 6
 
 -- the layer of an expression is that of its operator
 abbrev pub layer_in : Expr → Layer
@@ -118,6 +122,7 @@ layer_in (applied function place operand) = layer.Primary
 layer_in (parenthesized place inner) = layer.Primary
 layer_in (expr.Number value place) = layer.Primary
 layer_in (expr.Name name) = layer.Primary
+layer_in (expr.Entry identifier) = layer.Primary
 
 -- the expression is an operation with this operator
 abbrev pub HasOperator : InfixOp → Expr → Type 0
@@ -129,6 +134,7 @@ HasOperator op (applied function place operand) = ⊥
 HasOperator op (parenthesized place inner) = ⊥
 HasOperator op (expr.Number value place) = ⊥
 HasOperator op (expr.Name name) = ⊥
+HasOperator op (expr.Entry identifier) = ⊥
 
 -- what an operator of this layer has on its left: terms and sums nest to the left, and so do logical operations, each with its own operator only; the rest
 -- does not nest
@@ -139,6 +145,7 @@ FitsLeft layer.Term op left = rank (layer_in left) ≤ 2
 FitsLeft layer.Sum op left = rank (layer_in left) ≤ 3
 FitsLeft layer.Relation op left = rank (layer_in left) ≤ 3
 FitsLeft layer.Expression op left = (rank (layer_in left) ≤ 4) ⊎ HasOperator op left
+FitsLeft layer.Predicate op left = rank (layer_in left) ≤ 5
 
 abbrev pub LeftFits : InfixOp → Expr → Type 0
 LeftFits op left = FitsLeft (layer_of op) op left
@@ -151,6 +158,7 @@ right_layer layer.Term = layer.Factor
 right_layer layer.Sum = layer.Term
 right_layer layer.Relation = layer.Sum
 right_layer layer.Expression = layer.Relation
+right_layer layer.Predicate = layer.Expression
 
 -- the layer of what an operator stands before: a sign stands over a whole term
 abbrev pub operand_layer : PrefixOp → Layer
@@ -167,7 +175,8 @@ IsUpTo layer e = rank (layer_in e) ≤ rank layer
 abbrev pub Layered : Expr → Type 0
 Layered (expr.Number value place) = ⊤
 Layered (expr.Name name) = ⊤
-Layered (applied function place operand) = Layered operand
+Layered (expr.Entry identifier) = ⊤
+Layered (applied function place operand) = Layered operand × IsUpTo layer.Expression operand
 Layered (parenthesized place inner) = Layered inner
 Layered (signed op place operand) = Layered operand × IsUpTo (operand_layer op) operand
 Layered (operation op place left right) = Layered left × Layered right × LeftFits op left × IsUpTo (right_layer (layer_of op)) right
@@ -177,8 +186,9 @@ Layered (in_range op place tested low high) = Layered tested × IsUpTo layer.Sum
 -- An expression of this layer, or of one before it, within so many levels:
 -- expression = relation {"and" relation} | relation {"or" relation} | relation {"xor" relation} | relation {"and" "then" relation} | relation {"or" "else" relation}
 -- relation = sum [relational operator sum] | sum ["not"] "in" (name | sum ".." sum);  sum = [sign] term {adding operator term}
+-- predicate = expression [("->" | "<->") expression], where `->`, `<->` and `~` are lexemes of annotation text only
 -- term = factor {multiplying operator factor};  factor = primary ["**" primary] | "abs" primary | "not" primary
--- primary = number | name | identifier ["'" identifier] "(" expression ")" | identifier "'" "(" expression ")" | "(" expression ")"
+-- primary = number | name | identifier "~" | identifier ["'" identifier] "(" expression ")" | identifier "'" "(" expression ")" | "(" predicate ")"
 pub record OfLayer (layer : Layer) (levels : ℕ) (e : Expr) : Type 0 where
   pub low : height e ≤ levels
   pub layered : Layered e
@@ -187,6 +197,10 @@ pub record OfLayer (layer : Layer) (levels : ℕ) (e : Expr) : Type 0 where
 -- expression (Ada 95 RM 4.4)
 abbrev pub IsExpr : ℕ → Expr → Type 0
 IsExpr = OfLayer layer.Expression
+
+-- expression [("->" | "<->") expression] (Barnes, High Integrity Software)
+abbrev pub IsCondition : ℕ → Expr → Type 0
+IsCondition = OfLayer layer.Predicate
 
 -- Declarations (Ada 95 RM 3).
 
@@ -224,13 +238,14 @@ abbrev pub IsAlternative : ℕ → (Stmt → Type 0) → Alternative-F Stmt Alte
 IsAlternative levels Inner alternative = IfThere (OneOrMore (IsChoice (levels - 1))) alternative.choices × OneOrMore Inner alternative.body
 
 -- one level: "null" ";" (Ada 95 RM 5.1) | name ":=" expression ";" (5.2) | "if" arm {"elsif" arm} ["else" statements] "end" "if" ";" (5.3)
--- | "case" expression "is" alternative {alternative} "end" "case" ";" (5.4)
+-- | "case" expression "is" alternative {alternative} "end" "case" ";" (5.4) | "check" predicate ";" (Barnes)
 abbrev pub IsFormed : ℕ → (Stmt → Type 0) → Stmt-F Stmt Alternative Arm → Type 0
 IsFormed levels Inner (Stmt-F.Null place) = ⊤
 IsFormed levels Inner (Stmt-F.Assignment target value) = IsExpr levels value
 IsFormed levels Inner (Stmt-F.If arms otherwise closing) = (0 < levels) × OneOrMore (λ arm. IsArm levels Inner (out-Arm arm)) arms × IfThere (OneOrMore Inner) otherwise
 IsFormed levels Inner (Stmt-F.Case place selector alternatives closing) =
     (0 < levels) × IsExpr (levels - 1) selector × OneOrMore (λ alternative. IsAlternative levels Inner (out-Alternative alternative)) alternatives
+IsFormed levels Inner (Stmt-F.Check place condition) = IsCondition levels condition
 
 -- a statement one level below a place where so many levels are left
 abbrev pub Within : ℕ → Stmt → Type 0
@@ -259,9 +274,9 @@ IsItem item = HasImportsFor item.exports item.imports
 abbrev pub IsDerives : Derives → Type 0
 IsDerives derives = OneOrMore IsItem derives.items
 
--- "pre" expression ";"
-abbrev pub IsPrecondition : ℕ → Precondition → Type 0
-IsPrecondition levels pre = IsExpr levels pre.condition
+-- word predicate ";"
+abbrev pub IsPredicate : ℕ → Predicate → Type 0
+IsPredicate levels predicate = IsCondition levels predicate.condition
 
 -- Subprograms and units (Ada 95 RM 6 and 10).
 
@@ -273,11 +288,12 @@ IsParam param = IsIdentifiers param.names
 abbrev pub IsFormalPart : FormalPart → Type 0
 IsFormalPart part = OneOrMore IsParam part.params
 
--- "procedure" identifier [formal part] [derives] [pre] "is" {declaration} "begin" statement {statement} "end" [identifier] ";" (Ada 95 RM 6.3)
+-- "procedure" identifier [formal part] [derives] [pre] [post] "is" {declaration} "begin" statement {statement} "end" [identifier] ";" (Ada 95 RM 6.3)
 pub record IsSubprogram (levels : ℕ) (sub : Subprogram) : Type 0 where
   pub formal_part : IfThere IsFormalPart sub.formal_part
   pub derives : IfThere IsDerives sub.derives
-  pub pre : IfThere (IsPrecondition levels) sub.pre
+  pub pre : IfThere (IsPredicate levels) sub.pre
+  pub post : IfThere (IsPredicate levels) sub.post
   pub declarations : Each (IsDecl levels) sub.declarations
   pub statements : IsStmts levels sub.statements
 

@@ -31,7 +31,7 @@ use Rattle.spx_tree.specs.declared.annotation.Exports.{Exports}
 use Rattle.spx_tree.specs.declared.annotation.Exports.TheVariants as exported
 use Rattle.spx_tree.specs.declared.annotation.DerivesItem.{DerivesItem}
 use Rattle.spx_tree.specs.declared.annotation.Derives.{Derives}
-use Rattle.spx_tree.specs.declared.annotation.Precondition.{Precondition}
+use Rattle.spx_tree.specs.declared.annotation.Predicate.{Predicate}
 use Rattle.spx_tree.specs.declared.subprogram.WrittenMode.{WrittenMode}
 use Rattle.spx_tree.specs.declared.subprogram.WrittenMode.TheVariants as modes
 use Rattle.spx_tree.specs.declared.subprogram.Param.{Param}
@@ -109,6 +109,8 @@ operator_kind op.Or = k.Or
 operator_kind op.Xor = k.Xor
 operator_kind op.AndThen = k.And
 operator_kind op.OrElse = k.Or
+operator_kind op.Implies = k.Implication
+operator_kind op.Equivalent = k.Equivalence
 
 -- the second word of an operator of two
 abbrev pub second_word : Bool → InfixOp → List Form
@@ -162,10 +164,11 @@ in_type op place tested type_name = InType' op place tt (more_of-Expr tested end
 pattern abbrev pub in_range : MemberOp → Place → Expr → Expr → Expr → Expr
 in_range op place tested low high = InRange' op place tt (more_of-Expr tested end_of-Expr) tt (more_of-Expr low end_of-Expr) tt (more_of-Expr high end_of-Expr)
 
--- number | name | function "(" expression ")" | "(" expression ")" | operator operand | operand operator operand | operand ["not"] "in" name | operand ["not"] "in" operand ".." operand
+-- number | name | identifier "~" | function "(" expression ")" | "(" expression ")" | operator operand | operand operator operand | operand ["not"] "in" name | operand ["not"] "in" operand ".." operand
 abbrev pub written_expr : Bool → Expr → List Form
 written_expr marked (expr.Number value place) = literal marked value place ∷ []
 written_expr marked (expr.Name name) = written_name marked name
+written_expr marked (expr.Entry identifier) = named marked identifier ∷ bare marked k.Tilde ∷ []
 written_expr marked (applied function place operand) =
     named marked function.name ∷ (written_form marked function.form ++ (placed marked k.LeftParenthesis place ∷ (written_expr marked operand ++ bare marked k.RightParenthesis ∷ [])))
 written_expr marked (parenthesized place inner) = placed marked k.LeftParenthesis place ∷ (written_expr marked inner ++ bare marked k.RightParenthesis ∷ [])
@@ -209,6 +212,10 @@ written_decl (decl.Subtype name parent range) =
 abbrev pub written_decls : List Decl → List Form
 written_decls decls = joined (map written_decl decls)
 
+-- word predicate ";", in annotation text (Barnes)
+abbrev pub written_at : Kind → Place → Expr → List Form
+written_at word place condition = placed annotation word place ∷ (written_expr annotation condition ++ bare annotation k.Semicolon ∷ [])
+
 -- Statements (Ada 95 RM 5).
 
 -- an arm, by its word "if" or "elsif": word expression "then" statements
@@ -248,13 +255,14 @@ abbrev pub alternative_step : Alternative-F (List Form) (List Form) (Kind → Li
 alternative_step alternative = bare program k.When ∷ (written_choices alternative.choices ++ bare program k.Arrow ∷ joined alternative.body)
 
 -- one level, whose parts are written: "null" ";" | name ":=" expression ";" | "if" arm {"elsif" arm} ["else" statements] "end" "if" ";"
--- | "case" expression "is" alternative {alternative} "end" "case" ";"
+-- | "case" expression "is" alternative {alternative} "end" "case" ";" | "check" predicate ";", in annotation text
 abbrev pub stmt_step : Stmt-F (List Form) (List Form) (Kind → List Form) → List Form
 stmt_step (Stmt-F.Null place) = placed program k.Null place ∷ bare program k.Semicolon ∷ []
 stmt_step (Stmt-F.Assignment target value) = written_name program target ++ bare program k.Assignment ∷ (written_expr program value ++ bare program k.Semicolon ∷ [])
 stmt_step (Stmt-F.If arms otherwise closing) = all_arms arms ++ (else_part otherwise ++ placed program k.End closing.end ∷ placed program k.If closing.word ∷ bare program k.Semicolon ∷ [])
 stmt_step (Stmt-F.Case place selector alternatives closing) =
     placed program k.Case place ∷ (written_expr program selector ++ bare program k.Is ∷ (joined alternatives ++ placed program k.End closing.end ∷ placed program k.Case closing.word ∷ bare program k.Semicolon ∷ []))
+stmt_step (Stmt-F.Check place condition) = written_at k.Check place condition
 
 -- statement
 abbrev pub written_stmt : Stmt → List Form
@@ -292,9 +300,13 @@ written_item item = written_exports item.exports ++ bare annotation k.From ∷ w
 abbrev pub written_derives : Derives → List Form
 written_derives derives = placed annotation k.Derives derives.place ∷ (separated (bare annotation k.Ampersand) written_item derives.items ++ bare annotation k.Semicolon ∷ [])
 
--- "pre" expression ";"
-abbrev pub written_pre : Precondition → List Form
-written_pre pre = placed annotation k.Pre pre.place ∷ (written_expr annotation pre.condition ++ bare annotation k.Semicolon ∷ [])
+-- "pre" predicate ";"
+abbrev pub written_pre : Predicate → List Form
+written_pre pre = written_at k.Pre pre.place pre.condition
+
+-- "post" predicate ";"
+abbrev pub written_post : Predicate → List Form
+written_post post = written_at k.Post post.place post.condition
 
 -- Subprograms (Ada 95 RM 6).
 
@@ -317,12 +329,12 @@ written_params params = separated (bare program k.Semicolon) written_param param
 abbrev pub written_formal_part : FormalPart → List Form
 written_formal_part part = placed program k.LeftParenthesis part.place ∷ (written_params part.params ++ bare program k.RightParenthesis ∷ [])
 
--- "procedure" identifier [formal part]  [derives] [pre]  "is" declarations "begin" statements "end" [identifier] ";"
+-- "procedure" identifier [formal part]  [derives] [pre] [post]  "is" declarations "begin" statements "end" [identifier] ";"
 abbrev pub written_subprogram : Subprogram → List Form
 written_subprogram sub =
-    placed program k.Procedure sub.place ∷ named program sub.name ∷ (optional written_formal_part sub.formal_part ++ (optional written_derives sub.derives ++ (optional written_pre sub.pre
+    placed program k.Procedure sub.place ∷ named program sub.name ∷ (optional written_formal_part sub.formal_part ++ (optional written_derives sub.derives ++ (optional written_pre sub.pre ++ (optional written_post sub.post
     ++ (bare program k.Is ∷ (written_decls sub.declarations ++ (bare program k.Begin ∷ (written_stmts sub.statements
-    ++ (placed program k.End sub.end ∷ (optional (written_identifier program) sub.end_name ++ bare program k.Semicolon ∷ [])))))))))
+    ++ (placed program k.End sub.end ∷ (optional (written_identifier program) sub.end_name ++ bare program k.Semicolon ∷ []))))))))))
 
 -- subprogram
 abbrev pub written_unit : Unit → List Form

@@ -12,7 +12,7 @@ pub struct Identifier {
     pub place: Place,
 }
 
-/// An operator between two operands (Ada 95 RM 4.5).
+/// An operator between two operands (Ada 95 RM 4.5; `->` and `<->` Barnes).
 #[derive(Clone, Copy, Debug, PartialEq, Eq)]
 pub enum InfixOp {
     Add,
@@ -36,6 +36,10 @@ pub enum InfixOp {
     AndThen,
     /// `or else`
     OrElse,
+    /// `->`
+    Implies,
+    /// `<->`
+    Equivalent,
 }
 
 /// An operator before its operand (Ada 95 RM 4.5.4, 4.5.6).
@@ -55,7 +59,8 @@ pub enum MemberOp {
     NotIn(Place),
 }
 
-/// The layers of expressions (Ada 95 RM 4.4): an operator of a layer binds less than those of the layers before it.
+/// The layers of expressions (Ada 95 RM 4.4; the last one Barnes): an operator of a layer binds less than those of the layers
+/// before it.
 #[derive(Clone, Copy, Debug, PartialEq, Eq)]
 pub enum Layer {
     Primary,
@@ -64,6 +69,7 @@ pub enum Layer {
     Sum,
     Relation,
     Expression,
+    Predicate,
 }
 
 /// A name (Ada 95 RM 4.1).
@@ -98,6 +104,8 @@ pub enum FunctionForm {
 pub enum Expr {
     Number(i128, Place),
     Name(Name),
+    /// `identifier~`, the value that a variable has on entry.
+    Entry(Identifier),
     /// A function and its operand, with the place of `(`.
     Applied(Function, Place, Boxed<Expr>),
     /// At `(`.
@@ -196,6 +204,7 @@ impl Expr {
         match self {
             Expr::Number(value, place) => Ok(Expr::Number(*value, *place)),
             Expr::Name(name) => Ok(Expr::Name(name.copy(alloc)?)),
+            Expr::Entry(identifier) => Ok(Expr::Entry(identifier.copy(alloc)?)),
             Expr::Applied(function, place, operand) => {
                 let function = function.copy(alloc)?;
                 let operand = Boxed::new(alloc, operand.get().copy(alloc)?)?;

@@ -12,7 +12,7 @@ mod statement;
 mod subprogram;
 mod token;
 
-pub use annotation::{Derives, DerivesItem, Exports, Imports, Precondition};
+pub use annotation::{Derives, DerivesItem, Exports, Imports, Predicate};
 pub use declaration::{Decl, Range, TypeDef};
 pub use expression::{
     Expr, Function, FunctionForm, Identifier, InfixOp, Layer, MemberOp, Name, PrefixOp,

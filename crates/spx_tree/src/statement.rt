@@ -6,7 +6,7 @@ use spx_text::Place;
 use sqlite_items::Items;
 use std::alloc::{AllocError, Global};
 
-/// A statement (Ada 95 RM 5).
+/// A statement (Ada 95 RM 5), or an annotation among statements.
 #[cycle(statement)]
 #[derive(Debug, Drop)]
 pub enum Stmt {
@@ -18,6 +18,8 @@ pub enum Stmt {
     If(Items<Arm>, Option<Items<Stmt>>, Closing),
     /// At the word `case`: the selector, the alternatives, one or more, and the closing words (Ada 95 RM 5.4).
     Case(Place, Expr, Items<Alternative>, Closing),
+    /// At the word `check`, in annotation text: what must be true there (Barnes).
+    Check(Place, Expr),
 }
 
 /// A condition and the statements after `then`, at the word `if` or `elsif`.
@@ -77,6 +79,7 @@ impl Stmt {
                 let alternatives = copy_alternatives(alloc, alternatives.as_slice())?;
                 Ok(Stmt::Case(*place, selector, alternatives, *closing))
             }
+            Stmt::Check(place, condition) => Ok(Stmt::Check(*place, condition.copy(alloc)?)),
         }
     }
 }

@@ -4,7 +4,7 @@ ghost use Rattle.std.specs.Prelude.{◌≡◌, IfOk};
 use crate::declaration::copy_declarations;
 use crate::expression::copy_identifiers;
 use crate::statement::copy_statements;
-use crate::{Decl, Derives, Identifier, Name, Precondition, Stmt};
+use crate::{Decl, Derives, Identifier, Name, Predicate, Stmt};
 use spx_text::Place;
 use sqlite_items::Items;
 use std::alloc::{AllocError, Global};
@@ -41,7 +41,8 @@ pub struct Subprogram {
     pub name: Identifier,
     pub formal_part: Option<FormalPart>,
     pub derives: Option<Derives>,
-    pub pre: Option<Precondition>,
+    pub pre: Option<Predicate>,
+    pub post: Option<Predicate>,
     pub declarations: Items<Decl>,
     pub statements: Items<Stmt>,
     /// The place of the word `end`.
@@ -112,14 +113,14 @@ fn copy_derives(alloc: Global, derives: &Option<Derives>) -> Result<Option<Deriv
     }
 }
 
-fn copy_precondition(
+fn copy_predicate(
     alloc: Global,
-    pre: &Option<Precondition>,
-) -> Result<Option<Precondition>, AllocError>
-    ensures { IfOk result (λ copied. copied ≡ pre.now) }
+    predicate: &Option<Predicate>,
+) -> Result<Option<Predicate>, AllocError>
+    ensures { IfOk result (λ copied. copied ≡ predicate.now) }
 {
-    match pre {
-        Some(pre) => Ok(Some(pre.copy(alloc)?)),
+    match predicate {
+        Some(predicate) => Ok(Some(predicate.copy(alloc)?)),
         None => Ok(None),
     }
 }
@@ -141,7 +142,8 @@ impl Subprogram {
         let name = self.name.copy(alloc)?;
         let formal_part = copy_formal_part(alloc, &self.formal_part)?;
         let derives = copy_derives(alloc, &self.derives)?;
-        let pre = copy_precondition(alloc, &self.pre)?;
+        let pre = copy_predicate(alloc, &self.pre)?;
+        let post = copy_predicate(alloc, &self.post)?;
         let declarations = copy_declarations(alloc, self.declarations.as_slice())?;
         let statements = copy_statements(alloc, self.statements.as_slice())?;
         let end_name = copy_end_name(alloc, &self.end_name)?;
@@ -151,6 +153,7 @@ impl Subprogram {
             formal_part,
             derives,
             pre,
+            post,
             declarations,
             statements,
             end: self.end,

@@ -8,7 +8,7 @@ use crate::declaration::{declared_once, judge_decl, judge_param};
 use crate::names::keeps;
 use crate::statement::{judge_item, judge_pre, judge_stmts};
 use spx_core::{
-    Breach, CoreDecl, CoreDerivesItem, CoreFormalPart, CoreParam, CorePrecondition, Defining,
+    Breach, CoreDecl, CoreDerivesItem, CoreFormalPart, CoreParam, CorePredicate, Defining,
     Program, RuleName, Sub,
 };
 use spx_tree::Identifier;
@@ -40,7 +40,7 @@ fn judge_relation(items: &[CoreDerivesItem]) -> Result<(), Breach>
     Ok(())
 }
 
-fn judge_precondition(pre: &Option<CorePrecondition>) -> Result<(), Breach>
+fn judge_precondition(pre: &Option<CorePredicate>) -> Result<(), Breach>
     ensures { result ≡ if_there rules.judged_pre pre.now }
 {
     match pre {

@@ -11,7 +11,7 @@ use crate::choices::{judge_choices, judge_selector};
 use crate::expression::{condition, judge, operand_of};
 use crate::names::{referred_object, referred_target};
 use spx_core::{
-    Breach, CoreAlternative, CoreArm, CoreDerivesItem, CoreExpr, CorePrecondition, CoreStmt,
+    Breach, CoreAlternative, CoreArm, CoreDerivesItem, CoreExpr, CorePredicate, CoreStmt,
     ExprType, Reference,
 };
 
@@ -47,7 +47,7 @@ fn test(expr: &CoreExpr) -> Result<(), Breach>
 }
 
 /// The first broken rule in a precondition.
-pub fn judge_pre(pre: &CorePrecondition) -> Result<(), Breach>
+pub fn judge_pre(pre: &CorePredicate) -> Result<(), Breach>
     ensures { result ≡ rules.judged_pre pre.now }
 {
     test(&pre.condition)

@@ -8,7 +8,7 @@ use Rattle.spx_core.specs.declared.entity.VarId.{VarId}
 use Rattle.spx_core.specs.declared.expression.CoreExpr.{CoreExpr}
 use Rattle.spx_core.specs.declared.name.Reference.{Reference}
 use Rattle.spx_core.specs.declared.program.Program.{Program}
-use Rattle.spx_core.specs.declared.subprogram.CorePrecondition.{CorePrecondition}
+use Rattle.spx_core.specs.declared.subprogram.CorePredicate.{CorePredicate}
 use Rattle.spx_core.specs.declared.subprogram.Sub.{Sub}
 use Rattle.spx_core.specs.Commands.{Set, Skip, Then, commands}
 use Rattle.spx_core.specs.Dependency.{exports}
@@ -100,7 +100,7 @@ after_import {old} {mid} {new} {id} p v b subtype name k m l facts st nm is =
     subst (λ b. Goes old new (assume_all (known_of p b v))) (sym is)
     (subst (λ (n : Name). Goes old new (assume_all (in_type (type_of p v) (Variable n)))) nm (subst (λ (s : Subtype). Goes old new (assume_all (in_type s (Variable name)))) st done))
 
-pub after_pre : {old new : Walk} (p : Program) (sub : Sub) (pre : Option CorePrecondition) (e : CoreExpr) → Keeps old new → ((entries : VarId → Term) → Walks old new (assume_parts (term_of p entries e)))
+pub after_pre : {old new : Walk} (p : Program) (sub : Sub) (pre : Option CorePredicate) (e : CoreExpr) → Keeps old new → ((entries : VarId → Term) → Walks old new (assume_parts (term_of p entries e)))
     → pre_facts p sub pre ≡ conjuncts (term_of p (entry_term p sub) e) → Goes old new (assume_all (pre_facts p sub pre))
 after_pre {old} {new} p sub pre e k walks is = subst (λ ts. Goes old new (assume_all ts)) (sym is) (goes_of k (walks (entry_term p sub)))
 

@@ -8,11 +8,11 @@ use Rattle.spx_core.specs.declared.expression.CoreExpr.TheVariants.{Name, Applie
 use Rattle.spx_core.specs.Judged.{application, named_value}
 use Rattle.spx_core.specs.Places.{place_of}
 use Rattle.spx_core.specs.Uses.{is_same, uses, variable_of}
-use Rattle.spx_meaning.specs.Stores.{Store, look, type_of}
+use Rattle.spx_meaning.specs.Stores.{Store, look, type_of, reading_of, seen}
 use Rattle.spx_meaning.specs.Frames.{Frame}
 use Rattle.spx_meaning.specs.Literals.{base_of, literal, literal_in}
 use Rattle.spx_meaning.specs.Evaluation.{Gives, with_value, applied, applied_sign, checked, decided, first_in, last_in, mapped_value, mapping_checked, member, signed, read, read_at, static_or, eval, eval-Number, eval-Name, eval-Attribute, eval-Applied, eval-Parenthesized, eval-Prefix, eval-Infix, eval-InType, eval-InRange}
-use Rattle.spx_meaning.specs.Annotations.{reading_of, seen, value_or, meant, meant_step}
+use Rattle.spx_meaning.specs.Annotations.{value_or, meant, meant_step}
 use Rattle.spx_core.proofs.Callers.ReadsLaws.{uses-Name, uses-Applied, uses-Parenthesized, uses-Prefix, uses-InType, uses_left, uses_right, uses_tested, uses_low, uses_high}
 use Rattle.spx_core.proofs.Callers.Expressions.{Cases, induct, fold-Number, fold-Name, fold-Attribute, fold-Applied, fold-Parenthesized, fold-Prefix, fold-Infix, fold-InType, fold-InRange}
 

@@ -5,7 +5,7 @@ use Rattle.spx_text.specs.declared.place.Place.{Place}
 use Rattle.spx_core.specs.declared.entity.VarId.{VarId}
 use Rattle.spx_core.specs.declared.program.Program.{Program}
 use Rattle.spx_core.specs.declared.subprogram.Sub.{Sub}
-use Rattle.spx_core.specs.declared.subprogram.CorePrecondition.{CorePrecondition}
+use Rattle.spx_core.specs.declared.subprogram.CorePredicate.{CorePredicate}
 use Rattle.spx_core.specs.declared.name.Reference.{Reference}
 use Rattle.spx_core.specs.declared.expression.CoreExpr.{CoreExpr}
 use Rattle.spx_core.specs.Commands.{Set, commands}
@@ -41,7 +41,7 @@ pub demand_ended : (b : Bool) (kind : BadKind) (place : Place) (s t : Store) →
 demand_ended true kind place s t h = (refl, same_store s t h)
 demand_ended false kind place s t h = absurd (cc)
 
-demand_pre_ended : (f : Frame) (pre : Option CorePrecondition) (s t : Store) → demand_pre f pre s ≡ Ended t → s ≡ t
+demand_pre_ended : (f : Frame) (pre : Option CorePredicate) (s t : Store) → demand_pre f pre s ≡ Ended t → s ≡ t
 demand_pre_ended f (Some pre) s t h = (demand_ended _ _ _ s t h).1
 demand_pre_ended f None s t h = same_store s t h
 
