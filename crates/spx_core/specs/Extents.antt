@@ -1,5 +1,5 @@
 -- The values that a selector may have (Ada 95 RM 5.4).
-use Rattle.std.specs.Prelude.{◌≡◌, refl, ℤ, pos, int_le, if◌then◌else◌, Option, Some, None, Ok, Err}
+use Rattle.std.specs.Prelude.{Bool, ◌≡◌, refl, ℤ, pos, int_le, if◌then◌else◌, Option, Some, None, Ok, Err}
 use denote.Hole.Carrier.{hidden}
 use Rattle.spx_text.specs.declared.place.Place.{Place}
 use Rattle.spx_tree.specs.declared.expression.FunctionForm.{FunctionForm}

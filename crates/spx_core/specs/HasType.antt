@@ -1,5 +1,5 @@
 -- When an expression has a type: a derivation from its parts up.
-use Rattle.std.specs.Prelude.{◌≡◌, ℤ, Some, Ok}
+use Rattle.std.specs.Prelude.{Bool, ◌≡◌, ℤ, Some, Ok}
 use Rattle.spx_text.specs.declared.place.Place.{Place}
 use Rattle.spx_tree.specs.declared.expression.Identifier.{Identifier}
 use Rattle.spx_tree.specs.declared.expression.InfixOp.{InfixOp}
