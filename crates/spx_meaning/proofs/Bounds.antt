@@ -2,7 +2,7 @@
 use Rattle.std.proofs.Common.{◌≡◌, ◌≢◌, ℕ, ◌≤◌, Bool, true, false, refl, sym, ap, ◌∙◌}
 use Rattle.std.specs.Prelude.{if◌then◌else◌}
 use Rattle.spx_core.specs.declared.expression.CoreExpr.{CoreExpr}
-use Rattle.spx_core.specs.Commands.{Command, Skip, Set, Then, Choose, Select, Alternatives, Last, When, commands}
+use Rattle.spx_core.specs.Commands.{Command, Skip, Set, Then, Choose, Select, Check, Alternatives, Last, When, commands}
 use Rattle.spx_core.specs.Places.{place_of}
 use Rattle.spx_core.specs.Uses.{variable_of}
 use Rattle.spx_term.specs.declared.value.Value.{Value}
@@ -52,6 +52,7 @@ mutual
   runs_kept f n m less s (Select place selector alternatives) =
       kept_use_at (eval f n s selector) (eval f m s selector) (λ x. run_for x f n s alternatives) (λ x. run_for x f m s alternatives) (eval_at f n m s selector)
       (λ x. one_kept x f n m less s alternatives)
+  runs_kept f n m less s (Check place condition) = λ there. refl
 
   one_kept : (x : Value) (f : Frame) (n m : ℕ) → n ≤ m → (s : Store) (alternatives : Alternatives) → Kept (run_for x f n s alternatives) (run_for x f m s alternatives)
   one_kept x f n m less s (Last choices a) = runs_kept f n m less s a

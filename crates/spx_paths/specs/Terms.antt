@@ -174,6 +174,6 @@ module _ (present entered : VarId → Term) where
 
 pub ruleset term_forms = (term_with-Applied, term_with-Parenthesized, term_with-Prefix, term_with-Infix, term_with-InType, term_with-InRange, term_with-Number, term_with-Name, term_with-Entry, term_with-Attribute)
 
--- the term over the names of the present values, with these for the values on entry
+-- The term over the names of the present values, with these for the values on entry. In code, where no value on entry is named, it counts as the present one.
 abbrev pub term_of : Program → (VarId → Term) → CoreExpr → Term
 term_of p entered e = term_with (now_term p) entered e

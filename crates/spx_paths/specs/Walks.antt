@@ -85,13 +85,13 @@ abbrev mutual
   pub walk : Program → Sub → Command → (rest leave : ℕ → Tree) → ℕ → Tree
   walk p sub Skip rest leave made = rest made
   walk p sub (Set target e) rest leave made =
-      checks p (entry_term p sub) [] e (assigned p (place_of e) (variable_of target.root.entity) (term_of p (entry_term p sub) e) (rest made))
+      checks p (now_term p) [] e (assigned p (place_of e) (variable_of target.root.entity) (term_of p (now_term p) e) (rest made))
   walk p sub (Then a b) rest leave made = walk p sub a (walk p sub b rest leave) leave made
   walk p sub (Choose place condition a b) rest leave made =
-      checks p (entry_term p sub) [] condition
-      (Split (assume_parts (term_of p (entry_term p sub) condition) (walk p sub a rest leave made)) (Assume (term.Prefix Not (term_of p (entry_term p sub) condition)) (walk p sub b rest leave made)))
+      checks p (now_term p) [] condition
+      (Split (assume_parts (term_of p (now_term p) condition) (walk p sub a rest leave made)) (Assume (term.Prefix Not (term_of p (now_term p) condition)) (walk p sub b rest leave made)))
   walk p sub (Select place selector alternatives) rest leave made =
-      checks p (entry_term p sub) [] selector (walk_for p sub (term_of p (entry_term p sub) selector) [] alternatives rest leave made)
+      checks p (now_term p) [] selector (walk_for p sub (term_of p (now_term p) selector) [] alternatives rest leave made)
   walk p sub (Check place condition) rest leave made = asserted kind.Check place (term_of p (entry_term p sub) condition) (rest made)
 
   -- the alternatives for the value of the selector, after earlier choices

@@ -10,7 +10,7 @@ use Rattle.spx_core.specs.declared.subprogram.Sub.{Sub}
 use Rattle.spx_core.specs.Uses.{is_same}
 use Rattle.spx_core.specs.Dependency.{Pair, declared_pairs, derives, exports, imports}
 use Rattle.spx_core.specs.Formals.{formals, is_formal, stands_in}
-use Rattle.spx_core.specs.Effects.{Effect, Read, nothing, assign, next, choose, sets, is_read}
+use Rattle.spx_core.specs.Effects.{Effect, Read, nothing, assign, next, choose, observe, sets, is_read}
 use Rattle.spx_core.specs.Flow.{MayFlow}
 use Rattle.spx_core.specs.Marks.{Occurs, marked}
 use Rattle.spx_core.specs.Ways.{Ways, Follow, Free, Goes, Reaches}
@@ -44,6 +44,7 @@ targets nothing = no_listing (λ v h. absurd cc)
 targets (assign target reads place) = variable target
 targets (next a b) = listing_as (joined (targets a) (targets b)) (λ v. either_test (sets v a) (sets v b))
 targets (choose tests a b place) = listing_as (joined (targets a) (targets b)) (λ v. either_test (sets v a) (sets v b))
+targets (observe values) = no_listing (λ v h. absurd cc)
 
 flows_from : (u : VarId) (e : Effect) → Listing (λ w. MayFlow e u w)
 flows_from u nothing = one_listing u
@@ -53,6 +54,7 @@ flows_from u (assign target reads place) =
 flows_from u (next a b) = after (flows_from u a) (λ v. flows_from v b)
 flows_from u (choose tests a b place) =
     joined (flows_from u a) (joined (flows_from u b) (those (targets (next a b)) (λ w. is_true (is_read u tests))))
+flows_from u (observe values) = one_listing u
 
 flows_or_not : (e : Effect) (u w : VarId) → Decided (MayFlow e u w)
 flows_or_not e u w = listed_or_not same_or_not (flows_from u e) w
@@ -88,6 +90,7 @@ goes_or_not v (assign target reads place) =
     decided_as (is_false (stands_in v way)) (λ h. (way, refl, h), λ h. subst (λ w. stands_in v w ≡ false) h.1 h.2)
 goes_or_not v (next a b) = decided_as (both (goes_or_not v a) (goes_or_not v b)) (free_follow (Goes a) (Goes b) v)
 goes_or_not v (choose tests a b place) = decided_as (one_of (goes_or_not v a) (goes_or_not v b)) (free_either (Goes a) (Goes b) v)
+goes_or_not v (observe values) = inl ([], refl, refl)
 
 -- reads of variables before they are set
 abbrev EarlyIn : Effect → Read → Type 0
@@ -109,6 +112,7 @@ early_reads (choose tests a b place) = listing_as (joined (elements tests) (join
       λ h. all.0 (⊎_elim (λ one. inl (here.0 one)) (λ more. inr (arms.0 more)) h),
       λ h. ⊎_elim (λ one. inl (here.1 one)) (λ more. inr (arms.1 more)) (all.1 h),
     ))
+early_reads (observe values) = listing_as (elements values) (λ r. free_at_once (Contains values r) r.1)
 
 -- ---- occurrences
 
@@ -118,6 +122,7 @@ occurrences (assign (Some v) reads place) = listing_as (one_listing place) (λ p
 occurrences (assign None reads place) = no_listing (λ p h. absurd cc)
 occurrences (next a b) = joined (occurrences a) (occurrences b)
 occurrences (choose tests a b place) = joined (one_listing place) (joined (occurrences a) (occurrences b))
+occurrences (observe values) = no_listing (λ p h. h)
 
 -- ---- subprograms
 

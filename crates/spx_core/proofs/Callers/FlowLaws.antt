@@ -15,7 +15,7 @@ use Rattle.spx_core.specs.Uses.{denotes, is_same, uses, variable_of}
 use Rattle.spx_core.specs.Reads.{names_read}
 use Rattle.spx_core.specs.Formals.{stands_in}
 use Rattle.spx_core.specs.Dependency.{imports}
-use Rattle.spx_core.specs.Effects.{Effect, Read, nothing, assign, next, choose, effect, effects, sets, reads, is_read, read_of, reads_of, defines}
+use Rattle.spx_core.specs.Effects.{Effect, Read, nothing, assign, next, choose, observe, effect, effects, sets, reads, is_read, read_of, reads_of, defines}
 use Rattle.spx_core.specs.Flow.{MayFlow, FlowsCompose, FlowsKeep}
 use Rattle.spx_core.specs.Ways.{Free, Goes}
 use Rattle.spx_core.specs.FlowRules.{left, ExportsAreSet}
@@ -67,6 +67,7 @@ keeps (choose tests a b place) u w none =
       λ h. ⊎_elim (λ first. (keeps a u w parts.0).0 first) (λ more. ⊎_elim (λ second. (keeps b u w parts.1).0 second) (λ tested. absurd (both_ways (sets w a || sets w b) none tested.0)) more) h,
       λ e. inl ((keeps a u w parts.0).1 e),
     )
+keeps (observe values) u w none = (λ h. h, λ h. h)
 
 -- what is not read flows to itself only
 pub unread : (e : Effect) (u w : VarId) → reads u e ≡ false → MayFlow e u w → u ≡ w
@@ -80,6 +81,7 @@ unread (choose tests a b place) u w none flow =
     let parts = or_parts (is_read u tests) (reads u a || reads u b) none in
     let arms = or_parts (reads u a) (reads u b) parts.1 in
     ⊎_elim (λ first. unread a u w arms.0 first) (λ more. ⊎_elim (λ second. unread b u w arms.1 second) (λ tested. absurd (both_ways (is_read u tests) parts.0 tested.1)) more) flow
+unread (observe values) u w none flow = flow
 
 -- ---- ways
 
@@ -103,6 +105,7 @@ goes_free (next a b) v none =
 goes_free (choose tests a b place) v none =
     let first = goes_free a v (or_parts (sets v a) (sets v b) none).0 in
     (first.0, inl first.1, first.2)
+goes_free (observe values) v none = ([], refl, refl)
 
 -- ---- what is set
 

@@ -9,7 +9,7 @@ use Rattle.spx_core.specs.declared.program.Program.{Program}
 use Rattle.spx_core.specs.declared.subprogram.Sub.{Sub}
 use Rattle.spx_core.specs.Formals.{is_formal, is_local}
 use Rattle.spx_core.specs.Dependency.{exports}
-use Rattle.spx_core.specs.Effects.{Effect, Read, nothing, assign, next, choose, sets, reads, is_read}
+use Rattle.spx_core.specs.Effects.{Effect, Read, nothing, assign, next, choose, observe, sets, reads, is_read}
 use Rattle.spx_core.specs.Flow.{MayFlow}
 use Rattle.spx_core.specs.Marks.{MarkLaw, Mu, marked, same_place, with_mark}
 use Rattle.spx_core.specs.FlowRules.{MarkReaches, body_effect, mark}
@@ -60,6 +60,7 @@ module _ (p : Place) (m : VarId) where
   sets_marked w (assign target values place) = refl
   sets_marked w (next a b) = ap₂ ◌||◌ (sets_marked w a) (sets_marked w b)
   sets_marked w (choose tests a b place) = ap₂ ◌||◌ (sets_marked w a) (sets_marked w b)
+  sets_marked w (observe values) = refl
 
   law : (e : Effect) → sets m e ≡ false → (u w : VarId) → MayFlow (marked p m e) u w ↔ (MayFlow e u w ⊎ ((m ≡ u) × Mu e p w))
   law nothing none u w = (λ h. inl h, λ h. ⊎_elim (λ e. e) (λ e. absurd e.1) h)
@@ -102,6 +103,7 @@ module _ (p : Place) (m : VarId) where
             k.1)
             h,
       )
+  law (observe values) none u w = (λ h. inl h, λ h. ⊎_elim (λ e. e) (λ e. absurd e.1) h)
 
 pub mark_law : MarkLaw
 mark_law p m e none u w = law p m e none u w

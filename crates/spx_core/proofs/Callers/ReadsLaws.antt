@@ -13,13 +13,13 @@ use Rattle.spx_core.specs.declared.entity.VarId.{VarId}
 use Rattle.spx_core.specs.declared.name.CoreName.{CoreName}
 use Rattle.spx_core.specs.declared.name.Reference.{Reference}
 use Rattle.spx_core.specs.declared.expression.CoreExpr.{CoreExpr}
-use Rattle.spx_core.specs.declared.expression.CoreExpr.TheVariants.{Number, Name, Attribute, Applied, Parenthesized, Prefix, Infix, InType, InRange}
+use Rattle.spx_core.specs.declared.expression.CoreExpr.TheVariants.{Number, Name, Entry, Attribute, Applied, Parenthesized, Prefix, Infix, InType, InRange}
 use Rattle.spx_core.specs.declared.function.CoreFunction.{CoreFunction}
 use Rattle.spx_core.specs.Reads.{names_read, names_step}
 use Rattle.spx_core.specs.Judged.{Judged, ◌>>=◌, each}
 use Rattle.spx_core.specs.Uses.{denotes, uses}
 use Rattle.spx_core.proofs.Judgements.{each_of_both}
-use Rattle.spx_core.proofs.Callers.Expressions.{fold-Number, fold-Name, fold-Attribute, fold-Applied, fold-Parenthesized, fold-Prefix, fold-Infix, fold-InType, fold-InRange}
+use Rattle.spx_core.proofs.Callers.Expressions.{fold-Number, fold-Name, fold-Entry, fold-Attribute, fold-Applied, fold-Parenthesized, fold-Prefix, fold-Infix, fold-InType, fold-InRange}
 
 or_none : (b : Bool) → (b || false) ≡ b
 or_none true = refl
@@ -31,6 +31,9 @@ module _ (v : VarId) where
 
   pub uses-Name : (name : CoreName) → uses v (Name name) ≡ denotes v name
   uses-Name name = ap (list_any (denotes v)) (fold-Name names_step name) ∙ or_none (denotes v name)
+
+  pub uses-Entry : (name : CoreName) (allowed : Bool) → uses v (Entry name allowed) ≡ denotes v name
+  uses-Entry name allowed = ap (list_any (denotes v)) (fold-Entry names_step name allowed) ∙ or_none (denotes v name)
 
   pub uses-Attribute : (prefix : CoreName) (designator : Identifier) → uses v (Attribute prefix designator) ≡ false
   uses-Attribute prefix designator = ap (list_any (denotes v)) (fold-Attribute names_step prefix designator)
@@ -72,7 +75,7 @@ uses_low v op place a low high h = uses-InRange v op place a low high ∙ or_rig
 pub uses_high : (v : VarId) (op : MemberOp) (place : Place) (a low high : CoreExpr) → uses v high ≡ true → uses v (InRange op place a low high) ≡ true
 uses_high v op place a low high h = uses-InRange v op place a low high ∙ or_right (uses v a) (uses v low || uses v high) (or_right (uses v low) (uses v high) h)
 
-pub ruleset uses_forms = (uses-Number, uses-Name, uses-Attribute, uses-Applied, uses-Parenthesized, uses-Prefix, uses-Infix, uses-InType, uses-InRange)
+pub ruleset uses_forms = (uses-Number, uses-Name, uses-Entry, uses-Attribute, uses-Applied, uses-Parenthesized, uses-Prefix, uses-Infix, uses-InType, uses-InRange)
 
 -- ---- a rule on each name that is read
 

@@ -6,7 +6,7 @@ use Rattle.spx_text.specs.declared.place.Place.{Place}
 use Rattle.spx_core.specs.declared.entity.VarId.{VarId}
 use Rattle.spx_core.specs.declared.name.Reference.{Reference}
 use Rattle.spx_core.specs.declared.expression.CoreExpr.{CoreExpr}
-use Rattle.spx_core.specs.Commands.{Command, Skip, Set, Then, Choose, Select, Alternatives, Last, When}
+use Rattle.spx_core.specs.Commands.{Command, Skip, Set, Then, Choose, Select, Check, Alternatives, Last, When}
 use Rattle.spx_core.specs.declared.statement.CoreChoice.{CoreChoice}
 use Rattle.spx_core.specs.Uses.{denotes}
 use Rattle.spx_core.specs.Effects.{Effect, Read, choose, effect, effect_among, is_read, reads_of, sets}
@@ -16,11 +16,13 @@ use Rattle.spx_term.specs.Meaning.{as_truth}
 use Rattle.spx_meaning.specs.Stores.{Store, look}
 use Rattle.spx_meaning.specs.Frames.{Frame}
 use Rattle.spx_meaning.specs.Evaluation.{eval}
+use Rattle.spx_meaning.specs.Annotations.{truth}
+use Rattle.spx_meaning.specs.declared.bad.BadKind.TheVariants as bad
 use Rattle.spx_meaning.specs.Runs.{Outcome, Ended, Left, Bad, Later, then_do, has_value, run, run_for}
 use Rattle.spx_meaning.specs.Laws.{Agree}
 use Rattle.spx_core.proofs.Callers.FlowLaws.{keeps, reads_uses}
 use Rattle.spx_meaning.proofs.Callers.Evaluation.{eval_same}
-use Rattle.spx_meaning.proofs.Callers.Runs.{same_store, same_gift, then_ended, use_ended, Assigns, assignment}
+use Rattle.spx_meaning.proofs.Callers.Runs.{same_store, same_gift, demand_ended, then_ended, use_ended, Assigns, assignment}
 
 -- ---- a variable that no part of a command sets keeps its value
 
@@ -44,6 +46,7 @@ mutual
   kept f n s s' (Select place selector alternatives) v ended h =
       let used = use_ended (eval f n s selector) (λ x. run_for x f n s alternatives) s' ended in
       kept_among f n s s' used.0 (reads_of selector) place alternatives v used.2 h
+  kept f n s s' (Check place condition) v ended h = ap (λ x. look x v) (sym (demand_ended (truth f s condition) bad.Check place s s' ended).1)
 
   kept_among : (f : Frame) (n : ℕ) (s s' : Store) (x : Value) (tests : List Read) (place : Place) (alternatives : Alternatives) (v : VarId) → run_for x f n s alternatives ≡ Ended s' → sets v (effect_among tests place alternatives) ≡ false → look s' v ≡ look s v
   kept_among f n s s' x tests place (Last choices a) v ended h = kept f n s s' a v ended (or_parts (sets v (effect a)) (sets v (effect a)) h).0
@@ -187,6 +190,12 @@ module _ (f g : Frame) (n m : ℕ) where
     pairs s t (Then a b) = pair_then (MayFlow (effect a)) (MayFlow (effect b)) s t (run f n s a) (run g m t a) (λ x. run f n x b) (λ y. run g m y b) (pairs s t a) (λ s' t'. pairs s' t' b)
     pairs s t (Choose place condition a b) = pair_choose s t place condition a b (pairs s t a) (pairs s t b)
     pairs s t (Select place selector alternatives) = pair_select s t place selector alternatives (λ x. pairs_among s t x (reads_of selector) place alternatives)
+    pairs s t (Check place condition) =
+        pair_of (MayFlow (effect (Check place condition))) s t (run f n s (Check place condition)) (run g m t (Check place condition))
+        (λ s' t' ended ended' w agree.
+        let here = demand_ended (truth f s condition) bad.Check place s s' ended in
+        let there = demand_ended (truth g t condition) bad.Check place t t' ended' in
+        ap (λ x. look x w) (sym here.1) ∙ agree w refl ∙ ap (λ x. look x w) there.1)
 
     pairs_among : (s t : Store) (x : Value) (tests : List Read) (place : Place) (alternatives : Alternatives) → Pair (MayFlow (effect_among tests place alternatives)) s t (run_for x f n s alternatives) (run_for x g m t alternatives)
     pairs_among s t x tests place (Last choices a) = pair_wider (MayFlow (effect a)) _ s t (run f n s a) (run g m t a) (λ u w flow. inl flow) (pairs s t a)

@@ -13,10 +13,11 @@ use Rattle.spx_core.specs.Places.{place_of}
 use Rattle.spx_core.specs.Uses.{is_same, denotes, variable_of}
 use Rattle.spx_term.specs.declared.value.Value.{Value}
 use Rattle.spx_meaning.specs.declared.bad.BadKind.{BadKind}
+use Rattle.spx_meaning.specs.declared.bad.BadKind.TheVariants.{Unset}
 use Rattle.spx_meaning.specs.Stores.{Store, look, put}
 use Rattle.spx_meaning.specs.Frames.{Frame, around}
 use Rattle.spx_meaning.specs.Evaluation.{Answer, Gives, Fails, Waits, eval}
-use Rattle.spx_meaning.specs.Runs.{Outcome, Ended, Left, Bad, Later, then_do, use_value, demand, assign, run, entry_of, demand_pre, call}
+use Rattle.spx_meaning.specs.Runs.{Outcome, Ended, Left, Bad, Later, then_do, use_value, demand, assign, run, entry_of, demand_pre, demand_post, call}
 use Rattle.spx_meaning.proofs.Callers.Stores.{look-put_same, look-put_other}
 
 pub same_store : (s t : Store) → Ended s ≡ Ended t → s ≡ t
@@ -45,6 +46,10 @@ demand_pre_ended : (f : Frame) (pre : Option CorePredicate) (s t : Store) → de
 demand_pre_ended f (Some pre) s t h = (demand_ended _ _ _ s t h).1
 demand_pre_ended f None s t h = same_store s t h
 
+demand_post_ended : (f : Frame) (post : Option CorePredicate) (s t : Store) → demand_post f post s ≡ Ended t → s ≡ t
+demand_post_ended f (Some post) s t h = (demand_ended _ _ _ s t h).1
+demand_post_ended f None s t h = same_store s t h
+
 -- the body of a call that has ended has ended
 pub call_ended : (p : Program) (n : ℕ) (sub : Sub) (s t : Store) → call p n sub s ≡ Ended t → run (around p sub (entry_of p sub s)) n (entry_of p sub s) (commands sub.statements) ≡ Ended t
 call_ended p n sub s t h =
@@ -52,7 +57,9 @@ call_ended p n sub s t h =
     let first = then_ended _ _ t h in
     let body = then_ended _ _ t first.2 in
     let entry : entry_of p sub s ≡ first.0 = demand_pre_ended f sub.pre (entry_of p sub s) first.0 first.1 in
-    let end : body.0 ≡ t = (demand_ended _ _ _ body.0 t body.2).1 in
+    let set = then_ended _ _ t body.2 in
+    let same : body.0 ≡ set.0 = (demand_ended (exports_set sub body.0) Unset sub.end body.0 set.0 set.1).1 in
+    let end : body.0 ≡ t = same ∙ demand_post_ended f sub.post set.0 t set.2 in
     ap (λ x. run f n x (commands sub.statements)) entry ∙ body.1 ∙ ap Ended end
 
 -- after an assignment the target has the value of the right side, and every other variable its own
