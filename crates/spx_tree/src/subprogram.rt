@@ -135,15 +135,26 @@ fn copy_end_name(alloc: Global, name: &Option<Identifier>) -> Result<Option<Iden
 }
 
 impl Subprogram {
+    /// Equal annotations: the dependency relation, the precondition and the postcondition.
+    fn copy_annotations(
+        &self,
+        alloc: Global,
+    ) -> Result<(Option<Derives>, Option<Predicate>, Option<Predicate>), AllocError>
+        ensures { IfOk result (λ copies. (copies.0 ≡ self.now.derives) × (copies.1 ≡ self.now.pre) × (copies.2 ≡ self.now.post)) }
+    {
+        let derives = copy_derives(alloc, &self.derives)?;
+        let pre = copy_predicate(alloc, &self.pre)?;
+        let post = copy_predicate(alloc, &self.post)?;
+        Ok((derives, pre, post))
+    }
+
     /// An equal subprogram.
     pub fn copy(&self, alloc: Global) -> Result<Subprogram, AllocError>
         ensures { IfOk result (λ sub. sub ≡ self.now) }
     {
         let name = self.name.copy(alloc)?;
         let formal_part = copy_formal_part(alloc, &self.formal_part)?;
-        let derives = copy_derives(alloc, &self.derives)?;
-        let pre = copy_predicate(alloc, &self.pre)?;
-        let post = copy_predicate(alloc, &self.post)?;
+        let (derives, pre, post) = self.copy_annotations(alloc)?;
         let declarations = copy_declarations(alloc, self.declarations.as_slice())?;
         let statements = copy_statements(alloc, self.statements.as_slice())?;
         let end_name = copy_end_name(alloc, &self.end_name)?;

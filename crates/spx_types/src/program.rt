@@ -6,7 +6,7 @@ ghost use Rattle.spx_core.specs.Statements as rules;
 
 use crate::declaration::{declared_once, judge_decl, judge_param};
 use crate::names::keeps;
-use crate::statement::{judge_item, judge_pre, judge_stmts};
+use crate::statement::{judge_item, judge_predicate, judge_stmts};
 use spx_core::{
     Breach, CoreDecl, CoreDerivesItem, CoreFormalPart, CoreParam, CorePredicate, Defining,
     Program, RuleName, Sub,
@@ -40,12 +40,12 @@ fn judge_relation(items: &[CoreDerivesItem]) -> Result<(), Breach>
     Ok(())
 }
 
-fn judge_precondition(pre: &Option<CorePredicate>) -> Result<(), Breach>
-    ensures { result ≡ if_there rules.judged_pre pre.now }
+fn judge_annotation(pre: &Option<CorePredicate>) -> Result<(), Breach>
+    ensures { result ≡ if_there rules.judged_predicate pre.now }
 {
     match pre {
         None => Ok(()),
-        Some(pre) => judge_pre(pre),
+        Some(pre) => judge_predicate(pre),
     }
 }
 
@@ -76,7 +76,7 @@ fn judge_sub(sub: &Sub) -> Result<(), Breach>
 {
     judge_formals(&sub.formal_part)?;
     judge_relation(sub.relation())?;
-    judge_precondition(&sub.pre)?;
+    judge_annotation(&sub.pre)?;
     judge_decls(sub.declarations.as_slice())?;
     judge_stmts(sub.statements.as_slice())?;
     judge_end(&sub.name, &sub.end_name)

@@ -47,8 +47,8 @@ fn test(expr: &CoreExpr) -> Result<(), Breach>
 }
 
 /// The first broken rule in a precondition.
-pub fn judge_pre(pre: &CorePredicate) -> Result<(), Breach>
-    ensures { result ≡ rules.judged_pre pre.now }
+pub fn judge_predicate(pre: &CorePredicate) -> Result<(), Breach>
+    ensures { result ≡ rules.judged_predicate pre.now }
 {
     test(&pre.condition)
 }

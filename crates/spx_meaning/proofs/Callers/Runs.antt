@@ -17,7 +17,7 @@ use Rattle.spx_meaning.specs.declared.bad.BadKind.TheVariants.{Unset}
 use Rattle.spx_meaning.specs.Stores.{Store, look, put}
 use Rattle.spx_meaning.specs.Frames.{Frame, around}
 use Rattle.spx_meaning.specs.Evaluation.{Answer, Gives, Fails, Waits, eval}
-use Rattle.spx_meaning.specs.Runs.{Outcome, Ended, Left, Bad, Later, then_do, use_value, demand, assign, run, entry_of, demand_pre, demand_post, call}
+use Rattle.spx_meaning.specs.Runs.{Outcome, Ended, Left, Bad, Later, then_do, use_value, demand, assign, run, entry_of, demand_pre, demand_post, exports_set, call}
 use Rattle.spx_meaning.proofs.Callers.Stores.{look-put_same, look-put_other}
 
 pub same_store : (s t : Store) → Ended s ≡ Ended t → s ≡ t
