@@ -31,15 +31,16 @@ use Rattle.spx_core.specs.declared.expression.CoreExpr.{CoreExpr, CoreExpr-F, ro
 use Rattle.spx_core.specs.declared.statement.CoreStmt.{CoreStmt, CoreStmt-F, map-CoreStmt, roll-CoreStmt, fold-roll-CoreStmt}
 use Rattle.spx_core.specs.declared.statement.CoreArm.{CoreArm, fold-roll-CoreArm}
 use Rattle.spx_core.specs.declared.statement.CoreAlternative.{CoreAlternative, fold-roll-CoreAlternative}
+use Rattle.spx_core.specs.declared.dependency.CoreDerivesItem.{CoreDerivesItem}
 use Rattle.spx_core.specs.declared.program.Program.{Program}
 use Rattle.spx_core.specs.Regions.{Region, Regions, hidden}
-use Rattle.spx_core.specs.Erased.{Visible, erased, erased_alternative, erased_alternative_step, erased_arm, erased_arm_step, erased_choice, erased_decl, erased_range, erased_defining, erased_derives, erased_exports, erased_expr, erased_formal_part, erased_item, erased_param, erased_pre, erased_reference, erased_step, erased_stmt, erased_stmt_step, erased_sub, unit_of}
+use Rattle.spx_core.specs.Erased.{Visible, erased, erased_alternative, erased_alternative_step, erased_arm, erased_arm_step, erased_choice, erased_decl, erased_range, erased_defining, erased_derives, erased_exports, erased_expr, erased_formal_part, erased_item, erased_param, erased_predicate, erased_reference, erased_step, erased_stmt, erased_stmt_step, erased_sub, unit_of}
 use Rattle.spx_core.specs.Judged.{breach_in}
 use Rattle.spx_core.specs.Statements.{Typed, first_name_breach, judged_program}
 use Rattle.spx_core.proofs.Callers.Bodies.{all_are_units}
 use Rattle.spx_core.proofs.Judgements.{unbroken}
 use Rattle.spx_core.specs.Resolved as resolved
-use Rattle.spx_core.specs.Resolved.{after_formals, around_body, around_formals, around_names, at_start, counted, counted_sub, Counts, declared_by, declaring, declaring_all, defining, defining_all, exported_names, formal_names, local_names, meant_at, place_of_null, resolved_alternative, resolved_arm, resolved_choice, resolved_decl, resolved_decls, resolved_derives, resolved_expr, resolved_formal_part, resolved_function, resolved_item, resolved_name, resolved_param, resolved_params, resolved_pre, resolved_range, resolved_reference, resolved_stmt, resolved_sub, resolved_subs, resolved_type, unit_name}
+use Rattle.spx_core.specs.Resolved.{after_formals, around_body, around_formals, around_names, at_start, counted, counted_sub, Counts, declared_by, declaring, declaring_all, defining, defining_all, exported_names, formal_names, is_changed_by, items_for, local_names, meant_at, place_of_null, resolved_alternative, resolved_arm, resolved_choice, resolved_decl, resolved_decls, resolved_derives, resolved_expr, resolved_formal_part, resolved_function, resolved_in, resolved_item, resolved_name, resolved_param, resolved_params, resolved_predicate, resolved_range, resolved_reference, resolved_stmt, resolved_sub, resolved_subs, resolved_type, unit_name}
 
 -- ---- names and expressions
 
@@ -51,34 +52,38 @@ kept_reference regions (Attribute prefix designator) = refl
 erased_at : (y : CoreExpr-F CoreExpr) → erased_expr (roll-CoreExpr y) ≡ erased_step (map-CoreExpr CoreExpr Expr erased_expr y)
 erased_at y = fold-roll-CoreExpr Expr erased_step y
 
-module _ (regions : Regions) where
+module _ (items : List CoreDerivesItem) (regions : Regions) where
   abbrev Kept : Expr → Type 0
-  Kept e = erased_expr (resolved_expr regions e) ≡ e
+  Kept e = erased_expr (resolved_in items regions e) ≡ e
 
   abbrev Shown : Type 0
   Shown = (e : Expr) × Kept e
 
-  at_layer : (y : Expr-F Shown) → erased_expr (resolved.expr_step regions (map-Expr Expr CoreExpr (resolved_expr regions) (map-Expr Shown Expr (λ e. e.0) y))) ≡ roll-Expr (map-Expr Shown Expr (λ e. e.0) y)
+  at_layer : (y : Expr-F Shown) → erased_expr (resolved.expr_step items regions (map-Expr Expr CoreExpr (resolved_in items regions) (map-Expr Shown Expr (λ e. e.0) y))) ≡ roll-Expr (map-Expr Shown Expr (λ e. e.0) y)
   unfolding roll-Expr roll-CoreExpr roll
   at_layer (Expr-F.Number n place) = erased_at (CoreExpr-F.Number n place)
   at_layer (Expr-F.Name (Simple name)) = erased_at (CoreExpr-F.Name (resolved_name regions name))
   at_layer (Expr-F.Name (Attribute prefix designator)) = erased_at (CoreExpr-F.Attribute (resolved_name regions prefix) designator)
-  at_layer (Expr-F.Applied function place a) = erased_at (CoreExpr-F.Applied (resolved_function regions function) place (resolved_expr regions a.0)) ∙ ap (expr.Applied function place) a.1
-  at_layer (Expr-F.Parenthesized place a) = erased_at (CoreExpr-F.Parenthesized place (resolved_expr regions a.0)) ∙ ap (expr.Parenthesized place) a.1
-  at_layer (Expr-F.Prefix op place a) = erased_at (CoreExpr-F.Prefix op place (resolved_expr regions a.0)) ∙ ap (expr.Prefix op place) a.1
-  at_layer (Expr-F.Infix op place a b) = erased_at (CoreExpr-F.Infix op place (resolved_expr regions a.0) (resolved_expr regions b.0)) ∙ ap₂ (expr.Infix op place) a.1 b.1
+  at_layer (Expr-F.Entry name) = erased_at (CoreExpr-F.Entry (resolved_name regions name) (is_changed_by items (resolved_name regions name)))
+  at_layer (Expr-F.Applied function place a) = erased_at (CoreExpr-F.Applied (resolved_function regions function) place (resolved_in items regions a.0)) ∙ ap (expr.Applied function place) a.1
+  at_layer (Expr-F.Parenthesized place a) = erased_at (CoreExpr-F.Parenthesized place (resolved_in items regions a.0)) ∙ ap (expr.Parenthesized place) a.1
+  at_layer (Expr-F.Prefix op place a) = erased_at (CoreExpr-F.Prefix op place (resolved_in items regions a.0)) ∙ ap (expr.Prefix op place) a.1
+  at_layer (Expr-F.Infix op place a b) = erased_at (CoreExpr-F.Infix op place (resolved_in items regions a.0) (resolved_in items regions b.0)) ∙ ap₂ (expr.Infix op place) a.1 b.1
   at_layer (Expr-F.InType op place a name) =
-      erased_at (CoreExpr-F.InType op place (resolved_expr regions a.0) (resolved_reference regions name)) ∙ ap₂ (expr.InType op place) a.1 (kept_reference regions name)
+      erased_at (CoreExpr-F.InType op place (resolved_in items regions a.0) (resolved_reference regions name)) ∙ ap₂ (expr.InType op place) a.1 (kept_reference regions name)
   at_layer (Expr-F.InRange op place a low high) =
-      erased_at (CoreExpr-F.InRange op place (resolved_expr regions a.0) (resolved_expr regions low.0) (resolved_expr regions high.0))
-      ∙ ap (λ x. expr.InRange op place x (erased_expr (resolved_expr regions low.0)) (erased_expr (resolved_expr regions high.0))) a.1
+      erased_at (CoreExpr-F.InRange op place (resolved_in items regions a.0) (resolved_in items regions low.0) (resolved_in items regions high.0))
+      ∙ ap (λ x. expr.InRange op place x (erased_expr (resolved_in items regions low.0)) (erased_expr (resolved_in items regions high.0))) a.1
       ∙ ap₂ (expr.InRange op place a.0) low.1 high.1
 
   layer : (y : Expr-F Shown) → Kept (roll-Expr (map-Expr Shown Expr (λ e. e.0) y))
-  layer y = ap erased_expr (fold-roll-Expr CoreExpr (resolved.expr_step regions) (map-Expr Shown Expr (λ e. e.0) y)) ∙ at_layer y
+  layer y = ap erased_expr (fold-roll-Expr CoreExpr (resolved.expr_step items regions) (map-Expr Shown Expr (λ e. e.0) y)) ∙ at_layer y
 
-  kept_expr : (e : Expr) → Kept e
-  kept_expr = ind-Expr Kept (λ x y is. subst (λ z. Kept (roll-Expr z)) is (layer y))
+  kept_in : (e : Expr) → Kept e
+  kept_in = ind-Expr Kept (λ x y is. subst (λ z. Kept (roll-Expr z)) is (layer y))
+
+kept_expr : (regions : Regions) (e : Expr) → erased_expr (resolved_expr regions e) ≡ e
+kept_expr regions e = kept_in [] regions e
 
 -- ---- lists and optional parts
 
@@ -106,71 +111,12 @@ erased_stmt_at : (y : CoreStmt-F CoreStmt CoreAlternative CoreArm) → erased_st
 erased_stmt_at y = fold-roll-CoreStmt Stmt Alternative Arm erased_stmt_step erased_alternative_step erased_arm_step y
 
 module _ (regions : Regions) where
-  abbrev KeptStmt : Stmt → Type 0
-  KeptStmt s = erased_stmt (resolved_stmt regions s) ≡ s
-
-  abbrev KeptAlternative : Alternative → Type 0
-  KeptAlternative a = erased_alternative (resolved_alternative regions a) ≡ a
-
-  abbrev KeptArm : Arm → Type 0
-  KeptArm a = erased_arm (resolved_arm regions a) ≡ a
-
-  abbrev ShownStmt : Type 0
-  ShownStmt = (s : Stmt) × KeptStmt s
-
-  abbrev ShownAlternative : Type 0
-  ShownAlternative = (a : Alternative) × KeptAlternative a
-
-  abbrev ShownArm : Type 0
-  ShownArm = (a : Arm) × KeptArm a
-
-  abbrev bare_stmt : Stmt-F ShownStmt ShownAlternative ShownArm → Stmt-F Stmt Alternative Arm
-  bare_stmt y = map-Stmt ShownStmt ShownAlternative ShownArm Stmt Alternative Arm (λ e. e.0) (λ e. e.0) (λ e. e.0) y
-
-  stmt_at_layer : (y : Stmt-F ShownStmt ShownAlternative ShownArm)
-      → erased_stmt (resolved.stmt_step regions (map-Stmt Stmt Alternative Arm CoreStmt CoreAlternative CoreArm (resolved_stmt regions) (resolved_alternative regions) (resolved_arm regions) (bare_stmt y))) ≡ roll-Stmt (bare_stmt y)
-  unfolding roll-Stmt roll-CoreStmt roll
-  stmt_at_layer (Stmt-F.Null place) = erased_stmt_at (CoreStmt-F.Null place)
-  stmt_at_layer (Stmt-F.Assignment target value) =
-      erased_stmt_at (CoreStmt-F.Assignment (resolved_reference regions target) (resolved_expr regions value)) ∙ ap₂ stmt.Assignment (kept_reference regions target) (kept_expr regions value)
-  stmt_at_layer (Stmt-F.If arms None closing) =
-      erased_stmt_at (CoreStmt-F.If (map (resolved_arm regions) (map (λ a. a.0) arms)) None closing)
-      ∙ ap (λ (a : List Arm). stmt.If a None closing) (all_kept erased_arm (resolved_arm regions) arms)
-  stmt_at_layer (Stmt-F.If arms (Some stmts) closing) =
-      erased_stmt_at (CoreStmt-F.If (map (resolved_arm regions) (map (λ a. a.0) arms)) (Some (map (resolved_stmt regions) (map (λ s. s.0) stmts))) closing)
-      ∙ ap₂ (λ (a : List Arm) (o : List Stmt). stmt.If a (Some o) closing) (all_kept erased_arm (resolved_arm regions) arms) (all_kept erased_stmt (resolved_stmt regions) stmts)
-  stmt_at_layer (Stmt-F.Case place selector alternatives closing) =
-      erased_stmt_at (CoreStmt-F.Case place (resolved_expr regions selector) (map (resolved_alternative regions) (map (λ a. a.0) alternatives)) closing)
-      ∙ ap₂ (λ (e : Expr) (a : List Alternative). stmt.Case place e a closing) (kept_expr regions selector) (all_kept erased_alternative (resolved_alternative regions) alternatives)
-
-  stmt_layer : (y : Stmt-F ShownStmt ShownAlternative ShownArm) → KeptStmt (roll-Stmt (bare_stmt y))
-  stmt_layer y =
-      ap erased_stmt (fold-roll-Stmt CoreStmt CoreAlternative CoreArm (resolved.stmt_step regions) (resolved.alternative_step regions) (resolved.arm_step regions) (bare_stmt y)) ∙ stmt_at_layer y
-
   kept_choice : (choice : Choice) → erased_choice (resolved_choice regions choice) ≡ choice
   kept_choice choice =
       ap₂ (λ (low : Expr) (high : Option Expr). let x : Choice = record { low = low; high = high } in x) (kept_expr regions choice.low) (kept_if_there erased_expr (resolved_expr regions) (kept_expr regions) choice.high)
 
   kept_choices : (choices : Option (List Choice)) → option_map (map erased_choice) (option_map (map (resolved_choice regions)) choices) ≡ choices
   kept_choices choices = kept_if_there (map erased_choice) (map (resolved_choice regions)) (kept_each erased_choice (resolved_choice regions) kept_choice) choices
-
-  alternative_layer : (y : Alternative-F ShownStmt ShownAlternative ShownArm)
-      → KeptAlternative (roll-Alternative (map-Alternative ShownStmt ShownAlternative ShownArm Stmt Alternative Arm (λ e. e.0) (λ e. e.0) (λ e. e.0) y))
-  alternative_layer y =
-      ap erased_alternative (fold-roll-Alternative CoreStmt CoreAlternative CoreArm (resolved.stmt_step regions) (resolved.alternative_step regions) (resolved.arm_step regions) _)
-      ∙ fold-roll-CoreAlternative Stmt Alternative Arm erased_stmt_step erased_alternative_step erased_arm_step _
-      ∙ ap₂ (λ (c : Option (List Choice)) (ss : List Stmt). record { choices = c; body = ss }) (kept_choices y.choices) (all_kept erased_stmt (resolved_stmt regions) y.body)
-
-  arm_layer : (y : Arm-F ShownStmt ShownAlternative ShownArm) → KeptArm (roll-Arm (map-Arm ShownStmt ShownAlternative ShownArm Stmt Alternative Arm (λ e. e.0) (λ e. e.0) (λ e. e.0) y))
-  arm_layer y =
-      ap erased_arm (fold-roll-Arm CoreStmt CoreAlternative CoreArm (resolved.stmt_step regions) (resolved.alternative_step regions) (resolved.arm_step regions) _)
-      ∙ fold-roll-CoreArm Stmt Alternative Arm erased_stmt_step erased_alternative_step erased_arm_step _
-      ∙ ap₂ (λ (c : Expr) (ss : List Stmt). record { place = y.place; condition = c; body = ss }) (kept_expr regions y.condition) (all_kept erased_stmt (resolved_stmt regions) y.body)
-
-  kept_stmt : (s : Stmt) → KeptStmt s
-  kept_stmt =
-      ind-Stmt KeptStmt KeptAlternative KeptArm (λ x y is. subst (λ z. KeptStmt (roll-Stmt z)) is (stmt_layer y)) (λ x y is. subst (λ z. KeptAlternative (roll-Alternative z)) is (alternative_layer y))
-      (λ x y is. subst (λ z. KeptArm (roll-Arm z)) is (arm_layer y))
 
   kept_exports : (exports : Exports) → erased_exports (place_of_null exports) (map (resolved_reference regions) (exported_names exports)) ≡ exports
   kept_exports (exported.Names names) = ap exported.Names (kept_each erased_reference (resolved_reference regions) (kept_reference regions) names)
@@ -186,8 +132,69 @@ module _ (regions : Regions) where
   kept_derives derives =
       ap (λ (items : List DerivesItem). let x : Derives = record { place = derives.place; items = items } in x) (kept_each erased_item (resolved_item regions) kept_item derives.items)
 
-  kept_pre : (pre : Predicate) → erased_pre (resolved_pre regions pre) ≡ pre
-  kept_pre pre = ap (λ (e : Expr). let x : Predicate = record { place = pre.place; condition = e } in x) (kept_expr regions pre.condition)
+kept_predicate : (items : List CoreDerivesItem) (regions : Regions) (predicate : Predicate) → erased_predicate (resolved_predicate items regions predicate) ≡ predicate
+kept_predicate items regions predicate = ap (λ (e : Expr). let x : Predicate = record { place = predicate.place; condition = e } in x) (kept_in items regions predicate.condition)
+
+module _ (items : List CoreDerivesItem) (regions : Regions) where
+  abbrev KeptStmt : Stmt → Type 0
+  KeptStmt s = erased_stmt (resolved_stmt items regions s) ≡ s
+
+  abbrev KeptAlternative : Alternative → Type 0
+  KeptAlternative a = erased_alternative (resolved_alternative items regions a) ≡ a
+
+  abbrev KeptArm : Arm → Type 0
+  KeptArm a = erased_arm (resolved_arm items regions a) ≡ a
+
+  abbrev ShownStmt : Type 0
+  ShownStmt = (s : Stmt) × KeptStmt s
+
+  abbrev ShownAlternative : Type 0
+  ShownAlternative = (a : Alternative) × KeptAlternative a
+
+  abbrev ShownArm : Type 0
+  ShownArm = (a : Arm) × KeptArm a
+
+  abbrev bare_stmt : Stmt-F ShownStmt ShownAlternative ShownArm → Stmt-F Stmt Alternative Arm
+  bare_stmt y = map-Stmt ShownStmt ShownAlternative ShownArm Stmt Alternative Arm (λ e. e.0) (λ e. e.0) (λ e. e.0) y
+
+  stmt_at_layer : (y : Stmt-F ShownStmt ShownAlternative ShownArm)
+      → erased_stmt (resolved.stmt_step items regions (map-Stmt Stmt Alternative Arm CoreStmt CoreAlternative CoreArm (resolved_stmt items regions) (resolved_alternative items regions) (resolved_arm items regions) (bare_stmt y))) ≡ roll-Stmt (bare_stmt y)
+  unfolding roll-Stmt roll-CoreStmt roll
+  stmt_at_layer (Stmt-F.Null place) = erased_stmt_at (CoreStmt-F.Null place)
+  stmt_at_layer (Stmt-F.Assignment target value) =
+      erased_stmt_at (CoreStmt-F.Assignment (resolved_reference regions target) (resolved_expr regions value)) ∙ ap₂ stmt.Assignment (kept_reference regions target) (kept_expr regions value)
+  stmt_at_layer (Stmt-F.If arms None closing) =
+      erased_stmt_at (CoreStmt-F.If (map (resolved_arm items regions) (map (λ a. a.0) arms)) None closing)
+      ∙ ap (λ (a : List Arm). stmt.If a None closing) (all_kept erased_arm (resolved_arm items regions) arms)
+  stmt_at_layer (Stmt-F.If arms (Some stmts) closing) =
+      erased_stmt_at (CoreStmt-F.If (map (resolved_arm items regions) (map (λ a. a.0) arms)) (Some (map (resolved_stmt items regions) (map (λ s. s.0) stmts))) closing)
+      ∙ ap₂ (λ (a : List Arm) (o : List Stmt). stmt.If a (Some o) closing) (all_kept erased_arm (resolved_arm items regions) arms) (all_kept erased_stmt (resolved_stmt items regions) stmts)
+  stmt_at_layer (Stmt-F.Case place selector alternatives closing) =
+      erased_stmt_at (CoreStmt-F.Case place (resolved_expr regions selector) (map (resolved_alternative items regions) (map (λ a. a.0) alternatives)) closing)
+      ∙ ap₂ (λ (e : Expr) (a : List Alternative). stmt.Case place e a closing) (kept_expr regions selector) (all_kept erased_alternative (resolved_alternative items regions) alternatives)
+  stmt_at_layer (Stmt-F.Check place condition) = erased_stmt_at (CoreStmt-F.Check place (resolved_in items regions condition)) ∙ ap (stmt.Check place) (kept_in items regions condition)
+
+  stmt_layer : (y : Stmt-F ShownStmt ShownAlternative ShownArm) → KeptStmt (roll-Stmt (bare_stmt y))
+  stmt_layer y =
+      ap erased_stmt (fold-roll-Stmt CoreStmt CoreAlternative CoreArm (resolved.stmt_step items regions) (resolved.alternative_step regions) (resolved.arm_step regions) (bare_stmt y)) ∙ stmt_at_layer y
+
+  alternative_layer : (y : Alternative-F ShownStmt ShownAlternative ShownArm)
+      → KeptAlternative (roll-Alternative (map-Alternative ShownStmt ShownAlternative ShownArm Stmt Alternative Arm (λ e. e.0) (λ e. e.0) (λ e. e.0) y))
+  alternative_layer y =
+      ap erased_alternative (fold-roll-Alternative CoreStmt CoreAlternative CoreArm (resolved.stmt_step items regions) (resolved.alternative_step regions) (resolved.arm_step regions) _)
+      ∙ fold-roll-CoreAlternative Stmt Alternative Arm erased_stmt_step erased_alternative_step erased_arm_step _
+      ∙ ap₂ (λ (c : Option (List Choice)) (ss : List Stmt). record { choices = c; body = ss }) (kept_choices regions y.choices) (all_kept erased_stmt (resolved_stmt items regions) y.body)
+
+  arm_layer : (y : Arm-F ShownStmt ShownAlternative ShownArm) → KeptArm (roll-Arm (map-Arm ShownStmt ShownAlternative ShownArm Stmt Alternative Arm (λ e. e.0) (λ e. e.0) (λ e. e.0) y))
+  arm_layer y =
+      ap erased_arm (fold-roll-Arm CoreStmt CoreAlternative CoreArm (resolved.stmt_step items regions) (resolved.alternative_step regions) (resolved.arm_step regions) _)
+      ∙ fold-roll-CoreArm Stmt Alternative Arm erased_stmt_step erased_alternative_step erased_arm_step _
+      ∙ ap₂ (λ (c : Expr) (ss : List Stmt). record { place = y.place; condition = c; body = ss }) (kept_expr regions y.condition) (all_kept erased_stmt (resolved_stmt items regions) y.body)
+
+  kept_stmt : (s : Stmt) → KeptStmt s
+  kept_stmt =
+      ind-Stmt KeptStmt KeptAlternative KeptArm (λ x y is. subst (λ z. KeptStmt (roll-Stmt z)) is (stmt_layer y)) (λ x y is. subst (λ z. KeptAlternative (roll-Alternative z)) is (alternative_layer y))
+      (λ x y is. subst (λ z. KeptArm (roll-Arm z)) is (arm_layer y))
 
 -- ---- declarations
 
@@ -242,10 +249,12 @@ kept_sub library position before s =
     let body = declaring_all [] (formal_names sub ++ local_names sub) ∷ around_body name in
     let part = kept_if_there erased_formal_part (resolved_formal_part s.name before.vars) (kept_formal_part s.name before.vars) s.formal_part in
     let derives = kept_if_there erased_derives (resolved_derives annotations) (kept_derives annotations) s.derives in
-    let pre = kept_if_there erased_pre (resolved_pre annotations) (kept_pre annotations) s.pre in
+    let items = items_for name sub.formal_part s in
+    let pre = kept_if_there erased_predicate (resolved_predicate [] annotations) (kept_predicate [] annotations) s.pre in
+    let post = kept_if_there erased_predicate (resolved_predicate items annotations) (kept_predicate items annotations) s.post in
     let decls = kept_decls (around_body name) (declaring_all [] (formal_names sub)) (after_formals before sub.formal_part) s.declarations in
-    let stmts = kept_each erased_stmt (resolved_stmt body) (kept_stmt body) s.statements in
-    let all : erased_sub sub ≡ record { place = s.place; name = s.name; formal_part = s.formal_part; derives = s.derives; pre = s.pre; declarations = s.declarations; statements = s.statements; end = s.end; end_name = s.end_name } = cc in
+    let stmts = kept_each erased_stmt (resolved_stmt items body) (kept_stmt items body) s.statements in
+    let all : erased_sub sub ≡ record { place = s.place; name = s.name; formal_part = s.formal_part; derives = s.derives; pre = s.pre; post = s.post; declarations = s.declarations; statements = s.statements; end = s.end; end_name = s.end_name } = cc in
     all
 
 kept_units : (library : Region) (position : ℕ) (before : Counts) (units : List Unit) → map unit_of (resolved_subs library position before units) ≡ units

@@ -27,11 +27,11 @@ use Rattle.spx_core.specs.declared.function.CoreFunction.{CoreFunction}
 use Rattle.spx_core.specs.declared.function.Mapping.{Mapping}
 use Rattle.spx_core.specs.declared.rule.Breach.{Breach}
 use Rattle.spx_core.specs.declared.rule.RuleName.{RuleName}
-use Rattle.spx_core.specs.declared.rule.RuleName.TheVariants.{N1, N3, N10, N12, N14}
+use Rattle.spx_core.specs.declared.rule.RuleName.TheVariants.{N1, N3, N10, N12, N14, N18}
 use Rattle.spx_core.specs.declared.rule.ExprType.TheVariants.{Of}
 use Rattle.spx_core.specs.declared.rule.Typing.{Typing}
 use Rattle.spx_core.specs.HasType.{HasType}
-use Rattle.spx_core.specs.Judged.{Judged, ◌>>=◌, application, applied_form, attribute, attribute_function, condition, expr_step, function_at, has_attribute, ordered_type, is_attribute, is_first, is_function, is_whole, is_word, judged, keeps, mapped, member_of_range, member_of_type, named_object, named_target, named_type, named_value, object_at, operation, referred_object, referred_target, referred_type, sign, target_at, type_at, value_at, whole}
+use Rattle.spx_core.specs.Judged.{Judged, ◌>>=◌, application, applied_form, attribute, attribute_function, condition, entry_value, expr_step, function_at, has_attribute, ordered_type, is_attribute, is_first, is_function, is_whole, is_word, judged, keeps, mapped, member_of_range, member_of_type, named_object, named_target, named_type, named_value, object_at, operation, referred_object, referred_target, referred_type, sign, target_at, type_at, value_at, whole}
 use Rattle.spx_core.specs.NameBreaches as broken
 use Rattle.spx_core.specs.NameBreaches.{BreaksCondition, BreaksExpr, BreaksName, BreaksProgram, BreaksReference, BreaksSub, IsObject, IsTarget, IsType, IsValue, assigned_type}
 use Rattle.spx_core.specs.Statements.{test}
@@ -39,7 +39,7 @@ use Rattle.spx_core.specs.Types.{both_held, has_literals, has_numbers, is_boolea
 use Rattle.spx_core.proofs.Elements.{in_first, in_none}
 use Rattle.spx_core.proofs.Judgements.{bound, by_part, by_test, joined, kept, ok_is}
 use Rattle.spx_core.proofs.TypedLaws.{complete, sound}
-use Rattle.spx_core.proofs.Callers.Expressions.{Cases, induct, fold-Number, fold-Name, fold-Attribute, fold-Applied, fold-Parenthesized, fold-Prefix, fold-Infix, fold-InType, fold-InRange}
+use Rattle.spx_core.proofs.Callers.Expressions.{Cases, induct, fold-Number, fold-Name, fold-Entry, fold-Attribute, fold-Applied, fold-Parenthesized, fold-Prefix, fold-Infix, fold-InType, fold-InRange}
 
 -- ---- names
 
@@ -225,6 +225,15 @@ attribute_found prefix designator b h =
     by_part (keeps N14 prefix.name.place (is_attribute designator.text)) _ b h
     (λ e. by_test Breaks N14 prefix.name.place _ b e (λ no. broken.no_argument prefix designator subtype named (is_a_function subtype designator.text (kept N3 prefix.name.place _ has) no))) (λ _ _ h. absurd cc)))
 
+-- a value on entry
+entry_found : (name : CoreName) (allowed : Bool) (b : Breach) → entry_value name allowed ≡ Err b → At (BreaksExpr (expr.Entry name allowed)) b
+entry_found name allowed b h =
+    by_part (named_object name) _ b h (λ e. broken.entry name allowed b.rule b.place (object_found name _ b refl e)) (λ object is h.
+    let v = object_is name.name.place name.entity object is in
+    by_part (keeps N18 name.name.place allowed) _ b h
+    (λ e. by_test (BreaksExpr (expr.Entry name allowed)) N18 name.name.place allowed b e
+    (λ no. subst (λ a. BreaksExpr (expr.Entry name a) N18 name.name.place) (sym no) (broken.entry_not_allowed name v.0 object v.1))) (λ _ _ h. absurd cc))
+
 -- a function that is applied
 module _ (f : CoreFunction) (at : Place) (a : CoreExpr) (b : Breach) where
   abbrev BreaksApplied : RuleName → Place → Type 0
@@ -310,6 +319,7 @@ found_cases : Cases Found
 found_cases = record {
   number = λ n place b h. let e = sym (fold-Number expr_step n place) ∙ h in absurd cc;
   name = λ n b h. broken.name n b.rule b.place (value_found n _ b refl (sym (fold-Name expr_step n) ∙ h));
+  entry = λ n allowed b h. entry_found n allowed b (sym (fold-Entry expr_step n allowed) ∙ h);
   attribute = λ prefix designator b h. attribute_found prefix designator b (sym (fold-Attribute expr_step prefix designator) ∙ h);
   applied = λ f at a p b h.
       by_part (application f) _ b (sym (fold-Applied expr_step f at a) ∙ h) (application_found f at a b) (λ mapping is h.
@@ -510,8 +520,17 @@ in_range_passes op at a low high o l u t d c f h =
     let all = joined (λ o. judged low >>= λ l. judged high >>= λ u. member_of_range op at o l u) (complete a o d) ∙ joined (λ l. judged high >>= λ u. member_of_range op at o l u) (complete low l c) ∙ joined (member_of_range op at o l) (complete high u f) in
     member_of_range_passes op at o l u t (sym all ∙ sym (fold-InRange expr_step op at a low high) ∙ h)
 
+-- a value on entry is that of a variable, and allowed
+entry_passes : (name : CoreName) (allowed : Bool) (t : Typing) → judged (expr.Entry name allowed) ≡ Ok t → (object : Object) × (named_object name ≡ Ok object) × (allowed ≡ true)
+entry_passes name allowed t h =
+    let o = bound (named_object name) _ t (sym (fold-Entry expr_step name allowed) ∙ h) in
+    let k = bound (keeps N18 name.name.place allowed) _ t o.2 in
+    (o.0, o.1, kept N18 name.name.place allowed k.1)
+
 pub no_expr : (e : CoreExpr) (rule : RuleName) (place : Place) → BreaksExpr e rule place → (t : Typing) → judged e ≡ Ok t → ⊥
 no_expr _ _ _ (broken.name n rule place h) t ok = no_value_name n t (sym (fold-Name expr_step n) ∙ ok) rule place h
+no_expr _ _ _ (broken.entry n allowed rule place h) t ok = let e = entry_passes n allowed t ok in no_object_name n e.0 e.1 rule place h
+no_expr _ _ _ (broken.entry_not_allowed n v object is) t ok = both_ways false refl (entry_passes n false t ok).2
 no_expr _ _ _ (broken.prefix n designator rule place h) t ok = let b = attribute_passes n designator t (sym (fold-Attribute expr_step n designator) ∙ ok) in no_type_name n b.0 b.1.named rule place h
 no_expr _ _ _ (broken.no_attribute n designator subtype is unknown) t ok = both_ways _ unknown (named_passes n designator subtype t is ok).has
 no_expr _ _ _ (broken.no_argument n designator subtype is function) t ok = no_end_function subtype.base designator.text function (named_passes n designator subtype t is ok).is_end

@@ -16,12 +16,13 @@ use Rattle.spx_core.specs.declared.entity.Entity.TheVariants as entity
 use Rattle.spx_core.specs.declared.name.CoreName.{CoreName}
 use Rattle.spx_core.specs.declared.name.Defining.{Defining}
 use Rattle.spx_core.specs.declared.expression.CoreExpr.{CoreExpr}
+use Rattle.spx_core.specs.declared.dependency.CoreDerivesItem.{CoreDerivesItem}
 use Rattle.spx_core.specs.declared.program.TypeRow.{TypeRow}
 use Rattle.spx_core.specs.Uses.{denotes, is_same, mentions, uses, variable_of}
 use Rattle.spx_core.specs.Reads.{names_read, names_step}
 use Rattle.spx_core.specs.Regions.{Declaration, Region, Regions, declared_in, denoted, hidden, standard}
-use Rattle.spx_core.specs.Resolved.{around_body, declaring, declaring_all, expr_step, resolved_expr, resolved_function, resolved_name, resolved_reference, standard_types, subtype_of}
-use Rattle.spx_core.proofs.Callers.Expressions.{fold-Number, fold-Name, fold-Attribute, fold-Applied, fold-Parenthesized, fold-Prefix, fold-Infix, fold-InType, fold-InRange}
+use Rattle.spx_core.specs.Resolved.{around_body, declaring, declaring_all, expr_step, is_changed_by, resolved_function, resolved_in, resolved_name, resolved_reference, standard_types, subtype_of}
+use Rattle.spx_core.proofs.Callers.Expressions.{fold-Number, fold-Name, fold-Entry, fold-Attribute, fold-Applied, fold-Parenthesized, fold-Prefix, fold-Infix, fold-InType, fold-InRange}
 use Rattle.spx_core.proofs.Callers.ListTests.{each_append, some_mapped}
 use Rattle.spx_core.proofs.Callers.Variables.{same_var}
 
@@ -129,34 +130,8 @@ module _ (more : List TypeRow) (P : VarId → Object → Type 0) where
     abbrev pub AreKnown : List CoreName → Type 0
     AreKnown names = AllByRecursion (λ (name : CoreName). Holds more P name.entity) names
 
-    abbrev ReadsKnown : Expr → Type 0
-    ReadsKnown e = AreKnown (names_read (resolved_expr regions e))
-
-    abbrev Shown : Type 0
-    Shown = (e : Expr) × ReadsKnown e
-
     both_known : (xs ys : List CoreName) → AreKnown xs → AreKnown ys → AreKnown (xs ++ ys)
     both_known xs ys left right = each_append _ xs ys left right
-
-    at_layer : (y : Expr-F Shown) → AreKnown (names_read (expr_step regions (map-Expr Expr CoreExpr (resolved_expr regions) (map-Expr Shown Expr (λ e. e.0) y))))
-    at_layer (Expr-F.Number n place) = subst AreKnown (sym (fold-Number names_step n place)) tt
-    at_layer (Expr-F.Name (Simple name)) = subst AreKnown (sym (fold-Name names_step (resolved_name regions name))) (denoted_holds regions name.text all, tt)
-    at_layer (Expr-F.Name (Attribute prefix designator)) = subst AreKnown (sym (fold-Attribute names_step (resolved_name regions prefix) designator)) tt
-    at_layer (Expr-F.Applied function place a) = subst AreKnown (sym (fold-Applied names_step (resolved_function regions function) place (resolved_expr regions a.0))) a.1
-    at_layer (Expr-F.Parenthesized place a) = subst AreKnown (sym (fold-Parenthesized names_step place (resolved_expr regions a.0))) a.1
-    at_layer (Expr-F.Prefix op place a) = subst AreKnown (sym (fold-Prefix names_step op place (resolved_expr regions a.0))) a.1
-    at_layer (Expr-F.Infix op place a b) =
-        subst AreKnown (sym (fold-Infix names_step op place (resolved_expr regions a.0) (resolved_expr regions b.0))) (both_known _ _ a.1 b.1)
-    at_layer (Expr-F.InType op place a name) = subst AreKnown (sym (fold-InType names_step op place (resolved_expr regions a.0) (resolved_reference regions name))) a.1
-    at_layer (Expr-F.InRange op place a low high) =
-        subst AreKnown (sym (fold-InRange names_step op place (resolved_expr regions a.0) (resolved_expr regions low.0) (resolved_expr regions high.0)))
-        (both_known _ _ a.1 (both_known _ _ low.1 high.1))
-
-    layer : (y : Expr-F Shown) → ReadsKnown (roll-Expr (map-Expr Shown Expr (λ e. e.0) y))
-    layer y = subst (λ e. AreKnown (names_read e)) (sym (fold-roll-Expr CoreExpr (expr_step regions) (map-Expr Shown Expr (λ e. e.0) y))) (at_layer y)
-
-    pub read_known : (e : Expr) → ReadsKnown e
-    read_known = ind-Expr ReadsKnown (λ x y is. subst (λ z. ReadsKnown (roll-Expr z)) is (layer y))
 
     known_variable : (v : VarId) (names : List CoreName) → AreKnown names → list_any (denotes v) names ≡ true → (object : Object) × P v object
     known_variable v [] known h = absurd cc
@@ -166,5 +141,33 @@ module _ (more : List TypeRow) (P : VarId → Object → Type 0) where
           | inr later ↦ known_variable v names known.1 later
         ]
 
-    pub used_variable : (v : VarId) (e : Expr) → uses v (resolved_expr regions e) ≡ true → (object : Object) × P v object
-    used_variable v e h = known_variable v (names_read (resolved_expr regions e)) (read_known e) h
+    module _ (items : List CoreDerivesItem) where
+      abbrev ReadsKnown : Expr → Type 0
+      ReadsKnown e = AreKnown (names_read (resolved_in items regions e))
+
+      abbrev Shown : Type 0
+      Shown = (e : Expr) × ReadsKnown e
+
+      at_layer : (y : Expr-F Shown) → AreKnown (names_read (expr_step items regions (map-Expr Expr CoreExpr (resolved_in items regions) (map-Expr Shown Expr (λ e. e.0) y))))
+      at_layer (Expr-F.Number n place) = subst AreKnown (sym (fold-Number names_step n place)) tt
+      at_layer (Expr-F.Name (Simple name)) = subst AreKnown (sym (fold-Name names_step (resolved_name regions name))) (denoted_holds regions name.text all, tt)
+      at_layer (Expr-F.Name (Attribute prefix designator)) = subst AreKnown (sym (fold-Attribute names_step (resolved_name regions prefix) designator)) tt
+      at_layer (Expr-F.Entry name) = subst AreKnown (sym (fold-Entry names_step (resolved_name regions name) (is_changed_by items (resolved_name regions name)))) (denoted_holds regions name.text all, tt)
+      at_layer (Expr-F.Applied function place a) = subst AreKnown (sym (fold-Applied names_step (resolved_function regions function) place (resolved_in items regions a.0))) a.1
+      at_layer (Expr-F.Parenthesized place a) = subst AreKnown (sym (fold-Parenthesized names_step place (resolved_in items regions a.0))) a.1
+      at_layer (Expr-F.Prefix op place a) = subst AreKnown (sym (fold-Prefix names_step op place (resolved_in items regions a.0))) a.1
+      at_layer (Expr-F.Infix op place a b) =
+          subst AreKnown (sym (fold-Infix names_step op place (resolved_in items regions a.0) (resolved_in items regions b.0))) (both_known _ _ a.1 b.1)
+      at_layer (Expr-F.InType op place a name) = subst AreKnown (sym (fold-InType names_step op place (resolved_in items regions a.0) (resolved_reference regions name))) a.1
+      at_layer (Expr-F.InRange op place a low high) =
+          subst AreKnown (sym (fold-InRange names_step op place (resolved_in items regions a.0) (resolved_in items regions low.0) (resolved_in items regions high.0)))
+          (both_known _ _ a.1 (both_known _ _ low.1 high.1))
+
+      layer : (y : Expr-F Shown) → ReadsKnown (roll-Expr (map-Expr Shown Expr (λ e. e.0) y))
+      layer y = subst (λ e. AreKnown (names_read e)) (sym (fold-roll-Expr CoreExpr (expr_step items regions) (map-Expr Shown Expr (λ e. e.0) y))) (at_layer y)
+
+      pub read_known : (e : Expr) → ReadsKnown e
+      read_known = ind-Expr ReadsKnown (λ x y is. subst (λ z. ReadsKnown (roll-Expr z)) is (layer y))
+
+      pub used_variable : (v : VarId) (e : Expr) → uses v (resolved_in items regions e) ≡ true → (object : Object) × P v object
+      used_variable v e h = known_variable v (names_read (resolved_in items regions e)) (read_known e) h

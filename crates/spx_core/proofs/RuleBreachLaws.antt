@@ -20,16 +20,16 @@ use Rattle.spx_core.specs.declared.program.Program.{Program}
 use Rattle.spx_core.specs.declared.rule.Breach.{Breach}
 use Rattle.spx_core.specs.declared.rule.RuleName.{RuleName}
 use Rattle.spx_core.specs.declared.rule.RuleName.TheVariants.{U2, U7, U8, U11}
-use Rattle.spx_core.specs.Commands.{Command, Skip, Set, Then, Choose, Select, Alternatives, Last, When, commands}
+use Rattle.spx_core.specs.Commands.{Command, Skip, Set, Then, Choose, Select, Check, Alternatives, Last, When, commands}
 use Rattle.spx_core.specs.Reads.{names_read}
 use Rattle.spx_core.specs.Uses.{denotes, is_same, mentions, variable_of, variable_is}
 use Rattle.spx_core.specs.Dependency.{exports, imports, relation, variables}
 use Rattle.spx_core.specs.Mirror.DerivesItems.{has_export, has_import}
 use Rattle.spx_core.specs.Formals.{formals, is_formal, stands_in}
 use Rattle.spx_core.specs.Judged.{◌>>=◌, each, if_there, keeps}
-use Rattle.spx_core.specs.Obeyed.{Obeys, export_agrees, exports_once, first_rule_breach, import_agrees, is_among, is_constant, is_export_of, is_exported, is_imported, is_listed, is_right_relation, may_be_assigned, mode_denoted, mode_named, names_formal, names_formals, names_once, obeyed, obeyed_alternatives, obeyed_command, obeyed_export, obeyed_import, obeyed_item, obeyed_pre, obeyed_relation, obeyed_sub, pairs_once, place_or, reads_import, unused_imports, variable_passes}
+use Rattle.spx_core.specs.Obeyed.{Obeys, export_agrees, exports_once, first_rule_breach, import_agrees, is_among, is_constant, is_export_of, is_exported, is_imported, is_listed, is_right_relation, may_be_assigned, mode_denoted, mode_named, names_formal, names_formals, names_once, obeyed, obeyed_alternatives, obeyed_command, obeyed_export, obeyed_import, obeyed_item, obeyed_post, obeyed_pre, obeyed_relation, obeyed_sub, pairs_once, place_or, reads_formal, reads_import, unused_imports, variable_passes}
 use Rattle.spx_core.specs.Rules.{ObeysRules, agrees}
-use Rattle.spx_core.specs.RuleBreaches.{Assigns, BreaksRule, Disagrees, HasBadDerives, IsInRelation, IsVariable, OneAssigns, StandsTwice, exports_named, bad_derives, mode_disagrees, not_imported, constant_assigned, input_assigned, export_twice, import_twice, unused_twice, import_beside_star, formal_left_out, no_formal}
+use Rattle.spx_core.specs.RuleBreaches.{Assigns, BreaksRule, Disagrees, HasBadDerives, IsInRelation, IsVariable, OneAssigns, StandsTwice, exports_named, bad_derives, mode_disagrees, not_imported, no_formal_after, constant_assigned, input_assigned, export_twice, import_twice, unused_twice, import_beside_star, formal_left_out, no_formal}
 use Rattle.spx_core.specs.Scopes.{HasItsMode, HaveTheirModes, Scoped}
 use Rattle.spx_core.specs.Erased.{Visible}
 use Rattle.spx_core.proofs.Judgements.{bound, broken_in, each_broken, each_passes, kept, not_kept, passes_at, reported, unbroken}
@@ -313,17 +313,25 @@ module _ (sub : Sub) (item : CoreDerivesItem) (at : Contains (relation sub) item
 
 -- ---- U11
 
-some_other : (sub : Sub) (o : Option VarId) → variable_passes (λ v. imports v sub) o ≡ false → (v : VarId) × (o ≡ Some v) × (imports v sub ≡ false)
-some_other sub (Some v) h = (v, refl, h)
-some_other sub None h = absurd (cc)
+some_other : (test : VarId → Bool) (o : Option VarId) → variable_passes test o ≡ false → (v : VarId) × (o ≡ Some v) × (test v ≡ false)
+some_other test (Some v) h = (v, refl, h)
+some_other test None h = absurd (cc)
 
 pre_breaks : (p : Program) (sub : Sub) (b : Breach) (o : Option CorePredicate) → sub.pre ≡ o → if_there (obeyed_pre sub) o ≡ Err b → IsBroken p sub b
 pre_breaks p sub b None is e = absurd (cc)
 pre_breaks p sub b (Some pre) is e =
     let w = each_broken (reads_import sub) (names_read pre.condition) b e in
     let k = not_kept U11 w.0.name.place (variable_passes (λ v. imports v sub) (variable_of w.0.entity)) b w.2 in
-    let v = some_other sub (variable_of w.0.entity) k.0 in
+    let v = some_other (λ v. imports v sub) (variable_of w.0.entity) k.0 in
     subst (IsBroken p sub) k.1 (not_imported pre w.0 v.0 is w.1 v.1 v.2)
+
+post_breaks : (p : Program) (sub : Sub) (b : Breach) (o : Option CorePredicate) → sub.post ≡ o → if_there (obeyed_post sub) o ≡ Err b → IsBroken p sub b
+post_breaks p sub b None is e = absurd (cc)
+post_breaks p sub b (Some post) is e =
+    let w = each_broken (reads_formal sub) (names_read post.condition) b e in
+    let k = not_kept U11 w.0.name.place (variable_passes (λ v. is_formal v sub) (variable_of w.0.entity)) b w.2 in
+    let v = some_other (λ v. is_formal v sub) (variable_of w.0.entity) k.0 in
+    subst (IsBroken p sub) k.1 (no_formal_after post w.0 v.0 is w.1 v.1 v.2)
 
 -- ---- U2
 
@@ -363,6 +371,7 @@ mutual
       ⊎_elim (λ l. let w = assigned_input first b l in (w.0, inl w.1, w.2)) (λ r. let w = assigned_input second b r.2 in (w.0, inr w.1, w.2))
       (broken_in (obeyed_command first) (λ _. obeyed_command second) b e)
   assigned_input (Select place selector alternatives) b e = assigned_among alternatives b e
+  assigned_input (Check place condition) b e = absurd (cc)
 
   assigned_among : (alternatives : Alternatives) (b : Breach) → obeyed_alternatives alternatives ≡ Err b → (target : Reference) × OneAssigns alternatives target × IsRefused target b
   assigned_among (Last choices a) b e = assigned_input a b e
@@ -380,6 +389,7 @@ mutual
       let parts = bound (obeyed_command a) (λ _. obeyed_command b) tt ok in
       ⊎_elim (λ l. no_input a target l parts.1 is) (λ r. no_input b target r parts.2 is) assigns
   no_input (Select place selector alternatives) target assigns ok is = no_input_among alternatives target assigns ok is
+  no_input (Check place condition) target assigns ok is = assigns
 
   no_input_among : (alternatives : Alternatives) (target : Reference) → OneAssigns alternatives target → obeyed_alternatives alternatives ≡ Ok tt → IsInput target → ⊥
   no_input_among (Last choices a) target assigns ok is = no_input a target assigns ok is
@@ -405,10 +415,14 @@ module _ (p : Program) (sub : Sub) (scoped : Scoped p sub) where
       let w = each_broken (obeyed_item sub) (relation sub) b e in
       item_breaks sub w.0 w.1 p b (All-contains (HaveTheirModes p) (relation sub) w.0 scoped.relation_modes w.1) w.2
 
-  pre_on : (b : Breach) → (if_there (obeyed_pre sub) sub.pre >>= λ _. obeyed_command (commands sub.statements)) ≡ Err b → IsBroken p sub b
-  pre_on b e = ⊎_elim (pre_breaks p sub b sub.pre refl) (λ h. command_breaks b h.2) (broken_in (if_there (obeyed_pre sub) sub.pre) _ b e)
+  post_on : (b : Breach) → (if_there (obeyed_post sub) sub.post >>= λ _. obeyed_command (commands sub.statements)) ≡ Err b → IsBroken p sub b
+  post_on b e = ⊎_elim (post_breaks p sub b sub.post refl) (λ h. command_breaks b h.2) (broken_in (if_there (obeyed_post sub) sub.post) _ b e)
 
-  items_on : (b : Breach) → (each (obeyed_item sub) (relation sub) >>= λ _. if_there (obeyed_pre sub) sub.pre >>= λ _. obeyed_command (commands sub.statements)) ≡ Err b → IsBroken p sub b
+  pre_on : (b : Breach) → (if_there (obeyed_pre sub) sub.pre >>= λ _. if_there (obeyed_post sub) sub.post >>= λ _. obeyed_command (commands sub.statements)) ≡ Err b → IsBroken p sub b
+  pre_on b e = ⊎_elim (pre_breaks p sub b sub.pre refl) (λ h. post_on b h.2) (broken_in (if_there (obeyed_pre sub) sub.pre) _ b e)
+
+  items_on : (b : Breach) → (each (obeyed_item sub) (relation sub) >>= λ _. if_there (obeyed_pre sub) sub.pre >>= λ _. if_there (obeyed_post sub) sub.post >>= λ _. obeyed_command (commands sub.statements)) ≡ Err b
+      → IsBroken p sub b
   items_on b e = ⊎_elim (items_break b) (λ h. pre_on b h.2) (broken_in (each (obeyed_item sub) (relation sub)) _ b e)
 
   sub_breaks : (b : Breach) → obeyed_sub sub ≡ Err b → IsBroken p sub b
@@ -423,11 +437,12 @@ module _ (p : Program) (sub : Sub) (scoped : Scoped p sub) where
     relation_passes : is_right_relation sub ≡ true
     relation_passes = kept U7 (place_or sub.place sub.derives) (is_right_relation sub) (bound (obeyed_relation sub) _ tt ok).1
 
-    rest_passes : (if_there (obeyed_pre sub) sub.pre ≡ Ok tt) × (obeyed_command (commands sub.statements) ≡ Ok tt)
+    rest_passes : (if_there (obeyed_pre sub) sub.pre ≡ Ok tt) × (if_there (obeyed_post sub) sub.post ≡ Ok tt) × (obeyed_command (commands sub.statements) ≡ Ok tt)
     rest_passes =
         let items = bound (each (obeyed_item sub) (relation sub)) _ tt (bound (obeyed_relation sub) _ tt ok).2 in
         let pre = bound (if_there (obeyed_pre sub) sub.pre) _ tt items.2 in
-        (pre.1, pre.2)
+        let post = bound (if_there (obeyed_post sub) sub.post) _ tt pre.2 in
+        (pre.1, post.1, post.2)
 
     none_broken : (rule : RuleName) (place : Place) → ¬ BreaksRule p sub rule place
     none_broken _ _ (bad_derives h) = let e = sym (is_wrong sub h) ∙ relation_passes in absurd (cc)
@@ -439,8 +454,13 @@ module _ (p : Program) (sub : Sub) (scoped : Scoped p sub) where
         let passes = variable_passes (λ w. imports w sub) in
         let e = sym other ∙ (sym (ap passes its) ∙ kept U11 name.name.place (passes (variable_of name.entity)) ok_here) in
         absurd (cc)
-    none_broken _ _ (input_assigned target assigns is) = no_input (commands sub.statements) target assigns rest_passes.1 (inl is)
-    none_broken _ _ (constant_assigned target assigns is) = no_input (commands sub.statements) target assigns rest_passes.1 (inr is)
+    none_broken _ _ (no_formal_after post name v is within its other) =
+        let ok_here = passes_at (reads_formal sub) (names_read post.condition) (ap (if_there (obeyed_post sub)) (sym is) ∙ rest_passes.1) name within in
+        let passes = variable_passes (λ w. is_formal w sub) in
+        let e = sym other ∙ (sym (ap passes its) ∙ kept U11 name.name.place (passes (variable_of name.entity)) ok_here) in
+        absurd (cc)
+    none_broken _ _ (input_assigned target assigns is) = no_input (commands sub.statements) target assigns rest_passes.2 (inl is)
+    none_broken _ _ (constant_assigned target assigns is) = no_input (commands sub.statements) target assigns rest_passes.2 (inr is)
 
 -- ---- programs
 

@@ -1,7 +1,7 @@
 -- What a program that breaks no rule on variables is.
 use Rattle.std.proofs.Common.{◌≡◌, ◌≢◌, ◌⊎◌, Bool, true, false, ◌||◌, List, Some, Ok, is_some, refl, sym, ap, ap₂, subst, ◌∙◌, inl, inr, ⊎_elim, not}
 use Rattle.std.specs.Prelude.{All, ◌&&◌, ◌==◌}
-use Rattle.std.specs.List.{list_all}
+use Rattle.std.specs.List.{list_all, list_any}
 use Rattle.std.proofs.lemmas.Bool.{and_parts, eqb-true, or_cases}
 use Rattle.std.proofs.lemmas.List.Elements.{All-contains, All-from_recursion}
 use Rattle.spx_text.specs.declared.place.Place.{Place}
@@ -19,11 +19,11 @@ use Rattle.spx_core.specs.Reads.{names_read}
 use Rattle.spx_core.specs.Uses.{denotes, mentions, uses, variable_of, variable_is}
 use Rattle.spx_core.specs.Dependency.{exports, imports, relation}
 use Rattle.spx_core.specs.Mirror.DerivesItems.{has_export, has_import}
-use Rattle.spx_core.specs.Commands.{Command, Skip, Set, Then, Choose, Select, Alternatives, Last, When, commands}
+use Rattle.spx_core.specs.Commands.{Command, Skip, Set, Then, Choose, Select, Check, Alternatives, Last, When, commands}
 use Rattle.spx_core.specs.Effects.{Read, effect, effect_among, reads_of, sets}
 use Rattle.spx_core.specs.Formals.{formals, is_formal, mode_of}
-use Rattle.spx_core.specs.Judged.{each, if_there}
-use Rattle.spx_core.specs.Obeyed.{Obeys, export_agrees, exports_once, import_agrees, is_imported, is_exported, is_constant, is_listed, is_right_relation, may_be_assigned, mode_named, names_formals, names_once, obeyed_export, obeyed_import, obeyed_item, obeyed_pre, obeyed_relation, obeyed_alternatives, obeyed_command, obeyed_sub, pairs_once, place_or, reads_import, unused_imports, variable_passes}
+use Rattle.spx_core.specs.Judged.{each, if_there, keeps}
+use Rattle.spx_core.specs.Obeyed.{Obeys, export_agrees, exports_once, import_agrees, is_imported, is_exported, is_constant, is_listed, is_right_relation, may_be_assigned, mode_named, names_formals, names_once, obeyed_export, obeyed_import, obeyed_item, obeyed_post, obeyed_pre, obeyed_relation, obeyed_alternatives, obeyed_command, obeyed_sub, pairs_once, place_or, unused_imports, variable_passes}
 use Rattle.spx_core.specs.Rules.{ObeysRules, agrees}
 use Rattle.spx_core.specs.Scopes.{AllHaveTheirModes, HasItsMode, HaveTheirModes, Scoped, TargetsHaveTheirModes}
 use Rattle.spx_core.specs.Erased.{Visible}
@@ -48,6 +48,7 @@ mutual
       let e = sym (and_parts (may_be_assigned (mode_named target.root)) (not (is_constant target.root.entity)) (kept U2 target.root.name.place _ h)).0 ∙ ap may_be_assigned (its v set ∙ is) in
       absurd (cc)
   no_input p v (Select place selector alternatives) its h set is = no_input_among p v (reads_of selector) place alternatives its h set is
+  no_input p v (Check place condition) its h set is = absurd (cc)
 
   no_input_among : (p : Program) (v : VarId) (tests : List Read) (place : Place) (alternatives : Alternatives) → AllHaveTheirModes p alternatives → obeyed_alternatives alternatives ≡ Ok tt → sets v (effect_among tests place alternatives) ≡ true
       → mode_of v p ≢ Some In
@@ -120,12 +121,19 @@ listed sub v all is =
     let each = All-from_recursion (λ w. is_listed sub w ≡ true) (formals sub) (all_pass (is_listed sub) (formals sub) all) in
     subst (λ u. is_listed sub u ≡ true) (same_var w.0 v (eqb-true w.0.0 v.0 w.2)) (All-contains (λ u. is_listed sub u ≡ true) (formals sub) w.0 each w.1)
 
+-- a variable that is read among these names passes what each of them passes
+read_passes : (test : VarId → Bool) (v : VarId) (names : List CoreName) → each (λ (name : CoreName). keeps U11 name.name.place (variable_passes test (variable_of name.entity))) names ≡ Ok tt
+    → list_any (denotes v) names ≡ true → test v ≡ true
+read_passes test v names ok h =
+    let name = found (denotes v) names h in
+    let passes_here = passes_at _ names ok name.0 name.1 in
+    sym (ap (variable_passes test) (same_is v (variable_of name.0.entity) name.2)) ∙ kept U11 name.0.name.place (variable_passes test (variable_of name.0.entity)) passes_here
+
 pre_reads : (sub : Sub) (v : VarId) (pre : CorePredicate) → if_there (obeyed_pre sub) sub.pre ≡ Ok tt → sub.pre ≡ Some pre → uses v pre.condition ≡ true → imports v sub ≡ true
-pre_reads sub v pre ok is h =
-    let name = found (denotes v) (names_read pre.condition) h in
-    let passes_here = passes_at (reads_import sub) (names_read pre.condition) (ap (if_there (obeyed_pre sub)) (sym is) ∙ ok) name.0 name.1 in
-    let passes_it = variable_passes (λ w. imports w sub) in
-    sym (ap passes_it (same_is v (variable_of name.0.entity) name.2)) ∙ kept U11 name.0.name.place (passes_it (variable_of name.0.entity)) passes_here
+pre_reads sub v pre ok is h = read_passes (λ w. imports w sub) v (names_read pre.condition) (ap (if_there (obeyed_pre sub)) (sym is) ∙ ok) h
+
+post_reads : (sub : Sub) (v : VarId) (post : CorePredicate) → if_there (obeyed_post sub) sub.post ≡ Ok tt → sub.post ≡ Some post → uses v post.condition ≡ true → is_formal v sub ≡ true
+post_reads sub v post ok is h = read_passes (λ w. is_formal w sub) v (names_read post.condition) (ap (if_there (obeyed_post sub)) (sym is) ∙ ok) h
 
 -- ---- subprograms and programs
 
@@ -134,12 +142,13 @@ rules_of p sub scoped ok =
     let a = bound (obeyed_relation sub) _ tt ok in
     let b = bound (each (obeyed_item sub) (relation sub)) _ tt a.2 in
     let c = bound (if_there (obeyed_pre sub) sub.pre) _ tt b.2 in
+    let d = bound (if_there (obeyed_post sub) sub.post) _ tt c.2 in
     let once = and_parts (exports_once (relation sub)) _ (kept U7 (place_or sub.place sub.derives) (is_right_relation sub) a.1) in
     let pairs = and_parts (list_all pairs_once (relation sub)) _ once.1 in
     let unused = and_parts (names_once (unused_imports (relation sub))) _ pairs.1 in
     let rest = and_parts (list_all (is_listed sub) (formals sub)) (list_all (names_formals sub) (relation sub)) unused.1 in
     record {
-      targets = λ v set is. no_input p v (commands sub.statements) scoped.target_modes c.2 set is;
+      targets = λ v set is. no_input p v (commands sub.statements) scoped.target_modes d.2 set is;
       exports_are_named_once = once.0;
       pairs_are_named_once = pairs.0;
       unused_are_named_once = unused.0;
@@ -148,6 +157,7 @@ rules_of p sub scoped ok =
       modes = λ v mode formal is.
           agreed mode (imports v sub) (exports v sub) (listed sub v rest.0 formal) (at_export p sub v mode is scoped.relation_modes b.1) (at_import p sub v mode is scoped.relation_modes b.1);
       precondition = λ pre v is h. pre_reads sub v pre c.1 is h;
+      postcondition = λ post v is h. post_reads sub v post d.1 is h;
     }
 
 pub hold : (p : Program) → Visible p → Obeys p → All (ObeysRules p) p.subs

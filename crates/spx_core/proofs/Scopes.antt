@@ -38,7 +38,7 @@ use Rattle.spx_core.specs.declared.program.Var.{Var}
 use Rattle.spx_core.specs.declared.program.Program.{Program}
 use Rattle.spx_core.specs.declared.subprogram.CorePredicate.{CorePredicate}
 use Rattle.spx_core.specs.declared.subprogram.Sub.{Sub}
-use Rattle.spx_core.specs.Commands.{Command, Skip, Set, Then, Choose, Select, Alternatives, Last, When, alternative, alternatives_of, arm_before, arms_before, chain, command, commands, select}
+use Rattle.spx_core.specs.Commands.{Command, Skip, Set, Then, Choose, Select, Check, Alternatives, Last, When, alternative, alternatives_of, arm_before, arms_before, chain, command, commands, select}
 use Rattle.spx_core.specs.Commands as commands_of
 use Rattle.spx_core.specs.Reads.{names_read}
 use Rattle.spx_core.specs.Uses.{denotes, mentions, uses}
@@ -48,7 +48,7 @@ use Rattle.spx_core.specs.Formals.{is_formal, is_local, mode_in, mode_of, stands
 use Rattle.spx_core.specs.Effects.{Read, effect, effect_among, is_read, reads, reads_of, sets}
 use Rattle.spx_core.specs.Obeyed.{mode_denoted}
 use Rattle.spx_core.specs.Regions.{Region, Regions}
-use Rattle.spx_core.specs.Resolved.{after_formals, around_body, at_start, counted_sub, Counts, declaring, declaring_all, exported_names, formal_names, local_names, local_variables, own_types, own_vars, resolved_alternative, resolved_arm, resolved_derives, resolved_expr, resolved_item, resolved_pre, resolved_reference, resolved_stmt, resolved_sub, resolved_subs, standard_types, unit_name, var_of}
+use Rattle.spx_core.specs.Resolved.{after_formals, around_body, at_start, counted_sub, Counts, declaring, declaring_all, exported_names, formal_names, items_for, local_names, local_variables, own_types, own_vars, resolved_alternative, resolved_arm, resolved_derives, resolved_expr, resolved_in, resolved_item, resolved_predicate, resolved_reference, resolved_stmt, resolved_sub, resolved_subs, standard_types, unit_name, var_of}
 use Rattle.spx_core.specs.Resolved as resolved
 use Rattle.spx_core.specs.Erased.{Visible, erased}
 use Rattle.spx_core.specs.Scopes.{AllAreAsDeclared, AllHaveTheirModes, AreAsDeclared, HasItsMode, HaveTheirModes, IsAsDeclared, IsLocalKind, Scoped, TargetsHaveTheirModes, kind_of, object_declared, object_in}
@@ -83,8 +83,9 @@ mode_is p v kind is = mode_in_row kind (slice_get p.vars v.0) is
 abbrev IsTargetIn : Regions → Reference → Type 0
 IsTargetIn regions target = (name : Name) × (target ≡ resolved_reference regions name)
 
+-- whichever items say of what values on entry may be named
 abbrev IsValueIn : Regions → CoreExpr → Type 0
-IsValueIn regions value = (e : Expr) × (value ≡ resolved_expr regions e)
+IsValueIn regions value = (items : List CoreDerivesItem) × (e : Expr) × (value ≡ resolved_in items regions e)
 
 -- the targets and the expressions of a command are what names and expressions are in these regions
 abbrev mutual
@@ -94,6 +95,7 @@ abbrev mutual
   Resolves regions (Then a b) = Resolves regions a × Resolves regions b
   Resolves regions (Choose place condition a b) = IsValueIn regions condition × Resolves regions a × Resolves regions b
   Resolves regions (Select place selector alternatives) = IsValueIn regions selector × AllResolve regions alternatives
+  Resolves regions (Check place condition) = IsValueIn regions condition
 
   AllResolve : Regions → Alternatives → Type 0
   AllResolve regions (Last choices a) = Resolves regions a
@@ -106,15 +108,15 @@ Chosen = Option (List CoreChoice) × Command
 command_at : (y : CoreStmt-F CoreStmt CoreAlternative CoreArm) → command (roll-CoreStmt y) ≡ commands_of.stmt_step (map-CoreStmt CoreStmt CoreAlternative CoreArm Command Chosen (Command → Command) command alternative arm_before y)
 command_at y = fold-roll-CoreStmt Command Chosen (Command → Command) commands_of.stmt_step commands_of.alternative_step commands_of.arm_step y
 
-module _ (regions : Regions) where
+module _ (items : List CoreDerivesItem) (regions : Regions) where
   abbrev StmtResolves : Stmt → Type 0
-  StmtResolves s = Resolves regions (command (resolved_stmt regions s))
+  StmtResolves s = Resolves regions (command (resolved_stmt items regions s))
 
   abbrev AlternativeResolves : Alternative → Type 0
-  AlternativeResolves a = Resolves regions (alternative (resolved_alternative regions a)).1
+  AlternativeResolves a = Resolves regions (alternative (resolved_alternative items regions a)).1
 
   abbrev ArmResolves : Arm → Type 0
-  ArmResolves a = (otherwise : Command) → Resolves regions otherwise → Resolves regions (arm_before (resolved_arm regions a) otherwise)
+  ArmResolves a = (otherwise : Command) → Resolves regions otherwise → Resolves regions (arm_before (resolved_arm items regions a) otherwise)
 
   abbrev StmtShown : Type 0
   StmtShown = (s : Stmt) × StmtResolves s
@@ -125,65 +127,67 @@ module _ (regions : Regions) where
   abbrev ArmShown : Type 0
   ArmShown = (a : Arm) × ArmResolves a
 
-  chain_resolves : (stmts : List StmtShown) → Resolves regions (chain (map command (map (resolved_stmt regions) (map (λ s. s.0) stmts))))
+  chain_resolves : (stmts : List StmtShown) → Resolves regions (chain (map command (map (resolved_stmt items regions) (map (λ s. s.0) stmts))))
   chain_resolves [] = tt
   chain_resolves (s ∷ stmts) = (s.1, chain_resolves stmts)
 
-  arms_resolve : (otherwise : Command) → Resolves regions otherwise → (arms : List ArmShown) → Resolves regions (arms_before otherwise (map arm_before (map (resolved_arm regions) (map (λ a. a.0) arms))))
+  arms_resolve : (otherwise : Command) → Resolves regions otherwise → (arms : List ArmShown) → Resolves regions (arms_before otherwise (map arm_before (map (resolved_arm items regions) (map (λ a. a.0) arms))))
   arms_resolve otherwise known [] = known
   arms_resolve otherwise known (a ∷ arms) = a.1 _ (arms_resolve otherwise known arms)
 
   alternatives_resolve : (first : AlternativeShown) (rest : List AlternativeShown)
-      → AllResolve regions (alternatives_of (alternative (resolved_alternative regions first.0)) (map alternative (map (resolved_alternative regions) (map (λ a. a.0) rest))))
+      → AllResolve regions (alternatives_of (alternative (resolved_alternative items regions first.0)) (map alternative (map (resolved_alternative items regions) (map (λ a. a.0) rest))))
   alternatives_resolve first [] = first.1
   alternatives_resolve first (second ∷ rest) = (first.1, alternatives_resolve second rest)
 
   select_resolves : (place : Place) (selector : Expr) (alternatives : List AlternativeShown)
-      → Resolves regions (select place (resolved_expr regions selector) (map alternative (map (resolved_alternative regions) (map (λ a. a.0) alternatives))))
+      → Resolves regions (select place (resolved_expr regions selector) (map alternative (map (resolved_alternative items regions) (map (λ a. a.0) alternatives))))
   select_resolves place selector [] = tt
-  select_resolves place selector (first ∷ rest) = ((selector, refl), alternatives_resolve first rest)
+  select_resolves place selector (first ∷ rest) = (([], selector, refl), alternatives_resolve first rest)
 
   abbrev bare_stmt : Stmt-F StmtShown AlternativeShown ArmShown → Stmt-F Stmt Alternative Arm
   bare_stmt y = map-Stmt StmtShown AlternativeShown ArmShown Stmt Alternative Arm (λ e. e.0) (λ e. e.0) (λ e. e.0) y
 
   stmt_at_layer : (y : Stmt-F StmtShown AlternativeShown ArmShown)
-      → Resolves regions (command (resolved.stmt_step regions (map-Stmt Stmt Alternative Arm CoreStmt CoreAlternative CoreArm (resolved_stmt regions) (resolved_alternative regions) (resolved_arm regions) (bare_stmt y))))
+      → Resolves regions (command (resolved.stmt_step items regions (map-Stmt Stmt Alternative Arm CoreStmt CoreAlternative CoreArm (resolved_stmt items regions) (resolved_alternative items regions) (resolved_arm items regions) (bare_stmt y))))
   unfolding roll-CoreStmt roll
   stmt_at_layer (Stmt-F.Null place) = subst (Resolves regions) (sym (command_at (CoreStmt-F.Null place))) tt
   stmt_at_layer (Stmt-F.Assignment target value) =
-      subst (Resolves regions) (sym (command_at (CoreStmt-F.Assignment (resolved_reference regions target) (resolved_expr regions value)))) ((target, refl), (value, refl))
+      subst (Resolves regions) (sym (command_at (CoreStmt-F.Assignment (resolved_reference regions target) (resolved_expr regions value)))) ((target, refl), ([], value, refl))
   stmt_at_layer (Stmt-F.If arms None closing) =
-      subst (Resolves regions) (sym (command_at (CoreStmt-F.If (map (resolved_arm regions) (map (λ a. a.0) arms)) None closing))) (arms_resolve Skip tt arms)
+      subst (Resolves regions) (sym (command_at (CoreStmt-F.If (map (resolved_arm items regions) (map (λ a. a.0) arms)) None closing))) (arms_resolve Skip tt arms)
   stmt_at_layer (Stmt-F.If arms (Some stmts) closing) =
-      subst (Resolves regions) (sym (command_at (CoreStmt-F.If (map (resolved_arm regions) (map (λ a. a.0) arms)) (Some (map (resolved_stmt regions) (map (λ s. s.0) stmts))) closing)))
+      subst (Resolves regions) (sym (command_at (CoreStmt-F.If (map (resolved_arm items regions) (map (λ a. a.0) arms)) (Some (map (resolved_stmt items regions) (map (λ s. s.0) stmts))) closing)))
       (arms_resolve _ (chain_resolves stmts) arms)
   stmt_at_layer (Stmt-F.Case place selector alternatives closing) =
-      subst (Resolves regions) (sym (command_at (CoreStmt-F.Case place (resolved_expr regions selector) (map (resolved_alternative regions) (map (λ a. a.0) alternatives)) closing))) (select_resolves place selector alternatives)
+      subst (Resolves regions) (sym (command_at (CoreStmt-F.Case place (resolved_expr regions selector) (map (resolved_alternative items regions) (map (λ a. a.0) alternatives)) closing))) (select_resolves place selector alternatives)
+  stmt_at_layer (Stmt-F.Check place condition) =
+      subst (Resolves regions) (sym (command_at (CoreStmt-F.Check place (resolved_in items regions condition)))) (items, condition, refl)
 
   stmt_layer : (y : Stmt-F StmtShown AlternativeShown ArmShown) → StmtResolves (roll-Stmt (bare_stmt y))
   stmt_layer y =
-      subst (λ s. Resolves regions (command s)) (sym (fold-roll-Stmt CoreStmt CoreAlternative CoreArm (resolved.stmt_step regions) (resolved.alternative_step regions) (resolved.arm_step regions) _)) (stmt_at_layer y)
+      subst (λ s. Resolves regions (command s)) (sym (fold-roll-Stmt CoreStmt CoreAlternative CoreArm (resolved.stmt_step items regions) (resolved.alternative_step regions) (resolved.arm_step regions) _)) (stmt_at_layer y)
 
   alternative_layer : (y : Alternative-F StmtShown AlternativeShown ArmShown)
       → AlternativeResolves (roll-Alternative (map-Alternative StmtShown AlternativeShown ArmShown Stmt Alternative Arm (λ e. e.0) (λ e. e.0) (λ e. e.0) y))
   alternative_layer y =
-      subst (λ a. Resolves regions (alternative a).1) (sym (fold-roll-Alternative CoreStmt CoreAlternative CoreArm (resolved.stmt_step regions) (resolved.alternative_step regions) (resolved.arm_step regions) _))
+      subst (λ a. Resolves regions (alternative a).1) (sym (fold-roll-Alternative CoreStmt CoreAlternative CoreArm (resolved.stmt_step items regions) (resolved.alternative_step regions) (resolved.arm_step regions) _))
       (subst (λ (c : Chosen). Resolves regions c.1) (sym (fold-roll-CoreAlternative Command Chosen (Command → Command) commands_of.stmt_step commands_of.alternative_step commands_of.arm_step _)) (chain_resolves y.body))
 
   arm_layer : (y : Arm-F StmtShown AlternativeShown ArmShown) → ArmResolves (roll-Arm (map-Arm StmtShown AlternativeShown ArmShown Stmt Alternative Arm (λ e. e.0) (λ e. e.0) (λ e. e.0) y))
   arm_layer y otherwise known =
-      subst (λ a. Resolves regions (arm_before a otherwise)) (sym (fold-roll-Arm CoreStmt CoreAlternative CoreArm (resolved.stmt_step regions) (resolved.alternative_step regions) (resolved.arm_step regions) _))
+      subst (λ a. Resolves regions (arm_before a otherwise)) (sym (fold-roll-Arm CoreStmt CoreAlternative CoreArm (resolved.stmt_step items regions) (resolved.alternative_step regions) (resolved.arm_step regions) _))
       (subst (λ f. Resolves regions (f otherwise)) (sym (fold-roll-CoreArm Command Chosen (Command → Command) commands_of.stmt_step commands_of.alternative_step commands_of.arm_step _))
-      ((y.condition, refl), chain_resolves y.body, known))
+      (([], y.condition, refl), chain_resolves y.body, known))
 
   stmt_resolves : (s : Stmt) → StmtResolves s
   stmt_resolves =
       ind-Stmt StmtResolves AlternativeResolves ArmResolves (λ x y is. subst (λ z. StmtResolves (roll-Stmt z)) is (stmt_layer y))
       (λ x y is. subst (λ z. AlternativeResolves (roll-Alternative z)) is (alternative_layer y)) (λ x y is. subst (λ z. ArmResolves (roll-Arm z)) is (arm_layer y))
 
-stmts_resolve : (regions : Regions) (stmts : List Stmt) → Resolves regions (commands (map (resolved_stmt regions) stmts))
-stmts_resolve regions [] = tt
-stmts_resolve regions (s ∷ stmts) = (stmt_resolves regions s, stmts_resolve regions stmts)
+  stmts_resolve : (stmts : List Stmt) → Resolves regions (commands (map (resolved_stmt items regions) stmts))
+  stmts_resolve [] = tt
+  stmts_resolve (s ∷ stmts) = (stmt_resolves s, stmts_resolve stmts)
 
 module _ (more : List TypeRow) (P : VarId → Object → Type 0) (regions : Regions) (all : AllByRecursion (HoldsIn more P) regions) (v : VarId) where
   imported_variable : (item : DerivesItem) → has_import v (resolved_item regions item) ≡ true → (object : Object) × P v object
@@ -197,7 +201,7 @@ module _ (more : List TypeRow) (P : VarId → Object → Type 0) (regions : Regi
   in_relation test known (Some derives) h = let one = some_mapped test (resolved_item regions) derives.items h in known one.0 one.1
 
   value_variable : (value : CoreExpr) → IsValueIn regions value → is_read v (reads_of value) ≡ true → (object : Object) × P v object
-  value_variable value written h = used_variable more P regions all v written.0 (ap (uses v) (sym written.1) ∙ sym (reads_uses v value) ∙ h)
+  value_variable value written h = used_variable more P regions all written.0 v written.1 (ap (uses v) (sym written.2) ∙ sym (reads_uses v value) ∙ h)
 
   mutual
     assigned_variable : (c : Command) → Resolves regions c → sets v (effect c) ≡ true → (object : Object) × P v object
@@ -207,6 +211,7 @@ module _ (more : List TypeRow) (P : VarId → Object → Type 0) (regions : Regi
     assigned_variable (Then a b) written h = ⊎_elim (assigned_variable a written.0) (assigned_variable b written.1) (or_cases (sets v (effect a)) (sets v (effect b)) h)
     assigned_variable (Choose place condition a b) written h = ⊎_elim (assigned_variable a written.1) (assigned_variable b written.2) (or_cases (sets v (effect a)) (sets v (effect b)) h)
     assigned_variable (Select place selector alternatives) written h = assigned_among (reads_of selector) place alternatives written.1 h
+    assigned_variable (Check place condition) written h = absurd cc
 
     assigned_among : (tests : List Read) (place : Place) (alternatives : Alternatives) → AllResolve regions alternatives → sets v (effect_among tests place alternatives) ≡ true → (object : Object) × P v object
     assigned_among tests place (Last choices a) written h = ⊎_elim (assigned_variable a written) (assigned_variable a written) (or_cases (sets v (effect a)) (sets v (effect a)) h)
@@ -223,6 +228,7 @@ module _ (more : List TypeRow) (P : VarId → Object → Type 0) (regions : Regi
         (λ arms. ⊎_elim (read_variable a written.1) (read_variable b written.2) (or_cases (reads v (effect a)) (reads v (effect b)) arms))
         (or_cases (is_read v (reads_of condition)) (reads v (effect a) || reads v (effect b)) h)
     read_variable (Select place selector alternatives) written h = read_among (reads_of selector) place (value_variable selector written.0) alternatives written.1 h
+    read_variable (Check place condition) written h = value_variable condition written h
 
     -- the tests read such a variable
     read_among : (tests : List Read) (place : Place) → (is_read v tests ≡ true → (object : Object) × P v object) → (alternatives : Alternatives) → AllResolve regions alternatives → reads v (effect_among tests place alternatives) ≡ true
@@ -255,6 +261,7 @@ module _ (p : Program) (more : List TypeRow) (P : VarId → Object → Type 0) (
     targets_have_modes (Then a b) written = (targets_have_modes a written.0, targets_have_modes b written.1)
     targets_have_modes (Choose place condition a b) written = (targets_have_modes a written.1, targets_have_modes b written.2)
     targets_have_modes (Select place selector alternatives) written = all_have_modes alternatives written.1
+    targets_have_modes (Check place condition) written = tt
 
     all_have_modes : (alternatives : Alternatives) → AllResolve regions alternatives → AllHaveTheirModes p alternatives
     all_have_modes (Last choices a) written = targets_have_modes a written
@@ -271,8 +278,8 @@ module _ (p : Program) (more : List TypeRow) (P : VarId → Object → Type 0) (
 
   read_as_declared : (value : CoreExpr) → IsValueIn regions value → All (IsAsDeclared p) (names_read value)
   read_as_declared value written =
-      subst (λ e. All (IsAsDeclared p) (names_read e)) (sym written.1)
-      (All-from_recursion (IsAsDeclared p) _ (all_as_declared (names_read (resolved_expr regions written.0)) (read_known more P regions all written.0)))
+      subst (λ e. All (IsAsDeclared p) (names_read e)) (sym written.2)
+      (All-from_recursion (IsAsDeclared p) _ (all_as_declared (names_read (resolved_in written.0 regions written.1)) (read_known more P regions all written.0 written.1)))
 
   target_as_declared : (target : Reference) → IsTargetIn regions target → IsAsDeclared p target.root
   target_as_declared target written = subst (λ (r : Reference). IsAsDeclared p r.root) (sym written.1) (as_declared (resolved_reference regions written.0).root (root_holds more P regions all written.0))
@@ -284,14 +291,17 @@ module _ (p : Program) (more : List TypeRow) (P : VarId → Object → Type 0) (
     command_as_declared (Then a b) written = (command_as_declared a written.0, command_as_declared b written.1)
     command_as_declared (Choose place condition a b) written = (read_as_declared condition written.0, (command_as_declared a written.1, command_as_declared b written.2))
     command_as_declared (Select place selector alternatives) written = (read_as_declared selector written.0, alternatives_as_declared alternatives written.1)
+    command_as_declared (Check place condition) written = read_as_declared condition written
 
     alternatives_as_declared : (alternatives : Alternatives) → AllResolve regions alternatives → AllAreAsDeclared p alternatives
     alternatives_as_declared (Last choices a) written = command_as_declared a written
     alternatives_as_declared (When choices a rest) written = (command_as_declared a written.0, alternatives_as_declared rest written.1)
 
-  pre_as_declared : (written : Option Predicate) (pre : CorePredicate) → option_map (resolved_pre regions) written ≡ Some pre → All (IsAsDeclared p) (names_read pre.condition)
-  pre_as_declared None pre is = absurd cc
-  pre_as_declared (Some w) pre is = read_as_declared pre.condition (w.condition, ap (λ (x : CorePredicate). x.condition) (let e : pre ≡ resolved_pre regions w = cc in e))
+  predicate_as_declared : (items : List CoreDerivesItem) (written : Option Predicate) (predicate : CorePredicate) → option_map (resolved_predicate items regions) written ≡ Some predicate
+      → All (IsAsDeclared p) (names_read predicate.condition)
+  predicate_as_declared items None predicate is = absurd cc
+  predicate_as_declared items (Some w) predicate is =
+      read_as_declared predicate.condition (items, w.condition, ap (λ (x : CorePredicate). x.condition) (let e : predicate ≡ resolved_predicate items regions w = cc in e))
 
 -- ---- subprograms
 
@@ -391,10 +401,16 @@ module _ (p : Program) (more : List TypeRow) (types : p.types ≡ standard_types
       no_local v h =
           false_from_ne_true (is_local v sub) (λ l. let kind = formal_kind v h in let other = local_kind v l in let e : Formal kind.0 ≡ other.0 = cc in subst IsLocalKind (sym e) other.2)
 
+      abbrev its_items : List CoreDerivesItem
+      its_items = items_for name sub.formal_part s
+
+      its_commands : Resolves body (commands sub.statements)
+      its_commands = stmts_resolve its_items body s.statements
+
       scoped_sub : Scoped p sub
       scoped_sub = record {
-        targets = λ v h. (assigned_variable more Own body in_body v (commands sub.statements) (stmts_resolve body s.statements) h).1.0;
-        read = λ v h. (read_variable more Own body in_body v (commands sub.statements) (stmts_resolve body s.statements) h).1.0;
+        targets = λ v h. (assigned_variable more Own body in_body v (commands sub.statements) its_commands h).1.0;
+        read = λ v h. (read_variable more Own body in_body v (commands sub.statements) its_commands h).1.0;
         exported = λ v h. (in_relation more FormalRow annotations in_annotations v (has_export v) (λ item. mentioned_variable more FormalRow annotations in_annotations v (exported_names item.exports)) s.derives (sym (exports_are v sub) ∙ h)).1.0;
         imported = λ v h. (in_relation more FormalRow annotations in_annotations v (has_import v) (imported_variable more FormalRow annotations in_annotations v) s.derives (sym (imports_are v sub) ∙ h)).1.0;
         formal_kinds = formal_kind;
@@ -402,9 +418,10 @@ module _ (p : Program) (more : List TypeRow) (types : p.types ≡ standard_types
         once = positions_differ first (its_formals ++ its_locals);
         apart = no_local;
         relation_modes = relation_has_modes p more FormalRow (λ v object h. h.1) annotations in_annotations s.derives;
-        target_modes = targets_have_modes p more Own (λ v object h. h.1) body in_body (commands sub.statements) (stmts_resolve body s.statements);
-        body_names = command_as_declared p more Own (λ v object h. h.1) body in_body (commands sub.statements) (stmts_resolve body s.statements);
-        pre_names = pre_as_declared p more FormalRow (λ v object h. h.1) annotations in_annotations s.pre;
+        target_modes = targets_have_modes p more Own (λ v object h. h.1) body in_body (commands sub.statements) its_commands;
+        body_names = command_as_declared p more Own (λ v object h. h.1) body in_body (commands sub.statements) its_commands;
+        pre_names = predicate_as_declared p more FormalRow (λ v object h. h.1) annotations in_annotations [] s.pre;
+        post_names = predicate_as_declared p more FormalRow (λ v object h. h.1) annotations in_annotations its_items s.post;
       }
 
   -- ---- programs

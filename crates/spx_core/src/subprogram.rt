@@ -22,7 +22,7 @@ pub struct CoreFormalPart {
     pub params: Items<CoreParam>,
 }
 
-/// A precondition, at the word `pre`.
+/// A precondition or a postcondition, at the word `pre` or `post`.
 #[derive(Debug, Drop)]
 pub struct CorePredicate {
     pub place: Place,
