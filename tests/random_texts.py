@@ -49,7 +49,8 @@ PIECES = tuple(piece.encode('ascii') for piece in (
     '   type S is range 0 .. 9;\n', '   type Hue is (Red, Green);\n', '   subtype S is Integer range 1 .. 5;\n', '   C : constant Integer := 5;\n',
     '   C, D : constant := 2;\n', '   V : S;\n', 'C', 'Red', ' + C', ': constant', ':= 5', '(Red)', 'case', 'when', 'others', '=>', '|', 'end case',
     'end case;', 'case X is', 'when 1 =>', 'when others =>', 'when 1 .. 5 | 7 =>', '   case X is when 1 => X := 2; when others => X := 3; end case;\n',
-    'Integer (', "Integer'(", "Hue'Succ (", "'Pos", "'Val (1)", ' := 5', '   V : Integer := 5;\n'))
+    'Integer (', "Integer'(", "Hue'Succ (", "'Pos", "'Val (1)", ' := 5', '   V : Integer := 5;\n', '<->', ' -> X = X', ' <-> X = X', 'X~', '~',
+    'check', 'post', 'assert', '\n--# check X = X;\n', '\n--# post X = X;\n', '\n--# check X~ = X;\n', '(X = X -> X = X)'))
 # Bytes that are apt to end a lexeme, a line or a text.
 EDGES = b'\0\t\n\v\f\r -#0A_\x80\xa0\xff'
 
@@ -279,6 +280,15 @@ class Selection(Branch):
         return [self.selector]
 
 
+# Around the condition of a `check`, which stands on a line of its own in the end.
+CHECK, END_OF_CHECK = '\1', '\2'
+
+
+def checked(text):
+    """The text with each `check` on a line of its own."""
+    return text.replace(CHECK, '\n--# check ').replace(f'{END_OF_CHECK};', ';\n')
+
+
 def assignments(statements):
     """The targets and right sides of statements, also of those in arms."""
     for statement in statements:
@@ -330,6 +340,10 @@ class Writer:
         self.declared = Declared()
         self.base = 'Integer'
         self.ignored = []
+        # What a `check` may read, the variables that are both imported and exported, and a condition that is known at the start.
+        self.readable = ()
+        self.changed_ones = ()
+        self.known = 'True'
 
     def text(self):
         """A procedure of random parts, such a one or a case of the table with other names, or one with changes."""
@@ -372,8 +386,9 @@ class Writer:
         if self.random.random() < 0.02:
             self.random.shuffle(declared)
         pre = self.precondition_before(formals, sources, statements) if self.random.random() < 0.75 else None
-        return longer(self.params(formals, sources), self.items(formals, sources), *self.spelled(statements),
-                      pre=pre, declared=declared, name=name)
+        self.note(formals, locals_, sources, pre)
+        return checked(longer(self.params(formals, sources), self.items(formals, sources), *self.spelled(statements),
+                              pre=pre, post=self.post(formals), declared=declared, name=name))
 
     def short_procedure(self, name):
         """A procedure in which variables of declared types decide what a formal is. It mostly keeps all rules."""
@@ -393,8 +408,9 @@ class Writer:
             self.insert(statements, self.to_a_constant(formals))
         sources = self.sources(formals, locals_, statements)
         pre = self.random.choice((None, None, 'A > 0', 'A in 1 .. 100'))
-        return longer(self.params(formals, sources), self.items(formals, sources), *self.spelled(statements), pre=pre,
-                      declared=self.declared.lines + self.declarations(locals_), name=name)
+        self.note(formals, locals_, sources, pre)
+        return checked(longer(self.params(formals, sources), self.items(formals, sources), *self.spelled(statements), pre=pre,
+                              post=self.post(formals), declared=self.declared.lines + self.declarations(locals_), name=name))
 
     def uses(self, local):
         """Statements that set a variable, on one way or on two, and at times once more."""
@@ -471,6 +487,46 @@ class Writer:
         made = self.precondition(formals, sources, next(integers, self.value()))
         self.declared = before
         return made
+
+    def note(self, formals, locals_, sources, pre):
+        """Keeps what annotations may name. What starts set may mostly be read everywhere."""
+        imports = tuple(formal for formal in formals if formal not in sources or is_import(formal, sources))
+        self.readable = imports if self.random.random() < 0.7 else imports + tuple(locals_)
+        self.changed_ones = tuple(formal for formal in imports if formal in sources)
+        self.known = pre or 'True'
+
+    def post(self, formals):
+        """Nothing, or a postcondition. What is declared in the body cannot be seen in it."""
+        if not formals or self.random.random() < 0.6:
+            return None
+        before = self.declared
+        if self.random.random() < 0.98:
+            self.declared = Declared()
+        made = self.predicate(formals)
+        self.declared = before
+        return made
+
+    def predicate(self, names):
+        """A condition, one that is known or trivial, or an implication or equivalence of two; with values on entry at times."""
+        kind, name = self.random.random(), self.random.choice(names)
+        if kind < 0.25:
+            made = self.random.choice((f'{name} = {name}', f'{name} = {name}', self.known, 'True'))
+        else:
+            made = self.truth(names, self.random.choice((0, 0, 1)))
+        if self.random.random() < 0.3:
+            other = self.truth(names, 0) if self.random.random() < 0.7 else made
+            made = f' {self.random.choice(("->", "->", "<->"))} '.join((made, other))
+        if self.random.random() < 0.1:
+            made = f'({made})'
+        return self.with_entry_values(made, names)
+
+    def with_entry_values(self, text, names):
+        """Some names with `~`, mostly of variables that are both imported and exported."""
+        allowed = names if self.random.random() < 0.03 else self.changed_ones
+        for name in allowed:
+            pieces = re.split(rf"(?<!')\b({name})\b(?!')", text)
+            text = ''.join(piece + '~' if at % 2 and self.random.random() < 0.35 else piece for at, piece in enumerate(pieces))
+        return text
 
     def branched(self, statements, formals, locals_):
         """The statements with some of them in arms, and some more; mostly such that what one arm sets, each sets."""
@@ -695,6 +751,8 @@ class Writer:
                  for statement in statements] or ['null']
         while self.random.random() < 0.1:
             found.insert(self.random.randrange(len(found) + 1), 'null')
+        while self.readable and self.random.random() < 0.12:
+            found.insert(self.random.randrange(len(found) + 1), f'{CHECK}{self.predicate(self.readable)}{END_OF_CHECK}')
         return found
 
     def spelled_branch(self, branch):

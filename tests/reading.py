@@ -92,6 +92,7 @@ TEXTS = {
     'N13': 'bad range',
     'N14': 'wrong arguments',
     'N17': 'choice not given once',
+    'N18': 'entry value not allowed',
     'U2': 'target cannot be assigned',
     'U7': 'bad derives annotation',
     'U8': 'mode disagrees with derives',
@@ -348,6 +349,27 @@ class Static:
     place: Place
 
 
+@dataclass(frozen=True)
+class Entry:
+    """`name~`: the value that the variable of this name has on entry."""
+    name: Name
+    value = None
+
+    @property
+    def place(self):
+        """The place of the name."""
+        return self.name.place
+
+
+@dataclass(frozen=True)
+class OnEntry:
+    """The value that a variable has on entry: its word in small letters, where it is named, and its kind."""
+    word: str
+    place: Place
+    kind: Kind
+    value = None
+
+
 # An expression has a kind, and a value where it is static. As they are read, the nodes below have neither.
 
 @dataclass(frozen=True)
@@ -428,12 +450,19 @@ class Parenthesized:
     value: Union[int, bool, None] = None
 
 
-Expression = Union[Name, Attribute, Variable, Static, Applied, Operation, Prefix, Membership, Parenthesized]
+Expression = Union[Name, Attribute, Entry, Variable, OnEntry, Static, Applied, Operation, Prefix, Membership, Parenthesized]
 
 
 @dataclass(frozen=True)
 class Null:
     """`null;`"""
+
+
+@dataclass(frozen=True)
+class Asserted:
+    """`check condition;`, which stands at its word. A postcondition is one too, at the word `post`."""
+    place: Place
+    condition: Expression
 
 
 @dataclass(frozen=True)
@@ -580,6 +609,7 @@ class Procedure:
     formals: list
     derives: Optional[Derives]
     pre: Optional[Expression]
+    post: Optional[Asserted]
     locals: list
     statements: list
     end: Place
@@ -604,6 +634,7 @@ PRODUCTS = ('*', '/', 'mod', 'rem')
 # Each logical operator, with the word that makes it a short-circuit form.
 LOGICAL = {'and': 'then', 'or': 'else', 'xor': None}
 SHORT_CIRCUIT = ('and then', 'or else')
+CONNECTIVES = ('->', '<->')
 
 
 class Parser:
@@ -665,12 +696,13 @@ class Parser:
         return procedures
 
     def procedure(self):
-        """"procedure" id [formals] [derives] [pre] "is" {declaration} "begin" statement {statement} "end" [id] ";" """
+        """"procedure" id [formals] [derives] [pre] [post] "is" {declaration} "begin" statement {statement} "end" [id] ";" """
         place = self.take('procedure').place
         name = self.identifier()
         formals = self.formals()
         derives = self.derives()
-        pre = self.precondition()
+        pre = self.asserted('pre', 0)
+        post = self.asserted('post', 0)
         self.take('is')
         declarations = self.declarations()
         self.take('begin')
@@ -678,7 +710,7 @@ class Parser:
         end = self.take('end').place
         end_name = self.identifier_if()
         self.take(';')
-        return Procedure(place, name, formals, derives, pre, declarations, statements, end, end_name)
+        return Procedure(place, name, formals, derives, pre and pre.condition, post, declarations, statements, end, end_name)
 
     def formals(self):
         """["(" param {";" param} ")"]"""
@@ -727,13 +759,14 @@ class Parser:
             names.append(self.name(marked=True))
         return names
 
-    def precondition(self):
-        """["pre" expression ";"]"""
-        if not self.take_if('pre', marked=True):
+    def asserted(self, kind, above):
+        """[word predicate ";"] in annotation text, under so many levels"""
+        word = self.take_if(kind, marked=True)
+        if not word:
             return None
-        condition = self.expression(True, 0)
+        condition = self.predicate(True, above)
         self.take(';', marked=True)
-        return condition
+        return Asserted(word.place, condition)
 
     def declarations(self):
         """{declaration}"""
@@ -784,12 +817,15 @@ class Parser:
     def statements(self, above):
         """statement {statement}, under so many levels"""
         statements = [self.statement(above)]
-        while any(self.next_is(kind) for kind in ('null', 'identifier', 'if', 'case')):
+        while self.next_is('check', marked=True) or any(self.next_is(kind) for kind in ('null', 'identifier', 'if', 'case')):
             statements.append(self.statement(above))
         return statements
 
     def statement(self, above):
-        """"null" ";" | name ":=" expression ";" | an `if` | a `case`"""
+        """"null" ";" | name ":=" expression ";" | an `if` | a `case` | "check" predicate ";" in annotation text"""
+        check = self.asserted('check', above)
+        if check:
+            return check
         if self.take_if('null'):
             self.take(';')
             return Null()
@@ -862,6 +898,12 @@ class Parser:
                 self.take(second, marked)
         return left
 
+    def predicate(self, marked, above):
+        """expression [("->" | "<->") expression], under so many levels"""
+        left = self.expression(marked, above)
+        token = self.opening(CONNECTIVES, marked, above + levels_of(left) + 1)
+        return operation(token.kind, token, left, self.expression(marked, above + 1)) if token else left
+
     def relation(self, marked, above):
         """sum [("=" | "/=" | "<" | "<=" | ">" | ">=") sum] | a membership test"""
         left = self.sum(marked, above)
@@ -924,18 +966,20 @@ class Parser:
         return Prefix(token.kind, token.place, found, levels_of(found) + 1)
 
     def primary(self, marked, above):
-        """number | name | function "(" expression ")" | "(" expression ")" """
+        """number | name | id "~" | function "(" expression ")" | "(" predicate ")" """
         parenthesis = self.opening(('(',), marked, above + 1)
         if parenthesis:
-            inner = self.expression(marked, above + 1)
+            inner = self.predicate(marked, above + 1)
             self.take(')', marked)
             return Parenthesized(parenthesis.place, inner, levels_of(inner) + 1)
         number = self.take_if('number', marked)
         return Static(number_value(number.text), UNIVERSAL, number.place) if number else self.named(marked, above)
 
     def named(self, marked, above):
-        """id ["'" id] ["(" expression ")"] | id "'" "(" expression ")" """
+        """id ["'" id] ["(" expression ")"] | id "'" "(" expression ")" | id "~" """
         name, designator, is_qualified = self.identifier(marked), None, False
+        if self.take_if('~', marked):
+            return Entry(name)
         if self.take_if("'", marked):
             is_qualified = self.next_is('(', marked)
             designator = None if is_qualified else self.identifier(marked)
@@ -1027,6 +1071,7 @@ COMPUTED = {
     '>': lambda a, b: a > b, '>=': lambda a, b: a >= b,
     'and': lambda a, b: a and b, 'or': lambda a, b: a or b, 'xor': lambda a, b: a != b,
     'and then': lambda a, b: a and b, 'or else': lambda a, b: a or b,
+    '->': lambda a, b: not a or b, '<->': lambda a, b: a == b,
 }
 COMPUTED_OF_ONE = {'+': lambda a: a, '-': lambda a: -a, 'abs': abs, 'not': lambda a: not a}
 DIVISIONS = ('/', 'mod', 'rem')
@@ -1137,7 +1182,7 @@ def met_kind(tree, values, others=()):
 
 def taken_by(operator):
     """The values that an operator takes, of which both operands are."""
-    if operator.split()[0] in LOGICAL:
+    if operator.split()[0] in LOGICAL or operator in CONNECTIVES:
         return ('truths',)
     if operator in ('=', '/='):
         return ('truths', 'numbers', 'literals')
@@ -1248,6 +1293,7 @@ class Resolver:
         self.spelled = {}
         self.initial = {}
         self.outer = EVERYWHERE
+        self.changed = set()
 
     def run(self):
         """The procedure with what its names denote. Annotations see the formals and not the locals."""
@@ -1256,12 +1302,16 @@ class Resolver:
         self.outer = EVERYWHERE | {self.tree.name.word(): Entity('subprogram')}
         derives = self.tree.derives and self.derives(self.tree.derives)
         pre = self.tree.pre and self.condition(self.tree.pre)
+        relation = Relation(derives.items if derives else [])
+        changed = relation.imported & relation.exported
+        post = self.tree.post and self.asserted(self.tree.post, changed)
         for declaration in self.tree.locals:
             self.declaration(declaration)
+        self.own_changed = changed
         statements = self.statements(self.tree.statements)
         self.end_name()
         formals = [formal.word for formal in self.formals]
-        return replace(self.tree, formals=self.formals, derives=derives, pre=pre, statements=statements,
+        return replace(self.tree, formals=self.formals, derives=derives, pre=pre, post=post, statements=statements,
                        locals=[word for word in self.words('variable') if word not in formals],
                        constants=self.words('constant'), spelled=self.spelled, initial=self.initial,
                        subtypes={word: self.scope[word].subtype for word in self.words('variable')})
@@ -1406,6 +1456,13 @@ class Resolver:
         require('N10', found.place, found.kind is BOOLEAN)
         return found
 
+    def asserted(self, tree, changed):
+        """Values on entry may be named of the variables that are changed: both imported and exported."""
+        self.changed = changed
+        condition = self.condition(tree.condition)
+        self.changed = set()
+        return Asserted(tree.place, condition)
+
     def statements(self, trees):
         """Statements over what their names denote, in the order of the text."""
         return [self.statement(tree) for tree in trees]
@@ -1419,6 +1476,8 @@ class Resolver:
         """A right side matches its target, which may be a constant up to here."""
         if isinstance(tree, Null):
             return tree
+        if isinstance(tree, Asserted):
+            return self.asserted(tree, self.own_changed)
         if isinstance(tree, If):
             return If([self.arm(arm) for arm in tree.arms], self.statements(tree.otherwise))
         if isinstance(tree, Case):
@@ -1528,6 +1587,8 @@ class Resolver:
             return judged(replace(tree, inner=self.expression(tree.inner)))
         if isinstance(tree, Attribute):
             return self.attribute(tree)
+        if isinstance(tree, Entry):
+            return self.on_entry(tree)
         return self.name(tree) if isinstance(tree, Name) else tree
 
     def name(self, tree):
@@ -1536,6 +1597,12 @@ class Resolver:
         if entity and entity.sort in ('literal', 'constant'):
             return Static(entity.value, entity.subtype.kind, tree.place)
         return self.variable(tree)
+
+    def on_entry(self, tree):
+        """N3: a variable is named before `~`. N18: its value on entry may be named there."""
+        named = self.variable(tree.name)
+        require('N18', tree.place, named.word in self.changed)
+        return OnEntry(named.word, named.place, named.kind)
 
     def membership(self, tree):
         """A membership test over what its names denote. N10: its type is not Boolean."""
@@ -1648,9 +1715,12 @@ def u8(procedure, relation):
 
 
 def u11(procedure, relation):
-    """U11: the precondition names imports alone."""
+    """U11: the precondition names imports alone, and the postcondition formals alone."""
     for name in reads(procedure.pre):
         require('U11', name.place, name.word in relation.imported)
+    formals = {formal.word for formal in procedure.formals}
+    for name in reads(procedure.post and procedure.post.condition):
+        require('U11', name.place, name.word in formals)
 
 
 def u2(procedure):
@@ -1672,8 +1742,8 @@ def require_rules(procedure):
 # ---------------------------------------------------------------- flow
 
 def reads(expression):
-    """The variables that an expression names, from left to right."""
-    if isinstance(expression, Variable):
+    """The variables that an expression names, from left to right, also for their values on entry."""
+    if isinstance(expression, (Variable, OnEntry)):
         return [expression]
     return [name for part in parts_of(expression) for name in reads(part)]
 
@@ -1768,6 +1838,8 @@ def set_after(statements, is_set, unset_reads):
         if isinstance(statement, Assignment):
             unset_reads += [name for name in reads(statement.value) if name.word not in is_set]
             is_set = is_set | {statement.target.word}
+        elif isinstance(statement, Asserted):
+            unset_reads += [name for name in reads(statement.condition) if name.word not in is_set]
         elif isinstance(statement, (If, Case)):
             unset_reads += [name for test, _, _ in tests_of(statement) for name in reads(test) if name.word not in is_set]
             is_set = set.intersection(*[set_after(branch, is_set, unset_reads) for branch in statement.branches()])
@@ -1886,6 +1958,8 @@ def term_of(expression, values):
         return literal(expression.value)
     if isinstance(expression, Variable):
         return values[expression.word]
+    if isinstance(expression, OnEntry):
+        return entry(expression.word, expression.kind is BOOLEAN)
     parts = [term_of(part, values) for part in parts_of(expression)]
     if isinstance(expression, Operation):
         return infix(IN_TERMS.get(expression.operator, expression.operator), *parts)
@@ -2005,11 +2079,17 @@ def choices_term(choices, term):
     return first
 
 
+def asserted_check(kind, asserted, values):
+    """All that `and` joins in an annotation is to be shown."""
+    return Check(kind, asserted.place, facts_of(asserted.condition, values))
+
+
 class Walk:
     """Goes along all paths of a procedure, and collects what there is to show, once for all paths that begin alike."""
 
-    def __init__(self, subtypes):
-        self.subtypes = subtypes
+    def __init__(self, procedure):
+        self.subtypes = procedure.subtypes
+        self.post = procedure.post
         self.found = []
 
     def show(self, checks, facts):
@@ -2020,7 +2100,7 @@ class Walk:
         return facts
 
     def go(self, statements, facts, values):
-        """Along statements to the end. A target stands for its term after its assignment."""
+        """Along statements to the end, where the postcondition is to be shown. A target stands for its term after its assignment."""
         for at, statement in enumerate(statements):
             if isinstance(statement, (If, Case)):
                 part = self.part if isinstance(statement, If) else self.select
@@ -2030,6 +2110,10 @@ class Walk:
                 word, value = statement.target.word, statement.value
                 facts = self.show(checks_of_assignment(self.subtypes[word], value, values), facts)
                 values = {**values, word: term_of(value, values)}
+            elif isinstance(statement, Asserted):
+                facts = self.show([asserted_check('check', statement, values)], facts)
+        if self.post:
+            self.show([asserted_check('post', self.post, values)], facts)
 
     def part(self, tree, rest, facts, values):
         """Each branch, and after it the rest: an arm where its condition holds and those before it do not."""
@@ -2056,7 +2140,7 @@ class Walk:
 
 def conditions_of(procedure):
     """What there is to show along the paths of a procedure, in the order of the walk."""
-    walk = Walk(procedure.subtypes)
+    walk = Walk(procedure)
     walk.go(procedure.statements, first_facts(procedure), entry_values(procedure))
     return walk.found
 
@@ -2203,7 +2287,15 @@ def folded_implication(left, right):
     return folded_not(left) if right is truth(False) else infix('->', left, right)
 
 
-OF_TRUTHS = {'and': folded_and, 'or': folded_or, '->': folded_implication}
+def folded_equivalence(left, right):
+    """`true <-> p` and `p <-> true` are p, and with `false` they are `not p`."""
+    for literal_side, other in ((left, right), (right, left)):
+        if isinstance(literal_side, TruthTerm):
+            return other if literal_side.value else folded_not(other)
+    return infix('<->', left, right)
+
+
+OF_TRUTHS = {'and': folded_and, 'or': folded_or, '->': folded_implication, '<->': folded_equivalence}
 
 
 @dataclass(frozen=True)

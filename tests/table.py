@@ -105,6 +105,7 @@ TEXTS = {
     'N13': 'bad range',
     'N14': 'wrong arguments',
     'N17': 'choice not given once',
+    'N18': 'entry value not allowed',
     'U2': 'target cannot be assigned',
     'U7': 'bad derives annotation',
     'U8': 'mode disagrees with derives',
@@ -253,13 +254,13 @@ def procedure(value='X + 1', pre=None, formals='X', mode='in out', derives='X fr
     return '\n'.join(lines) + '\n'
 
 
-def longer(params, derives, *statements, pre=None, declared=(), name='Inc'):
+def longer(params, derives, *statements, pre=None, post=None, declared=(), name='Inc'):
     """The text of a procedure with these statements and declarations, each without its semicolon.
 
-    There are no formals, no `derives` and no precondition where they are none.
+    There are no formals, no `derives`, no precondition and no postcondition where they are none.
     """
     lines = [f'procedure {name}' if params is None else f'procedure {name} ({params})']
-    lines += [f'--# {word} {text};' for word, text in (('derives', derives), ('pre', pre)) if text is not None]
+    lines += [f'--# {word} {text};' for word, text in (('derives', derives), ('pre', pre), ('post', post)) if text is not None]
     lines += ['is'] + [f'   {declaration};' for declaration in declared]
     lines += ['begin'] + [f'   {statement};' for statement in statements] + [f'end {name};']
     return '\n'.join(lines) + '\n'
@@ -342,7 +343,7 @@ TOKENS = (
     ('import', 'X', '+'),
     ('semicolon_of_derives', ';', ':'),
     (None, '\n--#', None),
-    ('pre', 'pre', 'post'),
+    ('pre', 'pre', 'assert'),
     ('left_of_the_relation', 'X', 'True'),
     ('relation', '<', ':='),
     ('prefix', 'Integer', 'X'),
@@ -1127,9 +1128,9 @@ def marks():
     yield unexpected('pre_twice.adb', procedure('X', pre='X < 0').replace('is\n', '--# pre X < 0;\nis\n'), at=(4, 5))
     yield unexpected('pre_behind_is.adb', COPY.replace('is\n', 'is\n--# pre X < 0;\n'), at=(4, 5))
     yield unexpected('annotation_behind_the_end.adb', INC + '--# pre X < 0;\n', at=(8, 5))
-    yield unexpected('post.adb', INC.replace('is\n', '--# post X > 0;\nis\n'), at=(4, 5))
+    yield examined('post.adb', INC.replace('is\n', '--# @post X > 0;\nis\n'), ('Inc', 3, (3, 'post')))
     yield unexpected('global.adb', INC.replace('--# derives', '--# global X;\n--# derives'), at=(2, 5))
-    yield unexpected('check_annotation.adb', INC.replace('begin\n', 'begin\n--# check X > 0;\n'), at=(6, 5))
+    yield examined('check_annotation.adb', INC.replace('begin\n', 'begin\n--# @check X > 0;\n'), ('Inc', 3, (1, 'check')))
 
 
 def other_bytes():
@@ -1237,10 +1238,10 @@ def grammar():
     yield unexpected('apostrophe_alone.adb', procedure("Integer'", **OUT), at=(5, 17))
     yield accepted('pre_with_and.adb', procedure('X', pre='X < 5 and X > 0'), 1)
     yield refused('pre_with_not.adb', procedure('X', pre='@not X = 0'), 'N10')
-    yield unexpected('pre_with_implication.adb', procedure('X', pre='X = 0 -> X = 0'), at=(3, 15))
+    yield accepted('pre_with_implication.adb', procedure('X', pre='X = 0 -> X = 0'), 1)
     yield accepted('pre_in_parentheses.adb', procedure('X', pre='(X < 5)'), 1)
     yield accepted('pre_with_true.adb', procedure('X', pre='True'), 1)
-    yield unexpected('pre_with_entry_value.adb', procedure('X', pre='X~ = 0'), at=(3, 10))
+    yield refused('pre_with_entry_value.adb', procedure('X', pre='@X~ = 0'), 'N18')
     yield unexpected('empty_pre.adb', procedure('X', pre=''), at=(3, 9))
     yield accepted('pre_with_minus_sign.adb', procedure('X - 1', pre='X > -5'))
     yield unexpected('derives_without_from.adb', procedure('X', derives='X'), at=(2, 14))
@@ -1660,8 +1661,7 @@ def statements():
                   'F1 missing: A from A', 'F1 missing: B from B')
     yield accepted('comment_between_statements.adb', longer(X, 'X from X', 'X := X; -- once\n   X := X'))
     yield accepted('empty_mark_between_statements.adb', longer(X, 'X from X', 'X := X; --#\n   X := X'))
-    yield unexpected('annotation_between_statements.adb',
-                     longer(X, 'X from X', 'X := X;\n--# check X = X', 'X := X'), at=(6, 5))
+    yield accepted('annotation_between_statements.adb', longer(X, 'X from X', 'X := X;\n--# check X = X', 'X := X'), 3)
     yield unexpected('no_semicolon_between_statements.adb', COPY.replace('X := X;', 'X := X X := X;'), at=(5, 11))
     yield unexpected('comma_between_statements.adb', COPY.replace('X := X;', 'X := X, X := X;'), at=(5, 10))
     yield unexpected('empty_statement_between.adb', COPY.replace('X := X;', 'X := X;; X := X;'), at=(5, 11))
@@ -2145,8 +2145,8 @@ def signs_and_syntax():
     yield accepted('greater_and_a_minus.adb', procedure('X-1', pre='X>-5'))
     yield accepted('greater_or_equal_and_a_minus.adb', procedure('X-1', pre='X>=-(5)'))
     yield accepted('equal_and_a_plus.adb', procedure('X-1', pre='X=+5'))
-    yield unexpected('minus_and_greater_in_pre.adb', procedure('X', pre='5@->X'))
-    yield unexpected('less_minus_and_greater_in_pre.adb', procedure('X', pre='X@<->5'))
+    yield refused('minus_and_greater_in_pre.adb', procedure('X', pre='5@->X'), 'N10')
+    yield refused('less_minus_and_greater_in_pre.adb', procedure('X', pre='X@<->5'), 'N10')
     yield unexpected('minus_and_greater_in_code.adb', procedure('X-@>X'))
     yield unexpected('star_in_parentheses.adb', procedure('X', derives='X from @(*)'))
     yield unexpected('import_in_parentheses.adb', procedure('X', derives='X from @(X)'))
@@ -5030,6 +5030,219 @@ def syntax_of_cases():
     yield too_nested('assigned_value_in_200_cases.adb', longer(A_TO_X, 'X from A', 'case A is when others => ' * 200 + 'X := (A); ' + 'end case; ' * 199 + 'end case'))
 
 
+# ---------------------------------------------------------------- annotations among statements, and postconditions
+
+TRUTHS = 'A, B : in Boolean; X : in out Boolean'
+
+
+def checking(condition, *statements, pre=None, post=None, params=X, derives='X from X', declared=()):
+    """The text of a procedure with statements, and a `check` after them."""
+    return longer(params, derives, *statements, f'--# check {condition}', pre=pre, post=post, declared=declared)
+
+
+def ending(post, *statements, pre=None, params=X, derives='X from X', declared=()):
+    """The text of a procedure with a postcondition."""
+    return longer(params, derives, *statements, pre=pre, post=post, declared=declared)
+
+
+def places_of_checks():
+    """Where a `check` may stand, and how it is written."""
+    yield accepted('check_alone.adb', longer(None, None, '--# check True'), 1)
+    yield accepted('check_first.adb', longer(X, 'X from X', '--# check X = X', 'X := X'), 2)
+    yield accepted('check_last.adb', checking('X = X', 'X := X'), 2)
+    yield accepted('checks_in_a_row.adb', checking('X = X', 'X := X', '--# check X <= X', '--# check X >= X'), 4)
+    yield accepted('check_in_arms.adb', longer(X, 'X from X', 'if X > 0 then\n--# check X > 0;\nX := X; else\n--# check X <= 0;\nX := X; end if'), 4)
+    yield accepted('check_in_alternatives.adb',
+                   longer(A_TO_X, 'X from A', 'case A is when 1 =>\n--# check A = 1;\nX := 1; when others =>\n--# check not (A = 1);\nX := A; end case'), 4)
+    yield accepted('check_on_several_lines.adb', longer(X, 'X from X', 'X := X', '--# CHECK X\n  --#   = -- a comment\n  --#\n--# X'), 2)
+    yield accepted('check_on_a_line_of_code.adb', longer(X, 'X from X', 'X := X; --# check X = X'), 2)
+    yield accepted('check_as_a_name_in_code.adb', longer(OUT_X, 'X from', 'check := 1', 'X := check', declared=['check : Integer']), 2)
+
+
+def syntax_of_checks():
+    """Tokens with which no `check` and no postcondition goes on."""
+    for name, statement in {
+            'check_in_code': 'check @X > 0', 'check_without_a_condition': '--# check @', 'two_conditions_of_a_check': '--# check X > 0@, X < 5',
+            'assignment_in_a_check': '--# check X @:= 1', 'assert': '--# @assert X > 0', 'pre_among_statements': '--# @pre X > 0',
+            'post_among_statements': '--# @post X > 0', 'name_before_check': '--# @X check X > 0', 'unmarked_condition': '--# check\n@X > 0',
+            'condition_half_marked': '--# check X >\n@0', 'null_marked': '--# @null', 'assignment_marked': '--# @X := 1'}.items():
+        yield unexpected(f'{name}.adb', longer(X, 'X from X', 'X := X', statement))
+    yield unexpected('check_with_an_unmarked_semicolon.adb', longer(X, 'X from X', 'X := X', '--# check X > 0\n@'))
+    yield unexpected('check_without_a_semicolon.adb', longer(X, 'X from X', 'X := X;\n--# check X > 0\n@X := X'))
+    yield unexpected('check_among_declarations.adb', longer(X, 'X from X', 'X := X', declared=['--# @check X > 0']))
+    yield unexpected('no_statement_after_begin.adb', 'procedure P is begin @end P;\n')
+    heading = 'procedure Inc (X : in out Integer)\n--# derives X from X;\n'
+    body = 'is\nbegin\n   X := X;\nend Inc;\n'
+    yield unexpected('post_before_pre.adb', heading + '--# post X = X;\n--# @pre X = X;\n' + body)
+    yield unexpected('two_posts.adb', heading + '--# post X = X;\n--# @post X = X;\n' + body)
+    yield unexpected('post_after_is.adb', heading + 'is\n--# @post X = X;\nbegin\n   X := X;\nend Inc;\n')
+    yield unexpected('post_before_derives.adb', 'procedure Inc (X : in out Integer)\n--# post X = X;\n--# @derives X from X;\n' + body)
+    yield unexpected('post_without_a_condition.adb', heading + '--# post @;\n' + body)
+    yield unexpected('post_without_a_semicolon.adb', heading + '--# post X = X\n@' + body)
+    yield unexpected('unmarked_post.adb', heading + '@post X = X;\n' + body)
+    yield accepted('post_alone.adb', 'procedure P\n--# post True;\nis begin null; end P;\n', 1, 'P')
+    yield accepted('post_as_a_name_in_code.adb', longer(OUT_X, 'X from', 'post := 1', 'X := post', declared=['post : Integer']), 2)
+
+
+def syntax_of_predicates():
+    """Implications, equivalences and values on entry, and tokens with which they do not go on."""
+    well = {'implication': 'A -> B', 'equivalence': 'A <-> B', 'implication_of_chains': 'A and B -> A or B', 'implication_of_relations': 'A = B -> A /= B',
+            'implication_of_negations': 'not A -> not B', 'implication_on_the_left': '(A -> B) -> A', 'implication_on_the_right': 'A -> (B -> A)',
+            'equivalence_in_a_chain': '(A <-> B) and (B -> A)', 'implication_under_not': 'not (A -> B)', 'implication_in_parentheses': '((A -> B))',
+            'values_on_entry': 'X~ -> X', 'value_on_entry_under_not': 'not X~', 'value_on_entry_in_parentheses': '(X~)', 'spaced_value_on_entry': 'X ~ = X',
+            'short_circuit_and_implication': 'A and then B -> A or else B', 'parenthesized_operand': "Boolean'((A -> B))"}
+    # What follows from its own left side is closed.
+    closed = ('implication_of_chains', 'implication_on_the_right', 'short_circuit_and_implication')
+    for name, condition in well.items():
+        mark, row = ('', ('Inc', 1)) if name in closed else ('@', ('Inc', 1, 1))
+        for word, text in (('check', longer(TRUTHS, 'X from X, A, B', 'X := X and A and B', f'--# {mark}check {condition}')),
+                           ('post', longer(TRUTHS, f'X from X, A, B;\n--# {mark}post {condition}', 'X := X and A and B'))):
+            yield examined(f'{name}_in_{word}.adb', text, (*row[:2], *((number, word) for number in row[2:])))
+    spoiled = {'two_implications': 'A -> B @-> A', 'two_equivalences': 'A <-> B @<-> A', 'equivalence_after_an_implication': 'A -> B @<-> A',
+               'no_left_side': '@-> B', 'no_right_side': 'A -> @', 'implication_after_not': 'not @-> B', 'arrow_for_an_implication': 'A @=> B',
+               'implication_in_a_conversion': 'Boolean (A @-> B)', 'implication_in_a_qualification': "Boolean'(A @-> B)", 'two_tildes': 'X~@~',
+               'attribute_of_a_value_on_entry': "X~@'First = 1", 'value_on_entry_of_an_attribute': "Integer'First@~ = 1",
+               'value_on_entry_of_parentheses': '(X)@~', 'value_on_entry_of_a_number': '5@~ = 5', 'operand_of_a_value_on_entry': 'X~ @(A)',
+               'tilde_before_a_name': '@~X', 'value_on_entry_of_a_function': "Boolean'(A)@~", 'value_on_entry_as_a_type': 'X in X~@',
+               'brackets': 'A @[B]'}
+    for name, condition in spoiled.items():
+        yield unexpected(f'{name}_in_check.adb', longer(TRUTHS, 'X from X, A, B', 'X := X and A and B', f'--# check {condition}'))
+    yield unexpected('implication_in_code.adb', longer(TRUTHS, 'X from X, A, B', 'if A -@> B then X := X; end if'))
+    yield bad_byte('value_on_entry_in_code.adb', longer(X, 'X from X', 'X := X@~ + 1'))
+    yield unexpected('value_on_entry_in_derives.adb', procedure('X', derives='X@~ from X'))
+    yield unexpected('import_on_entry_in_derives.adb', procedure('X', derives='X from X@~'))
+    yield accepted('predicate_of_200_levels.adb', checking(f'{nested(199, "True")} -> True', 'X := X'), 2)
+    yield too_nested('predicate_of_201_levels.adb', checking(f'{nested(200, "True")} -> True', 'X := X'))
+    yield too_nested('right_side_of_201_levels.adb', checking(f'True -> {nested(200, "True")}', 'X := X'))
+    yield accepted('post_of_200_levels.adb', ending(nested(200, 'True'), 'X := X'), 2)
+    yield too_nested('post_of_201_levels.adb', ending(nested(201, 'True'), 'X := X'))
+    yield accepted('check_in_200_ifs.adb', longer(X, 'X from X', 'if True then ' * 200 + 'X := X;\n--# check True;\n' + 'end if; ' * 199 + 'end if'), 2)
+    yield too_nested('check_with_a_level_in_200_ifs.adb', longer(X, 'X from X', 'if True then ' * 200 + 'X := X;\n--# check (True);\n' + 'end if; ' * 199 + 'end if'))
+
+
+# A text with all that annotations among statements and postconditions are made of, token by token.
+PIECES = ('procedure', 'Inc', '(', 'X', ':', 'in', 'out', 'Integer', ')', '\n--#', 'derives', 'X', 'from', 'X', ';', '\n--#', 'pre', 'X', '>', '5', '->', 'X', '>', '6', ';',
+          '\n--#', 'post', '(', 'X', '=', 'X', '~', '<->', 'X', '=', 'X', ')', '->', 'True', ';', '\nis', 'begin', '\n--#', 'check', 'X', '~', '=', 'X', '->', 'True', ';',
+          '\nX', ':=', 'X', ';', '\nif', 'X', '>', '0', 'then', 'X', ':=', 'X', ';', '\n--#', 'check', 'X', '=', '0', 'or', 'True', ';', '\nend', 'if', ';', '\nend', ';', '\n')
+
+
+def cut_and_spoiled():
+    """The text that is cut before each of its tokens ends too early. With `abort` before one it is stopped there."""
+    whole = ' '.join(PIECES)
+    yield accepted('pieces.adb', whole, 6)
+    for at, piece in enumerate(PIECES[:-1]):
+        before = ' '.join(PIECES[:at])
+        if piece != '\n--#':
+            if at:
+                yield unexpected(f'pieces_up_to_{at}.adb', before + '@')
+            lead = piece[:1] if piece.startswith('\n') else ''
+            yield unexpected(f'abort_before_{at}.adb', f'{before} {lead}@abort {" ".join((piece[len(lead):],) + PIECES[at + 1:])}')
+
+
+def rules_of_predicates():
+    """Which values on entry may be named where, and what annotations must be."""
+    with_a = {'params': A_TO_X, 'derives': 'X from A'}
+    both = {'params': 'A : in Integer; X : in out Integer', 'derives': 'X from A, X'}
+    for name, condition, others, *rules in (
+            ('import_on_entry', '@A~ = A', with_a, 'N18'), ('export_on_entry', '@X~ = X', with_a, 'N18'),
+            ('second_value_on_entry', 'X~ = @A~', both, 'N18'),
+            ('undeclared_on_entry', '@Y~ = X', both, 'N1'), ('type_on_entry', '@Integer~ = X', both, 'N3'), ('literal_on_entry', '@True~', both, 'N3'),
+            ('procedure_on_entry', '@Inc~ = X', both, 'N3'), ('value_on_entry_before_an_undeclared', '@A~ = Y', both, 'N18'),
+            ('undeclared_before_a_value_on_entry', '@Y = A~', both, 'N1'), ('number_for_a_predicate', '@X', both, 'N10'),
+            ('sum_for_a_predicate', 'X @+ 1', both, 'N10'), ('value_on_entry_for_a_predicate', '@X~', both, 'N10'),
+            ('implication_from_a_number', 'X @-> True', both, 'N10'), ('implication_to_a_number', 'True @-> X', both, 'N10'),
+            ('equivalence_of_numbers', 'X~ @<-> X', both, 'N10'), ('static_fault', '1 @/ 0 = X', both, 'N12'),
+            ('wide_number_for_a_value_on_entry', 'X~ = @2147483648', both, 'N12'), ('value_on_entry_of_another_type', 'X~ @= True', both, 'N10')):
+        yield refused(f'{name}_in_check.adb', checking(condition, 'X := A', **others), *rules)
+        yield refused(f'{name}_in_post.adb', ending(condition, 'X := A', **others), *rules)
+        # A precondition names no value on entry.
+        in_pre = (condition.replace('@', '').replace('X~', '@X~'), 'N18') if 'X~' in condition else (condition, *rules)
+        yield refused(f'{name}_in_pre.adb', longer(others['params'], others['derives'], 'X := A', pre=in_pre[0]), *in_pre[1:])
+    yield refused('local_on_entry.adb', checking('@V~ = 1', 'V := 1', 'X := V', params=OUT_X, derives='X from', declared=['V : Integer']), 'N18')
+    yield refused('initialized_on_entry.adb', checking('@V~ = 1', 'X := V', params=OUT_X, derives='X from', declared=['V : Integer := 1']), 'N18')
+    yield refused('constant_on_entry.adb', checking('@C~ = 1', 'X := C', params=OUT_X, derives='X from', declared=['C : constant Integer := 1']), 'N3')
+    yield refused('local_in_post.adb', ending('@V = 1', 'V := 1', 'X := V', params=OUT_X, derives='X from', declared=['V : Integer']), 'N1')
+    yield accepted('export_that_starred_imports_on_entry.adb', checking('X~ = X~', 'X := X', derives='X from *'), 2)
+    yield accepted('ignored_import_on_entry.adb', ending('X~ = X~', 'X := 0', derives='X from & null from X'), 2)
+    yield accepted('import_of_another_item_on_entry.adb', ending('X~ = X~', 'Y := X', 'X := 0', params='X : in out Integer; Y : out Integer', derives='Y from X & X from'), 3)
+    yield accepted('static_predicates.adb', checking('(1 < 2 -> True) and (2 < 1 <-> False)', 'X := X', post='True and then 1 = 1'), 3)
+    yield refused('breach_in_pre_before_post.adb', longer(X, 'X from X', 'X := X', pre='@Y = 0', post='Z = 0'), 'N1')
+    yield refused('breach_in_post_before_declarations.adb', longer(X, 'X from X', 'X := X', post='@Z = 0', declared=['V : Y']), 'N1')
+    yield refused('breach_in_a_declaration_before_check.adb', longer(X, 'X from X', '--# check Z', 'X := X', declared=['V : @Y']), 'N1')
+    yield refused('breaches_in_statements_in_order.adb', longer(X, 'X from X', '--# check @Z', 'X := Y'), 'N1')
+    yield refused('u11_before_u2.adb', longer(A_TO_X, 'X from A', 'X := A', 'A := 1', pre='@X = 0'), 'U11')
+    yield refused('check_before_a_bad_target.adb', longer(A_TO_X, 'X from A', '--# check A = A', 'X := A', '@A := 1'), 'U2')
+
+
+def flow_of_checks():
+    """A `check` reads, and nothing flows from it."""
+    yield refused('local_unset_in_a_check.adb', checking('@V = 1', 'X := X', declared=['V : Integer']), 'F4 unset: V')
+    yield refused('export_unset_in_a_check.adb', longer(OUT_X, 'X from', '--# check @X = 1', 'X := 1'), 'F4 unset: X')
+    yield refused('unset_twice_in_a_check.adb', checking('@V = 1 and @V = 2', 'X := X', declared=['V : Integer']), 'F4 unset: V', 'F4 unset: V')
+    yield refused('unset_where_it_need_not_be_read.adb', checking('X = X or else @V = 1', 'X := X', declared=['V : Integer']), 'F4 unset: V')
+    yield refused('set_in_one_arm_before_a_check.adb', longer(X, 'X from X', '@if X > 0 then @V := X; end if', '--# check @V = 1', 'X := X', declared=['V : Integer']), 'F3', 'F3', 'F4 unset: V')
+    yield refused('unset_in_a_check_of_an_arm.adb', longer(X, 'X from X', 'if X > 0 then\n--# check @V = 1;\nX := X; end if', declared=['V : Integer']), 'F4 unset: V')
+    yield accepted('set_before_a_check.adb', longer(X, 'X from X', 'V := X', '--# check V = X', 'X := V', declared=['V : Integer']), 3)
+    yield accepted('initialized_before_a_check.adb', checking('V = 1', 'X := X', declared=['V : Integer := 1']), 2)
+    yield refused('value_for_a_check_only.adb', longer(X, 'X from X', '@V := X', '--# check V = X', 'X := X', declared=['V : Integer']), 'F3')
+    yield refused('import_for_a_check_only.adb', longer('A : in Integer; X : in out Integer', '@X from X, A', '--# check A = A', 'X := X'), 'F2 unused: X from A')
+    yield accepted('ignored_import_in_a_check.adb', longer('A : in Integer; X : in out Integer', 'X from X & null from A', '--# check A = A', 'X := X'), 2)
+    yield refused('if_around_a_check_only.adb', longer(X, 'X from X', '@if X > 0 then\n--# check X > 0;\nend if', 'X := X'), 'F3')
+    yield refused('post_sets_nothing.adb', at_end(longer(OUT_X, '@X from', 'null', post='X = X')), 'F1 missing: X from X', 'F4 unset: X')
+
+
+def conditions_of_annotations():
+    """What there is to show of a `check` and of a postcondition, and what is known after a `check`."""
+    yield examined('false_check.adb', longer(X, 'X from X', '--# @check X > 0', 'X := X'), ('Inc', 2, (1, 'check')))
+    yield accepted('check_that_a_precondition_says.adb', checking('X > 0', 'X := X', pre='X > 0'), 2)
+    yield accepted('check_of_what_was_assigned.adb', longer(A_TO_X, 'X from A', 'X := A', '--# check X = A'), 2)
+    yield examined('check_before_an_assignment.adb', longer(A_TO_X, 'X from A', '--# @check A = 1', 'X := A', '--# check X = 1'), ('Inc', 3, (1, 'check')))
+    yield examined('sum_after_a_check.adb', longer(X, 'X from X', '--# @check X < 100', 'X := X + 1'), ('Inc', 3, (1, 'check')))
+    yield examined('sum_before_a_check.adb', longer(X, 'X from X', 'X := X @+ 1', '--# @check X < 100'), ('Inc', 3, 1, (3, 'check')))
+    yield examined('contradiction_after_a_check.adb', longer(X, 'X from X', '--# @check False', 'X := X + 1'), ('Inc', 3, (1, 'check')))
+    yield examined('two_goals_of_a_check.adb', longer(X, 'X from X', '--# @check X > 0 and X < 10', 'X := X + 1'), ('Inc', 3, (1, 'check')))
+    yield accepted('two_goals_that_are_known.adb', checking('X > 0 and X < 10', 'X := X', pre='X < 10 and X > 0'), 2)
+    yield accepted('one_goal_of_two_is_a_disjunction.adb', checking('X > 0 or X < 10', 'X := X', pre='X > 5'), 2)
+    yield accepted('implication_with_its_right_side.adb', checking('X < 3 -> X > 0', 'X := X', pre='X > 0'), 2)
+    yield accepted('implication_with_its_left_side.adb', checking('X > 4 -> X > 0', 'X := X'), 2)
+    yield accepted('implication_of_itself.adb', checking('(X > 0 and X < 5) -> X < 5', 'X := X'), 2)
+    yield accepted('implication_that_is_known.adb', checking('X > 0 -> X < 9', 'X := X', pre='X > 0 -> X < 9'), 2)
+    yield examined('implication_that_is_not_used.adb', longer(X, 'X from X', '--# @check X < 9', 'X := X', pre='X > 0 and (X > 0 -> X < 9)'), ('Inc', 2, (1, 'check')))
+    yield accepted('equivalence_with_true.adb', checking('(X > 0) <-> True', 'X := X', pre='X > 0'), 2)
+    yield accepted('equivalence_with_false.adb', checking('False <-> (X > 0)', 'X := X', pre='X < 1'), 2)
+    yield accepted('equivalence_that_is_known.adb', checking('A <-> B', 'X := X', pre='A <-> B', params=TRUTHS, derives='X from X & null from A, B'), 1)
+    yield examined('equivalence_the_other_way.adb', longer(TRUTHS, 'X from X & null from A, B', '--# @check B <-> A', 'X := X', pre='A <-> B'), ('Inc', 1, (1, 'check')))
+    yield accepted('check_of_a_literal.adb', checking('V = 5 and V > 4', 'X := X', declared=['V : Integer := 5']), 2)
+    yield accepted('positive_after_a_check.adb', longer('A : in Integer; X : out Positive', 'X from A', '--# check A > 0', 'X := A', pre='A > 0'), 2)
+    yield examined('checks_of_a_check_are_none.adb', longer(A_TO_X, 'X from A', '--# @check A / 0 = 0', 'X := A').replace('A / 0', 'A / (A - A)'), ('Inc', 2, (1, 'check')))
+    yield accepted('sum_in_a_check_has_no_bound.adb', checking('X + 1 > X - 1 or True', 'X := X'), 2)
+    yield examined('range_before_and_after.adb', longer(X, 'X from X', '--# @check X < 100', 'X := X + 1', '--# check X <= 100'), ('Inc', 4, (1, 'check')))
+    # Postconditions.
+    yield accepted('post_of_an_increment.adb', ending('X = X~ + 1', 'X := X + 1', pre="X < Integer'Last"), 3)
+    yield examined('post_that_is_false.adb', ending('X = X~', 'X := X + 1', pre="X < Integer'Last").replace('post', '@post'), ('Inc', 3, (3, 'post')))
+    yield accepted('post_of_an_exchange.adb', ending('X = Y~ and Y = X~', 'T := X', 'X := Y', 'Y := T', params='X, Y : in out Integer', derives='X from Y & Y from X', declared=['T : Integer']), 4)
+    yield examined('post_of_half_an_exchange.adb',
+                   ending('X = Y~ and Y = X~', 'X := Y', 'Y := X', params='X, Y : in out Integer', derives='X from Y & Y from Y & null from X').replace('post', '@post'), ('Inc', 3, (3, 'post')))
+    yield accepted('post_of_two_paths.adb', ending('X >= 0', 'if A < 0 then X := 0; else X := A; end if', params=A_TO_X, derives='X from A'), 4)
+    yield examined('post_of_one_path.adb', ending('X >= 0', 'if A < 1 then X := A; else X := 0; end if', params=A_TO_X, derives='X from A').replace('post', '@post'), ('Inc', 4, (2, 'post')))
+    yield examined('post_of_both_paths.adb', ending('X > 5', 'if A < 1 then X := A; else X := 0; end if', params=A_TO_X, derives='X from A').replace('post', '@@post'), ('Inc', 4, (2, 'post'), (4, 'post')))
+    yield accepted('post_of_alternatives.adb',
+                   ending('X >= 0 and X <= 2', 'case A is when 1 => X := 0; when 2 | 3 => X := 1; when others => X := 2; end case', params=A_TO_X, derives='X from A'), 6)
+    yield accepted('post_of_an_import.adb', ending('A > 0 -> X > 0', 'X := A', params=A_TO_X, derives='X from A'), 2)
+    yield accepted('post_after_a_check.adb', checking('X = 7', 'X := 7', post='X = 7', params=OUT_X, derives='X from'), 3)
+    yield accepted('post_that_says_nothing.adb', ending('True', 'X := X'), 2)
+    yield examined('post_of_values_on_entry_only.adb', ending('X~ > 0', 'X := X').replace('post', '@post'), ('Inc', 2, (2, 'post')))
+    yield accepted('value_on_entry_after_two_assignments.adb', checking('X = X~ and X~ = X', 'Y := X', 'X := Y', declared=['Y : Integer']), 3)
+    yield accepted('value_on_entry_in_a_later_check.adb', longer(X, 'X from X', '--# check X = X~', 'X := X + 1', '--# check X = X~ + 1', pre='X < 10'), 4)
+    yield examined('value_on_entry_is_not_the_present_one.adb', longer(X, 'X from X', 'X := X + 1', '--# @check X = X~', pre='X < 10'), ('Inc', 3, (3, 'check')))
+    yield examined('truth_value_on_entry.adb', ending('X <-> X~', 'X := X', params='X : in out Boolean').replace('post', '@post'), ('Inc', 1, (1, 'post')))
+    yield accepted('equal_truth_values.adb', ending('X = X~', 'X := X', params='X : in out Boolean'), 1)
+    yield accepted('implied_truth_value.adb', ending('X~ -> X', 'X := X', params='X : in out Boolean'), 1)
+    hue = 'type Hue is (Red, Green)'
+    yield accepted('check_over_literals.adb', longer(OUT_X, 'X from', 'H := Green', '--# check H = Green and H > Red', "X := Hue'Pos (H)", declared=[hue, 'H : Hue']), 3)
+    yield examined('twelve_ifs_and_a_post.adb', ending('True', *['if A > 0 then X := A; end if'] * 12, params='A : in Integer; X : in out Integer', derives='X from X, A'), ('Inc', 8191))
+
+
 # ---------------------------------------------------------------- the table
 
 GROUPS = (form, relations, simplifier, numbers, places, words, layout, comments, marks, other_bytes, tokens, grammar,
@@ -5047,7 +5260,9 @@ GROUPS = (form, relations, simplifier, numbers, places, words, layout, comments,
           declared_constants, assigned_constants, matching_types, enumerations, values_of_declarations, conditions_of_types,
           powers_of_types, conditions_of_enumerations, flow_of_types, levels_of_declarations, syntax_of_declarations,
           breaches_of_declarations, functions_of_types, conditions_of_functions, flow_of_functions, syntax_of_functions,
-          initial_values, values_of_choices, rules_of_choices, conditions_of_cases, flow_of_cases, syntax_of_cases)
+          initial_values, values_of_choices, rules_of_choices, conditions_of_cases, flow_of_cases, syntax_of_cases,
+          places_of_checks, syntax_of_checks, syntax_of_predicates, cut_and_spoiled, rules_of_predicates, flow_of_checks,
+          conditions_of_annotations)
 CASES = tuple(case for group in GROUPS for case in group())
 
 
