@@ -22,6 +22,7 @@ fn breach_text(rule: RuleName) -> &'static [u8]
         RuleName::N13 => b"bad range",
         RuleName::N14 => b"wrong arguments",
         RuleName::N17 => b"choice not given once",
+        RuleName::N18 => b"entry value not allowed",
         RuleName::U2 => b"target cannot be assigned",
         RuleName::U7 => b"bad derives annotation",
         RuleName::U8 => b"mode disagrees with derives",

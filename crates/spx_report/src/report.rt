@@ -67,6 +67,7 @@ pub(crate) fn code(rule: RuleName) -> &'static [u8]
         RuleName::N13 => b"N13",
         RuleName::N14 => b"N14",
         RuleName::N17 => b"N17",
+        RuleName::N18 => b"N18",
         RuleName::U2 => b"U2",
         RuleName::U7 => b"U7",
         RuleName::U8 => b"U8",

@@ -29,6 +29,8 @@ fn kind_text(kind: CondKind) -> &'static [u8]
         CondKind::Division => b"division",
         CondKind::Overflow => b"overflow",
         CondKind::Range => b"range",
+        CondKind::Post => b"post",
+        CondKind::Check => b"check",
     }
 }
 
