@@ -2309,6 +2309,8 @@ def documented():
                   'F1 missing: X from X', 'F4 unset: X')
     yield refused('limit_with_an_arm_that_does_nothing.adb', at_end(limit.replace('X := 100', 'null')),
                   'F1 missing: X from X', 'F4 unset: X')
+    for name, total, named in (('swap', 4, 'Swap'), ('clamp', 8, 'Clamp')):
+        yield accepted(f'{name}.adb', (TOP / 'examples' / f'{name}.adb').read_text(encoding='utf-8'), total, named=named)
     share = (TOP / 'examples' / 'guard.adb').read_text(encoding='utf-8')
     yield accepted('guard.adb', share, 1, named='Share')
     yield left_at('guard_by_and.adb', share.replace('and then Whole', 'and Whole <1d>').replace('<1d> ', '<1d>'), 1, named='Share')

@@ -89,6 +89,7 @@ fn units(alloc: Global) -> Result<Items<Unit>, AllocError> {
         formal_part: Some(formal_part(alloc)?),
         derives: None,
         pre: None,
+        post: None,
         declarations,
         statements,
         end: here(),
