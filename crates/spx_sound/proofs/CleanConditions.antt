@@ -27,19 +27,19 @@ use Rattle.spx_core.specs.declared.rule.ExprType.TheVariants.{Of}
 use Rattle.spx_core.specs.declared.rule.Typing.{Typing}
 use Rattle.spx_core.specs.declared.function.Mapping.{Mapping}
 use Rattle.spx_core.specs.declared.function.Span.{Span}
-use Rattle.spx_core.specs.Commands.{Command, Skip, Set, Then, Choose, commands, Select, Alternatives, Last, When}
+use Rattle.spx_core.specs.Commands.{Command, Skip, Set, Then, Choose, commands, Select, Check, Alternatives, Last, When}
 use Rattle.spx_core.specs.Places.{place_of}
 use Rattle.spx_core.specs.Dependency.{exports, imports}
 use Rattle.spx_core.specs.Formals.{formals, initial_of, locals}
 use Rattle.spx_core.specs.Judged.{if_there, judged, typing, application}
 use Rattle.spx_core.specs.Reads.{names_read}
 use Rattle.spx_core.specs.Scopes.{AreAsDeclared, IsAsDeclared, Scoped, AllAreAsDeclared}
-use Rattle.spx_core.specs.Statements.{judged_pre, test}
+use Rattle.spx_core.specs.Statements.{judged_predicate, test}
 use Rattle.spx_core.specs.Types.{is_boolean, is_number, is_of, left_type, operand_fits, operands_fit, result_type, is_taken}
 use Rattle.spx_core.specs.Uses.{variable_of}
 use Rattle.spx_term.specs.declared.condition.Condition.{Condition}
 use Rattle.spx_term.specs.declared.condition.CondKind.{CondKind}
-use Rattle.spx_term.specs.declared.condition.CondKind.TheVariants.{Division, Overflow, Range}
+use Rattle.spx_term.specs.declared.condition.CondKind.TheVariants.{Division, Overflow, Range, Post, Check as CheckCondition}
 use Rattle.spx_term.specs.declared.term.Sort.TheVariants.{Integer, Boolean}
 use Rattle.spx_term.specs.declared.term.Name.{Name as Symbolic}
 use Rattle.spx_term.specs.declared.term.Term.{Term}
@@ -60,13 +60,13 @@ use Rattle.spx_meaning.specs.Literals.{base_of, literal}
 use Rattle.spx_meaning.specs.Stores.{type_of}
 use Rattle.spx_meaning.specs.Runs.{initial_value, value_in_type}
 use Rattle.spx_paths.specs.Terms.{now, now_term, entry, entry_term, sort_of_class, sort_of_var, term_of, moved_term}
-use Rattle.spx_paths.specs.Checks.{in_class, in_range, in_type, under, guarded, checked_under, base_check, divisor_check, exponent_check, operation_check, right_lefts, sign_check, unless_static, checks, checks-Parenthesized, checks-Prefix, checks-Infix, checks-InType, checks-InRange, checks-Number, checks-Name, checks-Attribute, bounds_check, mapping_check, checks-Applied}
-use Rattle.spx_paths.specs.Walks.{assigned, checked_in, walk, entering, import_facts, pre_facts, first_facts, ending, start_tree, trees_of, alternative_facts, and_these, choice_term, choices_term, chosen_term, one_of, initializing, starting_with, walk_for}
+use Rattle.spx_paths.specs.Checks.{in_class, in_range, in_type, under, guarded, checked_under, base_check, divisor_check, exponent_check, operation_check, right_lefts, sign_check, unless_static, checks, checks-Parenthesized, checks-Prefix, checks-Infix, checks-InType, checks-InRange, checks-Number, checks-Name, checks-Entry, checks-Attribute, bounds_check, mapping_check, checks-Applied}
+use Rattle.spx_paths.specs.Walks.{asserted, assigned, checked_in, walk, entering, import_facts, pre_facts, first_facts, ending, ending_with, start_tree, trees_of, alternative_facts, and_these, choice_term, choices_term, chosen_term, one_of, initializing, starting_with, walk_for}
 use Rattle.spx_paths.specs.Conditions.{body_claims, numbered, conditions_of, ArePlain}
 use Rattle.spx_paths.specs.Fit.{IsValid, HasValidConditions, Fit, Clean}
 use Rattle.spx_core.proofs.Callers.ListTests.{each_append}
 use Rattle.spx_sound.proofs.Typings.{Cases, typed_induct, tested, right_side, IsTyped, both_typed, arms_typed, TypedSub, typed_subs, Maps, maps_numbers, keeps_truths, AreTyped, last_typed, when_typed, select_typed}
-use Rattle.spx_sound.proofs.SortedTerms.{AreDeclared, HasSortOf, sort_of_type, boolean_sort, compared_sorted, declared-Infix, declared-InRange, declared-InType, declared-Parenthesized, declared-Prefix, is_of_sort, is_sorted, not_sorted, number_sort, numbers, raised_sort, right_sort, sorted_cases, moved_sorted, ordered_sort, declared-Applied, between_sorted, literal_of_type}
+use Rattle.spx_sound.proofs.SortedTerms.{AreDeclared, HasSortOf, now_sorted, entry_sorted, sort_of_type, boolean_sort, compared_sorted, declared-Infix, declared-InRange, declared-InType, declared-Parenthesized, declared-Prefix, is_of_sort, is_sorted, not_sorted, number_sort, numbers, raised_sort, right_sort, sorted_cases, moved_sorted, ordered_sort, declared-Applied, between_sorted, literal_of_type}
 use Rattle.spx_sound.proofs.NeverBadTrees.{each_flat_map, each_without_doubles}
 use Rattle.spx_sound.proofs.NeverBadBodies.{same_name-Decides}
 
@@ -192,7 +192,7 @@ module _ (lefts : List Term) (formulas : AreFormulas lefts) where
 
 -- ---- checks of expressions
 
-module _ (p : Program) (entered : VarId → Term) where
+module _ (p : Program) (entered : VarId → Term) (sorts : (x : VarId) → HasSortOf (sort_of_var p x) (entered x)) where
   abbrev the_term : CoreExpr → Term
   the_term e = term_of p entered e
 
@@ -207,30 +207,34 @@ module _ (p : Program) (entered : VarId → Term) where
   checks_cases : Cases AreSorted
   checks_cases = record {
     number = λ n place d. record {
-      sorted = (sorted_cases p entered).number n place d;
+      sorted = (sorted_cases p entered sorts).number n place d;
       checks = λ lefts f rest k. subst IsSortedTree (sym (checks-Number p entered lefts n place rest)) k;
     };
     object = λ name v object is typed d. record {
-      sorted = is_sorted p entered (Name name) (typing (Of object.subtype.base) None name.name.place) typed d;
+      sorted = is_sorted p entered sorts (Name name) (typing (Of object.subtype.base) None name.name.place) typed d;
       checks = λ lefts f rest k. subst IsSortedTree (sym (checks-Name p entered lefts name rest)) k;
     };
+    entry = λ name allowed v object is typed d. record {
+      sorted = (sorted_cases p entered sorts).entry name allowed v object is typed d;
+      checks = λ lefts f rest k. subst IsSortedTree (sym (checks-Entry p entered lefts name allowed rest)) k;
+    };
     static = λ name subtype n typed d. record {
-      sorted = (sorted_cases p entered).static name subtype n typed d;
+      sorted = (sorted_cases p entered sorts).static name subtype n typed d;
       checks = λ lefts f rest k. subst IsSortedTree (sym (checks-Name p entered lefts name rest)) k;
     };
     named_number = λ name n typed d. record {
-      sorted = (sorted_cases p entered).named_number name n typed d;
+      sorted = (sorted_cases p entered sorts).named_number name n typed d;
       checks = λ lefts f rest k. subst IsSortedTree (sym (checks-Name p entered lefts name rest)) k;
     };
     attribute = λ prefix designator base n has typed d. record {
-      sorted = (sorted_cases p entered).attribute prefix designator base n has typed d;
+      sorted = (sorted_cases p entered sorts).attribute prefix designator base n has typed d;
       checks = λ lefts f rest k. subst IsSortedTree (sym (checks-Attribute p entered lefts prefix designator rest)) k;
     };
     applied = λ function place a m o known maps taken operand typed h d.
         let e = Applied function place a in
         let inner = h (declared-Applied p function place a d) in
         record {
-          sorted = (sorted_cases p entered).applied function place a m o known maps taken operand typed (λ d. (h d).sorted) d;
+          sorted = (sorted_cases p entered sorts).applied function place a m o known maps taken operand typed (λ d. (h d).sorted) d;
           checks = λ lefts f rest k.
               let after = mapping_check lefts (application function) (place_of a) (the_term a) rest in
               let checked = subst (λ j. IsSortedTree (mapping_check lefts j (place_of a) (the_term a) rest)) (sym known) (mapping_check_sorted lefts f m o.of (place_of a) (the_term a) rest maps taken inner.sorted k) in
@@ -240,13 +244,13 @@ module _ (p : Program) (entered : VarId → Term) where
     parenthesized = λ place a o h d.
         let inner = h (declared-Parenthesized p place a d) in
         record {
-          sorted = (sorted_cases p entered).parenthesized place a o (λ d. (h d).sorted) d;
+          sorted = (sorted_cases p entered sorts).parenthesized place a o (λ d. (h d).sorted) d;
           checks = λ lefts f rest k. subst IsSortedTree (sym (checks-Parenthesized p entered lefts place a rest)) (inner.checks lefts f rest k);
         };
     prefix = λ o place a t fit typed h d.
         let e = Prefix o place a in
         let inner = h (declared-Prefix p o place a d) in
-        let sorted = (sorted_cases p entered).prefix o place a t fit typed (λ d. (h d).sorted) d in
+        let sorted = (sorted_cases p entered sorts).prefix o place a t fit typed (λ d. (h d).sorted) d in
         record {
           sorted = sorted;
           checks = λ lefts f rest k.
@@ -259,7 +263,7 @@ module _ (p : Program) (entered : VarId → Term) where
         let parts = declared-Infix p o place a b d in
         let left = h parts.0 in
         let right = k parts.1 in
-        let sorted = (sorted_cases p entered).«infix» o place a b l r fit typed (λ d. (h d).sorted) (λ d. (k d).sorted) d in
+        let sorted = (sorted_cases p entered sorts).«infix» o place a b l r fit typed (λ d. (h d).sorted) (λ d. (k d).sorted) d in
         record {
           sorted = sorted;
           checks = λ lefts f rest m.
@@ -273,7 +277,7 @@ module _ (p : Program) (entered : VarId → Term) where
     in_type = λ o place a name t subtype is has fit typed h d.
         let inner = h (declared-InType p o place a name d) in
         record {
-          sorted = (sorted_cases p entered).in_type o place a name t subtype is has fit typed (λ d. (h d).sorted) d;
+          sorted = (sorted_cases p entered sorts).in_type o place a name t subtype is has fit typed (λ d. (h d).sorted) d;
           checks = λ lefts f rest k.
               subst IsSortedTree (sym (checks-InType p entered lefts o place a name rest))
               (unless_sorted (literal (InType o place a name)) rest (checks p entered lefts a rest) k (inner.checks lefts f rest k));
@@ -281,7 +285,7 @@ module _ (p : Program) (entered : VarId → Term) where
     in_range = λ o place a low high t l g fit typed h k m d.
         let parts = declared-InRange p o place a low high d in
         record {
-          sorted = (sorted_cases p entered).in_range o place a low high t l g fit typed (λ d. (h d).sorted) (λ d. (k d).sorted) (λ d. (m d).sorted) d;
+          sorted = (sorted_cases p entered sorts).in_range o place a low high t l g fit typed (λ d. (h d).sorted) (λ d. (k d).sorted) (λ d. (m d).sorted) d;
           checks = λ lefts f rest n.
               let last = checks p entered lefts high rest in
               let first = checks p entered lefts low last in
@@ -304,6 +308,12 @@ module _ (p : Program) (entered : VarId → Term) where
       let of = tested e typed in
       let whole = checks_sorted e of.0 of.1 (recursion_from_All (IsAsDeclared p) (names_read e) declared) in
       record { formula = whole.sorted ∙ ap Some (boolean_sort of.0.of of.2); checks = whole.checks [] tt }
+
+-- an annotation that is to be shown is a formula
+asserted_sorted : (p : Program) (sub : Sub) (kind : CondKind) (place : Place) (e : CoreExpr) (rest : Tree) → test e ≡ Ok tt → All (IsAsDeclared p) (names_read e) → IsSortedTree rest → IsSortedTree (asserted kind place (term_of p (entry_term p sub) e) rest)
+asserted_sorted p sub kind place e rest typed declared k =
+    let t = term_of p (entry_term p sub) e in
+    check_sorted kind place (conjuncts t) rest (conjuncts_sorted t (test_sorted p (entry_term p sub) (entry_sorted p sub) e typed declared).formula) k
 
 -- ---- assignments
 
@@ -356,11 +366,11 @@ AreSortedTrees trees = (made : ℕ) → IsSortedTree (trees made)
 
 module _ (p : Program) (sub : Sub) where
   set_sorted : (target : Reference) (e : CoreExpr) (rest : Tree) → IsTyped (Set target e) → AreAsDeclared p (Set target e) → IsSortedTree rest
-      → IsSortedTree (checks p (entry_term p sub) [] e (assigned p (place_of e) (variable_of target.root.entity) (term_of p (entry_term p sub) e) rest))
+      → IsSortedTree (checks p (now_term p) [] e (assigned p (place_of e) (variable_of target.root.entity) (term_of p (now_term p) e) rest))
   set_sorted target e rest typed declared k =
-      let t = term_of p (entry_term p sub) e in
+      let t = term_of p (now_term p) e in
       let right = right_side target e typed in
-      let whole = checks_sorted p (entry_term p sub) e right.typing right.typed (recursion_from_All (IsAsDeclared p) (names_read e) declared.1) in
+      let whole = checks_sorted p (now_term p) (now_sorted p) e right.typing right.typed (recursion_from_All (IsAsDeclared p) (names_read e) declared.1) in
       let o = variable_of target.root.entity in
       whole.checks [] tt (assigned p (place_of e) o t rest) (assigned_sorted p (place_of e) o t rest (λ v is. whole.sorted ∙ ap Some (right_sort p target e declared.0 right v is)) k)
 
@@ -373,8 +383,8 @@ module _ (p : Program) (sub : Sub) where
         walk_sorted a (walk p sub b rest leave) leave parts.0 declared.0 (walk_sorted b rest leave parts.1 declared.1 k l) l made
     walk_sorted (Choose place e a b) rest leave typed declared k l made =
         let parts = arms_typed place e a b typed in
-        let t = term_of p (entry_term p sub) e in
-        let sorted = test_sorted p (entry_term p sub) e parts.0 declared.0 in
+        let t = term_of p (now_term p) e in
+        let sorted = test_sorted p (now_term p) (now_sorted p) e parts.0 declared.0 in
         let first = walk p sub a rest leave made in
         sorted.checks (Split (assume_parts t first) (Assume (term.Prefix Not t) (walk p sub b rest leave made))) (
           assume_sorted (conjuncts t) first (conjuncts_sorted t sorted.formula) (walk_sorted a rest leave parts.1 declared.1.0 k l made),
@@ -382,10 +392,11 @@ module _ (p : Program) (sub : Sub) where
         )
     walk_sorted (Select place selector alternatives) rest leave typed declared k l made =
         let select = select_typed place selector alternatives typed in
-        let t = term_of p (entry_term p sub) selector in
-        let whole = checks_sorted p (entry_term p sub) selector select.typing select.typed (recursion_from_All (IsAsDeclared p) (names_read selector) declared.0) in
+        let t = term_of p (now_term p) selector in
+        let whole = checks_sorted p (now_term p) (now_sorted p) selector select.typing select.typed (recursion_from_All (IsAsDeclared p) (names_read selector) declared.0) in
         whole.checks [] tt (walk_for p sub t [] alternatives rest leave made)
         (walk_for_sorted t (whole.sorted ∙ ap Some (ordered_sort select.typing.of select.ordered)) [] tt select.typing.of alternatives rest leave select.parts declared.1 k l made)
+    walk_sorted (Check place condition) rest leave typed declared k l made = asserted_sorted p sub CheckCondition place condition (rest made) typed declared (k made)
 
     walk_for_sorted : (t : Term) → HasSortOf Integer t → (earlier : List Term) → AreFormulas earlier → (of : ExprType) (alternatives : Alternatives) (rest leave : ℕ → Tree) → AreTyped of alternatives → AllAreAsDeclared p alternatives
         → AreSortedTrees rest → AreSortedTrees leave → AreSortedTrees (walk_for p sub t earlier alternatives rest leave)
@@ -409,10 +420,14 @@ module _ (p : Program) (sub : Sub) where
       by_import true = in_type_sorted (type_of p v) (now_term p v) (terms.fold-Variable sort_step (now p v))
       by_import false = tt
 
-  pre_sorted : (pre : Option CorePredicate) → ((it : CorePredicate) → pre ≡ Some it → All (IsAsDeclared p) (names_read it.condition)) → if_there judged_pre pre ≡ Ok tt → AreFormulas (pre_facts p sub pre)
+  pre_sorted : (pre : Option CorePredicate) → ((it : CorePredicate) → pre ≡ Some it → All (IsAsDeclared p) (names_read it.condition)) → if_there judged_predicate pre ≡ Ok tt → AreFormulas (pre_facts p sub pre)
   pre_sorted None declared typed = tt
   pre_sorted (Some pre) declared typed =
-      conjuncts_sorted (term_of p (entry_term p sub) pre.condition) (test_sorted p (entry_term p sub) pre.condition typed (declared pre refl)).formula
+      conjuncts_sorted (term_of p (entry_term p sub) pre.condition) (test_sorted p (entry_term p sub) (entry_sorted p sub) pre.condition typed (declared pre refl)).formula
+
+  ending_sorted : (post : Option CorePredicate) → ((it : CorePredicate) → post ≡ Some it → All (IsAsDeclared p) (names_read it.condition)) → if_there judged_predicate post ≡ Ok tt → IsSortedTree (ending_with p sub post)
+  ending_sorted None declared typed = tt
+  ending_sorted (Some post) declared typed = asserted_sorted p sub Post post.place post.condition Cut typed (declared post refl) tt
 
   entering_sorted : (vars : List VarId) (rest : Tree) → IsSortedTree rest → IsSortedTree (entering p sub vars rest)
   entering_sorted [] rest k = k
@@ -435,12 +450,13 @@ module _ (p : Program) (sub : Sub) where
 
   start_sorted : Scoped p sub → TypedSub sub → IsSortedTree (start_tree p sub)
   start_sorted scoped typed =
-      let body = walk p sub (commands sub.statements) ending ending 0 in
+      let body = walk p sub (commands sub.statements) (ending p sub) (ending p sub) 0 in
+      let last : AreSortedTrees (ending p sub) = λ made. ending_sorted sub.post scoped.post_names typed.post in
       entering_sorted (formals sub) (initializing p (locals sub) (assume_all (first_facts p sub) body))
       (initializing_sorted (locals sub) (assume_all (first_facts p sub) body)
       (assume_sorted (first_facts p sub) body
       (each_append IsFormula (flat_map (import_facts p sub) (formals sub)) (pre_facts p sub sub.pre) (each_flat_map IsFormula (import_facts p sub) import_facts_sorted (formals sub)) (pre_sorted sub.pre scoped.pre_names typed.pre))
-      (walk_sorted p sub (commands sub.statements) ending ending typed.statements scoped.body_names (λ made. tt) (λ made. tt) 0)))
+      (walk_sorted p sub (commands sub.statements) (ending p sub) (ending p sub) typed.statements scoped.body_names last last 0)))
 
 -- ---- claims and conditions
 

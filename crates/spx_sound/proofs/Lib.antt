@@ -1,4 +1,5 @@
 pub mod Classes
+pub mod CodeNames
 pub mod Typings
 pub mod NeverBadTrees
 pub mod SortedTerms

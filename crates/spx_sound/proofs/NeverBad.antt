@@ -1,6 +1,6 @@
 -- No call of a program that is fit is bad.
 use Rattle.std.proofs.Common.{◌≡◌, ℕ, Bool, true, false, not, ◌&&◌, ◌||◌, if◌then◌else◌, List, [], ◌∷◌, get_or, Option, Some, None, refl, sym, ap, ap₂, ◌∙◌, subst, ℤ, ◌==◌, inl, inr}
-use Rattle.std.proofs.lemmas.Bool.{and_parts, both_ways, or_parts, or_left, or_right, eq-eqb}
+use Rattle.std.proofs.lemmas.Bool.{and_parts, both_ways, false_from_ne_true, or_parts, or_left, or_right, eq-eqb}
 use Rattle.std.specs.Prelude.{⊤, All, IsSome, IfSome, is_some, IsTrue, ◌⊎◌, option_and_then, option_map, slice_get}
 use Rattle.std.specs.List.{flat_map, list_all}
 use Rattle.spx_core.specs.declared.entity.Class.{Class}
@@ -23,8 +23,9 @@ use Rattle.spx_core.specs.Formals.{formals, mode_of, initial_in, initial_of, is_
 use Rattle.spx_core.specs.FlowRules.{HasNoFinding, body_effect, read, left}
 use Rattle.spx_core.specs.Rules.{ObeysRules}
 use Rattle.spx_core.specs.Scopes.{Scoped, StartsInType, kind_of, object_declared, object_in}
-use Rattle.spx_core.specs.Effects.{reads}
+use Rattle.spx_core.specs.Effects.{defines, effect, reads}
 use Rattle.spx_core.specs.Types.{has_truths, is_between, is_true}
+use Rattle.spx_term.specs.declared.condition.CondKind.TheVariants.{Post as PostCondition}
 use Rattle.spx_term.specs.declared.term.Sort.{Sort}
 use Rattle.spx_term.specs.declared.term.Sort.TheVariants.{Integer, Boolean}
 use Rattle.spx_term.specs.declared.term.Symbol.{Symbol}
@@ -34,33 +35,33 @@ use Rattle.spx_term.specs.declared.term.Term.TheVariants.{Variable}
 use Rattle.spx_term.specs.declared.value.Value.{Value}
 use Rattle.spx_term.specs.declared.value.Value.TheVariants as value
 use Rattle.spx_term.specs.Meaning.{as_number, as_truth, Valuation, value_step, value_of, HasSort, Holds, Respects}
-use Rattle.spx_term.specs.Steps.{Tree, Assign, assume_all, same_name}
+use Rattle.spx_term.specs.Steps.{Tree, Cut, Assign, assume_all, same_name}
 use Rattle.spx_term.specs.Folding.{term_of as static_term}
-use Rattle.spx_term.proofs.ConjunctLaws.{parts_hold}
 use Rattle.spx_term.proofs.Terms.{fold-Variable}
-use Rattle.spx_meaning.specs.declared.bad.BadKind.TheVariants.{Pre, Unset}
+use Rattle.spx_meaning.specs.declared.bad.BadKind.TheVariants.{Pre, Post, Unset}
 use Rattle.spx_meaning.specs.Stores.{Store, look, type_of, first_of_class, is_in, is_within, declared, put, reading, seen}
 use Rattle.spx_meaning.specs.Frames.{Frame, around}
-use Rattle.spx_meaning.specs.Annotations.{meant}
-use Rattle.spx_meaning.specs.Runs.{Outcome, Ended, then_do, demand, run, is_new_kind, starts_new, entry_of, pre_holds, demand_pre, exports_set, call, cleared, initial_value, value_in_type}
+use Rattle.spx_meaning.specs.Annotations.{truth}
+use Rattle.spx_meaning.specs.Runs.{Outcome, Ended, then_do, demand, run, is_new_kind, starts_new, entry_of, pre_holds, demand_pre, demand_post, exports_set, call, cleared, initial_value, value_in_type}
 use Rattle.spx_meaning.specs.Laws.{Start, IsNeverBad, NeverBad}
 use Rattle.spx_meaning.proofs.Callers.Entries.{cleared_keeps, cleared_part}
 use Rattle.spx_meaning.proofs.Callers.Evaluation.{meant_same}
 use Rattle.spx_meaning.proofs.Callers.Scopes.{mode_is, new_is, local_starts, own_is}
 use Rattle.spx_meaning.proofs.Callers.Stores.{look-put_other}
 use Rattle.spx_meaning.proofs.Callers.Types.{type_is}
-use Rattle.spx_paths.specs.Terms.{now, entry, now_term, entry_term, sort_of_class, term_of, sort_of_var}
+use Rattle.spx_paths.specs.Terms.{now, entry, now_term, entry_term, sort_of_class, sort_of_var}
 use Rattle.spx_paths.specs.Checks.{in_type}
-use Rattle.spx_paths.specs.Walks.{walk, entering, import_facts, pre_facts, first_facts, ending, initializing, starting_with}
+use Rattle.spx_paths.specs.Walks.{walk, entering, import_facts, pre_facts, first_facts, ending, ending_with, initializing, starting_with}
 use Rattle.spx_paths.specs.Fit.{HasValidConditions, Fit}
 use Rattle.spx_core.proofs.Callers.ListTests.{each_append}
 use Rattle.spx_sound.proofs.Typings.{TypedSub, typed_subs}
 use Rattle.spx_sound.proofs.NeverBadTrees.{AllHold, changed, Safe, each_flat_map, assumed, safe_sub}
 use Rattle.spx_sound.proofs.NeverBadRuns.{Never, Good, good_then, good_demand, joined}
-use Rattle.spx_sound.proofs.NeverBadExpressions.{truth_from, type_facts, AgreesWith, static_term_value}
-use Rattle.spx_sound.proofs.NeverBadAnnotations.{means_its_term}
+use Rattle.spx_sound.proofs.NeverBadExpressions.{type_facts, AgreesWith, static_term_value}
+use Rattle.spx_sound.proofs.NeverBadAnnotations.{parts_where_true}
+use Rattle.spx_sound.proofs.CodeNames.{BodyHasCode, bodies_have_code}
 use Rattle.spx_sound.proofs.Extents.{AreInTypes}
-use Rattle.spx_sound.proofs.NeverBadBodies.{same_name-Decides, Fits, Reaches, walk_good}
+use Rattle.spx_sound.proofs.NeverBadBodies.{same_name-Decides, Fits, Reaches, Spares, asserted_good, stays, walk_good}
 use Rattle.spx_sound.proofs.NeverUnset.{IsClear, Passes, never_unset, reaches_reads}
 
 -- ---- the valuation of a store
@@ -198,7 +199,7 @@ cleared_other p s (v ∷ vars) w none =
 
 -- ---- a call
 
-module _ (p : Program) (sub : Sub) (scoped : Scoped p sub) (initial : StartsInType p sub) (obeys : ObeysRules p sub) where
+module _ (p : Program) (sub : Sub) (scoped : Scoped p sub) (initial : StartsInType p sub) (obeys : ObeysRules p sub) (code : BodyHasCode sub) where
   -- what is imported is set on entry
   import_starts_set : (x : VarId) → imports x sub ≡ true → starts_new p x ≡ false
   import_starts_set x import =
@@ -209,6 +210,19 @@ module _ (p : Program) (sub : Sub) (scoped : Scoped p sub) (initial : StartsInTy
       by_mode mode.In is = refl
       by_mode mode.Out is = absurd (both_ways (not (imports x sub)) (ap not import) (and_parts (exports x sub) (not (imports x sub)) (obeys.modes x mode.Out (scoped.imported x import) is)).1)
       by_mode mode.InOut is = refl
+
+  -- an import that is no export is set by no statement
+  import_is_spared : Spares sub (effect (commands sub.statements))
+  import_is_spared x import_only =
+      let parts = and_parts (imports x sub) (not (exports x sub)) import_only in
+      let formal = scoped.imported x parts.0 in
+      let kind = scoped.formal_kinds x formal in
+      by_mode kind.0 (mode_is p x (Formal kind.0) kind.1) formal parts.0 parts.1
+    where
+      by_mode : (m : Mode) → mode_of x p ≡ Some m → is_formal x sub ≡ true → imports x sub ≡ true → not (exports x sub) ≡ true → defines x sub.statements ≡ false
+      by_mode mode.In is formal import other = false_from_ne_true (defines x sub.statements) (λ defined. obeys.targets x defined is)
+      by_mode mode.Out is formal import other = absurd (both_ways (not (imports x sub)) (ap not import) (and_parts (exports x sub) (not (imports x sub)) (obeys.modes x mode.Out formal is)).1)
+      by_mode mode.InOut is formal import other = absurd (both_ways (not (exports x sub)) (ap not (and_parts (imports x sub) (exports x sub) (obeys.modes x mode.InOut formal is)).1) other)
 
   -- a formal has no initial value
   formal_starts_without : (x : VarId) → is_formal x sub ≡ true → initial_of x p ≡ None
@@ -271,13 +285,21 @@ module _ (p : Program) (sub : Sub) (scoped : Scoped p sub) (initial : StartsInTy
     first_agrees : AgreesWith p first first_valuation
     first_agrees = valuation_agrees p first first_sorted
 
-    first_fits : Fits p first first_valuation
-    first_fits = record { agrees = first_agrees; respects = valuation_respects p first; in_types = first_in_types }
+    -- at the start the terms of the values on entry have these values
+    first_anchored : (x : VarId) → value_of first_valuation (entry_term p sub x) ≡ reading p first x
+    first_anchored x = by_import (stays sub x)
+      where
+        by_import : (b : Bool) → value_of first_valuation (if b then now_term p x else Variable (entry p x)) ≡ reading p first x
+        by_import true = fold-Variable (value_step first_valuation) (now p x) ∙ first_agrees x
+        by_import false = fold-Variable (value_step first_valuation) (entry p x) ∙ first_agrees x
+
+    first_fits : Fits frame first first_valuation
+    first_fits = record { agrees = first_agrees; respects = valuation_respects p first; in_types = first_in_types; anchored = first_anchored }
 
     pre_first : (pre : Option CorePredicate) → sub.pre ≡ pre → pre_holds (around p sub s) pre s ≡ true → pre_holds frame pre first ≡ true
     pre_first None is h = refl
     pre_first (Some pre) is h =
-        ap as_truth (meant_same frame (around p sub s) refl first s pre.condition (λ x used. kept_import x (obeys.precondition pre x is used))) ∙ h
+        ap as_truth (meant_same frame (around p sub s) refl first s pre.condition (λ x used. kept_import x (obeys.precondition pre x is used)) (λ x used. kept_import x (obeys.precondition pre x is used))) ∙ h
 
     -- ---- checks
 
@@ -294,12 +316,10 @@ module _ (p : Program) (sub : Sub) (scoped : Scoped p sub) (initial : StartsInTy
 
     pre_facts_hold : (pre : Option CorePredicate) → pre_holds frame pre first ≡ true → AllHold first_valuation (pre_facts p sub pre)
     pre_facts_hold None h = tt
-    pre_facts_hold (Some pre) h =
-        parts_hold first_valuation (term_of p (entry_term p sub) pre.condition)
-        (sym (means_its_term frame first first_valuation first_agrees (entry_term p sub) pre.condition) ∙ truth_from (meant frame first pre.condition) h)
+    pre_facts_hold (Some pre) h = parts_where_true frame first first_valuation first_agrees (entry_term p sub) first_anchored pre.condition h
 
     abbrev body_tree : Tree
-    body_tree = walk p sub (commands sub.statements) ending ending 0
+    body_tree = walk p sub (commands sub.statements) (ending p sub) (ending p sub) 0
 
     body_safe : HasValidConditions p sub → Safe body_tree first_valuation
     body_safe valid =
@@ -358,23 +378,36 @@ module _ (p : Program) (sub : Sub) (scoped : Scoped p sub) (initial : StartsInTy
     abbrev body_run : ℕ → Outcome
     body_run n = run frame n first (commands sub.statements)
 
-    body_good : HasNoFinding p sub → TypedSub sub → HasValidConditions p sub → (n : ℕ) → Good Never (body_run n) (Passes (body_effect sub) first) (λ t. ⊤)
+    -- at the end
+    abbrev IsDone : Store → Type 0
+    IsDone t = Reaches frame (ending p sub) t × Passes (body_effect sub) first t
+
+    body_good : HasNoFinding p sub → TypedSub sub → HasValidConditions p sub → (n : ℕ) → Good Never (body_run n) IsDone (λ t. ⊤)
     body_good flows typed valid n =
-        joined (body_run n) (Reaches p ending) (Passes (body_effect sub) first) (Reaches p ending) (λ t. ⊤)
-        (walk_good frame n (commands sub.statements) ending ending 0 first first_valuation typed.statements scoped.body_names first_fits (body_safe valid))
+        joined (body_run n) (Reaches frame (ending p sub)) (Passes (body_effect sub) first) (Reaches frame (ending p sub)) (λ t. ⊤)
+        (walk_good frame n (commands sub.statements) (ending p sub) (ending p sub) 0 first first_valuation typed.statements scoped.body_names import_is_spared code first_fits (body_safe valid))
         (never_unset frame n first (commands sub.statements) (first_clear flows))
 
     pre_good : (pre : Option CorePredicate) → pre_holds frame pre first ≡ true → demand_pre frame pre first ≡ Ended first
     pre_good None h = refl
     pre_good (Some pre) h = ap (λ b. demand b Pre pre.place first) h
 
+    -- there the postcondition is true
+    post_good : (post : Option CorePredicate) (t : Store) (v : Valuation) → Fits frame t v → Safe (ending_with p sub post) v → Good Never (demand_post frame post t) (λ t. ⊤) (λ t. ⊤)
+    post_good None t v fits safe = tt
+    post_good (Some post) t v fits safe =
+        good_demand Never (truth frame t post.condition) Post post.place t (λ t. ⊤) (λ t. ⊤) tt
+        (λ untrue. both_ways (truth frame t post.condition) untrue (asserted_good frame PostCondition post.place post.condition Cut t v fits safe).0)
+
     call_good : HasNoFinding p sub → TypedSub sub → HasValidConditions p sub → (n : ℕ) → Good Never (call p n sub s) (λ t. ⊤) (λ t. ⊤)
     call_good flows typed valid n =
-        let ending_of : Store → Outcome = λ t. demand (exports_set sub t) Unset sub.end t in
+        let look_after : Store → Outcome = λ t. demand_post frame sub.post t in
+        let ending_of : Store → Outcome = λ t. then_do (demand (exports_set sub t) Unset sub.end t) look_after in
         subst (λ o. Good Never (then_do o (λ e. then_do (run frame n e (commands sub.statements)) ending_of)) (λ t. ⊤) (λ t. ⊤)) (sym (pre_good sub.pre (pre_first sub.pre refl start.precondition)))
-        (good_then Never (body_run n) ending_of (Passes (body_effect sub) first) (λ t. ⊤) (λ t. ⊤) (body_good flows typed valid n)
-        (λ t passes. good_demand Never (exports_set sub t) Unset sub.end t (λ t. ⊤) (λ t. ⊤) tt
-        (λ unset. both_ways (exports_set sub t) unset (exports_good flows t passes (formals sub)))))
+        (good_then Never (body_run n) ending_of IsDone (λ t. ⊤) (λ t. ⊤) (body_good flows typed valid n)
+        (λ t done.
+        let known = done.0 in
+        subst (λ b. Good Never (then_do (demand b Unset sub.end t) look_after) (λ t. ⊤) (λ t. ⊤)) (sym (exports_good flows t done.1 (formals sub))) (post_good sub.post t known.valuation known.fits known.safe)))
 
   pub is_never_bad : HasNoFinding p sub → TypedSub sub → HasValidConditions p sub → IsNeverBad p sub
   is_never_bad flows typed valid n s start kind place bad = subst (λ o. Good Never o (λ t. ⊤) (λ t. ⊤)) bad (call_good s start flows typed valid n)
@@ -383,4 +416,4 @@ module _ (p : Program) (sub : Sub) (scoped : Scoped p sub) (initial : StartsInTy
 
 pub never_bad : (p : Program) → All (Scoped p) p.subs → All (StartsInType p) p.subs → All (ObeysRules p) p.subs → Fit p → NeverBad p
 never_bad p scoped initial obeys fit k d within =
-    is_never_bad p (get_or p.subs k d) (scoped k d within) (initial k d within) (obeys k d within) (fit.flows k d within) (typed_subs p fit.typed k d within) (fit.conditions k d within)
+    is_never_bad p (get_or p.subs k d) (scoped k d within) (initial k d within) (obeys k d within) (bodies_have_code p fit.visible k d within) (fit.flows k d within) (typed_subs p fit.typed k d within) (fit.conditions k d within)

@@ -34,18 +34,21 @@ use Rattle.spx_term.specs.declared.term.Term.{Term}
 use Rattle.spx_term.specs.declared.term.Term.TheVariants as term
 use Rattle.spx_term.specs.declared.value.Value.{Value}
 use Rattle.spx_term.specs.declared.value.Value.TheVariants as value
-use Rattle.spx_term.specs.Meaning.{same_truth, same_value, value_of_prefix, value_of_op, Valuation, value_step, value_of}
+use Rattle.spx_term.specs.Meaning.{as_truth, same_truth, same_value, value_of_prefix, value_of_op, Valuation, value_step, value_of}
+use Rattle.spx_term.proofs.ConjunctLaws.{from_parts, parts_hold}
+use Rattle.spx_term.specs.Conjuncts.{conjuncts}
 use Rattle.spx_term.proofs.Terms as terms
-use Rattle.spx_meaning.specs.Stores.{Store, reading_of}
+use Rattle.spx_meaning.specs.Stores.{Store, reading, reading_of}
 use Rattle.spx_meaning.specs.Frames.{Frame}
 use Rattle.spx_meaning.specs.Literals.{literal, literal_in, value_of as value_in}
 use Rattle.spx_meaning.specs.Evaluation.{applied, applied_sign, first_in, last_in, member, term_op, mapped_value, moved}
 use Rattle.spx_meaning.specs.Annotations.{meant, meant_step, value_or, value_or_zero}
-use Rattle.spx_paths.specs.Terms.{first_term, last_term, member_term, named, now_term, literal_or, signed_term, term_of, term_with-Parenthesized, term_with-Prefix, term_with-Infix, term_with-InType, term_with-InRange, term_with-Name, term_with-Attribute, mapped_term, term_with-Applied}
-use Rattle.spx_core.proofs.Callers.Expressions.{Cases, induct, fold-Number, fold-Name, fold-Attribute, fold-Parenthesized, fold-Prefix, fold-Infix, fold-InType, fold-InRange, fold-Applied}
+use Rattle.spx_paths.specs.Terms.{first_term, last_term, member_term, named, now_term, literal_or, signed_term, term_of, term_with-Parenthesized, term_with-Prefix, term_with-Infix, term_with-InType, term_with-InRange, term_with-Name, term_with-Entry, term_with-Attribute, mapped_term, term_with-Applied}
+use Rattle.spx_core.proofs.Callers.Expressions.{Cases, induct, fold-Number, fold-Name, fold-Entry, fold-Attribute, fold-Parenthesized, fold-Prefix, fold-Infix, fold-InType, fold-InRange, fold-Applied}
 use Rattle.spx_sound.proofs.Classes.{number_is_ordered, numbers_are_ordered, numeric_has_numbers, of_numbers}
 use Rattle.spx_sound.proofs.Typings as typed
-use Rattle.spx_sound.proofs.NeverBadExpressions.{static_term_value, signed_term_value, member_type_value, member_value as member_term_value, value-Number, named_value, value-named, AgreesWith, mapped_term_value}
+use Rattle.spx_sound.proofs.NeverBadTrees.{AllHold}
+use Rattle.spx_sound.proofs.NeverBadExpressions.{truth_from, static_term_value, signed_term_value, member_type_value, member_value as member_term_value, value-Number, named_value, value-named, AgreesWith, mapped_term_value}
 
 -- ---- numbers and truth values
 
@@ -223,6 +226,12 @@ operated_stands op.Xor l r e x y m n fit p q =
     stands_true (applied op.Xor x y) (not (int_eq m n)) (ap (λ b. value.Truth (not b)) (equal_truths l r x y m n parts.0 parts.1 p q))
 operated_stands op.AndThen l r e x y m n fit p q = logical_stands op.AndThen l r x y m n fit p q (is_true m && is_true n) refl
 operated_stands op.OrElse l r e x y m n fit p q = logical_stands op.OrElse l r x y m n fit p q (is_true m || is_true n) refl
+operated_stands op.Implies l r e x y m n fit p q = logical_stands op.Implies l r x y m n fit p q (not (is_true m) || is_true n) refl
+operated_stands op.Equivalent l r e x y m n fit p q =
+    let parts = and_parts (is_boolean l) (is_boolean r) fit in
+    stands_true (applied op.Equivalent x y) (int_eq m n)
+    (ap value.Truth (ap₂ (λ a b. same_truth (as_truth a) (as_truth b)) (as_truth_is x l m parts.0 p) (as_truth_is y r n parts.1 q)
+    ∙ same_positions (is_true m) (is_true n) ∙ ap₂ int_eq (sym (p.position parts.0)) (sym (q.position parts.1))))
 
 operated_static : (o : InfixOp) (l r : ExprType) (a b : Option ℤ) (x y : Value) → operands_fit o l r ≡ true → IsStatic x l a → IsStatic y r b → IsStatic (applied o x y) (result_type o (left_type o l r b)) (result_of o a b)
 operated_static o l r (Some m) (Some n) x y fit p q = by_definition (is_defined o n)
@@ -315,6 +324,7 @@ module _ (f : Frame) (s : Store) where
     object = λ name v object is judges. tt;
     static = λ name subtype n judges. record { is = name_means_static name (typed.standing subtype n name.name.place) _ refl judges; position = class_position subtype.base.class n };
     named_number = λ name n judges. record { is = name_means_static name (typing Universal (Some n) name.name.place) n refl judges; position = no_position Universal n refl };
+    entry = λ name allowed v object is judges. tt;
     attribute = λ prefix designator base n number judges. record {
       is = fold-Attribute (meant_step f s) prefix designator ∙ ap (λ j. value_or_zero (literal_in j)) (sym (fold-Attribute expr_step prefix designator) ∙ judges);
       position = no_position (Of base) n number;
@@ -344,13 +354,18 @@ module _ (f : Frame) (s : Store) where
 
 -- ---- annotations
 
-module _ (f : Frame) (s : Store) (v : Valuation) (agrees : AgreesWith f.program s v) (entered : VarId → Term) where
+-- where these terms have the values on entry
+module _ (f : Frame) (s : Store) (v : Valuation) (agrees : AgreesWith f.program s v) (entered : VarId → Term) (anchored : (x : VarId) → value_of v (entered x) ≡ reading f.program f.entry x) where
   abbrev the_term : CoreExpr → Term
   the_term e = term_of f.program entered e
 
   reading_good : (o : Option VarId) → reading_of f.program s o ≡ named_value v f.program o
   reading_good (Some x) = sym (agrees x)
   reading_good None = refl
+
+  entry_means : (o : Option VarId) → reading_of f.program f.entry o ≡ value_of v (named entered o)
+  entry_means (Some x) = sym (anchored x)
+  entry_means None = sym (terms.fold-Number (value_step v) (pos 0))
 
   name_means : (o : Option VarId) (l : Option Value) → value_or l (reading_of f.program s o) ≡ value_of v (literal_or l (named (now_term f.program) o))
   name_means o (Some x) = sym (static_term_value v x)
@@ -383,6 +398,8 @@ module _ (f : Frame) (s : Store) (v : Valuation) (agrees : AgreesWith f.program 
         ∙ ap (λ j. value_or (literal_in j) (reading_of f.program s (variable_of name.entity))) (sym (fold-Name expr_step name))
         ∙ name_means (variable_of name.entity) (literal (Name name))
         ∙ ap (value_of v) (sym (term_with-Name (now_term f.program) entered name));
+    entry = λ name allowed.
+        fold-Entry (meant_step f s) name allowed ∙ entry_means (variable_of name.entity) ∙ ap (value_of v) (sym (term_with-Entry (now_term f.program) entered name allowed));
     attribute = λ prefix designator.
         fold-Attribute (meant_step f s) prefix designator
         ∙ ap (λ j. value_or_zero (literal_in j)) (sym (fold-Attribute expr_step prefix designator))
@@ -410,5 +427,13 @@ module _ (f : Frame) (s : Store) (v : Valuation) (agrees : AgreesWith f.program 
   }
 
   -- an annotation means what its term is worth
-  pub means_its_term : (e : CoreExpr) → MeansItsTerm e
+  means_its_term : (e : CoreExpr) → MeansItsTerm e
   means_its_term = induct MeansItsTerm means_cases
+
+  -- where it is true, each part of its term holds
+  pub parts_where_true : (e : CoreExpr) → as_truth (meant f s e) ≡ true → AllHold v (conjuncts (the_term e))
+  parts_where_true e h = parts_hold v (the_term e) (sym (means_its_term e) ∙ truth_from (meant f s e) h)
+
+  -- and where they hold, it is true
+  pub true_where_parts : (e : CoreExpr) → AllHold v (conjuncts (the_term e)) → as_truth (meant f s e) ≡ true
+  true_where_parts e h = ap as_truth (means_its_term e ∙ from_parts v (the_term e) h)

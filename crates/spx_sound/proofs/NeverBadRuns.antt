@@ -91,8 +91,8 @@ good_weaker B (Bad kind place) P Q L M h p l = h
 good_weaker B Later P Q L M h p l = tt
 
 -- what fails on nothing but unset variables, and on no unset variable, fails on nothing
-pub joined : (o : Outcome) (P Q L M : Store → Type 0) → Good IsUnset o P L → Good IsOther o Q M → Good Never o Q M
-joined (Ended s) P Q L M h k = k
+pub joined : (o : Outcome) (P Q L M : Store → Type 0) → Good IsUnset o P L → Good IsOther o Q M → Good Never o (λ s. P s × Q s) M
+joined (Ended s) P Q L M h k = (h, k)
 joined (Left s) P Q L M h k = k
 joined (Bad kind place) P Q L M h k = k h
 joined Later P Q L M h k = tt

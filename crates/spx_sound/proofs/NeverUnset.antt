@@ -15,8 +15,8 @@ use Rattle.spx_core.specs.declared.expression.CoreExpr.{CoreExpr}
 use Rattle.spx_core.specs.declared.expression.CoreExpr.TheVariants.{Name, Attribute, Applied, Prefix, Infix, InType, InRange}
 use Rattle.spx_core.specs.declared.function.Mapping.{Mapping}
 use Rattle.spx_core.specs.declared.function.Span.{Span}
-use Rattle.spx_core.specs.Commands.{Command, Skip, Set, Then, Choose, Select, Alternatives, Last, When}
-use Rattle.spx_core.specs.Effects.{Effect, Read, assign as assigns, effect, reads_of, choose, effect_among, nothing, next, is_read, reads}
+use Rattle.spx_core.specs.Commands.{Command, Skip, Set, Then, Choose, Select, Check, Alternatives, Last, When}
+use Rattle.spx_core.specs.Effects.{Effect, Read, assign as assigns, effect, reads_of, choose, effect_among, nothing, next, observe, is_read, reads}
 use Rattle.spx_core.specs.Formals.{stands_in}
 use Rattle.spx_core.specs.Places.{place_of}
 use Rattle.spx_core.specs.Uses.{is_same, uses, variable_of}
@@ -25,16 +25,17 @@ use Rattle.spx_core.specs.Judged.{Judged, application}
 use Rattle.spx_core.proofs.Callers.Expressions.{Cases, induct}
 use Rattle.spx_core.proofs.Callers.FlowLaws.{goes_free, reads_uses, without}
 use Rattle.spx_core.proofs.Callers.ListTests.{found, passes}
-use Rattle.spx_core.proofs.Callers.ReadsLaws.{uses_high, uses_left, uses_low, uses_right, uses_tested, uses-InType, uses-Name, uses-Parenthesized, uses-Prefix, uses-Applied}
+use Rattle.spx_core.proofs.Callers.ReadsLaws.{uses_high, uses_left, uses_low, uses_right, uses_tested, uses-InType, uses-Name, uses-Entry, uses-Parenthesized, uses-Prefix, uses-Applied}
 use Rattle.spx_core.proofs.Callers.Variables.{same_var}
 use Rattle.spx_term.specs.declared.value.Value.{Value}
 use Rattle.spx_term.specs.declared.value.Value.TheVariants as value
 use Rattle.spx_term.specs.Meaning.{as_number, as_truth, same_value}
-use Rattle.spx_meaning.specs.declared.bad.BadKind.TheVariants.{Division, Overflow, Range}
+use Rattle.spx_meaning.specs.declared.bad.BadKind.TheVariants.{Division, Overflow, Range, Check as CheckBad}
 use Rattle.spx_meaning.specs.Stores.{Store, look, put, type_of, is_in, is_within}
 use Rattle.spx_meaning.specs.Frames.{Frame}
 use Rattle.spx_meaning.specs.Literals.{base_of, literal}
-use Rattle.spx_meaning.specs.Evaluation.{Answer, Gives, Fails, with_value, applied, applied_sign, decided, first_in, in_base, last_in, checked, member, signed, read, read_at, static_or, unless_negative, unless_zero, eval, eval-Number, eval-Name, eval-Attribute, eval-Parenthesized, eval-Prefix, eval-Infix, eval-InType, eval-InRange, eval-Applied, mapping_checked, moved, within_bounds}
+use Rattle.spx_meaning.specs.Evaluation.{Answer, Gives, Fails, with_value, applied, applied_sign, decided, first_in, in_base, last_in, checked, member, signed, read, read_at, static_or, unless_negative, unless_zero, eval, eval-Number, eval-Name, eval-Entry, eval-Attribute, eval-Parenthesized, eval-Prefix, eval-Infix, eval-InType, eval-InRange, eval-Applied, mapping_checked, moved, within_bounds}
+use Rattle.spx_meaning.specs.Annotations.{truth}
 use Rattle.spx_meaning.specs.Runs.{assign, run, Outcome, has_value, run_for}
 use Rattle.spx_meaning.proofs.Callers.Stores.{look-put_either}
 use Rattle.spx_sound.proofs.NeverBadRuns.{IsOther, HasGoodKind, kind_with, kind_use, Good, good_then, good_if, good_demand, good_weaker}
@@ -105,6 +106,8 @@ module _ (f : Frame) (n : ℕ) (s : Store) where
         let variable = variable_of name.entity in
         subst (HasGoodKind IsOther) (sym (eval-Name f n s name))
         (static_kind (literal (Name name)) (read s name.name.place variable) (read_kind name.name.place variable (λ v h. set v (uses-Name v name ∙ h))));
+    entry = λ name allowed set.
+        subst (HasGoodKind IsOther) (sym (eval-Entry f n s name allowed)) (read_kind name.name.place (variable_of name.entity) (λ v h. set v (uses-Entry v name allowed ∙ h)));
     attribute = λ prefix designator set.
         subst (HasGoodKind IsOther) (sym (eval-Attribute f n s prefix designator)) (static_kind (literal (Attribute prefix designator)) (Gives (value.Number (pos 0))) tt);
     applied = λ function place a p set.
@@ -194,6 +197,7 @@ reaches_reads (choose tests a b at) place v way h =
       | inr arm ↦ or_right (is_read v tests) (reads v a || reads v b)
           (elim arm [ inl first ↦ or_left (reads v a) (reads v b) (reaches_reads a place v way first) | inr second ↦ or_right (reads v a) (reads v b) (reaches_reads b place v way second) ])
     ]
+reaches_reads (observe values) place v way h = is_among place v values h.0
 
 -- what an expression uses, it reads at some place
 read_place : (v : VarId) (e : CoreExpr) → uses v e ≡ true → (place : Place) × Contains (reads_of e) (place, v)
@@ -262,6 +266,8 @@ module _ (f : Frame) (n : ℕ) where
     never_unset s (Then a b) clear = then_sets s a b (never_unset s a) (λ t. never_unset t b) clear
     never_unset s (Choose place e a b) clear = choose_sets s place e a b (never_unset s a) (never_unset s b) clear
     never_unset s (Select place selector alternatives) clear = select_sets s place selector alternatives (λ c x. never_unset_for s x (reads_of selector) place alternatives c) clear
+    never_unset s (Check place condition) clear =
+        good_demand IsOther (truth f s condition) CheckBad place s (Passes (effect (Check place condition)) s) (λ t. ⊤) (λ v unset. (unset, ([], refl, refl))) (λ is e. cc)
 
     never_unset_for : (s : Store) (x : Value) (tests : List Read) (place : Place) (alternatives : Alternatives) → IsClear (effect_among tests place alternatives) s
         → Good IsOther (run_for x f n s alternatives) (Passes (effect_among tests place alternatives) s) (λ t. ⊤)

@@ -1,5 +1,5 @@
 -- The term of an expression that breaks no rule has the sort of its type.
-use Rattle.std.proofs.Common.{◌≡◌, ℤ, pos, true, ◌&&◌, if◌then◌else◌, List, [], ◌∷◌, ◌++◌, Option, Some, None, Ok, refl, sym, ap, ap₂, ◌∙◌, subst}
+use Rattle.std.proofs.Common.{◌≡◌, ℤ, pos, Bool, true, false, not, ◌&&◌, if◌then◌else◌, List, [], ◌∷◌, ◌++◌, Option, Some, None, Ok, refl, sym, ap, ap₂, ◌∙◌, subst}
 use Rattle.std.specs.Prelude.{option_map}
 use Rattle.std.specs.List.{AllByRecursion}
 use Rattle.std.proofs.lemmas.Bool.{and_parts}
@@ -21,8 +21,9 @@ use Rattle.spx_core.specs.declared.entity.VarId.{VarId}
 use Rattle.spx_core.specs.declared.name.CoreName.{CoreName}
 use Rattle.spx_core.specs.declared.name.Reference.{Reference}
 use Rattle.spx_core.specs.declared.program.Program.{Program}
+use Rattle.spx_core.specs.declared.subprogram.Sub.{Sub}
 use Rattle.spx_core.specs.declared.expression.CoreExpr.{CoreExpr}
-use Rattle.spx_core.specs.declared.expression.CoreExpr.TheVariants.{Name, Attribute, Applied, Parenthesized, Prefix, Infix, InType, InRange}
+use Rattle.spx_core.specs.declared.expression.CoreExpr.TheVariants.{Name, Entry, Attribute, Applied, Parenthesized, Prefix, Infix, InType, InRange}
 use Rattle.spx_core.specs.declared.rule.ExprType.{ExprType}
 use Rattle.spx_core.specs.declared.rule.ExprType.TheVariants as type
 use Rattle.spx_core.specs.declared.rule.Typing.{Typing}
@@ -30,12 +31,13 @@ use Rattle.spx_core.specs.declared.function.CoreFunction.{CoreFunction}
 use Rattle.spx_core.specs.declared.function.Mapping.{Mapping}
 use Rattle.spx_core.specs.declared.function.Shift.{Shift}
 use Rattle.spx_core.specs.declared.function.Shift.TheVariants as shift
+use Rattle.spx_core.specs.Dependency.{exports, imports}
 use Rattle.spx_core.specs.Judged.{judged, typing, application}
 use Rattle.spx_core.specs.Reads.{names_read, names_step}
 use Rattle.spx_core.specs.Scopes.{IsAsDeclared}
 use Rattle.spx_core.specs.Types.{has_numbers, has_truths, is_boolean, is_number, is_of, is_ordered, is_true, left_type, meet, met, operand_fits, operands_fit, position_in, raised_type, result_type, same_class, signed_result, three_fit, is_taken}
 use Rattle.spx_core.specs.Uses.{variable_of}
-use Rattle.spx_core.proofs.Callers.Expressions.{fold-Name, fold-Parenthesized, fold-Prefix, fold-Infix, fold-InType, fold-InRange, fold-Applied}
+use Rattle.spx_core.proofs.Callers.Expressions.{fold-Name, fold-Entry, fold-Parenthesized, fold-Prefix, fold-Infix, fold-InType, fold-InRange, fold-Applied}
 use Rattle.spx_term.specs.declared.term.Sort.{Sort}
 use Rattle.spx_term.specs.declared.term.Sort.TheVariants.{Integer, Boolean}
 use Rattle.spx_term.specs.declared.term.Term.{Term}
@@ -53,7 +55,7 @@ use Rattle.spx_term.proofs.FoldingLaws.{sorted_value}
 use Rattle.spx_meaning.specs.Evaluation.{term_op}
 use Rattle.spx_meaning.specs.Literals.{literal, literal_in, value_of as value_in}
 use Rattle.spx_meaning.proofs.Callers.Types.{type_is}
-use Rattle.spx_paths.specs.Terms.{between, first_term, last_term, literal_or, member_term, named, now, now_term, signed_term, sort_of_class, sort_of_var, term_of, term_with-Parenthesized, term_with-Prefix, term_with-Infix, term_with-InType, term_with-InRange, term_with-Number, term_with-Name, term_with-Attribute, mapped_term, moved_term, term_with-Applied}
+use Rattle.spx_paths.specs.Terms.{between, entry, entry_term, first_term, last_term, literal_or, member_term, named, now, now_term, signed_term, sort_of_class, sort_of_var, term_of, term_with-Parenthesized, term_with-Prefix, term_with-Infix, term_with-InType, term_with-InRange, term_with-Number, term_with-Name, term_with-Entry, term_with-Attribute, mapped_term, moved_term, term_with-Applied}
 use Rattle.spx_sound.proofs.Classes.{literals_have_numbers, number_is_ordered, numbers_are_ordered, numeric_has_numbers}
 use Rattle.spx_sound.proofs.Typings.{joined, tested_in, tested_between, variable_named, Cases, typed_induct, RightSide, Maps, maps_numbers, keeps_truths, result_typing}
 
@@ -188,6 +190,8 @@ operator_sort op.Or l r n h = logical l r h
 operator_sort op.Xor l r n h = exclusive l r h
 operator_sort op.AndThen l r n h = logical l r h
 operator_sort op.OrElse l r n h = logical l r h
+operator_sort op.Implies l r n h = logical l r h
+operator_sort op.Equivalent l r n h = logical l r h
 
 pub operation_sorted : (o : InfixOp) (l r : ExprType) (n : Option ℤ) (a b : Term) → operands_fit o l r ≡ true → HasSortOf (sort_of_type l) a → HasSortOf (sort_of_type r) b
     → HasSortOf (sort_of_type (result_type o (left_type o l r n))) (term.Infix (term_op o) a b)
@@ -267,6 +271,9 @@ module _ (p : Program) where
   pub declared-Name : (name : CoreName) → AreDeclared p (Name name) → IsAsDeclared p name
   declared-Name name h = (along _ (name ∷ []) (fold-Name names_step name) h).0
 
+  pub declared-Entry : (name : CoreName) (allowed : Bool) → AreDeclared p (Entry name allowed) → IsAsDeclared p name
+  declared-Entry name allowed h = (along _ (name ∷ []) (fold-Entry names_step name allowed) h).0
+
   pub declared-Applied : (function : CoreFunction) (place : Place) (a : CoreExpr) → AreDeclared p (Applied function place a) → AreDeclared p a
   declared-Applied function place a h = along _ (names_read a) (fold-Applied names_step function place a) h
 
@@ -293,7 +300,23 @@ module _ (p : Program) where
       ap (λ e. sort_of (named (now_term p) (variable_of e))) is ∙ terms.fold-Variable sort_step (now p v)
       ∙ ap (λ s. Some (sort_of_class s.base.class)) (type_is p v object (declared v object is))
 
-  module _ (entered : VarId → Term) where
+  -- the terms of a variable, for its value now and on entry, have its sort
+  pub now_sorted : (x : VarId) → HasSortOf (sort_of_var p x) (now_term p x)
+  now_sorted x = terms.fold-Variable sort_step (now p x)
+
+  pub entry_sorted : (sub : Sub) (x : VarId) → HasSortOf (sort_of_var p x) (entry_term p sub x)
+  entry_sorted sub x = by_import (imports x sub && not (exports x sub))
+    where
+      by_import : (b : Bool) → HasSortOf (sort_of_var p x) (if b then now_term p x else term.Variable (entry p x))
+      by_import true = now_sorted x
+      by_import false = terms.fold-Variable sort_step (entry p x)
+
+  module _ (entered : VarId → Term) (sorts : (x : VarId) → HasSortOf (sort_of_var p x) (entered x)) where
+    -- the term of a value on entry has the sort of the type that its name stands with
+    entered_sorted : (name : CoreName) (v : VarId) (object : Object) → name.entity ≡ Some (entity.Variable v object) → IsAsDeclared p name → HasSortOf (sort_of_class object.subtype.base.class) (named entered (variable_of name.entity))
+    entered_sorted name v object is declared =
+        ap (λ e. sort_of (named entered (variable_of e))) is ∙ sorts v ∙ ap (λ s. Some (sort_of_class s.base.class)) (type_is p v object (declared v object is))
+
     abbrev pub IsSorted : CoreExpr → Typing → Type 0
     IsSorted e t = AreDeclared p e → HasSortOf (sort_of_type t.of) (term_of p entered e)
 
@@ -313,6 +336,8 @@ module _ (p : Program) where
           (object_sorted name v object is (declared-Name name d));
       static = λ name subtype n typed d. sorted_as (Name name) (named (now_term p) (variable_of name.entity)) (type.Of subtype.base) (position_in subtype.base.class n) name.name.place (term_with-Name (now_term p) entered name) typed;
       named_number = λ name n typed d. sorted_as (Name name) (named (now_term p) (variable_of name.entity)) type.Universal n name.name.place (term_with-Name (now_term p) entered name) typed;
+      entry = λ name allowed v object is typed d.
+          ap sort_of (term_with-Entry (now_term p) entered name allowed) ∙ entered_sorted name v object is (declared-Entry name allowed d);
       attribute = λ prefix designator base n has typed d.
           sorted_as (Attribute prefix designator) (term.Number (pos 0)) (type.Of base) n prefix.name.place (term_with-Attribute (now_term p) entered prefix designator) typed;
       applied = λ function place a m o known maps taken operand typed h d.

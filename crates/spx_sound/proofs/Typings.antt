@@ -23,29 +23,29 @@ use Rattle.spx_core.specs.declared.entity.Class.TheVariants as class
 use Rattle.spx_core.specs.declared.name.CoreName.{CoreName}
 use Rattle.spx_core.specs.declared.name.Reference.{Reference}
 use Rattle.spx_core.specs.declared.expression.CoreExpr.{CoreExpr}
-use Rattle.spx_core.specs.declared.expression.CoreExpr.TheVariants.{Number, Name, Attribute, Applied, Parenthesized, Prefix, Infix, InType, InRange}
+use Rattle.spx_core.specs.declared.expression.CoreExpr.TheVariants.{Number, Name, Entry, Attribute, Applied, Parenthesized, Prefix, Infix, InType, InRange}
 use Rattle.spx_core.specs.declared.subprogram.Sub.{Sub}
 use Rattle.spx_core.specs.declared.statement.CoreChoice.{CoreChoice}
 use Rattle.spx_core.specs.declared.program.Program.{Program}
 use Rattle.spx_core.specs.declared.rule.ExprType.TheVariants.{Universal, Of}
 use Rattle.spx_core.specs.declared.rule.ExprType.{ExprType}
 use Rattle.spx_core.specs.declared.rule.RuleName.{RuleName}
-use Rattle.spx_core.specs.declared.rule.RuleName.TheVariants.{N10}
+use Rattle.spx_core.specs.declared.rule.RuleName.TheVariants.{N10, N18}
 use Rattle.spx_core.specs.declared.rule.Typing.{Typing}
 use Rattle.spx_core.specs.declared.function.CoreFunction.{CoreFunction}
 use Rattle.spx_core.specs.declared.function.Mapping.{Mapping}
 use Rattle.spx_core.specs.declared.function.OperandType.TheVariants.{ValueOf}
 use Rattle.spx_core.specs.declared.function.Shift.TheVariants as shift
-use Rattle.spx_core.specs.Judged.{Judged, ◌>>=◌, keeps, named_target, each, if_there, typing, attribute_of, is_attribute, named_type, named_value, value_at, ordered_type, member_of_range, member_of_type, operand_of, referred_target, referred_type, target_at, type_at, whole, condition, sign, operation, expr_step, judged, application, applied_form, attribute_function, bounds_in, conversion, function_at, has_attribute, is_function, is_word, mapped, qualification}
+use Rattle.spx_core.specs.Judged.{Judged, ◌>>=◌, keeps, named_object, named_target, object_at, each, if_there, typing, attribute_of, is_attribute, named_type, named_value, value_at, ordered_type, member_of_range, member_of_type, operand_of, referred_target, referred_type, target_at, type_at, whole, condition, sign, operation, expr_step, judged, application, applied_form, attribute_function, bounds_in, conversion, function_at, has_attribute, is_function, is_word, mapped, qualification}
 use Rattle.spx_core.specs.Extents.{extent}
 use Rattle.spx_core.specs.Commands.{Command, Set, Then, Choose, commands, Select, Alternatives, Last, When, choices_in, has_others_last, listed}
 use Rattle.spx_core.specs.Dependency.{relation}
 use Rattle.spx_core.specs.Resolved.{params_of}
-use Rattle.spx_core.specs.Statements.{judged_param, judged_item, judged_pre, judged_decl, judged_command, judged_name, judged_sub, test, Typed, are_given_once, has_right_choices, judged_alternatives, judged_choice, judged_choices, judged_heads, selected}
+use Rattle.spx_core.specs.Statements.{judged_param, judged_item, judged_predicate, judged_decl, judged_command, judged_name, judged_sub, test, Typed, are_given_once, has_right_choices, judged_alternatives, judged_choice, judged_choices, judged_heads, selected}
 use Rattle.spx_core.specs.Types.{both_held, has_numbers, is_held, is_of, is_boolean, left_type, lies_in, member_value, met, operand_fits, operands_fit, position_in, result_of, result_type, right_type, signed_result, three_fit, has_literals, has_truths, is_numeric, is_ordered, is_taken, lies_in_operand, lies_within, shifted_value, span_of}
 use Rattle.spx_core.specs.Uses.{variable_of}
 use Rattle.spx_core.proofs.Callers.Expressions as every
-use Rattle.spx_core.proofs.Callers.Expressions.{fold-Number, fold-Name, fold-Attribute, fold-Applied, fold-Parenthesized, fold-Prefix, fold-Infix, fold-InType, fold-InRange}
+use Rattle.spx_core.proofs.Callers.Expressions.{fold-Number, fold-Name, fold-Entry, fold-Attribute, fold-Applied, fold-Parenthesized, fold-Prefix, fold-Infix, fold-InType, fold-InRange}
 use Rattle.spx_sound.proofs.Classes.{literals_have_numbers, number_is_ordered, numeric_has_numbers, of_numbers}
 
 -- ---- judgements
@@ -138,6 +138,16 @@ denoted_by name t h = by_entity name.entity refl h
     by_entity (Some (entity.Literal subtype n)) is h = of_static subtype n h
     by_entity (Some (entity.TypeName subtype)) is h = absurd (cc)
     by_entity (Some (entity.Subprogram id)) is h = absurd (cc)
+
+-- what a value on entry is of
+object_denoted : (place : Place) (e : Option Entity) (object : Object) → object_at place e ≡ Ok object → (v : VarId) × (e ≡ Some (entity.Variable v object))
+object_denoted place None object h = absurd (cc)
+object_denoted place (Some (entity.Variable v other)) object h = let one : other ≡ object = cc in (v, ap (λ (o : Object). Some (entity.Variable v o)) one)
+object_denoted place (Some (entity.Constant subtype n)) object h = absurd (cc)
+object_denoted place (Some (entity.NamedNumber n)) object h = absurd (cc)
+object_denoted place (Some (entity.Literal subtype n)) object h = absurd (cc)
+object_denoted place (Some (entity.TypeName subtype)) object h = absurd (cc)
+object_denoted place (Some (entity.Subprogram id)) object h = absurd (cc)
 
 -- what a type mark denotes
 type_named : (place : Place) (e : Option Entity) (subtype : Subtype) → type_at place e ≡ Ok subtype → e ≡ Some (entity.TypeName subtype)
@@ -256,6 +266,8 @@ pub record Cases (P : CoreExpr → Typing → Type 0) : Type 0 where
       → P (Name name) (typing (Of object.subtype.base) None name.name.place)
   pub static : (name : CoreName) (subtype : Subtype) (n : ℤ) → judged (Name name) ≡ Ok (standing subtype n name.name.place) → P (Name name) (standing subtype n name.name.place)
   pub named_number : (name : CoreName) (n : ℤ) → judged (Name name) ≡ Ok (typing Universal (Some n) name.name.place) → P (Name name) (typing Universal (Some n) name.name.place)
+  pub entry : (name : CoreName) (allowed : Bool) (v : VarId) (object : Object) → name.entity ≡ Some (entity.Variable v object) → judged (Entry name allowed) ≡ Ok (typing (Of object.subtype.base) None name.name.place)
+      → P (Entry name allowed) (typing (Of object.subtype.base) None name.name.place)
   pub attribute : (prefix : CoreName) (designator : Identifier) (base : BaseType) (n : ℤ) → has_numbers base.class ≡ true → judged (Attribute prefix designator) ≡ Ok (typing (Of base) (Some n) prefix.name.place)
       → P (Attribute prefix designator) (typing (Of base) (Some n) prefix.name.place)
   pub applied : (function : CoreFunction) (place : Place) (a : CoreExpr) (m : Mapping) (o : Typing) → application function ≡ Ok m → Maps m → is_taken m.operand o.of ≡ true → judged a ≡ Ok o
@@ -284,10 +296,19 @@ module _ (P : CoreExpr → Typing → Type 0) (c : Cases P) where
       by_entity (of_static subtype n one) = typing_is (Name name) t (standing subtype n name.name.place) one (c.static name subtype n (h ∙ sym one))
       by_entity (of_number n one) = typing_is (Name name) t (typing Universal (Some n) name.name.place) one (c.named_number name n (h ∙ sym one))
 
+  entry_shown : (name : CoreName) (allowed : Bool) → Shown (Entry name allowed)
+  entry_shown name allowed t h =
+      let known = bound (named_object name) (λ o. keeps N18 name.name.place allowed >>= λ _. Ok (typing (Of o.subtype.base) None name.name.place)) t (sym (fold-Entry expr_step name allowed) ∙ h) in
+      let o = known.0 in
+      let may = kept N18 name.name.place allowed (λ _. Ok (typing (Of o.subtype.base) None name.name.place)) t known.2 in
+      let denoted = object_denoted name.name.place name.entity o known.1 in
+      typing_is (Entry name allowed) t (typing (Of o.subtype.base) None name.name.place) may.1 (c.entry name allowed denoted.0 o denoted.1 (h ∙ sym may.1))
+
   shown_cases : every.Cases Shown
   shown_cases = record {
     number = λ n place t h. typing_is (Number n place) t (typing Universal (Some n) place) (sym (fold-Number expr_step n place) ∙ h) (c.number n place);
     name = name_shown;
+    entry = entry_shown;
     attribute = λ prefix designator t h.
         let subtype = bound (named_type prefix) _ t (sym (fold-Attribute expr_step prefix designator) ∙ h) in
         let base = subtype.0.base in
@@ -425,18 +446,20 @@ select_typed place selector alternatives h =
       parts = parts;
     }
 
--- the precondition and the statements of a subprogram break no rule
+-- the precondition, the postcondition and the statements of a subprogram break no rule
 pub record TypedSub (sub : Sub) : Type 0 where
-  pub pre : if_there judged_pre sub.pre ≡ Ok tt
+  pub pre : if_there judged_predicate sub.pre ≡ Ok tt
+  pub post : if_there judged_predicate sub.post ≡ Ok tt
   pub statements : IsTyped (commands sub.statements)
 
 typed_sub : (sub : Sub) → judged_sub sub ≡ Ok tt → TypedSub sub
 typed_sub sub h =
     let params = bound (each judged_param (params_of sub.formal_part)) _ tt h in
     let items = bound (each judged_item (relation sub)) _ tt params.2 in
-    let pre = bound (if_there judged_pre sub.pre) _ tt items.2 in
-    let declarations = bound (each judged_decl sub.declarations) _ tt pre.2 in
-    record { pre = pre.1; statements = (bound (judged_command (commands sub.statements)) _ tt declarations.2).1 }
+    let pre = bound (if_there judged_predicate sub.pre) _ tt items.2 in
+    let post = bound (if_there judged_predicate sub.post) _ tt pre.2 in
+    let declarations = bound (each judged_decl sub.declarations) _ tt post.2 in
+    record { pre = pre.1; post = post.1; statements = (bound (judged_command (commands sub.statements)) _ tt declarations.2).1 }
 
 pub typed_subs : (p : Program) → Typed p → All TypedSub p.subs
 typed_subs p h =
