@@ -6,7 +6,7 @@ use Rattle.std.proofs.lemmas.List.Folds.{list_any-append}
 use Rattle.spx_core.specs.declared.entity.VarId.{VarId}
 use Rattle.spx_core.specs.declared.name.Reference.{Reference}
 use Rattle.spx_core.specs.declared.dependency.CoreDerivesItem.{CoreDerivesItem}
-use Rattle.spx_core.specs.Uses.{denotes, is_same, mentions, variable_of, variable_is}
+use Rattle.spx_core.specs.Uses.{denotes, is_same, mentions, variable_is, variable_of}
 use Rattle.spx_core.specs.Obeyed.{exports_once, is_among, is_export_of, names_once}
 use Rattle.spx_core.specs.Mirror.VarSets.{holds}
 use Rattle.spx_rules.specs.NamedOnce.{all_new, exports_in, is_in}

@@ -4,8 +4,7 @@ use Rattle.std.specs.List.{flat_map}
 use Rattle.spx_core.specs.declared.entity.VarId.{VarId}
 use Rattle.spx_core.specs.declared.name.Reference.{Reference}
 use Rattle.spx_core.specs.declared.dependency.CoreDerivesItem.{CoreDerivesItem}
-use Rattle.spx_core.specs.Uses.{denotes, variable_of, variable_is}
-
+use Rattle.spx_core.specs.Uses.{denotes, variable_is, variable_of}
 
 -- the name denotes a variable of the set
 abbrev pub is_in : (VarId → Bool) → Reference → Bool

@@ -1,11 +1,9 @@
 // U8, U2: the mode of a formal agrees with the relation, and no formal of mode `in` is assigned.
 ghost use Rattle.std.specs.Prelude.{◌≡◌};
 ghost use Rattle.spx_core.specs.Commands.{command, commands};
-ghost use Rattle.spx_core.specs.Dependency.{imports};
 ghost use Rattle.spx_core.specs.Formals.{mode_in};
 ghost use Rattle.spx_core.specs.Judged.{each};
 ghost use Rattle.spx_core.specs.Obeyed as rules;
-ghost use Rattle.spx_core.specs.Uses.{variable_of};
 ghost use Rattle.spx_types.specs.Arms.{FoundInArms};
 ghost use Rattle.spx_types.specs.Choices.{alternatives_in, done_in};
 
@@ -32,16 +30,6 @@ fn mode_named(name: &CoreName) -> Option<Mode>
     match name.entity {
         Some(Entity::Variable(_, object)) => mode_in(object.kind),
         _ => None,
-    }
-}
-
-/// Whether a precondition may read this name: it denotes no variable, or one that is imported.
-pub fn may_be_read(tables: &Tables, name: &CoreName) -> bool
-    ensures { result ≡ rules.variable_passes (λ v. imports v tables.now) (variable_of name.now.entity) }
-{
-    match variable_of(name.entity) {
-        Some(var) => tables.imports(var),
-        None => true,
     }
 }
 
@@ -205,5 +193,6 @@ fn obey_stmt(stmt: &CoreStmt) -> Result<(), Breach>
             obey_stmts(stmts.as_slice())
         }
         CoreStmt::Case(_, _, alternatives, _) => obey_alternatives(alternatives.as_slice()),
+        CoreStmt::Check(_, _) => Ok(()),
     }
 }

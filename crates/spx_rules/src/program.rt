@@ -1,48 +1,71 @@
-// The rules on subprograms and programs; U11: of the variables, a precondition names only imports.
+// The rules on subprograms and programs; U11: of the variables, a precondition names only imports, and a postcondition only
+// formals.
 ghost use Rattle.std.specs.Prelude.{◌≡◌, ◌↔◌, IsNone, IfOk};
 ghost use Rattle.spx_core.specs.Judged.{breach_in, each, if_there};
 ghost use Rattle.spx_core.specs.Obeyed as rules;
 ghost use Rattle.spx_core.specs.Reads.{names_read};
+ghost use Rattle.spx_core.specs.Uses.{variable_of};
+ghost use Rattle.spx_rules.specs.Allowed as named;
 
-use crate::modes::{may_be_read, obey_item, obey_stmts};
+use crate::modes::{obey_item, obey_stmts};
 use crate::relation::{is_right_relation, obey_relation};
-use crate::tables::Tables;
-use spx_core::{Breach, CoreDerivesItem, CoreExpr, Program, RuleName, Sub};
+use crate::tables::{Allowed, Tables};
+use spx_core::{
+    Breach, CoreDerivesItem, CoreExpr, CoreName, CorePredicate, Program, RuleName, Sub, variable_of,
+};
 use spx_types::keeps;
 use std::alloc::{AllocError, Global};
 
-/// Every variable that the expression reads has to be an import.
-#[cycle(read_imports)]
+/// Whether the name denotes no variable, or one that is allowed.
+fn may_be_read(tables: &Tables, allowed: Allowed, name: &CoreName) -> bool
+    ensures { result ≡ rules.variable_passes (named.is_allowed allowed tables.now) (variable_of name.now.entity) }
+{
+    match variable_of(name.entity) {
+        Some(var) => tables.allows(allowed, var),
+        None => true,
+    }
+}
+
+/// Every variable that the expression reads has to be one that is allowed.
+#[cycle(read_allowed)]
 #[tactic(auto, using(spx_core::proofs::Callers::ReadsLaws::each_forms))]
-fn read_imports(tables: &Tables, expr: &CoreExpr) -> Result<(), Breach>
-    ensures { result ≡ each (rules.reads_import tables.now) (names_read expr.now) }
+fn read_allowed(tables: &Tables, allowed: Allowed, expr: &CoreExpr) -> Result<(), Breach>
+    ensures { result ≡ each (named.reads_allowed allowed tables.now) (names_read expr.now) }
 {
     match expr {
         CoreExpr::Number(_, _) => Ok(()),
-        CoreExpr::Name(name) => keeps(RuleName::U11, name.name.place, may_be_read(tables, name)),
-        CoreExpr::Attribute(_, _) => Ok(()),
-        CoreExpr::Applied(_, _, operand) => read_imports(tables, operand.get()),
-        CoreExpr::Parenthesized(_, inner) => read_imports(tables, inner.get()),
-        CoreExpr::Prefix(_, _, operand) => read_imports(tables, operand.get()),
-        CoreExpr::Infix(_, _, left, right) => {
-            read_imports(tables, left.get())?;
-            read_imports(tables, right.get())
+        CoreExpr::Name(name) | CoreExpr::Entry(name, _) => {
+            let kept = may_be_read(tables, allowed, name);
+            keeps(RuleName::U11, name.name.place, kept)
         }
-        CoreExpr::InType(_, _, tested, _) => read_imports(tables, tested.get()),
+        CoreExpr::Attribute(_, _) => Ok(()),
+        CoreExpr::Applied(_, _, operand) => read_allowed(tables, allowed, operand.get()),
+        CoreExpr::Parenthesized(_, inner) => read_allowed(tables, allowed, inner.get()),
+        CoreExpr::Prefix(_, _, operand) => read_allowed(tables, allowed, operand.get()),
+        CoreExpr::Infix(_, _, left, right) => {
+            read_allowed(tables, allowed, left.get())?;
+            read_allowed(tables, allowed, right.get())
+        }
+        CoreExpr::InType(_, _, tested, _) => read_allowed(tables, allowed, tested.get()),
         CoreExpr::InRange(_, _, tested, low, high) => {
-            read_imports(tables, tested.get())?;
-            read_imports(tables, low.get())?;
-            read_imports(tables, high.get())
+            read_allowed(tables, allowed, tested.get())?;
+            read_allowed(tables, allowed, low.get())?;
+            read_allowed(tables, allowed, high.get())
         }
     }
 }
 
-fn obey_precondition(tables: &Tables) -> Result<(), Breach>
-    ensures { result ≡ if_there (rules.obeyed_pre tables.now) tables.now.pre }
+/// The first name in a precondition or a postcondition of a variable that is not allowed.
+fn obey_predicate(
+    tables: &Tables,
+    allowed: Allowed,
+    predicate: &Option<CorePredicate>,
+) -> Result<(), Breach>
+    ensures { result ≡ if_there (named.obeyed_predicate allowed tables.now) predicate.now }
 {
-    match &tables.sub().pre {
+    match predicate {
         None => Ok(()),
-        Some(pre) => read_imports(tables, &pre.condition),
+        Some(predicate) => read_allowed(tables, allowed, &predicate.condition),
     }
 }
 
@@ -63,7 +86,8 @@ fn obey_parts(tables: &Tables, right_relation: bool) -> Result<(), Breach>
     let sub = tables.sub();
     obey_relation(sub, right_relation)?;
     obey_items(tables, sub.relation())?;
-    obey_precondition(tables)?;
+    obey_predicate(tables, Allowed::Imports, &sub.pre)?;
+    obey_predicate(tables, Allowed::Formals, &sub.post)?;
     obey_stmts(sub.statements.as_slice())
 }
 

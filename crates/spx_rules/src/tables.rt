@@ -4,6 +4,7 @@ ghost use Rattle.spx_core.specs.declared.entity.VarId.{VarId};
 ghost use Rattle.spx_core.specs.Dependency.{exports, imports};
 ghost use Rattle.spx_core.specs.Formals.{is_formal, stands_in};
 ghost use Rattle.spx_core.specs.Mirror.VarSets.{holds};
+ghost use Rattle.spx_rules.specs.Allowed.{is_allowed};
 
 use spx_core::{Sub, VarId, VarSet};
 use std::alloc::{AllocError, Global};
@@ -32,6 +33,13 @@ impl<'a> Model for Tables<'a> {
     ghost view = { λ t. t.sub.now };
 
     ghost invariant = { λ t. AreSetsOf t.sub.now t.exports t.imports t.formals };
+}
+
+/// The variables that a precondition may name, or a postcondition.
+#[derive(Clone, Copy)]
+pub enum Allowed {
+    Imports,
+    Formals,
 }
 
 /// The set of these variables.
@@ -85,5 +93,15 @@ impl<'a> Tables<'a> {
         ensures { result ≡ is_formal var self.now }
     {
         self.formals.contains(var)
+    }
+
+    /// Whether the variable is one of those allowed.
+    pub fn allows(&self, allowed: Allowed, var: VarId) -> bool
+        ensures { result ≡ is_allowed allowed self.now var }
+    {
+        match allowed {
+            Allowed::Imports => self.imports(var),
+            Allowed::Formals => self.is_formal(var),
+        }
     }
 }

@@ -7,7 +7,7 @@ use crate::attributes::attribute;
 use crate::declaration::static_at;
 use crate::functions::{application, mapped};
 use crate::membership::{member_of_range, member_of_type, ordered_type};
-use crate::names::{keeps, named_value};
+use crate::names::{entry_value, keeps, named_value};
 use crate::types::{
     is_boolean, is_of, left_type, operand_fits, operands_fit, result_type, right_type,
 };
@@ -75,6 +75,7 @@ pub fn judge(expr: &CoreExpr) -> Result<Typing, Breach>
             place: *place,
         }),
         CoreExpr::Name(name) => named_value(name),
+        CoreExpr::Entry(name, allowed) => entry_value(name, *allowed),
         CoreExpr::Attribute(prefix, designator) => attribute(prefix, designator),
         CoreExpr::Applied(function, _, operand) => {
             let mapping = application(function)?;

@@ -12,7 +12,7 @@ use crate::values::{span_of, span_of_type};
 use spx_core::{CoreExpr, CoreFunction, Entity, ExprType, Span, Typing};
 use spx_tree::{FunctionForm, InfixOp, PrefixOp};
 
-/// Of a name the values of its subtype.
+/// Of a name the values of its subtype, for the present value and for that on entry.
 fn extent_named(of: ExprType, entity: Option<Entity>) -> Span
     ensures { result ≡ values.extent_named of entity }
 {
@@ -40,6 +40,7 @@ fn extent_in(of: ExprType, expr: &CoreExpr) -> Span
 {
     match expr {
         CoreExpr::Name(name) => extent_named(of, name.entity),
+        CoreExpr::Entry(name, _) => extent_named(of, name.entity),
         CoreExpr::Applied(function, _, _) => extent_applied(of, function),
         _ => span_of_type(of),
     }
@@ -139,6 +140,7 @@ pub fn extent(expr: &CoreExpr) -> Span
         }
         CoreExpr::Number(..)
         | CoreExpr::Name(_)
+        | CoreExpr::Entry(..)
         | CoreExpr::Attribute(..)
         | CoreExpr::InType(..)
         | CoreExpr::InRange(..) => own,

@@ -109,6 +109,20 @@ pub fn named_value(name: &CoreName) -> Result<Typing, Breach>
     }
 }
 
+/// The value that a variable has on entry, where it may be named so.
+pub fn entry_value(name: &CoreName, allowed: bool) -> Result<Typing, Breach>
+    ensures { result ≡ rules.entry_value name.now allowed }
+{
+    let place = name.name.place;
+    let object = named_object(name)?;
+    keeps(RuleName::N18, place, allowed)?;
+    Ok(Typing {
+        of: ExprType::Of(object.subtype.base),
+        value: None,
+        place,
+    })
+}
+
 fn is_whole(way: &[Step]) -> bool
     ensures { result ≡ rules.is_whole way.now }
 {

@@ -8,8 +8,8 @@ use crate::declaration::{declared_once, judge_decl, judge_param};
 use crate::names::keeps;
 use crate::statement::{judge_item, judge_predicate, judge_stmts};
 use spx_core::{
-    Breach, CoreDecl, CoreDerivesItem, CoreFormalPart, CoreParam, CorePredicate, Defining,
-    Program, RuleName, Sub,
+    Breach, CoreDecl, CoreDerivesItem, CoreFormalPart, CoreParam, CorePredicate, Defining, Program,
+    RuleName, Sub,
 };
 use spx_tree::Identifier;
 
@@ -40,12 +40,12 @@ fn judge_relation(items: &[CoreDerivesItem]) -> Result<(), Breach>
     Ok(())
 }
 
-fn judge_annotation(pre: &Option<CorePredicate>) -> Result<(), Breach>
-    ensures { result ≡ if_there rules.judged_predicate pre.now }
+fn judge_annotation(predicate: &Option<CorePredicate>) -> Result<(), Breach>
+    ensures { result ≡ if_there rules.judged_predicate predicate.now }
 {
-    match pre {
+    match predicate {
         None => Ok(()),
-        Some(pre) => judge_predicate(pre),
+        Some(predicate) => judge_predicate(predicate),
     }
 }
 
@@ -77,6 +77,7 @@ fn judge_sub(sub: &Sub) -> Result<(), Breach>
     judge_formals(&sub.formal_part)?;
     judge_relation(sub.relation())?;
     judge_annotation(&sub.pre)?;
+    judge_annotation(&sub.post)?;
     judge_decls(sub.declarations.as_slice())?;
     judge_stmts(sub.statements.as_slice())?;
     judge_end(&sub.name, &sub.end_name)

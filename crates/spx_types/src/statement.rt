@@ -11,8 +11,8 @@ use crate::choices::{judge_choices, judge_selector};
 use crate::expression::{condition, judge, operand_of};
 use crate::names::{referred_object, referred_target};
 use spx_core::{
-    Breach, CoreAlternative, CoreArm, CoreDerivesItem, CoreExpr, CorePredicate, CoreStmt,
-    ExprType, Reference,
+    Breach, CoreAlternative, CoreArm, CoreDerivesItem, CoreExpr, CorePredicate, CoreStmt, ExprType,
+    Reference,
 };
 
 fn judge_variable(reference: &Reference) -> Result<(), Breach>
@@ -46,11 +46,11 @@ fn test(expr: &CoreExpr) -> Result<(), Breach>
     condition(judge(expr)?)
 }
 
-/// The first broken rule in a precondition.
-pub fn judge_predicate(pre: &CorePredicate) -> Result<(), Breach>
-    ensures { result ≡ rules.judged_predicate pre.now }
+/// The first broken rule in a precondition or a postcondition.
+pub fn judge_predicate(predicate: &CorePredicate) -> Result<(), Breach>
+    ensures { result ≡ rules.judged_predicate predicate.now }
 {
-    test(&pre.condition)
+    test(&predicate.condition)
 }
 
 fn assignment(target: &Reference, value: &CoreExpr) -> Result<(), Breach>
@@ -127,5 +127,6 @@ fn judge_stmt(stmt: &CoreStmt) -> Result<(), Breach>
             let of = judge_selector(*place, selector, alternatives)?;
             judge_alternatives(of, alternatives)
         }
+        CoreStmt::Check(_, condition) => test(condition),
     }
 }

@@ -118,9 +118,13 @@ pub fn operands_fit(op: InfixOp, left: ExprType, right: ExprType) -> bool
         InfixOp::Equal | InfixOp::NotEqual => meet(left, right),
         InfixOp::Less | InfixOp::LessOrEqual | InfixOp::Greater | InfixOp::GreaterOrEqual =>
             is_ordered(left) && meet(left, right),
-        InfixOp::And | InfixOp::Or | InfixOp::Xor | InfixOp::AndThen | InfixOp::OrElse => {
-            is_boolean(left) && is_boolean(right)
-        }
+        InfixOp::And
+        | InfixOp::Or
+        | InfixOp::Xor
+        | InfixOp::AndThen
+        | InfixOp::OrElse
+        | InfixOp::Implies
+        | InfixOp::Equivalent => is_boolean(left) && is_boolean(right),
         _ => is_number(left) && meet(left, right),
     }
 }

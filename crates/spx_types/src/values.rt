@@ -127,6 +127,8 @@ fn operated(op: InfixOp, m: i128, n: i128) -> Option<i128>
         InfixOp::Xor => position(m != n),
         InfixOp::AndThen => position(is_true(m) && is_true(n)),
         InfixOp::OrElse => position(is_true(m) || is_true(n)),
+        InfixOp::Implies => position(!is_true(m) || is_true(n)),
+        InfixOp::Equivalent => position(m == n),
     }
 }
 
