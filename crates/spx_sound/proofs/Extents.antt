@@ -1,5 +1,5 @@
 -- The value of an expression lies in its extent.
-use Rattle.std.proofs.Common.{◌≡◌, ℕ, ℤ, pos, ◌+ℤ◌, ◌-ℤ◌, ◌≤ℤ◌, Bool, true, false, not, ◌&&◌, if◌then◌else◌, List, Option, Some, None, option_map, Ok, Err, refl, sym, ap, ap₂, ◌∙◌, subst, arith, int_le}
+use Rattle.std.proofs.Common.{◌≡◌, ℕ, ℤ, pos, ◌+ℤ◌, ◌-ℤ◌, ◌≤ℤ◌, Bool, true, false, ◌&&◌, if◌then◌else◌, List, Option, Some, None, option_map, Ok, Err, refl, sym, ap, ap₂, ◌∙◌, subst, arith, int_le}
 use Rattle.std.specs.Prelude.{codes}
 use Rattle.std.proofs.lemmas.Bool.{and_from, and_parts, cond_both}
 use Rattle.std.proofs.lemmas.Int.{ints}
@@ -22,7 +22,7 @@ use Rattle.spx_core.specs.declared.entity.Subtype.{Subtype}
 use Rattle.spx_core.specs.declared.entity.VarId.{VarId}
 use Rattle.spx_core.specs.declared.name.CoreName.{CoreName}
 use Rattle.spx_core.specs.declared.expression.CoreExpr.{CoreExpr, CoreExpr-F, out-CoreExpr}
-use Rattle.spx_core.specs.declared.expression.CoreExpr.TheVariants.{Number, Name, Entry, Attribute, Applied, Parenthesized, Prefix, Infix, outs-Name, outs-Applied, outs-Prefix, outs-Infix}
+use Rattle.spx_core.specs.declared.expression.CoreExpr.TheVariants.{Number, Name, Entry, Attribute, Applied, Parenthesized, Prefix, Infix, outs-Name, outs-Entry, outs-Applied, outs-Prefix, outs-Infix}
 use Rattle.spx_core.specs.declared.function.CoreFunction.{CoreFunction}
 use Rattle.spx_core.specs.declared.function.Mapping.{Mapping}
 use Rattle.spx_core.specs.declared.function.Shift.TheVariants as shift
@@ -30,31 +30,30 @@ use Rattle.spx_core.specs.declared.function.Span.{Span}
 use Rattle.spx_core.specs.declared.program.Program.{Program}
 use Rattle.spx_core.specs.declared.rule.ExprType.{ExprType}
 use Rattle.spx_core.specs.declared.rule.ExprType.TheVariants.{Universal, Of}
-use Rattle.spx_core.specs.declared.rule.RuleName.TheVariants.{N3, N10, N18}
+use Rattle.spx_core.specs.declared.rule.RuleName.TheVariants.{N3, N10}
 use Rattle.spx_core.specs.declared.rule.Typing.{Typing}
-use Rattle.spx_core.specs.Extents.{extent, extent-Number, extent-Name, extent-Attribute, extent-Applied, extent-Parenthesized, extent-Prefix, extent-Infix, extent_applied, extent_in, extent_named, hull, only, operand_extent, own_extent, type_judged, unless_bounded, with_operand, with_operands, with_signed, with_static}
-use Rattle.spx_core.specs.Judged.{Judged, ◌>>=◌, application, applied_form, attribute_function, bounds_in, conversion, expr_step, function_at, has_attribute, is_word, judged, keeps, named_object, named_type, qualification, typing}
+use Rattle.spx_core.specs.Extents.{extent, extent-Number, extent-Name, extent-Entry, extent-Attribute, extent-Applied, extent-Parenthesized, extent-Prefix, extent-Infix, extent_applied, extent_in, extent_named, hull, only, operand_extent, own_extent, type_judged, unless_bounded, with_operand, with_operands, with_signed, with_static}
+use Rattle.spx_core.specs.Judged.{Judged, ◌>>=◌, application, applied_form, attribute_function, bounds_in, conversion, expr_step, function_at, has_attribute, is_word, judged, keeps, named_type, qualification, typing}
 use Rattle.spx_core.specs.Places.{place_of}
 use Rattle.spx_core.specs.Resolved.{static_value, value_in}
 use Rattle.spx_core.specs.Scopes.{object_declared}
 use Rattle.spx_core.specs.Types.{has_numbers, has_truths, is_between, is_boolean, is_number, is_numeric, is_of, is_ordered, is_taken, is_true, left_type, meet, operand_fits, operands_fit, result_type, signed_result, span_of, span_of_type}
 use Rattle.spx_core.specs.Uses.{variable_of}
-use Rattle.spx_core.proofs.Callers.Expressions.{fold-Number, fold-Entry, fold-Applied, fold-Parenthesized, fold-Prefix, fold-Infix}
+use Rattle.spx_core.proofs.Callers.Expressions.{fold-Number, fold-Parenthesized}
 use Rattle.spx_term.specs.Intervals.{lesser, greater}
 use Rattle.spx_term.specs.Meaning.{as_number, value_of_op}
 use Rattle.spx_term.specs.declared.value.Value.{Value}
 use Rattle.spx_term.specs.declared.value.Value.TheVariants as value
 use Rattle.spx_term.proofs.NumberBounds.{Between, in_modulus, rest_between}
 use Rattle.spx_meaning.specs.declared.bad.BadKind.{BadKind}
-use Rattle.spx_meaning.specs.Evaluation.{Answer, Gives, Fails, Waits, applied, checked, decided, eval, eval-Number, eval-Name, eval-Attribute, eval-Applied, eval-Parenthesized, eval-Prefix, eval-Infix, in_base, mapping_checked, moved, read, read_at, signed, static_or, with_value, within_bounds}
+use Rattle.spx_meaning.specs.Evaluation.{Answer, Gives, Fails, Waits, applied, checked, decided, eval, eval-Number, eval-Name, eval-Entry, eval-Attribute, eval-Applied, eval-Parenthesized, eval-Prefix, eval-Infix, in_base, mapping_checked, moved, read, read_at, signed, static_or, with_value, within_bounds}
 use Rattle.spx_meaning.specs.Frames.{Frame}
 use Rattle.spx_meaning.specs.Literals.{base_in, base_judged, base_of, literal, literal_in, value_of}
 use Rattle.spx_meaning.specs.Stores.{Store, look, is_in, is_within, type_of}
 use Rattle.spx_meaning.proofs.Callers.Runs.{same_gift}
 use Rattle.spx_meaning.proofs.Callers.Types.{type_is}
 use Rattle.spx_sound.proofs.Classes.{number_is_ordered, of_numbers}
-use Rattle.spx_sound.proofs.CodeNames.{IsCode, entry_step, names_no_entry}
-use Rattle.spx_sound.proofs.SortedTerms.{AreDeclared, declared-Name, declared-Applied, declared-Parenthesized, declared-Prefix, declared-Infix}
+use Rattle.spx_sound.proofs.SortedTerms.{AreDeclared, declared-Name, declared-Entry, declared-Applied, declared-Parenthesized, declared-Prefix, declared-Infix}
 use Rattle.spx_sound.proofs.Typings.{Cases, Maps, maps_numbers, keeps_truths, joined, result_typing, typed_induct}
 
 -- each variable that is declared with a type and set has a value of it
@@ -395,7 +394,7 @@ operand_ordered m of (keeps_truths truths is same none) taken ordered = absurd (
 
 module _ (f : Frame) (n : ℕ) (s : Store) (in_types : AreInTypes f.program s) where
   abbrev LiesIn : CoreExpr → Typing → Type 0
-  LiesIn e t = AreDeclared f.program e → IsCode e → is_ordered t.of ≡ true → (x : Value) → eval f n s e ≡ Gives x → IsNumberIn (extent e) x
+  LiesIn e t = AreDeclared f.program e → is_ordered t.of ≡ true → (x : Value) → eval f n s e ≡ Gives x → IsNumberIn (extent e) x
 
   name_lies : (name : CoreName) (v : VarId) (object : Object) → name.entity ≡ Some (entity.Variable v object) → object_declared f.program v ≡ Some object → has_numbers object.subtype.base.class ≡ true → (x : Value)
       → read s name.name.place (variable_of name.entity) ≡ Gives x → IsNumberIn (span_of object.subtype) x
@@ -438,18 +437,6 @@ module _ (f : Frame) (n : ℕ) (s : Store) (in_types : AreInTypes f.program s) w
       by_value (Some k) is = subst (λ (o : Option ℤ). IsNumberIn (operand_extent o (extent e)) x) (sym (ap value_in typed ∙ is)) (k, static_number e t typed ordered x h k is, itself_between k)
       by_value None is = subst (λ (o : Option ℤ). IsNumberIn (operand_extent o (extent e)) x) (sym (ap value_in typed ∙ is)) inside
 
-  -- a value on entry that may not be named breaks a rule
-  not_judged : (name : CoreName) (allowed : Bool) (t : Typing) → IsCode (Entry name allowed) → judged (Entry name allowed) ≡ Ok t → ⊥
-  not_judged name allowed t code typed = by_test allowed (sym (fold-Entry entry_step name allowed) ∙ code) (sym (fold-Entry expr_step name allowed) ∙ typed)
-    where
-      by_object : (j : Judged Object) → (j >>= λ o. keeps N18 name.name.place false >>= λ _. Ok (typing (Of o.subtype.base) None name.name.place)) ≡ Ok t → ⊥
-      by_object (Ok o) h = cc
-      by_object (Err breach) h = cc
-
-      by_test : (b : Bool) → not b ≡ true → (named_object name >>= λ o. keeps N18 name.name.place b >>= λ _. Ok (typing (Of o.subtype.base) None name.name.place)) ≡ Ok t → ⊥
-      by_test true code h = cc
-      by_test false code h = by_object (named_object name) h
-
   -- what is shown of a part of an expression
   abbrev Holds : CoreExpr → Typing → Type 0
   Holds e t = (judged e ≡ Ok t) × LiesIn e t
@@ -458,13 +445,13 @@ module _ (f : Frame) (n : ℕ) (s : Store) (in_types : AreInTypes f.program s) w
   lies_cases = record {
     number = λ m place. (
       fold-Number expr_step m place,
-      λ d code ordered x h.
+      λ d ordered x h.
           let inside = own_static (Number m place) (typing Universal (Some m) place) (fold-Number expr_step m place) m refl in
           subst (λ (span : Span). IsNumberIn span x) (sym (extent-Number m place)) (m, sym (same_gift (value.Number m) x (sym (eval-Number f n s m place) ∙ h)), inside),
     );
     object = λ name v object is typed. (
       typed,
-      λ d code ordered x h.
+      λ d ordered x h.
           let e = Name name in
           let t = typing (Of object.subtype.base) None name.name.place in
           let part = subst (λ (o : Option Entity). IsPartOf (extent_named t.of o) (own_extent e)) is (own_asked e t typed (CoreExpr-F.Name name) (outs-Name name)) in
@@ -472,26 +459,35 @@ module _ (f : Frame) (n : ℕ) (s : Store) (in_types : AreInTypes f.program s) w
           (lies_or e t typed ordered (own_extent e) (λ k inside. inside) (read s name.name.place (variable_of name.entity)) x
           (λ h. wider (span_of object.subtype) (own_extent e) part x (name_lies name v object is (declared-Name f.program name d v object is) ordered x h)) (sym (eval-Name f n s name) ∙ h)),
     );
-    entry = λ name allowed v object is typed. (typed, λ d code ordered x h. absurd (not_judged name allowed _ code typed));
+    entry = λ name allowed v object is typed. (
+      typed,
+      λ d ordered x h.
+          let e = Entry name allowed in
+          let t = typing (Of object.subtype.base) None name.name.place in
+          let part = subst (λ (o : Option Entity). IsPartOf (extent_named t.of o) (own_extent e)) is (own_asked e t typed (CoreExpr-F.Entry name allowed) (outs-Entry name allowed)) in
+          subst (λ (span : Span). IsNumberIn span x) (sym (extent-Entry name allowed))
+          (wider (span_of object.subtype) (own_extent e) part x
+          (name_lies name v object is (declared-Entry f.program name allowed d v object is) ordered x (sym (eval-Entry f n s name allowed) ∙ h))),
+    );
     static = λ name subtype m typed. (
       typed,
-      λ d code ordered x h.
+      λ d ordered x h.
           subst (λ (span : Span). IsNumberIn span x) (sym (extent-Name name)) (static_lies (Name name) _ typed ordered _ refl (read s name.name.place (variable_of name.entity)) x (sym (eval-Name f n s name) ∙ h)),
     );
     named_number = λ name m typed. (
       typed,
-      λ d code ordered x h.
+      λ d ordered x h.
           subst (λ (span : Span). IsNumberIn span x) (sym (extent-Name name)) (static_lies (Name name) _ typed ordered _ refl (read s name.name.place (variable_of name.entity)) x (sym (eval-Name f n s name) ∙ h)),
     );
     attribute = λ prefix designator base m has typed. (
       typed,
-      λ d code ordered x h.
+      λ d ordered x h.
           subst (λ (span : Span). IsNumberIn span x) (sym (extent-Attribute prefix designator))
           (static_lies (Attribute prefix designator) _ typed ordered _ refl (Gives (value.Number (pos 0))) x (sym (eval-Attribute f n s prefix designator) ∙ h)),
     );
     applied = λ function place a m o known maps taken operand typed p. (
       typed,
-      λ d code ordered x h.
+      λ d ordered x h.
           let e = Applied function place a in
           let t = result_typing function m o in
           let own = own_extent e in
@@ -504,18 +500,18 @@ module _ (f : Frame) (n : ℕ) (s : Store) (in_types : AreInTypes f.program s) w
           let given = given_value (eval f n s a) go x h in
           let y = given.0 in
           mapped_lies m (extent_applied t.of function.form (named_type function.name)) own (extent a) (application_bounds function m known) asked (place_of a) y x
-          (p.1 (declared-Applied f.program function place a d) (sym (fold-Applied entry_step function place a) ∙ code) (operand_ordered m o.of maps taken ordered) y given.1) (subst (λ (j : Judged Mapping). mapping_checked j (place_of a) y ≡ Gives x) known given.2))
+          (p.1 (declared-Applied f.program function place a d) (operand_ordered m o.of maps taken ordered) y given.1) (subst (λ (j : Judged Mapping). mapping_checked j (place_of a) y ≡ Gives x) known given.2))
           (sym (eval-Applied f n s function place a) ∙ h)),
     );
     parenthesized = λ place a o p. (
       fold-Parenthesized expr_step place a ∙ ap (λ (j : Judged Typing). j >>= λ o. Ok (typing o.of o.value place)) p.0,
-      λ d code ordered x h.
+      λ d ordered x h.
           subst (λ (span : Span). IsNumberIn span x) (sym (extent-Parenthesized place a))
-          (wider (extent a) _ (hull_second (own_extent (Parenthesized place a)) (extent a)) x (p.1 (declared-Parenthesized f.program place a d) (sym (fold-Parenthesized entry_step place a) ∙ code) ordered x (sym (eval-Parenthesized f n s place a) ∙ h))),
+          (wider (extent a) _ (hull_second (own_extent (Parenthesized place a)) (extent a)) x (p.1 (declared-Parenthesized f.program place a d) ordered x (sym (eval-Parenthesized f n s place a) ∙ h))),
     );
     prefix = λ o place a t fits typed p. (
       typed,
-      λ d code ordered x h.
+      λ d ordered x h.
           let e = Prefix o place a in
           let u = typing t.of (signed_result o t.value) place in
           let whole = with_signed o (own_extent e) (extent a) in
@@ -524,15 +520,14 @@ module _ (f : Frame) (n : ℕ) (s : Store) (in_types : AreInTypes f.program s) w
           (lies_or e u typed ordered whole (signed_part o (own_extent e) (extent a)) (with_value (eval f n s a) go) x
           (λ h.
           let operand = given_value (eval f n s a) go x h in
-          signed_lies o place a u fits typed ordered operand.0 x (p.1 (declared-Prefix f.program o place a d) (sym (fold-Prefix entry_step o place a) ∙ code) ordered operand.0 operand.1) operand.2) (sym (eval-Prefix f n s o place a) ∙ h)),
+          signed_lies o place a u fits typed ordered operand.0 x (p.1 (declared-Prefix f.program o place a d) ordered operand.0 operand.1) operand.2) (sym (eval-Prefix f n s o place a) ∙ h)),
     );
     «infix» = λ o place a b l r fits typed p q. (
       typed,
-      λ d code ordered x h.
+      λ d ordered x h.
           let e = Infix o place a b in
           let t = joined o place l r in
           let declared = declared-Infix f.program o place a b d in
-          let codes = and_parts (names_no_entry a) (names_no_entry b) (sym (fold-Infix entry_step o place a b) ∙ code) in
           let orders = operands_ordered o l.of r.of r.value fits ordered in
           let first = operand_extent (static_value a) (extent a) in
           let other = operand_extent (static_value b) (extent b) in
@@ -545,11 +540,11 @@ module _ (f : Frame) (n : ℕ) (s : Store) (in_types : AreInTypes f.program s) w
           let y = left.0 in
           let right = given_value (eval f n s b) (λ z. checked o (base_of e) place (place_of b) y z) x (ap (λ (w : Option Value). static_or w (second y)) (sym (orders.undecided y)) ∙ left.2) in
           operated_lies o place a b l r first other typed ordered y right.0 x
-          (operand_lies a l p.0 orders.left y left.1 (p.1 declared.0 codes.0 orders.left y left.1))
-          (operand_lies b r q.0 orders.right right.0 right.1 (q.1 declared.1 codes.1 orders.right right.0 right.1)) right.2) (sym (eval-Infix f n s o place a b) ∙ h)),
+          (operand_lies a l p.0 orders.left y left.1 (p.1 declared.0 orders.left y left.1))
+          (operand_lies b r q.0 orders.right right.0 right.1 (q.1 declared.1 orders.right right.0 right.1)) right.2) (sym (eval-Infix f n s o place a b) ∙ h)),
     );
-    in_type = λ o place a name t subtype named has fit typed p. (typed, λ d code ordered x h. absurd (cc));
-    in_range = λ o place a low high t l g fit typed p q r. (typed, λ d code ordered x h. absurd (cc));
+    in_type = λ o place a name t subtype named has fit typed p. (typed, λ d ordered x h. absurd (cc));
+    in_range = λ o place a low high t l g fit typed p q r. (typed, λ d ordered x h. absurd (cc));
   }
 
   -- the value of an expression whose type has an order is a number in its extent

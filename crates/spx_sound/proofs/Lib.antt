@@ -1,5 +1,4 @@
 pub mod Classes
-pub mod CodeNames
 pub mod Typings
 pub mod NeverBadTrees
 pub mod SortedTerms

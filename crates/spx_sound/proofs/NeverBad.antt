@@ -59,7 +59,6 @@ use Rattle.spx_sound.proofs.NeverBadTrees.{AllHold, changed, Safe, each_flat_map
 use Rattle.spx_sound.proofs.NeverBadRuns.{Never, Good, good_then, good_demand, joined}
 use Rattle.spx_sound.proofs.NeverBadExpressions.{type_facts, AgreesWith, static_term_value}
 use Rattle.spx_sound.proofs.NeverBadAnnotations.{parts_where_true}
-use Rattle.spx_sound.proofs.CodeNames.{BodyHasCode, bodies_have_code}
 use Rattle.spx_sound.proofs.Extents.{AreInTypes}
 use Rattle.spx_sound.proofs.NeverBadBodies.{same_name-Decides, Fits, Reaches, Spares, asserted_good, stays, walk_good}
 use Rattle.spx_sound.proofs.NeverUnset.{IsClear, Passes, never_unset, reaches_reads}
@@ -199,7 +198,7 @@ cleared_other p s (v ∷ vars) w none =
 
 -- ---- a call
 
-module _ (p : Program) (sub : Sub) (scoped : Scoped p sub) (initial : StartsInType p sub) (obeys : ObeysRules p sub) (code : BodyHasCode sub) where
+module _ (p : Program) (sub : Sub) (scoped : Scoped p sub) (initial : StartsInType p sub) (obeys : ObeysRules p sub) where
   -- what is imported is set on entry
   import_starts_set : (x : VarId) → imports x sub ≡ true → starts_new p x ≡ false
   import_starts_set x import =
@@ -385,7 +384,7 @@ module _ (p : Program) (sub : Sub) (scoped : Scoped p sub) (initial : StartsInTy
     body_good : HasNoFinding p sub → TypedSub sub → HasValidConditions p sub → (n : ℕ) → Good Never (body_run n) IsDone (λ t. ⊤)
     body_good flows typed valid n =
         joined (body_run n) (Reaches frame (ending p sub)) (Passes (body_effect sub) first) (Reaches frame (ending p sub)) (λ t. ⊤)
-        (walk_good frame n (commands sub.statements) (ending p sub) (ending p sub) 0 first first_valuation typed.statements scoped.body_names import_is_spared code first_fits (body_safe valid))
+        (walk_good frame n (commands sub.statements) (ending p sub) (ending p sub) 0 first first_valuation typed.statements scoped.body_names import_is_spared first_fits (body_safe valid))
         (never_unset frame n first (commands sub.statements) (first_clear flows))
 
     pre_good : (pre : Option CorePredicate) → pre_holds frame pre first ≡ true → demand_pre frame pre first ≡ Ended first
@@ -416,4 +415,4 @@ module _ (p : Program) (sub : Sub) (scoped : Scoped p sub) (initial : StartsInTy
 
 pub never_bad : (p : Program) → All (Scoped p) p.subs → All (StartsInType p) p.subs → All (ObeysRules p) p.subs → Fit p → NeverBad p
 never_bad p scoped initial obeys fit k d within =
-    is_never_bad p (get_or p.subs k d) (scoped k d within) (initial k d within) (obeys k d within) (bodies_have_code p fit.visible k d within) (fit.flows k d within) (typed_subs p fit.typed k d within) (fit.conditions k d within)
+    is_never_bad p (get_or p.subs k d) (scoped k d within) (initial k d within) (obeys k d within) (fit.flows k d within) (typed_subs p fit.typed k d within) (fit.conditions k d within)

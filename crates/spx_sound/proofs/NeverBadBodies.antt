@@ -56,7 +56,6 @@ use Rattle.spx_sound.proofs.NeverBadTrees.{AllHold, assumed, changed, Safe}
 use Rattle.spx_sound.proofs.NeverBadRuns.{IsUnset, Good, good_then, good_use, good_if, good_given}
 use Rattle.spx_sound.proofs.NeverBadExpressions.{false_holds, truth_from, past_check, within_range, AgreesWith, eval_good}
 use Rattle.spx_sound.proofs.NeverBadAnnotations.{true_where_parts}
-use Rattle.spx_sound.proofs.CodeNames.{AllHaveCode, HasCode}
 use Rattle.spx_sound.proofs.Extents.{AreInTypes, lies_in_extent}
 use Rattle.spx_sound.proofs.Selections.{AllFail, HaveValue, each_has_one, facts_hold, and_these_fail, last_has, one_of_rest}
 
@@ -194,7 +193,7 @@ module _ (f : Frame) (n : ℕ) where
   -- where a command goes on, and where it leaves the loop around it, the steps there are safe
   abbrev GoesOn : Command → Type 0
   GoesOn c =
-      (rest leave : ℕ → Tree) (made : ℕ) (s : Store) (v : Valuation) → IsTyped c → AreAsDeclared f.program c → Spares f.sub (effect c) → HasCode c → Fits f s v → Safe (walk f.program f.sub c rest leave made) v
+      (rest leave : ℕ → Tree) (made : ℕ) (s : Store) (v : Valuation) → IsTyped c → AreAsDeclared f.program c → Spares f.sub (effect c) → Fits f s v → Safe (walk f.program f.sub c rest leave made) v
       → Good IsUnset (run f n s c) (Reaches f rest) (Reaches f leave)
 
   -- where the target is no variable, nothing is done
@@ -219,7 +218,7 @@ module _ (f : Frame) (n : ℕ) where
       false_from_ne_true (stays f.sub x) (λ h. both_ways (x.0 == x.0) (ap (λ o. is_same x o) (sym is) ∙ spares x h) (eq-eqb x.0 x.0 refl))
 
   set_good : (target : Reference) (e : CoreExpr) → GoesOn (Set target e)
-  set_good target e rest leave made s v typed declared spares code fits safe =
+  set_good target e rest leave made s v typed declared spares fits safe =
       let t = the_term e in
       let o = variable_of target.root.entity in
       let after = assigned f.program (place_of e) o t (rest made) in
@@ -230,7 +229,7 @@ module _ (f : Frame) (n : ℕ) where
       (assign_good (place_of e) o t rest leave made s v fits (target_free target e spares) (λ x is. value_sorted v fits.respects t (sort_of_var f.program x) (right x is)))
 
   choose_good : (place : Place) (e : CoreExpr) (a b : Command) → GoesOn a → GoesOn b → GoesOn (Choose place e a b)
-  choose_good place e a b first second rest leave made s v typed declared spares code fits safe =
+  choose_good place e a b first second rest leave made s v typed declared spares fits safe =
       let t = the_term e in
       let w = value_of v t in
       let then_tree = walk f.program f.sub a rest leave made in
@@ -241,35 +240,35 @@ module _ (f : Frame) (n : ℕ) where
       (eval_good f n s v fits.agrees fits.respects e of.0 of.1 (recursion_from_All (IsAsDeclared f.program) (names_read e) declared.0) [] tt arms safe)
       (λ more.
       good_if IsUnset (as_truth w) (run f n s a) (run f n s b) (Reaches f rest) (Reaches f leave)
-      (λ is. first rest leave made s v parts.1 declared.1.0 (λ x h. (or_parts (sets x (effect a)) (sets x (effect b)) (spares x h)).0) code.0 fits (assumed (conjuncts t) then_tree v (parts_hold v t (truth_from w is)) more.0))
-      (λ is. second rest leave made s v parts.2 declared.1.1 (λ x h. (or_parts (sets x (effect a)) (sets x (effect b)) (spares x h)).1) code.1 fits (more.1 (fold-Prefix (value_step v) Not t ∙ false_holds w is))))
+      (λ is. first rest leave made s v parts.1 declared.1.0 (λ x h. (or_parts (sets x (effect a)) (sets x (effect b)) (spares x h)).0) fits (assumed (conjuncts t) then_tree v (parts_hold v t (truth_from w is)) more.0))
+      (λ is. second rest leave made s v parts.2 declared.1.1 (λ x h. (or_parts (sets x (effect a)) (sets x (effect b)) (spares x h)).1) fits (more.1 (fold-Prefix (value_step v) Not t ∙ false_holds w is))))
 
   -- so do alternatives for a number, after choices that have it not
   abbrev GoOn : Alternatives → Type 0
   GoOn alternatives =
       (tests : List Read) (place : Place) (t : Term) (earlier : List Term) (of : ExprType) (k : ℤ) (rest leave : ℕ → Tree) (made : ℕ) (s : Store) (v : Valuation) → AreTyped of alternatives → has_others_last alternatives ≡ true → AllAreAsDeclared f.program alternatives
-      → Spares f.sub (effect_among tests place alternatives) → AllHaveCode alternatives → Fits f s v → (is : value_of v t ≡ value.Number k) → AllFail v t k is earlier → HaveValue alternatives k → Safe (walk_for f.program f.sub t earlier alternatives rest leave made) v
+      → Spares f.sub (effect_among tests place alternatives) → Fits f s v → (is : value_of v t ≡ value.Number k) → AllFail v t k is earlier → HaveValue alternatives k → Safe (walk_for f.program f.sub t earlier alternatives rest leave made) v
       → Good IsUnset (run_for (value.Number k) f n s alternatives) (Reaches f rest) (Reaches f leave)
 
   last_good : (choices : Option (List CoreChoice)) (a : Command) → GoesOn a → GoOn (Last choices a)
-  last_good choices a go tests place t earlier of k rest leave made s v typed others declared spares code fits is fail have safe =
-      go rest leave made s v (last_typed of choices a typed).1 declared (λ x h. (or_parts (sets x (effect a)) (sets x (effect a)) (spares x h)).0) code fits
+  last_good choices a go tests place t earlier of k rest leave made s v typed others declared spares fits is fail have safe =
+      go rest leave made s v (last_typed of choices a typed).1 declared (λ x h. (or_parts (sets x (effect a)) (sets x (effect a)) (spares x h)).0) fits
       (assumed (alternative_facts t earlier choices) (walk f.program f.sub a rest leave made) v (facts_hold v t k is earlier choices fail (last_has choices a k have)) safe)
 
   when_good : (choices : Option (List CoreChoice)) (a : Command) (more : Alternatives) → GoesOn a → GoOn more → GoOn (When choices a more)
-  when_good choices a more go further tests place t earlier of k rest leave made s v typed others declared spares code fits is fail have safe =
+  when_good choices a more go further tests place t earlier of k rest leave made s v typed others declared spares fits is fail have safe =
       let apart : (x : VarId) → stays f.sub x ≡ true → (sets x (effect a) ≡ false) × (sets x (effect_among tests place more) ≡ false) = λ x h. or_parts (sets x (effect a)) (sets x (effect_among tests place more)) (spares x h) in
       let parts = when_typed of choices a more typed in
       let some = and_parts (is_some choices) (has_others_last more) others in
       good_if IsUnset (has_value choices (value.Number k)) (run f n s a) (run_for (value.Number k) f n s more) (Reaches f rest) (Reaches f leave)
       (λ has.
-      go rest leave made s v parts.1 declared.0 (λ x h. (apart x h).0) code.0 fits
+      go rest leave made s v parts.1 declared.0 (λ x h. (apart x h).0) fits
       (assumed (alternative_facts t earlier choices) (walk f.program f.sub a rest leave made) v (facts_hold v t k is earlier choices fail has) safe.0))
       (λ fails.
-      further tests place t (and_these t earlier choices) of k rest leave made s v parts.2 some.1 declared.1 (λ x h. (apart x h).1) code.1 fits is (and_these_fail v t k is earlier choices fail fails) (one_of_rest choices a more k some.0 fails have) safe.1)
+      further tests place t (and_these t earlier choices) of k rest leave made s v parts.2 some.1 declared.1 (λ x h. (apart x h).1) fits is (and_these_fail v t k is earlier choices fail fails) (one_of_rest choices a more k some.0 fails have) safe.1)
 
   select_good : (place : Place) (selector : CoreExpr) (alternatives : Alternatives) → GoOn alternatives → GoesOn (Select place selector alternatives)
-  select_good place selector alternatives go rest leave made s v typed declared spares code fits safe =
+  select_good place selector alternatives go rest leave made s v typed declared spares fits safe =
       let t = the_term selector in
       let whole = select_typed place selector alternatives typed in
       let names = recursion_from_All (IsAsDeclared f.program) (names_read selector) declared.0 in
@@ -277,9 +276,9 @@ module _ (f : Frame) (n : ℕ) where
       good_given IsUnset (eval f n s selector) (λ x. run_for x f n s alternatives) (value_of v t) (Safe tree v) (Reaches f rest) (Reaches f leave)
       (eval_good f n s v fits.agrees fits.respects selector whole.typing whole.typed names [] tt tree safe)
       (λ gives more.
-      let number = lies_in_extent f n s fits.in_types selector whole.typing whole.typed names code.0 whole.ordered (value_of v t) gives in
+      let number = lies_in_extent f n s fits.in_types selector whole.typing whole.typed names whole.ordered (value_of v t) gives in
       subst (λ x. Good IsUnset (run_for x f n s alternatives) (Reaches f rest) (Reaches f leave)) (sym number.1)
-      (go (reads_of selector) place t [] whole.typing.of number.0 rest leave made s v whole.parts whole.others_last declared.1 spares code.1 fits number.1 tt (each_has_one (extent selector) alternatives whole.once number.0 number.2) more))
+      (go (reads_of selector) place t [] whole.typing.of number.0 rest leave made s v whole.parts whole.others_last declared.1 spares fits number.1 tt (each_has_one (extent selector) alternatives whole.once number.0 number.2) more))
 
   check_good : (place : Place) (e : CoreExpr) (rest leave : ℕ → Tree) (made : ℕ) (s : Store) (v : Valuation) → Fits f s v → Safe (walk f.program f.sub (Check place e) rest leave made) v
       → Good IsUnset (run f n s (Check place e)) (Reaches f rest) (Reaches f leave)
@@ -289,18 +288,18 @@ module _ (f : Frame) (n : ℕ) where
 
   mutual
     pub walk_good : (c : Command) → GoesOn c
-    walk_good Skip rest leave made s v typed declared spares code fits safe = record { valuation = v; made = made; fits = fits; safe = safe }
-    walk_good (Set target e) rest leave made s v typed declared spares code fits safe = set_good target e rest leave made s v typed declared spares code fits safe
-    walk_good (Then a b) rest leave made s v typed declared spares code fits safe =
+    walk_good Skip rest leave made s v typed declared spares fits safe = record { valuation = v; made = made; fits = fits; safe = safe }
+    walk_good (Set target e) rest leave made s v typed declared spares fits safe = set_good target e rest leave made s v typed declared spares fits safe
+    walk_good (Then a b) rest leave made s v typed declared spares fits safe =
         let parts = both_typed a b typed in
         let apart : (x : VarId) → stays f.sub x ≡ true → (sets x (effect a) ≡ false) × (sets x (effect b) ≡ false) = λ x h. or_parts (sets x (effect a)) (sets x (effect b)) (spares x h) in
         let back = walk f.program f.sub b rest leave in
         good_then IsUnset (run f n s a) (λ t. run f n t b) (Reaches f back) (Reaches f rest) (Reaches f leave)
-        (walk_good a back leave made s v parts.0 declared.0 (λ x h. (apart x h).0) code.0 fits safe)
-        (λ t there. walk_good b rest leave there.made t there.valuation parts.1 declared.1 (λ x h. (apart x h).1) code.1 there.fits there.safe)
-    walk_good (Choose place e a b) rest leave made s v typed declared spares code fits safe = choose_good place e a b (walk_good a) (walk_good b) rest leave made s v typed declared spares code fits safe
-    walk_good (Select place selector alternatives) rest leave made s v typed declared spares code fits safe = select_good place selector alternatives (walk_for_good alternatives) rest leave made s v typed declared spares code fits safe
-    walk_good (Check place condition) rest leave made s v typed declared spares code fits safe = check_good place condition rest leave made s v fits safe
+        (walk_good a back leave made s v parts.0 declared.0 (λ x h. (apart x h).0) fits safe)
+        (λ t there. walk_good b rest leave there.made t there.valuation parts.1 declared.1 (λ x h. (apart x h).1) there.fits there.safe)
+    walk_good (Choose place e a b) rest leave made s v typed declared spares fits safe = choose_good place e a b (walk_good a) (walk_good b) rest leave made s v typed declared spares fits safe
+    walk_good (Select place selector alternatives) rest leave made s v typed declared spares fits safe = select_good place selector alternatives (walk_for_good alternatives) rest leave made s v typed declared spares fits safe
+    walk_good (Check place condition) rest leave made s v typed declared spares fits safe = check_good place condition rest leave made s v fits safe
 
     walk_for_good : (alternatives : Alternatives) → GoOn alternatives
     walk_for_good (Last choices a) = last_good choices a (walk_good a)
