@@ -4,13 +4,13 @@ use Rattle.std.specs.Prelude.{◌⊎◌, ◌&&◌}
 use Rattle.std.proofs.lemmas.Bool.{or_parts}
 use Rattle.spx_text.specs.declared.place.Place.{Place}
 use Rattle.spx_core.specs.declared.entity.VarId.{VarId}
-use Rattle.spx_core.specs.Effects.{Effect, Read, nothing, assign, next, choose}
+use Rattle.spx_core.specs.Effects.{Effect, Read, nothing, assign, next, choose, observe}
 use Rattle.spx_core.specs.Uses.{is_same}
 use Rattle.spx_core.specs.Mirror.VarSets.{holds}
 use Rattle.spx_core.specs.Ways.{Goes}
 use Rattle.spx_core.proofs.Callers.FlowLaws.{goes_free}
 use Rattle.spx_define.specs.Passes.{Finds, Passes}
-use Rattle.spx_define.proofs.WayLaws.{free_follow, goes_chosen, reads_at_once, reads_chosen, reads_next, target_unset}
+use Rattle.spx_define.proofs.WayLaws.{free_follow, goes_chosen, reads_at_once, reads_chosen, reads_next, reads_observed, target_unset}
 
 -- where nothing is done, the set has the same variables
 pub passes_nothing : (old_set new_set : List ℕ) (found : List Read) → ((v : VarId) → holds new_set v ≡ holds old_set v) → Passes nothing old_set new_set found found
@@ -45,6 +45,16 @@ passes_assign target reads at old_set new_set old new set f = record {
     either_false : (x y : Bool) → x ≡ false → y ≡ false → (x || y) ≡ false
     either_false true y h k = h
     either_false false y h k = k
+
+-- what only reads leaves the set as it is
+pub passes_observe : (values : List Read) (set : List ℕ) (old new : List Read) → Finds set values old new → Passes (observe values) set set old new
+passes_observe values set old new f = record {
+  set = λ v. (λ h. (h, ([], refl, refl)), λ h. h.0);
+  found = λ place v. let once = reads_observed place v values in (
+    λ h. ⊎_elim (λ o. inl o) (λ k. inr (k.0, once.1 k.1)) ((f.exact place v).0 h),
+    λ h. (f.exact place v).1 (⊎_elim (λ o. inl o) (λ k. inr (k.0, once.0 k.1)) h),
+  );
+}
 
 pub passes_next : (a b : Effect) (set mid_set new_set : List ℕ) (old mid new : List Read) → Passes a set mid_set old mid → Passes b mid_set new_set mid new → Passes (next a b) set new_set old new
 passes_next a b set mid_set new_set old mid new f s = record {

@@ -8,7 +8,7 @@ use Rattle.spx_text.specs.declared.place.Place.{Place}
 use Rattle.spx_core.specs.declared.entity.VarId.{VarId}
 use Rattle.spx_core.specs.Formals.{stands_in}
 use Rattle.spx_core.specs.Uses.{is_same}
-use Rattle.spx_core.specs.Effects.{Effect, Read, assign, next, choose}
+use Rattle.spx_core.specs.Effects.{Effect, Read, assign, next, choose, observe}
 use Rattle.spx_core.specs.Ways.{Ways, Follow, Free, Goes, Reaches}
 
 stands_in_both : (v : VarId) (front back : List VarId) → stands_in v (front ++ back) ≡ (stands_in v front || stands_in v back)
@@ -40,6 +40,9 @@ goes_chosen tests a b at v = (
 module _ (place : Place) (v : VarId) where
   pub reads_at_once : (target : Option VarId) (reads : List Read) (at : Place) → Free (Reaches (assign target reads at) place v) v ↔ Contains reads (place, v)
   reads_at_once target reads at = (λ h. h.1.0, λ is. ([], (is, refl), refl))
+
+  pub reads_observed : (values : List Read) → Free (Reaches (observe values) place v) v ↔ Contains values (place, v)
+  reads_observed values = (λ h. h.1.0, λ is. ([], (is, refl), refl))
 
   pub reads_next : (a b : Effect) → Free (Reaches (next a b) place v) v ↔ (Free (Reaches a place v) v ⊎ (Free (Goes a) v × Free (Reaches b place v) v))
   reads_next a b = (

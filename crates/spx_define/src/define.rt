@@ -62,6 +62,7 @@ fn add_unset_names(set: &Assigned, expr: &CoreExpr, found: &mut Reads) -> Result
     match expr {
         CoreExpr::Number(_, _) => Ok(()),
         CoreExpr::Name(name) => add_unset(set, name.name.place, name.entity, found),
+        CoreExpr::Entry(name, _) => add_unset(set, name.name.place, name.entity, found),
         CoreExpr::Attribute(_, _) => Ok(()),
         CoreExpr::Applied(_, _, operand) => add_unset_names(set, operand.get(), found),
         CoreExpr::Parenthesized(_, inner) => add_unset_names(set, inner.get(), found),
@@ -153,6 +154,7 @@ fn go_over(
         CoreStmt::Case(_, selector, alternatives, _) => {
             go_over_case(alloc, alternatives.as_slice(), selector, set, found)
         }
+        CoreStmt::Check(_, condition) => add_unset_names(set, condition, found),
     }
 }
 

@@ -8,7 +8,7 @@ use Rattle.std.proofs.lemmas.List.Elements.{All-push}
 use Rattle.std.proofs.lemmas.Option.{slice_get_within}
 use Rattle.spx_text.specs.declared.place.Place.{Place}
 use Rattle.spx_core.specs.declared.entity.VarId.{VarId}
-use Rattle.spx_core.specs.Effects.{Effect, Read, nothing, assign, next, choose, is_read, sets}
+use Rattle.spx_core.specs.Effects.{Effect, Read, nothing, assign, next, choose, observe, is_read, sets}
 use Rattle.spx_core.specs.Flow.{MayFlow}
 use Rattle.spx_core.specs.Marks.{Mu, Occurs}
 use Rattle.spx_core.specs.Mirror.VarSets.{place_in_set}
@@ -41,6 +41,10 @@ idle set e rho mu once itself unmarked none rows = record {
 
 pub idle_null : (set : List ℕ) (rho : Matrix) (mu : List Occurrence) → IsDistinct ◌==◌ set → AreRows (length set) mu → StepsBack set nothing rho rho mu mu
 idle_null set rho mu once rows = idle set nothing rho mu once (λ x y. (λ h. h, λ h. h)) (λ p y h. h) (λ p h. h) rows
+
+-- what only reads
+pub idle_observed : (set : List ℕ) (values : List Read) (rho : Matrix) (mu : List Occurrence) → IsDistinct ◌==◌ set → AreRows (length set) mu → StepsBack set (observe values) rho rho mu mu
+idle_observed set values rho mu once rows = idle set (observe values) rho mu once (λ x y. (λ h. h, λ h. h)) (λ p y h. h) (λ p h. h) rows
 
 -- an assignment to no variable
 pub idle_target : (set : List ℕ) (values : List Read) (place : Place) (rho : Matrix) (mu : List Occurrence) → IsDistinct ◌==◌ set → AreRows (length set) mu → StepsBack set (assign None values place) rho rho mu mu
@@ -211,6 +215,7 @@ mu_sets (next a b) p w h =
     ⊎_elim (λ (q : (v : VarId) × Mu a p v × MayFlow b v w). sets_on a b q.0 w (mu_sets a p q.0 q.1) q.2 (sets w b) refl) (λ later. or_right (sets w a) (sets w b) (mu_sets b p w later)) h
 mu_sets (choose tests a b place) p w h =
     ⊎_elim (λ tested. tested.1) (λ arms. ⊎_elim (λ one. or_left (sets w a) (sets w b) (mu_sets a p w one)) (λ two. or_right (sets w a) (sets w b) (mu_sets b p w two)) arms) h
+mu_sets (observe values) p w h = absurd h
 
 -- one statement more is before the others
 pub steps_next : (set : List ℕ) (e d : Effect) (old mid new : Matrix) (start before after : List Occurrence) → Covers set e → StepsBack set d old mid start before → StepsBack set e mid new before after → StepsBack set (next e d) old new start after

@@ -5,11 +5,12 @@ use Rattle.spx_tree.specs.declared.statement.Closing.{Closing}
 use Rattle.spx_core.specs.declared.name.Reference.{Reference}
 use Rattle.spx_core.specs.declared.expression.CoreExpr.{CoreExpr}
 use Rattle.spx_core.specs.declared.statement.CoreStmt.{CoreStmt, CoreStmt-F, out-CoreStmt, map-CoreStmt, fold_out-CoreStmt}
-use Rattle.spx_core.specs.declared.statement.CoreStmt.TheVariants.{Null, Assignment, If, Case, outs-Null, outs-Assignment, outs-If, outs-Case}
+use Rattle.spx_core.specs.declared.statement.CoreStmt.TheVariants as stmt
+use Rattle.spx_core.specs.declared.statement.CoreStmt.TheVariants.{Null, Assignment, If, Case, outs-Null, outs-Assignment, outs-If, outs-Case, outs-Check}
 use Rattle.spx_core.specs.declared.statement.CoreArm.{CoreArm, out-CoreArm, fold_out-CoreArm}
 use Rattle.spx_core.specs.declared.statement.CoreAlternative.{CoreAlternative, out-CoreAlternative, fold_out-CoreAlternative}
 use Rattle.spx_core.specs.declared.statement.CoreChoice.{CoreChoice}
-use Rattle.spx_core.specs.Commands.{Command, Skip, Set, Choose, alternative, alternative_step, arm_before, arm_step, arms_before, command, commands, select, stmt_step}
+use Rattle.spx_core.specs.Commands.{Command, Skip, Set, Choose, Check, alternative, alternative_step, arm_before, arm_step, arms_before, command, commands, select, stmt_step}
 use Rattle.spx_core.specs.Effects.{choose, effect, effects, reads_of}
 
 -- choices, and what is done for them
@@ -36,6 +37,9 @@ command-If-else s arms o stmts closing is some = command_at s (CoreStmt-F.If arm
 
 pub command-Case : (s : CoreStmt) (place : Place) (selector : CoreExpr) (alternatives : List CoreAlternative) (closing : Closing) → s ≡ Case place selector alternatives closing → command s ≡ select place selector (map alternative alternatives)
 command-Case s place selector alternatives closing is = command_at s (CoreStmt-F.Case place selector alternatives closing) (ap out-CoreStmt is ∙ outs-Case place selector alternatives closing)
+
+pub command-Check : (place : Place) (condition : CoreExpr) → command (stmt.Check place condition) ≡ Check place condition
+command-Check place condition = command_at (stmt.Check place condition) (CoreStmt-F.Check place condition) (outs-Check place condition)
 
 pub command_arm : (arm : CoreArm) (otherwise : Command) → arm_before arm otherwise ≡ Choose (out-CoreArm arm).place (out-CoreArm arm).condition (commands (out-CoreArm arm).body) otherwise
 command_arm arm otherwise = ap (λ (f : Command → Command). f otherwise) (fold_out-CoreArm Command Chosen (Command → Command) stmt_step alternative_step arm_step arm)

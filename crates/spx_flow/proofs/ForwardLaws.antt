@@ -7,7 +7,7 @@ use Rattle.std.proofs.lemmas.List.Elements.{All-push}
 use Rattle.std.proofs.lemmas.Option.{slice_get_within}
 use Rattle.spx_text.specs.declared.place.Place.{Place}
 use Rattle.spx_core.specs.declared.entity.VarId.{VarId}
-use Rattle.spx_core.specs.Effects.{Effect, Read, nothing, assign, next, choose, is_read, sets}
+use Rattle.spx_core.specs.Effects.{Effect, Read, nothing, assign, next, choose, observe, is_read, sets}
 use Rattle.spx_core.specs.Flow.{MayFlow}
 use Rattle.spx_core.specs.Mirror.VarSets.{place_in_set}
 use Rattle.spx_core.specs.Marks.{Lambda}
@@ -41,6 +41,10 @@ idle set e state list once none unread rows = record {
 
 pub idle_null : (set : List ℕ) (state : Matrix) (list : List Occurrence) → IsDistinct ◌==◌ set → AreRows (length set) list → StepsForward set nothing state state list list
 idle_null set state list once rows = idle set nothing state list once (λ w. refl) (λ u p h. h) rows
+
+-- what only reads
+pub idle_observed : (set : List ℕ) (values : List Read) (state : Matrix) (list : List Occurrence) → IsDistinct ◌==◌ set → AreRows (length set) list → StepsForward set (observe values) state state list list
+idle_observed set values state list once rows = idle set (observe values) state list once (λ w. refl) (λ u p h. h) rows
 
 -- an assignment to no variable
 pub idle_target : (set : List ℕ) (values : List Read) (place : Place) (state : Matrix) (list : List Occurrence) → IsDistinct ◌==◌ set → AreRows (length set) list →

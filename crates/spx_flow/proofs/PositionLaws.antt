@@ -21,7 +21,7 @@ use Rattle.spx_core.specs.declared.name.CoreName.{CoreName}
 use Rattle.spx_core.specs.declared.name.Reference.{Reference}
 use Rattle.spx_core.specs.declared.expression.CoreExpr.{CoreExpr}
 use Rattle.spx_core.specs.declared.statement.CoreStmt.{CoreStmt}
-use Rattle.spx_core.specs.declared.expression.CoreExpr.TheVariants.{Number, Name, Attribute, Applied, Parenthesized, Prefix, Infix, InType, InRange}
+use Rattle.spx_core.specs.declared.expression.CoreExpr.TheVariants.{Number, Name, Entry, Attribute, Applied, Parenthesized, Prefix, Infix, InType, InRange}
 use Rattle.spx_core.specs.Uses.{denotes, is_same, variable_of}
 use Rattle.spx_core.specs.Reads.{names_read, names_step}
 use Rattle.spx_core.specs.Effects.{Effect, effect, effects, is_read, reads, reads_of, sets}
@@ -30,7 +30,7 @@ use Rattle.spx_core.specs.Flow.{MayFlow}
 use Rattle.spx_core.specs.Mirror.VarSets.{holds, place_in_set}
 use Rattle.spx_flow.specs.Positions.{Covers, Stands, position_named, positions_read}
 use Rattle.spx_flow.specs.Targets.{positions_in}
-use Rattle.spx_core.proofs.Callers.Expressions.{fold-Number, fold-Name, fold-Attribute, fold-Applied, fold-Parenthesized, fold-Prefix, fold-Infix, fold-InType, fold-InRange}
+use Rattle.spx_core.proofs.Callers.Expressions.{fold-Number, fold-Name, fold-Entry, fold-Attribute, fold-Applied, fold-Parenthesized, fold-Prefix, fold-Infix, fold-InType, fold-InRange}
 use Rattle.spx_core.proofs.Callers.FlowLaws.{keeps, reads_any, reads_uses, sets_any}
 use Rattle.spx_core.proofs.Callers.ListTests.{found, passes}
 use Rattle.spx_core.proofs.Callers.Variables.{same_itself, same_var}
@@ -43,6 +43,9 @@ module _ (set : List ℕ) where
 
   pub positions-Name : (name : CoreName) → positions_read set (Name name) ≡ cons_option (position_named set name) []
   positions-Name name = ap (filter_map (position_named set)) (fold-Name names_step name)
+
+  pub positions-Entry : (name : CoreName) (allowed : Bool) → positions_read set (Entry name allowed) ≡ cons_option (position_named set name) []
+  positions-Entry name allowed = ap (filter_map (position_named set)) (fold-Entry names_step name allowed)
 
   pub positions-Attribute : (prefix : CoreName) (designator : Identifier) → positions_read set (Attribute prefix designator) ≡ []
   positions-Attribute prefix designator = ap (filter_map (position_named set)) (fold-Attribute names_step prefix designator)
@@ -69,7 +72,7 @@ module _ (set : List ℕ) where
       ∙ filter_map-append (position_named set) (names_read a) (names_read low ++ names_read high)
       ∙ ap (λ l. positions_read set a ++ l) (filter_map-append (position_named set) (names_read low) (names_read high))
 
-pub ruleset positions_forms = (positions-Number, positions-Name, positions-Attribute, positions-Applied, positions-Parenthesized, positions-Prefix, positions-Infix, positions-InType, positions-InRange, append_assoc)
+pub ruleset positions_forms = (positions-Number, positions-Name, positions-Entry, positions-Attribute, positions-Applied, positions-Parenthesized, positions-Prefix, positions-Infix, positions-InType, positions-InRange, append_assoc)
 
 -- ---- positions and variables
 

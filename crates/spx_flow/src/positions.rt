@@ -1,6 +1,6 @@
 // The variables that expressions read, by their position.
-ghost use Rattle.std.specs.Prelude.{◌≡◌, ◌==◌, ◌↔◌, ◌++◌, ℕ, ◌<◌, All, Contains, IfOk, IsTrue, OnOk, length};
-ghost use Rattle.std.specs.List.{IsDistinct};
+ghost use Rattle.std.specs.Prelude.{◌≡◌, ◌==◌, ◌↔◌, [], ◌++◌, ℕ, ◌<◌, All, Contains, IfOk, IsTrue, OnOk, length};
+ghost use Rattle.std.specs.List.{IsDistinct, cons_option};
 ghost use Rattle.spx_core.specs.declared.entity.VarId.{VarId};
 ghost use Rattle.spx_core.specs.Effects.{is_read, reads_of};
 ghost use Rattle.spx_flow.specs.Positions.{Stands, position_named, positions_read};
@@ -15,6 +15,23 @@ pub(crate) fn position_named(vars: &VarSet, name: &CoreName) -> Option<usize>
     vars.position(variable_of(name.entity)?)
 }
 
+/// Adds the position of the variable that the name denotes, if it denotes one of the set.
+fn add_position_named(
+    vars: &VarSet,
+    name: &CoreName,
+    found: &mut Vec<usize>,
+) -> Result<(), AllocError>
+    ensures { OnOk result (found.new.items ≡ found.old.items ++ cons_option (position_named vars.now name.now) []) }
+{
+    match position_named(vars, name) {
+        Some(position) => {
+            found.push(position)?;
+            Ok(())
+        }
+        None => Ok(()),
+    }
+}
+
 /// Adds the positions of the variables that the expression reads, in the order of the text.
 #[cycle(add_positions)]
 #[tactic(auto, using(crate::proofs::PositionLaws::positions_forms))]
@@ -24,13 +41,8 @@ fn add_positions(vars: &VarSet, value: &CoreExpr, found: &mut Vec<usize>) -> Res
     match value {
         CoreExpr::Number(_, _) => Ok(()),
         CoreExpr::Attribute(_, _) => Ok(()),
-        CoreExpr::Name(name) => match position_named(vars, name) {
-            Some(position) => {
-                found.push(position)?;
-                Ok(())
-            }
-            None => Ok(()),
-        },
+        CoreExpr::Name(name) => add_position_named(vars, name, found),
+        CoreExpr::Entry(name, _) => add_position_named(vars, name, found),
         CoreExpr::Applied(_, _, operand) => add_positions(vars, operand.get(), found),
         CoreExpr::Parenthesized(_, inner) => add_positions(vars, inner.get(), found),
         CoreExpr::Prefix(_, _, operand) => add_positions(vars, operand.get(), found),

@@ -11,12 +11,12 @@ use Rattle.spx_core.specs.Mirror.VarSets.{holds}
 use Rattle.spx_flow.specs.Branches.{Arms, Done, Joins}
 use Rattle.spx_flow.specs.Positions.{Covers}
 use Rattle.spx_flow.specs.ForwardSteps.{StepsForward}
-use Rattle.spx_flow.proofs.CommandForms.{command-Null, command-Assignment, command-Case, command-If, command-If-else, command_arm, select_last, select_more}
+use Rattle.spx_flow.proofs.CommandForms.{command-Null, command-Assignment, command-Case, command-Check, command-If, command-If-else, command_arm, select_last, select_more}
 use Rattle.spx_flow.proofs.CoversLaws.{alternatives_covered, arms_covered, body_covered, if_else_covered}
 use Rattle.spx_flow.proofs.PositionLaws.{covers_one}
 use Rattle.spx_flow.proofs.TargetLaws.{or_nothing}
 use Rattle.spx_flow.proofs.BranchLaws.{arm_done, arms_more, choice_done, left_from, left_last, left_of, only_done}
-use Rattle.spx_flow.proofs.ForwardLaws.{Led, idle_null, led_end, led_next, led_start, steps_again, steps_copied}
+use Rattle.spx_flow.proofs.ForwardLaws.{Led, idle_null, idle_observed, led_end, led_next, led_start, steps_again, steps_copied}
 use Rattle.spx_flow.proofs.forward.+after.Goals as goal
 
 pub after-after_all-requires : goal.after-after_all-requires
@@ -44,6 +44,11 @@ after-returns-in-Null t c =
     subst (λ s. StepsForward c.args.vars.now (effect (command s)) c.args.state.now c.args.state.now c.args.lambda.now c.args.lambda.now) (sym c.in-Null.is)
     (subst (λ k. StepsForward c.args.vars.now (effect k) c.args.state.now c.args.state.now c.args.lambda.now c.args.lambda.now) (sym (command-Null c.in-Null.field-0))
     (idle_null c.args.vars.now c.args.state.now c.args.lambda.now c.requires.covers.once c.requires.rows))
+
+pub after-returns-in-Check : goal.after-returns-in-Check
+after-returns-in-Check t c =
+    subst (λ k. StepsForward c.args.vars.now (effect k) c.args.state.now c.args.state.now c.args.lambda.now c.args.lambda.now) (sym (ap command c.in-Check.is ∙ command-Check c.in-Check.field-0 c.in-Check.field-1))
+    (idle_observed c.args.vars.now (reads_of c.in-Check.field-1) c.args.state.now c.args.lambda.now c.requires.covers.once c.requires.rows)
 
 pub after-after_assignment-requires-clause-covers : goal.after-after_assignment-requires-clause-covers
 after-after_assignment-requires-clause-covers t c =
