@@ -32,11 +32,11 @@ use Rattle.spx_core.specs.declared.subprogram.Sub.{Sub}
 use Rattle.spx_core.specs.Commands.{Command, Skip, Set, Then, commands}
 use Rattle.spx_core.specs.Dependency.{relation}
 use Rattle.spx_core.specs.Judged.{Judged, ◌>>=◌, breach_in, each, expr_step, if_there, keeps, named_value, referred_type}
-use Rattle.spx_core.specs.Obeyed.{obeyed_pre}
+use Rattle.spx_core.specs.Obeyed.{obeyed_post, obeyed_pre}
 use Rattle.spx_core.specs.Places.{place_in}
 use Rattle.spx_core.specs.Regions.{Region, Regions}
 use Rattle.spx_core.specs.Resolved.{Counts, after_formals, around_body, around_names, at_start, bounded, constant_of, counted, counted_sub, declared_by, declared_by_decls, declaring as declared_after, declaring_all, defining, defining_all, formal_names, integer_type, object_of, or_zero, own_types, params_of, resolved, resolved_decl, resolved_decls, resolved_expr, resolved_reference, resolved_stmt, resolved_sub, row_of, rows_by, rows_by_decls, standard_types, subtype_of, unit_name, value_in}
-use Rattle.spx_core.specs.Statements.{bound, declared_once, first_name_breach, judged_command, judged_decl, judged_end, judged_item, judged_name, judged_param, judged_pre, static_between, static_number}
+use Rattle.spx_core.specs.Statements.{bound, declared_once, first_name_breach, judged_command, judged_decl, judged_end, judged_item, judged_name, judged_param, judged_predicate, static_between, static_number}
 use Rattle.spx_core.specs.Types.{has_numbers}
 use Rattle.spx_core.specs.Uses.{variable_of}
 use Rattle.spx_core.proofs.Callers.Expressions.{fold-Name}
@@ -131,34 +131,34 @@ module _ (outer : Regions) where
   abbrev seen_now : Region → Counts → Decl → Seen
   seen_now region before (written_decl.Variables names type_name None) = seen (resolved_decl outer region before (written_decl.Variables names type_name None))
   seen_now region before (written_decl.Variables names type_name (Some value)) =
-      initialized region before names (resolved_reference (around_names outer region names) type_name) (expr_now (around_names outer region names) value)
+      initialized region before names (resolved_reference (around_names outer region names) type_name) (expr_now [] (around_names outer region names) value)
   seen_now region before (written_decl.Constants names type_name value) =
-      constants region names (option_map (resolved_reference (around_names outer region names)) type_name) (expr_now (around_names outer region names) value)
+      constants region names (option_map (resolved_reference (around_names outer region names)) type_name) (expr_now [] (around_names outer region names) value)
   seen_now region before (written_decl.FullType name (written_definition.Integer range)) =
-      numbers region before name (expr_now (around_names outer region (name ∷ [])) range.low) (expr_now (around_names outer region (name ∷ [])) range.high)
+      numbers region before name (expr_now [] (around_names outer region (name ∷ [])) range.low) (expr_now [] (around_names outer region (name ∷ [])) range.high)
   seen_now region before (written_decl.FullType name (written_definition.Enumeration place literals)) =
       seen (resolved_decl outer region before (written_decl.FullType name (written_definition.Enumeration place literals)))
   seen_now region before (written_decl.Subtype name parent None) = seen (resolved_decl outer region before (written_decl.Subtype name parent None))
   seen_now region before (written_decl.Subtype name parent (Some range)) =
       narrowed_to region before name (resolved_reference (around_names outer region (name ∷ [])) parent)
-      (expr_now (around_names outer region (name ∷ [])) range.low)
-      (expr_now (around_names outer region (name ∷ [])) range.high)
+      (expr_now [] (around_names outer region (name ∷ [])) range.low)
+      (expr_now [] (around_names outer region (name ∷ [])) range.high)
 
   seen_is : (region : Region) (before : Counts) (d : Decl) → seen (resolved_decl outer region before d) ≡ seen_now region before d
   seen_is region before (written_decl.Variables names type_name None) = refl
   seen_is region before (written_decl.Variables names type_name (Some value)) =
-      ap (initialized region before names (resolved_reference (around_names outer region names) type_name)) (judged_is (around_names outer region names) value)
-  seen_is region before (written_decl.Constants names None value) = ap (constants region names None) (judged_is (around_names outer region names) value)
+      ap (initialized region before names (resolved_reference (around_names outer region names) type_name)) (judged_is [] (around_names outer region names) value)
+  seen_is region before (written_decl.Constants names None value) = ap (constants region names None) (judged_is [] (around_names outer region names) value)
   seen_is region before (written_decl.Constants names (Some type_name) value) =
-      ap (constants region names (Some (resolved_reference (around_names outer region names) type_name))) (judged_is (around_names outer region names) value)
+      ap (constants region names (Some (resolved_reference (around_names outer region names) type_name))) (judged_is [] (around_names outer region names) value)
   seen_is region before (written_decl.FullType name (written_definition.Integer range)) =
-      ap₂ (numbers region before name) (judged_is (around_names outer region (name ∷ [])) range.low) (judged_is (around_names outer region (name ∷ [])) range.high)
+      ap₂ (numbers region before name) (judged_is [] (around_names outer region (name ∷ [])) range.low) (judged_is [] (around_names outer region (name ∷ [])) range.high)
   seen_is region before (written_decl.FullType name (written_definition.Enumeration place literals)) = refl
   seen_is region before (written_decl.Subtype name parent None) = refl
   seen_is region before (written_decl.Subtype name parent (Some range)) =
       ap₂ (narrowed_to region before name (resolved_reference (around_names outer region (name ∷ [])) parent))
-      (judged_is (around_names outer region (name ∷ [])) range.low)
-      (judged_is (around_names outer region (name ∷ [])) range.high)
+      (judged_is [] (around_names outer region (name ∷ [])) range.low)
+      (judged_is [] (around_names outer region (name ∷ [])) range.high)
 
   abbrev all_now : Region → Counts → List Decl → Seen
   all_now region before [] = record { judgement = Ok tt; names = []; rows = [] }
@@ -174,7 +174,7 @@ module _ (outer : Regions) where
 -- ---- the procedure
 
 module _ (ds : List Decl) (statement : Stmt) where
-  abbrev first : Sub
+  abbrev pub first : Sub
   first = resolved_alone (stating ds statement)
 
   abbrev around : Regions
@@ -196,7 +196,8 @@ module _ (ds : List Decl) (statement : Stmt) where
   sub_with declarations body = do
     _ ← each judged_param (params_of first.formal_part)
     _ ← each judged_item (relation first)
-    _ ← if_there judged_pre first.pre
+    _ ← if_there judged_predicate first.pre
+    _ ← if_there judged_predicate first.post
     _ ← declarations
     _ ← body
     if_there (judged_end first.name) first.end_name
@@ -205,7 +206,7 @@ module _ (ds : List Decl) (statement : Stmt) where
   breach_with declarations body = breach_in (each judged_name (first ∷ []) >>= λ _. and_no_more (sub_with declarations body))
 
   abbrev body_of : List Defining → Judged ⊤
-  body_of names = judged_command (commands (resolved_stmt (inside names) statement ∷ []))
+  body_of names = judged_command (commands (resolved_stmt (relation first) (inside names) statement ∷ []))
 
   -- where its body is judged to be this after its declarations
   pub breach_where : (body : Judged ⊤) → body_of now.names ≡ body → first_name_breach (alone (stating ds statement)) ≡ breach_with now.judgement body
@@ -221,7 +222,7 @@ module _ (ds : List Decl) (target : Name) (value : Expr) where
   around_set = inside ds set (now ds set).names
 
   pub breach_is : breach_at ds target value ≡ breach_with ds set (now ds set).judgement (and_no_more (assignment_now around_set target value))
-  breach_is = breach_where ds set (and_no_more (assignment_now around_set target value)) (body_is around_set target value)
+  breach_is = breach_where ds set (and_no_more (assignment_now around_set target value)) (body_is (relation (first ds set)) around_set target value)
 
   -- the assignment, where its names denote what they do after these declarations
   abbrev setting : Command
@@ -229,11 +230,11 @@ module _ (ds : List Decl) (target : Name) (value : Expr) where
 
   setting_is : commands (first ds set).statements ≡ setting
   setting_is =
-      ap (λ (s : Seen). commands (resolved_stmt (inside ds set s.names) set ∷ [])) (now_is ds set)
-      ∙ ap (λ (s : CoreStmt). commands (s ∷ [])) (resolved_assignment around_set target value)
+      ap (λ (s : Seen). commands (resolved_stmt (relation (first ds set)) (inside ds set s.names) set ∷ [])) (now_is ds set)
+      ∙ ap (λ (s : CoreStmt). commands (s ∷ [])) (resolved_assignment (relation (first ds set)) around_set target value)
       ∙ assignment_is (resolved_reference around_set target) (resolved_expr around_set value)
 
-  pub rule_breach_is : rule_breach_at ds target value ≡ rules.breach_with (first ds set) [] (if_there (obeyed_pre (first ds set)) (first ds set).pre) setting
+  pub rule_breach_is : rule_breach_at ds target value ≡ rules.breach_with (first ds set) [] (if_there (obeyed_pre (first ds set)) (first ds set).pre) (if_there (obeyed_post (first ds set)) (first ds set).post) setting
   unfolding rule_breach_at
   rule_breach_is = rules.breach_is (resolved (alone (assigning_to ds target value))) (first ds set) [] setting refl setting_is
 

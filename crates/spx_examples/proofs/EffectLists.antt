@@ -9,7 +9,7 @@ use Rattle.spx_text.specs.declared.place.Place.{Place}
 use Rattle.spx_core.specs.declared.entity.VarId.{VarId}
 use Rattle.spx_core.specs.Formals.{stands_in}
 use Rattle.spx_core.specs.Uses.{is_same}
-use Rattle.spx_core.specs.Effects.{Effect, Read, nothing, assign, next, choose, sets, is_read}
+use Rattle.spx_core.specs.Effects.{Effect, Read, nothing, assign, next, choose, observe, sets, is_read}
 use Rattle.spx_core.specs.Flow.{MayFlow}
 use Rattle.spx_core.specs.Marks.{Occurs}
 use Rattle.spx_core.specs.Ways.{Ways, Follow, Free, Goes, Reaches}
@@ -30,6 +30,7 @@ sources nothing w = w ∷ []
 sources (assign target reads place) w = only (is_same w target) (vars_of reads) ++ only (not (is_same w target)) (w ∷ [])
 sources (next a b) w = flat_map (sources a) (sources b w)
 sources (choose tests a b place) w = sources a w ++ (sources b w ++ only (sets w a || sets w b) (vars_of tests))
+sources (observe values) w = w ∷ []
 
 -- what is read comes there where a test holds
 comes_if : (b : Bool) (reads : List Read) (u : VarId) → Among (only b (vars_of reads)) u ↔ (IsTrue b × IsTrue (is_read u reads))
@@ -49,6 +50,7 @@ sources_are (choose tests a b place) u w =
     let chosen = only (sets w a || sets w b) (vars_of tests) in
     chain (of_both (sources a w) (sources b w ++ chosen) u)
     (either (sources_are a u w) (chain (of_both (sources b w) chosen u) (either (sources_are b u w) (comes_if (sets w a || sets w b) tests u))))
+sources_are (observe values) u w = chain (of_single w u) (flipped w u)
 
 -- ---- occurrences
 
@@ -59,6 +61,7 @@ occurrences (assign (Some target) reads place) = place ∷ []
 occurrences (assign None reads place) = []
 occurrences (next a b) = occurrences a ++ occurrences b
 occurrences (choose tests a b place) = place ∷ (occurrences a ++ occurrences b)
+occurrences (observe values) = []
 
 pub occurrences_are : (e : Effect) (at : Place) → Among (occurrences e) at ↔ Occurs e at
 occurrences_are nothing at = same
@@ -66,6 +69,7 @@ occurrences_are (assign (Some target) reads place) at = chain (of_single place a
 occurrences_are (assign None reads place) at = (λ h. absurd h, λ h. absurd (let e = h.0 in cc))
 occurrences_are (next a b) at = chain (of_both (occurrences a) (occurrences b) at) (either (occurrences_are a at) (occurrences_are b at))
 occurrences_are (choose tests a b place) at = either same (chain (of_both (occurrences a) (occurrences b) at) (either (occurrences_are a at) (occurrences_are b at)))
+occurrences_are (observe values) at = same
 
 -- ---- ways that do not set v
 
@@ -97,6 +101,7 @@ skips v nothing = true
 skips v (assign target reads place) = not (is_same v target)
 skips v (next a b) = skips v a && skips v b
 skips v (choose tests a b place) = skips v a || skips v b
+skips v (observe values) = true
 
 pub skips_is : (v : VarId) (e : Effect) → IsTrue (skips v e) ↔ Free (Goes e) v
 skips_is v nothing = (λ h. ([], refl, refl), λ h. refl)
@@ -106,6 +111,7 @@ skips_is v (assign target reads place) = chain (not_is (is_same v target)) (
 )
 skips_is v (next a b) = chain (and_is (skips v a) (skips v b)) (chain (both (skips_is v a) (skips_is v b)) (turned (free_follow (Goes a) (Goes b) v)))
 skips_is v (choose tests a b place) = chain (or_is (skips v a) (skips v b)) (chain (either (skips_is v a) (skips_is v b)) (turned (free_either (Goes a) (Goes b) v)))
+skips_is v (observe values) = (λ h. ([], refl, refl), λ h. refl)
 
 -- the reads to which some way leads that does not set what is read
 abbrev pub first_reads : Effect → List Read
@@ -113,6 +119,7 @@ first_reads nothing = []
 first_reads (assign target reads place) = reads
 first_reads (next a b) = first_reads a ++ those (λ (r : Read). skips r.1 a) (first_reads b)
 first_reads (choose tests a b place) = tests ++ (first_reads a ++ first_reads b)
+first_reads (observe values) = values
 
 pub first_reads_are : (e : Effect) (at : Place) (v : VarId) → Among (first_reads e) (at, v) ↔ Free (Reaches e at v) v
 first_reads_are nothing at v = (λ h. absurd h, λ h. absurd h.1)
@@ -126,3 +133,4 @@ first_reads_are (choose tests a b place) at v =
     let arms = chain (of_both (first_reads a) (first_reads b) (at, v)) (chain (either (first_reads_are a at v) (first_reads_are b at v)) (turned (free_either (Reaches a at v) (Reaches b at v) v))) in
     chain (of_both tests (first_reads a ++ first_reads b) (at, v))
     (chain (either (free_now tests at v) arms) (turned (free_either (Reaches (assign None tests at) at v) (λ way. Reaches a at v way ⊎ Reaches b at v way) v)))
+first_reads_are (observe values) at v = free_now values at v

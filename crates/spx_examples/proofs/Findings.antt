@@ -6,18 +6,19 @@ use Rattle.spx_text.specs.declared.place.Place.{Place}
 use Rattle.spx_tree.specs.declared.expression.InfixOp.TheVariants as op
 use Rattle.spx_tree.specs.declared.statement.Closing.{Closing}
 use Rattle.spx_core.specs.declared.expression.CoreExpr.{CoreExpr}
-use Rattle.spx_core.specs.declared.expression.CoreExpr.TheVariants.{Name, Number}
+use Rattle.spx_core.specs.declared.expression.CoreExpr.TheVariants.{Name, Number, Infix}
 use Rattle.spx_core.specs.declared.name.CoreName.{CoreName}
 use Rattle.spx_core.specs.declared.statement.CoreStmt.{CoreStmt, CoreStmt-F, roll-CoreStmt, fold-roll-CoreStmt}
 use Rattle.spx_core.specs.declared.statement.CoreStmt.TheVariants as stmt
 use Rattle.spx_core.specs.declared.statement.CoreArm.{fold-roll-CoreArm}
 use Rattle.spx_core.specs.declared.statement.CoreChoice.{CoreChoice}
-use Rattle.spx_core.specs.Commands.{Command, Skip, Set, Then, Choose, alternative_step, arm_step, stmt_step, commands}
-use Rattle.spx_core.specs.Effects.{Effect, assign, choose, effect, effects, next, nothing, read_of}
+use Rattle.spx_core.specs.Commands.{Command, Skip, Set, Then, Choose, Check, alternative_step, arm_step, stmt_step, commands}
+use Rattle.spx_core.specs.Effects.{Effect, assign, choose, effect, effects, next, nothing, observe, read_of}
 use Rattle.spx_core.specs.FlowRules.{body_effect, HasNoFlowFinding}
 use Rattle.spx_core.specs.Reads.{names_read, names_step}
 use Rattle.spx_core.specs.Uses.{variable_of}
 use Rattle.spx_core.proofs.Callers.Expressions.{fold-Name, fold-Number, fold-Infix}
+use Rattle.spx_examples.specs.Assertions.{checks_local, checks_import}
 use Rattle.spx_examples.specs.Branches.{arm}
 use Rattle.spx_examples.specs.Increment.{place, x, x_at, x_named, successor, step}
 use Rattle.spx_examples.specs.Flag.{y, named, y_at, positive, setting, closing, flag, flag_program, flag_effect}
@@ -25,7 +26,7 @@ use Rattle.spx_examples.specs.Flag as in_flag
 use Rattle.spx_examples.specs.Found.{Finds, nothing_found}
 use Rattle.spx_examples.specs.Findings.{gives, declared, by_star, undeclared, overdeclared, with_formal, local_y_at, inc_with_local, with_local, positive_at, reads_after_arm, out_with_local, gives_seven, gives_unset, gives_set, overwrites, decides_nothing, sets_in_both, as_flag, seven_program, seven_y_at}
 use Rattle.spx_examples.specs.Variants.{out_x_at}
-use Rattle.spx_examples.proofs.Statements.{null_is, assignment_is, if_is}
+use Rattle.spx_examples.proofs.Statements.{null_is, assignment_is, check_is, if_is}
 use Rattle.spx_examples.proofs.Successor.{step_effect}
 use Rattle.spx_examples.proofs.Flag.{names_read_are as condition_reads, effect_is}
 use Rattle.spx_examples.proofs.FlowLists.{found, no_finding}
@@ -60,6 +61,12 @@ module _ (rest : List CoreStmt) where
   choosing s at condition a b names is are =
       first_effect s (Choose at condition a b) is
       ∙ ap (λ names. next (choose (filter_map read_of names) (effect a) (effect b) at) (effects rest)) are
+
+  -- a `check` whose condition reads these names
+  looking : (at : Place) (condition : CoreExpr) (names : List CoreName) → names_read condition ≡ names → effects (stmt.Check at condition ∷ rest) ≡ next (observe (filter_map read_of names)) (effects rest)
+  looking at condition names are =
+      first_effect (stmt.Check at condition) (Check at condition) (check_is at condition)
+      ∙ ap (λ names. next (observe (filter_map read_of names)) (effects rest)) are
 
 if_else_is : (at : Place) (condition : CoreExpr) (body otherwise : List CoreStmt) (closing : Closing) → commands (stmt.If (arm at condition body ∷ []) (Some otherwise) closing ∷ []) ≡ Then (Choose at condition (commands body) (commands otherwise)) Skip
 unfolding roll-CoreStmt roll
@@ -131,6 +138,23 @@ set_effect =
 seven_effect : body_effect gives_seven ≡ next (assign (Some x) ((place 6 9, y) ∷ []) (place 6 4)) nothing
 seven_effect = giving_name [] (out_x_at 6 4) (seven_y_at 6 9)
 
+-- `name > 0` reads the name
+test_reads : (at zero : Place) (name : CoreName) → names_read (Infix op.Greater at (Name name) (Number (pos 0) zero)) ≡ name ∷ []
+test_reads at zero name = fold-Infix names_step op.Greater at (Name name) (Number (pos 0) zero) ∙ ap₂ (λ (a b : List CoreName). a ++ b) (fold-Name names_step name) (fold-Number names_step (pos 0) zero)
+
+local_check_effect : body_effect checks_local ≡ next stepped (next (observe ((place 7 14, y) ∷ [])) nothing)
+local_check_effect =
+    let condition : CoreExpr = Infix op.Greater (place 7 16) (Name (local_y_at 7 14)) (Number (pos 0) (place 7 18)) in
+    stepping (stmt.Check (place 7 8) condition ∷ [])
+    ∙ ap (next stepped) (looking [] (place 7 8) condition (local_y_at 7 14 ∷ []) (test_reads (place 7 16) (place 7 18) (local_y_at 7 14)))
+
+import_check_effect : body_effect checks_import ≡ next (observe ((place 5 14, x) ∷ [])) (next (assign (Some y) [] (place 6 4)) nothing)
+import_check_effect =
+    let rest : List CoreStmt = gives (y_at 6 4) (Number (pos 1) (place 6 9)) ∷ [] in
+    let condition : CoreExpr = Infix op.Greater (place 5 16) (Name (in_flag.x_at 5 14)) (Number (pos 0) (place 5 18)) in
+    looking rest (place 5 8) condition (in_flag.x_at 5 14 ∷ []) (test_reads (place 5 16) (place 5 18) (in_flag.x_at 5 14))
+    ∙ ap (next (observe ((place 5 14, x) ∷ []))) (giving_number [] (y_at 6 4) (pos 1) (place 6 9))
+
 -- ---- what is found
 
 pub declared_clean : HasNoFlowFinding (with_formal declared)
@@ -171,3 +195,9 @@ seven_clean = no_finding seven_program gives_seven refl (found seven_program giv
 
 pub set_clean : HasNoFlowFinding (out_with_local gives_set)
 set_clean = no_finding (out_with_local gives_set) gives_set refl (found (out_with_local gives_set) gives_set _ set_effect)
+
+pub unset_in_check : Finds (with_local checks_local) checks_local (record nothing_found { unset = (place 7 14, y) ∷ [] })
+unset_in_check = found (with_local checks_local) checks_local _ local_check_effect
+
+pub unused_in_check : Finds (as_flag checks_import) checks_import (record nothing_found { unused = (x, y) ∷ [] })
+unused_in_check = found (as_flag checks_import) checks_import _ import_check_effect

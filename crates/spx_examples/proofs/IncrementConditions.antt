@@ -29,8 +29,8 @@ term_of_below =
 abbrev path : Term → Tree → Tree
 path pre rest = Assign now_name entry_x (assume_all (in_integer now_x ++ conjuncts pre) rest)
 
-body_walk : walk increment inc (commands (step ∷ [])) ending ending 0 ≡ summed (place 6 11) Cut
-body_walk = ap (λ c. walk increment inc c ending ending 0) inc_command ∙ walk_step (inc ∷ []) inc 6 4 9 ending ending 0
+body_walk : walk increment inc (commands (step ∷ [])) (ending increment inc) (ending increment inc) 0 ≡ summed (place 6 11) Cut
+body_walk = ap (λ c. walk increment inc c (ending increment inc) (ending increment inc) 0) inc_command ∙ walk_step (inc ∷ []) inc 6 4 9 (ending increment inc) (ending increment inc) 0
 
 tree_is : start_tree increment inc ≡ path_below INTEGER_LAST (summed (place 6 11) Cut)
 tree_is =

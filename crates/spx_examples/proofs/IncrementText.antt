@@ -8,11 +8,11 @@ use Rattle.spx_tree.specs.declared.statement.Stmt.TheVariants.{outs-Assignment}
 use Rattle.spx_tree.specs.Lexemes.{unreserved, kind_of_word, code_delimiters, annotation_delimiters, delimiters}
 use Rattle.spx_tree.specs.Places.{place_after_bytes}
 use Rattle.spx_tree.specs.Spells.{Spells}
-use Rattle.spx_tree.specs.Grammar.{IsExpr, IsFormed, Within, IsStmt, IsFile}
+use Rattle.spx_tree.specs.Grammar.{IsExpr, IsPredicate, IsFormed, Within, IsStmt, IsFile}
 use Rattle.spx_tree.specs.Form.{forms_of}
 use Rattle.spx_tree.specs.Written.{written, written_stmt}
 use Rattle.spx_tree.proofs.WrittenLevels.{written_level, spelled_stmt}
-use Rattle.spx_examples.specs.Increment.{x_written, below_written, successor_written, step_written, inc_units}
+use Rattle.spx_examples.specs.Increment.{place, x_written, below_written, successor_written, step_written, inc_units}
 use Rattle.spx_examples.specs.IncrementText.{inc_bytes, inc_tokens}
 use Rattle.spx_examples.proofs.Spelling.{Piece, Word, Digits, Delimiter, Space, Head, LineEnd, spelled_by}
 
@@ -48,7 +48,7 @@ spelled = spelled_by (heading ++ derives ++ pre ++ body) refl refl refl
 
 -- ---- its tree
 
-below_expr : IsExpr 1 below_written
+below_expr : IsPredicate 1 (record { place = place 3 5; condition = below_written })
 unfolding hidden-the_row-Expr-0 hidden
 below_expr = record { low = omega arith; layered = (tt, tt, omega arith, omega arith); of_layer = omega arith }
 
@@ -63,7 +63,7 @@ step_stmt : IsStmt 1 step_written
 step_stmt = subst (IsFormed 1 (Within 1)) (sym step_is) (sum_expr 6 9)
 
 pub grammatical : IsFile 1 inc_units
-grammatical = (record { formal_part = ((tt, tt), tt); derives = ((tt, tt), tt); pre = below_expr; declarations = tt; statements = (step_stmt, tt) }, tt)
+grammatical = (record { formal_part = ((tt, tt), tt); derives = ((tt, tt), tt); pre = below_expr; post = tt; declarations = tt; statements = (step_stmt, tt) }, tt)
 
 -- an operator is a level
 pub no_fewer_levels : IsFile 0 inc_units → ⊥

@@ -45,3 +45,7 @@ mod FlowLists
 mod Findings
 mod Declarations
 mod Selections
+mod Assertions
+mod AssertionConditions
+mod AssertionText
+mod AssertedText

@@ -16,6 +16,7 @@ use Rattle.spx_tree.specs.declared.subprogram.Subprogram.{Subprogram}
 use Rattle.spx_tree.specs.declared.subprogram.Unit.{Unit}
 use Rattle.spx_tree.specs.declared.subprogram.Unit.TheVariants as unit
 use Rattle.spx_tree.specs.Written.{applied, parenthesized, signed, operation, in_type, in_range}
+use Rattle.spx_core.specs.declared.dependency.CoreDerivesItem.{CoreDerivesItem}
 use Rattle.spx_core.specs.declared.expression.CoreExpr.{CoreExpr, CoreExpr-F}
 use Rattle.spx_core.specs.declared.rule.Breach.{Breach}
 use Rattle.spx_core.specs.declared.rule.Typing.{Typing}
@@ -24,12 +25,12 @@ use Rattle.spx_core.specs.Dependency.{relation}
 use Rattle.spx_core.specs.declared.subprogram.Sub.{Sub}
 use Rattle.spx_core.specs.Judged.{Judged, ◌>>=◌, breach_in, condition, each, expr_step, if_there, judged, operand_of, referred_target}
 use Rattle.spx_core.specs.Regions.{Regions}
-use Rattle.spx_core.specs.Resolved.{around_body, at_start, counted_sub, declaring, declaring_all, formal_names, local_names, params_of, resolved_expr, resolved_function, resolved_pre, resolved_reference, resolved_stmt, resolved_sub, resolved_subs, resolved_value, unit_name}
+use Rattle.spx_core.specs.Resolved.{around_body, at_start, counted_sub, declaring, declaring_all, formal_names, local_names, params_of, is_changed_by, resolved_expr, resolved_function, resolved_in, resolved_name, resolved_predicate, resolved_reference, resolved_stmt, resolved_sub, resolved_subs, resolved_value, unit_name}
 use Rattle.spx_core.specs.Resolved as resolving
-use Rattle.spx_core.specs.Statements.{first_name_breach, judged_name, judged_command, judged_decl, judged_end, judged_item, judged_param, judged_pre, judged_sub}
-use Rattle.spx_core.proofs.Callers.Expressions.{fold-Number, fold-Name, fold-Attribute, fold-Applied, fold-Parenthesized, fold-Prefix, fold-Infix, fold-InType, fold-InRange}
-use Rattle.spx_examples.proofs.Statements.{assignment_is, if_is, and_no_more}
-use Rattle.spx_examples.proofs.Resolving.{resolved_assignment, resolved_if}
+use Rattle.spx_core.specs.Statements.{first_name_breach, judged_name, judged_command, judged_decl, judged_end, judged_item, judged_param, judged_predicate, judged_sub}
+use Rattle.spx_core.proofs.Callers.Expressions.{fold-Number, fold-Name, fold-Entry, fold-Attribute, fold-Applied, fold-Parenthesized, fold-Prefix, fold-Infix, fold-InType, fold-InRange}
+use Rattle.spx_examples.proofs.Statements.{assignment_is, check_is, if_is, and_no_more}
+use Rattle.spx_examples.proofs.Resolving.{resolved_assignment, resolved_check, resolved_if}
 
 -- `if test then body end if`
 abbrev if_written : Place → Expr → List Stmt → Closing → Stmt
@@ -39,94 +40,111 @@ if_written at test body closing = written_stmt.If (record { place = at; conditio
 
 -- what a name is judged to be, where a value is needed
 abbrev name_now : Regions → Name → Judged Typing
-name_now around (Simple name) = expr_step (CoreExpr-F.Name (resolving.resolved_name around name))
-name_now around (Attribute prefix designator) = expr_step (CoreExpr-F.Attribute (resolving.resolved_name around prefix) designator)
+name_now around (Simple name) = expr_step (CoreExpr-F.Name (resolved_name around name))
+name_now around (Attribute prefix designator) = expr_step (CoreExpr-F.Attribute (resolved_name around prefix) designator)
 
 -- what a written expression is judged to be: a fold that computes
-abbrev pub expr_now : Regions → Expr → Judged Typing
-expr_now around (written_expr.Number n place) = expr_step (CoreExpr-F.Number n place)
-expr_now around (written_expr.Name name) = name_now around name
-expr_now around (applied function place a) = expr_step (CoreExpr-F.Applied (resolved_function around function) place (expr_now around a))
-expr_now around (parenthesized place a) = expr_step (CoreExpr-F.Parenthesized place (expr_now around a))
-expr_now around (signed op place a) = expr_step (CoreExpr-F.Prefix op place (expr_now around a))
-expr_now around (operation op place a b) = expr_step (CoreExpr-F.Infix op place (expr_now around a) (expr_now around b))
-expr_now around (in_type op place a name) = expr_step (CoreExpr-F.InType op place (expr_now around a) (resolved_reference around name))
-expr_now around (in_range op place a low high) = expr_step (CoreExpr-F.InRange op place (expr_now around a) (expr_now around low) (expr_now around high))
+abbrev pub expr_now : List CoreDerivesItem → Regions → Expr → Judged Typing
+expr_now items around (written_expr.Number n place) = expr_step (CoreExpr-F.Number n place)
+expr_now items around (written_expr.Name name) = name_now around name
+expr_now items around (written_expr.Entry name) = expr_step (CoreExpr-F.Entry (resolved_name around name) (is_changed_by items (resolved_name around name)))
+expr_now items around (applied function place a) = expr_step (CoreExpr-F.Applied (resolved_function around function) place (expr_now items around a))
+expr_now items around (parenthesized place a) = expr_step (CoreExpr-F.Parenthesized place (expr_now items around a))
+expr_now items around (signed op place a) = expr_step (CoreExpr-F.Prefix op place (expr_now items around a))
+expr_now items around (operation op place a b) = expr_step (CoreExpr-F.Infix op place (expr_now items around a) (expr_now items around b))
+expr_now items around (in_type op place a name) = expr_step (CoreExpr-F.InType op place (expr_now items around a) (resolved_reference around name))
+expr_now items around (in_range op place a low high) = expr_step (CoreExpr-F.InRange op place (expr_now items around a) (expr_now items around low) (expr_now items around high))
 
-module _ (around : Regions) where
-  at_layer : (y : Expr-F Expr) → judged (resolved_expr around (roll-Expr y)) ≡ judged (resolving.expr_step around (map-Expr Expr CoreExpr (resolved_expr around) y))
-  at_layer y = ap judged (fold-roll-Expr CoreExpr (resolving.expr_step around) y)
+module _ (items : List CoreDerivesItem) (around : Regions) where
+  at_layer : (y : Expr-F Expr) → judged (resolved_in items around (roll-Expr y)) ≡ judged (resolving.expr_step items around (map-Expr Expr CoreExpr (resolved_in items around) y))
+  at_layer y = ap judged (fold-roll-Expr CoreExpr (resolving.expr_step items around) y)
 
   judged_as : (name : Name) → judged (resolved_value around name) ≡ name_now around name
-  judged_as (Simple name) = fold-Name expr_step (resolving.resolved_name around name)
-  judged_as (Attribute prefix designator) = fold-Attribute expr_step (resolving.resolved_name around prefix) designator
+  judged_as (Simple name) = fold-Name expr_step (resolved_name around name)
+  judged_as (Attribute prefix designator) = fold-Attribute expr_step (resolved_name around prefix) designator
 
-  pub judged_is : (e : Expr) → judged (resolved_expr around e) ≡ expr_now around e
+  pub judged_is : (e : Expr) → judged (resolved_in items around e) ≡ expr_now items around e
   unfolding roll-Expr roll hidden-the_row-Expr-0 hidden
   judged_is (written_expr.Number n place) = at_layer (Expr-F.Number n place) ∙ fold-Number expr_step n place
   judged_is (written_expr.Name name) = at_layer (Expr-F.Name name) ∙ judged_as name
+  judged_is (written_expr.Entry name) = at_layer (Expr-F.Entry name) ∙ fold-Entry expr_step (resolved_name around name) (is_changed_by items (resolved_name around name))
   judged_is (applied function place a) =
       at_layer (Expr-F.Applied function place a)
-      ∙ fold-Applied expr_step (resolved_function around function) place (resolved_expr around a)
+      ∙ fold-Applied expr_step (resolved_function around function) place (resolved_in items around a)
       ∙ ap (λ j. expr_step (CoreExpr-F.Applied (resolved_function around function) place j)) (judged_is a)
-  judged_is (parenthesized place a) = at_layer (Expr-F.Parenthesized place a) ∙ fold-Parenthesized expr_step place (resolved_expr around a) ∙ ap (λ j. expr_step (CoreExpr-F.Parenthesized place j)) (judged_is a)
-  judged_is (signed op place a) = at_layer (Expr-F.Prefix op place a) ∙ fold-Prefix expr_step op place (resolved_expr around a) ∙ ap (λ j. expr_step (CoreExpr-F.Prefix op place j)) (judged_is a)
+  judged_is (parenthesized place a) = at_layer (Expr-F.Parenthesized place a) ∙ fold-Parenthesized expr_step place (resolved_in items around a) ∙ ap (λ j. expr_step (CoreExpr-F.Parenthesized place j)) (judged_is a)
+  judged_is (signed op place a) = at_layer (Expr-F.Prefix op place a) ∙ fold-Prefix expr_step op place (resolved_in items around a) ∙ ap (λ j. expr_step (CoreExpr-F.Prefix op place j)) (judged_is a)
   judged_is (operation op place a b) =
       at_layer (Expr-F.Infix op place a b)
-      ∙ fold-Infix expr_step op place (resolved_expr around a) (resolved_expr around b)
+      ∙ fold-Infix expr_step op place (resolved_in items around a) (resolved_in items around b)
       ∙ ap₂ (λ j k. expr_step (CoreExpr-F.Infix op place j k)) (judged_is a) (judged_is b)
   judged_is (in_type op place a name) =
       at_layer (Expr-F.InType op place a name)
-      ∙ fold-InType expr_step op place (resolved_expr around a) (resolved_reference around name)
+      ∙ fold-InType expr_step op place (resolved_in items around a) (resolved_reference around name)
       ∙ ap (λ j. expr_step (CoreExpr-F.InType op place j (resolved_reference around name))) (judged_is a)
   judged_is (in_range op place a low high) =
       at_layer (Expr-F.InRange op place a low high)
-      ∙ fold-InRange expr_step op place (resolved_expr around a) (resolved_expr around low) (resolved_expr around high)
-      ∙ ap₂ (λ j k. expr_step (CoreExpr-F.InRange op place j k (judged (resolved_expr around high)))) (judged_is a) (judged_is low)
-      ∙ ap (λ l. expr_step (CoreExpr-F.InRange op place (expr_now around a) (expr_now around low) l)) (judged_is high)
+      ∙ fold-InRange expr_step op place (resolved_in items around a) (resolved_in items around low) (resolved_in items around high)
+      ∙ ap₂ (λ j k. expr_step (CoreExpr-F.InRange op place j k (judged (resolved_in items around high)))) (judged_is a) (judged_is low)
+      ∙ ap (λ l. expr_step (CoreExpr-F.InRange op place (expr_now items around a) (expr_now items around low) l)) (judged_is high)
 
-  -- ---- annotations and statements
+  -- ---- annotations
 
-  -- what a precondition is judged to be
-  abbrev pre_now : Predicate → Judged ⊤
-  pre_now pre = expr_now around pre.condition >>= λ t. condition t
+  -- what a precondition or a postcondition is judged to be
+  abbrev predicate_now : Predicate → Judged ⊤
+  predicate_now predicate = expr_now items around predicate.condition >>= λ t. condition t
 
-  pre_is : (pre : Option Predicate) → if_there judged_pre (option_map (resolved_pre around) pre) ≡ if_there pre_now pre
-  pre_is None = refl
-  pre_is (Some pre) = ap (λ j. j >>= λ t. condition t) (judged_is pre.condition)
+  predicate_is : (predicate : Option Predicate) → if_there judged_predicate (option_map (resolved_predicate items around) predicate) ≡ if_there predicate_now predicate
+  predicate_is None = refl
+  predicate_is (Some predicate) = ap (λ j. j >>= λ t. condition t) (judged_is predicate.condition)
 
+-- ---- statements
+
+module _ (around : Regions) where
   -- what the assignment is judged to be
   abbrev pub assignment_now : Name → Expr → Judged ⊤
   assignment_now target value = do
     subtype ← referred_target (resolved_reference around target)
-    v ← expr_now around value
+    v ← expr_now [] around value
     operand_of subtype v
 
-  pub body_is : (target : Name) (value : Expr) → judged_command (commands (resolved_stmt around (written_stmt.Assignment target value) ∷ [])) ≡ and_no_more (assignment_now target value)
+module _ (items : List CoreDerivesItem) (around : Regions) where
+  pub body_is : (target : Name) (value : Expr) → judged_command (commands (resolved_stmt items around (written_stmt.Assignment target value) ∷ [])) ≡ and_no_more (assignment_now around target value)
   body_is target value =
-      ap (λ s. judged_command (commands (s ∷ []))) (resolved_assignment around target value)
+      ap (λ s. judged_command (commands (s ∷ []))) (resolved_assignment items around target value)
       ∙ ap judged_command (assignment_is (resolved_reference around target) (resolved_expr around value))
-      ∙ ap (λ j. and_no_more (referred_target (resolved_reference around target) >>= λ subtype. j >>= λ v. operand_of subtype v)) (judged_is value)
+      ∙ ap (λ j. and_no_more (referred_target (resolved_reference around target) >>= λ subtype. j >>= λ v. operand_of subtype v)) (judged_is [] around value)
 
   -- what the `if` of one arm is judged to be
   abbrev if_now : Judged Typing → List Stmt → Judged ⊤
-  if_now test body = (test >>= λ t. condition t) >>= λ _. and_no_more (judged_command (commands (map (resolved_stmt around) body)))
+  if_now test body = (test >>= λ t. condition t) >>= λ _. and_no_more (judged_command (commands (map (resolved_stmt items around) body)))
 
   if_body : (at : Place) (test : Expr) (body : List Stmt) (closing : Closing)
-      → judged_command (commands (resolved_stmt around (if_written at test body closing) ∷ [])) ≡ and_no_more (if_now (expr_now around test) body)
+      → judged_command (commands (resolved_stmt items around (if_written at test body closing) ∷ [])) ≡ and_no_more (if_now (expr_now [] around test) body)
   if_body at test body closing =
-      ap (λ s. judged_command (commands (s ∷ []))) (resolved_if around at test body closing)
-      ∙ ap judged_command (if_is at (resolved_expr around test) (map (resolved_stmt around) body) closing)
-      ∙ ap (λ j. and_no_more (if_now j body)) (judged_is test)
+      ap (λ s. judged_command (commands (s ∷ []))) (resolved_if items around at test body closing)
+      ∙ ap judged_command (if_is at (resolved_expr around test) (map (resolved_stmt items around) body) closing)
+      ∙ ap (λ j. and_no_more (if_now j body)) (judged_is [] around test)
+
+  -- what a `check` is judged to be
+  abbrev check_now : Expr → Judged ⊤
+  check_now test = expr_now items around test >>= λ t. condition t
+
+  check_body : (at : Place) (test : Expr) → judged_command (commands (resolved_stmt items around (written_stmt.Check at test) ∷ [])) ≡ and_no_more (check_now test)
+  check_body at test =
+      ap (λ s. judged_command (commands (s ∷ []))) (resolved_check items around at test)
+      ∙ ap judged_command (check_is at (resolved_in items around test))
+      ∙ ap (λ j. and_no_more (j >>= λ t. condition t)) (judged_is items around test)
 
 -- ---- procedures
 
--- the procedure, where its precondition and its body are judged to be this
-abbrev sub_with : Sub → Judged ⊤ → Judged ⊤ → Judged ⊤
-sub_with sub pre body = do
+-- the procedure, where its precondition, its postcondition and its body are judged to be this
+abbrev sub_with : Sub → (pre post body : Judged ⊤) → Judged ⊤
+sub_with sub pre post body = do
   _ ← each judged_param (params_of sub.formal_part)
   _ ← each judged_item (relation sub)
   _ ← pre
+  _ ← post
   _ ← each judged_decl sub.declarations
   _ ← body
   if_there (judged_end sub.name) sub.end_name
@@ -152,20 +170,28 @@ module _ (s : Subprogram) (others : List Unit) where
 
   -- where its body is judged to be this
   abbrev first_with : Judged ⊤ → Judged ⊤
-  first_with body = sub_with first (if_there (pre_now (annotated first)) s.pre) body
+  first_with body = sub_with first (if_there (predicate_now [] (annotated first)) s.pre) (if_there (predicate_now (relation first) (annotated first)) s.post) body
 
   module _ (statement : Stmt) (is : s.statements ≡ statement ∷ []) where
-    with_body : (body : Judged ⊤) → judged_command (commands (resolved_stmt (inside first) statement ∷ [])) ≡ body → first_name_breach (unit.Subprogram s ∷ others) ≡ breach_with (first_with body)
+    with_body : (body : Judged ⊤) → judged_command (commands (resolved_stmt (relation first) (inside first) statement ∷ [])) ≡ body → first_name_breach (unit.Subprogram s ∷ others) ≡ breach_with (first_with body)
     unfolding first_name_breach
     with_body body body_is =
-        ap breach_with (ap₂ (sub_with first) (pre_is (annotated first) s.pre) (ap (λ ss. judged_command (commands (map (resolved_stmt (inside first)) ss))) is ∙ body_is))
+        ap (λ parts. breach_with parts)
+        (ap₂ (λ pre post. sub_with first pre post (judged_command (commands first.statements))) (predicate_is [] (annotated first) s.pre) (predicate_is (relation first) (annotated first) s.post)
+        ∙ ap (sub_with first (if_there (predicate_now [] (annotated first)) s.pre) (if_there (predicate_now (relation first) (annotated first)) s.post)) (ap (λ ss. judged_command (commands (map (resolved_stmt (relation first) (inside first)) ss))) is ∙ body_is))
 
   -- where its one statement is an assignment
   pub breach_is : (target : Name) (value : Expr) → s.statements ≡ written_stmt.Assignment target value ∷ []
       → first_name_breach (unit.Subprogram s ∷ others) ≡ breach_with (first_with (and_no_more (assignment_now (inside first) target value)))
-  breach_is target value is = with_body (written_stmt.Assignment target value) is (and_no_more (assignment_now (inside first) target value)) (body_is (inside first) target value)
+  breach_is target value is = with_body (written_stmt.Assignment target value) is (and_no_more (assignment_now (inside first) target value)) (body_is (relation first) (inside first) target value)
 
   -- where it is an `if` of one arm
   pub breach_of_if : (at : Place) (test : Expr) (body : List Stmt) (closing : Closing) → s.statements ≡ if_written at test body closing ∷ []
-      → first_name_breach (unit.Subprogram s ∷ others) ≡ breach_with (first_with (and_no_more (if_now (inside first) (expr_now (inside first) test) body)))
-  breach_of_if at test body closing is = with_body (if_written at test body closing) is (and_no_more (if_now (inside first) (expr_now (inside first) test) body)) (if_body (inside first) at test body closing)
+      → first_name_breach (unit.Subprogram s ∷ others) ≡ breach_with (first_with (and_no_more (if_now (relation first) (inside first) (expr_now [] (inside first) test) body)))
+  breach_of_if at test body closing is =
+      with_body (if_written at test body closing) is (and_no_more (if_now (relation first) (inside first) (expr_now [] (inside first) test) body)) (if_body (relation first) (inside first) at test body closing)
+
+  -- where it is a `check`
+  pub breach_of_check : (at : Place) (test : Expr) → s.statements ≡ written_stmt.Check at test ∷ []
+      → first_name_breach (unit.Subprogram s ∷ others) ≡ breach_with (first_with (and_no_more (check_now (relation first) (inside first) test)))
+  breach_of_check at test is = with_body (written_stmt.Check at test) is (and_no_more (check_now (relation first) (inside first) test)) (check_body (relation first) (inside first) at test)

@@ -20,7 +20,7 @@ use Rattle.spx_term.specs.Intervals.{allowed, structural}
 use Rattle.spx_term.specs.Paths.{branches}
 use Rattle.spx_term.specs.Plain.{Plain}
 use Rattle.spx_term.specs.Steps.{Tree, Cut, Assume, Assign, Split, assume_all, claims_of, tidy}
-use Rattle.spx_paths.specs.Terms.{now_term, entry_term, term_of, term_with-Number}
+use Rattle.spx_paths.specs.Terms.{now_term, term_of, term_with-Number}
 use Rattle.spx_paths.specs.Checks.{checks, checks-Infix, checks-Name, checks-Number, unless_static}
 use Rattle.spx_paths.specs.Walks.{ending, start_tree, walk}
 use Rattle.spx_paths.specs.Conditions.{ArePlain, conditions_of, numbered, paths}
@@ -32,16 +32,16 @@ use Rattle.spx_examples.proofs.SumsPlain.{Fits, range_plain, overflow_plain}
 
 -- ---- the tree of steps
 
-term_of_below : term_of next_program (entry_term next_program next_sub) below_hundred ≡ below_now
+term_of_below : term_of next_program (now_term next_program) below_hundred ≡ below_now
 term_of_below =
-    let entered = entry_term next_program next_sub in
+    let entered = now_term next_program in
     term_of_operation next_program entered op.Less (place 5 9) 5 7 (expr.Number (pos 100) (place 5 11)) below_is_not
     ∙ ap (term.Infix sign.Less now_x) (term_with-Number (now_term next_program) entered (pos 100) (place 5 11))
 
 -- the condition asks for nothing
-checks_below : (rest : Tree) → checks next_program (entry_term next_program next_sub) [] below_hundred rest ≡ rest
+checks_below : (rest : Tree) → checks next_program (now_term next_program) [] below_hundred rest ≡ rest
 checks_below rest =
-    let entered = entry_term next_program next_sub in
+    let entered = now_term next_program in
     let hundred : CoreExpr = expr.Number (pos 100) (place 5 11) in
     checks-Infix next_program entered [] op.Less (place 5 9) (expr.Name (x_at 5 7)) hundred rest
     ∙ ap (λ l. unless_static l rest (checks next_program entered [] (expr.Name (x_at 5 7)) (checks next_program entered [] hundred rest))) below_is_not
@@ -52,11 +52,11 @@ checks_below rest =
 abbrev fork : Term → List Term → Tree → Tree
 fork test parts arm = Split (assume_all parts arm) (Assume (term.Prefix Not test) Cut)
 
-body_walk : walk next_program next_sub (commands (branch ∷ [])) ending ending 0 ≡ fork below_now (below_now ∷ []) (summed (place 6 14) Cut)
+body_walk : walk next_program next_sub (commands (branch ∷ [])) (ending next_program next_sub) (ending next_program next_sub) 0 ≡ fork below_now (below_now ∷ []) (summed (place 6 14) Cut)
 body_walk =
-    ap (λ c. walk next_program next_sub c ending ending 0) next_command
+    ap (λ c. walk next_program next_sub c (ending next_program next_sub) (ending next_program next_sub) 0) next_command
     ∙ checks_below _
-    ∙ ap₂ (λ test arm. fork test (conjuncts test) arm) term_of_below (walk_step (next_sub ∷ []) next_sub 6 7 12 ending ending 0)
+    ∙ ap₂ (λ test arm. fork test (conjuncts test) arm) term_of_below (walk_step (next_sub ∷ []) next_sub 6 7 12 (ending next_program next_sub) (ending next_program next_sub) 0)
     ∙ ap (λ parts. fork below_now parts (summed (place 6 14) Cut)) (conjuncts-Infix sign.Less now_x (term.Number (pos 100)))
 
 tree_is : start_tree next_program next_sub ≡ Assign now_name entry_x (assume_all (in_integer now_x) (fork below_now (below_now ∷ []) (summed (place 6 14) Cut)))

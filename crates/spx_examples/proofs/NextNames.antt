@@ -14,7 +14,7 @@ use Rattle.spx_core.specs.Regions.{Regions, denoted, standard}
 use Rattle.spx_core.specs.Resolved.{around_body, declaring, expr_step, resolved, resolved_expr, resolved_stmt}
 use Rattle.spx_examples.specs.Branches.{arm}
 use Rattle.spx_examples.specs.Increment.{place, x_written, x, object}
-use Rattle.spx_examples.specs.Next.{below_written, step_written, arm_written, closing, next_units, x_declared, next_declared, below_hundred, branch, next_sub, next_program}
+use Rattle.spx_examples.specs.Next.{below_written, step_written, arm_written, closing, next_units, x_declared, next_declared, below_hundred, relation, branch, next_sub, next_program}
 use Rattle.spx_examples.proofs.Resolving.{resolved_x, resolved_step, resolved_if}
 
 -- around the annotations and the body
@@ -27,13 +27,13 @@ x_denotes = refl
 resolved_below : resolved_expr regions below_written ≡ below_hundred
 unfolding roll-Expr roll
 resolved_below =
-    fold-roll-Expr CoreExpr (expr_step regions) (Expr-F.Infix op.Less (place 5 9) (written_expr.Name (x_written 5 7)) (written_expr.Number (pos 100) (place 5 11)))
-    ∙ ap₂ (expr.Infix op.Less (place 5 9)) (resolved_x regions x_denotes 5 7) (fold-roll-Expr CoreExpr (expr_step regions) (Expr-F.Number (pos 100) (place 5 11)))
+    fold-roll-Expr CoreExpr (expr_step [] regions) (Expr-F.Infix op.Less (place 5 9) (written_expr.Name (x_written 5 7)) (written_expr.Number (pos 100) (place 5 11)))
+    ∙ ap₂ (expr.Infix op.Less (place 5 9)) (resolved_x [] regions x_denotes 5 7) (fold-roll-Expr CoreExpr (expr_step [] regions) (Expr-F.Number (pos 100) (place 5 11)))
 
-resolved_branch : resolved_stmt regions (written_stmt.If (arm_written ∷ []) None closing) ≡ branch
+resolved_branch : resolved_stmt (relation ∷ []) regions (written_stmt.If (arm_written ∷ []) None closing) ≡ branch
 resolved_branch =
-    resolved_if regions (place 5 4) below_written (step_written ∷ []) closing
-    ∙ ap₂ (λ condition statement. stmt.If (arm (place 5 4) condition (statement ∷ []) ∷ []) None closing) resolved_below (resolved_step regions x_denotes 6 7 12)
+    resolved_if (relation ∷ []) regions (place 5 4) below_written (step_written ∷ []) closing
+    ∙ ap₂ (λ condition statement. stmt.If (arm (place 5 4) condition (statement ∷ []) ∷ []) None closing) resolved_below (resolved_step (relation ∷ []) regions x_denotes 6 7 12)
 
 pub next_is_resolved : resolved next_units ≡ next_program
 unfolding standard

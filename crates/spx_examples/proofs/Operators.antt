@@ -1,5 +1,5 @@
 -- What the operators give, mean, ask for and stand for as terms.
-use Rattle.std.proofs.Common.{◌≡◌, ℕ, ℤ, pos, true, List, [], ◌∷◌, Some, None, Ok, refl, ap, ap₂, ◌∙◌}
+use Rattle.std.proofs.Common.{◌≡◌, ℕ, ℤ, pos, Bool, true, List, [], ◌∷◌, Some, None, Ok, refl, ap, ap₂, ◌∙◌}
 use Rattle.spx_text.specs.declared.place.Place.{Place}
 use Rattle.spx_tree.specs.declared.expression.InfixOp.{InfixOp}
 use Rattle.spx_tree.specs.declared.expression.InfixOp.TheVariants as op
@@ -10,10 +10,11 @@ use Rattle.spx_core.specs.declared.entity.Subtype.{Subtype}
 use Rattle.spx_core.specs.declared.entity.VarId.{VarId}
 use Rattle.spx_core.specs.declared.expression.CoreExpr.{CoreExpr}
 use Rattle.spx_core.specs.declared.expression.CoreExpr.TheVariants.{Number, Name, Infix, outs-Name}
+use Rattle.spx_core.specs.declared.name.CoreName.{CoreName}
 use Rattle.spx_core.specs.declared.program.Program.{Program}
 use Rattle.spx_core.specs.declared.rule.ExprType.TheVariants.{Universal, Of}
 use Rattle.spx_core.specs.declared.rule.Typing.{Typing}
-use Rattle.spx_core.specs.Judged.{Judged, ◌>>=◌, expr_step, judged, typing}
+use Rattle.spx_core.specs.Judged.{Judged, ◌>>=◌, expr_step, judged, named_value, typing}
 use Rattle.spx_core.specs.Judged as rules
 use Rattle.spx_core.specs.Places.{place_in, place_of}
 use Rattle.spx_core.proofs.Callers.Expressions.{fold-Name, fold-Number, fold-Prefix, fold-Infix, fold-InType, fold-InRange}
@@ -21,13 +22,14 @@ use Rattle.spx_term.specs.declared.term.Term.{Term}
 use Rattle.spx_term.specs.declared.term.Term.TheVariants as term
 use Rattle.spx_term.specs.declared.value.Value.TheVariants as value
 use Rattle.spx_term.specs.Steps.{Tree}
-use Rattle.spx_meaning.specs.Annotations.{meant_step}
+use Rattle.spx_meaning.specs.Annotations.{meant, meant_step}
 use Rattle.spx_meaning.specs.Evaluation.{Answer, Gives, applied, checked, first_in, last_in, member, read, static_or, term_op, with_value, eval, eval-Number, eval-InType, eval-InRange}
 use Rattle.spx_meaning.specs.Frames.{Frame}
 use Rattle.spx_meaning.specs.Literals.{base_judged, literal_in}
 use Rattle.spx_meaning.specs.Stores.{Store}
 use Rattle.spx_paths.specs.Checks.{checks, checks-Infix, checks-Name, checks-Number, operation_check, right_lefts, unless_static}
 use Rattle.spx_paths.specs.Terms.{first_term, last_term, literal_or, member_term, now_term, signed_term, term_of, term_with-Infix, term_with-InType, term_with-Name, term_with-Number, term_with-Prefix}
+use Rattle.spx_examples.specs.Assertions.{of_literals}
 use Rattle.spx_examples.specs.Increment.{place}
 use Rattle.spx_examples.specs.Operators.{a, b, a_at, b_at, true_at, two, one, natural_named, in_natural, in_numbers, static, b_is_not_zero, a_over_b, above_one, guarded, number, values, Means}
 use Rattle.spx_examples.proofs.Evaluations.{eval_name, eval_operated, eval_signed, operated_as, signed_as}
@@ -62,6 +64,10 @@ pub judged_static : (o : InfixOp) (m n : ℤ) → judged (static o m n) ≡ oper
 judged_static o m n =
     fold-Infix expr_step o (place 1 3) (Number m (place 1 1)) (Number n (place 1 12))
     ∙ ap₂ (operating o (place 1 3)) (fold-Number expr_step m (place 1 1)) (fold-Number expr_step n (place 1 12))
+
+-- an operation on two names
+pub judged_of_literals : (o : InfixOp) (m n : CoreName) → judged (of_literals o m n) ≡ operating o (place 1 3) (named_value m) (named_value n)
+judged_of_literals o m n = fold-Infix expr_step o (place 1 3) (Name m) (Name n) ∙ ap₂ (operating o (place 1 3)) (fold-Name expr_step m) (fold-Name expr_step n)
 
 pub judged_true : judged (Name (true_at 1 1)) ≡ Ok (typing (Of BOOLEAN.base) (Some (pos 1)) (place 1 1))
 judged_true = fold-Name expr_step (true_at 1 1)
@@ -161,6 +167,12 @@ meant_two o m n f =
     let step = meant_step f (values (number m) (number n)) in
     fold-Infix step o (place 1 3) (Name (a_at INTEGER 1)) (Name (b_at INTEGER 12))
     ∙ ap₂ (applied o) (fold-Name step (a_at INTEGER 1)) (fold-Name step (b_at INTEGER 12))
+
+pub meant_truths : (f : Frame) (o : InfixOp) (p q : Bool) → meant f (values (value.Truth p) (value.Truth q)) (two o BOOLEAN) ≡ applied o (value.Truth p) (value.Truth q)
+meant_truths f o p q =
+    let step = meant_step f (values (value.Truth p) (value.Truth q)) in
+    fold-Infix step o (place 1 3) (Name (a_at BOOLEAN 1)) (Name (b_at BOOLEAN 12))
+    ∙ ap₂ (applied o) (fold-Name step (a_at BOOLEAN 1)) (fold-Name step (b_at BOOLEAN 12))
 
 -- ---- terms
 

@@ -29,8 +29,8 @@ use Rattle.spx_examples.proofs.Sums.{summed, path_from_entry, walk_step, claims_
 
 -- ---- what they are
 
-body_walk : walk increment_without_pre inc_without_pre (commands (step ∷ [])) ending ending 0 ≡ summed (place 6 11) Cut
-body_walk = ap (λ c. walk increment_without_pre inc_without_pre c ending ending 0) inc_command ∙ walk_step (inc_without_pre ∷ []) inc_without_pre 6 4 9 ending ending 0
+body_walk : walk increment_without_pre inc_without_pre (commands (step ∷ [])) (ending increment_without_pre inc_without_pre) (ending increment_without_pre inc_without_pre) 0 ≡ summed (place 6 11) Cut
+body_walk = ap (λ c. walk increment_without_pre inc_without_pre c (ending increment_without_pre inc_without_pre) (ending increment_without_pre inc_without_pre) 0) inc_command ∙ walk_step (inc_without_pre ∷ []) inc_without_pre 6 4 9 (ending increment_without_pre inc_without_pre) (ending increment_without_pre inc_without_pre) 0
 
 tree_is : start_tree increment_without_pre inc_without_pre ≡ path_from_entry (summed (place 6 11) Cut)
 tree_is = ap path_from_entry body_walk

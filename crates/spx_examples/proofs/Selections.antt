@@ -15,6 +15,7 @@ use Rattle.spx_tree.specs.declared.statement.Closing.{Closing}
 use Rattle.spx_tree.specs.declared.statement.Stmt.{Stmt, Stmt-F, roll-Stmt, fold-roll-Stmt}
 use Rattle.spx_tree.specs.declared.statement.Stmt.TheVariants as written_stmt
 use Rattle.spx_tree.specs.Written.{applied, parenthesized, signed, operation, in_type, in_range}
+use Rattle.spx_core.specs.declared.dependency.CoreDerivesItem.{CoreDerivesItem}
 use Rattle.spx_core.specs.declared.entity.Entity.TheVariants as entity
 use Rattle.spx_core.specs.declared.expression.CoreExpr.{CoreExpr}
 use Rattle.spx_core.specs.declared.expression.CoreExpr.TheVariants as expr
@@ -31,6 +32,7 @@ use Rattle.spx_core.specs.declared.statement.CoreChoice.{CoreChoice}
 use Rattle.spx_core.specs.declared.statement.CoreStmt.{CoreStmt, CoreStmt-F, roll-CoreStmt, fold-roll-CoreStmt}
 use Rattle.spx_core.specs.declared.statement.CoreStmt.TheVariants as stmt
 use Rattle.spx_core.specs.Commands.{Command, Skip, Then, Select, Alternatives, Last, When, alternative_step, arm_step, choices_in, commands, has_others_last, listed, stmt_step}
+use Rattle.spx_core.specs.Dependency.{relation}
 use Rattle.spx_core.specs.Extents.{extent, extent-Name, extent_in, extent_named, type_judged, with_static}
 use Rattle.spx_core.specs.Judged.{Judged, ◌>>=◌, application, each, expr_step, if_there, judged, keeps, mapped, named_value}
 use Rattle.spx_core.specs.Places.{place_in, place_of}
@@ -53,7 +55,7 @@ use Rattle.spx_examples.specs.Increment.{place}
 use Rattle.spx_examples.specs.NameRules.{alone}
 use Rattle.spx_examples.specs.Operators.{a, a_at, number}
 use Rattle.spx_examples.specs.Selections.{Chosen, color_program, giving, holding, literal_at}
-use Rattle.spx_examples.proofs.Declarations.{breach_where, breach_with, inside, now}
+use Rattle.spx_examples.proofs.Declarations.{breach_where, breach_with, first as procedure, inside, now}
 use Rattle.spx_examples.proofs.Evaluations.{assigns, eval_name}
 use Rattle.spx_examples.proofs.Statements.{and_no_more, null_is}
 
@@ -67,6 +69,7 @@ judged_now e = judged e
 judgement_is : (e : CoreExpr) → judged e ≡ judged_now e
 judgement_is (expr.Name name) = fold-Name expr_step name
 judgement_is (expr.Number n place) = refl
+judgement_is (expr.Entry name allowed) = refl
 judgement_is (expr.Attribute prefix designator) = refl
 judgement_is (shape.applied_of function place b) = refl
 judgement_is (shape.parenthesized_of place b) = refl
@@ -91,9 +94,10 @@ module _ (around : Regions) where
 
   resolution_is : (e : Expr) → resolved_expr around e ≡ resolved_now e
   unfolding roll-Expr roll
-  resolution_is (written_expr.Name (Simple name)) = fold-roll-Expr CoreExpr (resolving.expr_step around) (Expr-F.Name (Simple name))
+  resolution_is (written_expr.Name (Simple name)) = fold-roll-Expr CoreExpr (resolving.expr_step [] around) (Expr-F.Name (Simple name))
   resolution_is (written_expr.Name (Attribute prefix designator)) = refl
   resolution_is (written_expr.Number n place) = refl
+  resolution_is (written_expr.Entry name) = refl
   resolution_is (applied function place b) = refl
   resolution_is (parenthesized place b) = refl
   resolution_is (signed op place b) = refl
@@ -179,36 +183,37 @@ module _ (around : Regions) where
       ap (λ (s : Span). record { low = resolved_expr around c.low; high = option_map (resolved_expr around) c.high; span = s }) (span_is (resolved_expr around c.low) (option_map (resolved_expr around) c.high))
       ∙ ap₂ (λ j r. choice_by j r c) (fun_ext judgement_is) (fun_ext (resolution_is around))
 
-  resolved_null : (at : Place) → resolved_stmt around (written_stmt.Null at) ≡ stmt.Null at
+module _ (items : List CoreDerivesItem) (around : Regions) where
+  resolved_null : (at : Place) → resolved_stmt items around (written_stmt.Null at) ≡ stmt.Null at
   unfolding roll-Stmt roll
-  resolved_null at = fold-roll-Stmt CoreStmt CoreAlternative CoreArm (resolving.stmt_step around) (resolving.alternative_step around) (resolving.arm_step around) (Stmt-F.Null at)
+  resolved_null at = fold-roll-Stmt CoreStmt CoreAlternative CoreArm (resolving.stmt_step items around) (resolving.alternative_step around) (resolving.arm_step around) (Stmt-F.Null at)
 
   abbrev core : Option (List Choice) → Place → CoreAlternative
   core choices at = record { choices = option_map (map (resolved_choice around)) choices; body = stmt.Null at ∷ [] }
 
-  alternative_is : (choices : Option (List Choice)) (at : Place) → resolved_alternative around (written choices at) ≡ core choices at
+  alternative_is : (choices : Option (List Choice)) (at : Place) → resolved_alternative items around (written choices at) ≡ core choices at
   alternative_is choices at =
-      fold-roll-Alternative CoreStmt CoreAlternative CoreArm (resolving.stmt_step around) (resolving.alternative_step around) (resolving.arm_step around) (record { choices = choices; body = written_stmt.Null at ∷ [] })
+      fold-roll-Alternative CoreStmt CoreAlternative CoreArm (resolving.stmt_step items around) (resolving.alternative_step around) (resolving.arm_step around) (record { choices = choices; body = written_stmt.Null at ∷ [] })
       ∙ ap (λ (s : CoreStmt). record { choices = option_map (map (resolved_choice around)) choices; body = s ∷ [] }) (resolved_null at)
 
   resolved_case : (at : Place) (selector : Identifier) (first second : Option (List Choice)) (p q : Place) (closing : Closing)
-      → resolved_stmt around (case_written at selector first second p q closing) ≡ stmt.Case at (resolved_expr around (written_expr.Name (Simple selector))) (core first p ∷ core second q ∷ []) closing
+      → resolved_stmt items around (case_written at selector first second p q closing) ≡ stmt.Case at (resolved_expr around (written_expr.Name (Simple selector))) (core first p ∷ core second q ∷ []) closing
   unfolding roll-Stmt roll
   resolved_case at selector first second p q closing =
-      fold-roll-Stmt CoreStmt CoreAlternative CoreArm (resolving.stmt_step around) (resolving.alternative_step around) (resolving.arm_step around) (Stmt-F.Case at (written_expr.Name (Simple selector)) (written first p ∷ written second q ∷ []) closing)
+      fold-roll-Stmt CoreStmt CoreAlternative CoreArm (resolving.stmt_step items around) (resolving.alternative_step around) (resolving.arm_step around) (Stmt-F.Case at (written_expr.Name (Simple selector)) (written first p ∷ written second q ∷ []) closing)
       ∙ ap₂ (λ (b c : CoreAlternative). stmt.Case at (resolved_expr around (written_expr.Name (Simple selector))) (b ∷ c ∷ []) closing) (alternative_is first p) (alternative_is second q)
 
   case_body : (at : Place) (selector : Identifier) (first second : Option (List Choice)) (p q : Place) (closing : Closing)
-      → judged_command (commands (resolved_stmt around (case_written at selector first second p q closing) ∷ [])) ≡ and_no_more (case_now at selector first second)
+      → judged_command (commands (resolved_stmt items around (case_written at selector first second p q closing) ∷ [])) ≡ and_no_more (case_now around at selector first second)
   case_body at selector first second p q closing =
       let e : CoreExpr = resolved_expr around (written_expr.Name (Simple selector)) in
       let name : CoreName = resolved_name around selector in
       ap (λ (s : CoreStmt). judged_command (commands (s ∷ []))) (resolved_case at selector first second p q closing)
       ∙ ap judged_command (command_is at e (option_map (map (resolved_choice around)) first) (option_map (map (resolved_choice around)) second) (stmt.Null p ∷ []) (stmt.Null q ∷ []) closing)
       ∙ ap₂ (λ (b c : Command). judged_command (Then (Select at e (When (option_map (map (resolved_choice around)) first) b (Last (option_map (map (resolved_choice around)) second) c))) Skip)) (null_is p) (null_is q)
-      ∙ ap (λ (f : Choice → CoreChoice). and_no_more (case_by judged at e (extent e) (option_map (map f) first) (option_map (map f) second))) (fun_ext choice_is)
-      ∙ ap (λ (d : CoreExpr). and_no_more (case_by judged at d (extent d) (choices_now first) (choices_now second))) (resolution_is around (written_expr.Name (Simple selector)))
-      ∙ ap₂ (λ (j : CoreExpr → Judged Typing) (values : Span). and_no_more (case_by j at (expr.Name name) values (choices_now first) (choices_now second))) (fun_ext judgement_is) (extent_is name)
+      ∙ ap (λ (f : Choice → CoreChoice). and_no_more (case_by judged at e (extent e) (option_map (map f) first) (option_map (map f) second))) (fun_ext (choice_is around))
+      ∙ ap (λ (d : CoreExpr). and_no_more (case_by judged at d (extent d) (choices_now around first) (choices_now around second))) (resolution_is around (written_expr.Name (Simple selector)))
+      ∙ ap₂ (λ (j : CoreExpr → Judged Typing) (values : Span). and_no_more (case_by j at (expr.Name name) values (choices_now around first) (choices_now around second))) (fun_ext judgement_is) (extent_is name)
 
 pub case_breach : (ds : List Decl) (at : Place) (selector : Identifier) (first second : Option (List Choice)) (p q : Place) (closing : Closing)
     → first_name_breach (alone (stating ds (case_written at selector first second p q closing)))
@@ -217,7 +222,7 @@ pub case_breach : (ds : List Decl) (at : Place) (selector : Identifier) (first s
 case_breach ds at selector first second p q closing =
     let statement : Stmt = case_written at selector first second p q closing in
     let around : Regions = inside ds statement (now ds statement).names in
-    breach_where ds statement (and_no_more (case_now around at selector first second)) (case_body around at selector first second p q closing)
+    breach_where ds statement (and_no_more (case_now around at selector first second)) (case_body (relation (procedure ds statement)) around at selector first second p q closing)
 
 -- ---- runs
 

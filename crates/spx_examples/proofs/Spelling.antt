@@ -16,7 +16,7 @@ use Rattle.spx_tree.specs.declared.token.Kind.TheVariants as kind
 use Rattle.spx_tree.specs.declared.token.Token.{Token}
 use Rattle.spx_tree.specs.Lexemes.{IsWordRest, IsAfterUnderscore, IsWord, kind_of_word, kind_of, delimiters, IsLexeme, word, numeral, delimiter, IsMaximal, spoils_number}
 use Rattle.spx_tree.specs.Numbers.{IsNumeralRest, IsNumeral, numeral_value, none as no_exponent, IsNumber, decimal}
-use Rattle.spx_tree.specs.Spells.{Role, line_end, separator, head, lexeme, Stands, IsSound, Part, bytes_of, marked_following, AllStand, tokens_of, Spells}
+use Rattle.spx_tree.specs.Spells.{BeginsWith, Role, line_end, separator, head, lexeme, Stands, IsSound, Part, bytes_of, marked_following, AllStand, tokens_of, Spells}
 use Rattle.spx_tree.proofs.Numbers.{is_number_byte, number_bytes, number_digit}
 use Rattle.spx_tree.proofs.Shapes.{kind_of_passes}
 use Rattle.spx_tree.proofs.OnlyDigits.{word_no_number, delimiter_no_number}
@@ -96,14 +96,24 @@ maximal m bytes (c ∷ rest) h (x ∷ more) following k n e l =
     let longer : bytes ++ x ∷ more ≡ (bytes ++ c ∷ []) ++ more = ap (λ (y : ℕ). bytes ++ y ∷ more) (head_is c x rest (more ++ following) e) ∙ sym (append_assoc bytes (c ∷ []) more) in
     absurd (no_lexeme m k n (bytes ++ c ∷ []) more h (subst (IsLexeme m k n) longer l))
 
--- the lexeme ends there, and is no hyphen
+-- a hyphen comes next
+abbrev hyphen_follows : List ℕ → Bool
+hyphen_follows [] = false
+hyphen_follows (b ∷ bs) = b == byte "-"
+
+-- the lexeme ends there, and is no hyphen before another one
 abbrev closes : Bool → List ℕ → List ℕ → Bool
-closes m bytes rest = not (bytes_eq bytes (codes "-")) && ends m bytes rest
+closes m bytes rest = not (bytes_eq bytes (codes "-") && hyphen_follows rest) && ends m bytes rest
+
+follows : (rest : List ℕ) → BeginsWith (byte "-") rest → hyphen_follows rest ≡ true
+follows [] h = absurd h
+follows (b ∷ rest) h = ap (λ (c : ℕ). c == byte "-") h
 
 lexeme_stands : (m : Bool) (k : Kind) (n : ℤ) (bytes rest : List ℕ) → IsLexeme m k n bytes → closes m bytes rest ≡ true → Stands m (lexeme k n) bytes rest
 lexeme_stands m k n bytes rest l h =
-    let p = and_parts (not (bytes_eq bytes (codes "-"))) (ends m bytes rest) h in
-    (l, maximal m bytes rest p.1, λ e g. both_ways (bytes_eq bytes (codes "-")) (not-true (bytes_eq bytes (codes "-")) p.0) ((bytes_eq-Decides bytes (codes "-")).1 e))
+    let two = bytes_eq bytes (codes "-") && hyphen_follows rest in
+    let p = and_parts (not two) (ends m bytes rest) h in
+    (l, maximal m bytes rest p.1, λ e g. both_ways two (not-true two p.0) (and_from (bytes_eq bytes (codes "-")) (hyphen_follows rest) ((bytes_eq-Decides bytes (codes "-")).1 e) (follows rest g)))
 
 -- a word without underscores
 abbrev is_word : List ℕ → Bool

@@ -14,14 +14,22 @@ use Rattle.spx_core.specs.declared.statement.CoreChoice.{CoreChoice}
 use Rattle.spx_core.specs.declared.rule.Typing.{Typing}
 use Rattle.spx_core.specs.declared.subprogram.Sub.{Sub}
 use Rattle.spx_core.specs.Judged.{Judged, ◌>>=◌, operation}
-use Rattle.spx_core.specs.Commands.{Command, Skip, Set, Then, Choose, alternative_step, arm_step, stmt_step, command, commands}
+use Rattle.spx_core.specs.Commands.{Command, Skip, Set, Then, Choose, Check, alternative_step, arm_step, stmt_step, command, commands}
 use Rattle.spx_meaning.specs.declared.bad.BadKind.TheVariants.{Unset}
-use Rattle.spx_meaning.specs.Runs.{Outcome, then_do, demand, exports_set}
+use Rattle.spx_meaning.specs.Runs.{Outcome, Ended, then_do, demand, exports_set}
 use Rattle.spx_examples.specs.Branches.{arm}
 
 pub null_is : (at : Place) → commands (stmt.Null at ∷ []) ≡ Then Skip Skip
 unfolding roll-CoreStmt roll
 null_is at = ap (λ c. Then c Skip) (fold-roll-CoreStmt Command (Option (List CoreChoice) × Command) (Command → Command) stmt_step alternative_step arm_step (CoreStmt-F.Null at))
+
+-- a `check` looks at its condition
+pub check_looks : (at : Place) (condition : CoreExpr) → command (stmt.Check at condition) ≡ Check at condition
+unfolding roll-CoreStmt roll
+check_looks at condition = fold-roll-CoreStmt Command (Option (List CoreChoice) × Command) (Command → Command) stmt_step alternative_step arm_step (CoreStmt-F.Check at condition)
+
+pub check_is : (at : Place) (condition : CoreExpr) → commands (stmt.Check at condition ∷ []) ≡ Then (Check at condition) Skip
+check_is at condition = ap (λ c. Then c Skip) (check_looks at condition)
 
 -- an assignment sets its target
 pub assignment_sets : (target : Reference) (value : CoreExpr) → command (stmt.Assignment target value) ≡ Set target value
@@ -62,6 +70,6 @@ operating op place left right = left >>= λ l. right >>= λ r. operation op plac
 
 -- ---- runs
 
--- the end of a body, after this outcome
+-- the end of a body without a postcondition, after this outcome
 abbrev pub to_end : Sub → Outcome → Outcome
-to_end sub outcome = then_do outcome (λ t. demand (exports_set sub t) Unset sub.end t)
+to_end sub outcome = then_do outcome (λ t. then_do (demand (exports_set sub t) Unset sub.end t) Ended)

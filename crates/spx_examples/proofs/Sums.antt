@@ -24,7 +24,7 @@ use Rattle.spx_term.specs.Steps.{Tree, Cut, Assign, Claim, assume_all, check, sa
 use Rattle.spx_term.proofs.Terms as terms
 use Rattle.spx_meaning.specs.Evaluation.{term_op}
 use Rattle.spx_meaning.specs.Literals.{base_judged, literal, literal_in}
-use Rattle.spx_paths.specs.Terms.{now_term, entry_term, term_of, term_with-Infix, term_with-Name, term_with-Number, literal_or}
+use Rattle.spx_paths.specs.Terms.{now_term, term_of, term_with-Infix, term_with-Name, term_with-Number, literal_or}
 use Rattle.spx_paths.specs.Checks.{in_type, checks, checks-Infix, checks-Name, checks-Number, operation_check, unless_static}
 use Rattle.spx_paths.specs.Walks.{walk}
 use Rattle.spx_examples.specs.Increment.{place, x, x_at, successor, increment, entry_x, next_x, at_least_first, at_most_last, entry_below, known_entry, known_below, sum_goals}
@@ -89,7 +89,7 @@ pub walk_step : (subs : List Sub) (sub : Sub) (line target value : ℕ) (rest le
     → walk (program_with subs) sub (step_command line target value) rest leave made ≡ summed (place line (value + 2)) (rest made)
 walk_step subs sub line target value rest leave made =
     let p = program_with subs in
-    let entered = entry_term p sub in
+    let entered = now_term p in
     let t = term_of p entered (successor line value) in
     checks_successor p entered line value (check Range (place_of (successor line value)) (in_integer t) (Assign now_name t (rest made)))
     ∙ ap₂ (λ u at. check Overflow (place line (value + 2)) (in_integer u) (check Range at (in_integer u) (Assign now_name u (rest made)))) (term_of_successor p entered line value) (place_of_successor line value)
@@ -100,7 +100,7 @@ walk_step subs sub line target value rest leave made =
 abbrev pub on_entry : Term → Term
 on_entry = substituted now_name entry_x
 
-same_x : same_name now_name now_name ≡ true
+pub same_x : same_name now_name now_name ≡ true
 unfolding same_name same_by
 same_x = refl
 
@@ -110,7 +110,7 @@ x_on_entry = terms.fold-Variable (substituted_step now_name entry_x) now_name �
 pub before_number : (o : TermOp) (a b : Term) (n : ℤ) → on_entry a ≡ b → on_entry (term.Infix o a (term.Number n)) ≡ term.Infix o b (term.Number n)
 before_number o a b n is = terms.fold-Infix (substituted_step now_name entry_x) o a (term.Number n) ∙ ap₂ (term.Infix o) is (terms.fold-Number (substituted_step now_name entry_x) n)
 
-next_on_entry : on_entry next_now ≡ next_x
+pub next_on_entry : on_entry next_now ≡ next_x
 next_on_entry = before_number sign.Add now_x entry_x (pos 1) x_on_entry
 
 pub both_on_entry : (a b : Term) → on_entry a ≡ b → map on_entry (in_integer a) ≡ in_integer b
@@ -122,23 +122,23 @@ next_is_not_entry : next_x ≡ entry_x → ⊥
 next_is_not_entry e = no_infix _ sign.Add entry_x (term.Number (pos 1)) (sym e)
 
 -- a new fact is added
-taken : (facts : List Term) (t : Term) (rest : List Term) → is_among facts t ≡ false → fold with_new facts (t ∷ rest) ≡ fold with_new (facts ++ t ∷ []) rest
+pub taken : (facts : List Term) (t : Term) (rest : List Term) → is_among facts t ≡ false → fold with_new facts (t ∷ rest) ≡ fold with_new (facts ++ t ∷ []) rest
 taken facts t rest none = ap (λ b. fold with_new (if b then facts else facts ++ t ∷ []) rest) none
 
-abbrev first_x : Term
+abbrev pub first_x : Term
 first_x = at_least_first entry_x
 
-abbrev last_x : Term
+abbrev pub last_x : Term
 last_x = at_most_last entry_x
 
-abbrev first_next : Term
+abbrev pub first_next : Term
 first_next = at_least_first next_x
 
-abbrev last_next : Term
+abbrev pub last_next : Term
 last_next = at_most_last next_x
 
 -- no two hypotheses are equal
-entry_taken : (rest : List Term) → fold with_new [] (known_entry ++ rest) ≡ fold with_new known_entry rest
+pub entry_taken : (rest : List Term) → fold with_new [] (known_entry ++ rest) ≡ fold with_new known_entry rest
 entry_taken rest = taken [] first_x (last_x ∷ rest) refl ∙ taken (first_x ∷ []) last_x rest (is_new last_x first_x [] (other_op _ _ _ _ _ _ (λ e. cc)) refl)
 
 known_taken : (n : ℤ) (rest : List Term) → fold with_new [] (known_below n ++ rest) ≡ fold with_new (known_below n) rest
@@ -162,7 +162,7 @@ last_is_new n =
 known_on_entry : (n : ℤ) → map on_entry (in_integer now_x ++ below_now n ∷ []) ≡ known_below n
 known_on_entry n = ap₂ (λ (ts : List Term) (t : Term). ts ++ t ∷ []) (both_on_entry now_x entry_x x_on_entry) (before_number sign.Less now_x entry_x n x_on_entry)
 
-goals_on_entry : map on_entry (in_integer next_now) ≡ sum_goals
+pub goals_on_entry : map on_entry (in_integer next_now) ≡ sum_goals
 goals_on_entry = both_on_entry next_now next_x next_on_entry
 
 known_once : (n : ℤ) → without_doubles (map on_entry (in_integer now_x ++ below_now n ∷ [])) ≡ known_below n
@@ -192,21 +192,21 @@ claims_are n at =
 
 -- ---- where no more is known of X~
 
-first_is_new_on_entry : is_among known_entry first_next ≡ false
+pub first_is_new_on_entry : is_among known_entry first_next ≡ false
 first_is_new_on_entry = is_new first_next first_x (last_x ∷ []) (other_left _ _ _ _ _ _ next_is_not_entry) (is_new first_next last_x [] (other_op _ _ _ _ _ _ (λ e. cc)) refl)
 
-last_is_new_on_entry : is_among (known_entry ++ first_next ∷ []) last_next ≡ false
+pub last_is_new_on_entry : is_among (known_entry ++ first_next ∷ []) last_next ≡ false
 last_is_new_on_entry =
     is_new last_next first_x (last_x ∷ first_next ∷ []) (other_op _ _ _ _ _ _ (λ e. cc))
     (is_new last_next last_x (first_next ∷ []) (other_left _ _ _ _ _ _ next_is_not_entry) (is_new last_next first_next [] (other_op _ _ _ _ _ _ (λ e. cc)) refl))
 
-entry_on_entry : map on_entry (in_integer now_x) ≡ known_entry
+pub entry_on_entry : map on_entry (in_integer now_x) ≡ known_entry
 entry_on_entry = both_on_entry now_x entry_x x_on_entry
 
-entry_once : without_doubles (map on_entry (in_integer now_x)) ≡ known_entry
+pub entry_once : without_doubles (map on_entry (in_integer now_x)) ≡ known_entry
 entry_once = ap without_doubles entry_on_entry ∙ entry_taken []
 
-entry_all_once : without_doubles (map on_entry (in_integer now_x ++ in_integer next_now)) ≡ known_entry ++ sum_goals
+pub entry_all_once : without_doubles (map on_entry (in_integer now_x ++ in_integer next_now)) ≡ known_entry ++ sum_goals
 entry_all_once =
     ap without_doubles (ap₂ (λ (ts us : List Term). ts ++ us) entry_on_entry goals_on_entry)
     ∙ entry_taken sum_goals

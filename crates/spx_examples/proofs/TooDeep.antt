@@ -44,6 +44,7 @@ no_operator : Begins (written_expr program) IsExpr 0 (x_form ∷ plus_form ∷ [
 no_operator (more, tree.Number value at, fit, e) = absurd cc
 no_operator (more, tree.Name (Simple name), fit, e) = absurd cc
 no_operator (more, tree.Name (Attribute prefix designator), fit, e) = let kind : k.Plus ≡ k.Apostrophe = second_kind _ _ _ _ _ _ e in absurd cc
+no_operator (more, tree.Entry name, fit, e) = let kind : k.Plus ≡ k.Tilde = second_kind _ _ _ _ _ _ e in absurd cc
 no_operator (more, applied function at operand, fit, e) = omega (arith, fit.low)
 no_operator (more, parenthesized at inner, fit, e) = omega (arith, fit.low)
 no_operator (more, signed sign at operand, fit, e) = omega (arith, fit.low)

@@ -98,6 +98,7 @@ flag = record {
   formal_part = Some (record { place = place 1 16; params = x_formal ∷ y_formal ∷ [] });
   derives = Some (record { place = place 2 5; items = relation ∷ [] });
   pre = None;
+  post = None;
   declarations = [];
   statements = branch ∷ [];
   end = place 8 1;

@@ -91,6 +91,7 @@ inc_written = record {
   formal_part = Some (record { place = place 1 15; params = formal_written ∷ [] });
   derives = Some (record { place = place 2 5; items = relation_written ∷ [] });
   pre = Some (record { place = place 3 5; condition = below_written });
+  post = None;
   declarations = [];
   statements = step_written ∷ [];
   end = place 7 1;
@@ -167,6 +168,7 @@ inc = record {
   formal_part = Some (record { place = place 1 15; params = formal ∷ [] });
   derives = Some (record { place = place 2 5; items = relation ∷ [] });
   pre = Some (record { place = place 3 5; condition = below_last });
+  post = None;
   declarations = [];
   statements = step ∷ [];
   end = place 7 1;

@@ -16,3 +16,5 @@ pub mod Found
 pub mod Findings
 pub mod Declarations
 pub mod Selections
+pub mod Assertions
+pub mod AssertionText

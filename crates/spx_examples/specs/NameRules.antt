@@ -120,6 +120,7 @@ second_written name = record {
   formal_part = None;
   derives = None;
   pre = None;
+  post = None;
   declarations = [];
   statements = written_stmt.Null (place 8 24) ∷ [];
   end = place 8 30;
@@ -136,9 +137,13 @@ broken_body = ending (with_target (Simple (word (codes "Y") 6 4)) (name_at (code
 abbrev pub broken_local : Subprogram
 broken_local = with_local broken_body (codes "T") (codes "T") 8
 
+-- `post Y;` before, in line 3 too
+abbrev pub broken_post : Subprogram
+broken_post = record broken_local { post = Some (record { place = place 3 12; condition = written_expr.Name (Simple (word (codes "Y") 3 17)) }) }
+
 -- `pre Y;` before
 abbrev pub broken_pre : Subprogram
-broken_pre = with_pre broken_local (codes "Y")
+broken_pre = with_pre broken_post (codes "Y")
 
 -- `derives Y from Z;` before
 abbrev pub broken_relation : Subprogram

@@ -81,6 +81,7 @@ next_written = record {
   formal_part = Some (record { place = place 1 16; params = formal_written ∷ [] });
   derives = Some (record { place = place 2 5; items = relation_written ∷ [] });
   pre = None;
+  post = None;
   declarations = [];
   statements = written_stmt.If (arm_written ∷ []) None closing ∷ [];
   end = place 8 1;
@@ -129,6 +130,7 @@ next_sub = record {
   formal_part = Some (record { place = place 1 16; params = formal ∷ [] });
   derives = Some (record { place = place 2 5; items = relation ∷ [] });
   pre = None;
+  post = None;
   declarations = [];
   statements = branch ∷ [];
   end = place 8 1;

@@ -3,6 +3,7 @@
 //! No other crate stands on this one.
 #![tactic(auto)]
 
+pub mod assertion_laws;
 pub mod branch_laws;
 pub mod call_laws;
 pub mod declaration_laws;

@@ -12,7 +12,7 @@ ghost use Rattle.spx_core.specs.Resolved.{resolved};
 ghost use Rattle.spx_core.specs.Statements.{first_name_breach};
 ghost use Rattle.spx_examples.specs.Increment.{word, x_written, successor_written, inc_units};
 ghost use Rattle.spx_examples.specs.Next.{next_units};
-ghost use Rattle.spx_examples.specs.NameRules.{breach, alone, name_at, attribute_at, number_at, operation_at, minus_at, comparison_at, with_target, with_statement, if_x_written, assigning, stepping, ending, with_local, with_pre, with_relation, with_formal, twice_written, of_own_name, second_written, broken_body, broken_local, broken_pre, broken_relation, broken_formal};
+ghost use Rattle.spx_examples.specs.NameRules.{breach, alone, name_at, attribute_at, number_at, operation_at, minus_at, comparison_at, with_target, with_statement, if_x_written, assigning, stepping, ending, with_local, with_pre, with_relation, with_formal, twice_written, of_own_name, second_written, broken_body, broken_local, broken_post, broken_pre, broken_relation, broken_formal};
 
 /// Nothing declares Y, which is a value, a target, a prefix, a type name, an import and a precondition here. In the last one a local
 /// does.
@@ -119,6 +119,7 @@ pub fn an_operation_out_of_range_breaks_n12()
 pub fn rules_on_names_come_in_the_order_of_the_text()
     ensures body { first_name_breach (alone broken_body) ≡ breach N1 6 4 }
     ensures locals { first_name_breach (alone broken_local) ≡ breach N1 4 8 }
+    ensures postcondition { first_name_breach (alone broken_post) ≡ breach N1 3 17 }
     ensures precondition { first_name_breach (alone broken_pre) ≡ breach N1 3 9 }
     ensures relation { first_name_breach (alone broken_relation) ≡ breach N1 2 13 }
     ensures formals { first_name_breach (alone broken_formal) ≡ breach N1 1 27 }

@@ -74,6 +74,8 @@ pub fn operators_on_truth_values_have_tables()
     ensures xor { HasTable op.Xor (λ p q. if p then not q else q) }
     ensures and_then { HasTable op.AndThen ◌&&◌ }
     ensures or_else { HasTable op.OrElse ◌||◌ }
+    ensures implies { HasTable op.Implies (λ p q. not p || q) }
+    ensures equivalent { HasTable op.Equivalent (λ p q. if p then q else not q) }
     ensures equal { HasTable op.Equal (λ p q. if p then q else not q) }
     ensures not_equal { HasTable op.NotEqual (λ p q. if p then not q else q) }
     ensures no { (p : Bool) → Answers (one prefix.Not BOOLEAN) (values (truth false) (truth p)) (Gives (truth (not p))) }
@@ -141,6 +143,8 @@ pub fn operations_have_terms()
     ensures power { (p : Program) (entered : VarId → Term) → term_of p entered (two op.Power INTEGER) ≡ term.Infix sign.Power (now_term p a) (now_term p b) }
     ensures xor { (p : Program) (entered : VarId → Term) → term_of p entered (two op.Xor BOOLEAN) ≡ term.Infix sign.NotEqual (now_term p a) (now_term p b) }
     ensures and_then { (p : Program) (entered : VarId → Term) → term_of p entered (two op.AndThen BOOLEAN) ≡ term.Infix sign.And (now_term p a) (now_term p b) }
+    ensures implies { (p : Program) (entered : VarId → Term) → term_of p entered (two op.Implies BOOLEAN) ≡ term.Infix sign.Implies (now_term p a) (now_term p b) }
+    ensures equivalent { (p : Program) (entered : VarId → Term) → term_of p entered (two op.Equivalent BOOLEAN) ≡ term.Infix sign.Equivalent (now_term p a) (now_term p b) }
     ensures absolute { (p : Program) (entered : VarId → Term) → term_of p entered (one prefix.Abs INTEGER) ≡ term.Prefix Abs (now_term p b) }
     ensures not_in { (p : Program) (entered : VarId → Term) → term_of p entered (in_natural (member.NotIn (place 1 7))) ≡ term.Prefix Not (term.Infix sign.And (term.Infix sign.GreaterOrEqual (now_term p a) (term.Number (pos 0))) (term.Infix sign.LessOrEqual (now_term p a) (term.Number INTEGER_LAST))) }
 {}

@@ -2,7 +2,9 @@
 use Rattle.std.specs.Prelude.{◌≡◌, ◌⊎◌, ⊤, ℕ, ◌≤◌, Bool, List, [], ◌∷◌, length, drop, Result, Ok, Err}
 use Rattle.spx_text.specs.declared.place.Place.{Place}
 use Rattle.spx_tree.specs.declared.token.Token.{Token}
+use Rattle.spx_tree.specs.declared.expression.Expr.{Expr}
 use Rattle.spx_tree.specs.Form.{Form, forms_of}
+use Rattle.spx_tree.specs.Grammar.{OfLayer}
 use Rattle.spx_tree.specs.Written.{program}
 use Rattle.spx_tree.specs.Goes.{Expected, TooDeep, IsText, IsExpected, IsTooDeep, place_with}
 use Rattle.spx_parse_body.specs.declared.cursor.Stop.{Stop}
@@ -10,6 +12,7 @@ use Rattle.spx_parse_body.specs.declared.cursor.Stop.TheVariants as stop
 use Rattle.spx_parse_body.specs.declared.fault.ParseFault.{ParseFault}
 use Rattle.spx_parse_body.specs.declared.fault.ParseFault.TheVariants as fault
 use Rattle.spx_parse_body.specs.Reading.{Outcome}
+use Rattle.spx_parse_body.specs.Operators.{last_layer}
 
 -- what a reader stops with, unless memory ran out
 abbrev pub Fails : {A : Type 0} → Stop → Outcome A → Type 0
@@ -43,6 +46,10 @@ IsUnlessMemory r result = (r ≡ result) ⊎ (r ≡ Err fault.Memory)
 abbrev pub mark_of : List Token → Bool
 mark_of [] = program
 mark_of (t ∷ ts) = t.marked
+
+-- an expression of program text, or one of annotation text, which may be a predicate
+abbrev pub IsExprAt : Bool → ℕ → Expr → Type 0
+IsExprAt marked = OfLayer (last_layer marked)
 
 -- What a function answers that reads all tokens of a text: the value that they are written from,
 -- or the place where the longest front of them that begins a text ends, the first token more, or the end.

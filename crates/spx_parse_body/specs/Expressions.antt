@@ -17,7 +17,8 @@ use Rattle.spx_tree.specs.declared.expression.FunctionForm.{FunctionForm}
 use Rattle.spx_tree.specs.declared.expression.FunctionForm.TheVariants as forms
 use Rattle.spx_tree.specs.declared.expression.Expr.{Expr}
 use Rattle.spx_tree.specs.declared.expression.Expr.TheVariants as expr
-use Rattle.spx_tree.specs.Written.{sign_kind, operator_kind, parenthesized}
+use Rattle.spx_tree.specs.declared.annotation.Predicate.{Predicate}
+use Rattle.spx_tree.specs.Written.{annotation, sign_kind, operator_kind, parenthesized}
 use Rattle.spx_tree.specs.Written as written
 use Rattle.spx_tree.specs.Grammar.{layer_of, right_layer, operand_layer}
 use Rattle.spx_parse_body.specs.declared.expressions.Tall.{Tall}
@@ -26,7 +27,7 @@ use Rattle.spx_parse_body.specs.declared.operators.Chain.TheVariants as chain
 use Rattle.spx_parse_body.specs.declared.operators.Relator.{Relator}
 use Rattle.spx_parse_body.specs.declared.operators.Relator.TheVariants as relators
 use Rattle.spx_parse_body.specs.Reading.{Reader, ◌>>=◌, ◌>>◌, pure, refuse, too_deep, peek, expect, expect_place, identifier, number, deeper, loop}
-use Rattle.spx_parse_body.specs.Operators.{sign_of, abs_or_not, power_of, relator_of, logical, goes_on, second, whole_operator}
+use Rattle.spx_parse_body.specs.Operators.{sign_of, abs_or_not, power_of, relator_of, logical, connective_of, goes_on, last_layer, second, whole_operator}
 
 -- ---- names
 
@@ -44,7 +45,7 @@ name marked = identifier marked >>= λ prefix fs. name_by marked prefix (peek ma
 
 -- ---- expressions and their heights
 
--- a number or a name
+-- a number, a name or a value on entry
 abbrev pub leaf : Expr → Tall
 leaf e = record { expr = e; height = 0 }
 
@@ -80,6 +81,7 @@ in_range op place tested low high = record { expr = expr.InRange op place tested
 abbrev pub plain_name : Expr → Option Name
 plain_name (expr.Name name) = Some name
 plain_name (expr.Number value place) = None
+plain_name (expr.Entry identifier) = None
 plain_name (written.applied function place operand) = None
 plain_name (parenthesized place inner) = None
 plain_name (written.signed op place operand) = None
@@ -93,6 +95,10 @@ literal marked = do
   v ← number marked
   pure (leaf (expr.Number v.0 v.1))
 
+-- "~" after an identifier
+unfoldable pub entry : Bool → Identifier → Reader Tall
+entry marked identifier = expect marked k.Tilde >> pure (leaf (expr.Entry identifier))
+
 -- a membership test in the type of this name
 abbrev pub type_by : MemberOp → Place → Tall → Option Name → Reader Tall
 type_by op place tested (Some type_name) = pure (in_type op place tested type_name)
@@ -100,11 +106,11 @@ type_by op place tested None = refuse
 
 -- What reads one level down is a parameter, and so is the number of levels that are left.
 module _ (marked : Bool) (below : Layer → Reader Tall) (levels : ℕ) where
-  -- "(" expression ")"
+  -- "(" predicate ")"
   unfoldable pub in_parentheses : Reader Tall
   in_parentheses = deeper levels 0 (do
     place ← expect_place marked k.LeftParenthesis
-    inner ← below layer.Expression
+    inner ← below layer.Predicate
     expect marked k.RightParenthesis
     pure (enclosed place inner))
 
@@ -135,9 +141,10 @@ module _ (marked : Bool) (below : Layer → Reader Tall) (levels : ℕ) where
   abbrev pub with_identifier_by : Identifier → Option Kind → Reader Tall
   with_identifier_by prefix (Some k.Apostrophe) = with_apostrophe prefix
   with_identifier_by prefix (Some k.LeftParenthesis) = application (function_of prefix forms.Simple)
+  with_identifier_by prefix (Some k.Tilde) = entry marked prefix
   with_identifier_by prefix _ = pure (leaf (expr.Name (Simple prefix)))
 
-  -- name | identifier ["'" identifier] "(" expression ")" | identifier "'" "(" expression ")"
+  -- name | identifier ["'" identifier] "(" expression ")" | identifier "'" "(" expression ")" | identifier "~"
   unfoldable pub with_identifier : Reader Tall
   with_identifier = identifier marked >>= λ prefix fs. with_identifier_by prefix (peek marked fs) fs
 
@@ -147,7 +154,7 @@ module _ (marked : Bool) (below : Layer → Reader Tall) (levels : ℕ) where
   primary_by (Some k.LeftParenthesis) = in_parentheses
   primary_by _ = refuse
 
-  -- number | what an identifier begins | "(" expression ")"
+  -- number | what an identifier begins | "(" predicate ")"
   unfoldable pub primary : Reader Tall
   primary = λ fs. primary_by (peek marked fs) fs
 
@@ -267,6 +274,14 @@ module _ (marked : Bool) (below : Layer → Reader Tall) (levels : ℕ) where
   unfoldable pub combination : Reader Tall
   combination = opening >>= λ x. combination_by x.0 x.1
 
+  abbrev pub connection_by : Tall → Option InfixOp → Reader Tall
+  connection_by left None = pure left
+  connection_by left (Some op) = joined_by op left
+
+  -- combination [connective combination]
+  unfoldable pub connection : Reader Tall
+  connection = combination >>= λ left fs. connection_by left (connective_of (peek marked fs)) fs
+
   abbrev pub read : Layer → Reader Tall
   read layer.Primary = primary
   read layer.Factor = factor
@@ -274,6 +289,7 @@ module _ (marked : Bool) (below : Layer → Reader Tall) (levels : ℕ) where
   read layer.Sum = sum
   read layer.Relation = relation
   read layer.Expression = combination
+  read layer.Predicate = connection
 
 unfoldable pub below : Bool → ℕ → Layer → Reader Tall
 below marked zero layer = too_deep
@@ -286,6 +302,22 @@ at_layer marked levels layer = read marked (below marked levels) levels layer
 -- expression
 unfoldable pub expression : Bool → ℕ → Reader Expr
 expression marked levels = at_layer marked levels layer.Expression >>= λ t. pure t.expr
+
+-- predicate
+unfoldable pub predicate : Bool → ℕ → Reader Expr
+predicate marked levels = at_layer marked levels layer.Predicate >>= λ t. pure t.expr
+
+-- an expression of program text, or a predicate of annotation text
+unfoldable pub expression_at : Bool → ℕ → Reader Expr
+expression_at marked levels = at_layer marked levels (last_layer marked) >>= λ t. pure t.expr
+
+-- word predicate ";", in annotation text
+unfoldable pub predicate_after : Kind → ℕ → Reader Predicate
+predicate_after word levels = do
+  place ← expect_place annotation word
+  condition ← predicate annotation levels
+  expect annotation k.Semicolon
+  pure (record { place = place; condition = condition })
 
 -- sum
 unfoldable pub simple_expression : Bool → ℕ → Reader Expr

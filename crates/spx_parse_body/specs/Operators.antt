@@ -1,11 +1,13 @@
 -- The operators that forms are (Ada 95 RM 4.5).
-use Rattle.std.specs.Prelude.{⊤, Bool, Option, Some, None}
+use Rattle.std.specs.Prelude.{⊤, Bool, true, false, Option, Some, None}
 use Rattle.spx_tree.specs.declared.token.Kind.{Kind}
 use Rattle.spx_tree.specs.declared.token.Kind.TheVariants as k
 use Rattle.spx_tree.specs.declared.expression.InfixOp.{InfixOp}
 use Rattle.spx_tree.specs.declared.expression.InfixOp.TheVariants as op
 use Rattle.spx_tree.specs.declared.expression.PrefixOp.{PrefixOp}
 use Rattle.spx_tree.specs.declared.expression.PrefixOp.TheVariants as sign
+use Rattle.spx_tree.specs.declared.expression.Layer.{Layer}
+use Rattle.spx_tree.specs.declared.expression.Layer.TheVariants as layer
 use Rattle.spx_parse_body.specs.declared.operators.Chain.{Chain}
 use Rattle.spx_parse_body.specs.declared.operators.Chain.TheVariants as chain
 use Rattle.spx_parse_body.specs.declared.operators.Relator.{Relator}
@@ -60,6 +62,17 @@ logical (Some k.And) = Some op.And
 logical (Some k.Or) = Some op.Or
 logical (Some k.Xor) = Some op.Xor
 logical _ = None
+
+-- connectives of annotation text (Barnes)
+abbrev pub connective_of : Option Kind → Option InfixOp
+connective_of (Some k.Implication) = Some op.Implies
+connective_of (Some k.Equivalence) = Some op.Equivalent
+connective_of _ = None
+
+-- the last layer of expressions of program text and of annotation text
+abbrev pub last_layer : Bool → Layer
+last_layer true = layer.Predicate
+last_layer false = layer.Expression
 
 abbrev pub if_then : Option Kind → Option InfixOp
 if_then (Some k.Then) = Some op.AndThen

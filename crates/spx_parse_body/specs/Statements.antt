@@ -1,5 +1,5 @@
 -- Reading statements (Ada 95 RM 5).
-use Rattle.std.specs.Prelude.{⊤, ℕ, zero, suc, Bool, true, false, List, [], ◌∷◌, Option, Some, None}
+use Rattle.std.specs.Prelude.{⊤, ℕ, zero, suc, Bool, List, [], ◌∷◌, Option, Some, None, is_some}
 use Rattle.spx_tree.specs.declared.token.Kind.{Kind}
 use Rattle.spx_tree.specs.declared.token.Kind.TheVariants as k
 use Rattle.spx_text.specs.declared.place.Place.{Place}
@@ -8,11 +8,13 @@ use Rattle.spx_tree.specs.declared.expression.Expr.{Expr}
 use Rattle.spx_tree.specs.declared.statement.Choice.{Choice}
 use Rattle.spx_tree.specs.declared.statement.Alternative.{Alternative}
 use Rattle.spx_tree.specs.declared.statement.Stmt.{Stmt}
-use Rattle.spx_tree.specs.declared.statement.Stmt.TheVariants.{Null, Assignment, If, Case}
+use Rattle.spx_tree.specs.declared.statement.Stmt.TheVariants.{Null, Assignment, If, Case, Check}
 use Rattle.spx_tree.specs.Form.{Form}
-use Rattle.spx_tree.specs.Written.{program}
+use Rattle.spx_tree.specs.Written.{program, annotation}
+use Rattle.spx_parse_body.specs.declared.statements.StmtKind.{StmtKind}
+use Rattle.spx_parse_body.specs.declared.statements.StmtKind.TheVariants as kinds
 use Rattle.spx_parse_body.specs.Reading.{Reader, ◌>>=◌, ◌>>◌, pure, refuse, too_deep, peek, sees, expect, expect_place, if_seen, deeper, more_items}
-use Rattle.spx_parse_body.specs.Expressions.{name, expression, expression_below, simple_expression_below}
+use Rattle.spx_parse_body.specs.Expressions.{name, expression, predicate_after, expression_below, simple_expression_below}
 
 -- "null" ";"
 unfoldable pub null_statement : Reader Stmt
@@ -21,17 +23,32 @@ null_statement = do
   expect program k.Semicolon
   pure (Null place)
 
--- a statement starts with a form of this kind
-abbrev pub starts_stmt : Option Kind → Bool
-starts_stmt (Some k.Null) = true
-starts_stmt (Some k.Identifier) = true
-starts_stmt (Some k.If) = true
-starts_stmt (Some k.Case) = true
-starts_stmt _ = false
+-- "check" predicate ";", in annotation text
+unfoldable pub check_statement : ℕ → Reader Stmt
+check_statement levels = do
+  checked ← predicate_after k.Check levels
+  pure (Check checked.place checked.condition)
+
+-- what a form of annotation text starts
+abbrev pub noted_stmt : Option Kind → Option StmtKind
+noted_stmt (Some k.Check) = Some kinds.Check
+noted_stmt _ = None
+
+-- what a form starts, by its kind in program text and in annotation text
+abbrev pub stmt_of : Option Kind → Option Kind → Option StmtKind
+stmt_of (Some k.Null) noted = Some kinds.Null
+stmt_of (Some k.Identifier) noted = Some kinds.Assignment
+stmt_of (Some k.If) noted = Some kinds.If
+stmt_of (Some k.Case) noted = Some kinds.Case
+stmt_of _ noted = noted_stmt noted
+
+-- the statement that comes next
+abbrev pub next_stmt : List Form → Option StmtKind
+next_stmt fs = stmt_of (peek program fs) (peek annotation fs)
 
 -- a statement comes next
 abbrev pub sees_stmt : List Form → Bool
-sees_stmt fs = starts_stmt (peek program fs)
+sees_stmt fs = is_some (next_stmt fs)
 
 -- ---- the choices of a case statement (Ada 95 RM 3.8.1), one level down
 
@@ -133,16 +150,17 @@ module _ (inner : Reader (List Stmt)) (levels : ℕ) where
     expect program k.Semicolon
     pure (Case place selector alternatives (record { end = end; word = word })))
 
-  abbrev pub stmt_by : Option Kind → Reader Stmt
-  stmt_by (Some k.Null) = null_statement
-  stmt_by (Some k.Identifier) = assignment
-  stmt_by (Some k.If) = if_statement
-  stmt_by (Some k.Case) = case_statement
-  stmt_by _ = refuse
+  abbrev pub stmt_by : Option StmtKind → Reader Stmt
+  stmt_by (Some kinds.Null) = null_statement
+  stmt_by (Some kinds.Assignment) = assignment
+  stmt_by (Some kinds.If) = if_statement
+  stmt_by (Some kinds.Case) = case_statement
+  stmt_by (Some kinds.Check) = check_statement levels
+  stmt_by None = refuse
 
-  -- null statement | assignment | if statement | case statement
+  -- null statement | assignment | if statement | case statement | check statement
   unfoldable pub stmt : Reader Stmt
-  stmt = λ fs. stmt_by (peek program fs) fs
+  stmt = λ fs. stmt_by (next_stmt fs) fs
 
   unfoldable pub more_stmts : List Stmt → Reader (List Stmt)
   more_stmts found = more_items sees_stmt stmt found

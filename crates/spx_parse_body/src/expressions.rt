@@ -1,16 +1,18 @@
 // From tokens to names and expressions (Ada 95 RM 4.1 and 4.4).
 ghost use Rattle.std.specs.Prelude.{◌≡◌, ◌<◌, ◌≤◌, ◌+◌, ◌-◌, ◌^◌, IfOk};
+ghost use Rattle.spx_tree.specs.Form.{keeps, ItsPlace};
 ghost use Rattle.spx_parse_body.specs.Expressions as read;
 ghost use Rattle.spx_parse_body.specs.Answers.{Reads};
 
-use crate::cursor::{Cursor, Stop};
+use crate::cursor::{ANNOTATION, Cursor, Stop};
 use crate::operators::{
-    Chain, Relator, abs_or_not, logical, operand_layer, operator_place, place_before, power_of,
-    relator_of, right_layer, second_word, sign_of, whole_operator,
+    Chain, Relator, abs_or_not, connective_of, last_layer, logical, operand_layer, operator_place,
+    place_before, power_of, relator_of, right_layer, second_word, sign_of, whole_operator,
 };
 use spx_text::Place;
 use spx_tree::{
-    Expr, Function, FunctionForm, Identifier, InfixOp, Kind, Layer, MemberOp, Name, PrefixOp,
+    Expr, Function, FunctionForm, Identifier, InfixOp, Kind, Layer, MemberOp, Name, Predicate,
+    PrefixOp,
 };
 use sqlite_items::Boxed;
 use std::alloc::{AllocError, Global};
@@ -42,6 +44,7 @@ pub fn at_layer(
         Layer::Sum => sum(alloc, cursor, levels, marked),
         Layer::Relation => relation(alloc, cursor, levels, marked),
         Layer::Expression => combination(alloc, cursor, levels, marked),
+        Layer::Predicate => connection(alloc, cursor, levels, marked),
     }
 }
 
@@ -87,7 +90,7 @@ fn enclose(alloc: Global, place: Place, inner: Tall) -> Result<Tall, AllocError>
     })
 }
 
-// in_parentheses = "(" expression ")"
+// in_parentheses = "(" predicate ")"
 #[cycle(layers)]
 #[tactic(auto, using(crate::proofs::Levels::below_is), unfolding(crate::specs::Expressions::in_parentheses))]
 fn in_parentheses(
@@ -103,7 +106,7 @@ fn in_parentheses(
         return Err(cursor.too_deep());
     }
     let place = cursor.expect_place(marked, Kind::LeftParenthesis)?;
-    let inner = at_layer(alloc, cursor, levels - 1, marked, Layer::Expression)?;
+    let inner = at_layer(alloc, cursor, levels - 1, marked, Layer::Predicate)?;
     cursor.expect(marked, Kind::RightParenthesis)?;
     Ok(enclose(alloc, place, inner)?)
 }
@@ -194,7 +197,20 @@ fn with_apostrophe(
     }
 }
 
-// with_identifier = identifier [with_apostrophe | application]
+// entry = "~", after an identifier
+#[tactic(auto, unfolding(crate::specs::Expressions::entry))]
+fn entry(cursor: &mut Cursor<'_>, marked: bool, identifier: Identifier) -> Result<Tall, Stop>
+    ensures gives { Reads (read.entry marked identifier cursor.old) result cursor.new }
+    ensures low { IfOk result (λ t. t.height ≡ 0) }
+{
+    cursor.expect(marked, Kind::Tilde)?;
+    Ok(Tall {
+        expr: Expr::Entry(identifier),
+        height: 0,
+    })
+}
+
+// with_identifier = identifier [with_apostrophe | application | entry]
 #[cycle(layers)]
 #[tactic(auto, unfolding(crate::specs::Expressions::with_identifier))]
 fn with_identifier(
@@ -214,6 +230,7 @@ fn with_identifier(
             let function = Function { name: prefix, form };
             application(alloc, cursor, levels, marked, function)
         }
+        Some(Kind::Tilde) => entry(cursor, marked, prefix),
         _ => Ok(Tall {
             expr: Expr::Name(Name::Simple(prefix)),
             height: 0,
@@ -406,6 +423,7 @@ fn plain_name(expr: Expr) -> Option<Name>
     match expr {
         Expr::Name(name) => Some(name),
         Expr::Number(_, _) => None,
+        Expr::Entry(_) => None,
         Expr::Applied(_, _, _) => None,
         Expr::Parenthesized(_, _) => None,
         Expr::Prefix(_, _, _) => None,
@@ -624,6 +642,25 @@ fn combination(
     }
 }
 
+// connection = combination [connective combination]
+#[cycle(layers)]
+#[tactic(auto, unfolding(crate::specs::Expressions::connection))]
+fn connection(
+    alloc: Global,
+    cursor: &mut Cursor<'_>,
+    levels: u32,
+    marked: bool,
+) -> Result<Tall, Stop>
+    ensures gives { Reads (read.connection marked (read.below marked levels) levels cursor.old) result cursor.new }
+    ensures low { IfOk result (λ t. t.height ≤ levels) }
+{
+    let left = combination(alloc, cursor, levels, marked)?;
+    match connective_of(cursor.peek(marked)) {
+        Some(op) => infix(alloc, cursor, levels, marked, op, left),
+        None => Ok(left),
+    }
+}
+
 /// Reads an expression.
 #[tactic(auto, unfolding(crate::specs::Expressions::expression))]
 pub fn expression(
@@ -636,6 +673,51 @@ pub fn expression(
 {
     let tall = at_layer(alloc, cursor, levels, marked, Layer::Expression)?;
     Ok(tall.expr)
+}
+
+/// Reads a predicate: an expression, or two between which a connective stands.
+#[tactic(auto, unfolding(crate::specs::Expressions::predicate))]
+pub fn predicate(
+    alloc: Global,
+    cursor: &mut Cursor<'_>,
+    levels: u32,
+    marked: bool,
+) -> Result<Expr, Stop>
+    ensures { Reads (read.predicate marked levels cursor.old) result cursor.new }
+{
+    let tall = at_layer(alloc, cursor, levels, marked, Layer::Predicate)?;
+    Ok(tall.expr)
+}
+
+/// Reads an expression of program text, or a predicate of annotation text.
+#[tactic(auto, unfolding(crate::specs::Expressions::expression_at))]
+pub fn expression_at(
+    alloc: Global,
+    cursor: &mut Cursor<'_>,
+    levels: u32,
+    marked: bool,
+) -> Result<Expr, Stop>
+    ensures { Reads (read.expression_at marked levels cursor.old) result cursor.new }
+{
+    let tall = at_layer(alloc, cursor, levels, marked, last_layer(marked))?;
+    Ok(tall.expr)
+}
+
+// predicate_after = word predicate ";", in annotation text
+#[tactic(auto, unfolding(crate::specs::Expressions::predicate_after))]
+pub fn predicate_after(
+    alloc: Global,
+    cursor: &mut Cursor<'_>,
+    levels: u32,
+    word: Kind,
+) -> Result<Predicate, Stop>
+    requires { keeps word ≡ ItsPlace }
+    ensures { Reads (read.predicate_after word levels cursor.old) result cursor.new }
+{
+    let place = cursor.expect_place(ANNOTATION, word)?;
+    let condition = predicate(alloc, cursor, levels, ANNOTATION)?;
+    cursor.expect(ANNOTATION, Kind::Semicolon)?;
+    Ok(Predicate { place, condition })
 }
 
 /// Reads a sum, which Ada 95 calls a simple expression.

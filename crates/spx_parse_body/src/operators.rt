@@ -111,6 +111,17 @@ pub fn logical(kind: Option<Kind>) -> Option<InfixOp>
     }
 }
 
+/// The connective of annotation text that a token is.
+pub fn connective_of(kind: Option<Kind>) -> Option<InfixOp>
+    ensures { result ≡ read.connective_of kind }
+{
+    match kind {
+        Some(Kind::Implication) => Some(InfixOp::Implies),
+        Some(Kind::Equivalence) => Some(InfixOp::Equivalent),
+        _ => None,
+    }
+}
+
 fn if_then(kind: Option<Kind>) -> Option<InfixOp>
     ensures { result ≡ read.if_then kind }
 {
@@ -214,6 +225,8 @@ pub fn kind_of(op: InfixOp) -> Kind
         InfixOp::And | InfixOp::AndThen => Kind::And,
         InfixOp::Or | InfixOp::OrElse => Kind::Or,
         InfixOp::Xor => Kind::Xor,
+        InfixOp::Implies => Kind::Implication,
+        InfixOp::Equivalent => Kind::Equivalence,
     }
 }
 
@@ -243,7 +256,18 @@ pub fn right_layer(op: InfixOp) -> Layer
         InfixOp::Greater | InfixOp::GreaterOrEqual => Layer::Sum,
         InfixOp::And | InfixOp::Or | InfixOp::Xor => Layer::Relation,
         InfixOp::AndThen | InfixOp::OrElse => Layer::Relation,
+        InfixOp::Implies | InfixOp::Equivalent => Layer::Expression,
     }
+}
+
+/// The last layer of expressions of text with this mark.
+pub fn last_layer(marked: bool) -> Layer
+    ensures { result ≡ read.last_layer marked }
+{
+    if marked {
+        return Layer::Predicate;
+    }
+    Layer::Expression
 }
 
 /// The layer of what an operator stands before.

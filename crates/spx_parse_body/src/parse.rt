@@ -3,14 +3,14 @@ ghost use Rattle.std.specs.Prelude.{◌≡◌, ◌≤◌, ℕ, List, Result, len
 ghost use Rattle.spx_tree.specs.Form.{forms_of};
 ghost use Rattle.spx_tree.specs.Mirror.{AreWithin};
 ghost use Rattle.spx_tree.specs.Goes.{place_with};
-ghost use Rattle.spx_tree.specs.Grammar.{IsExpr, IsStmts};
+ghost use Rattle.spx_tree.specs.Grammar.{IsStmts};
 ghost use Rattle.spx_tree.specs.Written.{written_expr, written_stmts};
 ghost use Rattle.spx_tree.specs.declared.expression.Expr.{Expr};
 ghost use Rattle.spx_tree.specs.declared.statement.Stmt.{Stmt};
-ghost use Rattle.spx_parse_body.specs.Answers.{SaysFrom, StopsWithin, IsUnlessMemory, fault_at, mark_of};
+ghost use Rattle.spx_parse_body.specs.Answers.{IsExprAt, SaysFrom, StopsWithin, IsUnlessMemory, fault_at, mark_of};
 
 use crate::cursor::{Cursor, PROGRAM, Stop};
-use crate::expressions::expression;
+use crate::expressions::expression_at;
 use crate::fault::{MOST_LEVELS, ParseFault};
 use crate::statements::stmts;
 use spx_text::Place;
@@ -65,7 +65,8 @@ fn cursor_at<'a>(source: &'a [u8], tokens: &'a [Token], from: usize) -> Cursor<'
 }
 
 /// Reads an expression from the token at an index on, all of it with the mark of that token, and answers it with the index
-/// of the first token after it. Where there is no such token, the mark is that of program text.
+/// of the first token after it. In annotation text it may be a predicate. Where there is no such token, the mark is that of
+/// program text.
 pub fn parse_expr(
     alloc: Global,
     source: &[u8],
@@ -78,16 +79,16 @@ pub fn parse_expr(
 
     // What is read is the expression that is written with these tokens, within 200 levels, and no expression goes on with the next token;
     // or none goes on with the token at the place that is named, or none within so few levels.
-    ensures answers { SaysFrom (written_expr (mark_of (drop from tokens.now))) IsExpr 200 end source.now tokens.now from result }
+    ensures answers { SaysFrom (written_expr (mark_of (drop from tokens.now))) (IsExprAt (mark_of (drop from tokens.now))) 200 end source.now tokens.now from result }
 
     // Whatever fits that description is the answer, unless memory runs out.
     ensures only { (r : Result (Expr × ℕ) ParseFault)
-        → SaysFrom (written_expr (mark_of (drop from tokens.now))) IsExpr 200 end source.now tokens.now from r
+        → SaysFrom (written_expr (mark_of (drop from tokens.now))) (IsExprAt (mark_of (drop from tokens.now))) 200 end source.now tokens.now from r
         → IsUnlessMemory r result }
 {
     let marked = mark_at(tokens, from);
     let mut cursor = cursor_at(source, tokens, from);
-    match expression(alloc, &mut cursor, MOST_LEVELS, marked) {
+    match expression_at(alloc, &mut cursor, MOST_LEVELS, marked) {
         Ok(expr) => Ok((expr, tokens.len() - cursor.left())),
         Err(stop) => Err(fault_of(tokens, stop, end)),
     }

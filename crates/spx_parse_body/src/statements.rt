@@ -6,12 +6,23 @@ ghost use Rattle.spx_parse_body.specs.Reading as reading;
 ghost use Rattle.spx_parse_body.specs.Statements as read;
 ghost use Rattle.spx_parse_body.specs.Answers.{Reads};
 
-use crate::cursor::{Cursor, PROGRAM, Stop};
-use crate::expressions::{expression, name, simple_expression};
+use crate::cursor::{ANNOTATION, Cursor, PROGRAM, Stop};
+use crate::expressions::{expression, name, predicate_after, simple_expression};
 use spx_text::Place;
 use spx_tree::{Alternative, Arm, Choice, Closing, Expr, Kind, Stmt};
 use sqlite_items::Items;
 use std::alloc::Global;
+
+/// The statements, by what they start with.
+#[derive(Clone, Copy, Debug, PartialEq, Eq)]
+pub enum StmtKind {
+    Null,
+    Assignment,
+    If,
+    Case,
+    /// In annotation text.
+    Check,
+}
 
 // null_statement = "null" ";"
 #[tactic(auto, unfolding(crate::specs::Statements::null_statement))]
@@ -248,18 +259,51 @@ fn case_statement(alloc: Global, cursor: &mut Cursor<'_>, levels: u32) -> Result
     Ok(Stmt::Case(place, selector, alternatives, closing))
 }
 
-// stmt = null_statement | assignment | if_statement | case_statement
+// check_statement = "check" predicate ";", in annotation text
+#[tactic(auto, unfolding(crate::specs::Statements::check_statement))]
+fn check_statement(alloc: Global, cursor: &mut Cursor<'_>, levels: u32) -> Result<Stmt, Stop>
+    ensures { Reads (read.check_statement levels cursor.old) result cursor.new }
+{
+    let checked = predicate_after(alloc, cursor, levels, Kind::Check)?;
+    Ok(Stmt::Check(checked.place, checked.condition))
+}
+
+/// What a token of annotation text starts.
+fn noted_stmt(kind: Option<Kind>) -> Option<StmtKind>
+    ensures { result ≡ read.noted_stmt kind }
+{
+    match kind {
+        Some(Kind::Check) => Some(StmtKind::Check),
+        _ => None,
+    }
+}
+
+/// The statement that comes next.
+fn next_stmt(cursor: &Cursor<'_>) -> Option<StmtKind>
+    ensures { result ≡ read.next_stmt cursor.now }
+{
+    match cursor.peek(PROGRAM) {
+        Some(Kind::Null) => Some(StmtKind::Null),
+        Some(Kind::Identifier) => Some(StmtKind::Assignment),
+        Some(Kind::If) => Some(StmtKind::If),
+        Some(Kind::Case) => Some(StmtKind::Case),
+        _ => noted_stmt(cursor.peek(ANNOTATION)),
+    }
+}
+
+// stmt = null_statement | assignment | if_statement | case_statement | check_statement
 #[cycle(stmts)]
 #[tactic(auto, unfolding(crate::specs::Statements::stmt))]
 fn stmt(alloc: Global, cursor: &mut Cursor<'_>, levels: u32) -> Result<Stmt, Stop>
     ensures { Reads (read.stmt (read.stmts_below levels) levels cursor.old) result cursor.new }
 {
-    match cursor.peek(PROGRAM) {
-        Some(Kind::Null) => null_statement(cursor),
-        Some(Kind::Identifier) => assignment(alloc, cursor, levels),
-        Some(Kind::If) => if_statement(alloc, cursor, levels),
-        Some(Kind::Case) => case_statement(alloc, cursor, levels),
-        _ => Err(cursor.expected()),
+    match next_stmt(cursor) {
+        Some(StmtKind::Null) => null_statement(cursor),
+        Some(StmtKind::Assignment) => assignment(alloc, cursor, levels),
+        Some(StmtKind::If) => if_statement(alloc, cursor, levels),
+        Some(StmtKind::Case) => case_statement(alloc, cursor, levels),
+        Some(StmtKind::Check) => check_statement(alloc, cursor, levels),
+        None => Err(cursor.expected()),
     }
 }
 
@@ -267,10 +311,7 @@ fn stmt(alloc: Global, cursor: &mut Cursor<'_>, levels: u32) -> Result<Stmt, Sto
 fn sees_stmt(cursor: &Cursor<'_>) -> bool
     ensures { result ≡ read.sees_stmt cursor.now }
 {
-    match cursor.peek(PROGRAM) {
-        Some(Kind::Null | Kind::Identifier | Kind::If | Kind::Case) => true,
-        _ => false,
-    }
+    next_stmt(cursor).is_some()
 }
 
 /// Reads statements, one or more.

@@ -14,18 +14,18 @@ use Rattle.spx_tree.specs.declared.annotation.Imports.{Imports}
 use Rattle.spx_tree.specs.declared.subprogram.WrittenMode.TheVariants as modes
 use Rattle.spx_tree.specs.declared.subprogram.Unit.TheVariants as unit
 use Rattle.spx_tree.specs.Form.{Form, bare, placed, named}
-use Rattle.spx_tree.specs.Written.{program, annotation, following, separated, optional, written_identifier, written_identifiers, written_name, written_names, written_range, written_constraint, written_definition, written_initial, written_decl, written_decls, written_stmts, written_imports, written_item, written_derives, written_pre, written_mode, written_param, written_params, written_formal_part, written_subprogram, written_unit, written}
-use Rattle.spx_tree.specs.Grammar.{Each, OneOrMore, IfThere, IsIdentifiers, IsNames, IsExpr, IsRange, IsDefinition, IsDecl, IsStmts, IsItem, IsDerives, IsPrecondition, IsParam, IsFormalPart, IsSubprogram, IsUnit, IsFile}
+use Rattle.spx_tree.specs.Written.{program, annotation, following, separated, optional, written_identifier, written_identifiers, written_name, written_names, written_range, written_constraint, written_definition, written_initial, written_decl, written_decls, written_stmts, written_imports, written_item, written_derives, written_pre, written_post, written_mode, written_param, written_params, written_formal_part, written_subprogram, written_unit, written}
+use Rattle.spx_tree.specs.Grammar.{Each, OneOrMore, IfThere, IsIdentifiers, IsNames, IsExpr, IsRange, IsDefinition, IsDecl, IsStmts, IsItem, IsDerives, IsPredicate, IsParam, IsFormalPart, IsSubprogram, IsUnit, IsFile}
 use Rattle.spx_parse_body.specs.Reading.{◌>>◌, peek, sees, expect, identifier, item_step}
 use Rattle.spx_parse_body.specs.Expressions.{name}
 use Rattle.spx_parse_unit.specs.declared.subprograms.HeadingParts.{HeadingParts}
 use Rattle.spx_parse_unit.specs.declared.subprograms.BodyParts.{BodyParts}
-use Rattle.spx_parse_unit.specs.Units.{more_identifiers, identifiers, more_names, names, starred, unstarred, imports_by, imports, named_item, null_item, item_by, item, more_derives, items, derives, precondition, in_by, following_in, mode_by, mode, param, more_params, params, formal_part, range, constraint, integer, enumeration, definition_by, definition, full_type, subtype, initial, variables, constants, objects_by, objects_after, objects, declaration_by, declaration, starts_declaration, sees_declaration, more_declarations, declarations, heading, body, whole, subprogram, unit_at, more_units, file}
+use Rattle.spx_parse_unit.specs.Units.{more_identifiers, identifiers, more_names, names, starred, unstarred, imports_by, imports, named_item, null_item, item_by, item, more_derives, items, derives, in_by, following_in, mode_by, mode, param, more_params, params, formal_part, range, constraint, integer, enumeration, definition_by, definition, full_type, subtype, initial, variables, constants, objects_by, objects_after, objects, declaration_by, declaration, starts_declaration, sees_declaration, more_declarations, declarations, heading, body, whole, subprogram, unit_at, more_units, file}
 use Rattle.spx_parse_body.proofs.Callers.Loops.{Shrinks}
 use Rattle.spx_parse_body.proofs.Callers.Lawful.{Ends, Any, Sees, Always}
 use Rattle.spx_parse_body.proofs.Callers.Good.{Good, Starts, Case, Adds, absent, present, good_bind, good_as, good_pure, good_refuse, good_fewer, good_choose, good_before, good_given, good_expect, good_expect_place, good_identifier, good_option, good_more, list_shrinks, starts_bind, starts_choose, starts_expect, starts_place, starts_identifier}
 use Rattle.spx_parse_body.proofs.Callers.Separated.{sees_kind, all_added, joined_added, next, following_added, separated_adds, next_starts, good_separated, separated_shrinks, good_items, items_shrinks, good_if_seen}
-use Rattle.spx_parse_body.proofs.Callers.ExpressionsGood.{name_starts, name_good, expression_good, simple_expression_good}
+use Rattle.spx_parse_body.proofs.Callers.ExpressionsGood.{name_starts, name_good, expression_good, predicate_after_starts, simple_expression_good}
 use Rattle.spx_parse_body.proofs.Callers.StatementsGood.{stmts_good}
 
 -- ---- identifiers
@@ -154,14 +154,6 @@ derives_starts here =
     good_bind items_good (λ items.
     good_bind (good_expect annotation k.Semicolon) (λ u.
     good_pure (record { place = place; items = items }) (λ l w. refl) (λ l w. w.0.1))))
-
-precondition_starts : {L P : Type 0} {on : List Form → Type 0} (levels : ℕ) → ((fs : List Form) → on fs → peek annotation fs ≡ Some k.Pre) → Starts L P written_pre (IsPrecondition levels) [] on (precondition levels) (precondition (suc levels))
-unfolding precondition
-precondition_starts levels here =
-    starts_bind (starts_place annotation k.Pre here refl) (λ place.
-    good_bind (expression_good annotation levels) (λ condition.
-    good_bind (good_expect annotation k.Semicolon) (λ u.
-    good_pure (record { place = place; condition = condition }) (λ l w. refl) (λ l w. w.0.1))))
 
 -- ---- formal parameters
 
@@ -347,7 +339,7 @@ end_name_starts here = starts_identifier program here
 -- the heading of a subprogram, and what comes after it
 
 abbrev pub written_heading : HeadingParts → List Form
-written_heading h = placed program k.Procedure h.place ∷ named program h.name ∷ (optional written_formal_part h.formal_part ++ (optional written_derives h.derives ++ optional written_pre h.pre))
+written_heading h = placed program k.Procedure h.place ∷ named program h.name ∷ (optional written_formal_part h.formal_part ++ (optional written_derives h.derives ++ (optional written_pre h.pre ++ optional written_post h.post)))
 
 abbrev pub written_body : BodyParts → List Form
 written_body b = bare program k.Is ∷ (written_decls b.declarations ++ (bare program k.Begin ∷ (written_stmts b.statements ++ (placed program k.End b.end ∷ (optional (written_identifier program) b.end_name ++ bare program k.Semicolon ∷ [])))))
@@ -355,20 +347,21 @@ written_body b = bare program k.Is ∷ (written_decls b.declarations ++ (bare pr
 pub record IsHeading (levels : ℕ) (h : HeadingParts) : Type 0 where
   pub formal_part : IfThere IsFormalPart h.formal_part
   pub derives : IfThere IsDerives h.derives
-  pub pre : IfThere (IsPrecondition levels) h.pre
+  pub pre : IfThere (IsPredicate levels) h.pre
+  pub post : IfThere (IsPredicate levels) h.post
 
 pub record IsBody (levels : ℕ) (b : BodyParts) : Type 0 where
   pub declarations : Each (IsDecl levels) b.declarations
   pub statements : IsStmts levels b.statements
 
-heading_flat : (p n f d q : List Form) → (((p ++ n) ++ f) ++ d) ++ q ≡ p ++ (n ++ (f ++ (d ++ q)))
-heading_flat p n f d q = simp append_assoc
+heading_flat : (p n f d q r : List Form) → ((((p ++ n) ++ f) ++ d) ++ q) ++ r ≡ p ++ (n ++ (f ++ (d ++ (q ++ r))))
+heading_flat p n f d q r = simp append_assoc
 
 body_flat : (i c b s e m z : List Form) → (((((i ++ c) ++ b) ++ s) ++ e) ++ m) ++ z ≡ i ++ (c ++ (b ++ (s ++ (e ++ (m ++ z)))))
 body_flat i c b s e m z = simp append_assoc
 
-whole_flat : (f d q z : List Form) → (f ++ (d ++ q)) ++ z ≡ f ++ (d ++ (q ++ z))
-whole_flat f d q z = simp append_assoc
+whole_flat : (f d q r z : List Form) → (f ++ (d ++ (q ++ r))) ++ z ≡ f ++ (d ++ (q ++ (r ++ z)))
+whole_flat f d q r z = simp append_assoc
 
 heading_starts : {L P : Type 0} {on : List Form → Type 0} (levels : ℕ) → ((fs : List Form) → on fs → peek program fs ≡ Some k.Procedure) → Starts L P written_heading (IsHeading levels) [] on (heading levels) (heading (suc levels))
 unfolding heading
@@ -377,10 +370,11 @@ heading_starts levels here =
     good_bind (good_identifier program) (λ name.
     good_bind (good_if_seen written_formal_part IsFormalPart program k.LeftParenthesis (formal_part_starts (sees_kind program k.LeftParenthesis))) (λ formal_part.
     good_bind (good_if_seen written_derives IsDerives annotation k.Derives (derives_starts (sees_kind annotation k.Derives))) (λ derives.
-    good_bind (good_if_seen written_pre (IsPrecondition levels) annotation k.Pre (precondition_starts levels (sees_kind annotation k.Pre))) (λ pre.
-    good_pure (record { place = place; name = name; formal_part = formal_part; derives = derives; pre = pre })
-    (λ l w. heading_flat (placed program k.Procedure place ∷ []) (named program name ∷ []) (optional written_formal_part formal_part) (optional written_derives derives) (optional written_pre pre))
-    (λ l w. record { formal_part = w.0.0.1; derives = w.0.1; pre = w.1 }))))))
+    good_bind (good_if_seen written_pre (IsPredicate levels) annotation k.Pre (predicate_after_starts k.Pre levels refl (sees_kind annotation k.Pre))) (λ pre.
+    good_bind (good_if_seen written_post (IsPredicate levels) annotation k.Post (predicate_after_starts k.Post levels refl (sees_kind annotation k.Post))) (λ post.
+    good_pure (record { place = place; name = name; formal_part = formal_part; derives = derives; pre = pre; post = post })
+    (λ l w. heading_flat (placed program k.Procedure place ∷ []) (named program name ∷ []) (optional written_formal_part formal_part) (optional written_derives derives) (optional written_pre pre) (optional written_post post))
+    (λ l w. record { formal_part = w.0.0.0.1; derives = w.0.0.1; pre = w.0.1; post = w.1 })))))))
 
 body_good : {L P : Type 0} (levels : ℕ) → Good L P written_body (IsBody levels) [] Any (body levels) (body (suc levels))
 unfolding body
@@ -402,8 +396,8 @@ subprogram_starts levels here =
     starts_bind (heading_starts levels here) (λ heading.
     good_bind (body_good levels) (λ body.
     good_pure (whole heading body)
-    (λ l w. ap (λ (fs : List Form). placed program k.Procedure heading.place ∷ named program heading.name ∷ fs) (whole_flat (optional written_formal_part heading.formal_part) (optional written_derives heading.derives) (optional written_pre heading.pre) (written_body body)))
-    (λ l w. record { formal_part = w.0.1.formal_part; derives = w.0.1.derives; pre = w.0.1.pre; declarations = w.1.declarations; statements = w.1.statements })))
+    (λ l w. ap (λ (fs : List Form). placed program k.Procedure heading.place ∷ named program heading.name ∷ fs) (whole_flat (optional written_formal_part heading.formal_part) (optional written_derives heading.derives) (optional written_pre heading.pre) (optional written_post heading.post) (written_body body)))
+    (λ l w. record { formal_part = w.0.1.formal_part; derives = w.0.1.derives; pre = w.0.1.pre; post = w.0.1.post; declarations = w.1.declarations; statements = w.1.statements })))
 
 pub unit_starts : {L P : Type 0} (levels : ℕ) → Starts L P written_unit (IsUnit levels) [] (Sees (sees program k.Procedure) true) (unit_at levels) (unit_at (suc levels))
 unfolding unit_at

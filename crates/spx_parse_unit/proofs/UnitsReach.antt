@@ -27,17 +27,17 @@ use Rattle.spx_tree.specs.declared.subprogram.Subprogram.{Subprogram}
 use Rattle.spx_tree.specs.declared.subprogram.Unit.{Unit}
 use Rattle.spx_tree.specs.declared.subprogram.Unit.TheVariants as unit
 use Rattle.spx_tree.specs.Form.{Form, bare, placed, named}
-use Rattle.spx_tree.specs.Written.{program, annotation, following, separated, optional, written_identifier, written_identifiers, written_name, written_names, written_expr, written_range, written_constraint, written_definition, written_initial, written_decl, written_decls, written_stmts, written_imports, written_item, written_derives, written_pre, written_mode, written_param, written_params, written_formal_part, written_subprogram, written_unit, written}
+use Rattle.spx_tree.specs.Written.{program, annotation, written_at, following, separated, optional, written_identifier, written_identifiers, written_name, written_names, written_expr, written_range, written_constraint, written_definition, written_initial, written_decl, written_decls, written_stmts, written_imports, written_item, written_derives, written_pre, written_post, written_mode, written_param, written_params, written_formal_part, written_subprogram, written_unit, written}
 use Rattle.spx_tree.specs.Grammar.{Each, OneOrMore, IfThere, IsIdentifiers, IsNames, IsExpr, IsRange, IsDefinition, IsDecl, HasImportsFor, IsItem, IsDerives, IsPredicate, IsParam, IsFormalPart, IsSubprogram, IsUnit, IsFile}
 use Rattle.spx_parse_body.specs.Reading.{pure, peek, is_kind, sees, identifier, optional_by, if_seen}
-use Rattle.spx_parse_body.specs.Expressions.{name}
+use Rattle.spx_parse_body.specs.Expressions.{name, predicate_after}
 use Rattle.spx_parse_unit.specs.declared.subprograms.HeadingParts.{HeadingParts}
 use Rattle.spx_parse_unit.specs.declared.subprograms.BodyParts.{BodyParts}
-use Rattle.spx_parse_unit.specs.Units.{more_identifiers, identifiers, more_names, names, starred, unstarred, imports_by, imports, named_item, null_item, item_by, item, more_derives, items, derives, precondition, in_by, following_in, mode_by, mode, param, more_params, params, formal_part, range, constraint, integer, enumeration, definition_by, definition, full_type, subtype, initial, variables, constants, objects_by, objects_after, objects, declaration_by, declaration, sees_declaration, more_declarations, declarations, heading, body, subprogram, unit_at, more_units, file}
+use Rattle.spx_parse_unit.specs.Units.{more_identifiers, identifiers, more_names, names, starred, unstarred, imports_by, imports, named_item, null_item, item_by, item, more_derives, items, derives, in_by, following_in, mode_by, mode, param, more_params, params, formal_part, range, constraint, integer, enumeration, definition_by, definition, full_type, subtype, initial, variables, constants, objects_by, objects_after, objects, declaration_by, declaration, sees_declaration, more_declarations, declarations, heading, body, subprogram, unit_at, more_units, file}
 use Rattle.spx_parse_body.proofs.Callers.Shaped.{kind_self}
 use Rattle.spx_parse_body.proofs.Callers.Separated.{Lacks, not_seen, sees_front, reaches_following, reaches_separated, reaches_if_seen}
 use Rattle.spx_parse_body.proofs.Callers.Reaches.{Reaches, reaches_is, reaches_bind, reaches_pure, reaches_choose, reaches_expect, reaches_expect_place, reaches_identifier, reaches_items, peek_front}
-use Rattle.spx_parse_body.proofs.Callers.ExpressionsReach.{Free, name_again, name_front, expression_again, simple_expression_again, semicolon_free, sum_free, double_dot_free}
+use Rattle.spx_parse_body.proofs.Callers.ExpressionsReach.{Free, name_again, name_front, expression_again, predicate_after_again, simple_expression_again, semicolon_free, sum_free, double_dot_free}
 use Rattle.spx_parse_body.proofs.Callers.StatementsReach.{stmts_again}
 use Rattle.spx_parse_unit.proofs.UnitsGood.{identifiers_shrinks, names_shrinks, derives_shrinks, params_shrinks, declarations_shrinks, units_shrinks}
 
@@ -144,14 +144,6 @@ derives_again x fs zs f h =
     let flat = h ∙ ap (λ (us : List Form). placed annotation k.Derives x.place ∷ us) (append_assoc (separated (bare annotation k.Ampersand) written_item x.items) (bare annotation k.Semicolon ∷ []) zs) in
     reaches_bind _ (reaches_expect_place annotation k.Derives flat) (λ us a.
     reaches_bind _ (items_again x.items us (bare annotation k.Semicolon ∷ zs) f (λ e. cc) (semicolon_closes zs) a) (λ vs b.
-    reaches_bind _ (reaches_expect annotation k.Semicolon b) (λ ws d. reaches_pure d)))
-
-precondition_again : (levels : ℕ) (x : Predicate) (fs zs : List Form) → IsPredicate levels x → fs ≡ written_pre x ++ zs → Reaches (precondition levels) fs x zs
-unfolding precondition
-precondition_again levels x fs zs f h =
-    let flat = h ∙ ap (λ (us : List Form). placed annotation k.Pre x.place ∷ us) (append_assoc (written_expr annotation x.condition) (bare annotation k.Semicolon ∷ []) zs) in
-    reaches_bind _ (reaches_expect_place annotation k.Pre flat) (λ us a.
-    reaches_bind _ (expression_again annotation levels x.condition us (bare annotation k.Semicolon ∷ zs) f (semicolon_free annotation zs) a) (λ vs b.
     reaches_bind _ (reaches_expect annotation k.Semicolon b) (λ ws d. reaches_pure d)))
 
 -- ---- formal parameters
@@ -340,8 +332,8 @@ formal_part_option x fs zs f over h = reaches_if_seen written_formal_part IsForm
 derives_option : (x : Option Derives) (fs zs : List Form) → IfThere IsDerives x → Lacks annotation k.Derives zs → fs ≡ optional written_derives x ++ zs → Reaches (if_seen annotation k.Derives derives) fs x zs
 derives_option x fs zs f over h = reaches_if_seen written_derives IsDerives annotation k.Derives (λ y ws g. kind_self k.Derives) derives_again x fs zs f (not_seen annotation k.Derives zs over) h
 
-pre_option : (levels : ℕ) (x : Option Predicate) (fs zs : List Form) → IfThere (IsPredicate levels) x → Lacks annotation k.Pre zs → fs ≡ optional written_pre x ++ zs → Reaches (if_seen annotation k.Pre (precondition levels)) fs x zs
-pre_option levels x fs zs f over h = reaches_if_seen written_pre (IsPredicate levels) annotation k.Pre (λ y ws g. kind_self k.Pre) (precondition_again levels) x fs zs f (not_seen annotation k.Pre zs over) h
+predicate_option : (word : Kind) (levels : ℕ) (x : Option Predicate) (fs zs : List Form) → IfThere (IsPredicate levels) x → Lacks annotation word zs → fs ≡ optional (λ y. written_at word y.place y.condition) x ++ zs → Reaches (if_seen annotation word (predicate_after word levels)) fs x zs
+predicate_option word levels x fs zs f over h = reaches_if_seen (λ y. written_at word y.place y.condition) (IsPredicate levels) annotation word (λ y ws g. kind_self word) (predicate_after_again word levels) x fs zs f (not_seen annotation word zs over) h
 
 each_there : (x : Option Identifier) → IfThere (λ name. ⊤) x
 each_there None = tt
@@ -351,11 +343,11 @@ end_name_option : (x : Option Identifier) (fs zs : List Form) → Lacks program 
 end_name_option x fs zs over h =
     reaches_if_seen (written_identifier program) (λ name. ⊤) program k.Identifier (λ y ws g. kind_self k.Identifier) (λ y gs ws g e. reaches_identifier program e) x fs zs (each_there x) (not_seen program k.Identifier zs over) h
 
-flat : (f d q i c b s e m z zs : List Form) → (f ++ (d ++ (q ++ (i ++ (c ++ (b ++ (s ++ (e ++ (m ++ z))))))))) ++ zs ≡ f ++ (d ++ (q ++ (i ++ (c ++ (b ++ (s ++ (e ++ (m ++ (z ++ zs)))))))))
-flat f d q i c b s e m z zs = simp append_assoc
+flat : (f d q r i c b s e m z zs : List Form) → (f ++ (d ++ (q ++ (r ++ (i ++ (c ++ (b ++ (s ++ (e ++ (m ++ z)))))))))) ++ zs ≡ f ++ (d ++ (q ++ (r ++ (i ++ (c ++ (b ++ (s ++ (e ++ (m ++ (z ++ zs))))))))))
+flat f d q r i c b s e m z zs = simp append_assoc
 
 heading_of : Subprogram → HeadingParts
-heading_of x = record { place = x.place; name = x.name; formal_part = x.formal_part; derives = x.derives; pre = x.pre }
+heading_of x = record { place = x.place; name = x.name; formal_part = x.formal_part; derives = x.derives; pre = x.pre; post = x.post }
 
 body_of : Subprogram → BodyParts
 body_of x = record { declarations = x.declarations; statements = x.statements; end = x.end; end_name = x.end_name }
@@ -368,37 +360,49 @@ module _ (levels : ℕ) (x : Subprogram) (zs : List Form) where
   from_is : List Form
   from_is = bare program k.Is ∷ (written_decls x.declarations ++ bare program k.Begin ∷ (written_stmts x.statements ++ from_end))
 
+  from_post : List Form
+  from_post = optional written_post x.post ++ from_is
+
   from_pre : List Form
-  from_pre = optional written_pre x.pre ++ from_is
+  from_pre = optional written_pre x.pre ++ from_post
 
   from_derives : List Form
   from_derives = optional written_derives x.derives ++ from_pre
 
-  pre_kind : (p : Option Predicate) (kind : Kind) → (kind ≡ k.Pre → ⊥) → Lacks annotation kind (optional written_pre p ++ from_is)
+  post_kind : (q : Option Predicate) (kind : Kind) → (kind ≡ k.Post → ⊥) → Lacks annotation kind (optional written_post q ++ from_is)
   unfolding from_is
-  pre_kind None kind differs e = cc
-  pre_kind (Some p) kind differs e = differs cc
+  post_kind None kind differs e = cc
+  post_kind (Some q) kind differs e = differs cc
 
-  pre_unmarked : (p : Option Predicate) → Lacks program k.LeftParenthesis (optional written_pre p ++ from_is)
+  pre_kind : (p q : Option Predicate) (kind : Kind) → (kind ≡ k.Pre → ⊥) → (kind ≡ k.Post → ⊥) → Lacks annotation kind (optional written_pre p ++ (optional written_post q ++ from_is))
+  pre_kind None q kind differs differs_too e = post_kind q kind differs_too e
+  pre_kind (Some p) q kind differs differs_too e = differs cc
+
+  post_unmarked : (q : Option Predicate) → Lacks program k.LeftParenthesis (optional written_post q ++ from_is)
   unfolding from_is
-  pre_unmarked None e = cc
-  pre_unmarked (Some p) e = cc
+  post_unmarked None e = cc
+  post_unmarked (Some q) e = cc
 
-  derives_unmarked : (d : Option Derives) (p : Option Predicate) → Lacks program k.LeftParenthesis (optional written_derives d ++ (optional written_pre p ++ from_is))
-  derives_unmarked None p e = pre_unmarked p e
-  derives_unmarked (Some d) p e = cc
+  pre_unmarked : (p q : Option Predicate) → Lacks program k.LeftParenthesis (optional written_pre p ++ (optional written_post q ++ from_is))
+  pre_unmarked None q e = post_unmarked q e
+  pre_unmarked (Some p) q e = cc
+
+  derives_unmarked : (d : Option Derives) (p q : Option Predicate) → Lacks program k.LeftParenthesis (optional written_derives d ++ (optional written_pre p ++ (optional written_post q ++ from_is)))
+  derives_unmarked None p q e = pre_unmarked p q e
+  derives_unmarked (Some d) p q e = cc
 
   from_name : List Form
   from_name = named program x.name ∷ (optional written_formal_part x.formal_part ++ from_derives)
 
   heading_again : (fs : List Form) → IsSubprogram levels x → fs ≡ placed program k.Procedure x.place ∷ from_name → Reaches (heading levels) fs (heading_of x) from_is
-  unfolding heading heading_of from_is from_pre from_derives from_name
+  unfolding heading heading_of from_is from_post from_pre from_derives from_name
   heading_again fs f h =
       reaches_bind _ (reaches_expect_place program k.Procedure h) (λ t1 a1.
       reaches_bind _ (reaches_identifier program a1) (λ t2 a2.
-      reaches_bind _ (formal_part_option x.formal_part t2 from_derives f.formal_part (derives_unmarked x.derives x.pre) a2) (λ t3 a3.
-      reaches_bind _ (derives_option x.derives t3 from_pre f.derives (pre_kind x.pre k.Derives (λ e. cc)) a3) (λ t4 a4.
-      reaches_bind _ (pre_option levels x.pre t4 from_is f.pre (λ e. cc) a4) (λ t5 a5. reaches_pure a5)))))
+      reaches_bind _ (formal_part_option x.formal_part t2 from_derives f.formal_part (derives_unmarked x.derives x.pre x.post) a2) (λ t3 a3.
+      reaches_bind _ (derives_option x.derives t3 from_pre f.derives (pre_kind x.pre x.post k.Derives (λ e. cc) (λ e. cc)) a3) (λ t4 a4.
+      reaches_bind _ (predicate_option k.Pre levels x.pre t4 from_post f.pre (post_kind x.post k.Pre (λ e. cc)) a4) (λ t5 a5.
+      reaches_bind _ (predicate_option k.Post levels x.post t5 from_is f.post (λ e. cc) a5) (λ t6 a6. reaches_pure a6))))))
 
   body_again : (fs : List Form) → IsSubprogram levels x → fs ≡ from_is → Reaches (body levels) fs (body_of x) zs
   unfolding body body_of from_end from_is
@@ -412,10 +416,10 @@ module _ (levels : ℕ) (x : Subprogram) (zs : List Form) where
       reaches_bind _ (reaches_expect program k.Semicolon a11) (λ t12 a12. reaches_pure a12)))))))
 
   subprogram_again : (fs : List Form) → IsSubprogram levels x → fs ≡ written_subprogram x ++ zs → Reaches (subprogram levels) fs x zs
-  unfolding subprogram heading_of body_of from_end from_is from_pre from_derives from_name
+  unfolding subprogram heading_of body_of from_end from_is from_post from_pre from_derives from_name
   subprogram_again fs f h =
       let all = h ∙ ap (λ (us : List Form). placed program k.Procedure x.place ∷ named program x.name ∷ us)
-      (flat (optional written_formal_part x.formal_part) (optional written_derives x.derives) (optional written_pre x.pre) (bare program k.Is ∷ []) (written_decls x.declarations) (bare program k.Begin ∷ []) (written_stmts x.statements) (placed program k.End x.end ∷ []) (optional (written_identifier program) x.end_name) (bare program k.Semicolon ∷ []) zs) in
+      (flat (optional written_formal_part x.formal_part) (optional written_derives x.derives) (optional written_pre x.pre) (optional written_post x.post) (bare program k.Is ∷ []) (written_decls x.declarations) (bare program k.Begin ∷ []) (written_stmts x.statements) (placed program k.End x.end ∷ []) (optional (written_identifier program) x.end_name) (bare program k.Semicolon ∷ []) zs) in
       reaches_bind _ (heading_again fs f all) (λ us a. reaches_bind _ (body_again us f a) (λ vs b. reaches_pure b))
 
 unit_again : (levels : ℕ) (x : Unit) (fs zs : List Form) → IsUnit levels x → fs ≡ written_unit x ++ zs → Reaches (unit_at levels) fs x zs

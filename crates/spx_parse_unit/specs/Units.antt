@@ -15,7 +15,6 @@ use Rattle.spx_tree.specs.declared.annotation.Exports.TheVariants as exported
 use Rattle.spx_tree.specs.declared.annotation.Imports.{Imports}
 use Rattle.spx_tree.specs.declared.annotation.DerivesItem.{DerivesItem}
 use Rattle.spx_tree.specs.declared.annotation.Derives.{Derives}
-use Rattle.spx_tree.specs.declared.annotation.Predicate.{Predicate}
 use Rattle.spx_tree.specs.declared.subprogram.WrittenMode.{WrittenMode}
 use Rattle.spx_tree.specs.declared.subprogram.WrittenMode.TheVariants as modes
 use Rattle.spx_tree.specs.declared.subprogram.Param.{Param}
@@ -28,7 +27,7 @@ use Rattle.spx_tree.specs.Written.{program, annotation}
 use Rattle.spx_parse_unit.specs.declared.subprograms.HeadingParts.{HeadingParts}
 use Rattle.spx_parse_unit.specs.declared.subprograms.BodyParts.{BodyParts}
 use Rattle.spx_parse_body.specs.Reading.{Reader, ◌>>=◌, ◌>>◌, pure, refuse, peek, sees, expect, expect_place, identifier, if_seen, more_items}
-use Rattle.spx_parse_body.specs.Expressions.{name, expression, simple_expression}
+use Rattle.spx_parse_body.specs.Expressions.{name, expression, predicate_after, simple_expression}
 use Rattle.spx_parse_body.specs.Statements.{stmts}
 
 -- ---- names
@@ -111,14 +110,6 @@ derives = do
   items ← items
   expect annotation k.Semicolon
   pure (record { place = place; items = items })
-
--- "pre" expression ";"
-unfoldable pub precondition : ℕ → Reader Predicate
-precondition levels = do
-  place ← expect_place annotation k.Pre
-  condition ← expression annotation levels
-  expect annotation k.Semicolon
-  pure (record { place = place; condition = condition })
 
 -- ---- formal parameters
 
@@ -287,15 +278,16 @@ declarations levels = more_declarations levels []
 
 -- ---- subprograms and units
 
--- "procedure" identifier [formal part] [derives] [pre]
+-- "procedure" identifier [formal part] [derives] [pre] [post]
 unfoldable pub heading : ℕ → Reader HeadingParts
 heading levels = do
   place ← expect_place program k.Procedure
   name ← identifier program
   formal_part ← if_seen program k.LeftParenthesis formal_part
   derives ← if_seen annotation k.Derives derives
-  pre ← if_seen annotation k.Pre (precondition levels)
-  pure (record { place = place; name = name; formal_part = formal_part; derives = derives; pre = pre })
+  pre ← if_seen annotation k.Pre (predicate_after k.Pre levels)
+  post ← if_seen annotation k.Post (predicate_after k.Post levels)
+  pure (record { place = place; name = name; formal_part = formal_part; derives = derives; pre = pre; post = post })
 
 -- "is" declarations "begin" statements "end" [identifier] ";"
 unfoldable pub body : ℕ → Reader BodyParts
@@ -310,7 +302,7 @@ body levels = do
   pure (record { declarations = declarations; statements = statements; end = end; end_name = end_name })
 
 abbrev pub whole : HeadingParts → BodyParts → Subprogram
-whole h b = record { place = h.place; name = h.name; formal_part = h.formal_part; derives = h.derives; pre = h.pre; declarations = b.declarations; statements = b.statements; end = b.end; end_name = b.end_name }
+whole h b = record { place = h.place; name = h.name; formal_part = h.formal_part; derives = h.derives; pre = h.pre; post = h.post; declarations = b.declarations; statements = b.statements; end = b.end; end_name = b.end_name }
 
 -- heading body
 unfoldable pub subprogram : ℕ → Reader Subprogram

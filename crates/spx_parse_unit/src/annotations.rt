@@ -1,12 +1,14 @@
 // From tokens to lists of names and the annotations of a subprogram (Barnes, High Integrity Software).
 ghost use Rattle.std.specs.Prelude.{◌≡◌};
+ghost use Rattle.spx_tree.specs.Form.{keeps, ItsPlace};
 ghost use Rattle.spx_tree.specs.Written.{annotation};
 ghost use Rattle.spx_tree.specs.declared.token.Kind.TheVariants as k;
 ghost use Rattle.spx_parse_body.specs.Reading as reading;
+ghost use Rattle.spx_parse_body.specs.Expressions as expressions;
 ghost use Rattle.spx_parse_unit.specs.Units as read;
 ghost use Rattle.spx_parse_body.specs.Answers.{Reads};
 
-use spx_parse_body::{ANNOTATION, Cursor, Stop, expression, name};
+use spx_parse_body::{ANNOTATION, Cursor, Stop, name, predicate_after};
 use spx_tree::{Derives, DerivesItem, Exports, Identifier, Imports, Kind, Name, Predicate};
 use sqlite_items::Items;
 use std::alloc::Global;
@@ -182,28 +184,19 @@ pub fn optional_derives(alloc: Global, cursor: &mut Cursor<'_>) -> Result<Option
     Ok(None)
 }
 
-// precondition = "pre" expression ";"
-#[tactic(auto, unfolding(crate::specs::Units::precondition))]
-fn precondition(alloc: Global, cursor: &mut Cursor<'_>, levels: u32) -> Result<Predicate, Stop>
-    ensures { Reads (read.precondition levels cursor.old) result cursor.new }
-{
-    let place = cursor.expect_place(ANNOTATION, Kind::Pre)?;
-    let condition = expression(alloc, cursor, levels, ANNOTATION)?;
-    cursor.expect(ANNOTATION, Kind::Semicolon)?;
-    Ok(Predicate { place, condition })
-}
-
-/// Reads a precondition, if there is one.
+/// Reads a predicate after this word, if the word comes next.
 #[tactic(auto, unfolding(spx_parse_body::specs::Reading::if_seen))]
-pub fn optional_pre(
+pub fn optional_predicate(
     alloc: Global,
     cursor: &mut Cursor<'_>,
     levels: u32,
+    word: Kind,
 ) -> Result<Option<Predicate>, Stop>
-    ensures { Reads (reading.if_seen annotation k.Pre (read.precondition levels) cursor.old) result cursor.new }
+    requires { keeps word ≡ ItsPlace }
+    ensures { Reads (reading.if_seen annotation word (expressions.predicate_after word levels) cursor.old) result cursor.new }
 {
-    if cursor.sees(ANNOTATION, Kind::Pre) {
-        return Ok(Some(precondition(alloc, cursor, levels)?));
+    if cursor.sees(ANNOTATION, word) {
+        return Ok(Some(predicate_after(alloc, cursor, levels, word)?));
     }
     Ok(None)
 }

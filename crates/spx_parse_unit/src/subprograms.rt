@@ -6,7 +6,7 @@ ghost use Rattle.spx_parse_body.specs.Reading as reading;
 ghost use Rattle.spx_parse_unit.specs.Units as read;
 ghost use Rattle.spx_parse_body.specs.Answers.{Reads};
 
-use crate::annotations::{identifiers, optional_derives, optional_pre};
+use crate::annotations::{identifiers, optional_derives, optional_predicate};
 use crate::declarative::declarations;
 use spx_parse_body::{Cursor, PROGRAM, Stop, name, stmts};
 use spx_text::Place;
@@ -25,6 +25,7 @@ pub struct HeadingParts {
     pub formal_part: Option<FormalPart>,
     pub derives: Option<Derives>,
     pub pre: Option<Predicate>,
+    pub post: Option<Predicate>,
 }
 
 /// A subprogram from the word `is` on.
@@ -131,7 +132,7 @@ fn end_name(alloc: Global, cursor: &mut Cursor<'_>) -> Result<Option<Identifier>
     Ok(None)
 }
 
-// heading = "procedure" identifier [formal_part] [derives] [pre]
+// heading = "procedure" identifier [formal_part] [derives] ["pre" predicate ";"] ["post" predicate ";"]
 #[tactic(auto, unfolding(crate::specs::Units::heading))]
 fn heading(alloc: Global, cursor: &mut Cursor<'_>, levels: u32) -> Result<HeadingParts, Stop>
     ensures { Reads (read.heading levels cursor.old) result cursor.new }
@@ -140,13 +141,15 @@ fn heading(alloc: Global, cursor: &mut Cursor<'_>, levels: u32) -> Result<Headin
     let name = cursor.identifier(alloc, PROGRAM)?;
     let formal_part = optional_formal_part(alloc, cursor)?;
     let derives = optional_derives(alloc, cursor)?;
-    let pre = optional_pre(alloc, cursor, levels)?;
+    let pre = optional_predicate(alloc, cursor, levels, Kind::Pre)?;
+    let post = optional_predicate(alloc, cursor, levels, Kind::Post)?;
     Ok(HeadingParts {
         place,
         name,
         formal_part,
         derives,
         pre,
+        post,
     })
 }
 
@@ -183,6 +186,7 @@ fn subprogram(alloc: Global, cursor: &mut Cursor<'_>, levels: u32) -> Result<Sub
         formal_part: heading.formal_part,
         derives: heading.derives,
         pre: heading.pre,
+        post: heading.post,
         declarations: body.declarations,
         statements: body.statements,
         end: body.end,

@@ -4,20 +4,19 @@ use Rattle.std.proofs.lemmas.Bool.{eqb-true}
 use Rattle.std.proofs.lemmas.List.{append-nil, append_assoc, map-id}
 use Rattle.std.proofs.lemmas.Option.{get_or_from_slice_get}
 use Rattle.std.specs.Prelude.{Some, None, Option, slice_get}
-use Rattle.spx_core.specs.declared.entity.VarId.{VarId}
 use Rattle.spx_core.specs.declared.program.Program.{Program}
 use Rattle.spx_core.specs.declared.statement.CoreAlternative.{CoreAlternative, out-CoreAlternative, fold_out-CoreAlternative}
 use Rattle.spx_core.specs.declared.statement.CoreChoice.{CoreChoice}
 use Rattle.spx_core.specs.declared.statement.CoreArm.{CoreArm, out-CoreArm, fold_out-CoreArm}
 use Rattle.spx_core.specs.declared.statement.CoreStmt.{CoreStmt, fold_out-CoreStmt}
-use Rattle.spx_core.specs.declared.statement.CoreStmt.TheVariants.{outs-Null, outs-Assignment, outs-If, outs-Case}
+use Rattle.spx_core.specs.declared.statement.CoreStmt.TheVariants.{outs-Null, outs-Assignment, outs-If, outs-Case, outs-Check}
 use Rattle.spx_core.specs.declared.statement.CoreStmt.TheVariants as stmt
 use Rattle.spx_core.specs.declared.expression.CoreExpr.{CoreExpr}
 use Rattle.spx_core.specs.declared.name.Reference.{Reference}
 use Rattle.spx_tree.specs.declared.statement.Closing.{Closing}
 use Rattle.spx_text.specs.declared.place.Place.{Place}
 use Rattle.spx_core.specs.declared.subprogram.Sub.{Sub}
-use Rattle.spx_core.specs.Commands.{Command, Set, Skip, alternative, alternatives_of, command, commands, select}
+use Rattle.spx_core.specs.Commands.{Command, Check, Set, Skip, alternative, alternatives_of, command, commands, select}
 use Rattle.spx_term.specs.declared.path.PathStep.{PathStep}
 use Rattle.spx_term.specs.Paths.{branches}
 use Rattle.spx_term.specs.declared.term.Term.{Term}
@@ -25,33 +24,33 @@ use Rattle.spx_term.specs.Steps.{Tree, Cut, assume_all}
 use Rattle.spx_paths.specs.declared.path.Path.{Path}
 use Rattle.spx_paths.specs.Prefixes.{Arrive, ArriveAlternatives, ArriveArm, ArriveArms, ArriveBefore, ArriveEach, ArriveWhen, Splits, after, after_alternatives, after_each, opening, with_arms, Walked}
 use Rattle.spx_paths.specs.Conditions.{paths}
-use Rattle.spx_paths.specs.Terms.{entry_term, term_of}
+use Rattle.spx_paths.specs.Terms.{now_term, term_of}
 use Rattle.spx_paths.specs.Checks.{checks}
-use Rattle.spx_paths.specs.Walks.{alternative_facts, and_these, ending, start_tree, walk, walk_for}
+use Rattle.spx_paths.specs.Walks.{alternative_facts, and_these, ending, ending_with, start_tree, walk, walk_for}
 use Rattle.spx_paths.proofs.PrefixLaws.{after_split, each_more, each_one}
 
 -- a path that splits, and then goes through the body of the arm
-pub arm_arrives : (p : Program) (arm : CoreArm) (old new taken : List PathStep) (found : List Path) → Splits p (out-CoreArm arm).condition old new taken → Arrive p (commands (out-CoreArm arm).body) taken found → ArriveArm p arm old new found
-arm_arrives p arm old new taken found splits arrives = λ last sub rest leave made.
+pub arm_arrives : (p : Program) (sub : Sub) (arm : CoreArm) (old new taken : List PathStep) (found : List Path) → Splits p (out-CoreArm arm).condition old new taken → Arrive p sub (commands (out-CoreArm arm).body) taken found → ArriveArm p sub arm old new found
+arm_arrives p sub arm old new taken found splits arrives = λ last rest leave made.
     rw fold_out-CoreArm
-    (splits (entry_term p sub) (walk p sub (commands (out-CoreArm arm).body) rest leave made) (walk p sub last rest leave made)
-    ∙ ap (λ paths. paths ++ after new (walk p sub last rest leave made)) (arrives sub rest leave made))
+    (splits (walk p sub (commands (out-CoreArm arm).body) rest leave made) (walk p sub last rest leave made)
+    ∙ ap (λ paths. paths ++ after new (walk p sub last rest leave made)) (arrives rest leave made))
 
 -- one part after the other
-pub before_both : (p : Program) (whole part rest : Command → Command) (old middle new : List PathStep) (found more all : List Path) → ArriveBefore p whole part old middle found → ArriveBefore p part rest middle new more → all ≡ found ++ more
-    → ArriveBefore p whole rest old new all
-before_both p whole part rest old middle new found more all one two is = λ last sub next leave made.
+pub before_both : (p : Program) (sub : Sub) (whole part rest : Command → Command) (old middle new : List PathStep) (found more all : List Path) → ArriveBefore p sub whole part old middle found → ArriveBefore p sub part rest middle new more → all ≡ found ++ more
+    → ArriveBefore p sub whole rest old new all
+before_both p sub whole part rest old middle new found more all one two is = λ last next leave made.
     let tail = after new (walk p sub (rest last) next leave made) in
-    one last sub next leave made
-    ∙ ap (λ paths. after_each found (next made) ++ paths) (two last sub next leave made)
+    one last next leave made
+    ∙ ap (λ paths. after_each found (next made) ++ paths) (two last next leave made)
     ∙ sym (append_assoc (after_each found (next made)) (after_each more (next made)) tail)
     ∙ ap (λ paths. paths ++ tail) (sym (each_more found more (next made)) ∙ ap (λ paths. after_each paths (next made)) (sym is))
 
 -- arms, and then what is done where each condition is false
-pub if_arrives : (p : Program) (arms : List CoreArm) (last : Command) (old new : List PathStep) (found more all : List Path) → ArriveArms p arms old new found → Arrive p last new more → all ≡ found ++ more → Arrive p (with_arms arms last) old all
-if_arrives p arms last old new found more all one two is = λ sub rest leave made.
-    one last sub rest leave made
-    ∙ ap (λ paths. after_each found (rest made) ++ paths) (two sub rest leave made)
+pub if_arrives : (p : Program) (sub : Sub) (arms : List CoreArm) (last : Command) (old new : List PathStep) (found more all : List Path) → ArriveArms p sub arms old new found → Arrive p sub last new more → all ≡ found ++ more → Arrive p sub (with_arms arms last) old all
+if_arrives p sub arms last old new found more all one two is = λ rest leave made.
+    one last rest leave made
+    ∙ ap (λ paths. after_each found (rest made) ++ paths) (two rest leave made)
     ∙ sym (each_more found more (rest made))
     ∙ ap (λ paths. after_each paths (rest made)) (sym is)
 
@@ -74,21 +73,21 @@ none_is [] place selector is = refl
 none_is (first ∷ others) place selector is = absurd (omega (arith, eqb-true (length (first ∷ others)) 0 is))
 
 -- the checks of the selector, and then alternatives
-pub case_arrives : (p : Program) (place : Place) (selector : CoreExpr) (value : Term) (alternatives : List CoreAlternative) (old new : List PathStep) (found : List Path) → (length alternatives == 0) ≡ false → ((entered : VarId → Term) → value ≡ term_of p entered selector)
-    → ((entered : VarId → Term) → Walked old new (checks p entered [] selector)) → ArriveAlternatives p value alternatives new found → Arrive p (select place selector (map alternative alternatives)) old found
-case_arrives p place selector value [] old new found some is checked arrives = absurd (cc)
-case_arrives p place selector value (first ∷ others) old new found some is checked arrives = λ sub rest leave made.
+pub case_arrives : (p : Program) (sub : Sub) (place : Place) (selector : CoreExpr) (value : Term) (alternatives : List CoreAlternative) (old new : List PathStep) (found : List Path) → (length alternatives == 0) ≡ false → value ≡ term_of p (now_term p) selector
+    → Walked old new (checks p (now_term p) [] selector) → ArriveAlternatives p sub value alternatives new found → Arrive p sub (select place selector (map alternative alternatives)) old found
+case_arrives p sub place selector value [] old new found some is checked arrives = absurd (cc)
+case_arrives p sub place selector value (first ∷ others) old new found some is checked arrives = λ rest leave made.
     let all = alternatives_of (alternative first) (map alternative others) in
-    checked (entry_term p sub) (walk_for p sub (term_of p (entry_term p sub) selector) [] all rest leave made)
-    ∙ ap (λ t. after new (walk_for p sub t [] all rest leave made)) (sym (is (entry_term p sub)))
+    checked (walk_for p sub (term_of p (now_term p) selector) [] all rest leave made)
+    ∙ ap (λ t. after new (walk_for p sub t [] all rest leave made)) (sym is)
     ∙ each_alternative p sub value [] (alternative first) (map alternative others) new rest leave made
-    ∙ arrives sub rest leave made
+    ∙ arrives rest leave made
 
 -- one path more was walked
-pub each_arrive : (p : Program) (c : Command) (before : List Path) (path : Path) (found more all : List Path) → ArriveEach p c before found → Arrive p c path.steps more → all ≡ found ++ more → ArriveEach p c (before ++ path ∷ []) all
-each_arrive p c before path found more all one two is = λ sub rest leave made.
+pub each_arrive : (p : Program) (sub : Sub) (c : Command) (before : List Path) (path : Path) (found more all : List Path) → ArriveEach p sub c before found → Arrive p sub c path.steps more → all ≡ found ++ more → ArriveEach p sub c (before ++ path ∷ []) all
+each_arrive p sub c before path found more all one two is = λ rest leave made.
     each_more before (path ∷ []) (walk p sub c rest leave made)
-    ∙ ap₂ (λ (x y : List (List PathStep)). x ++ y) (one sub rest leave made) (each_one path (walk p sub c rest leave made) ∙ two sub rest leave made)
+    ∙ ap₂ (λ (x y : List (List PathStep)). x ++ y) (one rest leave made) (each_one path (walk p sub c rest leave made) ∙ two rest leave made)
     ∙ sym (each_more found more (rest made))
     ∙ ap (λ paths. after_each paths (rest made)) (sym is)
 
@@ -97,25 +96,25 @@ pub from_one : {A : Type 0} (xs : List A) (i : ℕ) (x : A) → i < length xs �
 from_one xs i x below is = rw (add-one, drop-cons xs i x, sym is)
 
 -- one arm more was walked
-pub arms_more : (p : Program) (arms : List CoreArm) (i : ℕ) (arm : CoreArm) (old middle new : List PathStep) (found more all : List Path) → i < length arms → arm ≡ get_or arms i arm → ArriveBefore p (with_arms arms) (with_arms (drop i arms)) old middle found
-    → ArriveArm p arm middle new more → all ≡ found ++ more → ArriveBefore p (with_arms arms) (with_arms (drop (i + 1) arms)) old new all
-arms_more p arms i arm old middle new found more all below at one two is =
-    before_both p (with_arms arms) (with_arms (drop i arms)) (with_arms (drop (i + 1) arms)) old middle new found more all one
-    (subst (λ part. ArriveBefore p (with_arms part) (with_arms (drop (i + 1) arms)) middle new more) (sym (from_one arms i arm below at)) (λ last. two (with_arms (drop (i + 1) arms) last)))
+pub arms_more : (p : Program) (sub : Sub) (arms : List CoreArm) (i : ℕ) (arm : CoreArm) (old middle new : List PathStep) (found more all : List Path) → i < length arms → arm ≡ get_or arms i arm → ArriveBefore p sub (with_arms arms) (with_arms (drop i arms)) old middle found
+    → ArriveArm p sub arm middle new more → all ≡ found ++ more → ArriveBefore p sub (with_arms arms) (with_arms (drop (i + 1) arms)) old new all
+arms_more p sub arms i arm old middle new found more all below at one two is =
+    before_both p sub (with_arms arms) (with_arms (drop i arms)) (with_arms (drop (i + 1) arms)) old middle new found more all one
+    (subst (λ part. ArriveBefore p sub (with_arms part) (with_arms (drop (i + 1) arms)) middle new more) (sym (from_one arms i arm below at)) (λ last. two (with_arms (drop (i + 1) arms) last)))
     is
 
 -- one alternative more was walked
-pub alternatives_more : (p : Program) (t : Term) (alternatives : List CoreAlternative) (i : ℕ) (chosen : CoreAlternative) (earlier later : List Term) (steps taken : List PathStep) (found more all : List Path) → i < length alternatives
-    → chosen ≡ get_or alternatives i chosen → ArriveWhen p t alternatives earlier (drop i alternatives) steps found → Walked steps taken (assume_all (alternative_facts t earlier (out-CoreAlternative chosen).choices))
-    → Arrive p (commands (out-CoreAlternative chosen).body) taken more → all ≡ found ++ more → later ≡ and_these t earlier (out-CoreAlternative chosen).choices → ArriveWhen p t alternatives later (drop (i + 1) alternatives) steps all
-alternatives_more p t alternatives i chosen earlier later steps taken found more all below at one walked two is after_these = λ sub rest leave made.
+pub alternatives_more : (p : Program) (sub : Sub) (t : Term) (alternatives : List CoreAlternative) (i : ℕ) (chosen : CoreAlternative) (earlier later : List Term) (steps taken : List PathStep) (found more all : List Path) → i < length alternatives
+    → chosen ≡ get_or alternatives i chosen → ArriveWhen p sub t alternatives earlier (drop i alternatives) steps found → Walked steps taken (assume_all (alternative_facts t earlier (out-CoreAlternative chosen).choices))
+    → Arrive p sub (commands (out-CoreAlternative chosen).body) taken more → all ≡ found ++ more → later ≡ and_these t earlier (out-CoreAlternative chosen).choices → ArriveWhen p sub t alternatives later (drop (i + 1) alternatives) steps all
+alternatives_more p sub t alternatives i chosen earlier later steps taken found more all below at one walked two is after_these = λ rest leave made.
     let others = map alternative (drop (i + 1) alternatives) in
     let tail = after_alternatives p sub t (and_these t earlier (out-CoreAlternative chosen).choices) others steps rest leave made in
     let before = after_each found (rest made) in
-    one sub rest leave made
+    one rest leave made
     ∙ ap (λ xs. before ++ after_alternatives p sub t earlier (map alternative xs) steps rest leave made) (from_one alternatives i chosen below at)
     ∙ ap (λ x. before ++ after_alternatives p sub t earlier (x ∷ others) steps rest leave made) (alternative_is chosen)
-    ∙ ap (λ paths. before ++ (paths ++ tail)) (walked (walk p sub (commands (out-CoreAlternative chosen).body) rest leave made) ∙ two sub rest leave made)
+    ∙ ap (λ paths. before ++ (paths ++ tail)) (walked (walk p sub (commands (out-CoreAlternative chosen).body) rest leave made) ∙ two rest leave made)
     ∙ sym (append_assoc before (after_each more (rest made)) tail)
     ∙ ap (λ paths. paths ++ tail) (sym (each_more found more (rest made)) ∙ ap (λ paths. after_each paths (rest made)) (sym is))
     ∙ ap (λ terms. after_each all (rest made) ++ after_alternatives p sub t terms others steps rest leave made) (sym after_these)
@@ -130,12 +129,21 @@ pub all_paths : (tree : Tree) → after [] tree ≡ branches tree
 unfolding after
 all_paths tree = map-id (branches tree)
 
+-- one path more was ended
+pub one_ended : (before : List Path) (path last : Path) (ended all : List Path) (part : Tree → Tree) → after_each ended Cut ≡ after_each before (part Cut) → Walked path.steps last.steps part → all ≡ ended ++ last ∷ [] → after_each all Cut ≡ after_each (before ++ path ∷ []) (part Cut)
+one_ended before path last ended all part so_far walked is =
+    ap (λ paths. after_each paths Cut) is
+    ∙ each_more ended (last ∷ []) Cut
+    ∙ ap₂ (λ (x y : List (List PathStep)). x ++ y) so_far (each_one last Cut ∙ sym (walked Cut) ∙ sym (each_one path (part Cut)))
+    ∙ sym (each_more before (path ∷ []) (part Cut))
+
 -- from the start to the end of a body
-pub paths_are : (p : Program) (sub : Sub) (start : List PathStep) (found : List Path) → Walked [] start (opening p sub) → Arrive p (commands sub.statements) start found → map (λ (path : Path). path.steps) found ≡ paths p sub
-paths_are p sub start found opens arrives =
-    sym (each_ended found)
-    ∙ sym (arrives sub ending ending 0)
-    ∙ sym (opens (walk p sub (commands sub.statements) ending ending 0))
+pub paths_are : (p : Program) (sub : Sub) (start : List PathStep) (found ended : List Path) → Walked [] start (opening p sub) → Arrive p sub (commands sub.statements) start found → after_each ended Cut ≡ after_each found (ending_with p sub sub.post) → map (λ (path : Path). path.steps) ended ≡ paths p sub
+paths_are p sub start found ended opens arrives ends =
+    sym (each_ended ended)
+    ∙ ends
+    ∙ sym (arrives (ending p sub) (ending p sub) 0)
+    ∙ sym (opens (walk p sub (commands sub.statements) (ending p sub) (ending p sub) 0))
     ∙ all_paths (start_tree p sub)
     ∙ sym (append-nil (branches (start_tree p sub)))
 
@@ -150,6 +158,9 @@ null_is place = rw (fold_out-CoreStmt, outs-Null)
 
 pub assignment_is : (target : Reference) (value : CoreExpr) → command (stmt.Assignment target value) ≡ Set target value
 assignment_is target value = rw (fold_out-CoreStmt, outs-Assignment)
+
+pub check_is : (place : Place) (condition : CoreExpr) → command (stmt.Check place condition) ≡ Check place condition
+check_is place condition = rw (fold_out-CoreStmt, outs-Check)
 
 pub if_alone_is : (arms : List CoreArm) (closing : Closing) → command (stmt.If arms None closing) ≡ with_arms arms Skip
 if_alone_is arms closing = rw (fold_out-CoreStmt, outs-If)

@@ -15,8 +15,9 @@ use Rattle.spx_core.specs.declared.program.Program.{Program}
 use Rattle.spx_core.specs.declared.statement.CoreAlternative.{CoreAlternative}
 use Rattle.spx_core.specs.declared.statement.CoreChoice.{CoreChoice}
 use Rattle.spx_paths.specs.Counts.{arrivals_in}
+use Rattle.spx_core.specs.declared.subprogram.CorePredicate.{CorePredicate}
 use Rattle.spx_core.specs.declared.subprogram.Sub.{Sub}
-use Rattle.spx_core.specs.Commands.{Command, Skip, Set, Then, Choose, Select, Alternatives, Last, When, alternative, alternatives_of, commands, select}
+use Rattle.spx_core.specs.Commands.{Command, Skip, Set, Then, Choose, Select, Check, Alternatives, Last, When, alternative, alternatives_of, commands, select}
 use Rattle.spx_core.specs.Dependency.{exports}
 use Rattle.spx_core.specs.Formals.{formals, locals}
 use Rattle.spx_core.specs.Judged.{Judged, application}
@@ -28,7 +29,7 @@ use Rattle.spx_tree.specs.declared.expression.InfixOp.TheVariants as op
 use Rattle.spx_tree.specs.declared.expression.PrefixOp.{PrefixOp}
 use Rattle.spx_tree.specs.declared.expression.PrefixOp.TheVariants as prefix
 use Rattle.spx_term.specs.declared.condition.CondKind.{CondKind}
-use Rattle.spx_term.specs.declared.condition.CondKind.TheVariants.{Division, Overflow, Range}
+use Rattle.spx_term.specs.declared.condition.CondKind.TheVariants as kind
 use Rattle.spx_term.specs.declared.path.PathStep.{PathStep}
 use Rattle.spx_term.specs.declared.path.PathStep.TheVariants as step
 use Rattle.spx_core.specs.declared.expression.CoreExpr.TheVariants as expr
@@ -38,16 +39,16 @@ use Rattle.spx_term.specs.declared.term.Term.{Term}
 use Rattle.spx_term.specs.declared.term.Term.TheVariants as term
 use Rattle.spx_term.specs.declared.value.Value.{Value}
 use Rattle.spx_term.specs.Paths.{branches}
-use Rattle.spx_term.specs.Steps.{Tree, Assign, assume_all, assume_parts, check}
+use Rattle.spx_term.specs.Steps.{Tree, Cut, Assign, assume_all, assume_parts, check}
 use Rattle.spx_term.specs.Conjuncts.{conjuncts}
 use Rattle.spx_meaning.specs.Literals.{literal}
 use Rattle.spx_meaning.specs.Runs.{initial_value}
 use Rattle.spx_meaning.specs.Stores.{type_of}
 use Rattle.spx_term.specs.Folding.{term_of as static_term}
-use Rattle.spx_paths.specs.Terms.{entry, entry_term, moved_term, now, term_of}
+use Rattle.spx_paths.specs.Terms.{entry, entry_term, moved_term, now, now_term, term_of}
 use Rattle.spx_paths.specs.Checks.{base_check, bounds_check, check_forms, checked_under, checks, divisor_check, guarded, in_range, in_type, mapping_check, operation_check, right_lefts, sign_check, unless_static}
 use Rattle.spx_paths.specs.Conditions.{PathsAreCounted}
-use Rattle.spx_paths.specs.Walks.{alternative_facts, and_these, arrivals, arrivals_for, assigned, checked_in, ending, entering, first_facts, initializing, starting_with, walk, walk_for}
+use Rattle.spx_paths.specs.Walks.{alternative_facts, and_these, arrivals, arrivals_for, asserted, assigned, checked_in, ending, ending_with, entering, first_facts, initializing, starting_with, walk, walk_for}
 
 -- how many paths a tree has
 abbrev count : Tree → ℕ
@@ -78,27 +79,30 @@ unless None h = h
 unless (Some x) h = itself
 
 in_class : (class : Class) (subtype : Subtype) (place : Place) (t : Term) (rest : Tree) → AsMany (checked_in class subtype place t rest) rest
-in_class class.Integer subtype place t rest = record { same = count_check Range place (in_type subtype t) rest }
+in_class class.Integer subtype place t rest = record { same = count_check kind.Range place (in_type subtype t) rest }
 in_class class.Boolean subtype place t rest = itself
-in_class class.Enumeration subtype place t rest = record { same = count_check Range place (in_type subtype t) rest }
+in_class class.Enumeration subtype place t rest = record { same = count_check kind.Range place (in_type subtype t) rest }
 
 assigns : (p : Program) (place : Place) (o : Option VarId) (t : Term) (rest : Tree) → AsMany (assigned p place o t rest) rest
 assigns p place None t rest = itself
 assigns p place (Some v) t rest = and_then (in_class (type_of p v).base.class (type_of p v) place t (Assign (now p v) t rest)) (record { same = one_step (step.Assign (now p v) t) (branches rest) })
+
+asserts : (kind : CondKind) (place : Place) (t : Term) (rest : Tree) → AsMany (asserted kind place t rest) rest
+asserts kind place t rest = record { same = count_check kind place (conjuncts t) rest }
 
 module _ (lefts : List Term) where
   checked : (kind : CondKind) (place : Place) (goals : List Term) (rest : Tree) → AsMany (checked_under lefts kind place goals rest) rest
   checked kind place goals rest = record { same = count_check kind place (guarded lefts goals) rest }
 
   based : (base : BaseType) (place : Place) (t : Term) (rest : Tree) → AsMany (base_check lefts base place t rest) rest
-  based base place t rest = checked Overflow place (in_range base.first base.last t) rest
+  based base place t rest = checked kind.Overflow place (in_range base.first base.last t) rest
 
   divided : (place : Place) (t : Term) (rest : Tree) → AsMany (divisor_check lefts place t rest) rest
-  divided place t rest = checked Division place (term.Infix operator.NotEqual t (term.Number (pos 0)) ∷ []) rest
+  divided place t rest = checked kind.Division place (term.Infix operator.NotEqual t (term.Number (pos 0)) ∷ []) rest
 
   bounded : (bounds : Option Span) (place : Place) (t : Term) (rest : Tree) → AsMany (bounds_check lefts bounds place t rest) rest
   bounded None place t rest = itself
-  bounded (Some span) place t rest = checked Range place (in_range span.first span.last t) rest
+  bounded (Some span) place t rest = checked kind.Range place (in_range span.first span.last t) rest
 
   mapped : (mapping : Judged Mapping) (place : Place) (t : Term) (rest : Tree) → AsMany (mapping_check lefts mapping place t rest) rest
   mapped (Ok mapping) place t rest = bounded mapping.bounds place (moved_term mapping.shift t) rest
@@ -118,7 +122,7 @@ module _ (lefts : List Term) where
   operated op.Mod base place at right whole rest = divided place right rest
   operated op.Rem base place at right whole rest = divided place right rest
   operated op.Power base place at right whole rest =
-      and_then (checked Range at (term.Infix operator.GreaterOrEqual right (term.Number (pos 0)) ∷ []) (base_check lefts base place whole rest)) (based base place whole rest)
+      and_then (checked kind.Range at (term.Infix operator.GreaterOrEqual right (term.Number (pos 0)) ∷ []) (base_check lefts base place whole rest)) (based base place whole rest)
   operated _ base place at right whole rest = itself
 
 module _ (p : Program) (entered : VarId → Term) where
@@ -130,6 +134,7 @@ module _ (p : Program) (entered : VarId → Term) where
   count_checks = induct Counted (record {
     number = λ n place lefts rest. simp check_forms itself;
     name = λ name lefts rest. simp check_forms itself;
+    entry = λ name allowed lefts rest. simp check_forms itself;
     attribute = λ prefix designator lefts rest. simp check_forms itself;
     applied = λ function place a more lefts rest.
         simp check_forms (unless (literal (expr.Applied function place a)) (and_then (more lefts _) (mapped lefts (application function) _ _ rest)));
@@ -149,17 +154,18 @@ mutual
       → (made : ℕ) → count (walk p sub c rest leave made) ≡ arrivals c r l
   count_walk p sub Skip rest leave r l goes leaves made = goes made
   count_walk p sub (Set target e) rest leave r l goes leaves made =
-      (and_then (count_checks p (entry_term p sub) e [] _) (assigns p (place_of e) (variable_of target.root.entity) (term_of p (entry_term p sub) e) (rest made))).same ∙ goes made
+      (and_then (count_checks p (now_term p) e [] _) (assigns p (place_of e) (variable_of target.root.entity) (term_of p (now_term p) e) (rest made))).same ∙ goes made
   count_walk p sub (Then a b) rest leave r l goes leaves made =
       count_walk p sub a (walk p sub b rest leave) leave (arrivals b r l) l (count_walk p sub b rest leave r l goes leaves) leaves made
   count_walk p sub (Choose place condition a b) rest leave r l goes leaves made =
-      let holds = term_of p (entry_term p sub) condition in
-      (count_checks p (entry_term p sub) condition [] _).same
+      let holds = term_of p (now_term p) condition in
+      (count_checks p (now_term p) condition [] _).same
       ∙ length-append (branches (assume_parts holds (walk p sub a rest leave made))) _
       ∙ ap₂ (λ (m n : ℕ). m + n) (count_facts (conjuncts holds) (walk p sub a rest leave made) ∙ count_walk p sub a rest leave r l goes leaves made)
       (one_step _ (branches (walk p sub b rest leave made)) ∙ count_walk p sub b rest leave r l goes leaves made)
   count_walk p sub (Select place selector alternatives) rest leave r l goes leaves made =
-      (count_checks p (entry_term p sub) selector [] _).same ∙ count_for p sub alternatives (term_of p (entry_term p sub) selector) [] rest leave r l goes leaves made
+      (count_checks p (now_term p) selector [] _).same ∙ count_for p sub alternatives (term_of p (now_term p) selector) [] rest leave r l goes leaves made
+  count_walk p sub (Check place condition) rest leave r l goes leaves made = (asserts kind.Check place (term_of p (entry_term p sub) condition) (rest made)).same ∙ goes made
 
   count_for : (p : Program) (sub : Sub) (alternatives : Alternatives) (t : Term) (earlier : List Term) (rest leave : ℕ → Tree) (r l : ℕ) → ((m : ℕ) → count (rest m) ≡ r)
       → ((m : ℕ) → count (leave m) ≡ l) → (made : ℕ) → count (walk_for p sub t earlier alternatives rest leave made) ≡ arrivals_for alternatives r l
@@ -196,6 +202,10 @@ count_initializing : (p : Program) (vs : List VarId) (rest : Tree) → count (in
 count_initializing p [] rest = refl
 count_initializing p (v ∷ vs) rest = count_start (now p v) (initial_value p v) (initializing p vs rest) ∙ count_initializing p vs rest
 
+count_ending : (p : Program) (sub : Sub) (post : Option CorePredicate) → count (ending_with p sub post) ≡ 1
+count_ending p sub None = refl
+count_ending p sub (Some post) = (asserts kind.Post post.place (term_of p (entry_term p sub) post.condition) Cut).same
+
 pub paths_are_counted : PathsAreCounted
 paths_are_counted p sub =
     length-append (branches (entering p sub (formals sub) _)) []
@@ -203,4 +213,4 @@ paths_are_counted p sub =
     ∙ count_entering p sub (formals sub) _
     ∙ count_initializing p (locals sub) _
     ∙ count_facts (first_facts p sub) _
-    ∙ count_walk p sub (commands sub.statements) ending ending 1 1 (λ m. refl) (λ m. refl) 0
+    ∙ count_walk p sub (commands sub.statements) (ending p sub) (ending p sub) 1 1 (λ m. count_ending p sub sub.post) (λ m. count_ending p sub sub.post) 0

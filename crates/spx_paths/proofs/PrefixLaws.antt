@@ -1,5 +1,5 @@
 -- One more step on a path.
-use Rattle.std.proofs.Common.{◌≡◌, ℤ, Bool, List, [], ◌∷◌, ◌++◌, map, refl, ap, ap₂, sym, ◌∙◌, if◌then◌else◌}
+use Rattle.std.proofs.Common.{◌≡◌, List, [], ◌∷◌, ◌++◌, map, refl, ap, ap₂, sym, ◌∙◌, if◌then◌else◌}
 use Rattle.std.proofs.lemmas.List.{append-nil, append_assoc, map-append}
 use Rattle.std.proofs.lemmas.Grind.{flat_map-append}
 use Rattle.spx_text.specs.declared.place.Place.{Place}
@@ -9,12 +9,11 @@ use Rattle.spx_term.specs.declared.path.PathStep.TheVariants as step
 use Rattle.spx_term.specs.declared.term.Name.{Name}
 use Rattle.spx_term.specs.declared.term.TermOp.{TermOp}
 use Rattle.spx_term.specs.declared.term.TermOp.TheVariants as operator
-use Rattle.spx_term.specs.declared.term.TermPrefix.{TermPrefix}
 use Rattle.spx_term.specs.declared.term.Term.{Term}
 use Rattle.spx_term.specs.declared.term.Term.TheVariants as term
 use Rattle.spx_term.specs.Conjuncts.{conjuncts, conjuncts-Number, conjuncts-Truth, conjuncts-Variable, conjuncts-Prefix, conjuncts-Infix, parts_of}
 use Rattle.spx_term.specs.Paths.{branches}
-use Rattle.spx_term.specs.Steps.{Tree, Assume, Assign, Prove, Split, assume_all, assume_parts}
+use Rattle.spx_term.specs.Steps.{Tree, Assume, Assign, Prove, Split, assume_all}
 use Rattle.spx_paths.specs.declared.path.Path.{Path}
 use Rattle.spx_paths.specs.Prefixes.{after, after_each, is_and}
 
@@ -64,26 +63,11 @@ facts_more (t ∷ ts) more rest = ap (Assume t) (facts_more ts more rest)
 
 -- ---- parts of conjunctions
 
-parts_at : (t : Term) (parts : List Term) (rest : Tree) → conjuncts t ≡ parts → assume_parts t rest ≡ assume_all parts rest
-parts_at t parts rest is = ap (λ ts. assume_all ts rest) is
-
-pub parts-Number : (n : ℤ) (rest : Tree) → assume_parts (term.Number n) rest ≡ Assume (term.Number n) rest
-parts-Number n rest = parts_at (term.Number n) (term.Number n ∷ []) rest (conjuncts-Number n)
-
-pub parts-Truth : (b : Bool) (rest : Tree) → assume_parts (term.Truth b) rest ≡ Assume (term.Truth b) rest
-parts-Truth b rest = parts_at (term.Truth b) (term.Truth b ∷ []) rest (conjuncts-Truth b)
-
-pub parts-Variable : (name : Name) (rest : Tree) → assume_parts (term.Variable name) rest ≡ Assume (term.Variable name) rest
-parts-Variable name rest = parts_at (term.Variable name) (term.Variable name ∷ []) rest (conjuncts-Variable name)
-
-pub parts-Prefix : (op : TermPrefix) (a : Term) (rest : Tree) → assume_parts (term.Prefix op a) rest ≡ Assume (term.Prefix op a) rest
-parts-Prefix op a rest = parts_at (term.Prefix op a) (term.Prefix op a ∷ []) rest (conjuncts-Prefix op a)
-
-pub parts-Infix : (op : TermOp) (a b : Term) (rest : Tree) → assume_parts (term.Infix op a b) rest ≡ (if is_and op then assume_parts a (assume_parts b rest) else Assume (term.Infix op a b) rest)
-parts-Infix op a b rest = parts_at (term.Infix op a b) (parts_of op a b (conjuncts a) (conjuncts b)) rest (conjuncts-Infix op a b) ∙ by_op op
+pub conjuncts_by_op : (op : TermOp) (a b : Term) → conjuncts (term.Infix op a b) ≡ (if is_and op then conjuncts a ++ conjuncts b else term.Infix op a b ∷ [])
+conjuncts_by_op op a b = conjuncts-Infix op a b ∙ by_op op
   where
-    by_op : (op : TermOp) → assume_all (parts_of op a b (conjuncts a) (conjuncts b)) rest ≡ (if is_and op then assume_parts a (assume_parts b rest) else Assume (term.Infix op a b) rest)
-    by_op operator.And = facts_more (conjuncts a) (conjuncts b) rest
+    by_op : (op : TermOp) → parts_of op a b (conjuncts a) (conjuncts b) ≡ (if is_and op then conjuncts a ++ conjuncts b else term.Infix op a b ∷ [])
+    by_op operator.And = refl
     by_op _ = refl
 
-pub ruleset part_laws = (parts-Number, parts-Truth, parts-Variable, parts-Prefix, parts-Infix)
+pub ruleset part_laws = (conjuncts-Number, conjuncts-Truth, conjuncts-Variable, conjuncts-Prefix, conjuncts_by_op, append_assoc)

@@ -1,4 +1,5 @@
 pub mod Terms
+pub mod Entries
 pub mod Checks
 pub mod Walks
 pub mod Conditions

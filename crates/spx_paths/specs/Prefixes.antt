@@ -36,38 +36,38 @@ abbrev pub Walked : (old new : List PathStep) → (Tree → Tree) → Type 0
 Walked old new part = (rest : Tree) → after old (part rest) ≡ after new rest
 
 -- a command was walked: these are the paths as far as what stands after it
-abbrev pub Arrive : Program → Command → List PathStep → List Path → Type 0
-Arrive p c steps found = (sub : Sub) (rest leave : ℕ → Tree) (made : ℕ) → after steps (walk p sub c rest leave made) ≡ after_each found (rest made)
+abbrev pub Arrive : Program → Sub → Command → List PathStep → List Path → Type 0
+Arrive p sub c steps found = (rest leave : ℕ → Tree) (made : ℕ) → after steps (walk p sub c rest leave made) ≡ after_each found (rest made)
 
 -- the same from each of several paths
-abbrev pub ArriveEach : Program → Command → (before found : List Path) → Type 0
-ArriveEach p c before found = (sub : Sub) (rest leave : ℕ → Tree) (made : ℕ) → after_each before (walk p sub c rest leave made) ≡ after_each found (rest made)
+abbrev pub ArriveEach : Program → Sub → Command → (before found : List Path) → Type 0
+ArriveEach p sub c before found = (rest leave : ℕ → Tree) (made : ℕ) → after_each before (walk p sub c rest leave made) ≡ after_each found (rest made)
 
 -- a command without branches was walked
-abbrev pub Passes : Program → Command → (old new : List PathStep) → Type 0
-Passes p c old new = (sub : Sub) (rest leave : ℕ → Tree) (made : ℕ) → after old (walk p sub c rest leave made) ≡ after new (rest made)
+abbrev pub Passes : Program → Sub → Command → (old new : List PathStep) → Type 0
+Passes p sub c old new = (rest leave : ℕ → Tree) (made : ℕ) → after old (walk p sub c rest leave made) ≡ after new (rest made)
 
 -- a path split at a condition: `taken` goes on where it is true, `new` where it is false
 abbrev pub Splits : Program → CoreExpr → (old new taken : List PathStep) → Type 0
 Splits p condition old new taken =
-    (entered : VarId → Term) (first second : Tree)
-    → after old (checks p entered [] condition (Split (assume_parts (term_of p entered condition) first) (Assume (term.Prefix Not (term_of p entered condition)) second))) ≡ after taken first ++ after new second
+    (first second : Tree)
+    → after old (checks p (now_term p) [] condition (Split (assume_parts (term_of p (now_term p) condition) first) (Assume (term.Prefix Not (term_of p (now_term p) condition)) second))) ≡ after taken first ++ after new second
 
 -- Arms were walked as far as a part of them. Each is a command, if what stands last is given. One path is left, which goes on with the part.
-abbrev pub ArriveBefore : Program → (whole part : Command → Command) → (old new : List PathStep) → List Path → Type 0
-ArriveBefore p whole part old new found =
-    (last : Command) (sub : Sub) (rest leave : ℕ → Tree) (made : ℕ)
+abbrev pub ArriveBefore : Program → Sub → (whole part : Command → Command) → (old new : List PathStep) → List Path → Type 0
+ArriveBefore p sub whole part old new found =
+    (last : Command) (rest leave : ℕ → Tree) (made : ℕ)
     → after old (walk p sub (whole last) rest leave made) ≡ after_each found (rest made) ++ after new (walk p sub (part last) rest leave made)
 
-abbrev pub ArriveArm : Program → CoreArm → (old new : List PathStep) → List Path → Type 0
-ArriveArm p arm old new found = ArriveBefore p (arm_before arm) (λ last. last) old new found
+abbrev pub ArriveArm : Program → Sub → CoreArm → (old new : List PathStep) → List Path → Type 0
+ArriveArm p sub arm old new found = ArriveBefore p sub (arm_before arm) (λ last. last) old new found
 
 -- what stands last, after these arms
 abbrev pub with_arms : List CoreArm → Command → Command
 with_arms arms last = arms_before last (map arm_before arms)
 
-abbrev pub ArriveArms : Program → List CoreArm → (old new : List PathStep) → List Path → Type 0
-ArriveArms p arms old new found = ArriveBefore p (with_arms arms) (λ last. last) old new found
+abbrev pub ArriveArms : Program → Sub → List CoreArm → (old new : List PathStep) → List Path → Type 0
+ArriveArms p sub arms old new found = ArriveBefore p sub (with_arms arms) (λ last. last) old new found
 
 -- The paths of alternatives for the value of a selector after these steps, one alternative after the other. Earlier choices have other values.
 abbrev pub after_alternatives : Program → Sub → Term → (earlier : List Term) → List (Option (List CoreChoice) × Command) → List PathStep → (rest leave : ℕ → Tree) → ℕ → List (List PathStep)
@@ -76,15 +76,15 @@ after_alternatives p sub t earlier (first ∷ others) steps rest leave made =
     after steps (assume_all (alternative_facts t earlier first.0) (walk p sub first.1 rest leave made)) ++ after_alternatives p sub t (and_these t earlier first.0) others steps rest leave made
 
 -- alternatives were walked as far as these others, before which earlier choices stand
-abbrev pub ArriveWhen : Program → Term → List CoreAlternative → (earlier : List Term) → (others : List CoreAlternative) → List PathStep → List Path → Type 0
-ArriveWhen p t alternatives earlier others steps found =
-    (sub : Sub) (rest leave : ℕ → Tree) (made : ℕ)
+abbrev pub ArriveWhen : Program → Sub → Term → List CoreAlternative → (earlier : List Term) → (others : List CoreAlternative) → List PathStep → List Path → Type 0
+ArriveWhen p sub t alternatives earlier others steps found =
+    (rest leave : ℕ → Tree) (made : ℕ)
     → after_alternatives p sub t [] (map alternative alternatives) steps rest leave made ≡ after_each found (rest made) ++ after_alternatives p sub t earlier (map alternative others) steps rest leave made
 
 -- all were
-abbrev pub ArriveAlternatives : Program → Term → List CoreAlternative → List PathStep → List Path → Type 0
-ArriveAlternatives p t alternatives steps found =
-    (sub : Sub) (rest leave : ℕ → Tree) (made : ℕ) → after_alternatives p sub t [] (map alternative alternatives) steps rest leave made ≡ after_each found (rest made)
+abbrev pub ArriveAlternatives : Program → Sub → Term → List CoreAlternative → List PathStep → List Path → Type 0
+ArriveAlternatives p sub t alternatives steps found =
+    (rest leave : ℕ → Tree) (made : ℕ) → after_alternatives p sub t [] (map alternative alternatives) steps rest leave made ≡ after_each found (rest made)
 
 -- the operator of a conjunction
 abbrev pub is_and : TermOp → Bool

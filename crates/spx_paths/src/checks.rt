@@ -1,14 +1,13 @@
 // The steps that the checks of expressions add to a path.
-ghost use Rattle.std.specs.Prelude.{◌≡◌, List, IfOk, OnOk};
-ghost use Rattle.spx_core.specs.declared.entity.VarId.{VarId};
+ghost use Rattle.std.specs.Prelude.{◌≡◌, IfOk, OnOk};
 ghost use Rattle.spx_core.specs.Judged.{application};
 ghost use Rattle.spx_core.specs.Places.{place_of};
-ghost use Rattle.spx_term.specs.declared.term.Term.{Term};
 ghost use Rattle.spx_meaning.specs.Literals.{base_of};
 ghost use Rattle.spx_paths.specs.Checks.{base_check, bounds_check, checked_under, checks, divisor_check, exponent_check, mapping_check, operation_check, right_lefts, sign_check};
-ghost use Rattle.spx_paths.specs.Terms.{term_of};
+ghost use Rattle.spx_paths.specs.Terms.{now_term, term_of};
 ghost use Rattle.spx_paths.specs.Prefixes.{Walked};
 
+use crate::entered::Entered;
 use crate::goals::{guarded, in_range, one_goal};
 use crate::literals::{base_of, literal};
 use crate::steps::check;
@@ -45,10 +44,10 @@ fn check_base(
     lefts: &[Term],
     whole: &CoreExpr,
 ) -> Result<(), AllocError>
-    ensures { OnOk result ((entered : VarId → Term) → Walked steps.old steps.new (base_check lefts.now (base_of whole.now) (place_of whole.now) (term_of program.now entered whole.now))) }
+    ensures { OnOk result (Walked steps.old steps.new (base_check lefts.now (base_of whole.now) (place_of whole.now) (term_of program.now (now_term program.now) whole.now))) }
 {
     let base = base_of(whole);
-    let number = term_of(alloc, program, whole)?;
+    let number = term_of(alloc, program, &Entered::Present, whole)?;
     let goals = in_range(alloc, base.first, base.last, &number)?;
     check_under(
         alloc,
@@ -70,9 +69,9 @@ fn check_divisor(
     place: Place,
     divisor: &CoreExpr,
 ) -> Result<(), AllocError>
-    ensures { OnOk result ((entered : VarId → Term) → Walked steps.old steps.new (divisor_check lefts.now place (term_of program.now entered divisor.now))) }
+    ensures { OnOk result (Walked steps.old steps.new (divisor_check lefts.now place (term_of program.now (now_term program.now) divisor.now))) }
 {
-    let number = term_of(alloc, program, divisor)?;
+    let number = term_of(alloc, program, &Entered::Present, divisor)?;
     let goals = one_goal(alloc, &number, TermOp::NotEqual, 0)?;
     check_under(alloc, steps, lefts, CondKind::Division, place, goals)?;
     Ok(())
@@ -87,9 +86,9 @@ fn check_exponent(
     place: Place,
     exponent: &CoreExpr,
 ) -> Result<(), AllocError>
-    ensures { OnOk result ((entered : VarId → Term) → Walked steps.old steps.new (exponent_check lefts.now place (term_of program.now entered exponent.now))) }
+    ensures { OnOk result (Walked steps.old steps.new (exponent_check lefts.now place (term_of program.now (now_term program.now) exponent.now))) }
 {
-    let number = term_of(alloc, program, exponent)?;
+    let number = term_of(alloc, program, &Entered::Present, exponent)?;
     let goals = one_goal(alloc, &number, TermOp::GreaterOrEqual, 0)?;
     check_under(alloc, steps, lefts, CondKind::Range, place, goals)?;
     Ok(())
@@ -105,7 +104,7 @@ fn check_operation(
     right: &CoreExpr,
     whole: &CoreExpr,
 ) -> Result<(), AllocError>
-    ensures { OnOk result ((entered : VarId → Term) → Walked steps.old steps.new (operation_check lefts.now op (base_of whole.now) (place_of whole.now) (place_of right.now) (term_of program.now entered right.now) (term_of program.now entered whole.now))) }
+    ensures { OnOk result (Walked steps.old steps.new (operation_check lefts.now op (base_of whole.now) (place_of whole.now) (place_of right.now) (term_of program.now (now_term program.now) right.now) (term_of program.now (now_term program.now) whole.now))) }
 {
     match op {
         InfixOp::Add | InfixOp::Subtract | InfixOp::Multiply => {
@@ -139,7 +138,7 @@ fn check_sign(
     op: PrefixOp,
     whole: &CoreExpr,
 ) -> Result<(), AllocError>
-    ensures { OnOk result ((entered : VarId → Term) → Walked steps.old steps.new (sign_check lefts.now op (base_of whole.now) (place_of whole.now) (term_of program.now entered whole.now))) }
+    ensures { OnOk result (Walked steps.old steps.new (sign_check lefts.now op (base_of whole.now) (place_of whole.now) (term_of program.now (now_term program.now) whole.now))) }
 {
     match op {
         PrefixOp::Plus => Ok(()),
@@ -185,11 +184,11 @@ fn check_mapping(
     function: &CoreFunction,
     operand: &CoreExpr,
 ) -> Result<(), AllocError>
-    ensures { OnOk result ((entered : VarId → Term) → Walked steps.old steps.new (mapping_check lefts.now (application function.now) (place_of operand.now) (term_of program.now entered operand.now))) }
+    ensures { OnOk result (Walked steps.old steps.new (mapping_check lefts.now (application function.now) (place_of operand.now) (term_of program.now (now_term program.now) operand.now))) }
 {
     match application(function) {
         Ok(mapping) => {
-            let value = term_of(alloc, program, operand)?;
+            let value = term_of(alloc, program, &Entered::Present, operand)?;
             let moved = moved_term(alloc, mapping.shift, value)?;
             check_bounds(alloc, steps, lefts, mapping.bounds, operand.place(), &moved)?;
             Ok(())
@@ -206,16 +205,16 @@ fn right_lefts(
     lefts: &[Term],
     left: &CoreExpr,
 ) -> Result<Items<Term>, AllocError>
-    ensures { (entered : VarId → Term) → IfOk result (λ all. all ≡ right_lefts op lefts.now (term_of program.now entered left.now)) }
+    ensures { IfOk result (λ all. all ≡ right_lefts op lefts.now (term_of program.now (now_term program.now) left.now)) }
 {
     let mut all = copy_all(alloc, lefts)?;
     match op {
         InfixOp::AndThen => {
-            all.push(term_of(alloc, program, left)?)?;
+            all.push(term_of(alloc, program, &Entered::Present, left)?)?;
             Ok(all)
         }
         InfixOp::OrElse => {
-            let holds = term_of(alloc, program, left)?;
+            let holds = term_of(alloc, program, &Entered::Present, left)?;
             all.push(Term::prefix(alloc, TermPrefix::Not, holds)?)?;
             Ok(all)
         }
@@ -233,14 +232,14 @@ pub(crate) fn check_expr(
     lefts: &[Term],
     expr: &CoreExpr,
 ) -> Result<(), AllocError>
-    ensures { OnOk result ((entered : VarId → Term) → Walked steps.old steps.new (checks program.now entered lefts.now expr.now)) }
+    ensures { OnOk result (Walked steps.old steps.new (checks program.now (now_term program.now) lefts.now expr.now)) }
 {
     if literal(expr).is_some() {
         return Ok(());
     }
     match expr {
         CoreExpr::Number(_, _) => Ok(()),
-        CoreExpr::Name(_) => Ok(()),
+        CoreExpr::Name(_) | CoreExpr::Entry(_, _) => Ok(()),
         CoreExpr::Attribute(_, _) => Ok(()),
         CoreExpr::Applied(function, _, operand) => {
             check_expr(alloc, program, steps, lefts, operand.get())?;

@@ -73,6 +73,7 @@ fn count_stmt(stmt: &CoreStmt, after: u32) -> u32
     match stmt {
         CoreStmt::Null(_) => after,
         CoreStmt::Assignment(_, _) => after,
+        CoreStmt::Check(_, _) => after,
         CoreStmt::If(arms, None, _) => count_arms(arms.as_slice(), after, after),
         CoreStmt::If(arms, Some(stmts), _) => {
             let otherwise = count_stmts(stmts.as_slice(), after);

@@ -11,6 +11,8 @@
 mod checks;
 mod choices;
 mod count;
+mod ending;
+mod entered;
 mod fault;
 mod goals;
 pub mod laws;

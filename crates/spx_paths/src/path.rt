@@ -5,6 +5,7 @@ ghost use Rattle.spx_paths.specs.Conditions.{paths};
 ghost use Rattle.spx_paths.specs.Limits.{IsPathFaultOf, has_many_paths};
 
 use crate::count::has_many_paths;
+use crate::ending::end_paths;
 use crate::start::start;
 use crate::walk::walk_stmts;
 use crate::{MOST_PATHS, PathFault};
@@ -42,8 +43,9 @@ fn body_paths(alloc: Global, program: &Program, sub: &Sub) -> Result<Items<Path>
         return Err(PathFault::TooManyPaths(MOST_PATHS + 1));
     }
     let start = start(alloc, program, sub)?;
-    let found = walk_stmts(alloc, program, sub.statements.as_slice(), start)?;
-    Ok(Items::from_vec(found))
+    let found = walk_stmts(alloc, program, sub, sub.statements.as_slice(), start)?;
+    let ended = end_paths(alloc, program, sub, found)?;
+    Ok(Items::from_vec(ended))
 }
 
 /// The paths from cut to cut of a subprogram, in the order of the text.

@@ -7,6 +7,7 @@ ghost use Rattle.spx_paths.specs.Terms.{now};
 ghost use Rattle.spx_paths.specs.Prefixes.{Walked, entered, known_of, opening};
 ghost use Rattle.spx_paths.specs.Walks.{entering, import_facts, initializing, pre_facts, starting_with};
 
+use crate::entered::Entered;
 use crate::goals::in_type;
 use crate::path::Path;
 use crate::steps::{assign_name, assume_all, assume_parts};
@@ -126,7 +127,7 @@ fn assume_pre(
     match &sub.pre {
         None => Ok(()),
         Some(pre) => {
-            let fact = term_of(alloc, program, &pre.condition)?;
+            let fact = term_of(alloc, program, &Entered::OnEntry(sub), &pre.condition)?;
             assume_parts(alloc, steps, &fact)?;
             Ok(())
         }

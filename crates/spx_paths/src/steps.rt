@@ -1,8 +1,9 @@
 // The steps that facts, checks of values and assignments add to a path.
-ghost use Rattle.std.specs.Prelude.{◌≡◌, OnOk};
+ghost use Rattle.std.specs.Prelude.{◌≡◌, [], ◌∷◌, ◌++◌, IfOk, OnOk};
 ghost use Rattle.spx_core.specs.Uses.{variable_of};
+ghost use Rattle.spx_term.specs.Conjuncts.{conjuncts};
 ghost use Rattle.spx_term.specs.Steps.{Assign, Assume, assume_all, assume_parts, check};
-ghost use Rattle.spx_paths.specs.Walks.{assigned, range_check};
+ghost use Rattle.spx_paths.specs.Walks.{asserted, assigned, range_check};
 ghost use Rattle.spx_paths.specs.Prefixes.{Walked, is_and};
 
 use crate::goals::in_type;
@@ -53,9 +54,47 @@ fn is_and(op: TermOp) -> bool
     matches!(op, TermOp::And)
 }
 
-/// Adds that each part of a conjunction is true.
-#[cycle(assume_parts)]
+/// Adds the term to the parts.
+fn add_part(alloc: Global, parts: &mut Items<Term>, term: &Term) -> Result<(), AllocError>
+    ensures { OnOk result (parts.new ≡ parts.old ++ term.now ∷ []) }
+{
+    parts.push(term.copy(alloc)?)?;
+    Ok(())
+}
+
+/// Adds the parts of a conjunction, from left to right.
+#[cycle(add_parts)]
 #[tactic(auto, using(crate::proofs::PrefixLaws::part_laws))]
+fn add_parts(alloc: Global, parts: &mut Items<Term>, term: &Term) -> Result<(), AllocError>
+    ensures { OnOk result (parts.new ≡ parts.old ++ conjuncts term.now) }
+{
+    match term {
+        Term::Infix(op, left, right) => {
+            if !is_and(*op) {
+                add_part(alloc, parts, term)?;
+                return Ok(());
+            }
+            add_parts(alloc, parts, left.get())?;
+            add_parts(alloc, parts, right.get())?;
+            Ok(())
+        }
+        Term::Number(_) | Term::Truth(_) | Term::Variable(_) | Term::Prefix(_, _) => {
+            add_part(alloc, parts, term)?;
+            Ok(())
+        }
+    }
+}
+
+/// The parts of a conjunction.
+fn conjuncts(alloc: Global, term: &Term) -> Result<Items<Term>, AllocError>
+    ensures { IfOk result (λ parts. parts ≡ conjuncts term.now) }
+{
+    let mut parts = Items::new(alloc);
+    add_parts(alloc, &mut parts, term)?;
+    Ok(parts)
+}
+
+/// Adds that each part of a conjunction is true.
 pub(crate) fn assume_parts(
     alloc: Global,
     steps: &mut Items<PathStep>,
@@ -63,21 +102,9 @@ pub(crate) fn assume_parts(
 ) -> Result<(), AllocError>
     ensures { OnOk result (Walked steps.old steps.new (assume_parts term.now)) }
 {
-    match term {
-        Term::Infix(op, left, right) => {
-            if !is_and(*op) {
-                assume_copy(alloc, steps, term)?;
-                return Ok(());
-            }
-            assume_parts(alloc, steps, left.get())?;
-            assume_parts(alloc, steps, right.get())?;
-            Ok(())
-        }
-        Term::Number(_) | Term::Truth(_) | Term::Variable(_) | Term::Prefix(_, _) => {
-            assume_copy(alloc, steps, term)?;
-            Ok(())
-        }
-    }
+    let facts = conjuncts(alloc, term)?;
+    assume_all(alloc, steps, facts.as_slice())?;
+    Ok(())
 }
 
 /// Adds a check. What was shown is a fact from there on.
@@ -94,6 +121,21 @@ pub(crate) fn check(
     let facts = copy_all(alloc, goals.as_slice())?;
     steps.push(PathStep::Prove(kind, place, goals))?;
     assume_all(alloc, steps, facts.as_slice())?;
+    Ok(())
+}
+
+/// Adds an annotation: each part of it is shown, and is a fact from there on.
+pub(crate) fn assert_parts(
+    alloc: Global,
+    steps: &mut Items<PathStep>,
+    kind: CondKind,
+    place: Place,
+    term: &Term,
+) -> Result<(), AllocError>
+    ensures { OnOk result (Walked steps.old steps.new (asserted kind place term.now)) }
+{
+    let goals = conjuncts(alloc, term)?;
+    check(alloc, steps, kind, place, goals)?;
     Ok(())
 }
 

@@ -1,15 +1,15 @@
 // Terms of expressions.
 ghost use Rattle.std.specs.Prelude.{◌≡◌, IfOk};
-ghost use Rattle.spx_core.specs.declared.entity.VarId.{VarId};
 ghost use Rattle.spx_core.specs.Judged.{application};
 ghost use Rattle.spx_core.specs.Resolved.{subtype_of};
 ghost use Rattle.spx_core.specs.Uses.{variable_of};
-ghost use Rattle.spx_term.specs.declared.term.Term.{Term};
 ghost use Rattle.spx_term.specs.Folding.{term_of as static_term};
 ghost use Rattle.spx_meaning.specs.Evaluation.{term_op};
 ghost use Rattle.spx_meaning.specs.Literals.{literal};
+ghost use Rattle.spx_paths.specs.Entries.{entered_term};
 ghost use Rattle.spx_paths.specs.Terms.{between, entry, first_term, last_term, literal_or, mapped_term, member_term, moved_term, named, now, now_term, signed_term, sort_of_class, sort_of_var, term_of};
 
+use crate::entered::{Entered, entered_name_term};
 use crate::literals::literal;
 use spx_core::{
     Class, CoreExpr, CoreFunction, Entity, Program, Reference, Shift, Subtype, UNIVERSAL, VarId,
@@ -79,6 +79,8 @@ fn term_op(op: InfixOp) -> TermOp
         InfixOp::Xor => TermOp::NotEqual,
         InfixOp::AndThen => TermOp::And,
         InfixOp::OrElse => TermOp::Or,
+        InfixOp::Implies => TermOp::Implies,
+        InfixOp::Equivalent => TermOp::Equivalent,
     }
 }
 
@@ -200,44 +202,50 @@ fn mapped_term(alloc: Global, function: &CoreFunction, operand: Term) -> Result<
     }
 }
 
-/// The term of an expression over the present values of variables. A static one stands as its literal.
+/// The term of an expression over the values of variables now and on entry. A static one stands as its literal.
 #[cycle(term_of)]
 #[tactic(auto, using(crate::specs::Terms::term_forms))]
-pub(crate) fn term_of(alloc: Global, program: &Program, expr: &CoreExpr) -> Result<Term, AllocError>
-    ensures { (entered : VarId → Term) → IfOk result (λ t. t ≡ term_of program.now entered expr.now) }
+pub(crate) fn term_of(
+    alloc: Global,
+    program: &Program,
+    entered: &Entered,
+    expr: &CoreExpr,
+) -> Result<Term, AllocError>
+    ensures { IfOk result (λ t. t ≡ term_of program.now (entered_term program.now entered.now) expr.now) }
 {
     match expr {
         CoreExpr::Number(value, _) => Ok(Term::Number(*value)),
         CoreExpr::Name(name) => Ok(literal_or(expr, name_term(program, name.entity))),
+        CoreExpr::Entry(name, _) => entered_name_term(alloc, program, entered, name.entity),
         CoreExpr::Attribute(_, _) => Ok(literal_or(expr, Term::Number(0))),
         CoreExpr::Applied(function, _, operand) => {
-            let operand = term_of(alloc, program, operand.get())?;
+            let operand = term_of(alloc, program, entered, operand.get())?;
             let whole = mapped_term(alloc, function, operand)?;
             Ok(literal_or(expr, whole))
         }
-        CoreExpr::Parenthesized(_, inner) => term_of(alloc, program, inner.get()),
+        CoreExpr::Parenthesized(_, inner) => term_of(alloc, program, entered, inner.get()),
         CoreExpr::Prefix(op, _, operand) => {
-            let operand = term_of(alloc, program, operand.get())?;
+            let operand = term_of(alloc, program, entered, operand.get())?;
             let whole = signed_term(alloc, *op, operand)?;
             Ok(literal_or(expr, whole))
         }
         CoreExpr::Infix(op, _, left, right) => {
-            let left = term_of(alloc, program, left.get())?;
-            let right = term_of(alloc, program, right.get())?;
+            let left = term_of(alloc, program, entered, left.get())?;
+            let right = term_of(alloc, program, entered, right.get())?;
             let whole = Term::infix(alloc, term_op(*op), left, right)?;
             Ok(literal_or(expr, whole))
         }
         CoreExpr::InType(op, _, tested, name) => {
-            let tested = term_of(alloc, program, tested.get())?;
+            let tested = term_of(alloc, program, entered, tested.get())?;
             let low = first_term(name);
             let high = last_term(name);
             let whole = member_term(alloc, *op, tested, low, high)?;
             Ok(literal_or(expr, whole))
         }
         CoreExpr::InRange(op, _, tested, low, high) => {
-            let tested = term_of(alloc, program, tested.get())?;
-            let low = term_of(alloc, program, low.get())?;
-            let high = term_of(alloc, program, high.get())?;
+            let tested = term_of(alloc, program, entered, tested.get())?;
+            let low = term_of(alloc, program, entered, low.get())?;
+            let high = term_of(alloc, program, entered, high.get())?;
             let whole = member_term(alloc, *op, tested, low, high)?;
             Ok(literal_or(expr, whole))
         }

@@ -3,25 +3,28 @@ ghost use Rattle.std.specs.Prelude.{map, IfOk, OnOk};
 ghost use Rattle.spx_text.specs.declared.place.Place.{Place};
 ghost use Rattle.spx_core.specs.declared.statement.CoreAlternative.{out-CoreAlternative};
 ghost use Rattle.spx_core.specs.declared.program.Program.{Program};
-ghost use Rattle.spx_core.specs.Commands.{Set, Skip, alternative, command, commands, select};
+ghost use Rattle.spx_core.specs.declared.subprogram.Sub.{Sub};
+ghost use Rattle.spx_core.specs.Commands.{Check, Set, Skip, alternative, command, commands, select};
 ghost use Rattle.spx_paths.specs.Prefixes.{Arrive, ArriveAlternatives, ArriveArm, ArriveArms, ArriveEach, Passes, Splits, Walked};
 ghost use Rattle.spx_paths.specs.Walks.{alternative_facts};
 ghost use Rattle.spx_term.specs.Steps.{assume_all};
 
 use crate::checks::check_expr;
 use crate::choices::{add_choices, assume_chosen};
+use crate::entered::Entered;
 use crate::path::Path;
-use crate::steps::{assign, assume, assume_parts};
+use crate::steps::{assert_parts, assign, assume, assume_parts};
 use crate::terms::term_of;
-use spx_core::{CoreAlternative, CoreArm, CoreExpr, CoreStmt, Program, Reference};
-use spx_term::{PathStep, Term, TermPrefix};
+use spx_core::{CoreAlternative, CoreArm, CoreExpr, CoreStmt, Program, Reference, Sub};
+use spx_term::{CondKind, PathStep, Term, TermPrefix};
+use spx_text::Place;
 use sqlite_items::Items;
 use std::alloc::{AllocError, Global};
 
 /// The list of one path.
 #[tactic(auto, using(crate::proofs::PrefixLaws::each_one))]
 fn one(alloc: Global, path: Path) -> Result<Vec<Path>, AllocError>
-    ensures { (p : Program) → IfOk result (λ found. Arrive p Skip path.steps found.items) }
+    ensures { (p : Program) (s : Sub) → IfOk result (λ found. Arrive p s Skip path.steps found.items) }
 {
     let mut found = Vec::new(alloc);
     found.push(path)?;
@@ -36,10 +39,10 @@ fn add_assignment(
     target: &Reference,
     value: &CoreExpr,
 ) -> Result<(), AllocError>
-    ensures { OnOk result (Passes program.now (Set target.now value.now) steps.old steps.new) }
+    ensures { OnOk result ((s : Sub) → Passes program.now s (Set target.now value.now) steps.old steps.new) }
 {
     check_expr(alloc, program, steps, &[], value)?;
-    let term = term_of(alloc, program, value)?;
+    let term = term_of(alloc, program, &Entered::Present, value)?;
     assign(
         alloc,
         program,
@@ -58,10 +61,42 @@ fn walk_assignment(
     value: &CoreExpr,
     path: Path,
 ) -> Result<Vec<Path>, AllocError>
-    ensures { IfOk result (λ found. Arrive program.now (Set target.now value.now) path.steps found.items) }
+    ensures { (s : Sub) → IfOk result (λ found. Arrive program.now s (Set target.now value.now) path.steps found.items) }
 {
     let mut path = path;
     add_assignment(alloc, program, &mut path.steps, target, value)?;
+    let found = one(alloc, path)?;
+    Ok(found)
+}
+
+/// Adds the steps of a `check` annotation: each part is shown, and is a fact from there on.
+fn add_check(
+    alloc: Global,
+    program: &Program,
+    sub: &Sub,
+    steps: &mut Items<PathStep>,
+    place: Place,
+    condition: &CoreExpr,
+) -> Result<(), AllocError>
+    ensures { OnOk result (Passes program.now sub.now (Check place condition.now) steps.old steps.new) }
+{
+    let shown = term_of(alloc, program, &Entered::OnEntry(sub), condition)?;
+    assert_parts(alloc, steps, CondKind::Check, place, &shown)?;
+    Ok(())
+}
+
+fn walk_check(
+    alloc: Global,
+    program: &Program,
+    sub: &Sub,
+    place: Place,
+    condition: &CoreExpr,
+    path: Path,
+) -> Result<Vec<Path>, AllocError>
+    ensures { IfOk result (λ found. Arrive program.now sub.now (Check place condition.now) path.steps found.items) }
+{
+    let mut path = path;
+    add_check(alloc, program, sub, &mut path.steps, place, condition)?;
     let found = one(alloc, path)?;
     Ok(found)
 }
@@ -78,7 +113,7 @@ fn split(
 {
     check_expr(alloc, program, &mut path.steps, &[], condition)?;
     let mut taken = path.copy(alloc)?;
-    let holds = term_of(alloc, program, condition)?;
+    let holds = term_of(alloc, program, &Entered::Present, condition)?;
     assume_parts(alloc, &mut taken.steps, &holds)?;
     let fails = Term::prefix(alloc, TermPrefix::Not, holds)?;
     assume(&mut path.steps, fails)?;
@@ -105,14 +140,15 @@ fn choose(
 pub(crate) fn walk_stmts(
     alloc: Global,
     program: &Program,
+    sub: &Sub,
     stmts: &[CoreStmt],
     path: Path,
 ) -> Result<Vec<Path>, AllocError>
-    ensures { IfOk result (λ found. Arrive program.now (commands stmts.now) path.steps found.items) }
+    ensures { IfOk result (λ found. Arrive program.now sub.now (commands stmts.now) path.steps found.items) }
 {
     let mut found = one(alloc, path)?;
     for stmt in stmts {
-        found = walk_from_each(alloc, program, stmt, found)?;
+        found = walk_from_each(alloc, program, sub, stmt, found)?;
     }
     Ok(found)
 }
@@ -122,14 +158,15 @@ pub(crate) fn walk_stmts(
 fn walk_from_each(
     alloc: Global,
     program: &Program,
+    sub: &Sub,
     stmt: &CoreStmt,
     before: Vec<Path>,
 ) -> Result<Vec<Path>, AllocError>
-    ensures { IfOk result (λ found. ArriveEach program.now (command stmt.now) before.items found.items) }
+    ensures { IfOk result (λ found. ArriveEach program.now sub.now (command stmt.now) before.items found.items) }
 {
     let mut found = Vec::new(alloc);
     for path in before {
-        found.append(&mut walk_stmt(alloc, program, stmt, path)?)?;
+        found.append(&mut walk_stmt(alloc, program, sub, stmt, path)?)?;
     }
     Ok(found)
 }
@@ -138,30 +175,34 @@ fn walk_from_each(
 fn walk_stmt(
     alloc: Global,
     program: &Program,
+    sub: &Sub,
     stmt: &CoreStmt,
     path: Path,
 ) -> Result<Vec<Path>, AllocError>
-    ensures { IfOk result (λ found. Arrive program.now (command stmt.now) path.steps found.items) }
+    ensures { IfOk result (λ found. Arrive program.now sub.now (command stmt.now) path.steps found.items) }
 {
     let mut path = path;
     match stmt {
         CoreStmt::Null(_) => one(alloc, path),
         CoreStmt::Assignment(target, value) => walk_assignment(alloc, program, target, value, path),
+        CoreStmt::Check(place, condition) => {
+            walk_check(alloc, program, sub, *place, condition, path)
+        }
         CoreStmt::If(arms, otherwise, _) => {
-            let mut found = walk_arms(alloc, program, arms.as_slice(), &mut path)?;
+            let mut found = walk_arms(alloc, program, sub, arms.as_slice(), &mut path)?;
             match otherwise {
                 None => {
                     found.append(&mut one(alloc, path)?)?;
                     Ok(found)
                 }
                 Some(stmts) => {
-                    found.append(&mut walk_stmts(alloc, program, stmts.as_slice(), path)?)?;
+                    found.append(&mut walk_stmts(alloc, program, sub, stmts.as_slice(), path)?)?;
                     Ok(found)
                 }
             }
         }
         CoreStmt::Case(_, selector, alternatives, _) => {
-            walk_case(alloc, program, alternatives.as_slice(), selector, path)
+            walk_case(alloc, program, sub, alternatives.as_slice(), selector, path)
         }
     }
 }
@@ -171,19 +212,20 @@ fn walk_stmt(
 fn walk_case(
     alloc: Global,
     program: &Program,
+    sub: &Sub,
     alternatives: &[CoreAlternative],
     selector: &CoreExpr,
     path: Path,
 ) -> Result<Vec<Path>, AllocError>
-    ensures { (place : Place) → IfOk result (λ found. Arrive program.now (select place selector.now (map alternative alternatives.now)) path.steps found.items) }
+    ensures { (place : Place) → IfOk result (λ found. Arrive program.now sub.now (select place selector.now (map alternative alternatives.now)) path.steps found.items) }
 {
     if alternatives.is_empty() {
         return one(alloc, path);
     }
     let mut path = path;
     check_expr(alloc, program, &mut path.steps, &[], selector)?;
-    let value = term_of(alloc, program, selector)?;
-    let found = walk_alternatives(alloc, program, alternatives, &value, &path)?;
+    let value = term_of(alloc, program, &Entered::Present, selector)?;
+    let found = walk_alternatives(alloc, program, sub, alternatives, &value, &path)?;
     Ok(found)
 }
 
@@ -192,17 +234,18 @@ fn walk_case(
 fn walk_alternatives(
     alloc: Global,
     program: &Program,
+    sub: &Sub,
     alternatives: &[CoreAlternative],
     value: &Term,
     path: &Path,
 ) -> Result<Vec<Path>, AllocError>
-    ensures { IfOk result (λ found. ArriveAlternatives program.now value.now alternatives.now path.now.steps found.items) }
+    ensures { IfOk result (λ found. ArriveAlternatives program.now sub.now value.now alternatives.now path.now.steps found.items) }
 {
     let mut found = Vec::new(alloc);
     let mut earlier = Items::new(alloc);
     for chosen in alternatives {
         let taken = choose(alloc, value, earlier.as_slice(), chosen, path)?;
-        found.append(&mut walk_alternative(alloc, program, chosen, taken)?)?;
+        found.append(&mut walk_alternative(alloc, program, sub, chosen, taken)?)?;
         add_choices(alloc, value, &mut earlier, chosen)?;
     }
     Ok(found)
@@ -213,12 +256,13 @@ fn walk_alternatives(
 fn walk_alternative(
     alloc: Global,
     program: &Program,
+    sub: &Sub,
     chosen: &CoreAlternative,
     path: Path,
 ) -> Result<Vec<Path>, AllocError>
-    ensures { IfOk result (λ found. Arrive program.now (commands (out-CoreAlternative chosen.now).body) path.steps found.items) }
+    ensures { IfOk result (λ found. Arrive program.now sub.now (commands (out-CoreAlternative chosen.now).body) path.steps found.items) }
 {
-    walk_stmts(alloc, program, chosen.body.as_slice(), path)
+    walk_stmts(alloc, program, sub, chosen.body.as_slice(), path)
 }
 
 /// Walks arms. The path goes on where no condition is true.
@@ -226,14 +270,15 @@ fn walk_alternative(
 fn walk_arms(
     alloc: Global,
     program: &Program,
+    sub: &Sub,
     arms: &[CoreArm],
     path: &mut Path,
 ) -> Result<Vec<Path>, AllocError>
-    ensures { IfOk result (λ found. ArriveArms program.now arms.now path.old.steps path.new.steps found.items) }
+    ensures { IfOk result (λ found. ArriveArms program.now sub.now arms.now path.old.steps path.new.steps found.items) }
 {
     let mut found = Vec::new(alloc);
     for arm in arms {
-        found.append(&mut walk_arm(alloc, program, arm, path)?)?;
+        found.append(&mut walk_arm(alloc, program, sub, arm, path)?)?;
     }
     Ok(found)
 }
@@ -243,12 +288,13 @@ fn walk_arms(
 fn walk_arm(
     alloc: Global,
     program: &Program,
+    sub: &Sub,
     arm: &CoreArm,
     path: &mut Path,
 ) -> Result<Vec<Path>, AllocError>
-    ensures { IfOk result (λ found. ArriveArm program.now arm.now path.old.steps path.new.steps found.items) }
+    ensures { IfOk result (λ found. ArriveArm program.now sub.now arm.now path.old.steps path.new.steps found.items) }
 {
     let taken = split(alloc, program, path, &arm.condition)?;
-    let found = walk_stmts(alloc, program, arm.body.as_slice(), taken)?;
+    let found = walk_stmts(alloc, program, sub, arm.body.as_slice(), taken)?;
     Ok(found)
 }

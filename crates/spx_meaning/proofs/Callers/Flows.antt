@@ -1,5 +1,5 @@
 -- What a variable is after two runs of a command is decided by what flows to it.
-use Rattle.std.proofs.Common.{◌≡◌, ℕ, Bool, true, false, ◌||◌, List, Option, Some, refl, sym, ap, ◌∙◌, subst, inl, inr}
+use Rattle.std.proofs.Common.{◌≡◌, ℕ, Bool, true, false, ◌||◌, List, Some, refl, sym, ap, ◌∙◌, subst, inl, inr}
 use Rattle.std.specs.Prelude.{⊤, if◌then◌else◌}
 use Rattle.std.proofs.lemmas.Bool.{or_parts}
 use Rattle.spx_text.specs.declared.place.Place.{Place}
@@ -7,9 +7,8 @@ use Rattle.spx_core.specs.declared.entity.VarId.{VarId}
 use Rattle.spx_core.specs.declared.name.Reference.{Reference}
 use Rattle.spx_core.specs.declared.expression.CoreExpr.{CoreExpr}
 use Rattle.spx_core.specs.Commands.{Command, Skip, Set, Then, Choose, Select, Check, Alternatives, Last, When}
-use Rattle.spx_core.specs.declared.statement.CoreChoice.{CoreChoice}
 use Rattle.spx_core.specs.Uses.{denotes}
-use Rattle.spx_core.specs.Effects.{Effect, Read, choose, effect, effect_among, is_read, reads_of, sets}
+use Rattle.spx_core.specs.Effects.{Read, choose, effect, effect_among, is_read, reads_of, sets}
 use Rattle.spx_core.specs.Flow.{MayFlow}
 use Rattle.spx_term.specs.declared.value.Value.{Value}
 use Rattle.spx_term.specs.Meaning.{as_truth}

@@ -20,23 +20,24 @@ use Rattle.spx_tree.specs.declared.expression.FunctionForm.TheVariants as forms
 use Rattle.spx_tree.specs.declared.expression.Expr.{Expr}
 use Rattle.spx_tree.specs.declared.expression.Expr.TheBlock.{hidden-the_row-Expr-0}
 use Rattle.spx_tree.specs.declared.expression.Expr.TheVariants as expr
-use Rattle.spx_tree.specs.Form.{Form, bare, placed, named}
+use Rattle.spx_tree.specs.Form.{Form, ItsPlace, keeps, bare, placed, named}
 use Rattle.spx_tree.specs.Goes.{Expected}
 use Rattle.spx_tree.specs.Written as written
-use Rattle.spx_tree.specs.Written.{sign_kind, operator_kind, second_word, written_operator, written_member, written_form, written_name, written_expr, parenthesized}
-use Rattle.spx_tree.specs.Grammar.{height, layer_of, layer_before, layer_in, rank, right_layer, operand_layer, HasOperator, FitsLeft, LeftFits, IsUpTo, Layered, OfLayer, IsExpr}
+use Rattle.spx_tree.specs.Written.{annotation, written_at, sign_kind, operator_kind, second_word, written_operator, written_member, written_form, written_name, written_expr, parenthesized}
+use Rattle.spx_tree.specs.Grammar.{height, layer_of, layer_before, layer_in, rank, right_layer, operand_layer, HasOperator, FitsLeft, LeftFits, IsUpTo, Layered, OfLayer, IsExpr, IsCondition, IsPredicate}
 use Rattle.spx_parse_body.specs.declared.expressions.Tall.{Tall}
 use Rattle.spx_parse_body.specs.declared.operators.Chain.{Chain}
 use Rattle.spx_parse_body.specs.declared.operators.Chain.TheVariants as chain
 use Rattle.spx_parse_body.specs.declared.operators.Relator.{Relator}
 use Rattle.spx_parse_body.specs.declared.operators.Relator.TheVariants as relators
 use Rattle.spx_parse_body.specs.Reading.{Reader, refuse, peek, taking}
-use Rattle.spx_parse_body.specs.Operators.{sign_of, abs_or_not, power_of, relator_of, logical, short_circuit, goes_on, second, whole_by, whole_operator}
-use Rattle.spx_parse_body.specs.Expressions.{leaf, function_of, applied, enclosed, prefixed, joined, in_type, in_range, plain_name, name_by, name, literal, in_parentheses, application, attribute_by, attribute, with_apostrophe_by, with_apostrophe, with_identifier_by, with_identifier, primary_by, primary, operated, joined_by, power_by, power, factor_by, factor, step_by, chain_step, chained, term, signed_by, signed, sum, type_by, member_by, member, inside, outside, relation_by, relation, combined, opening_by, opening, combination_by, combination, read, below, at_layer, expression, simple_expression, expression_below, simple_expression_below}
+use Rattle.spx_parse_body.specs.Operators.{sign_of, abs_or_not, power_of, relator_of, logical, connective_of, last_layer, short_circuit, goes_on, second, whole_by, whole_operator}
+use Rattle.spx_parse_body.specs.Expressions.{leaf, function_of, applied, enclosed, prefixed, joined, in_type, in_range, plain_name, name_by, name, literal, entry, in_parentheses, application, attribute_by, attribute, with_apostrophe_by, with_apostrophe, with_identifier_by, with_identifier, primary_by, primary, operated, joined_by, power_by, power, factor_by, factor, step_by, chain_step, chained, term, signed_by, signed, sum, type_by, member_by, member, inside, outside, relation_by, relation, combined, opening_by, opening, combination_by, combination, connection_by, connection, read, below, at_layer, expression, predicate, expression_at, predicate_after, simple_expression, expression_below, simple_expression_below}
+use Rattle.spx_parse_body.specs.Answers.{IsExprAt}
 use Rattle.spx_parse_body.proofs.Callers.Lawful.{Ends, Any, Sees, Always, ends_here}
 use Rattle.spx_parse_body.proofs.Callers.Loops.{Shrinks}
-use Rattle.spx_parse_body.proofs.Callers.Good.{Good, no_level, Turn, Case, absent, present, good_before, good_bind, good_pure, good_refuse, good_given, good_fewer, good_weaken, good_expect, good_expect_place, good_identifier, good_choose, good_option, good_loop, shrinks, Starts, starts_bind, starts_expect, starts_identifier, starts_number, starts_open}
-use Rattle.spx_parse_body.proofs.Callers.Operators.{op_placed, sign_placed, sign_is, word_is, power_is, relator_is, Opens, logical_is, Completes, short_circuit_is, chain_layer, chain_is, CanLead, leads, leads_again}
+use Rattle.spx_parse_body.proofs.Callers.Good.{Good, no_level, Turn, Case, absent, present, good_before, good_bind, good_pure, good_refuse, good_given, good_fewer, good_weaken, good_expect, good_expect_place, good_identifier, good_choose, good_option, good_loop, shrinks, Starts, starts_bind, starts_expect, starts_identifier, starts_number, starts_open, starts_place}
+use Rattle.spx_parse_body.proofs.Callers.Operators.{op_placed, sign_placed, sign_is, word_is, power_is, relator_is, connective_is, Opens, logical_is, Completes, short_circuit_is, chain_layer, chain_is, CanLead, leads, leads_again}
 
 abbrev pub spelled : Bool → Tall → List Form
 spelled marked m = written_expr marked m.expr
@@ -90,9 +91,9 @@ enclosed_is : (place : Place) (inner : Expr) → Layered inner → Is (expr.Pare
 unfolding hidden-the_row-Expr-0 hidden
 enclosed_is place inner l = record { measured = refl; layered = l; layer_is = refl }
 
-applied_is : (function : Function) (place : Place) (operand : Expr) → Layered operand → Is (expr.Applied function place operand) (height operand + 1) layer.Primary
+applied_is : (function : Function) (place : Place) (operand : Expr) → Layered operand → IsUpTo layer.Expression operand → Is (expr.Applied function place operand) (height operand + 1) layer.Primary
 unfolding hidden-the_row-Expr-0 hidden
-applied_is function place operand l = record { measured = refl; layered = l; layer_is = refl }
+applied_is function place operand l r = record { measured = refl; layered = (l, r); layer_is = refl }
 
 prefixed_is : (o : PrefixOp) (place : Place) (operand : Expr) → Layered operand → IsUpTo (operand_layer o) operand → Is (expr.Prefix o place operand) (height operand + 1) (layer_before o)
 unfolding hidden-the_row-Expr-0 hidden
@@ -121,12 +122,12 @@ is_leaf : (levels : ℕ) (e : Expr) → height e ≡ 0 → Layered e → rank (l
 is_leaf levels e h l r = record { measured = sym h; low = omega arith; layered = l; of_layer = omega arith }
 
 module _ (levels : ℕ) (some : 0 < levels) (place : Place) where
-  enclosed_fit : (inner : Tall) → IsTall (levels - 1) layer.Expression inner → IsTall levels layer.Primary (enclosed place inner)
+  enclosed_fit : (inner : Tall) → IsTall (levels - 1) layer.Predicate inner → IsTall levels layer.Primary (enclosed place inner)
   enclosed_fit inner i = tall_is levels (height inner.expr + 1) layer.Primary (enclosed place inner) (enclosed_is place inner.expr i.layered) (ap (λ (h : ℕ). h + 1) i.measured) (let b = i.low in let m = i.measured in omega arith)
 
   applied_fit : (function : Function) (operand : Tall) → IsTall (levels - 1) layer.Expression operand → IsTall levels layer.Primary (applied function place operand)
   applied_fit function operand i =
-      tall_is levels (height operand.expr + 1) layer.Primary (applied function place operand) (applied_is function place operand.expr i.layered) (ap (λ (h : ℕ). h + 1) i.measured) (let b = i.low in let m = i.measured in omega arith)
+      tall_is levels (height operand.expr + 1) layer.Primary (applied function place operand) (applied_is function place operand.expr i.layered i.of_layer) (ap (λ (h : ℕ). h + 1) i.measured) (let b = i.low in let m = i.measured in omega arith)
 
   prefixed_fit : (o : PrefixOp) (operand : Tall) → IsTall (levels - 1) (operand_layer o) operand → IsTall levels (layer_before o) (prefixed o place operand)
   prefixed_fit o operand i =
@@ -249,6 +250,7 @@ Opened levels m (Some o) = IsLeft levels (chain.Logical o) m
 plain_is : (e : Expr) (n : Name) → plain_name e ≡ Some n → e ≡ expr.Name n
 plain_is (expr.Name m) n e = cc
 plain_is (expr.Number value place) n e = absurd cc
+plain_is (expr.Entry identifier) n e = absurd cc
 plain_is (written.applied function place operand) n e = absurd cc
 plain_is (parenthesized place inner) n e = absurd cc
 plain_is (written.signed o place operand) n e = absurd cc
@@ -272,7 +274,7 @@ module _ (marked : Bool) (below below' : Layer → Reader Tall) (levels : ℕ) (
   unfolding in_parentheses
   parentheses_starts seen =
       starts_open marked k.LeftParenthesis seen levels 0 refl (λ w. omega arith) (λ w. primary_ends) (λ place.
-      good_bind (good_given (λ l. l) (λ l w. tt) (good layer.Expression)) (λ inner.
+      good_bind (good_given (λ l. l) (λ l w. tt) (good layer.Predicate)) (λ inner.
       good_bind (good_expect marked k.RightParenthesis) (λ u.
       good_pure (enclosed place inner) (λ l w. sym (enclosed_text marked place inner.expr)) (λ l w. enclosed_fit levels l place inner w.0.1))))
 
@@ -322,11 +324,16 @@ module _ (marked : Bool) (below below' : Layer → Reader Tall) (levels : ℕ) (
       starts_bind (starts_expect marked k.Apostrophe seen refl) (λ u.
       good_choose (peek marked) (λ t xs ys. refl) (with_apostrophe_by marked below levels prefix) (with_apostrophe_by marked below' (suc levels) prefix) refl refl (with_apostrophe_case prefix))
 
+  entry_starts : {L P : Type 0} {on : List Form → Type 0} (prefix : Identifier) → ((fs : List Form) → on fs → peek marked fs ≡ Some k.Tilde) → Starts L P (spelled marked) (IsTall levels layer.Primary) (named marked prefix ∷ []) on (entry marked prefix) (entry marked prefix)
+  unfolding entry
+  entry_starts prefix seen = starts_bind (starts_expect marked k.Tilde seen refl) (λ u. good_pure (leaf (expr.Entry prefix)) (λ l w. refl) (λ l w. is_leaf levels (expr.Entry prefix) refl tt refl))
+
   with_identifier_case : {L P : Type 0} (prefix : Identifier) (kind : Option Kind)
       → Case L P (spelled marked) (IsTall levels layer.Primary) (named marked prefix ∷ []) (Sees (peek marked) kind) (named_as (Simple prefix)) (with_identifier_by marked below levels prefix kind) (with_identifier_by marked below' (suc levels) prefix kind)
   with_identifier_case prefix (Some k.Apostrophe) = present (with_apostrophe_starts prefix (λ fs here. here))
   with_identifier_case prefix (Some k.LeftParenthesis) =
       present (application_starts (function_of prefix forms.Simple) (λ fs here. here) (ends_here (spelled marked) (IsTall levels layer.Primary) (named_as (Simple prefix)) (named_fit (Simple prefix))))
+  with_identifier_case prefix (Some k.Tilde) = present (entry_starts prefix (λ fs here. here))
   with_identifier_case prefix _ = absent refl refl (λ l w. refl) (λ l w. named_fit (Simple prefix))
 
   with_identifier_starts : {L P : Type 0} {on : List Form → Type 0} → ((fs : List Form) → on fs → peek marked fs ≡ Some k.Identifier) → Starts L P (spelled marked) (IsTall levels layer.Primary) [] on (with_identifier marked below levels) (with_identifier marked below' (suc levels))
@@ -581,6 +588,20 @@ module _ (marked : Bool) (below below' : Layer → Reader Tall) (levels : ℕ) (
   unfolding combination
   combination_good = good_bind opening_good (λ x. combination_after x.0 x.1)
 
+  -- ---- predicates
+
+  connection_case : {L P : Type 0} (left : Tall) (kind : Option Kind) (o : Option InfixOp) → connective_of kind ≡ o
+      → Case L (P × IsTall levels layer.Expression left) (spelled marked) (IsTall levels layer.Predicate) (spelled marked left) (Sees (peek marked) kind) left (connection_by marked below levels left o) (connection_by marked below' (suc levels) left o)
+  connection_case left kind None e = absent refl refl (λ l w. refl) (λ l w. to_layer levels layer.Expression layer.Predicate left (omega arith) w.1)
+  connection_case left kind (Some o) e =
+      let j = connective_is kind o e in
+      present (joined_starts o left (λ fs here. here ∙ j.kind_is) (λ w. w.1.low) (λ w. to_layer levels layer.Expression layer.Predicate left (omega arith) w.1)
+      (λ w place right lower r. subst (λ (a : Layer). IsTall levels a (joined o place left right)) j.layer_is (joined_fit levels place layer.Expression left w.1 lower o right (subst (λ (a : Layer). FitsLeft a o left.expr) (sym j.layer_is) w.1.of_layer) r)))
+
+  connection_good : {L P : Type 0} → Good L P (spelled marked) (IsTall levels layer.Predicate) [] Any (connection marked below levels) (connection marked below' (suc levels))
+  unfolding connection
+  connection_good = good_bind combination_good (λ left. good_option (peek marked) (λ t xs ys. refl) left (λ kind. connection_by marked below levels left (connective_of kind)) (λ kind. connection_by marked below' (suc levels) left (connective_of kind)) refl refl (λ kind. connection_case left kind (connective_of kind) refl))
+
   read_good : (layer : Layer) → Good ⊤ ⊤ (spelled marked) (IsTall levels layer) [] Any (read marked below levels layer) (read marked below' (suc levels) layer)
   read_good layer.Primary = primary_good
   read_good layer.Factor = factor_good
@@ -588,6 +609,7 @@ module _ (marked : Bool) (below below' : Layer → Reader Tall) (levels : ℕ) (
   read_good layer.Sum = sum_good
   read_good layer.Relation = relation_good
   read_good layer.Expression = combination_good
+  read_good layer.Predicate = connection_good
 
 pub below_good : (marked : Bool) (levels : ℕ) (layer : Layer) → Good (0 < levels) ⊤ (spelled marked) (IsTall (levels - 1) layer) [] Any (below marked levels layer) (below marked (suc levels) layer)
 unfolding below
@@ -607,6 +629,25 @@ pub expression_good : {L P : Type 0} (marked : Bool) (levels : ℕ) → Good L P
 unfolding expression
 expression_good marked levels =
     good_bind (good_given (λ l. tt) (λ l w. tt) (at_layer_good marked levels layer.Expression)) (λ m. good_pure m.expr (λ l w. refl) (λ l w. of_layer_is levels layer.Expression m w.1))
+
+predicate_good : {L P : Type 0} (marked : Bool) (levels : ℕ) → Good L P (written_expr marked) (IsCondition levels) [] Any (predicate marked levels) (predicate marked (suc levels))
+unfolding predicate
+predicate_good marked levels =
+    good_bind (good_given (λ l. tt) (λ l w. tt) (at_layer_good marked levels layer.Predicate)) (λ m. good_pure m.expr (λ l w. refl) (λ l w. of_layer_is levels layer.Predicate m w.1))
+
+pub expression_at_good : {L P : Type 0} (marked : Bool) (levels : ℕ) → Good L P (written_expr marked) (IsExprAt marked levels) [] Any (expression_at marked levels) (expression_at marked (suc levels))
+unfolding expression_at
+expression_at_good marked levels =
+    good_bind (good_given (λ l. tt) (λ l w. tt) (at_layer_good marked levels (last_layer marked))) (λ m. good_pure m.expr (λ l w. refl) (λ l w. of_layer_is levels (last_layer marked) m w.1))
+
+pub predicate_after_starts : {L P : Type 0} {on : List Form → Type 0} (word : Kind) (levels : ℕ) → keeps word ≡ ItsPlace → ((fs : List Form) → on fs → peek annotation fs ≡ Some word)
+    → Starts L P (λ x. written_at word x.place x.condition) (IsPredicate levels) [] on (predicate_after word levels) (predicate_after word (suc levels))
+unfolding predicate_after
+predicate_after_starts word levels kept here =
+    starts_bind (starts_place annotation word here kept) (λ place.
+    good_bind (predicate_good annotation levels) (λ condition.
+    good_bind (good_expect annotation k.Semicolon) (λ u.
+    good_pure (record { place = place; condition = condition }) (λ l w. refl) (λ l w. w.0.1))))
 
 pub simple_expression_good : {L P : Type 0} (marked : Bool) (levels : ℕ) → Good L P (written_expr marked) (OfLayer layer.Sum levels) [] Any (simple_expression marked levels) (simple_expression marked (suc levels))
 unfolding simple_expression

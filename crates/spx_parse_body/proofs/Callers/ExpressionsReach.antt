@@ -23,16 +23,18 @@ use Rattle.spx_tree.specs.declared.expression.Expr.TheBlock.{hidden-the_row-Expr
 use Rattle.spx_tree.specs.declared.expression.Expr.TheVariants as expr
 use Rattle.spx_tree.specs.Form.{Form, Kept, Nothing, Where, Spelled, Valued, placed, bare, named}
 use Rattle.spx_tree.specs.Written as written
-use Rattle.spx_tree.specs.Written.{parenthesized, sign_kind, operator_kind, second_word, written_operator, written_member, written_form, written_name, written_expr}
-use Rattle.spx_tree.specs.Grammar.{height, layer_of, layer_before, layer_in, rank, right_layer, operand_layer, HasOperator, FitsLeft, IsUpTo, Layered, OfLayer, IsExpr}
+use Rattle.spx_tree.specs.declared.annotation.Predicate.{Predicate}
+use Rattle.spx_tree.specs.Written.{annotation, written_at, parenthesized, sign_kind, operator_kind, second_word, written_operator, written_member, written_form, written_name, written_expr}
+use Rattle.spx_tree.specs.Grammar.{height, layer_of, layer_before, layer_in, rank, right_layer, operand_layer, HasOperator, FitsLeft, IsUpTo, Layered, OfLayer, IsExpr, IsCondition, IsPredicate}
 use Rattle.spx_parse_body.specs.declared.expressions.Tall.{Tall}
 use Rattle.spx_parse_body.specs.declared.operators.Chain.{Chain}
 use Rattle.spx_parse_body.specs.declared.operators.Chain.TheVariants as chain
 use Rattle.spx_parse_body.specs.declared.operators.Relator.{Relator}
 use Rattle.spx_parse_body.specs.declared.operators.Relator.TheVariants as relators
 use Rattle.spx_parse_body.specs.Reading.{Outcome, Reader, and_then, peek}
-use Rattle.spx_parse_body.specs.Operators.{sign_of, abs_or_not, power_of, multiplying, adding, relator_of, logical, if_then, if_else, same_logical, goes_on, second, whole_by, whole_operator}
-use Rattle.spx_parse_body.specs.Expressions.{function_of, name_by, name, literal, in_parentheses, application, attribute_by, attribute, with_apostrophe_by, with_apostrophe, with_identifier_by, with_identifier, primary_by, primary, operated, joined_by, power_by, power, factor_by, factor, step_by, chain_step, chained, term, signed_by, signed, sum, type_by, member_by, member, inside, outside, relation_by, relation, combined, opening_by, opening, combination_by, combination, read, below, at_layer, expression, simple_expression, expression_below, simple_expression_below}
+use Rattle.spx_parse_body.specs.Operators.{sign_of, abs_or_not, power_of, multiplying, adding, relator_of, logical, connective_of, last_layer, if_then, if_else, same_logical, goes_on, second, whole_by, whole_operator}
+use Rattle.spx_parse_body.specs.Expressions.{function_of, name_by, name, literal, entry, in_parentheses, application, attribute_by, attribute, with_apostrophe_by, with_apostrophe, with_identifier_by, with_identifier, primary_by, primary, operated, joined_by, power_by, power, factor_by, factor, step_by, chain_step, chained, term, signed_by, signed, sum, type_by, member_by, member, inside, outside, relation_by, relation, combined, opening_by, opening, combination_by, combination, connection_by, connection, read, below, at_layer, expression, predicate, expression_at, predicate_after, simple_expression, expression_below, simple_expression_below}
+use Rattle.spx_parse_body.specs.Answers.{IsExprAt}
 use Rattle.spx_parse_body.proofs.Callers.Loops.{Shrinks}
 use Rattle.spx_parse_body.proofs.Callers.Reaches.{Reaches, reaches_bind, reaches_pure, reaches_choose, reaches_deeper, reaches_expect, reaches_expect_place, reaches_identifier, reaches_number, peek_front, loop_turn, loop_over}
 use Rattle.spx_parse_body.proofs.Callers.Operators.{chain_layer}
@@ -46,6 +48,7 @@ measure x = record { expr = x; height = height x }
 abbrev pub strength : Option Kind → ℕ
 strength (Some k.Apostrophe) = 0
 strength (Some k.LeftParenthesis) = 0
+strength (Some k.Tilde) = 0
 strength (Some k.DoubleAsterisk) = 1
 strength (Some k.Asterisk) = 2
 strength (Some k.Slash) = 2
@@ -65,7 +68,9 @@ strength (Some k.DoubleDot) = 4
 strength (Some k.And) = 5
 strength (Some k.Or) = 5
 strength (Some k.Xor) = 5
-strength _ = 6
+strength (Some k.Implication) = 6
+strength (Some k.Equivalence) = 6
+strength _ = 7
 
 -- the next form does not go on with an expression of this layer
 abbrev pub Free : Layer → Option Kind → Type 0
@@ -118,6 +123,11 @@ no_logical (Some k.Or) s = absurd (omega arith)
 no_logical (Some k.Xor) s = absurd (omega arith)
 no_logical _ s = refl
 
+no_connective : (kind : Option Kind) → 6 < strength kind → connective_of kind ≡ None
+no_connective (Some k.Implication) s = absurd (omega arith)
+no_connective (Some k.Equivalence) s = absurd (omega arith)
+no_connective _ s = refl
+
 none_same : (o : InfixOp) (kind : Option Kind) → 5 < strength kind → same_logical o kind ≡ None
 none_same op.And (Some k.And) s = absurd (omega arith)
 none_same op.And _ s = refl
@@ -169,6 +179,11 @@ logical_self op.AndThen e = refl
 logical_self op.OrElse e = refl
 logical_self _ e = absurd cc
 
+connective_self : (o : InfixOp) → layer_of o ≡ layer.Predicate → connective_of (Some (operator_kind o)) ≡ Some o
+connective_self op.Implies e = refl
+connective_self op.Equivalent e = refl
+connective_self _ e = absurd cc
+
 -- the operator of one word that begins with the same one
 first_word : InfixOp → InfixOp
 first_word op.AndThen = op.And
@@ -206,9 +221,10 @@ layers layer.Term layer.Term h = inl refl
 layers layer.Sum layer.Sum h = inl refl
 layers layer.Relation layer.Relation h = inl refl
 layers layer.Expression layer.Expression h = inl refl
+layers layer.Predicate layer.Predicate h = inl refl
 layers _ _ h = inr (omega arith)
 
-pub rank_low : (a : Layer) → rank a ≤ 5
+rank_low : (a : Layer) → rank a ≤ 6
 rank_low layer.Primary = omega arith
 rank_low _ = omega arith
 
@@ -248,6 +264,7 @@ name_front marked (Attribute prefix designator) zs = peek_here marked k.Identifi
 abbrev front_kind : Expr → Kind
 front_kind (expr.Number value place) = k.Number
 front_kind (expr.Name x) = k.Identifier
+front_kind (expr.Entry identifier) = k.Identifier
 front_kind (written.applied function place operand) = k.Identifier
 front_kind (parenthesized place inner) = k.LeftParenthesis
 front_kind (written.signed o place operand) = sign_kind o
@@ -258,6 +275,7 @@ front_kind (written.in_range o place tested low high) = front_kind tested
 front : (marked : Bool) (x : Expr) (zs : List Form) → peek marked (written_expr marked x ++ zs) ≡ Some (front_kind x)
 front marked (expr.Number value place) zs = peek_here marked k.Number (Valued value place) zs
 front marked (expr.Name x) zs = name_front marked x zs
+front marked (expr.Entry x) zs = peek_here marked k.Identifier (Spelled x.text x.place) (bare marked k.Tilde ∷ zs)
 front marked (written.applied function place operand) zs =
     peek_here marked k.Identifier (Spelled function.name.text function.name.place) ((written_form marked function.form ++ (placed marked k.LeftParenthesis place ∷ (written_expr marked operand ++ bare marked k.RightParenthesis ∷ []))) ++ zs)
 front marked (parenthesized place inner) zs = peek_here marked k.LeftParenthesis (Where place) ((written_expr marked inner ++ bare marked k.RightParenthesis ∷ []) ++ zs)
@@ -279,6 +297,7 @@ sign_no_second _ = (refl, refl)
 front_no_second : (x : Expr) → NoSecond (front_kind x)
 front_no_second (expr.Number value place) = (refl, refl)
 front_no_second (expr.Name x) = (refl, refl)
+front_no_second (expr.Entry x) = (refl, refl)
 front_no_second (written.applied function place operand) = (refl, refl)
 front_no_second (parenthesized place inner) = (refl, refl)
 front_no_second (written.signed o place operand) = sign_no_second o
@@ -293,6 +312,7 @@ sign_no_others _ e = cc
 front_no_others : (x : Expr) → front_kind x ≡ k.Others → ⊥
 front_no_others (expr.Number value place) e = cc
 front_no_others (expr.Name x) e = cc
+front_no_others (expr.Entry x) e = cc
 front_no_others (written.applied function place operand) e = cc
 front_no_others (parenthesized place inner) e = cc
 front_no_others (written.signed o place operand) e = sign_no_others o e
@@ -315,11 +335,13 @@ left_low layer.Term o x h f = f
 left_low layer.Sum o x h f = f
 left_low layer.Relation o x h f = omega arith
 left_low layer.Expression o x h f = absurd (omega arith)
+left_low layer.Predicate o x h f = absurd (omega arith)
 
 -- no term begins with a sign
 unsigned : (x : Expr) → Layered x → rank (layer_in x) ≤ 2 → sign_of (Some (front_kind x)) ≡ None
 unsigned (expr.Number value place) l r = refl
 unsigned (expr.Name x) l r = refl
+unsigned (expr.Entry x) l r = refl
 unsigned (written.applied function place operand) l r = refl
 unsigned (parenthesized place inner) l r = refl
 unsigned (written.signed o place operand) l r = elim (before_cases o) [ inl e ↦ let h = ap rank e.0 in absurd (omega arith) | inr e ↦ e.2 ]
@@ -331,6 +353,7 @@ unsigned (written.in_range o place tested low high) l r = absurd (omega arith)
 wordless : (x : Expr) → rank (layer_in x) ≤ 0 → abs_or_not (Some (front_kind x)) ≡ None
 wordless (expr.Number value place) r = refl
 wordless (expr.Name x) r = refl
+wordless (expr.Entry x) r = refl
 wordless (written.applied function place operand) r = refl
 wordless (parenthesized place inner) r = refl
 wordless (written.signed o place operand) r = let h = some_before o in absurd (omega arith)
@@ -340,8 +363,11 @@ wordless (written.in_range o place tested low high) r = absurd (omega arith)
 
 -- ---- expressions
 
-pub bare_free : (marked : Bool) (kind : Kind) (zs : List Form) → strength (Some kind) ≡ 6 → Free layer.Expression (peek marked (bare marked kind ∷ zs))
-bare_free marked kind zs h = let e = ap strength (peek_here marked kind Nothing zs) ∙ h in omega arith
+bare_past : (marked : Bool) (kind : Kind) (zs : List Form) → strength (Some kind) ≡ 7 → Free layer.Predicate (peek marked (bare marked kind ∷ zs))
+bare_past marked kind zs h = let e = ap strength (peek_here marked kind Nothing zs) ∙ h in omega arith
+
+pub bare_free : (marked : Bool) (kind : Kind) (zs : List Form) → strength (Some kind) ≡ 7 → Free layer.Expression (peek marked (bare marked kind ∷ zs))
+bare_free marked kind zs h = let past = bare_past marked kind zs h in omega arith
 
 second_again : (marked : Bool) (o : InfixOp) (fs zs : List Form) → fs ≡ second_word marked o ++ zs → Reaches (second marked o) fs tt zs
 second_again marked op.AndThen fs zs e = reaches_expect marked k.Then e
@@ -375,7 +401,7 @@ module _ (marked : Bool) (below : Layer → Reader Tall) (levels : ℕ) (shrinks
       let some : 0 < levels = omega arith in
       reaches_deeper some
       (reaches_bind _ (reaches_expect_place marked k.LeftParenthesis e) (λ us a.
-      reaches_bind _ (again some layer.Expression inner us (bare marked k.RightParenthesis ∷ zs) (omega arith) l (rank_low (layer_in inner)) (bare_free marked k.RightParenthesis zs refl) a) (λ vs b.
+      reaches_bind _ (again some layer.Predicate inner us (bare marked k.RightParenthesis ∷ zs) (omega arith) l (rank_low (layer_in inner)) (bare_past marked k.RightParenthesis zs refl) a) (λ vs b.
       reaches_bind _ (reaches_expect marked k.RightParenthesis b) (λ ws d. reaches_pure d))))
 
   -- ---- what an identifier begins
@@ -383,6 +409,7 @@ module _ (marked : Bool) (below : Layer → Reader Tall) (levels : ℕ) (shrinks
   simple_plain : (prefix : Identifier) (kind : Option Kind) (us zs : List Form) → 0 < strength kind → us ≡ zs → Reaches (with_identifier_by marked below levels prefix kind) us (measure (expr.Name (Simple prefix))) zs
   simple_plain prefix (Some k.Apostrophe) us zs free e = absurd (omega arith)
   simple_plain prefix (Some k.LeftParenthesis) us zs free e = absurd (omega arith)
+  simple_plain prefix (Some k.Tilde) us zs free e = absurd (omega arith)
   simple_plain prefix _ us zs free e = reaches_pure e
 
   attribute_plain : (prefix designator : Identifier) (kind : Option Kind) (us zs : List Form) → 0 < strength kind → us ≡ zs → Reaches (attribute_by marked below levels prefix designator kind) us (measure (expr.Name (Attribute prefix designator))) zs
@@ -407,33 +434,40 @@ module _ (marked : Bool) (below : Layer → Reader Tall) (levels : ℕ) (shrinks
   operand_seen : (place : Place) (x : Expr) (us zs : List Form) → us ≡ from_operand place x zs → peek marked us ≡ Some k.LeftParenthesis
   operand_seen place x us zs e = peek_front marked us e ∙ peek_here marked k.LeftParenthesis (Where place) (written_expr marked x ++ bare marked k.RightParenthesis ∷ zs)
 
-  application_again : (function : Function) (place : Place) (x : Expr) (fs zs : List Form) → height x + 1 ≤ levels → Layered x → fs ≡ from_operand place x zs → Reaches (application marked below levels function) fs (measure (written.applied function place x)) zs
+  application_again : (function : Function) (place : Place) (x : Expr) (fs zs : List Form) → height x + 1 ≤ levels → Layered x → IsUpTo layer.Expression x → fs ≡ from_operand place x zs → Reaches (application marked below levels function) fs (measure (written.applied function place x)) zs
   unfolding application hidden-the_row-Expr-0 hidden
-  application_again function place x fs zs low l e =
+  application_again function place x fs zs low l r e =
       let some : 0 < levels = omega arith in
       reaches_deeper some
       (reaches_bind _ (reaches_expect_place marked k.LeftParenthesis e) (λ us a.
-      reaches_bind _ (again some layer.Expression x us (bare marked k.RightParenthesis ∷ zs) (omega arith) l (rank_low (layer_in x)) (bare_free marked k.RightParenthesis zs refl) a) (λ vs b.
+      reaches_bind _ (again some layer.Expression x us (bare marked k.RightParenthesis ∷ zs) (omega arith) l r (bare_free marked k.RightParenthesis zs refl) a) (λ vs b.
       reaches_bind _ (reaches_expect marked k.RightParenthesis b) (λ ws d. reaches_pure d))))
 
-  applied_again : (name : Identifier) (form : FunctionForm) (place : Place) (x : Expr) (fs zs : List Form) → height x + 1 ≤ levels → Layered x → fs ≡ named marked name ∷ (written_form marked form ++ from_operand place x zs)
+  applied_again : (name : Identifier) (form : FunctionForm) (place : Place) (x : Expr) (fs zs : List Form) → height x + 1 ≤ levels → Layered x → IsUpTo layer.Expression x → fs ≡ named marked name ∷ (written_form marked form ++ from_operand place x zs)
       → Reaches (with_identifier marked below levels) fs (measure (written.applied (function_of name form) place x)) zs
   unfolding with_identifier with_apostrophe attribute
-  applied_again name (forms.Simple) place x fs zs low l e =
+  applied_again name (forms.Simple) place x fs zs low l r e =
       reaches_bind _ (reaches_identifier marked e) (λ us a.
-      reaches_choose (peek marked) (with_identifier_by marked below levels name) (Some k.LeftParenthesis) (operand_seen place x us zs a) (application_again (function_of name forms.Simple) place x us zs low l a))
-  applied_again name (forms.Attribute designator) place x fs zs low l e =
+      reaches_choose (peek marked) (with_identifier_by marked below levels name) (Some k.LeftParenthesis) (operand_seen place x us zs a) (application_again (function_of name forms.Simple) place x us zs low l r a))
+  applied_again name (forms.Attribute designator) place x fs zs low l r e =
       reaches_bind _ (reaches_identifier marked e) (λ us a.
       reaches_choose (peek marked) (with_identifier_by marked below levels name) (Some k.Apostrophe) (peek_front marked us a ∙ peek_here marked k.Apostrophe Nothing (named marked designator ∷ from_operand place x zs))
       (reaches_bind _ (reaches_expect marked k.Apostrophe a) (λ vs b.
       reaches_choose (peek marked) (with_apostrophe_by marked below levels name) (Some k.Identifier) (peek_front marked vs b ∙ peek_here marked k.Identifier (Spelled designator.text designator.place) (from_operand place x zs))
       (reaches_bind _ (reaches_identifier marked b) (λ ws d.
-      reaches_choose (peek marked) (attribute_by marked below levels name designator) (Some k.LeftParenthesis) (operand_seen place x ws zs d) (application_again (function_of name (forms.Attribute designator)) place x ws zs low l d))))))
-  applied_again name (forms.Qualified) place x fs zs low l e =
+      reaches_choose (peek marked) (attribute_by marked below levels name designator) (Some k.LeftParenthesis) (operand_seen place x ws zs d) (application_again (function_of name (forms.Attribute designator)) place x ws zs low l r d))))))
+  applied_again name (forms.Qualified) place x fs zs low l r e =
       reaches_bind _ (reaches_identifier marked e) (λ us a.
       reaches_choose (peek marked) (with_identifier_by marked below levels name) (Some k.Apostrophe) (peek_front marked us a ∙ peek_here marked k.Apostrophe Nothing (from_operand place x zs))
       (reaches_bind _ (reaches_expect marked k.Apostrophe a) (λ vs b.
-      reaches_choose (peek marked) (with_apostrophe_by marked below levels name) (Some k.LeftParenthesis) (operand_seen place x vs zs b) (application_again (function_of name forms.Qualified) place x vs zs low l b))))
+      reaches_choose (peek marked) (with_apostrophe_by marked below levels name) (Some k.LeftParenthesis) (operand_seen place x vs zs b) (application_again (function_of name forms.Qualified) place x vs zs low l r b))))
+
+  entry_again : (x : Identifier) (fs zs : List Form) → fs ≡ named marked x ∷ bare marked k.Tilde ∷ zs → Reaches (with_identifier marked below levels) fs (measure (expr.Entry x)) zs
+  unfolding with_identifier entry
+  entry_again x fs zs e =
+      reaches_bind _ (reaches_identifier marked e) (λ us a.
+      reaches_choose (peek marked) (with_identifier_by marked below levels x) (Some k.Tilde) (peek_front marked us a ∙ peek_here marked k.Tilde Nothing zs)
+      (reaches_bind _ (reaches_expect marked k.Tilde a) (λ vs b. reaches_pure b)))
 
   applied_flat : (f p w zs : List Form) → (f ++ (p ++ (w ++ bare marked k.RightParenthesis ∷ []))) ++ zs ≡ f ++ (p ++ (w ++ bare marked k.RightParenthesis ∷ zs))
   applied_flat f p w zs = simp append_assoc
@@ -448,10 +482,13 @@ module _ (marked : Bool) (below : Layer → Reader Tall) (levels : ℕ) (shrinks
   primary_again (expr.Name x) fs zs low l r free e =
       reaches_choose (peek marked) (primary_by marked below levels) (Some k.Identifier) (peek_front marked fs e ∙ name_front marked x zs)
       (plain_again x fs zs free e)
+  primary_again (expr.Entry x) fs zs low l r free e =
+      reaches_choose (peek marked) (primary_by marked below levels) (Some k.Identifier) (peek_front marked fs e ∙ peek_here marked k.Identifier (Spelled x.text x.place) (bare marked k.Tilde ∷ zs))
+      (entry_again x fs zs e)
   primary_again (written.applied function place x) fs zs low l r free e =
       let flat = e ∙ ap (λ (us : List Form). named marked function.name ∷ us) (applied_flat (written_form marked function.form) (placed marked k.LeftParenthesis place ∷ []) (written_expr marked x) zs) in
       reaches_choose (peek marked) (primary_by marked below levels) (Some k.Identifier) (peek_front marked fs flat ∙ peek_here marked k.Identifier (Spelled function.name.text function.name.place) (written_form marked function.form ++ from_operand place x zs))
-      (applied_again function.name function.form place x fs zs low l flat)
+      (applied_again function.name function.form place x fs zs low l.0 l.1 flat)
   primary_again (parenthesized place inner) fs zs low l r free e =
       let flat = e ∙ ap (λ (us : List Form). placed marked k.LeftParenthesis place ∷ us) (append_assoc (written_expr marked inner) (bare marked k.RightParenthesis ∷ []) zs) in
       reaches_choose (peek marked) (primary_by marked below levels) (Some k.LeftParenthesis) (peek_front marked fs flat ∙ peek_here marked k.LeftParenthesis (Where place) (written_expr marked inner ++ bare marked k.RightParenthesis ∷ zs))
@@ -545,6 +582,7 @@ module _ (marked : Bool) (below : Layer → Reader Tall) (levels : ℕ) (shrinks
   factor_again (parenthesized place inner) fs zs low l r free e = plain_factor (parenthesized place inner) fs zs low l (omega arith) free e
   factor_again (expr.Number value place) fs zs low l r free e = plain_factor (expr.Number value place) fs zs low l (omega arith) free e
   factor_again (expr.Name x) fs zs low l r free e = plain_factor (expr.Name x) fs zs low l (omega arith) free e
+  factor_again (expr.Entry x) fs zs low l r free e = plain_factor (expr.Entry x) fs zs low l (omega arith) free e
   factor_again (written.in_type o place x type_name) fs zs low l r free e = absurd (omega arith)
   factor_again (written.in_range o place x a b) fs zs low l r free e = absurd (omega arith)
 
@@ -586,6 +624,7 @@ module _ (marked : Bool) (below : Layer → Reader Tall) (levels : ℕ) (shrinks
   term_goes (parenthesized place inner) fs zs low l r free e = term_base (parenthesized place inner) fs zs low l (omega arith) free e
   term_goes (expr.Number value place) fs zs low l r free e = term_base (expr.Number value place) fs zs low l (omega arith) free e
   term_goes (expr.Name x) fs zs low l r free e = term_base (expr.Name x) fs zs low l (omega arith) free e
+  term_goes (expr.Entry x) fs zs low l r free e = term_base (expr.Entry x) fs zs low l (omega arith) free e
   term_goes (written.in_type o place x type_name) fs zs low l r free e = absurd (omega arith)
   term_goes (written.in_range o place x a b) fs zs low l r free e = absurd (omega arith)
 
@@ -635,6 +674,7 @@ module _ (marked : Bool) (below : Layer → Reader Tall) (levels : ℕ) (shrinks
   sum_goes (parenthesized place inner) fs zs low l r free e = sum_base (parenthesized place inner) fs zs low l (omega arith) free e
   sum_goes (expr.Number value place) fs zs low l r free e = sum_base (expr.Number value place) fs zs low l (omega arith) free e
   sum_goes (expr.Name x) fs zs low l r free e = sum_base (expr.Name x) fs zs low l (omega arith) free e
+  sum_goes (expr.Entry x) fs zs low l r free e = sum_base (expr.Entry x) fs zs low l (omega arith) free e
   sum_goes (written.in_type o place x type_name) fs zs low l r free e = absurd (omega arith)
   sum_goes (written.in_range o place x a b) fs zs low l r free e = absurd (omega arith)
 
@@ -713,6 +753,7 @@ module _ (marked : Bool) (below : Layer → Reader Tall) (levels : ℕ) (shrinks
   relation_again (parenthesized place inner) fs zs low l r free e = relation_plain (parenthesized place inner) fs zs low l (omega arith) free e
   relation_again (expr.Number value place) fs zs low l r free e = relation_plain (expr.Number value place) fs zs low l (omega arith) free e
   relation_again (expr.Name x) fs zs low l r free e = relation_plain (expr.Name x) fs zs low l (omega arith) free e
+  relation_again (expr.Entry x) fs zs low l r free e = relation_plain (expr.Entry x) fs zs low l (omega arith) free e
   relation_again (written.in_type o place x n) fs zs low l r free e =
       let below_x : height x < levels = omega arith in
       tested_again o place x (measure (written.in_type o place x n)) fs (written_name marked n ++ zs) zs below_x l.0 l.1
@@ -788,6 +829,7 @@ module _ (marked : Bool) (below : Layer → Reader Tall) (levels : ℕ) (shrinks
   combination_goes o is (parenthesized place inner) has fs zs low l free e = absurd has
   combination_goes o is (expr.Number value place) has fs zs low l free e = absurd has
   combination_goes o is (expr.Name x) has fs zs low l free e = absurd has
+  combination_goes o is (expr.Entry x) has fs zs low l free e = absurd has
   combination_goes o is (written.in_type p place x n) has fs zs low l free e = absurd has
   combination_goes o is (written.in_range p place x a b) has fs zs low l free e = absurd has
 
@@ -806,8 +848,44 @@ module _ (marked : Bool) (below : Layer → Reader Tall) (levels : ℕ) (shrinks
   combination_again (parenthesized place inner) fs zs low l r free e = combination_plain (parenthesized place inner) fs zs low l (omega arith) free e
   combination_again (expr.Number value place) fs zs low l r free e = combination_plain (expr.Number value place) fs zs low l (omega arith) free e
   combination_again (expr.Name x) fs zs low l r free e = combination_plain (expr.Name x) fs zs low l (omega arith) free e
+  combination_again (expr.Entry x) fs zs low l r free e = combination_plain (expr.Entry x) fs zs low l (omega arith) free e
   combination_again (written.in_type o place x n) fs zs low l r free e = combination_plain (written.in_type o place x n) fs zs low l (omega arith) free e
   combination_again (written.in_range o place x a b) fs zs low l r free e = combination_plain (written.in_range o place x a b) fs zs low l (omega arith) free e
+
+  -- ---- predicates
+
+  connection_plain : (x : Expr) (fs zs : List Form) → height x ≤ levels → Layered x → rank (layer_in x) ≤ 5 → Free layer.Predicate (peek marked zs) → fs ≡ written_expr marked x ++ zs → Reaches (connection marked below levels) fs (measure x) zs
+  unfolding connection
+  connection_plain x fs zs low l r free e =
+      reaches_bind _ (combination_again x fs zs low l r (omega arith) e) (λ us a.
+      reaches_choose (peek marked) (λ kind. connection_by marked below levels (measure x) (connective_of kind)) (peek marked zs) (peek_front marked us a)
+      (subst (λ (o : Option InfixOp). Reaches (connection_by marked below levels (measure x) o) us (measure x) zs) (sym (no_connective (peek marked zs) free)) (reaches_pure a)))
+
+  connection_joined : (o : InfixOp) (place : Place) (x y : Expr) (fs zs : List Form) → layer_of o ≡ layer.Predicate → height (written.operation o place x y) ≤ levels → Layered (written.operation o place x y) → Free layer.Predicate (peek marked zs)
+      → fs ≡ written_expr marked (written.operation o place x y) ++ zs → Reaches (connection marked below levels) fs (measure (written.operation o place x y)) zs
+  unfolding connection
+  connection_joined o place x y fs zs is low l free e =
+      let low_x : height x ≤ levels = omega arith in
+      let s = operator_strength o place y zs ∙ ap rank is in
+      let right = ap (λ (a : Layer). rank (right_layer a)) is in
+      reaches_bind _ (combination_again x fs (from_operator o place y zs) low_x l.0 (subst (λ (a : Layer). FitsLeft a o x) is l.2) (omega arith) (e ∙ flat o place x y zs)) (λ us a.
+      reaches_choose (peek marked) (λ kind. connection_by marked below levels (measure x) (connective_of kind)) (Some (operator_kind o)) (peek_front marked us a ∙ operator_seen o place y zs)
+      (subst (λ (p : Option InfixOp). Reaches (connection_by marked below levels (measure x) p) us (measure (written.operation o place x y)) zs) (sym (connective_self o is)) (joined_again o place x y us zs low l.1 l.3 (omega arith) a)))
+
+  connection_again : Again marked (connection marked below levels) levels layer.Predicate
+  connection_again (written.operation o place x y) fs zs low l r free e =
+      elim (layers layer.Predicate (layer_of o) r) [
+        | inl is ↦ connection_joined o place x y fs zs is low l free e
+        | inr lower ↦ connection_plain (written.operation o place x y) fs zs low l (omega arith) free e
+      ]
+  connection_again (written.signed o place x) fs zs low l r free e = connection_plain (written.signed o place x) fs zs low l (elim (before_cases o) [ inl is ↦ let h = ap rank is.0 in omega arith | inr is ↦ let h = ap rank is.0 in omega arith ]) free e
+  connection_again (written.applied function place x) fs zs low l r free e = connection_plain (written.applied function place x) fs zs low l (omega arith) free e
+  connection_again (parenthesized place inner) fs zs low l r free e = connection_plain (parenthesized place inner) fs zs low l (omega arith) free e
+  connection_again (expr.Number value place) fs zs low l r free e = connection_plain (expr.Number value place) fs zs low l (omega arith) free e
+  connection_again (expr.Name x) fs zs low l r free e = connection_plain (expr.Name x) fs zs low l (omega arith) free e
+  connection_again (expr.Entry x) fs zs low l r free e = connection_plain (expr.Entry x) fs zs low l (omega arith) free e
+  connection_again (written.in_type o place x n) fs zs low l r free e = connection_plain (written.in_type o place x n) fs zs low l (omega arith) free e
+  connection_again (written.in_range o place x a b) fs zs low l r free e = connection_plain (written.in_range o place x a b) fs zs low l (omega arith) free e
 
   read_again : (layer : Layer) → Again marked (read marked below levels layer) levels layer
   read_again layer.Primary = primary_again
@@ -816,6 +894,7 @@ module _ (marked : Bool) (below : Layer → Reader Tall) (levels : ℕ) (shrinks
   read_again layer.Sum = sum_again
   read_again layer.Relation = relation_again
   read_again layer.Expression = combination_again
+  read_again layer.Predicate = connection_again
 
 below_again : (marked : Bool) (levels : ℕ) → 0 < levels → (layer : Layer) → Again marked (below marked levels layer) (levels - 1) layer
 unfolding below
@@ -829,6 +908,26 @@ at_layer_again marked levels layer = read_again marked (below marked levels) lev
 pub expression_again : (marked : Bool) (levels : ℕ) (x : Expr) (fs zs : List Form) → IsExpr levels x → Free layer.Expression (peek marked zs) → fs ≡ written_expr marked x ++ zs → Reaches (expression marked levels) fs x zs
 unfolding expression
 expression_again marked levels x fs zs fit free e = reaches_bind _ (at_layer_again marked levels layer.Expression x fs zs fit.low fit.layered fit.of_layer free e) (λ us a. reaches_pure a)
+
+pub expression_at_again : (marked : Bool) (levels : ℕ) (x : Expr) (fs zs : List Form) → IsExprAt marked levels x → Free (last_layer marked) (peek marked zs) → fs ≡ written_expr marked x ++ zs → Reaches (expression_at marked levels) fs x zs
+unfolding expression_at
+expression_at_again marked levels x fs zs fit free e = reaches_bind _ (at_layer_again marked levels (last_layer marked) x fs zs fit.low fit.layered fit.of_layer free e) (λ us a. reaches_pure a)
+
+-- at the end of the forms nothing goes on
+pub end_free : (layer : Layer) → Free layer None
+end_free layer = let low = rank_low layer in omega arith
+
+predicate_again : (marked : Bool) (levels : ℕ) (x : Expr) (fs zs : List Form) → IsCondition levels x → Free layer.Predicate (peek marked zs) → fs ≡ written_expr marked x ++ zs → Reaches (predicate marked levels) fs x zs
+unfolding predicate
+predicate_again marked levels x fs zs fit free e = reaches_bind _ (at_layer_again marked levels layer.Predicate x fs zs fit.low fit.layered fit.of_layer free e) (λ us a. reaches_pure a)
+
+pub predicate_after_again : (word : Kind) (levels : ℕ) (x : Predicate) (fs zs : List Form) → IsPredicate levels x → fs ≡ written_at word x.place x.condition ++ zs → Reaches (predicate_after word levels) fs x zs
+unfolding predicate_after
+predicate_after_again word levels x fs zs f h =
+    let flat = h ∙ ap (λ (us : List Form). placed annotation word x.place ∷ us) (append_assoc (written_expr annotation x.condition) (bare annotation k.Semicolon ∷ []) zs) in
+    reaches_bind _ (reaches_expect_place annotation word flat) (λ us a.
+    reaches_bind _ (predicate_again annotation levels x.condition us (bare annotation k.Semicolon ∷ zs) f (bare_past annotation k.Semicolon zs refl) a) (λ vs b.
+    reaches_bind _ (reaches_expect annotation k.Semicolon b) (λ ws d. reaches_pure d)))
 
 pub simple_expression_again : (marked : Bool) (levels : ℕ) (x : Expr) (fs zs : List Form) → OfLayer layer.Sum levels x → Free layer.Sum (peek marked zs) → fs ≡ written_expr marked x ++ zs → Reaches (simple_expression marked levels) fs x zs
 unfolding simple_expression

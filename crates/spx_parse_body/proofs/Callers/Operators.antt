@@ -17,7 +17,7 @@ use Rattle.spx_parse_body.specs.declared.operators.Chain.{Chain}
 use Rattle.spx_parse_body.specs.declared.operators.Chain.TheVariants as chain
 use Rattle.spx_parse_body.specs.declared.operators.Relator.{Relator}
 use Rattle.spx_parse_body.specs.declared.operators.Relator.TheVariants as relators
-use Rattle.spx_parse_body.specs.Operators.{sign_of, abs_or_not, power_of, multiplying, adding, relator_of, logical, if_then, if_else, short_circuit, if_and, if_or, if_xor, same_logical, goes_on}
+use Rattle.spx_parse_body.specs.Operators.{sign_of, abs_or_not, power_of, multiplying, adding, relator_of, logical, connective_of, if_then, if_else, short_circuit, if_and, if_or, if_xor, same_logical, goes_on}
 
 some_is : {A : Type 0} (x y : A) → Some x ≡ Some y → x ≡ y
 some_is x y e = cc
@@ -94,6 +94,11 @@ relator_is (Some k.GreaterOrEqual) x e = compares (Some k.GreaterOrEqual) op.Gre
 relator_is (Some k.In) x e = relates (Some k.In) relators.In x refl e
 relator_is (Some k.Not) x e = relates (Some k.Not) relators.NotIn x refl e
 relator_is _ x e = absurd cc
+
+pub connective_is : (kind : Option Kind) (o : InfixOp) → connective_of kind ≡ Some o → Joins layer.Predicate kind o
+connective_is (Some k.Implication) o e = joins layer.Predicate (Some k.Implication) op.Implies o refl refl e
+connective_is (Some k.Equivalence) o e = joins layer.Predicate (Some k.Equivalence) op.Equivalent o refl refl e
+connective_is _ o e = absurd cc
 
 -- ---- logical operators
 

@@ -1,6 +1,6 @@
 -- The readers of statements keep the laws of readers.
 use Rattle.std.specs.Prelude.{⊤}
-use Rattle.std.proofs.Common.{◌≡◌, ℕ, zero, suc, ◌-◌, ◌<◌, true, List, [], ◌∷◌, ◌++◌, map, Option, Some, None, refl, sym, ap, subst, ◌∙◌, append_assoc, arith}
+use Rattle.std.proofs.Common.{◌≡◌, ℕ, zero, suc, ◌-◌, ◌<◌, true, List, [], ◌∷◌, ◌++◌, map, Option, Some, None, is_some, refl, sym, ap, subst, ◌∙◌, append_assoc, arith}
 use Rattle.std.proofs.lemmas.List.{append-nil}
 use Rattle.spx_text.specs.declared.place.Place.{Place}
 use Rattle.spx_tree.specs.declared.token.Kind.{Kind}
@@ -12,19 +12,21 @@ use Rattle.spx_tree.specs.declared.statement.Choice.{Choice}
 use Rattle.spx_tree.specs.declared.statement.Alternative.{Alternative, out-Alternative}
 use Rattle.spx_tree.specs.declared.statement.Arm.{Arm, out-Arm}
 use Rattle.spx_tree.specs.declared.statement.Stmt.{Stmt, Stmt-F, out-Stmt}
-use Rattle.spx_tree.specs.declared.statement.Stmt.TheVariants.{Null, Assignment, If, Case, outs-Null, outs-Assignment, outs-If, outs-Case}
+use Rattle.spx_tree.specs.declared.statement.Stmt.TheVariants.{Null, Assignment, If, Case, Check, outs-Null, outs-Assignment, outs-If, outs-Case, outs-Check}
 use Rattle.spx_tree.specs.Form.{Form, bare, placed}
-use Rattle.spx_tree.specs.Written.{program, joined, optional, elsif_arms, all_arms, written_upper, written_choice, written_choices, written_expr, written_stmt, written_arm, written_alternative, written_stmts, separated}
+use Rattle.spx_tree.specs.Written.{program, annotation, joined, optional, elsif_arms, all_arms, written_upper, written_choice, written_choices, written_expr, written_stmt, written_arm, written_alternative, written_stmts, separated}
 use Rattle.spx_tree.specs.Grammar.{OneOrMore, IfThere, OfLayer, IsArm, IsChoice, IsAlternative, IsFormed, Within, IsStmt}
 use Rattle.spx_tree.proofs.WrittenLevels.{written_level, spelled_stmt, spelled_arm, spelled_alternative, elsif_joined}
 use Rattle.spx_parse_body.specs.Reading.{Reader, ◌>>=◌, ◌>>◌, pure, peek, sees, refuse, expect, item_step}
+use Rattle.spx_parse_body.specs.declared.statements.StmtKind.{StmtKind}
+use Rattle.spx_parse_body.specs.declared.statements.StmtKind.TheVariants as kinds
 use Rattle.spx_parse_body.specs.Statements as read
-use Rattle.spx_parse_body.specs.Statements.{null_statement, assignment, upper, choice, more_choices, some_choices, choices_by, choices, arm, elsif_arm, if_statement, alternative, more_alternatives, alternatives, case_statement, stmt_by, stmt, starts_stmt, sees_stmt, more_stmts, some_stmts, stmts_below, stmts}
+use Rattle.spx_parse_body.specs.Statements.{null_statement, assignment, upper, choice, more_choices, some_choices, choices_by, choices, arm, elsif_arm, if_statement, alternative, more_alternatives, alternatives, case_statement, check_statement, noted_stmt, stmt_of, next_stmt, stmt_by, stmt, sees_stmt, more_stmts, some_stmts, stmts_below, stmts}
 use Rattle.spx_parse_body.proofs.Callers.Loops.{Shrinks}
 use Rattle.spx_parse_body.proofs.Callers.Lawful.{Ends, Any, Sees, Always, just}
 use Rattle.spx_parse_body.proofs.Callers.Good.{Good, Starts, Adds, no_level, good_bind, good_then, good_as, good_before, good_given, good_more, good_pure, good_refuse, good_expect, good_expect_place, good_choose, list_shrinks, starts_bind, starts_choose, starts_expect, starts_open, starts_place}
 use Rattle.spx_parse_body.proofs.Callers.Separated.{all_added, good_if_seen, good_separated, good_some_items, items_shrinks, joined_added, sees_kind, separated_shrinks}
-use Rattle.spx_parse_body.proofs.Callers.ExpressionsGood.{name_starts, expression_good, expression_below_good, simple_expression_below_good}
+use Rattle.spx_parse_body.proofs.Callers.ExpressionsGood.{name_starts, expression_good, predicate_after_starts, expression_below_good, simple_expression_below_good}
 
 -- ---- what is written and asked, by the last level
 
@@ -74,6 +76,43 @@ null_starts levels here =
 
 stmt_ends : (levels : ℕ) → Ends written_stmt (IsStmt levels) []
 stmt_ends levels = ((null_starts {L = ⊤} {P = ⊤} {on = λ fs. peek program fs ≡ Some k.Null} levels (λ fs here. here)).good.law tt tt).ends
+
+check_starts : {L P : Type 0} {on : List Form → Type 0} (levels : ℕ) → ((fs : List Form) → on fs → peek annotation fs ≡ Some k.Check) → Starts L P written_stmt (IsStmt levels) [] on (check_statement levels) (check_statement (suc levels))
+unfolding check_statement
+check_starts levels here =
+    starts_bind (predicate_after_starts k.Check levels refl here) (λ x.
+    good_pure (Check x.place x.condition) (λ l w. sym (spelled_as (Check x.place x.condition) _ (outs-Check x.place x.condition))) (λ l w. fits_as levels (Check x.place x.condition) _ (outs-Check x.place x.condition) w.1))
+
+-- ---- what statements start with
+
+-- the next form has the kind that a statement starts with, in program text or in annotation text
+abbrev StartsAs : Option Kind → Option Kind → StmtKind → Type 0
+StartsAs kind noted kinds.Null = kind ≡ Some k.Null
+StartsAs kind noted kinds.Assignment = kind ≡ Some k.Identifier
+StartsAs kind noted kinds.If = kind ≡ Some k.If
+StartsAs kind noted kinds.Case = kind ≡ Some k.Case
+StartsAs kind noted kinds.Check = noted ≡ Some k.Check
+
+starts_as : (kind noted : Option Kind) (found x : StmtKind) → StartsAs kind noted found → Some found ≡ Some x → StartsAs kind noted x
+starts_as kind noted found x s e = subst (StartsAs kind noted) (some_is found x e) s
+  where
+    some_is : (a b : StmtKind) → Some a ≡ Some b → a ≡ b
+    some_is a b e = cc
+
+noted_is : (kind noted : Option Kind) (x : StmtKind) → noted_stmt noted ≡ Some x → StartsAs kind noted x
+noted_is kind (Some k.Check) x e = starts_as kind (Some k.Check) kinds.Check x refl e
+noted_is kind _ x e = absurd cc
+
+stmt_is : (kind noted : Option Kind) (x : StmtKind) → stmt_of kind noted ≡ Some x → StartsAs kind noted x
+stmt_is (Some k.Null) noted x e = starts_as (Some k.Null) noted kinds.Null x refl e
+stmt_is (Some k.Identifier) noted x e = starts_as (Some k.Identifier) noted kinds.Assignment x refl e
+stmt_is (Some k.If) noted x e = starts_as (Some k.If) noted kinds.If x refl e
+stmt_is (Some k.Case) noted x e = starts_as (Some k.Case) noted kinds.Case x refl e
+stmt_is _ noted x e = noted_is _ noted x e
+
+-- what is seen where this statement comes next
+next_is : (x : StmtKind) (fs : List Form) → next_stmt fs ≡ Some x → StartsAs (peek program fs) (peek annotation fs) x
+next_is x fs e = stmt_is (peek program fs) (peek annotation fs) x e
 
 -- ---- choices
 
@@ -221,27 +260,28 @@ module _ (inner inner' : Reader (List Stmt)) (levels : ℕ) (good : Good (0 < le
       good_pure (Case place selector xs (record { end = end; word = word })) (λ l w. case_text place selector xs (record { end = end; word = word }))
       (λ l w. fits_as levels (Case place selector xs (record { end = end; word = word })) _ (outs-Case place selector xs (record { end = end; word = word })) (l, w.0.0.0.0.0.1, w.0.0.0.1)))))))))
 
-  stmt_case : {L P : Type 0} (kind : Option Kind) → Good L P written_stmt (IsStmt levels) [] (Sees (peek program) kind) (stmt_by inner levels kind) (stmt_by inner' (suc levels) kind)
-  stmt_case (Some k.Null) = (null_starts levels (λ fs here. here)).good
-  stmt_case (Some k.Identifier) = (assignment_starts (λ fs here. here)).good
-  stmt_case (Some k.If) = (if_starts (λ fs here. here)).good
-  stmt_case (Some k.Case) = (case_starts (λ fs here. here)).good
-  stmt_case _ = good_refuse (λ l w. stmt_ends levels)
+  begun_case : {L P : Type 0} (x : StmtKind) → Starts L P written_stmt (IsStmt levels) [] (Sees next_stmt (Some x)) (stmt_by inner levels (Some x)) (stmt_by inner' (suc levels) (Some x))
+  begun_case kinds.Null = null_starts levels (next_is kinds.Null)
+  begun_case kinds.Assignment = assignment_starts (next_is kinds.Assignment)
+  begun_case kinds.If = if_starts (next_is kinds.If)
+  begun_case kinds.Case = case_starts (next_is kinds.Case)
+  begun_case kinds.Check = check_starts levels (next_is kinds.Check)
+
+  stmt_case : {L P : Type 0} (x : Option StmtKind) → Good L P written_stmt (IsStmt levels) [] (Sees next_stmt x) (stmt_by inner levels x) (stmt_by inner' (suc levels) x)
+  stmt_case None = good_refuse (λ l w. stmt_ends levels)
+  stmt_case (Some x) = (begun_case x).good
 
   stmt_good : {L P : Type 0} → Good L P written_stmt (IsStmt levels) [] Any (stmt inner levels) (stmt inner' (suc levels))
   unfolding stmt
-  stmt_good = good_choose (peek program) (λ t xs ys. refl) (stmt_by inner levels) (stmt_by inner' (suc levels)) refl refl stmt_case
+  stmt_good = good_choose next_stmt (λ t xs ys. refl) (stmt_by inner levels) (stmt_by inner' (suc levels)) refl refl stmt_case
 
-  begun_case : {L P : Type 0} (kind : Option Kind) → starts_stmt kind ≡ true → Starts L P written_stmt (IsStmt levels) [] (Sees (peek program) kind) (stmt_by inner levels kind) (stmt_by inner' (suc levels) kind)
-  begun_case (Some k.Null) e = null_starts levels (λ fs here. here)
-  begun_case (Some k.Identifier) e = assignment_starts (λ fs here. here)
-  begun_case (Some k.If) e = if_starts (λ fs here. here)
-  begun_case (Some k.Case) e = case_starts (λ fs here. here)
-  begun_case _ e = absurd cc
+  some_case : {L P : Type 0} (x : Option StmtKind) → is_some x ≡ true → Starts L P written_stmt (IsStmt levels) [] (Sees next_stmt x) (stmt_by inner levels x) (stmt_by inner' (suc levels) x)
+  some_case None e = absurd cc
+  some_case (Some x) e = begun_case x
 
   stmt_begins : {L P : Type 0} → Starts L P written_stmt (IsStmt levels) [] (Sees sees_stmt true) (stmt inner levels) (stmt inner' (suc levels))
   unfolding stmt
-  stmt_begins = starts_choose (peek program) (λ t xs ys. refl) (stmt_by inner levels) (stmt_by inner' (suc levels)) stmt_good (λ fs here. begun_case (peek program fs) here)
+  stmt_begins = starts_choose next_stmt (λ t xs ys. refl) (stmt_by inner levels) (stmt_by inner' (suc levels)) stmt_good (λ fs here. some_case (next_stmt fs) here)
 
   pub stmt_shrinks : Shrinks sees_stmt (item_step (stmt inner levels))
   stmt_shrinks = items_shrinks written_stmt (IsStmt levels) sees_stmt (λ t xs ys. refl) refl {L = ⊤} stmt_begins tt

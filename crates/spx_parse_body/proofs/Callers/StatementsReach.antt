@@ -1,5 +1,5 @@
 -- The forms of statements are read as those.
-use Rattle.std.proofs.Common.{◌≡◌, ℕ, zero, suc, ◌-◌, ◌<◌, true, false, List, [], ◌∷◌, ◌++◌, map, Option, Some, None, refl, sym, ap, ◌∙◌, append_assoc, arith}
+use Rattle.std.proofs.Common.{◌≡◌, ℕ, zero, suc, ◌-◌, ◌<◌, true, false, List, [], ◌∷◌, ◌++◌, map, Option, Some, None, is_some, refl, sym, ap, ◌∙◌, append_assoc, arith}
 use Rattle.spx_text.specs.declared.place.Place.{Place}
 use Rattle.spx_tree.specs.declared.token.Kind.{Kind}
 use Rattle.spx_tree.specs.declared.token.Kind.TheVariants as k
@@ -12,19 +12,20 @@ use Rattle.spx_tree.specs.declared.statement.Choice.{Choice}
 use Rattle.spx_tree.specs.declared.statement.Alternative.{Alternative, out-Alternative, roll-out-Alternative}
 use Rattle.spx_tree.specs.declared.statement.Arm.{Arm, Arm-F, out-Arm, roll-out-Arm}
 use Rattle.spx_tree.specs.declared.statement.Stmt.{Stmt, Stmt-F, out-Stmt, roll-Stmt, roll-out-Stmt}
-use Rattle.spx_tree.specs.declared.statement.Stmt.TheVariants.{Null, Assignment, If, Case, outs-Null, outs-Assignment, outs-If, outs-Case}
+use Rattle.spx_tree.specs.declared.statement.Stmt.TheVariants.{Null, Assignment, If, Case, Check, outs-Null, outs-Assignment, outs-If, outs-Case, outs-Check}
 use Rattle.spx_tree.specs.Form.{Form, bare, placed}
 use Rattle.spx_tree.specs.Written.{program, optional, separated, following, written_name, written_expr, written_upper, written_choice, written_choices, elsif_arms, written_stmt, written_arm, written_alternative, written_stmts}
 use Rattle.spx_tree.specs.Grammar.{Each, OneOrMore, IfThere, OfLayer, IsExpr, IsFormed, Within, IsStmt}
 use Rattle.spx_tree.proofs.WrittenLevels.{written_level, spelled_stmt, spelled_arm, spelled_alternative, elsif_joined}
-use Rattle.spx_parse_body.specs.Reading.{Reader, ◌>>◌, peek, is_kind, sees, expect, optional_by, if_seen, item_step}
+use Rattle.spx_parse_body.specs.Reading.{Reader, ◌>>◌, peek, sees, expect, optional_by, if_seen, item_step}
 use Rattle.spx_parse_body.proofs.Callers.Shaped.{kind_self}
+use Rattle.spx_parse_body.specs.declared.statements.StmtKind.TheVariants as kinds
 use Rattle.spx_parse_body.specs.Statements as read
-use Rattle.spx_parse_body.specs.Statements.{assignment, upper, choice, more_choices, some_choices, choices_by, choices, arm, elsif_arm, if_statement, alternative, more_alternatives, alternatives, case_statement, null_statement, stmt_by, stmt, starts_stmt, sees_stmt, more_stmts, some_stmts, stmts_below, stmts}
+use Rattle.spx_parse_body.specs.Statements.{assignment, upper, choice, more_choices, some_choices, choices_by, choices, arm, elsif_arm, if_statement, alternative, more_alternatives, alternatives, case_statement, null_statement, check_statement, next_stmt, stmt_by, stmt, sees_stmt, more_stmts, some_stmts, stmts_below, stmts}
 use Rattle.spx_parse_body.proofs.Callers.Loops.{Shrinks}
 use Rattle.spx_parse_body.proofs.Callers.Separated.{not_seen, sees_front, reaches_separated, reaches_some_items}
 use Rattle.spx_parse_body.proofs.Callers.Reaches.{Reaches, reaches_bind, reaches_pure, reaches_choose, reaches_deeper, reaches_expect, reaches_expect_place, reaches_is, reaches_items_before, peek_front}
-use Rattle.spx_parse_body.proofs.Callers.ExpressionsReach.{strength, Free, name_again, expression_again, expression_below_again, simple_expression_below_again, not_others, double_dot_free, bare_free, semicolon_free, sum_free, then_free}
+use Rattle.spx_parse_body.proofs.Callers.ExpressionsReach.{strength, Free, name_again, expression_again, predicate_after_again, expression_below_again, simple_expression_below_again, not_others, double_dot_free, bare_free, semicolon_free, sum_free, then_free}
 use Rattle.spx_parse_body.proofs.Callers.StatementsGood.{IsInner, FitsArm, FitsChoice, FitChoices, FitsAlternative, written_arms, written_alternatives, written_else, choices_shrinks, arms_shrinks, alternatives_shrinks, stmts_shrinks}
 
 -- statements with the same last level are the same
@@ -32,22 +33,21 @@ same_out : (x z : Stmt) (y : Stmt-F Stmt Alternative Arm) → out-Stmt x ≡ y �
 same_out x z y e f = sym (roll-out-Stmt z) ∙ ap roll-Stmt (f ∙ sym e) ∙ roll-out-Stmt x
 
 -- what each part begins with
-target_first : (target : Name) (fs ws : List Form) → peek program ((written_name program target ++ fs) ++ ws) ≡ Some k.Identifier
+target_first : (target : Name) (fs ws : List Form) → next_stmt ((written_name program target ++ fs) ++ ws) ≡ Some kinds.Assignment
 target_first (Simple prefix) fs ws = refl
 target_first (Attribute prefix designator) fs ws = refl
 
-arm_first : (x : Arm) (word : Kind) (ws : List Form) → peek program (written_arm x word ++ ws) ≡ Some word
-arm_first x word ws = ap (λ (fs : List Form). peek program (fs ++ ws)) (spelled_arm x word)
-
-arms_first : (levels : ℕ) (xs : List Arm) (ws : List Form) → OneOrMore (FitsArm levels) xs → peek program (written_arms xs ++ ws) ≡ Some k.If
+arms_first : (levels : ℕ) (xs : List Arm) (ws : List Form) → OneOrMore (FitsArm levels) xs → next_stmt (written_arms xs ++ ws) ≡ Some kinds.If
 arms_first levels [] ws f = absurd f
-arms_first levels (x ∷ xs) ws f = ap (peek program) (append_assoc (written_arm x k.If) (elsif_arms (map written_arm xs)) ws) ∙ arm_first x k.If (elsif_arms (map written_arm xs) ++ ws)
+arms_first levels (x ∷ xs) ws f =
+    ap next_stmt (append_assoc (written_arm x k.If) (elsif_arms (map written_arm xs)) ws) ∙ ap (λ (fs : List Form). next_stmt (fs ++ (elsif_arms (map written_arm xs) ++ ws))) (spelled_arm x k.If)
 
 level_seen : (levels : ℕ) (y : Stmt-F Stmt Alternative Arm) (ws : List Form) → IsFormed levels (Within levels) y → sees_stmt (written_level y ++ ws) ≡ true
 level_seen levels (Stmt-F.Null place) ws f = refl
-level_seen levels (Stmt-F.Assignment target value) ws f = ap starts_stmt (target_first target _ ws)
+level_seen levels (Stmt-F.Assignment target value) ws f = ap is_some (target_first target _ ws)
 level_seen levels (Stmt-F.Case place selector xs closing) ws f = refl
-level_seen levels (Stmt-F.If arms otherwise closing) ws f = ap sees_stmt (append_assoc (written_arms arms) _ ws) ∙ ap starts_stmt (arms_first levels arms _ f.1)
+level_seen levels (Stmt-F.Check place condition) ws f = refl
+level_seen levels (Stmt-F.If arms otherwise closing) ws f = ap sees_stmt (append_assoc (written_arms arms) _ ws) ∙ ap is_some (arms_first levels arms _ f.1)
 
 stmt_seen : (levels : ℕ) (x : Stmt) (ws : List Form) → IsStmt levels x → sees_stmt (written_stmt x ++ ws) ≡ true
 stmt_seen levels x ws f = ap (λ (fs : List Form). sees_stmt (fs ++ ws)) (spelled_stmt x) ∙ level_seen levels (out-Stmt x) ws f
@@ -172,7 +172,8 @@ module _ (inner : Reader (List Stmt)) (levels : ℕ) (stmt_shrinks : Shrinks see
     elsif_again x fs zs f over h = reaches_bind _ (reaches_expect_place program k.Elsif (h ∙ arm_flat x k.Elsif zs)) (λ us a. arm_again x us zs f over a)
 
     elsif_begun : (x : Arm) (ws : List Form) → FitsArm levels x → (sees program k.Elsif (written_arm x k.Elsif ++ ws) ≡ true) × (sees_stmt (written_arm x k.Elsif ++ ws) ≡ false)
-    elsif_begun x ws f = (ap (is_kind k.Elsif) (arm_first x k.Elsif ws) ∙ kind_self k.Elsif, ap starts_stmt (arm_first x k.Elsif ws))
+    elsif_begun x ws f =
+        (ap (λ (fs : List Form). sees program k.Elsif (fs ++ ws)) (spelled_arm x k.Elsif) ∙ kind_self k.Elsif, ap (λ (fs : List Form). sees_stmt (fs ++ ws)) (spelled_arm x k.Elsif))
 
     elsif_arms_again : (found xs : List Arm) (fs zs : List Form) → Each (FitsArm levels) xs → sees program k.Elsif zs ≡ false → sees_stmt zs ≡ false → fs ≡ elsif_arms (map written_arm xs) ++ zs → Reaches (read.elsif_arms inner levels found) fs (found ++ xs) zs
     unfolding read.elsif_arms
@@ -182,7 +183,9 @@ module _ (inner : Reader (List Stmt)) (levels : ℕ) (stmt_shrinks : Shrinks see
 
     no_stmt_after : (xs : List Arm) (otherwise : Option (List Stmt)) (closing : Closing) (zs : List Form) → sees_stmt (elsif_arms (map written_arm xs) ++ from_else otherwise closing zs) ≡ false
     no_stmt_after [] otherwise closing zs = no_stmt otherwise closing zs
-    no_stmt_after (x ∷ xs) otherwise closing zs = ap sees_stmt (append_assoc (written_arm x k.Elsif) (elsif_arms (map written_arm xs)) _) ∙ ap starts_stmt (arm_first x k.Elsif _)
+    no_stmt_after (x ∷ xs) otherwise closing zs =
+        let after : List Form = elsif_arms (map written_arm xs) ++ from_else otherwise closing zs in
+        ap sees_stmt (append_assoc (written_arm x k.Elsif) (elsif_arms (map written_arm xs)) (from_else otherwise closing zs)) ∙ ap (λ (fs : List Form). sees_stmt (fs ++ after)) (spelled_arm x k.Elsif)
 
     else_again : (otherwise : Option (List Stmt)) (closing : Closing) (fs zs : List Form) → IfThere (IsInner levels) otherwise → fs ≡ from_else otherwise closing zs → Reaches (if_seen program k.Else (read.else_part inner levels)) fs otherwise (from_end closing zs)
     unfolding if_seen read.else_part
@@ -254,21 +257,25 @@ module _ (inner : Reader (List Stmt)) (levels : ℕ) (stmt_shrinks : Shrinks see
 
   -- by the last level of the statement
   level_again : (x : Stmt) (y : Stmt-F Stmt Alternative Arm) (fs zs : List Form) → out-Stmt x ≡ y → IsFormed levels (Within levels) y → fs ≡ written_level y ++ zs → Reaches (stmt inner levels) fs x zs
-  unfolding stmt null_statement
+  unfolding stmt null_statement check_statement
   level_again x (Stmt-F.Null place) fs zs out f h =
       reaches_is (same_out x (Null place) _ out (outs-Null place))
-      (reaches_choose (peek program) (stmt_by inner levels) (Some k.Null) (peek_front program fs h)
+      (reaches_choose next_stmt (stmt_by inner levels) (Some kinds.Null) (ap next_stmt h)
       (reaches_bind _ (reaches_expect_place program k.Null h) (λ us a.
       reaches_bind _ (reaches_expect program k.Semicolon a) (λ vs b. reaches_pure b))))
   level_again x (Stmt-F.Assignment target value) fs zs out f h =
       reaches_is (same_out x (Assignment target value) _ out (outs-Assignment target value))
-      (reaches_choose (peek program) (stmt_by inner levels) (Some k.Identifier) (peek_front program fs h ∙ target_first target _ zs) (assignment_again target value fs zs f h))
+      (reaches_choose next_stmt (stmt_by inner levels) (Some kinds.Assignment) (ap next_stmt h ∙ target_first target _ zs) (assignment_again target value fs zs f h))
   level_again x (Stmt-F.If arms otherwise closing) fs zs out f h =
       reaches_is (same_out x (If arms otherwise closing) _ out (outs-If arms otherwise closing))
-      (reaches_choose (peek program) (stmt_by inner levels) (Some k.If) (peek_front program fs (h ∙ if_flat arms otherwise closing zs) ∙ arms_first levels arms _ f.1) (if_again f.0 arms otherwise closing fs zs f.1 f.2 h))
+      (reaches_choose next_stmt (stmt_by inner levels) (Some kinds.If) (ap next_stmt (h ∙ if_flat arms otherwise closing zs) ∙ arms_first levels arms _ f.1) (if_again f.0 arms otherwise closing fs zs f.1 f.2 h))
   level_again x (Stmt-F.Case place selector xs closing) fs zs out f h =
       reaches_is (same_out x (Case place selector xs closing) _ out (outs-Case place selector xs closing))
-      (reaches_choose (peek program) (stmt_by inner levels) (Some k.Case) (peek_front program fs h) (case_again f.0 place selector xs closing fs zs f.1 f.2 h))
+      (reaches_choose next_stmt (stmt_by inner levels) (Some kinds.Case) (ap next_stmt h) (case_again f.0 place selector xs closing fs zs f.1 f.2 h))
+  level_again x (Stmt-F.Check place condition) fs zs out f h =
+      reaches_is (same_out x (Check place condition) _ out (outs-Check place condition))
+      (reaches_choose next_stmt (stmt_by inner levels) (Some kinds.Check) (ap next_stmt h)
+      (reaches_bind _ (predicate_after_again k.Check levels (record { place = place; condition = condition }) fs zs f h) (λ us a. reaches_pure a)))
 
   stmt_again : (x : Stmt) (fs zs : List Form) → IsStmt levels x → fs ≡ written_stmt x ++ zs → Reaches (stmt inner levels) fs x zs
   stmt_again x fs zs f h = level_again x (out-Stmt x) fs zs refl f (h ∙ ap (λ (ws : List Form). ws ++ zs) (spelled_stmt x))

@@ -12,3 +12,7 @@ returns-clause-body c = breach_is _ _ _ _ refl
 pub returns-clause-precondition : goal.returns-clause-precondition
 unfolding standard hidden-the_row-Expr-0 hidden
 returns-clause-precondition c = breach_is _ _ _ _ refl
+
+pub returns-clause-postcondition : goal.returns-clause-postcondition
+unfolding standard hidden-the_row-Expr-0 hidden
+returns-clause-postcondition c = breach_is _ _ _ _ refl

@@ -3,7 +3,10 @@ use Rattle.spx_parse_body.specs.Expressions.{below, chained}
 use Rattle.spx_parse_body.proofs.expressions.+layers.Given as goal
 
 abbrev pub decreases-at_layer : goal.decreases-at_layer
-decreases-at_layer l = 20 * l.levels + 15
+decreases-at_layer l = 20 * l.levels + 16
+
+abbrev pub decreases-connection : goal.decreases-connection
+decreases-connection l = 20 * l.levels + 15
 
 abbrev pub decreases-combination : goal.decreases-combination
 decreases-combination l = 20 * l.levels + 14

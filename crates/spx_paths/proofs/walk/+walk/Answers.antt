@@ -6,68 +6,74 @@ use Rattle.spx_core.specs.declared.statement.CoreAlternative.{CoreAlternative, o
 use Rattle.spx_core.specs.declared.statement.CoreArm.{CoreArm}
 use Rattle.spx_core.specs.declared.statement.CoreStmt.{CoreStmt}
 use Rattle.spx_core.specs.declared.statement.CoreStmt.TheVariants as stmt
-use Rattle.spx_core.specs.Commands.{Command, Set, Skip, alternative, command, commands, select}
+use Rattle.spx_core.specs.Commands.{Command, Check, Set, Skip, alternative, command, commands, select}
 use Rattle.spx_paths.specs.Prefixes.{Arrive, ArriveEach, Walked, after_each, with_arms}
 use Rattle.spx_paths.proofs.PrefixLaws.{each_none}
 use Rattle.std.specs.Prelude.{IfOk}
 use Rattle.spx_term.specs.Steps.{assume_all}
 use Rattle.spx_paths.specs.Walks.{alternative_facts, walk}
-use Rattle.spx_paths.proofs.ArriveLaws.{alternatives_more, arm_arrives, arms_more, assignment_is, case_arrives, case_is, each_arrive, from_one, if_alone_is, if_arrives, if_else_is, none_is, null_is}
+use Rattle.spx_paths.proofs.ArriveLaws.{alternatives_more, arm_arrives, arms_more, assignment_is, case_arrives, case_is, check_is, each_arrive, from_one, if_alone_is, if_arrives, if_else_is, none_is, null_is}
 use Rattle.spx_paths.proofs.walk.+walk.Goals as goal
 
 pub walk_arm-returns : goal.walk_arm-returns
 walk_arm-returns t c =
     let found = c.in_ok-found.found.items in
-    arm_arrives c.args.program.now c.args.arm.now _ _ c.in_ok-taken.taken.steps found c.in_ok-taken.ensures
-    (subst (λ (stmts : List CoreStmt). Arrive c.args.program.now (commands stmts) c.in_ok-taken.taken.steps found) c.as_slice.ensures c.in_ok-found.ensures)
+    arm_arrives c.args.program.now c.args.sub.now c.args.arm.now _ _ c.in_ok-taken.taken.steps found c.in_ok-taken.ensures
+    (subst (λ (stmts : List CoreStmt). Arrive c.args.program.now c.args.sub.now (commands stmts) c.in_ok-taken.taken.steps found) c.as_slice.ensures c.in_ok-found.ensures)
 
 pub walk_from_each-loop-path-preserved : goal.walk_from_each-loop-path-preserved
 walk_from_each-loop-path-preserved t c =
-    each_arrive c.args.program.now (command c.args.stmt.now) c.loop-path.yielded c.in-Some.path c.loop-path.found.items c.in_ok-walk_stmt.field-0.items _ c.loop-path.invariant c.in_ok-walk_stmt.ensures c.in_ok-append.ensures.items
+    each_arrive c.args.program.now c.args.sub.now (command c.args.stmt.now) c.loop-path.yielded c.in-Some.path c.loop-path.found.items c.in_ok-walk_stmt.field-0.items _ c.loop-path.invariant c.in_ok-walk_stmt.ensures c.in_ok-append.ensures.items
 
 pub walk_from_each-returns : goal.walk_from_each-returns
 walk_from_each-returns t c =
     let before = c.args.before.items in
     let given = c.into_iter-path-iterator.ensures.into_iter_gives in
     let e : c.loop-path.yielded ≡ before = sym (map-id c.loop-path.yielded) ∙ (YieldsList-end (YieldsList-from_vec before given.0 (given.1 ∙ c.args.before.ok.0)) c.loop-path.yielded c.loop-path.path-iterator c.loop-path.yielded_by c.next.result c.next.new.self c.in-None.is c.next.ensures.steps).0 in
-    subst (λ paths. ArriveEach c.args.program.now (command c.args.stmt.now) paths c.loop-path.found.items) e c.loop-path.invariant
+    subst (λ paths. ArriveEach c.args.program.now c.args.sub.now (command c.args.stmt.now) paths c.loop-path.found.items) e c.loop-path.invariant
 
 pub walk_arms-loop-arm-preserved : goal.walk_arms-loop-arm-preserved
 walk_arms-loop-arm-preserved t c =
-    arms_more c.args.program.now c.args.arms.now c.loop-arm.arm-index c.arm-item.result _ c.loop-arm.path.steps _ c.loop-arm.found.items c.in_ok-walk_arm.field-0.items _ c.loop-arm-test.true c.arm-item.is c.loop-arm.invariant c.in_ok-walk_arm.ensures
+    arms_more c.args.program.now c.args.sub.now c.args.arms.now c.loop-arm.arm-index c.arm-item.result _ c.loop-arm.path.steps _ c.loop-arm.found.items c.in_ok-walk_arm.field-0.items _ c.loop-arm-test.true c.arm-item.is c.loop-arm.invariant c.in_ok-walk_arm.ensures
     c.in_ok-append.ensures.items
 
 pub walk_arms-returns : goal.walk_arms-returns
 walk_arms-returns t c = let e = drop_all c.loop-arm.arm-index c.args.arms.now c.loop-arm-test.false in rw e at c.loop-arm.invariant
 
 pub walk_stmts-loop-stmt-preserved : goal.walk_stmts-loop-stmt-preserved
-walk_stmts-loop-stmt-preserved t c = λ sub rest leave made.
-    c.loop-stmt.invariant sub rest leave made
-    ∙ ap (λ part. after_each c.loop-stmt.found.items (walk c.args.program.now sub (commands part) rest leave made)) (from_one c.args.stmts.now c.loop-stmt.stmt-index c.stmt-item.result c.loop-stmt-test.true c.stmt-item.is)
-    ∙ c.in_ok-found-2.ensures sub (walk c.args.program.now sub (commands (drop (c.loop-stmt.stmt-index + 1) c.args.stmts.now)) rest leave) leave made
+walk_stmts-loop-stmt-preserved t c = λ rest leave made.
+    c.loop-stmt.invariant rest leave made
+    ∙ ap (λ part. after_each c.loop-stmt.found.items (walk c.args.program.now c.args.sub.now (commands part) rest leave made)) (from_one c.args.stmts.now c.loop-stmt.stmt-index c.stmt-item.result c.loop-stmt-test.true c.stmt-item.is)
+    ∙ c.in_ok-found-2.ensures (walk c.args.program.now c.args.sub.now (commands (drop (c.loop-stmt.stmt-index + 1) c.args.stmts.now)) rest leave) leave made
 
 pub walk_stmts-returns : goal.walk_stmts-returns
 walk_stmts-returns t c = let e = drop_all c.loop-stmt.stmt-index c.args.stmts.now c.loop-stmt-test.false in rw e at c.loop-stmt.invariant
 
 pub walk_stmts-loop-stmt-init : goal.walk_stmts-loop-stmt-init
-walk_stmts-loop-stmt-init t c = λ sub rest leave made. c.in_ok-found.ensures c.args.program.now sub (walk c.args.program.now sub (commands c.args.stmts.now) rest leave) leave made
+walk_stmts-loop-stmt-init t c = λ rest leave made. c.in_ok-found.ensures c.args.program.now c.args.sub.now (walk c.args.program.now c.args.sub.now (commands c.args.stmts.now) rest leave) leave made
 
 pub walk_from_each-loop-path-init : goal.walk_from_each-loop-path-init
-walk_from_each-loop-path-init t c = λ sub rest leave made. rw (c.new-found.ensures.items, each_none, each_none)
+walk_from_each-loop-path-init t c = λ rest leave made. rw (c.new-found.ensures.items, each_none, each_none)
 
 pub walk_arms-loop-arm-init : goal.walk_arms-loop-arm-init
-walk_arms-loop-arm-init t c = λ last sub rest leave made. rw (c.new-found.ensures.items, each_none)
+walk_arms-loop-arm-init t c = λ last rest leave made. rw (c.new-found.ensures.items, each_none)
 
 pub walk_stmt-returns-in-Null : goal.walk_stmt-returns-in-Null
 walk_stmt-returns-in-Null t c =
     let is : command c.args.stmt.now ≡ Skip = ap command c.in-Null.is ∙ null_is c.in-Null.field-0 in
-    subst (λ (cmd : Command). IfOk c.one.result (λ found. Arrive c.args.program.now cmd c.args.path.steps found.items)) (sym is) (c.one.ensures c.args.program.now)
+    subst (λ (cmd : Command). IfOk c.one.result (λ found. Arrive c.args.program.now c.args.sub.now cmd c.args.path.steps found.items)) (sym is) (c.one.ensures c.args.program.now c.args.sub.now)
 
 pub walk_stmt-returns-in-Assignment : goal.walk_stmt-returns-in-Assignment
 walk_stmt-returns-in-Assignment t c =
     let at = c.in-Assignment in
     let is : command c.args.stmt.now ≡ Set at.target at.value = ap command at.is ∙ assignment_is at.target at.value in
-    subst (λ (cmd : Command). IfOk c.walk_assignment.result (λ found. Arrive c.args.program.now cmd c.args.path.steps found.items)) (sym is) c.walk_assignment.ensures
+    subst (λ (cmd : Command). IfOk c.walk_assignment.result (λ found. Arrive c.args.program.now c.args.sub.now cmd c.args.path.steps found.items)) (sym is) (c.walk_assignment.ensures c.args.sub.now)
+
+pub walk_stmt-returns-in-Check : goal.walk_stmt-returns-in-Check
+walk_stmt-returns-in-Check t c =
+    let at = c.in-Check in
+    let is : command c.args.stmt.now ≡ Check at.place at.condition = ap command at.is ∙ check_is at.place at.condition in
+    subst (λ (cmd : Command). IfOk c.walk_check.result (λ found. Arrive c.args.program.now c.args.sub.now cmd c.args.path.steps found.items)) (sym is) c.walk_check.ensures
 
 pub walk_stmt-returns-in_ok-append-in-None : goal.walk_stmt-returns-in_ok-append-in-None
 walk_stmt-returns-in_ok-append-in-None t c =
@@ -76,8 +82,8 @@ walk_stmt-returns-in_ok-append-in-None t c =
     let other = c.in_ok-one-in-None in
     let is : command c.args.stmt.now ≡ with_arms arms Skip
     = ap command c.in-If.is ∙ ap (λ otherwise. command (stmt.If c.in-If.arms otherwise c.in-If.field-2)) c.in-None.is ∙ if_alone_is c.in-If.arms c.in-If.field-2 ∙ ap (λ (xs : List CoreArm). with_arms xs Skip) (sym c.as_slice.ensures) in
-    subst (λ (cmd : Command). Arrive c.args.program.now cmd c.args.path.steps c.append.new.self.items) (sym is)
-    (if_arrives c.args.program.now arms Skip _ _ walked.found.items other.field-0.items _ walked.ensures (other.ensures c.args.program.now) c.in_ok-append-in-None.ensures.items)
+    subst (λ (cmd : Command). Arrive c.args.program.now c.args.sub.now cmd c.args.path.steps c.append.new.self.items) (sym is)
+    (if_arrives c.args.program.now c.args.sub.now arms Skip _ _ walked.found.items other.field-0.items _ walked.ensures (other.ensures c.args.program.now c.args.sub.now) c.in_ok-append-in-None.ensures.items)
 
 pub walk_stmt-returns-in_ok-append-in-Some : goal.walk_stmt-returns-in_ok-append-in-Some
 walk_stmt-returns-in_ok-append-in-Some t c =
@@ -90,11 +96,11 @@ walk_stmt-returns-in_ok-append-in-Some t c =
     ∙ ap (λ otherwise. command (stmt.If c.in-If.arms otherwise c.in-If.field-2)) c.in-Some.is
     ∙ if_else_is c.in-If.arms c.in-Some.stmts c.in-If.field-2
     ∙ ap₂ (λ (xs : List CoreArm) (ys : List CoreStmt). with_arms xs (commands ys)) (sym c.as_slice.ensures) (sym c.as_slice-in-Some.ensures) in
-    subst (λ (cmd : Command). Arrive c.args.program.now cmd c.args.path.steps c.append-in-Some.new.self.items) (sym is)
-    (if_arrives c.args.program.now arms (commands stmts) _ _ walked.found.items other.field-0.items _ walked.ensures other.ensures c.in_ok-append-in-Some.ensures.items)
+    subst (λ (cmd : Command). Arrive c.args.program.now c.args.sub.now cmd c.args.path.steps c.append-in-Some.new.self.items) (sym is)
+    (if_arrives c.args.program.now c.args.sub.now arms (commands stmts) _ _ walked.found.items other.field-0.items _ walked.ensures other.ensures c.in_ok-append-in-Some.ensures.items)
 
 pub walk_alternatives-loop-chosen-init : goal.walk_alternatives-loop-chosen-init
-walk_alternatives-loop-chosen-init t c = λ sub rest leave made. rw (c.new-found.ensures.items, each_none, c.new-earlier.ensures)
+walk_alternatives-loop-chosen-init t c = λ rest leave made. rw (c.new-found.ensures.items, each_none, c.new-earlier.ensures)
 
 pub walk_alternatives-loop-chosen-preserved : goal.walk_alternatives-loop-chosen-preserved
 walk_alternatives-loop-chosen-preserved t c =
@@ -102,7 +108,7 @@ walk_alternatives-loop-chosen-preserved t c =
     let steps = c.args.path.now.steps in
     let chosen = c.chosen-item.result in
     let taken = c.in_ok-taken.taken.steps in
-    alternatives_more c.args.program.now value c.args.alternatives.now c.loop-chosen.chosen-index chosen c.loop-chosen.earlier _ steps taken c.loop-chosen.found.items c.in_ok-walk_alternative.field-0.items _ c.loop-chosen-test.true c.chosen-item.is c.loop-chosen.invariant
+    alternatives_more c.args.program.now c.args.sub.now value c.args.alternatives.now c.loop-chosen.chosen-index chosen c.loop-chosen.earlier _ steps taken c.loop-chosen.found.items c.in_ok-walk_alternative.field-0.items _ c.loop-chosen-test.true c.chosen-item.is c.loop-chosen.invariant
     (subst (λ terms. Walked steps taken (assume_all (alternative_facts value terms (out-CoreAlternative chosen).choices))) c.as_slice.ensures c.in_ok-taken.ensures)
     c.in_ok-walk_alternative.ensures
     c.in_ok-append.ensures.items
@@ -110,15 +116,15 @@ walk_alternatives-loop-chosen-preserved t c =
 
 pub walk_case-returns-then-is_empty : goal.walk_case-returns-then-is_empty
 walk_case-returns-then-is_empty t c = λ place.
-    subst (λ (cmd : Command). IfOk c.one.result (λ found. Arrive c.args.program.now cmd c.args.path.steps found.items)) (sym (none_is c.args.alternatives.now place c.args.selector.now (sym c.is_empty.ensures ∙ c.if-is_empty.true))) (c.one.ensures c.args.program.now)
+    subst (λ (cmd : Command). IfOk c.one.result (λ found. Arrive c.args.program.now c.args.sub.now cmd c.args.path.steps found.items)) (sym (none_is c.args.alternatives.now place c.args.selector.now (sym c.is_empty.ensures ∙ c.if-is_empty.true))) (c.one.ensures c.args.program.now c.args.sub.now)
 
 pub walk_case-returns : goal.walk_case-returns
 walk_case-returns t c = λ place.
-    case_arrives c.args.program.now place c.args.selector.now c.in_ok-value.value c.args.alternatives.now c.args.path.steps _ c.in_ok-found.found.items (sym c.is_empty.ensures ∙ c.if-is_empty.false) c.in_ok-value.ensures c.in_ok-check_expr.ensures c.in_ok-found.ensures
+    case_arrives c.args.program.now c.args.sub.now place c.args.selector.now c.in_ok-value.value c.args.alternatives.now c.args.path.steps _ c.in_ok-found.found.items (sym c.is_empty.ensures ∙ c.if-is_empty.false) c.in_ok-value.ensures c.in_ok-check_expr.ensures c.in_ok-found.ensures
 
 pub walk_stmt-returns-in-Case : goal.walk_stmt-returns-in-Case
 walk_stmt-returns-in-Case t c =
     let at = c.in-Case in
     let is : command c.args.stmt.now ≡ select at.field-0 at.selector (map alternative c.as_slice-in-Case.result.now)
     = ap command at.is ∙ case_is at.field-0 at.selector at.alternatives at.field-3 ∙ ap (λ (xs : List CoreAlternative). select at.field-0 at.selector (map alternative xs)) (sym c.as_slice-in-Case.ensures) in
-    subst (λ (cmd : Command). IfOk c.walk_case.result (λ found. Arrive c.args.program.now cmd c.args.path.steps found.items)) (sym is) (c.walk_case.ensures at.field-0)
+    subst (λ (cmd : Command). IfOk c.walk_case.result (λ found. Arrive c.args.program.now c.args.sub.now cmd c.args.path.steps found.items)) (sym is) (c.walk_case.ensures at.field-0)

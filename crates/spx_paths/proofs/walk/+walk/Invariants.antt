@@ -1,5 +1,4 @@
 use Rattle.std.proofs.Common.{◌≡◌, ℕ, drop}
-use Rattle.spx_core.specs.declared.subprogram.Sub.{Sub}
 use Rattle.spx_core.specs.Commands.{command, commands}
 use Rattle.spx_term.specs.Steps.{Tree}
 use Rattle.spx_paths.specs.Prefixes.{ArriveBefore, ArriveEach, ArriveWhen, after, after_each, with_arms}
@@ -8,14 +7,14 @@ use Rattle.spx_paths.proofs.walk.+walk.Given as goal
 
 abbrev pub invariant-walk_stmts-loop-stmt : goal.invariant-walk_stmts-loop-stmt
 invariant-walk_stmts-loop-stmt l =
-    (sub : Sub) (rest leave : ℕ → Tree) (made : ℕ)
-    → after l.fn.path.steps (walk l.program sub (commands l.stmts) rest leave made) ≡ after_each l.found.items (walk l.program sub (commands (drop l.stmt-index l.stmts)) rest leave made)
+    (rest leave : ℕ → Tree) (made : ℕ)
+    → after l.fn.path.steps (walk l.program l.sub (commands l.stmts) rest leave made) ≡ after_each l.found.items (walk l.program l.sub (commands (drop l.stmt-index l.stmts)) rest leave made)
 
 abbrev pub invariant-walk_from_each-loop-path : goal.invariant-walk_from_each-loop-path
-invariant-walk_from_each-loop-path l = ArriveEach l.program (command l.stmt) l.yielded l.found.items
+invariant-walk_from_each-loop-path l = ArriveEach l.program l.sub (command l.stmt) l.yielded l.found.items
 
 abbrev pub invariant-walk_arms-loop-arm : goal.invariant-walk_arms-loop-arm
-invariant-walk_arms-loop-arm l = ArriveBefore l.program (with_arms l.arms) (with_arms (drop l.arm-index l.arms)) l.initial.path.steps l.path.steps l.found.items
+invariant-walk_arms-loop-arm l = ArriveBefore l.program l.sub (with_arms l.arms) (with_arms (drop l.arm-index l.arms)) l.initial.path.steps l.path.steps l.found.items
 
 abbrev pub invariant-walk_alternatives-loop-chosen : goal.invariant-walk_alternatives-loop-chosen
-invariant-walk_alternatives-loop-chosen l = ArriveWhen l.program l.value l.alternatives l.earlier (drop l.chosen-index l.alternatives) l.path.steps l.found.items
+invariant-walk_alternatives-loop-chosen l = ArriveWhen l.program l.sub l.value l.alternatives l.earlier (drop l.chosen-index l.alternatives) l.path.steps l.found.items

@@ -1,0 +1,131 @@
+-- The text of a procedure with a postcondition and a `check`, cut into its parts, its units in the grammar, and the program that they are resolved to.
+use Rattle.std.proofs.Common.{◌≡◌, pos, List, [], ◌∷◌, ◌++◌, Some, true, refl, sym, ap, ap₂, subst, ◌∙◌, arith}
+use Rattle.std.specs.Prelude.{codes}
+use denote.Hole.Carrier.{hidden, roll}
+use Rattle.spx_tree.specs.declared.expression.InfixOp.TheVariants as op
+use Rattle.spx_tree.specs.declared.expression.Expr.{Expr-F, roll-Expr, fold-roll-Expr}
+use Rattle.spx_tree.specs.declared.expression.Expr.TheBlock.{hidden-the_row-Expr-0}
+use Rattle.spx_tree.specs.declared.expression.Expr.TheVariants as written_expr
+use Rattle.spx_tree.specs.declared.statement.Stmt.{Stmt-F, out-Stmt}
+use Rattle.spx_tree.specs.declared.statement.Stmt.TheVariants.{outs-Assignment, outs-Check}
+use Rattle.spx_tree.specs.Lexemes.{unreserved, kind_of_word, code_delimiters, annotation_delimiters, delimiters}
+use Rattle.spx_tree.specs.Places.{place_after_bytes}
+use Rattle.spx_tree.specs.Spells.{Spells}
+use Rattle.spx_tree.specs.Grammar.{IsCondition, IsExpr, IsFormed, Within, IsStmt, IsFile}
+use Rattle.spx_tree.specs.Form.{forms_of}
+use Rattle.spx_tree.specs.Written.{written, written_stmt}
+use Rattle.spx_tree.proofs.WrittenLevels.{written_level, spelled_stmt}
+use Rattle.spx_core.specs.declared.dependency.CoreDerivesItem.{CoreDerivesItem}
+use Rattle.spx_core.specs.declared.expression.CoreExpr.{CoreExpr}
+use Rattle.spx_core.specs.declared.expression.CoreExpr.TheVariants as expr
+use Rattle.spx_core.specs.declared.statement.CoreStmt.{CoreStmt}
+use Rattle.spx_core.specs.declared.statement.CoreStmt.TheVariants as stmt
+use Rattle.spx_core.specs.declared.program.Program.{Program}
+use Rattle.spx_core.specs.Regions.{standard}
+use Rattle.spx_core.specs.Resolved.{expr_step, resolved, resolved_in}
+use Rattle.spx_examples.specs.Assertions.{is_next, is_positive, post_on, program_of}
+use Rattle.spx_examples.specs.AssertionText.{asserted_bytes, asserted_tokens, next_written, positive_written, check_written, asserted_units, asserted_sub, asserted_program}
+use Rattle.spx_examples.specs.Increment.{place, word, x_written, successor_written, step_written, relation, x_at}
+use Rattle.spx_examples.proofs.IncrementNames.{regions, x_denotes}
+use Rattle.spx_examples.proofs.Resolving.{resolved_check, resolved_step, resolved_x}
+use Rattle.spx_examples.proofs.Spelling.{Piece, Word, Digits, Delimiter, Space, Head, LineEnd, spelled_by}
+
+-- ---- its tokens
+
+-- `procedure Inc (X : in out Integer)`
+abbrev heading : List Piece
+heading = Word (codes "procedure") ∷ Space ∷ Word (codes "Inc") ∷ Space ∷ Delimiter (codes "(") ∷ Word (codes "X") ∷ Space ∷ Delimiter (codes ":") ∷ Space ∷ Word (codes "in") ∷ Space ∷ Word (codes "out") ∷ Space ∷ Word (codes "Integer") ∷ Delimiter (codes ")") ∷ LineEnd ∷ []
+
+-- `--# derives X from X;`
+abbrev derives : List Piece
+derives = Head ∷ Space ∷ Word (codes "derives") ∷ Space ∷ Word (codes "X") ∷ Space ∷ Word (codes "from") ∷ Space ∷ Word (codes "X") ∷ Delimiter (codes ";") ∷ LineEnd ∷ []
+
+-- `--# post X = X~ + 1;`
+abbrev post : List Piece
+post = Head ∷ Space ∷ Word (codes "post") ∷ Space ∷ Word (codes "X") ∷ Space ∷ Delimiter (codes "=") ∷ Space ∷ Word (codes "X") ∷ Delimiter (codes "~") ∷ Space ∷ Delimiter (codes "+") ∷ Space ∷ Digits (codes "1") ∷ Delimiter (codes ";") ∷ LineEnd ∷ []
+
+-- the body
+abbrev body : List Piece
+body = Word (codes "is") ∷ LineEnd ∷ Word (codes "begin") ∷ LineEnd ∷ Space ∷ Space ∷ Space ∷ Word (codes "X") ∷ Space ∷ Delimiter (codes ":=") ∷ Space ∷ Word (codes "X") ∷ Space ∷ Delimiter (codes "+") ∷ Space ∷ Digits (codes "1") ∷ Delimiter (codes ";") ∷ LineEnd ∷ []
+
+-- `--# check X > 0;` and the end
+abbrev last : List Piece
+last = Space ∷ Space ∷ Space ∷ Head ∷ Space ∷ Word (codes "check") ∷ Space ∷ Word (codes "X") ∷ Space ∷ Delimiter (codes ">") ∷ Space ∷ Digits (codes "0") ∷ Delimiter (codes ";") ∷ LineEnd ∷ Word (codes "end") ∷ Space ∷ Word (codes "Inc") ∷ Delimiter (codes ";") ∷ LineEnd ∷ []
+
+pub spelled : Spells 0 asserted_bytes asserted_tokens
+unfolding unreserved kind_of_word delimiters code_delimiters annotation_delimiters place_after_bytes
+spelled = spelled_by (heading ++ derives ++ post ++ body ++ last) refl refl refl
+
+-- ---- its tree
+
+next_condition : IsCondition 2 next_written
+unfolding hidden-the_row-Expr-0 hidden
+next_condition = record { low = omega arith; layered = (tt, (tt, tt, omega arith, omega arith), omega arith, omega arith); of_layer = omega arith }
+
+positive_condition : IsCondition 2 positive_written
+unfolding hidden-the_row-Expr-0 hidden
+positive_condition = record { low = omega arith; layered = (tt, tt, omega arith, omega arith); of_layer = omega arith }
+
+sum : IsExpr 2 (successor_written 6 9)
+unfolding hidden-the_row-Expr-0 hidden
+sum = record { low = omega arith; layered = (tt, tt, omega arith, omega arith); of_layer = omega arith }
+
+step_is : out-Stmt step_written ≡ Stmt-F.Assignment (x_written 6 4) (successor_written 6 9)
+step_is = outs-Assignment (x_written 6 4) (successor_written 6 9)
+
+check_is : out-Stmt check_written ≡ Stmt-F.Check (place 7 8) positive_written
+check_is = outs-Check (place 7 8) positive_written
+
+step_stmt : IsStmt 2 step_written
+step_stmt = subst (IsFormed 2 (Within 2)) (sym step_is) sum
+
+check_stmt : IsStmt 2 check_written
+check_stmt = subst (IsFormed 2 (Within 2)) (sym check_is) positive_condition
+
+pub grammatical : IsFile 2 asserted_units
+grammatical = (record { formal_part = ((tt, tt), tt); derives = ((tt, tt), tt); pre = tt; post = next_condition; declarations = tt; statements = (step_stmt, (check_stmt, tt)) }, tt)
+
+step_written_as : written_stmt step_written ≡ written_level (Stmt-F.Assignment (x_written 6 4) (successor_written 6 9))
+step_written_as = spelled_stmt step_written ∙ ap written_level step_is
+
+check_written_as : written_stmt check_written ≡ written_level (Stmt-F.Check (place 7 8) positive_written)
+check_written_as = spelled_stmt check_written ∙ ap written_level check_is
+
+pub as_written : written asserted_units ≡ forms_of asserted_bytes asserted_tokens
+unfolding hidden-the_row-Expr-0 hidden
+as_written = rw step_written_as (rw check_written_as refl)
+
+-- ---- its program
+
+-- what the relation has
+abbrev items : List CoreDerivesItem
+items = relation ∷ []
+
+resolved_entry : resolved_in items regions (written_expr.Entry (word (codes "X") 3 14)) ≡ expr.Entry (x_at 3 14) true
+unfolding roll-Expr roll standard
+resolved_entry = fold-roll-Expr CoreExpr (expr_step items regions) (Expr-F.Entry (word (codes "X") 3 14))
+
+resolved_next : resolved_in items regions next_written ≡ is_next 3 10
+unfolding roll-Expr roll
+resolved_next =
+    let after = written_expr.Infix op.Add (place 3 17) (written_expr.Entry (word (codes "X") 3 14)) (written_expr.Number (pos 1) (place 3 19)) in
+    fold-roll-Expr CoreExpr (expr_step items regions) (Expr-F.Infix op.Equal (place 3 12) (written_expr.Name (x_written 3 10)) after)
+    ∙ ap₂ (expr.Infix op.Equal (place 3 12)) (resolved_x items regions x_denotes 3 10)
+    (fold-roll-Expr CoreExpr (expr_step items regions) (Expr-F.Infix op.Add (place 3 17) (written_expr.Entry (word (codes "X") 3 14)) (written_expr.Number (pos 1) (place 3 19)))
+    ∙ ap₂ (expr.Infix op.Add (place 3 17)) resolved_entry (fold-roll-Expr CoreExpr (expr_step items regions) (Expr-F.Number (pos 1) (place 3 19))))
+
+resolved_positive : resolved_in items regions positive_written ≡ is_positive 7 14
+unfolding roll-Expr roll
+resolved_positive =
+    fold-roll-Expr CoreExpr (expr_step items regions) (Expr-F.Infix op.Greater (place 7 16) (written_expr.Name (x_written 7 14)) (written_expr.Number (pos 0) (place 7 18)))
+    ∙ ap₂ (expr.Infix op.Greater (place 7 16)) (resolved_x items regions x_denotes 7 14) (fold-roll-Expr CoreExpr (expr_step items regions) (Expr-F.Number (pos 0) (place 7 18)))
+
+-- the program with this postcondition and these statements
+abbrev with_parts : CoreExpr → List CoreStmt → Program
+with_parts condition statements = program_of (record asserted_sub { post = Some (post_on condition); statements = statements })
+
+pub made : resolved asserted_units ≡ asserted_program
+unfolding standard
+made =
+    ap₂ with_parts resolved_next
+    (ap₂ (λ (a b : CoreStmt). a ∷ b ∷ []) (resolved_step items regions x_denotes 6 4 9) (resolved_check items regions (place 7 8) positive_written ∙ ap (stmt.Check (place 7 8)) resolved_positive))
