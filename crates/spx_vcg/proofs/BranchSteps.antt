@@ -4,18 +4,18 @@ use Rattle.std.proofs.lemmas.List.{at_drop_all}
 use Rattle.std.proofs.Math.ListN.{get_or-append}
 use Rattle.std.proofs.Math.Seq.{take-append_seam}
 use Rattle.spx_text.specs.declared.place.Place.{Place}
-use Rattle.spx_core.specs.declared.entity.VarId.{VarId}
 use Rattle.spx_core.specs.declared.expression.CoreExpr.{CoreExpr}
 use Rattle.spx_core.specs.declared.name.Reference.{Reference}
 use Rattle.spx_core.specs.declared.program.Program.{Program}
 use Rattle.spx_core.specs.declared.statement.CoreArm.{CoreArm}
 use Rattle.spx_core.specs.declared.statement.CoreStmt.{CoreStmt}
-use Rattle.spx_core.specs.Commands.{Command, Skip, Set, Then, Choose, arm_before, arms_before, command, commands}
+use Rattle.spx_core.specs.declared.subprogram.Sub.{Sub}
+use Rattle.spx_core.specs.Commands.{Command, Skip, Set, Then, Choose, Check, arm_before, arms_before, command, commands}
 use Rattle.spx_term.specs.declared.term.Term.{Term}
 use Rattle.spx_term.specs.declared.term.Term.TheVariants.{Prefix}
 use Rattle.spx_term.specs.declared.term.TermPrefix.TheVariants.{Not}
 use Rattle.spx_term.specs.Steps.{Tree, Assume, Split, assume_parts}
-use Rattle.spx_paths.specs.Terms.{entry_term, term_of}
+use Rattle.spx_paths.specs.Terms.{now_term, term_of}
 use Rattle.spx_paths.specs.Walks.{ending, walk}
 use Rattle.spx_arena.specs.declared.facts.FactsId.{FactsId}
 use Rattle.spx_arena.specs.declared.terms.TermId.{TermId}
@@ -28,18 +28,18 @@ use Rattle.spx_vcg.specs.declared.walk.Walk.{Walk}
 use Rattle.spx_vcg.specs.ConditionWalk.{State, applied, forward}
 use Rattle.spx_vcg.specs.States.{AreValues, state_in}
 use Rattle.spx_vcg.specs.WalkSteps.{state, Longer, OnlyAdds, OnlyTerms, Keeps, Walks, Means, Whole, claims_from, Evaluates}
-use Rattle.spx_vcg.specs.PathWalk.{Passes, Comes, PassesArm, Takes, negated, Marks, IsBack}
+use Rattle.spx_vcg.specs.PathWalk.{Passes, Comes, Ends, PassesArm, Takes, negated, Marks, IsBack}
 use Rattle.spx_vcg.proofs.ConditionTerms.{applied-Prefix}
 use Rattle.spx_vcg.proofs.SharedIds.{state_kept}
-use Rattle.spx_vcg.proofs.SharedSteps.{adds_not, adds_twice, longer_not, only_means, only_walks, walks_twice, wider_values}
+use Rattle.spx_vcg.proofs.SharedSteps.{adds_twice, longer_not, only_means, only_walks, walks_twice, wider_values}
 use Rattle.spx_vcg.proofs.StartSteps.{claims_end, no_lefts}
 
 -- ---- relations between walks
-pub comes_twice : {p : Program} {a b c : Walk} {e f g : Command} → Comes p a b e f → Comes p b c f g → Comes p a c e g
-comes_twice {p} l r = record { whole = r.whole; adds = adds_twice l.adds r.adds; same = λ sub made. l.same sub made ∙ r.same sub made }
+pub comes_twice : {p : Program} {sub : Sub} {a b c : Walk} {e f g : Command} → Comes p sub a b e f → Comes p sub b c f g → Comes p sub a c e g
+comes_twice l r = record { whole = r.whole; adds = adds_twice l.adds r.adds; same = λ made. l.same made ∙ r.same made }
 
-pub comes_not : {p : Program} {w : Walk} → Whole w → Comes p w w Skip Skip
-comes_not {p} {w} whole = record { whole = whole; adds = adds_not w; same = λ sub made. refl }
+pub comes_ends : {p : Program} {sub : Sub} {a b c : Walk} {e f : Command} → Comes p sub a b e f → Ends p sub b c f → Ends p sub a c e
+comes_ends l r = record { whole = r.whole; adds = adds_twice l.adds r.adds; same = λ made. l.same made ∙ r.same made }
 
 -- ---- a negated condition
 pub after_negation : {old mid new : Walk} {condition negation : TermId} (t : Term) → Whole old → OnlyTerms old mid → Adds old.terms mid.terms negation (Prefix Not (tree_at old.terms condition)) → Means old condition t
@@ -103,91 +103,98 @@ module _ {old last new : Walk} (m : Mark) (whole : Whole old) (later : Whole las
     same = λ rest. split_from old tree rest ∙ (λ i. (made ∙ back_claims) i ++ forward (sym back_state i) (sym back_facts i) rest) ∙ sym (from_here new rest);
   }
 
-pub after_taken : {p : Program} {old mid last new : Walk} (condition : CoreExpr) (c : Command) (m : Mark) → Whole old → Marks old m → Keeps old mid → ((entries : VarId → Term) → Walks old mid (assume_parts (term_of p entries condition)))
-    → Comes p mid last c Skip → IsBack last new m → Takes p old new condition c
-after_taken {p} {old} {mid} {last} {new} condition c m whole marks keeps walks comes back =
-    let adds = adds_twice keeps.adds comes.adds in
+pub after_taken : {p : Program} {sub : Sub} {old mid last new : Walk} (condition : CoreExpr) (c : Command) (m : Mark) → Whole old → Marks old m → Keeps old mid → Walks old mid (assume_parts (term_of p (now_term p) condition))
+    → Ends p sub mid last c → IsBack last new m → Takes p sub old new condition c
+after_taken {p} {sub} {old} {mid} {last} {new} condition c m whole marks keeps walks ends back =
+    let adds = adds_twice keeps.adds ends.adds in
     record {
-      whole = back_whole m whole comes.whole adds marks back;
-      adds = back_adds m whole comes.whole adds marks back;
-      kept = back_state m whole comes.whole adds marks back;
-      goes = λ sub made.
-          let tree = walk p sub c ending ending made in
-          back_walks m whole comes.whole adds marks back (assume_parts (term_of p (entry_term p sub) condition) tree)
-          ((walks (entry_term p sub)).same tree ∙ comes.same sub made ∙ claims_end last);
+      whole = back_whole m whole ends.whole adds marks back;
+      adds = back_adds m whole ends.whole adds marks back;
+      kept = back_state m whole ends.whole adds marks back;
+      goes = λ made.
+          let tree = walk p sub c (ending p sub) (ending p sub) made in
+          back_walks m whole ends.whole adds marks back (assume_parts (term_of p (now_term p) condition) tree)
+          (walks.same tree ∙ ends.same made ∙ claims_end last);
     }
 
 -- ---- arms
-module _ {p : Program} {w x y z : Walk} {id : TermId} (e : CoreExpr) (c following : Command) (checked : Keeps w x) (within : id.0 < length x.terms) (v : Evaluates p [] w x e id) (k : Takes p x y e (Then c following))
+module _ {p : Program} {sub : Sub} {w x y z : Walk} {id : TermId} (e : CoreExpr) (c following : Command) (checked : Keeps w x) (within : id.0 < length x.terms) (v : Evaluates p [] w x e id) (k : Takes p sub x y e (Then c following))
     (last : Keeps y z) (n : (t : Term) → Means y id t → Walks y z (negated t)) where
-  condition_stays : (entries : VarId → Term) → Means y id (term_of p entries e)
-  condition_stays entries =
-      let m = v.makes entries [] (no_lefts w) in
-      record { tree = k.adds.grown.kept id within ∙ m.means.tree ∙ ap (λ (u : State). applied u (term_of p entries e)) (sym k.kept) }
+  abbrev t : Term
+  t = term_of p (now_term p) e
 
-  pub after_arm : (arm : Command → Command) (place : Place) → ((otherwise : Command) → arm otherwise ≡ Choose place e c otherwise) → PassesArm p w z arm following
+  condition_stays : Means y id t
+  condition_stays =
+      let m = v.makes [] (no_lefts w) in
+      record { tree = k.adds.grown.kept id within ∙ m.means.tree ∙ ap (λ (u : State). applied u t) (sym k.kept) }
+
+  pub after_arm : (arm : Command → Command) (place : Place) → ((otherwise : Command) → arm otherwise ≡ Choose place e c otherwise) → PassesArm p sub w z arm following
   after_arm arm place is otherwise =
       record {
         whole = last.whole;
         adds = adds_twice checked.adds (adds_twice k.adds last.adds);
-        same = λ sub made.
-            let t = term_of p (entry_term p sub) e in
-            let first = walk p sub (Then c following) ending ending made in
-            let second = walk p sub (Then otherwise following) ending ending made in
-            ap (λ d. claims_from w (walk p sub (Then d following) ending ending made)) (is otherwise)
-            ∙ (v.makes (entry_term p sub) [] (no_lefts w)).walks.same (Split (assume_parts t first) (negated t second))
-            ∙ (k.goes sub made).same (negated t second)
-            ∙ (n t (condition_stays (entry_term p sub))).same second;
+        same = λ made.
+            let first = walk p sub (Then c following) (ending p sub) (ending p sub) made in
+            let second = walk p sub (Then otherwise following) (ending p sub) (ending p sub) made in
+            ap (λ d. claims_from w (walk p sub (Then d following) (ending p sub) (ending p sub) made)) (is otherwise)
+            ∙ (v.makes [] (no_lefts w)).walks.same (Split (assume_parts t first) (negated t second))
+            ∙ (k.goes made).same (negated t second)
+            ∙ (n t condition_stays).same second;
       }
 
 -- the walk is at these commands
-along : {p : Program} {a b : Walk} {e f g : Command} → f ≡ g → Comes p a b e f → Comes p a b e g
-along {p} {a} {b} {e} {f} {g} is c = subst (Comes p a b e) is c
+along : {p : Program} {sub : Sub} {a b : Walk} {e f g : Command} → f ≡ g → Comes p sub a b e f → Comes p sub a b e g
+along {p} {sub} {a} {b} {e} {f} {g} is c = subst (Comes p sub a b e) is c
 
-pub next_arm : {p : Program} {a b c : Walk} (o following : Command) (arms : List CoreArm) (i : ℕ) (arm : CoreArm) → i < length arms → arm ≡ get_or arms i arm
-    → Comes p a b (Then (arms_before o (map arm_before arms)) following) (Then (arms_before o (map arm_before (drop i arms))) following)
-    → PassesArm p b c (arm_before arm) following
-    → Comes p a c (Then (arms_before o (map arm_before arms)) following) (Then (arms_before o (map arm_before (drop (i + 1) arms))) following)
+pub next_arm : {p : Program} {sub : Sub} {a b c : Walk} (o following : Command) (arms : List CoreArm) (i : ℕ) (arm : CoreArm) → i < length arms → arm ≡ get_or arms i arm
+    → Comes p sub a b (Then (arms_before o (map arm_before arms)) following) (Then (arms_before o (map arm_before (drop i arms))) following)
+    → PassesArm p sub b c (arm_before arm) following
+    → Comes p sub a c (Then (arms_before o (map arm_before arms)) following) (Then (arms_before o (map arm_before (drop (i + 1) arms))) following)
 next_arm o following arms i arm within is before passes =
     let here : arms_before o (map arm_before (drop i arms)) ≡ arm_before arm (arms_before o (map arm_before (drop (i + 1) arms))) =
     ap (λ xs. arms_before o (map arm_before xs)) (drop-cons arms i arm within ∙ (λ k. sym is k ∷ drop (sym (add-one i) k) arms)) in
     comes_twice (along (ap (λ d. Then d following) here) before) (passes (arms_before o (map arm_before (drop (i + 1) arms))))
 
-pub last_arm : {p : Program} {a b c : Walk} (o following : Command) (arms : List CoreArm) (i : ℕ) → length arms ≤ i
-    → Comes p a b (Then (arms_before o (map arm_before arms)) following) (Then (arms_before o (map arm_before (drop i arms))) following) → Comes p b c (Then o following) Skip
-    → Comes p a c (Then (arms_before o (map arm_before arms)) following) Skip
-last_arm o following arms i end before last = comes_twice (along (at_drop_all (λ (xs : List CoreArm). Then (arms_before o (map arm_before xs)) following) arms i end) before) last
+pub last_arm : {p : Program} {sub : Sub} {a b c : Walk} (o following : Command) (arms : List CoreArm) (i : ℕ) → length arms ≤ i
+    → Comes p sub a b (Then (arms_before o (map arm_before arms)) following) (Then (arms_before o (map arm_before (drop i arms))) following) → Ends p sub b c (Then o following)
+    → Ends p sub a c (Then (arms_before o (map arm_before arms)) following)
+last_arm o following arms i end before last = comes_ends (along (at_drop_all (λ (xs : List CoreArm). Then (arms_before o (map arm_before xs)) following) arms i end) before) last
 
 -- ---- statements
 pub here_is : (stmts : List CoreStmt) (i : ℕ) (stmt : CoreStmt) → i < length stmts → stmt ≡ get_or stmts i stmt → commands (drop i stmts) ≡ Then (command stmt) (commands (drop (i + 1) stmts))
 here_is stmts i stmt within is = ap commands (drop-cons stmts i stmt within ∙ (λ k. sym is k ∷ drop (sym (add-one i) k) stmts))
 
-module _ {p : Program} {a b : Walk} (start following : Command) (stmts : List CoreStmt) (i : ℕ) (stmt : CoreStmt) (within : i < length stmts) (is : stmt ≡ get_or stmts i stmt) (before : Comes p a b start (Then (commands (drop i stmts)) following)) where
+module _ {p : Program} {sub : Sub} {a b : Walk} (start following : Command) (stmts : List CoreStmt) (i : ℕ) (stmt : CoreStmt) (within : i < length stmts) (is : stmt ≡ get_or stmts i stmt) (before : Comes p sub a b start (Then (commands (drop i stmts)) following)) where
   abbrev next : Command
   next = commands (drop (i + 1) stmts)
 
-  at_statement : (c : Command) → command stmt ≡ c → Comes p a b start (Then (Then c next) following)
+  at_statement : (c : Command) → command stmt ≡ c → Comes p sub a b start (Then (Then c next) following)
   at_statement c e = along (ap (λ d. Then d following) (here_is stmts i stmt within is ∙ ap (λ d. Then d next) e)) before
 
-  pub after_null : command stmt ≡ Skip → Comes p a b start (Then next following)
+  pub after_null : command stmt ≡ Skip → Comes p sub a b start (Then next following)
   after_null e = let here = at_statement Skip e in record { whole = here.whole; adds = here.adds; same = here.same }
 
-  pub after_set : {c : Walk} (target : Reference) (value : CoreExpr) → command stmt ≡ Set target value → Passes p b c (Set target value) → Comes p a c start (Then next following)
+  pub after_set : {c : Walk} (target : Reference) (value : CoreExpr) → command stmt ≡ Set target value → Passes p sub b c (Set target value) → Comes p sub a c start (Then next following)
   after_set {c} target value e passes =
       let here = at_statement (Set target value) e in
-      record { whole = passes.whole; adds = adds_twice here.adds passes.adds; same = λ sub made. here.same sub made ∙ (passes.goes sub).same (walk p sub (Then next following) ending ending made) }
+      record { whole = passes.whole; adds = adds_twice here.adds passes.adds; same = λ made. here.same made ∙ passes.goes.same (walk p sub (Then next following) (ending p sub) (ending p sub) made) }
 
-  pub after_branch : {c : Walk} (d then : Command) → command stmt ≡ d → then ≡ Then next following → Comes p b c (Then d then) Skip → Comes p a c start Skip
-  after_branch {c} d then e f comes =
+  pub after_check : {c : Walk} (place : Place) (condition : CoreExpr) → command stmt ≡ Check place condition → Passes p sub b c (Check place condition) → Comes p sub a c start (Then next following)
+  after_check {c} place condition e passes =
+      let here = at_statement (Check place condition) e in
+      record { whole = passes.whole; adds = adds_twice here.adds passes.adds; same = λ made. here.same made ∙ passes.goes.same (walk p sub (Then next following) (ending p sub) (ending p sub) made) }
+
+  pub after_branch : {c : Walk} (d then : Command) → command stmt ≡ d → then ≡ Then next following → Ends p sub b c (Then d then) → Ends p sub a c start
+  after_branch {c} d then e f ends =
       let here = at_statement d e in
       record {
-        whole = comes.whole;
-        adds = adds_twice here.adds comes.adds;
-        same = λ sub made. here.same sub made ∙ ap (λ t. claims_from b (walk p sub (Then d t) ending ending made)) (sym f) ∙ comes.same sub made;
+        whole = ends.whole;
+        adds = adds_twice here.adds ends.adds;
+        same = λ made. here.same made ∙ ap (λ t. claims_from b (walk p sub (Then d t) (ending p sub) (ending p sub) made)) (sym f) ∙ ends.same made;
       }
 
 -- after the last statement
-pub at_end : {p : Program} {a b : Walk} (start following : Command) (stmts : List CoreStmt) (i : ℕ) → length stmts ≤ i → Comes p a b start (Then (commands (drop i stmts)) following) → Comes p a b start following
-at_end {p} {a} {b} start following stmts i end before =
+pub at_end : {p : Program} {sub : Sub} {a b : Walk} (start following : Command) (stmts : List CoreStmt) (i : ℕ) → length stmts ≤ i → Comes p sub a b start (Then (commands (drop i stmts)) following) → Comes p sub a b start following
+at_end {p} {sub} {a} {b} start following stmts i end before =
     let here = along (at_drop_all (λ (ss : List CoreStmt). Then (commands ss) following) stmts i end) before in
     record { whole = here.whole; adds = here.adds; same = here.same }

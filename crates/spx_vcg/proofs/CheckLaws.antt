@@ -32,6 +32,7 @@ pub static_unchecked : (p : Program) (entered : VarId → Term) (lefts : List Te
 static_unchecked p entered lefts = induct (λ e. is_some (literal e) ≡ true → (rest : Tree) → checks p entered lefts e rest ≡ rest) (record {
   number = λ n place is rest. simp check_forms;
   name = λ name is rest. simp check_forms;
+  entry = λ name allowed is rest. simp check_forms;
   attribute = λ prefix designator is rest. simp check_forms;
   applied = λ function place a more is rest. simp check_forms (unless_some (literal (Applied function place a)) rest _ is);
   parenthesized = λ place a more is rest. simp check_forms (more (ap is_some (sym (literal-Parenthesized place a)) ∙ is) rest);

@@ -8,7 +8,6 @@ use Rattle.spx_tree.specs.declared.expression.MemberOp.{MemberOp}
 use Rattle.spx_core.specs.declared.entity.BaseType.{BaseType}
 use Rattle.spx_core.specs.declared.entity.Subtype.{Subtype}
 use Rattle.spx_tree.specs.declared.expression.PrefixOp.{PrefixOp}
-use Rattle.spx_core.specs.declared.entity.VarId.{VarId}
 use Rattle.spx_core.specs.declared.name.Reference.{Reference}
 use Rattle.spx_core.specs.declared.expression.CoreExpr.{CoreExpr}
 use Rattle.spx_core.specs.declared.expression.CoreExpr.TheVariants as expr
@@ -28,7 +27,7 @@ use Rattle.spx_term.specs.Folding.{term_of as static_term}
 use Rattle.spx_term.specs.Steps.{Tree, Prove, assume_all}
 use Rattle.spx_meaning.specs.Evaluation.{term_op}
 use Rattle.spx_meaning.specs.Literals.{base_of, literal}
-use Rattle.spx_paths.specs.Terms.{member_term, moved_term, signed_term, term_of}
+use Rattle.spx_paths.specs.Terms.{member_term, moved_term, now_term, signed_term, term_of}
 use Rattle.spx_paths.specs.Checks.{checked_under, checks, guarded, mapping_check, operation_check, right_lefts, sign_check}
 use Rattle.spx_arena.specs.declared.terms.TermId.{TermId}
 use Rattle.spx_arena.specs.Claims.{AreIds, trees_at}
@@ -108,20 +107,20 @@ other_lefts {w} {lefts} {all} o f g same ls a ml = subst (λ ts. MeanAll w all t
 module _ {p : Program} {lefts : List TermId} {w : Walk} {e : CoreExpr} (whole : Whole w) where
   pub eval_static : {x : Walk} {id : TermId} (s : Value) → Some s ≡ literal e → Makes w x (λ rest. rest) id (static_term s) → Evaluates p lefts w x e id
   eval_static {x} {id} s is m = record {
-    makes = λ entries ls ml. record {
-      walks = walks_along (static_free p entries ls e s (sym is)) m.walks;
-      means = subst (Means x id) (sym (static_is p entries e s (sym is))) m.means;
+    makes = λ ls ml. record {
+      walks = walks_along (static_free p (now_term p) ls e s (sym is)) m.walks;
+      means = subst (Means x id) (sym (static_is p (now_term p) e s (sym is))) m.means;
     };
   }
 
-  pub eval_free : {x : Walk} {id : TermId} → ((entries : VarId → Term) → Makes w x (λ rest. rest) id (term_of p entries e)) → ((entries : VarId → Term) (ls : List Term) (rest : Tree) → checks p entries ls e rest ≡ rest) → Evaluates p lefts w x e id
-  eval_free m free = record { makes = λ entries ls ml. record { walks = walks_along (free entries ls) (m entries).walks; means = (m entries).means } }
+  pub eval_free : {x : Walk} {id : TermId} → Makes w x (λ rest. rest) id (term_of p (now_term p) e) → ((ls : List Term) (rest : Tree) → checks p (now_term p) ls e rest ≡ rest) → Evaluates p lefts w x e id
+  eval_free m free = record { makes = λ ls ml. record { walks = walks_along (free ls) m.walks; means = m.means } }
 
   pub eval_parenthesized : {x : Walk} {id : TermId} (place : Place) (a : CoreExpr) → e ≡ expr.Parenthesized place a → Evaluates p lefts w x a id → Evaluates p lefts w x e id
   eval_parenthesized {x} {id} place a is v = record {
-    makes = λ entries ls ml.
-        let m = v.makes entries ls ml in
-        record { walks = walks_along (parenthesized_checks p entries e ls place a is) m.walks; means = subst (Means x id) (sym (parenthesized_term p entries e place a is)) m.means };
+    makes = λ ls ml.
+        let m = v.makes ls ml in
+        record { walks = walks_along (parenthesized_checks p (now_term p) e ls place a is) m.walks; means = subst (Means x id) (sym (parenthesized_term p (now_term p) e place a is)) m.means };
   }
 
   module _ (none : None ≡ literal e) (are : AreIds (length w.terms) lefts) where
@@ -129,15 +128,15 @@ module _ {p : Program} {lefts : List TermId} {w : Walk} {e : CoreExpr} (whole : 
         → Keeps x y → id.0 < length y.terms → ((t : Term) → Means x i t → Makes x y (λ rest. rest) id (signed_term o t))
         → Keeps y z → base ≡ base_of e → ((ls : List Term) (t : Term) → MeanAll y lefts ls → Means y id t → Walks y z (sign_check ls o base place t)) → Evaluates p lefts w z e id
     eval_prefix {x} {y} {z} {i} {id} {base} o place a is kx wi v ky wid signed kz base_is check = record {
-      makes = λ entries ls ml.
-          let first = v.makes entries ls ml in
-          let t = term_of p entries e in
-          let same = prefix_term p entries e none o place a is in
-          let second = signed (term_of p entries a) first.means in
+      makes = λ ls ml.
+          let first = v.makes ls ml in
+          let t = term_of p (now_term p) e in
+          let same = prefix_term p (now_term p) e none o place a is in
+          let second = signed (term_of p (now_term p) a) first.means in
           let here : Means y id t = subst (Means y id) (sym same) second.means in
           let lefts_here = all_kept whole (keeps_twice kx ky) are ml in
           record {
-            walks = walks_along (prefix_checks p entries e ls none o place a is) (walks_twice first.walks (walks_twice second.walks (subst (λ (b : BaseType). Walks y z (sign_check ls o b place t)) base_is (check ls t lefts_here here))));
+            walks = walks_along (prefix_checks p (now_term p) e ls none o place a is) (walks_twice first.walks (walks_twice second.walks (subst (λ (b : BaseType). Walks y z (sign_check ls o b place t)) base_is (check ls t lefts_here here))));
             means = means_kept ky.whole kz wid here;
           };
     }
@@ -146,17 +145,17 @@ module _ {p : Program} {lefts : List TermId} {w : Walk} {e : CoreExpr} (whole : 
         → Keeps x y → id.0 < length y.terms → h ≡ shift_in (application function) → ((t : Term) → Means x i t → Makes x y (λ rest. rest) id (moved_term h t))
         → Keeps y z → mapping ≡ application function → at ≡ place_of a → ((ls : List Term) (t : Term) → MeanAll y lefts ls → Means y id (moved_term (shift_in mapping) t) → Walks y z (mapping_check ls mapping at t)) → Evaluates p lefts w z e id
     eval_applied {x} {y} {z} {i} {id} {h} {mapping} {at} function place a is kx wi v ky wid shift_is moved kz mapping_is at_is check = record {
-      makes = λ entries ls ml.
-          let ta = term_of p entries a in
+      makes = λ ls ml.
+          let ta = term_of p (now_term p) a in
           let j = application function in
-          let first = v.makes entries ls ml in
+          let first = v.makes ls ml in
           let second : Makes x y (λ rest. rest) id (moved_term (shift_in j) ta) = subst (λ (k : Shift). Makes x y (λ rest. rest) id (moved_term k ta)) shift_is (moved ta first.means) in
           let third : Walks y z (mapping_check ls j (place_of a) ta) =
           subst (λ (m : Judged Mapping). Means y id (moved_term (shift_in m) ta) → Walks y z (mapping_check ls m (place_of a) ta)) mapping_is
           (subst (λ (q : Place). Means y id (moved_term (shift_in mapping) ta) → Walks y z (mapping_check ls mapping q ta)) at_is (check ls ta (all_kept whole (keeps_twice kx ky) are ml))) second.means in
           record {
-            walks = walks_along (applied_checks p entries e ls none function place a is) (walks_twice first.walks (walks_twice second.walks third));
-            means = means_kept ky.whole kz wid (subst (Means y id) (sym (applied_term p entries e none function place a is)) second.means);
+            walks = walks_along (applied_checks p (now_term p) e ls none function place a is) (walks_twice first.walks (walks_twice second.walks third));
+            means = means_kept ky.whole kz wid (subst (Means y id) (sym (applied_term p (now_term p) e none function place a is)) second.means);
           };
     }
 
@@ -166,21 +165,21 @@ module _ {p : Program} {lefts : List TermId} {w : Walk} {e : CoreExpr} (whole : 
         → Keeps y z → id.0 < length z.terms → ((s t : Term) → Means y i s → Means y j t → Makes y z (λ rest. rest) id (Infix (term_op o) s t))
         → Keeps z u → base ≡ base_of e → at ≡ place_of b → ((ls : List Term) (t s : Term) → MeanAll z lefts ls → Means z j t → Means z id s → Walks z u (operation_check ls o base place at t s)) → Evaluates p lefts w u e id
     eval_infix {x} {g} {y} {z} {u} {i} {j} {id} {guards} {ids} {base} {at} o place a b is kx wi v kg wg guarding same ky wj v2 kz wid made ku base_is at_is check = record {
-      makes = λ entries ls ml.
-          let ta = term_of p entries a in
-          let tb = term_of p entries b in
-          let t = term_of p entries e in
-          let first = v.makes entries ls ml in
+      makes = λ ls ml.
+          let ta = term_of p (now_term p) a in
+          let tb = term_of p (now_term p) b in
+          let t = term_of p (now_term p) e in
+          let first = v.makes ls ml in
           let lefts_x = all_kept whole kx are ml in
           let guards_g = subst (λ (is : List TermId). MeanAll g is (right_lefts o ls ta)) (sym same) (guarding ls ta lefts_x first.means) in
-          let second = v2.makes entries (right_lefts o ls ta) guards_g in
+          let second = v2.makes (right_lefts o ls ta) guards_g in
           let xy = keeps_twice kg ky in
           let third = made ta tb (means_kept kx.whole xy wi first.means) second.means in
-          let here : Means z id t = subst (Means z id) (sym (infix_term p entries e none o place a b is)) third.means in
+          let here : Means z id t = subst (Means z id) (sym (infix_term p (now_term p) e none o place a b is)) third.means in
           let lefts_z = all_kept whole (keeps_twice kx (keeps_twice xy kz)) are ml in
           let fourth = subst (λ (r : BaseType). Walks z u (operation_check ls o r place (place_of b) tb t)) base_is (subst (λ (q : Place). Walks z u (operation_check ls o base place q tb t)) at_is (check ls tb t lefts_z (means_kept ky.whole kz wj second.means) here)) in
           record {
-            walks = walks_along (infix_checks p entries e ls none o place a b is) (walks_twice first.walks (walks_twice wg (walks_twice second.walks (walks_twice third.walks fourth))));
+            walks = walks_along (infix_checks p (now_term p) e ls none o place a b is) (walks_twice first.walks (walks_twice wg (walks_twice second.walks (walks_twice third.walks fourth))));
             means = means_kept kz.whole ku wid here;
           };
     }
@@ -189,12 +188,12 @@ module _ {p : Program} {lefts : List TermId} {w : Walk} {e : CoreExpr} (whole : 
         → Keeps x y → j.0 < length y.terms → Makes x y (λ rest. rest) j (Number subtype.first) → Keeps y z → k.0 < length z.terms → Makes y z (λ rest. rest) k (Number subtype.last)
         → ((s t r : Term) → Means z i s → Means z j t → Means z k r → Makes z u (λ rest. rest) id (member_term o s t r)) → Evaluates p lefts w u e id
     eval_in_type {x} {y} {z} {u} {i} {j} {k} {id} {subtype} o place a name is sub kx wi v ky wj low kz wk high made = record {
-      makes = λ entries ls ml.
-          let first = v.makes entries ls ml in
-          let last = made (term_of p entries a) (Number subtype.first) (Number subtype.last) (means_kept kx.whole (keeps_twice ky kz) wi first.means) (means_kept ky.whole kz wj low.means) high.means in
+      makes = λ ls ml.
+          let first = v.makes ls ml in
+          let last = made (term_of p (now_term p) a) (Number subtype.first) (Number subtype.last) (means_kept kx.whole (keeps_twice ky kz) wi first.means) (means_kept ky.whole kz wj low.means) high.means in
           record {
-            walks = walks_along (in_type_checks p entries e ls none o place a name is) (walks_twice first.walks (walks_twice low.walks (walks_twice high.walks last.walks)));
-            means = subst (Means u id) ((λ n. member_term o (term_of p entries a) (Number (sub n).first) (Number (sub n).last)) ∙ sym (in_type_term p entries e none o place a name is)) last.means;
+            walks = walks_along (in_type_checks p (now_term p) e ls none o place a name is) (walks_twice first.walks (walks_twice low.walks (walks_twice high.walks last.walks)));
+            means = subst (Means u id) ((λ n. member_term o (term_of p (now_term p) a) (Number (sub n).first) (Number (sub n).last)) ∙ sym (in_type_term p (now_term p) e none o place a name is)) last.means;
           };
     }
 
@@ -202,13 +201,13 @@ module _ {p : Program} {lefts : List TermId} {w : Walk} {e : CoreExpr} (whole : 
         → Keeps x y → j.0 < length y.terms → Evaluates p lefts x y low j → Keeps y z → k.0 < length z.terms → Evaluates p lefts y z high k
         → ((s t r : Term) → Means z i s → Means z j t → Means z k r → Makes z u (λ rest. rest) id (member_term o s t r)) → Evaluates p lefts w u e id
     eval_in_range {x} {y} {z} {u} {i} {j} {k} {id} o place a low high is kx wi v ky wj v2 kz wk v3 made = record {
-      makes = λ entries ls ml.
-          let first = v.makes entries ls ml in
-          let second = v2.makes entries ls (all_kept whole kx are ml) in
-          let third = v3.makes entries ls (all_kept whole (keeps_twice kx ky) are ml) in
-          let last = made (term_of p entries a) (term_of p entries low) (term_of p entries high) (means_kept kx.whole (keeps_twice ky kz) wi first.means) (means_kept ky.whole kz wj second.means) third.means in
+      makes = λ ls ml.
+          let first = v.makes ls ml in
+          let second = v2.makes ls (all_kept whole kx are ml) in
+          let third = v3.makes ls (all_kept whole (keeps_twice kx ky) are ml) in
+          let last = made (term_of p (now_term p) a) (term_of p (now_term p) low) (term_of p (now_term p) high) (means_kept kx.whole (keeps_twice ky kz) wi first.means) (means_kept ky.whole kz wj second.means) third.means in
           record {
-            walks = walks_along (in_range_checks p entries e ls none o place a low high is) (walks_twice first.walks (walks_twice second.walks (walks_twice third.walks last.walks)));
-            means = subst (Means u id) (sym (in_range_term p entries e none o place a low high is)) last.means;
+            walks = walks_along (in_range_checks p (now_term p) e ls none o place a low high is) (walks_twice first.walks (walks_twice second.walks (walks_twice third.walks last.walks)));
+            means = subst (Means u id) (sym (in_range_term p (now_term p) e none o place a low high is)) last.means;
           };
     }

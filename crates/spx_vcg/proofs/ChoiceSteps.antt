@@ -7,10 +7,10 @@ use Rattle.spx_core.specs.declared.program.Program.{Program}
 use Rattle.spx_core.specs.declared.statement.CoreAlternative.{CoreAlternative, out-CoreAlternative}
 use Rattle.spx_core.specs.declared.statement.CoreChoice.{CoreChoice}
 use Rattle.spx_core.specs.declared.subprogram.Sub.{Sub}
-use Rattle.spx_core.specs.Commands.{Command, Skip, Then, alternative, commands, select}
+use Rattle.spx_core.specs.Commands.{Command, Then, alternative, commands, select}
 use Rattle.spx_term.specs.declared.term.Term.{Term}
 use Rattle.spx_term.specs.Steps.{Tree, Cut, Split, assume_all}
-use Rattle.spx_paths.specs.Terms.{entry_term, term_of}
+use Rattle.spx_paths.specs.Terms.{now_term, term_of}
 use Rattle.spx_paths.specs.Walks.{alternative_facts, and_these, ending, walk}
 use Rattle.spx_arena.specs.declared.terms.TermId.{TermId}
 use Rattle.spx_arena.specs.Claims.{claims_at, trees_at}
@@ -21,7 +21,7 @@ use Rattle.spx_vcg.specs.declared.walk.Walk.{Walk}
 use Rattle.spx_vcg.specs.ConditionWalk.{State, applied, forward}
 use Rattle.spx_vcg.specs.States.{AddsAll}
 use Rattle.spx_vcg.specs.WalkSteps.{state, Evaluates, Keeps, MeanAll, Means, Walks, Whole, claims_from}
-use Rattle.spx_vcg.specs.PathWalk.{Comes, IsBack, Marks, TakesEach, TakesUnder, left_for}
+use Rattle.spx_vcg.specs.PathWalk.{Ends, IsBack, Marks, TakesEach, TakesUnder, left_for}
 use Rattle.spx_vcg.proofs.BranchSteps.{back_adds, back_state, back_walks, back_whole}
 use Rattle.spx_vcg.proofs.CheckSteps.{only_at}
 use Rattle.spx_vcg.proofs.ChoiceTerms.{applied-alternative_facts, applied-and_these}
@@ -30,34 +30,34 @@ use Rattle.spx_vcg.proofs.SharedSteps.{adds_twice, only_all, only_walks, walks_t
 use Rattle.spx_vcg.proofs.StartSteps.{claims_end, no_lefts}
 
 -- ---- one alternative
-pub after_under : {p : Program} {old mid last new : Walk} (facts : List TermId) (c : Command) (m : Mark) → Whole old → Marks old m → Keeps old mid → ((ts : List Term) → MeanAll old facts ts → Walks old mid (assume_all ts))
-    → Comes p mid last c Skip → IsBack last new m → TakesUnder p old new facts c
-after_under {p} {old} {mid} {last} {new} facts c m whole marks keeps walks comes back =
-    let adds = adds_twice keeps.adds comes.adds in
+pub after_under : {p : Program} {sub : Sub} {old mid last new : Walk} (facts : List TermId) (c : Command) (m : Mark) → Whole old → Marks old m → Keeps old mid → ((ts : List Term) → MeanAll old facts ts → Walks old mid (assume_all ts))
+    → Ends p sub mid last c → IsBack last new m → TakesUnder p sub old new facts c
+after_under {p} {sub} {old} {mid} {last} {new} facts c m whole marks keeps walks ends back =
+    let adds = adds_twice keeps.adds ends.adds in
     record {
-      whole = back_whole m whole comes.whole adds marks back;
-      adds = back_adds m whole comes.whole adds marks back;
-      kept = back_state m whole comes.whole adds marks back;
-      goes = λ ts means sub made.
-          let tree = walk p sub c ending ending made in
-          back_walks m whole comes.whole adds marks back (assume_all ts tree) ((walks ts means).same tree ∙ comes.same sub made ∙ claims_end last);
+      whole = back_whole m whole ends.whole adds marks back;
+      adds = back_adds m whole ends.whole adds marks back;
+      kept = back_state m whole ends.whole adds marks back;
+      goes = λ ts means made.
+          let tree = walk p sub c (ending p sub) (ending p sub) made in
+          back_walks m whole ends.whole adds marks back (assume_all ts tree) ((walks ts means).same tree ∙ ends.same made ∙ claims_end last);
     }
 
 -- ---- one after the other
 -- The walk is at these alternatives of all, and the ids stand for the choices of earlier ones.
-pub record IsAt (p : Program) (old new : Walk) (ids : List TermId) (all those : List Part) (following : Command) (t : Term) : Type 0 where
+pub record IsAt (p : Program) (sub : Sub) (old new : Walk) (ids : List TermId) (all those : List Part) (following : Command) (t : Term) : Type 0 where
   pub earlier : List Term
   pub mean : MeanAll new ids earlier
-  pub same : (sub : Sub) (made : ℕ) → claims_from old (left_for p sub t [] all following made) ≡ claims_from new (left_for p sub t earlier those following made)
+  pub same : (made : ℕ) → claims_from old (left_for p sub t [] all following made) ≡ claims_from new (left_for p sub t earlier those following made)
 
 split_last : (w : Walk) (tree : Tree) → claims_from w (Split tree Cut) ≡ claims_from w tree
 unfolding claims_from
 split_last w tree = ap (λ cs. claims_at w.terms w.facts.lists w.claims ++ cs) (append-nil (forward (state w) (trees_at w.terms w.facts.present.keys) tree))
 
 one_taken : {w y : Walk} (p : Program) (sub : Sub) (t : Term) (earlier : List Term) (choices : Option (List CoreChoice)) (c : Command) (more : List Part) (following : Command) (made : ℕ)
-    → Walks w y (Split (assume_all (alternative_facts t earlier choices) (walk p sub (Then c following) ending ending made)))
+    → Walks w y (Split (assume_all (alternative_facts t earlier choices) (walk p sub (Then c following) (ending p sub) (ending p sub) made)))
     → claims_from w (left_for p sub t earlier ((choices, c) ∷ more) following made) ≡ claims_from y (left_for p sub t (and_these t earlier choices) more following made)
-one_taken {w} {y} p sub t earlier choices c [] following made walks = sym (split_last w (assume_all (alternative_facts t earlier choices) (walk p sub (Then c following) ending ending made))) ∙ walks.same Cut
+one_taken {w} {y} p sub t earlier choices c [] following made walks = sym (split_last w (assume_all (alternative_facts t earlier choices) (walk p sub (Then c following) (ending p sub) (ending p sub) made))) ∙ walks.same Cut
 one_taken {w} {y} p sub t earlier choices c (second ∷ more) following made walks = walks.same (left_for p sub t (and_these t earlier choices) (second ∷ more) following made)
 
 pub here_alternative : (alternatives : List CoreAlternative) (i : ℕ) (a : CoreAlternative) → i < length alternatives → a ≡ get_or alternatives i a
@@ -65,10 +65,10 @@ pub here_alternative : (alternatives : List CoreAlternative) (i : ℕ) (a : Core
 here_alternative alternatives i a within is =
     ap (map alternative) (drop-cons alternatives i a within ∙ (λ k. sym is k ∷ drop (sym (add-one i) k) alternatives)) ∙ ap (λ x. x ∷ map alternative (drop (i + 1) alternatives)) (alternative_is a)
 
-module _ {p : Program} {first w y : Walk} {terms : List Term} {value : TermId} {ids facts same more : List TermId} {choices : Option (List CoreChoice)} {c following : Command} {all those rest : List Part} (whole : Whole w) (t : Term) (m : Means w value t)
-    (at : IsAt p first w ids all those following t) (here : those ≡ (choices, c) ∷ rest)
+module _ {p : Program} {sub : Sub} {first w y : Walk} {terms : List Term} {value : TermId} {ids facts same more : List TermId} {choices : Option (List CoreChoice)} {c following : Command} {all those rest : List Part} (whole : Whole w) (t : Term) (m : Means w value t)
+    (at : IsAt p sub first w ids all those following t) (here : those ≡ (choices, c) ∷ rest)
     (known : AddsAll w.terms terms facts (alternative_facts (tree_at w.terms value) (trees_at w.terms ids) choices)) (added : AddsAll w.terms terms more (and_these (tree_at w.terms value) (trees_at w.terms ids) choices))
-    (is : same ≡ facts) (takes : TakesUnder p (record w { terms = terms }) y same (Then c following)) where
+    (is : same ≡ facts) (takes : TakesUnder p sub (record w { terms = terms }) y same (Then c following)) where
   abbrev x : Walk
   x = record w { terms = terms }
 
@@ -82,29 +82,29 @@ module _ {p : Program} {first w y : Walk} {terms : List Term} {value : TermId} {
   mean_more : MeanAll x more then
   mean_more = only_all whole (only_at w added.grown) then added ((λ k. and_these (m.tree k) (at.mean.trees k) choices) ∙ applied-and_these (state w) t at.earlier choices)
 
-  pub next_alternative : IsAt p first y more all rest following t
+  pub next_alternative : IsAt p sub first y more all rest following t
   next_alternative = record {
     earlier = then;
     mean = record { trees = kept_ids takes.adds.grown more added.within ∙ mean_more.trees ∙ ap (λ (u : State). map (applied u) then) (sym takes.kept) };
-    same = λ sub made.
-        at.same sub made
+    same = λ made.
+        at.same made
         ∙ ap (λ xs. claims_from w (left_for p sub t at.earlier xs following made)) here
-        ∙ one_taken p sub t at.earlier choices c rest following made (walks_twice (only_walks whole (only_at w known.grown)) (takes.goes (alternative_facts t at.earlier choices) mean_facts sub made));
+        ∙ one_taken p sub t at.earlier choices c rest following made (walks_twice (only_walks whole (only_at w known.grown)) (takes.goes (alternative_facts t at.earlier choices) mean_facts made));
   }
 
 -- ---- all of them
-pub no_case : {p : Program} {w y : Walk} (e : CoreExpr) (alternatives : List CoreAlternative) (following : Command) → (length alternatives == 0) ≡ true → Comes p w y following Skip → (place : Place) → Comes p w y (Then (select place e (map alternative alternatives)) following) Skip
-no_case e [] following none comes place = record { whole = comes.whole; adds = comes.adds; same = comes.same }
-no_case e (a ∷ alternatives) following none comes place = let empty = (Decides-eqb (length (a ∷ alternatives)) 0).0 none in absurd (omega (arith, empty))
+pub no_case : {p : Program} {sub : Sub} {w y : Walk} (e : CoreExpr) (alternatives : List CoreAlternative) (following : Command) → (length alternatives == 0) ≡ true → Ends p sub w y following → (place : Place) → Ends p sub w y (Then (select place e (map alternative alternatives)) following)
+no_case e [] following none ends place = record { whole = ends.whole; adds = ends.adds; same = ends.same }
+no_case e (a ∷ alternatives) following none ends place = let empty = (Decides-eqb (length (a ∷ alternatives)) 0).0 none in absurd (omega (arith, empty))
 
-pub after_case : {p : Program} {w x y : Walk} {id : TermId} (e : CoreExpr) (alternatives : List CoreAlternative) (following : Command) → (length alternatives == 0) ≡ false → Keeps w x → Evaluates p [] w x e id → TakesEach p x y id (map alternative alternatives) following
-    → (place : Place) → Comes p w y (Then (select place e (map alternative alternatives)) following) Skip
+pub after_case : {p : Program} {sub : Sub} {w x y : Walk} {id : TermId} (e : CoreExpr) (alternatives : List CoreAlternative) (following : Command) → (length alternatives == 0) ≡ false → Keeps w x → Evaluates p [] w x e id → TakesEach p sub x y id (map alternative alternatives) following
+    → (place : Place) → Ends p sub w y (Then (select place e (map alternative alternatives)) following)
 after_case e [] following some checked v takes place = absurd (true≢false (sym ((Decides-eqb 0 0).1 refl) ∙ some))
-after_case {p} {w} e (a ∷ alternatives) following some checked v takes place = record {
+after_case {p} {sub} {w} e (a ∷ alternatives) following some checked v takes place = record {
   whole = takes.whole;
   adds = adds_twice checked.adds takes.adds;
-  same = λ sub made.
-      let t = term_of p (entry_term p sub) e in
-      let m = v.makes (entry_term p sub) [] (no_lefts w) in
-      m.walks.same (left_for p sub t [] (map alternative (a ∷ alternatives)) following made) ∙ takes.same t m.means sub made;
+  same = λ made.
+      let t = term_of p (now_term p) e in
+      let m = v.makes [] (no_lefts w) in
+      m.walks.same (left_for p sub t [] (map alternative (a ∷ alternatives)) following made) ∙ takes.same t m.means made;
 }

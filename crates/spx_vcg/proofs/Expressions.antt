@@ -1,11 +1,12 @@
 -- Terms and checks of expressions, where a value is static and where none is.
-use Rattle.std.proofs.Common.{◌≡◌, ℤ, pos, List, Option, Some, None, Ok, Err, refl, sym, ap, ◌∙◌}
-use Rattle.std.specs.Prelude.{is_some}
+use Rattle.std.proofs.Common.{◌≡◌, Bool, ℤ, pos, List, Option, Some, None, Ok, Err, refl, sym, ap, ◌∙◌}
+use Rattle.std.specs.Prelude.{⊤, is_some}
 use Rattle.spx_text.specs.declared.place.Place.{Place}
 use Rattle.spx_tree.specs.declared.expression.Identifier.{Identifier}
 use Rattle.spx_tree.specs.declared.expression.InfixOp.{InfixOp}
 use Rattle.spx_tree.specs.declared.expression.MemberOp.{MemberOp}
 use Rattle.spx_tree.specs.declared.expression.PrefixOp.{PrefixOp}
+use Rattle.spx_core.specs.declared.entity.Object.{Object}
 use Rattle.spx_core.specs.declared.entity.VarId.{VarId}
 use Rattle.spx_core.specs.declared.name.CoreName.{CoreName}
 use Rattle.spx_core.specs.declared.name.Reference.{Reference}
@@ -14,10 +15,12 @@ use Rattle.spx_core.specs.declared.expression.CoreExpr.TheVariants as expr
 use Rattle.spx_core.specs.declared.function.CoreFunction.{CoreFunction}
 use Rattle.spx_core.specs.declared.function.Mapping.{Mapping}
 use Rattle.spx_core.specs.declared.program.Program.{Program}
-use Rattle.spx_core.specs.Judged.{Judged, application, expr_step}
+use Rattle.spx_core.specs.declared.rule.ExprType.TheVariants.{Of}
+use Rattle.spx_core.specs.declared.rule.RuleName.TheVariants.{N18}
+use Rattle.spx_core.specs.Judged.{Judged, ◌>>=◌, application, expr_step, keeps, named_object, typing}
 use Rattle.spx_core.specs.Places.{place_of}
 use Rattle.spx_core.specs.Uses.{variable_of}
-use Rattle.spx_core.proofs.Callers.Expressions.{fold-Number, induct}
+use Rattle.spx_core.proofs.Callers.Expressions.{fold-Entry, fold-Number, induct}
 use Rattle.spx_term.specs.declared.term.Term.{Term}
 use Rattle.spx_term.specs.declared.term.Term.TheVariants.{Number, Infix}
 use Rattle.spx_term.specs.declared.value.Value.{Value}
@@ -26,8 +29,8 @@ use Rattle.spx_term.specs.Folding.{term_of as static_term}
 use Rattle.spx_term.specs.Steps.{Tree}
 use Rattle.spx_meaning.specs.Evaluation.{term_op}
 use Rattle.spx_meaning.specs.Literals.{base_of, literal, literal_in}
-use Rattle.spx_paths.specs.Terms.{first_term, last_term, literal_or, mapped_term, member_term, moved_term, named, now_term, signed_term, term_of, term_with-Applied, term_with-Attribute, term_with-InRange, term_with-InType, term_with-Infix, term_with-Name, term_with-Number, term_with-Parenthesized, term_with-Prefix}
-use Rattle.spx_paths.specs.Checks.{checks, checks-Applied, checks-Attribute, checks-InRange, checks-InType, checks-Infix, checks-Name, checks-Number, checks-Parenthesized, checks-Prefix, mapping_check, operation_check, right_lefts, sign_check, unless_static}
+use Rattle.spx_paths.specs.Terms.{first_term, last_term, literal_or, mapped_term, member_term, moved_term, named, now_term, signed_term, term_of, term_with-Applied, term_with-Attribute, term_with-Entry, term_with-InRange, term_with-InType, term_with-Infix, term_with-Name, term_with-Number, term_with-Parenthesized, term_with-Prefix}
+use Rattle.spx_paths.specs.Checks.{checks, checks-Applied, checks-Attribute, checks-Entry, checks-InRange, checks-InType, checks-Infix, checks-Name, checks-Number, checks-Parenthesized, checks-Prefix, mapping_check, operation_check, right_lefts, sign_check, unless_static}
 use Rattle.spx_vcg.specs.Functions.{shift_in}
 use Rattle.spx_vcg.proofs.CheckLaws.{literal-Parenthesized, static_unchecked}
 use Rattle.spx_vcg.proofs.ConditionTerms.{static_number}
@@ -42,11 +45,24 @@ of_number n place s e =
     let is : Some (value.Number n) ≡ Some s = sym here ∙ sym (ap literal_in (fold-Number expr_step n place)) ∙ e in
     cc
 
+-- the value on entry is not static
+not_static : (j : Judged Object) (k : Judged ⊤) (place : Place) → literal_in (j >>= λ object. k >>= λ done. Ok (typing (Of object.subtype.base) None place)) ≡ None
+not_static (Ok object) (Ok done) place = refl
+not_static (Ok object) (Err breach) place = refl
+not_static (Err breach) k place = refl
+
+entry_literal : (name : CoreName) (allowed : Bool) → literal (expr.Entry name allowed) ≡ None
+entry_literal name allowed = ap literal_in (fold-Entry expr_step name allowed) ∙ not_static (named_object name) (keeps N18 name.name.place allowed) name.name.place
+
+of_entry : (name : CoreName) (allowed : Bool) (s : Value) (t : Term) → literal (expr.Entry name allowed) ≡ Some s → t ≡ static_term s
+of_entry name allowed s t e = let is : None ≡ Some s = sym (entry_literal name allowed) ∙ e in absurd (cc)
+
 -- a static expression has its value for its term
 pub static_is : (p : Program) (entries : VarId → Term) (e : CoreExpr) (s : Value) → literal e ≡ Some s → term_of p entries e ≡ static_term s
 static_is p entries = induct (λ e. (s : Value) → literal e ≡ Some s → term_of p entries e ≡ static_term s) (record {
   number = λ n place s is. term_with-Number (now_term p) entries n place ∙ sym (static_number n) ∙ ap static_term (sym (of_number n place s is));
   name = λ name s is. term_with-Name (now_term p) entries name ∙ or_static _ s _ is;
+  entry = λ name allowed s is. of_entry name allowed s _ is;
   attribute = λ prefix designator s is. term_with-Attribute (now_term p) entries prefix designator ∙ or_static _ s _ is;
   applied = λ function place a more s is. term_with-Applied (now_term p) entries function place a ∙ or_static _ s _ is;
   parenthesized = λ place a more s is. term_with-Parenthesized (now_term p) entries place a ∙ more s (sym (literal-Parenthesized place a) ∙ is);
@@ -72,6 +88,9 @@ module _ (p : Program) (entries : VarId → Term) (e : CoreExpr) where
 
   pub number_term : (n : ℤ) (place : Place) → e ≡ expr.Number n place → meant e ≡ Number n
   number_term n place is = ap meant is ∙ term_with-Number (now_term p) entries n place
+
+  pub entry_term : (name : CoreName) (allowed : Bool) → e ≡ expr.Entry name allowed → meant e ≡ named entries (variable_of name.entity)
+  entry_term name allowed is = ap meant is ∙ term_with-Entry (now_term p) entries name allowed
 
   pub parenthesized_term : (place : Place) (a : CoreExpr) → e ≡ expr.Parenthesized place a → meant e ≡ meant a
   parenthesized_term place a is = ap meant is ∙ term_with-Parenthesized (now_term p) entries place a
@@ -111,6 +130,9 @@ module _ (p : Program) (entries : VarId → Term) (e : CoreExpr) where
 
     pub name_free : (name : CoreName) → e ≡ expr.Name name → (rest : Tree) → asked e rest ≡ rest
     name_free name is rest = ap (λ d. asked d rest) is ∙ checks-Name p entries lefts name rest
+
+    pub entry_free : (name : CoreName) (allowed : Bool) → e ≡ expr.Entry name allowed → (rest : Tree) → asked e rest ≡ rest
+    entry_free name allowed is rest = ap (λ d. asked d rest) is ∙ checks-Entry p entries lefts name allowed rest
 
     pub attribute_free : (prefix : CoreName) (designator : Identifier) → e ≡ expr.Attribute prefix designator → (rest : Tree) → asked e rest ≡ rest
     attribute_free prefix designator is rest = ap (λ d. asked d rest) is ∙ checks-Attribute p entries lefts prefix designator rest

@@ -4,6 +4,7 @@ pub mod ConditionForward
 pub mod CheckLaws
 pub mod Expressions
 pub mod Parts
+pub mod PartSteps
 pub mod SharedIds
 pub mod SharedTerms
 pub mod SharedSteps

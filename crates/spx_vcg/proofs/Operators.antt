@@ -29,6 +29,8 @@ is_base op.Or = false
 is_base op.Xor = false
 is_base op.AndThen = false
 is_base op.OrElse = false
+is_base op.Implies = false
+is_base op.Equivalent = false
 
 pub op_base : (lefts : List Term) (o : InfixOp) (base : BaseType) (place at : Place) (right whole : Term) → is_base o ≡ true → (rest : Tree) → operation_check lefts o base place at right whole rest ≡ base_check lefts base place whole rest
 op_base lefts op.Add base place at right whole is rest = refl
@@ -49,6 +51,8 @@ op_base lefts op.Or base place at right whole is rest = absurd (true≢false (sy
 op_base lefts op.Xor base place at right whole is rest = absurd (true≢false (sym is))
 op_base lefts op.AndThen base place at right whole is rest = absurd (true≢false (sym is))
 op_base lefts op.OrElse base place at right whole is rest = absurd (true≢false (sym is))
+op_base lefts op.Implies base place at right whole is rest = absurd (true≢false (sym is))
+op_base lefts op.Equivalent base place at right whole is rest = absurd (true≢false (sym is))
 
 -- the divisor is checked
 abbrev pub is_rest : InfixOp → Bool
@@ -70,6 +74,8 @@ is_rest op.Or = false
 is_rest op.Xor = false
 is_rest op.AndThen = false
 is_rest op.OrElse = false
+is_rest op.Implies = false
+is_rest op.Equivalent = false
 
 pub op_rest : (lefts : List Term) (o : InfixOp) (base : BaseType) (place at : Place) (right whole : Term) → is_rest o ≡ true → (rest : Tree) → operation_check lefts o base place at right whole rest ≡ divisor_check lefts place right rest
 op_rest lefts op.Add base place at right whole is rest = absurd (true≢false (sym is))
@@ -90,6 +96,8 @@ op_rest lefts op.Or base place at right whole is rest = absurd (true≢false (sy
 op_rest lefts op.Xor base place at right whole is rest = absurd (true≢false (sym is))
 op_rest lefts op.AndThen base place at right whole is rest = absurd (true≢false (sym is))
 op_rest lefts op.OrElse base place at right whole is rest = absurd (true≢false (sym is))
+op_rest lefts op.Implies base place at right whole is rest = absurd (true≢false (sym is))
+op_rest lefts op.Equivalent base place at right whole is rest = absurd (true≢false (sym is))
 
 -- ---- no checks
 pub op_free : (lefts : List Term) (o : InfixOp) (base : BaseType) (place at : Place) (right whole : Term) → (o ≡ op.Add → ⊥) → (o ≡ op.Subtract → ⊥) → (o ≡ op.Multiply → ⊥) → (o ≡ op.Divide → ⊥) → (o ≡ op.Mod → ⊥) → (o ≡ op.Rem → ⊥) → (o ≡ op.Power → ⊥)
@@ -112,6 +120,8 @@ op_free lefts op.Or base place at right whole f1 f2 f3 f4 f5 f6 f7 rest = refl
 op_free lefts op.Xor base place at right whole f1 f2 f3 f4 f5 f6 f7 rest = refl
 op_free lefts op.AndThen base place at right whole f1 f2 f3 f4 f5 f6 f7 rest = refl
 op_free lefts op.OrElse base place at right whole f1 f2 f3 f4 f5 f6 f7 rest = refl
+op_free lefts op.Implies base place at right whole f1 f2 f3 f4 f5 f6 f7 rest = refl
+op_free lefts op.Equivalent base place at right whole f1 f2 f3 f4 f5 f6 f7 rest = refl
 
 pub same_lefts : (o : InfixOp) (lefts : List Term) (left : Term) → (o ≡ op.AndThen → ⊥) → (o ≡ op.OrElse → ⊥) → right_lefts o lefts left ≡ lefts
 same_lefts op.Add lefts left f g = refl
@@ -132,3 +142,5 @@ same_lefts op.Or lefts left f g = refl
 same_lefts op.Xor lefts left f g = refl
 same_lefts op.AndThen lefts left f g = absurd (f refl)
 same_lefts op.OrElse lefts left f g = absurd (g refl)
+same_lefts op.Implies lefts left f g = refl
+same_lefts op.Equivalent lefts left f g = refl

@@ -1,5 +1,5 @@
 -- The parts of conditions.
-use Rattle.std.proofs.Common.{◌≡◌, true, false, true≢false, ◌⊎◌, inl, inr, ℤ, pos, [], ◌∷◌, ◌++◌, map, Option, Some, None, refl, sym, ap, ◌∙◌}
+use Rattle.std.proofs.Common.{◌≡◌, Bool, true, false, true≢false, ◌⊎◌, inl, inr, pos, [], ◌∷◌, ◌++◌, map, Option, Some, None, refl, sym, ap, ◌∙◌}
 use Rattle.std.specs.Prelude.{is_some}
 use Rattle.spx_text.specs.declared.place.Place.{Place}
 use Rattle.spx_tree.specs.declared.expression.Identifier.{Identifier}
@@ -20,38 +20,35 @@ use Rattle.spx_core.specs.declared.function.Shift.TheVariants as shift
 use Rattle.spx_core.specs.declared.program.Program.{Program}
 use Rattle.spx_core.specs.Judged.{application}
 use Rattle.spx_core.specs.Uses.{variable_of}
+use Rattle.spx_term.specs.declared.term.Name.{Name}
 use Rattle.spx_term.specs.declared.term.Term.{Term}
-use Rattle.spx_term.specs.declared.term.Term.TheVariants.{Infix, Number}
+use Rattle.spx_term.specs.declared.term.Term.TheVariants.{Infix, Number, Variable}
 use Rattle.spx_term.specs.declared.term.TermOp.TheVariants as operator
 use Rattle.spx_term.specs.declared.term.TermPrefix.TheVariants as sign
 use Rattle.spx_term.specs.declared.value.Value.{Value}
 use Rattle.spx_term.specs.declared.value.Value.TheVariants as value
 use Rattle.spx_term.specs.Conjuncts.{conjuncts, conjuncts-Infix, conjuncts-Number, conjuncts-Prefix, conjuncts-Truth, conjuncts-Variable}
 use Rattle.spx_term.specs.Folding.{term_of as static_term}
-use Rattle.spx_term.specs.Steps.{Tree, Assume, assume_all, assume_parts}
 use Rattle.spx_meaning.specs.Evaluation.{term_op}
 use Rattle.spx_meaning.specs.Literals.{literal}
-use Rattle.spx_paths.specs.Terms.{between, first_term, last_term, member_term, moved_term, named, now, now_term, signed_term, term_of}
+use Rattle.spx_paths.specs.Terms.{between, first_term, last_term, member_term, moved_term, named, now, signed_term, term_of}
 use Rattle.spx_vcg.specs.ConditionWalk.{State, applied}
 use Rattle.spx_vcg.specs.Functions.{shift_in}
 use Rattle.spx_vcg.specs.PathWalk.{HasParts}
 use Rattle.spx_vcg.proofs.ConditionTerms.{applied-Infix, applied-member_term}
-use Rattle.spx_vcg.proofs.Expressions.{applied_term, attribute_term, in_range_term, in_type_term, infix_term, name_term, number_term, parenthesized_term, prefix_term, static_is}
+use Rattle.spx_vcg.proofs.Expressions.{applied_term, attribute_term, entry_term, in_range_term, in_type_term, infix_term, name_term, parenthesized_term, prefix_term, static_is}
 
 -- the term is its only part
 abbrev pub IsOne : Term → Type 0
 IsOne t = conjuncts t ≡ t ∷ []
 
-pub one_fact : (t : Term) → IsOne t → (rest : Tree) → assume_parts t rest ≡ Assume t rest
-one_fact t one rest = ap (λ ts. assume_all ts rest) one
-
 one_value : (s : Value) → IsOne (static_term s)
 one_value (value.Number n) = conjuncts-Number n
 one_value (value.Truth b) = conjuncts-Truth b
 
-one_named : (p : Program) (o : Option VarId) → IsOne (named (now_term p) o)
-one_named p (Some v) = conjuncts-Variable (now p v)
-one_named p None = conjuncts-Number (pos 0)
+one_named : (name : VarId → Name) (o : Option VarId) → IsOne (named (λ v. Variable (name v)) o)
+one_named name (Some v) = conjuncts-Variable (name v)
+one_named name None = conjuncts-Number (pos 0)
 
 one_signed : (o : PrefixOp) (t : Term) → (o ≡ prefix.Plus → ⊥) → IsOne (signed_term o t)
 one_signed prefix.Plus t not_plus = absurd (not_plus refl)
@@ -83,6 +80,8 @@ one_operation op.Or a b f g = conjuncts-Infix operator.Or a b
 one_operation op.Xor a b f g = conjuncts-Infix operator.NotEqual a b
 one_operation op.AndThen a b f g = absurd (g refl)
 one_operation op.OrElse a b f g = conjuncts-Infix operator.Or a b
+one_operation op.Implies a b f g = conjuncts-Infix operator.Implies a b
+one_operation op.Equivalent a b f g = conjuncts-Infix operator.Equivalent a b
 
 along : {t u : Term} → t ≡ u → IsOne u → IsOne t
 along e one = ap conjuncts e ∙ one ∙ ap (λ x. x ∷ []) (sym e)
@@ -130,27 +129,27 @@ module _ (p : Program) (entries : VarId → Term) (e : CoreExpr) where
   pub static_part : is_some (literal e) ≡ true → IsOne (meant e)
   static_part some = static_one p entries e (literal e) refl some
 
-  pub number_part : (n : ℤ) (place : Place) → e ≡ expr.Number n place → IsOne (meant e)
-  number_part n place is = along (number_term p entries e n place is) (conjuncts-Number n)
+  pub entry_part : (at : VarId → Name) (name : CoreName) (allowed : Bool) → e ≡ expr.Entry name allowed → entries ≡ (λ v. Variable (at v)) → IsOne (meant e)
+  entry_part at name allowed is names = along (entry_term p entries e name allowed is ∙ ap (λ (f : VarId → Term). named f (variable_of name.entity)) names) (one_named at (variable_of name.entity))
 
-  pub parenthesized_parts : (place : Place) (a : CoreExpr) → e ≡ expr.Parenthesized place a → (rest : Tree) → assume_parts (meant e) rest ≡ assume_parts (meant a) rest
-  parenthesized_parts place a is rest = ap (λ t. assume_parts t rest) (parenthesized_term p entries e place a is)
+  pub parenthesized_parts : (place : Place) (a : CoreExpr) → e ≡ expr.Parenthesized place a → conjuncts (meant e) ≡ conjuncts (meant a)
+  parenthesized_parts place a is = ap conjuncts (parenthesized_term p entries e place a is)
 
   module _ (none : None ≡ literal e) where
     pub name_part : (name : CoreName) → e ≡ expr.Name name → IsOne (meant e)
-    name_part name is = along (name_term p entries e none name is) (one_named p (variable_of name.entity))
+    name_part name is = along (name_term p entries e none name is) (one_named (now p) (variable_of name.entity))
 
     pub attribute_part : (prefix : CoreName) (designator : Identifier) → e ≡ expr.Attribute prefix designator → IsOne (meant e)
     attribute_part prefix designator is = along (attribute_term p entries e none prefix designator is) (conjuncts-Number (pos 0))
 
-    pub same_parts : {h : Shift} (function : CoreFunction) (place : Place) (a : CoreExpr) → e ≡ expr.Applied function place a → h ≡ shift_in (application function) → h ≡ shift.Same → (rest : Tree) → assume_parts (meant e) rest ≡ assume_parts (meant a) rest
-    same_parts function place a is at same rest = ap (λ t. assume_parts t rest) (applied_term p entries e none function place a is ∙ ap (λ (x : Shift). moved_term x (meant a)) (sym at ∙ same))
+    pub same_parts : {h : Shift} (function : CoreFunction) (place : Place) (a : CoreExpr) → e ≡ expr.Applied function place a → h ≡ shift_in (application function) → h ≡ shift.Same → conjuncts (meant e) ≡ conjuncts (meant a)
+    same_parts function place a is at same = ap conjuncts (applied_term p entries e none function place a is ∙ ap (λ (x : Shift). moved_term x (meant a)) (sym at ∙ same))
 
     pub moved_part : {h : Shift} (function : CoreFunction) (place : Place) (a : CoreExpr) → e ≡ expr.Applied function place a → h ≡ shift_in (application function) → (h ≡ shift.Same → ⊥) → IsOne (meant e)
     moved_part function place a is at not_same = along (applied_term p entries e none function place a is) (one_moved (shift_in (application function)) (meant a) (λ same. not_same (at ∙ same)))
 
-    pub plus_parts : (o : PrefixOp) (place : Place) (a : CoreExpr) → e ≡ expr.Prefix o place a → o ≡ prefix.Plus → (rest : Tree) → assume_parts (meant e) rest ≡ assume_parts (meant a) rest
-    plus_parts o place a is plus rest = ap (λ t. assume_parts t rest) (prefix_term p entries e none o place a is ∙ ap (λ x. signed_term x (meant a)) plus)
+    pub plus_parts : (o : PrefixOp) (place : Place) (a : CoreExpr) → e ≡ expr.Prefix o place a → o ≡ prefix.Plus → conjuncts (meant e) ≡ conjuncts (meant a)
+    plus_parts o place a is plus = ap conjuncts (prefix_term p entries e none o place a is ∙ ap (λ x. signed_term x (meant a)) plus)
 
     pub prefix_part : (o : PrefixOp) (place : Place) (a : CoreExpr) → e ≡ expr.Prefix o place a → (o ≡ prefix.Plus → ⊥) → IsOne (meant e)
     prefix_part o place a is not_plus = along (prefix_term p entries e none o place a is) (one_signed o (meant a) not_plus)
@@ -158,8 +157,8 @@ module _ (p : Program) (entries : VarId → Term) (e : CoreExpr) where
     pub infix_part : (o : InfixOp) (place : Place) (a b : CoreExpr) → e ≡ expr.Infix o place a b → (o ≡ op.And → ⊥) → (o ≡ op.AndThen → ⊥) → IsOne (meant e)
     infix_part o place a b is f g = along (infix_term p entries e none o place a b is) (one_operation o (meant a) (meant b) f g)
 
-    pub and_parts : (o : InfixOp) (place : Place) (a b : CoreExpr) → e ≡ expr.Infix o place a b → term_op o ≡ operator.And → (rest : Tree) → assume_parts (meant e) rest ≡ assume_all (conjuncts (meant a) ++ conjuncts (meant b)) rest
-    and_parts o place a b is conjunction rest = ap (λ ts. assume_all ts rest) (ap conjuncts (infix_term p entries e none o place a b is ∙ ap (λ x. Infix x (meant a) (meant b)) conjunction) ∙ two_parts (meant a) (meant b))
+    pub and_parts : (o : InfixOp) (place : Place) (a b : CoreExpr) → e ≡ expr.Infix o place a b → term_op o ≡ operator.And → conjuncts (meant e) ≡ conjuncts (meant a) ++ conjuncts (meant b)
+    and_parts o place a b is conjunction = ap conjuncts (infix_term p entries e none o place a b is ∙ ap (λ x. Infix x (meant a) (meant b)) conjunction) ∙ two_parts (meant a) (meant b)
 
     pub in_type_parts : (s : State) (o : MemberOp) (place : Place) (a : CoreExpr) (name : Reference) → e ≡ expr.InType o place a name → HasParts s (meant e)
     in_type_parts s o place a name is = has_parts s o (meant a) (first_term name) (last_term name) (in_type_term p entries e none o place a name is)

@@ -6,16 +6,13 @@ use Rattle.spx_term.specs.declared.term.Name.{Name}
 use Rattle.spx_term.specs.declared.term.Term.{Term}
 use Rattle.spx_term.specs.declared.term.TermOp.{TermOp}
 use Rattle.spx_term.specs.declared.term.Term.TheVariants.{Number, Variable, Infix}
-use Rattle.spx_core.specs.declared.entity.VarId.{VarId}
-use Rattle.spx_core.specs.declared.expression.CoreExpr.{CoreExpr}
 use Rattle.spx_core.specs.declared.function.Shift.{Shift}
-use Rattle.spx_core.specs.declared.program.Program.{Program}
-use Rattle.spx_paths.specs.Terms.{member_term, moved_term, now_term, signed_term, term_of}
+use Rattle.spx_paths.specs.Terms.{member_term, moved_term, signed_term}
 use Rattle.spx_arena.specs.declared.terms.TermId.{TermId}
 use Rattle.spx_arena.specs.Sharing.{Adds, Grows, IsId, tree_at}
 use Rattle.spx_arena.proofs.Growth.{adds_along, grows_twice}
 use Rattle.spx_vcg.specs.ConditionWalk.{State, applied}
-use Rattle.spx_vcg.specs.States.{Given, given, value_or, state_in, AddsMeaning, AreValues}
+use Rattle.spx_vcg.specs.States.{Given, given, value_or, state_in, AreValues}
 use Rattle.spx_vcg.proofs.ConditionTerms.{applied-Infix, applied-Number, applied-member_term, applied-moved_term, applied-signed_term}
 use Rattle.spx_vcg.proofs.SharedIds.{state_kept}
 
@@ -32,13 +29,6 @@ value_found trees values x id are is =
       grown = record { more = omega arith; kept = λ i w. refl };
       made = record { within = are.ids x id is; tree = ap (λ (o : Option TermId). value_or trees o (Variable x)) (sym is) };
     }
-
--- ---- whatever the values on entry are
-pub adds_meaning : {p : Program} {old new : List Term} {values : Given} {e : CoreExpr} {id : TermId} → ((entries : VarId → Term) → Adds old new id (applied (state_in old values) (term_of p entries e))) → AddsMeaning p old new values e id
-adds_meaning {p} adds = record { grown = (adds (now_term p)).grown; within = (adds (now_term p)).made.within; made = λ entries. (adds entries).made }
-
-pub meaning_adds : {p : Program} {old new : List Term} {id : TermId} {values : Given} {e : CoreExpr} → AddsMeaning p old new values e id → (entries : VarId → Term) → Adds old new id (applied (state_in old values) (term_of p entries e))
-meaning_adds m entries = record { grown = m.grown; made = m.made entries }
 
 -- an id that was made before others
 pub kept_later : {mid late : List Term} {id : TermId} {t : Term} → IsId mid id t → Grows mid late → tree_at late id ≡ t

@@ -33,14 +33,13 @@ use Rattle.spx_paths.specs.Walks.{assigned, checked_in, ending, entering, first_
 use Rattle.spx_arena.specs.declared.terms.TermId.{TermId}
 use Rattle.spx_arena.specs.Claims.{AreIds, AreLists, AreClaims, trees_at, claims_at}
 use Rattle.spx_arena.specs.Facts.{facts_at}
-use Rattle.spx_arena.specs.Sharing.{tree_at}
 use Rattle.spx_vcg.specs.declared.walk.Walk.{Walk}
-use Rattle.spx_vcg.specs.ConditionWalk.{State, applied, forward}
+use Rattle.spx_vcg.specs.ConditionWalk.{forward}
 use Rattle.spx_vcg.specs.States.{AreValues, given, state_in}
-use Rattle.spx_vcg.specs.WalkSteps.{Evaluates, Goes, Keeps, Makes, MeanAll, Means, Walks, Whole, claims_from, state}
-use Rattle.spx_vcg.specs.PathWalk.{Comes, HasParts, Passes}
+use Rattle.spx_vcg.specs.WalkSteps.{Evaluates, Goes, Keeps, Makes, MeanAll, Means, Walks, Whole, claims_from}
+use Rattle.spx_vcg.specs.PathWalk.{Ends, Passes}
 use Rattle.spx_vcg.proofs.ConditionForward.{forward_from_start}
-use Rattle.spx_vcg.proofs.SharedSteps.{goes_of, goes_twice, means_kept, state_same, walks_along, walks_not, walks_twice}
+use Rattle.spx_vcg.proofs.SharedSteps.{goes_of, goes_twice, means_kept, walks_along, walks_not}
 
 -- ---- assignments
 pub assign_checked : {w x y : Walk} {id : TermId} (p : Program) (place : Place) (v : VarId) (target : Option VarId) (subtype : Subtype) (name : Name) (t : Term) → Whole w → Keeps w x → id.0 < length w.terms → Means w id t
@@ -54,14 +53,14 @@ assign_checked {w} {x} {y} {id} p place v target subtype name t whole k within m
 pub no_lefts : (w : Walk) → MeanAll w [] []
 no_lefts w = record { trees = refl }
 
-pub after_assignment : {w x y : Walk} {id : TermId} (p : Program) (e : CoreExpr) (place : Place) (target : Reference) → Keeps w x → Evaluates p [] w x e id → place ≡ place_of e
-    → ((t : Term) → Means x id t → Goes x y (assigned p place (variable_of target.root.entity) t)) → Passes p w y (Set target e)
-after_assignment {w} {x} {y} {id} p e place target k v at a =
-    let along : (entries : VarId → Term) → Goes w y (λ rest. checks p entries [] e (assigned p (place_of e) (variable_of target.root.entity) (term_of p entries e) rest)) =
-    λ entries.
-    let m = v.makes entries [] (no_lefts w) in
-    subst (λ q. Goes w y (λ rest. checks p entries [] e (assigned p q (variable_of target.root.entity) (term_of p entries e) rest))) at (goes_twice (goes_of k m.walks) (a (term_of p entries e) m.means)) in
-    record { whole = (along (now_term p)).whole; adds = (along (now_term p)).adds; goes = λ sub. along (entry_term p sub) }
+pub after_assignment : {w x y : Walk} {id : TermId} (p : Program) (sub : Sub) (e : CoreExpr) (place : Place) (target : Reference) → Keeps w x → Evaluates p [] w x e id → place ≡ place_of e
+    → ((t : Term) → Means x id t → Goes x y (assigned p place (variable_of target.root.entity) t)) → Passes p sub w y (Set target e)
+after_assignment {w} {x} {y} {id} p sub e place target k v at a =
+    let t = term_of p (now_term p) e in
+    let m = v.makes [] (no_lefts w) in
+    let along : Goes w y (λ rest. checks p (now_term p) [] e (assigned p (place_of e) (variable_of target.root.entity) t rest)) =
+    subst (λ q. Goes w y (λ rest. checks p (now_term p) [] e (assigned p q (variable_of target.root.entity) t rest))) at (goes_twice (goes_of k m.walks) (a t m.means)) in
+    record { whole = along.whole; adds = along.adds; goes = along }
 
 pub as_numbers : {w x : Walk} (subtype : Subtype) (place : Place) (t : Term) → (subtype.base.class ≡ class.Integer) ⊎ (subtype.base.class ≡ class.Enumeration) → Walks w x (checked_under [] Range place (in_type subtype t)) → Walks w x (range_check subtype place t)
 as_numbers {w} {x} subtype place t (inl is) walks = walks_along (λ rest. ap (λ (c : Class). checked_in c subtype place t rest) is) walks
@@ -69,16 +68,6 @@ as_numbers {w} {x} subtype place t (inr is) walks = walks_along (λ rest. ap (λ
 
 pub as_truth : {w : Walk} (subtype : Subtype) (place : Place) (t : Term) → subtype.base.class ≡ class.Boolean → Walks w w (range_check subtype place t)
 as_truth {w} subtype place t is = walks_along (λ rest. ap (λ (c : Class). checked_in c subtype place t rest) is) (walks_not w)
-
--- ---- parts
-pub after_split : {w x y : Walk} {id : TermId} {parts ids : List TermId} (t : Term) → Whole w → Keeps w x → Makes w x (λ rest. rest) id t → trees_at x.terms parts ≡ conjuncts (tree_at x.terms id) → ids ≡ parts → HasParts (state w) t
-    → ((ts : List Term) → MeanAll x ids ts → Walks x y (assume_all ts)) → Walks w y (assume_parts t)
-after_split {w} {x} {y} {id} {parts} {ids} t whole k m trees same has facts =
-    let s = state_same whole k in
-    let all : MeanAll x ids (conjuncts t) = record {
-      trees = ap (trees_at x.terms) same ∙ trees ∙ ap conjuncts m.means.tree ∙ ap (λ (u : State). conjuncts (applied u t)) s ∙ has.parts ∙ ap (λ (u : State). map (applied u) (conjuncts t)) (sym s);
-    } in
-    walks_twice m.walks (facts (conjuncts t) all)
 
 -- ---- the start
 pub after_enter : {old mid new : Walk} {id : TermId} (p : Program) (v : VarId) (b : Bool) (first name : Name) → Keeps old mid → Makes old mid (λ rest. rest) id (Variable first)
@@ -100,9 +89,9 @@ after_import {old} {mid} {new} {id} p v b subtype name k m l facts st nm is =
     subst (λ b. Goes old new (assume_all (known_of p b v))) (sym is)
     (subst (λ (n : Name). Goes old new (assume_all (in_type (type_of p v) (Variable n)))) nm (subst (λ (s : Subtype). Goes old new (assume_all (in_type s (Variable name)))) st done))
 
-pub after_pre : {old new : Walk} (p : Program) (sub : Sub) (pre : Option CorePredicate) (e : CoreExpr) → Keeps old new → ((entries : VarId → Term) → Walks old new (assume_parts (term_of p entries e)))
-    → pre_facts p sub pre ≡ conjuncts (term_of p (entry_term p sub) e) → Goes old new (assume_all (pre_facts p sub pre))
-after_pre {old} {new} p sub pre e k walks is = subst (λ ts. Goes old new (assume_all ts)) (sym is) (goes_of k (walks (entry_term p sub)))
+pub after_pre : {old new : Walk} (p : Program) (sub : Sub) (pre : Option CorePredicate) (e : CoreExpr) (entries : VarId → Term) → Keeps old new → Walks old new (assume_parts (term_of p entries e))
+    → entries ≡ entry_term p sub → pre_facts p sub pre ≡ conjuncts (term_of p (entry_term p sub) e) → Goes old new (assume_all (pre_facts p sub pre))
+after_pre {old} {new} p sub pre e entries k walks at is = subst (λ ts. Goes old new (assume_all ts)) (sym is) (goes_of k (subst (λ es. Walks old new (assume_parts (term_of p es e))) at walks))
 
 pub assume_all-append : (ts us : List Term) (rest : Tree) → assume_all (ts ++ us) rest ≡ assume_all ts (assume_all us rest)
 assume_all-append [] us rest = refl
@@ -144,12 +133,12 @@ unfolding claims_from
 claims_end w = append-nil (claims_at w.terms w.facts.lists w.claims)
 
 pub all_claims : (a b i c d e : Walk) (p : Program) (sub : Sub) → Starts a
-    → Goes a b (entering p sub (formals sub)) → Goes b i (initializing p (locals sub)) → Goes i c (assume_all (flat_map (import_facts p sub) (formals sub))) → Goes c d (assume_all (pre_facts p sub sub.pre)) → Comes p d e (Then (commands sub.statements) Skip) Skip
+    → Goes a b (entering p sub (formals sub)) → Goes b i (initializing p (locals sub)) → Goes i c (assume_all (flat_map (import_facts p sub) (formals sub))) → Goes c d (assume_all (pre_facts p sub sub.pre)) → Ends p sub d e (Then (commands sub.statements) Skip)
     → claims_at e.terms e.facts.lists e.claims ≡ map tidy (body_claims p sub)
 all_claims a b i c d e p sub starts enter initialize import require body =
-    let rest = walk p sub (commands sub.statements) ending ending 0 in
+    let rest = walk p sub (commands sub.statements) (ending p sub) (ending p sub) 0 in
     sym (claims_end e)
-    ∙ sym (body.same sub 0)
+    ∙ sym (body.same 0)
     ∙ sym (require.same rest)
     ∙ sym (import.same (assume_all (pre_facts p sub sub.pre) rest))
     ∙ ap (claims_from i) (sym (assume_all-append (flat_map (import_facts p sub) (formals sub)) (pre_facts p sub sub.pre) rest))

@@ -1,4 +1,5 @@
 pub mod ConditionWalk
+pub mod EntryNames
 pub mod States
 pub mod WalkSteps
 pub mod PathWalk

@@ -10,7 +10,7 @@ use Rattle.spx_term.specs.declared.term.Term.TheVariants.{Prefix}
 use Rattle.spx_term.specs.declared.term.TermPrefix.TheVariants.{Not}
 use Rattle.spx_term.specs.Conjuncts.{conjuncts}
 use Rattle.spx_term.specs.Steps.{Tree, Assume, Cut, Split, assume_all, assume_parts}
-use Rattle.spx_paths.specs.Terms.{entry_term, term_of}
+use Rattle.spx_paths.specs.Terms.{now_term, term_of}
 use Rattle.spx_paths.specs.Walks.{ending, walk, walk_for}
 use Rattle.spx_arena.specs.declared.terms.TermId.{TermId}
 use Rattle.spx_vcg.specs.declared.branches.Mark.{Mark}
@@ -18,46 +18,52 @@ use Rattle.spx_vcg.specs.declared.walk.Walk.{Walk}
 use Rattle.spx_vcg.specs.ConditionWalk.{State, applied}
 use Rattle.spx_vcg.specs.WalkSteps.{state, Whole, OnlyAdds, claims_from, Goes, MeanAll, Means, Walks}
 
--- the walk has come along a command that goes on
-pub record Passes (p : Program) (old new : Walk) (c : Command) : Type 0 where
+-- the walk of this subprogram has come along a command that goes on
+pub record Passes (p : Program) (sub : Sub) (old new : Walk) (c : Command) : Type 0 where
   pub whole : Whole new
   pub adds : OnlyAdds old new
-  pub goes : (sub : Sub) → Goes old new (λ rest. walk p sub c (λ made. rest) ending 0)
+  pub goes : Goes old new (λ rest. walk p sub c (λ made. rest) (ending p sub) 0)
 
 -- the claims from the first walk and command on are those from the second
-pub record Comes (p : Program) (old new : Walk) (from to : Command) : Type 0 where
+pub record Comes (p : Program) (sub : Sub) (old new : Walk) (from to : Command) : Type 0 where
   pub whole : Whole new
   pub adds : OnlyAdds old new
-  pub same : (sub : Sub) (made : ℕ) → claims_from old (walk p sub from ending ending made) ≡ claims_from new (walk p sub to ending ending made)
+  pub same : (made : ℕ) → claims_from old (walk p sub from (ending p sub) (ending p sub) made) ≡ claims_from new (walk p sub to (ending p sub) (ending p sub) made)
+
+-- the claims from the first walk and command on, up to the end of each path, are those of the second walk
+pub record Ends (p : Program) (sub : Sub) (old new : Walk) (from : Command) : Type 0 where
+  pub whole : Whole new
+  pub adds : OnlyAdds old new
+  pub same : (made : ℕ) → claims_from old (walk p sub from (ending p sub) (ending p sub) made) ≡ claims_from new Cut
 
 -- the walk has come from an arm to what is done where it is not taken
-abbrev pub PassesArm : Program → Walk → Walk → (Command → Command) → Command → Type 0
-PassesArm p old new arm following = (otherwise : Command) → Comes p old new (Then (arm otherwise) following) (Then otherwise following)
+abbrev pub PassesArm : Program → Sub → Walk → Walk → (Command → Command) → Command → Type 0
+PassesArm p sub old new arm following = (otherwise : Command) → Comes p sub old new (Then (arm otherwise) following) (Then otherwise following)
 
 -- the claims under a condition are made, and values and facts are as they were
-pub record Takes (p : Program) (old new : Walk) (condition : CoreExpr) (c : Command) : Type 0 where
+pub record Takes (p : Program) (sub : Sub) (old new : Walk) (condition : CoreExpr) (c : Command) : Type 0 where
   pub whole : Whole new
   pub adds : OnlyAdds old new
   pub kept : state new ≡ state old
-  pub goes : (sub : Sub) (made : ℕ) → Walks old new (Split (assume_parts (term_of p (entry_term p sub) condition) (walk p sub c ending ending made)))
+  pub goes : (made : ℕ) → Walks old new (Split (assume_parts (term_of p (now_term p) condition) (walk p sub c (ending p sub) (ending p sub) made)))
 
 -- the claims under these facts are made, and values and facts are as they were
-pub record TakesUnder (p : Program) (old new : Walk) (facts : List TermId) (c : Command) : Type 0 where
+pub record TakesUnder (p : Program) (sub : Sub) (old new : Walk) (facts : List TermId) (c : Command) : Type 0 where
   pub whole : Whole new
   pub adds : OnlyAdds old new
   pub kept : state new ≡ state old
-  pub goes : (ts : List Term) → MeanAll old facts ts → (sub : Sub) (made : ℕ) → Walks old new (Split (assume_all ts (walk p sub c ending ending made)))
+  pub goes : (ts : List Term) → MeanAll old facts ts → (made : ℕ) → Walks old new (Split (assume_all ts (walk p sub c (ending p sub) (ending p sub) made)))
 
 -- the alternatives that are left for a value after earlier choices, each with what follows it; where none is left, nothing
 abbrev pub left_for : Program → Sub → Term → List Term → List (Option (List CoreChoice) × Command) → Command → ℕ → Tree
 left_for p sub t earlier [] following made = Cut
-left_for p sub t earlier (first ∷ more) following made = walk_for p sub t earlier (alternatives_of first more) (walk p sub following ending ending) ending made
+left_for p sub t earlier (first ∷ more) following made = walk_for p sub t earlier (alternatives_of first more) (walk p sub following (ending p sub) (ending p sub)) (ending p sub) made
 
 -- the claims of these alternatives are made, for what this id stands for
-pub record TakesEach (p : Program) (old new : Walk) (value : TermId) (alternatives : List (Option (List CoreChoice) × Command)) (following : Command) : Type 0 where
+pub record TakesEach (p : Program) (sub : Sub) (old new : Walk) (value : TermId) (alternatives : List (Option (List CoreChoice) × Command)) (following : Command) : Type 0 where
   pub whole : Whole new
   pub adds : OnlyAdds old new
-  pub same : (t : Term) → Means old value t → (sub : Sub) (made : ℕ) → claims_from old (left_for p sub t [] alternatives following made) ≡ claims_from new Cut
+  pub same : (t : Term) → Means old value t → (made : ℕ) → claims_from old (left_for p sub t [] alternatives following made) ≡ claims_from new Cut
 
 -- a condition is false
 abbrev pub negated : Term → Tree → Tree

@@ -1,17 +1,13 @@
 -- The values that variables have on the way, as ids of terms.
-use Rattle.std.specs.Prelude.{◌≡◌, ℕ, ◌<◌, Bool, List, length, Option, Some, None, if◌then◌else◌}
+use Rattle.std.specs.Prelude.{◌≡◌, ℕ, ◌<◌, Bool, List, ◌++◌, length, map, Option, Some, None, if◌then◌else◌}
 use Rattle.std.specs.Map.{lookup}
-use Rattle.spx_core.specs.declared.entity.VarId.{VarId}
-use Rattle.spx_core.specs.declared.expression.CoreExpr.{CoreExpr}
-use Rattle.spx_core.specs.declared.program.Program.{Program}
 use Rattle.spx_term.specs.declared.term.Name.{Name}
 use Rattle.spx_term.specs.contracts.term.NamePartialEq.TheImpl as name_impl
 use Rattle.spx_term.specs.declared.term.Term.{Term}
 use Rattle.spx_term.specs.declared.term.Term.TheVariants.{Variable}
-use Rattle.spx_paths.specs.Terms.{term_of}
 use Rattle.spx_arena.specs.declared.terms.TermId.{TermId}
 use Rattle.spx_arena.specs.Claims.{AreIds, trees_at}
-use Rattle.spx_arena.specs.Sharing.{tree_at, Grows, IsId}
+use Rattle.spx_arena.specs.Sharing.{tree_at, Grows}
 use Rattle.spx_vcg.specs.ConditionWalk.{State, applied}
 
 -- names with the ids of their values
@@ -42,14 +38,12 @@ pub record AreValues (n : ℕ) (values : Given) : Type 0 where
 pub record IsSet (old new : Given) (x : Name) (id : TermId) : Type 0 where
   pub at : (y : Name) → given new y ≡ (if name_eq y x then Some id else given old y)
 
--- The term of an expression was added, or was there, whatever the terms of values on entry are: no form of an expression reads one yet.
-pub record AddsMeaning (p : Program) (old new : List Term) (values : Given) (e : CoreExpr) (id : TermId) : Type 0 where
-  pub grown : Grows old new
-  pub within : id.0 < length new
-  pub made : (entries : VarId → Term) → IsId new id (applied (state_in old values) (term_of p entries e))
-
 -- terms were added, or were there
 pub record AddsAll (old new : List Term) (ids : List TermId) (ts : List Term) : Type 0 where
   pub grown : Grows old new
   pub within : AreIds (length new) ids
   pub trees : trees_at new ids ≡ ts
+
+-- these terms, where names have these values, were added to the parts so far
+abbrev pub AddsParts : (old new : List Term) → Given → (before after : List TermId) → List Term → Type 0
+AddsParts old new values before after ts = AddsAll old new after (trees_at old before ++ map (applied (state_in old values)) ts)

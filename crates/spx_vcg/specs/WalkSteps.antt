@@ -1,6 +1,5 @@
 -- What the walk has made, and what each of its steps adds.
 use Rattle.std.specs.Prelude.{◌≡◌, ℕ, ◌<◌, Bool, List, ◌++◌, length, map}
-use Rattle.spx_core.specs.declared.entity.VarId.{VarId}
 use Rattle.spx_core.specs.declared.expression.CoreExpr.{CoreExpr}
 use Rattle.spx_core.specs.declared.program.Program.{Program}
 use Rattle.spx_term.specs.declared.term.Term.{Term}
@@ -9,7 +8,7 @@ use Rattle.indexmap.specs.IndexSet.{insert_key}
 use Rattle.spx_arena.specs.contracts.terms.TermIdPartialEq.TheImpl as id_impl
 use Rattle.spx_arena.specs.declared.terms.TermId.{TermId}
 use Rattle.spx_paths.specs.Checks.{checks}
-use Rattle.spx_paths.specs.Terms.{term_of}
+use Rattle.spx_paths.specs.Terms.{now_term, term_of}
 use Rattle.spx_arena.specs.Sharing.{tree_at, Grows}
 use Rattle.spx_arena.specs.Facts.{facts_at}
 use Rattle.spx_arena.specs.Claims.{AreIds, AreLists, AreClaims, trees_at, claims_at}
@@ -90,10 +89,9 @@ pub record Makes (old new : Walk) (steps : Tree → Tree) (id : TermId) (t : Ter
   pub walks : Walks old new steps
   pub means : Means new id t
 
--- An expression was checked under these left sides, and the id is that of its term, whatever the terms of values on entry are: no form of an
--- expression reads one yet.
+-- an expression in code was checked under these left sides, and the id is that of its term
 pub record Evaluates (p : Program) (lefts : List TermId) (old new : Walk) (e : CoreExpr) (id : TermId) : Type 0 where
-  pub makes : (entries : VarId → Term) (ls : List Term) → MeanAll old lefts ls → Makes old new (checks p entries ls e) id (term_of p entries e)
+  pub makes : (ls : List Term) → MeanAll old lefts ls → Makes old new (checks p (now_term p) ls e) id (term_of p (now_term p) e)
 
 -- a fact was added, or was there
 pub record AddsFact (old new : Facts) (fact : TermId) : Type 0 where

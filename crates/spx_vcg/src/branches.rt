@@ -1,19 +1,21 @@
 // The walk through statements to the end of each path. What paths have in common is walked once.
 ghost use Rattle.std.specs.Prelude.{◌≡◌, ◌<◌, length, map, IfOk, OnOk};
 ghost use Rattle.spx_text.specs.declared.place.Place.{Place};
-ghost use Rattle.spx_core.specs.Commands.{Skip, Then, alternative, arm_before, arms_before, commands, select};
+ghost use Rattle.spx_core.specs.Commands.{Then, alternative, arm_before, arms_before, commands, select};
 ghost use Rattle.spx_term.specs.declared.term.Term.{Term};
 ghost use Rattle.spx_vcg.specs.Following.{after, done_otherwise};
 ghost use Rattle.spx_vcg.specs.WalkSteps.{Keeps, Means, Walks, Whole};
 ghost use Rattle.spx_arena.specs.Claims.{AreIds};
-ghost use Rattle.spx_vcg.specs.PathWalk.{Comes, Marks, IsBack, Takes, TakesEach, TakesUnder, negated, PassesArm};
+ghost use Rattle.spx_vcg.specs.PathWalk.{Ends, Marks, IsBack, Takes, TakesEach, TakesUnder, negated, PassesArm};
 
 use crate::choices::alternative_facts;
+use crate::entered::Entered;
 use crate::ids::negated_id;
+use crate::steps::Body;
 use crate::values::Values;
 use crate::walk::Walk;
 use spx_arena::{FactsId, TermId};
-use spx_core::{CoreAlternative, CoreArm, CoreExpr, CoreStmt, Program};
+use spx_core::{CoreAlternative, CoreArm, CoreExpr, CoreStmt};
 use sqlite_items::Items;
 use std::alloc::{AllocError, Global};
 
@@ -80,17 +82,17 @@ impl Walk {
     fn taken(
         &mut self,
         alloc: Global,
-        program: &Program,
+        body: &Body,
         condition: &CoreExpr,
-        body: &[CoreStmt],
+        stmts: &[CoreStmt],
         rest: &Rest,
     ) -> Result<(), AllocError>
         requires { Whole self.old }
-        ensures { OnOk result (Takes program.now self.old self.new condition.now (Then (commands body.now) (after rest.now))) }
+        ensures { OnOk result (Takes body.now.program.now body.now.sub.now self.old self.new condition.now (Then (commands stmts.now) (after rest.now))) }
     {
         let mark = self.mark()?;
-        self.assume_parts(alloc, program, condition)?;
-        self.path(alloc, program, body, rest)?;
+        self.assume_parts(alloc, body.program, &Entered::Present, condition)?;
+        self.path(alloc, body, stmts, rest)?;
         self.back_to(mark);
         Ok(())
     }
@@ -112,15 +114,15 @@ impl Walk {
     fn arm(
         &mut self,
         alloc: Global,
-        program: &Program,
+        body: &Body,
         arm: &CoreArm,
         rest: &Rest,
     ) -> Result<(), AllocError>
         requires { Whole self.old }
-        ensures { OnOk result (PassesArm program.now self.old self.new (arm_before arm.now) (after rest.now)) }
+        ensures { OnOk result (PassesArm body.now.program.now body.now.sub.now self.old self.new (arm_before arm.now) (after rest.now)) }
     {
-        let condition = self.checked_id(alloc, program, &[], &arm.condition)?;
-        self.taken(alloc, program, &arm.condition, arm.body.as_slice(), rest)?;
+        let condition = self.checked_id(alloc, body.program, &[], &arm.condition)?;
+        self.taken(alloc, body, &arm.condition, arm.body.as_slice(), rest)?;
         self.not_taken(condition)?;
         Ok(())
     }
@@ -130,18 +132,18 @@ impl Walk {
     fn arms(
         &mut self,
         alloc: Global,
-        program: &Program,
+        body: &Body,
         arms: &[CoreArm],
         otherwise: &[CoreStmt],
         rest: &Rest,
     ) -> Result<(), AllocError>
         requires { Whole self.old }
-        ensures { OnOk result (Comes program.now self.old self.new (Then (arms_before (commands otherwise.now) (map arm_before arms.now)) (after rest.now)) Skip) }
+        ensures { OnOk result (Ends body.now.program.now body.now.sub.now self.old self.new (Then (arms_before (commands otherwise.now) (map arm_before arms.now)) (after rest.now))) }
     {
         for arm in arms {
-            self.arm(alloc, program, arm, rest)?;
+            self.arm(alloc, body, arm, rest)?;
         }
-        self.path(alloc, program, otherwise, rest)?;
+        self.path(alloc, body, otherwise, rest)?;
         Ok(())
     }
 
@@ -150,18 +152,18 @@ impl Walk {
     fn alternative(
         &mut self,
         alloc: Global,
-        program: &Program,
+        body: &Body,
         facts: &[TermId],
-        body: &[CoreStmt],
+        stmts: &[CoreStmt],
         rest: &Rest,
     ) -> Result<(), AllocError>
         requires whole { Whole self.old }
         requires within { AreIds (length self.old.terms) facts.now }
-        ensures { OnOk result (TakesUnder program.now self.old self.new facts.now (Then (commands body.now) (after rest.now))) }
+        ensures { OnOk result (TakesUnder body.now.program.now body.now.sub.now self.old self.new facts.now (Then (commands stmts.now) (after rest.now))) }
     {
         let mark = self.mark()?;
         self.assume_all(facts)?;
-        self.path(alloc, program, body, rest)?;
+        self.path(alloc, body, stmts, rest)?;
         self.back_to(mark);
         Ok(())
     }
@@ -171,21 +173,21 @@ impl Walk {
     fn alternatives(
         &mut self,
         alloc: Global,
-        program: &Program,
+        body: &Body,
         value: TermId,
         alternatives: &[CoreAlternative],
         rest: &Rest,
     ) -> Result<(), AllocError>
         requires whole { Whole self.old }
         requires within { value.0 < length self.old.terms }
-        ensures { OnOk result (TakesEach program.now self.old self.new value (map alternative alternatives.now) (after rest.now)) }
+        ensures { OnOk result (TakesEach body.now.program.now body.now.sub.now self.old self.new value (map alternative alternatives.now) (after rest.now)) }
     {
         let mut earlier = Items::new(alloc);
         for alternative in alternatives {
             let choices = &alternative.choices;
             let facts = alternative_facts(alloc, &mut self.terms, value, &mut earlier, choices)?;
-            let body = alternative.body.as_slice();
-            self.alternative(alloc, program, facts.as_slice(), body, rest)?;
+            let stmts = alternative.body.as_slice();
+            self.alternative(alloc, body, facts.as_slice(), stmts, rest)?;
         }
         Ok(())
     }
@@ -195,33 +197,36 @@ impl Walk {
     fn case(
         &mut self,
         alloc: Global,
-        program: &Program,
+        body: &Body,
         selector: &CoreExpr,
         alternatives: &[CoreAlternative],
         rest: &Rest,
     ) -> Result<(), AllocError>
         requires { Whole self.old }
-        ensures { OnOk result ((place : Place) → Comes program.now self.old self.new (Then (select place selector.now (map alternative alternatives.now)) (after rest.now)) Skip) }
+        ensures { OnOk result ((place : Place) → Ends body.now.program.now body.now.sub.now self.old self.new (Then (select place selector.now (map alternative alternatives.now)) (after rest.now))) }
     {
         if alternatives.is_empty() {
-            self.follow(alloc, program, rest)?;
+            self.follow(alloc, body, rest)?;
             return Ok(());
         }
-        let value = self.checked_id(alloc, program, &[], selector)?;
-        self.alternatives(alloc, program, value, alternatives, rest)?;
+        let value = self.checked_id(alloc, body.program, &[], selector)?;
+        self.alternatives(alloc, body, value, alternatives, rest)?;
         Ok(())
     }
 
     /// What follows, to the end of each path.
     #[cycle(path)]
-    fn follow(&mut self, alloc: Global, program: &Program, rest: &Rest) -> Result<(), AllocError>
+    fn follow(&mut self, alloc: Global, body: &Body, rest: &Rest) -> Result<(), AllocError>
         requires { Whole self.old }
-        ensures { OnOk result (Comes program.now self.old self.new (after rest.now) Skip) }
+        ensures { OnOk result (Ends body.now.program.now body.now.sub.now self.old self.new (after rest.now)) }
     {
         match rest {
-            Rest::End => Ok(()),
+            Rest::End => {
+                self.finish(alloc, body)?;
+                Ok(())
+            }
             Rest::After(stmts, rest) => {
-                self.path(alloc, program, &*stmts, &*rest)?;
+                self.path(alloc, body, &*stmts, &*rest)?;
                 Ok(())
             }
         }
@@ -232,35 +237,39 @@ impl Walk {
     pub fn path(
         &mut self,
         alloc: Global,
-        program: &Program,
+        body: &Body,
         stmts: &[CoreStmt],
         rest: &Rest,
     ) -> Result<(), AllocError>
         requires { Whole self.old }
-        ensures { OnOk result (Comes program.now self.old self.new (Then (commands stmts.now) (after rest.now)) Skip) }
+        ensures { OnOk result (Ends body.now.program.now body.now.sub.now self.old self.new (Then (commands stmts.now) (after rest.now))) }
     {
         for (at, stmt) in stmts.iter().enumerate() {
             match stmt {
                 CoreStmt::Null(_) => continue,
                 CoreStmt::Assignment(target, value) => {
-                    self.assignment(alloc, program, target, value)?;
+                    self.assignment(alloc, body, target, value)?;
+                    continue;
+                }
+                CoreStmt::Check(place, condition) => {
+                    self.checked(alloc, body, *place, condition)?;
                     continue;
                 }
                 CoreStmt::If(arms, otherwise, _) => {
                     let following = Rest::more(&stmts[at + 1..], &*rest);
                     let otherwise = done_otherwise(otherwise);
-                    self.arms(alloc, program, arms.as_slice(), otherwise, &following)?;
+                    self.arms(alloc, body, arms.as_slice(), otherwise, &following)?;
                     return Ok(());
                 }
                 CoreStmt::Case(_, selector, alternatives, _) => {
                     let following = Rest::more(&stmts[at + 1..], &*rest);
                     let alternatives = alternatives.as_slice();
-                    self.case(alloc, program, selector, alternatives, &following)?;
+                    self.case(alloc, body, selector, alternatives, &following)?;
                     return Ok(());
                 }
             }
         }
-        self.follow(alloc, program, rest)?;
+        self.follow(alloc, body, rest)?;
         Ok(())
     }
 }

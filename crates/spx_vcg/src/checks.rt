@@ -408,6 +408,7 @@ impl Walk {
         match expr {
             CoreExpr::Number(_, _) => Ok(self.term_id(program, expr)?),
             CoreExpr::Name(_) => Ok(self.term_id(program, expr)?),
+            CoreExpr::Entry(_, _) => Ok(self.term_id(program, expr)?),
             CoreExpr::Attribute(_, _) => Ok(self.term_id(program, expr)?),
             CoreExpr::Applied(_, _, _) => Ok(self.checked_applied(alloc, program, lefts, expr)?),
             CoreExpr::Parenthesized(_, inner) => {

@@ -7,12 +7,14 @@ ghost use Rattle.spx_term.specs.declared.term.Term.TheVariants as term;
 ghost use Rattle.spx_term.specs.declared.term.TermPrefix.TheVariants.{Not};
 ghost use Rattle.spx_term.specs.Folding.{term_of as static_term};
 ghost use Rattle.spx_meaning.specs.Evaluation.{term_op};
-ghost use Rattle.spx_paths.specs.Terms.{between, member_term, moved_term, named, now_term, signed_term};
+ghost use Rattle.spx_paths.specs.Terms.{between, member_term, moved_term, named, now_term, signed_term, term_of};
 ghost use Rattle.spx_arena.specs.Sharing.{tree_at, Adds};
 ghost use Rattle.spx_vcg.specs.ConditionWalk.{applied};
 ghost use Rattle.spx_vcg.specs.Functions.{shift_in};
-ghost use Rattle.spx_vcg.specs.States.{state_in, AddsMeaning, AreValues};
+ghost use Rattle.spx_vcg.specs.EntryNames.{entered_term};
+ghost use Rattle.spx_vcg.specs.States.{state_in, AreValues};
 
+use crate::entered::{Entered, entered_name};
 use crate::names::now;
 use crate::values::Values;
 use spx_arena::{Node, TermId, Terms};
@@ -45,6 +47,8 @@ pub fn term_op(op: InfixOp) -> TermOp
         InfixOp::Xor => TermOp::NotEqual,
         InfixOp::AndThen => TermOp::And,
         InfixOp::OrElse => TermOp::Or,
+        InfixOp::Implies => TermOp::Implies,
+        InfixOp::Equivalent => TermOp::Equivalent,
     }
 }
 
@@ -97,6 +101,24 @@ pub fn name_id(
 {
     match variable_of(entity) {
         Some(var) => value_id(terms, values, now(program, var)),
+        None => terms.make(Node::Number(0)),
+    }
+}
+
+/// The id of what a name stands for with `~` after it.
+#[tactic(auto, using(crate::proofs::SharedTerms::adds_laws, crate::proofs::ConditionTerms::applied_forms))]
+pub fn entry_id(
+    program: &Program,
+    entered: &Entered,
+    terms: &mut Terms,
+    values: &Values,
+    entity: Option<Entity>,
+) -> Result<TermId, AllocError>
+    requires { AreValues (length terms.old) values.now }
+    ensures { IfOk result (λ id. Adds terms.old terms.new id (applied (state_in terms.old values.now) (named (entered_term program.now entered.now) (variable_of entity)))) }
+{
+    match variable_of(entity) {
+        Some(var) => value_id(terms, values, entered_name(program, entered, var)),
         None => terms.make(Node::Number(0)),
     }
 }
@@ -201,16 +223,18 @@ pub fn member_id(
     }
 }
 
-/// The id of the term of an expression, where variables have these values. A static one stands as its value.
+/// The id of the term of an expression, where variables have these values and values on entry are named so. A static one
+/// stands as its value.
 #[cycle(term_id)]
 pub fn term_id(
     program: &Program,
+    entered: &Entered,
     terms: &mut Terms,
     values: &Values,
     expr: &CoreExpr,
 ) -> Result<TermId, AllocError>
     requires { AreValues (length terms.old) values.now }
-    ensures { IfOk result (AddsMeaning program.now terms.old terms.new values.now expr.now) }
+    ensures { IfOk result (λ id. Adds terms.old terms.new id (applied (state_in terms.old values.now) (term_of program.now (entered_term program.now entered.now) expr.now))) }
 {
     if let Some(value) = literal(expr) {
         let id = static_id(terms, value)?;
@@ -225,42 +249,46 @@ pub fn term_id(
             let id = name_id(program, terms, values, name.entity)?;
             Ok(id)
         }
+        CoreExpr::Entry(name, _) => {
+            let id = entry_id(program, entered, terms, values, name.entity)?;
+            Ok(id)
+        }
         CoreExpr::Attribute(_, _) => {
             let id = terms.make(Node::Number(0))?;
             Ok(id)
         }
         CoreExpr::Applied(function, _, operand) => {
-            let operand = term_id(program, terms, values, operand.get())?;
+            let operand = term_id(program, entered, terms, values, operand.get())?;
             let id = moved_id(terms, shift_of(function), operand)?;
             Ok(id)
         }
         CoreExpr::Parenthesized(_, inner) => {
-            let id = term_id(program, terms, values, inner.get())?;
+            let id = term_id(program, entered, terms, values, inner.get())?;
             Ok(id)
         }
         CoreExpr::Prefix(op, _, operand) => {
-            let operand = term_id(program, terms, values, operand.get())?;
+            let operand = term_id(program, entered, terms, values, operand.get())?;
             let id = signed_id(terms, *op, operand)?;
             Ok(id)
         }
         CoreExpr::Infix(op, _, left, right) => {
-            let left = term_id(program, terms, values, left.get())?;
-            let right = term_id(program, terms, values, right.get())?;
+            let left = term_id(program, entered, terms, values, left.get())?;
+            let right = term_id(program, entered, terms, values, right.get())?;
             let id = terms.infix(term_op(*op), left, right)?;
             Ok(id)
         }
         CoreExpr::InType(op, _, tested, name) => {
             let subtype = subtype_of(name.root.entity);
-            let tested = term_id(program, terms, values, tested.get())?;
+            let tested = term_id(program, entered, terms, values, tested.get())?;
             let low = terms.make(Node::Number(subtype.first))?;
             let high = terms.make(Node::Number(subtype.last))?;
             let id = member_id(terms, *op, tested, low, high)?;
             Ok(id)
         }
         CoreExpr::InRange(op, _, tested, low, high) => {
-            let tested = term_id(program, terms, values, tested.get())?;
-            let low = term_id(program, terms, values, low.get())?;
-            let high = term_id(program, terms, values, high.get())?;
+            let tested = term_id(program, entered, terms, values, tested.get())?;
+            let low = term_id(program, entered, terms, values, low.get())?;
+            let high = term_id(program, entered, terms, values, high.get())?;
             let id = member_id(terms, *op, tested, low, high)?;
             Ok(id)
         }

@@ -2,14 +2,17 @@
 //!
 //! A layer above may rely on this: `shared_conditions` answers the conditions of a subprogram (`conditions_of` of
 //! `spx_paths`) over shared terms and facts. Time and memory grow with the steps of its paths, where a beginning that paths
-//! share counts once, save that each operator looks for a static value in all that it is applied to. `conditions` answers
-//! the same as trees. Both refuse a subprogram exactly where it has more than `MOST_PATHS` paths, or else one of its
-//! conditions has more than `MOST_NODES` nodes, or where memory runs out.
+//! share counts once, save that each operator looks for a static value in all that it is applied to, and that each
+//! annotation reads the `derives` annotation once more. `conditions` answers the same as trees. Both refuse a subprogram
+//! exactly where it has more than `MOST_PATHS` paths, or else one of its conditions has more than `MOST_NODES` nodes, or
+//! where memory runs out.
 #![tactic(auto)]
 
 mod branches;
 mod checks;
 mod choices;
+mod conjuncts;
+mod entered;
 mod fault;
 mod goals;
 mod ids;

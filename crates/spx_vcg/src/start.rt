@@ -9,6 +9,7 @@ ghost use Rattle.spx_paths.specs.Terms.{now};
 ghost use Rattle.spx_paths.specs.Walks.{entering, import_facts, initializing, pre_facts, starting_with};
 ghost use Rattle.spx_vcg.specs.WalkSteps.{Goes, Whole};
 
+use crate::entered::{Entered, Interface};
 use crate::names::{entry, now};
 use crate::walk::Walk;
 use spx_core::{Program, Sub, VarId, VarSet};
@@ -117,7 +118,9 @@ impl Walk {
         ensures { OnOk result (Goes self.old self.new (assume_all (pre_facts program.now sub.now sub.now.pre))) }
     {
         if let Some(pre) = &sub.pre {
-            self.assume_parts(alloc, program, &pre.condition)?;
+            let interface = Interface::of(alloc, sub)?;
+            let entered = Entered::OnEntry(&interface);
+            self.assume_parts(alloc, program, &entered, &pre.condition)?;
             return Ok(());
         }
         Ok(())

@@ -1,99 +1,32 @@
-// Conditions that are taken for facts, and assignments.
-ghost use Rattle.std.specs.Prelude.{◌≡◌, ◌<◌, length, IfOk, OnOk};
-ghost use Rattle.spx_core.specs.declared.entity.VarId.{VarId};
-ghost use Rattle.spx_core.specs.Commands.{Set};
+// Assignments and annotations.
+ghost use Rattle.std.specs.Prelude.{◌≡◌, ◌<◌, length, OnOk};
+ghost use Rattle.spx_core.specs.Commands.{Check, Set, Skip};
 ghost use Rattle.spx_core.specs.Uses.{variable_of};
 ghost use Rattle.spx_term.specs.declared.term.Term.{Term};
-ghost use Rattle.spx_term.specs.Steps.{Assume, assume_parts};
-ghost use Rattle.spx_paths.specs.Terms.{term_of};
-ghost use Rattle.spx_paths.specs.Walks.{assigned, range_check};
-ghost use Rattle.spx_vcg.specs.PathWalk.{HasParts, Passes};
-ghost use Rattle.spx_vcg.specs.WalkSteps.{state, Goes, Keeps, Means, Walks, Whole};
+ghost use Rattle.spx_paths.specs.Terms.{entry_term, term_of};
+ghost use Rattle.spx_paths.specs.Walks.{asserted, assigned, range_check};
+ghost use Rattle.spx_vcg.specs.PathWalk.{Ends, Passes};
+ghost use Rattle.spx_vcg.specs.WalkSteps.{Goes, Keeps, Means, Walks, Whole};
 
+use crate::entered::{Entered, Interface};
 use crate::goals::in_type;
-use crate::ids::shift_of;
 use crate::names::now;
 use crate::walk::Walk;
 use spx_arena::TermId;
-use spx_core::{Class, CoreExpr, Entity, Program, Reference, Shift, Subtype, variable_of};
+use spx_core::{Class, CoreExpr, Entity, Program, Reference, Sub, Subtype, variable_of};
 use spx_meaning::type_of;
-use spx_paths::literal;
 use spx_term::CondKind;
 use spx_text::Place;
-use spx_tree::{InfixOp, PrefixOp};
 use std::alloc::{AllocError, Global};
 
+/// A subprogram whose body is walked, and its program.
+#[derive(Clone, Copy)]
+pub struct Body<'a> {
+    pub program: &'a Program,
+    pub sub: &'a Sub,
+}
+
 impl Walk {
-    /// Takes a condition for one fact.
-    fn assume_whole(&mut self, program: &Program, condition: &CoreExpr) -> Result<(), AllocError>
-        requires { Whole self.old }
-        ensures keeps { OnOk result (Keeps self.old self.new) }
-        ensures walks { OnOk result ((entries : VarId → Term) → Walks self.old self.new (Assume (term_of program.now entries condition.now))) }
-    {
-        let fact = self.term_id(program, condition)?;
-        self.assume(fact)?;
-        Ok(())
-    }
-
-    /// Takes the parts of the term that a condition stands for as facts.
-    fn assume_split(
-        &mut self,
-        alloc: Global,
-        program: &Program,
-        condition: &CoreExpr,
-    ) -> Result<(), AllocError>
-        requires { Whole self.old }
-        ensures keeps { OnOk result (Keeps self.old self.new) }
-        ensures walks { OnOk result ((entries : VarId → Term) → HasParts (state self.old) (term_of program.now entries condition.now) → Walks self.old self.new (assume_parts (term_of program.now entries condition.now))) }
-    {
-        let fact = self.term_id(program, condition)?;
-        let parts = self.terms.conjuncts(alloc, fact)?;
-        self.assume_all(parts.as_slice())?;
-        Ok(())
-    }
-
-    /// Takes each part of a condition for a fact. A variable is one fact, whatever its value.
-    #[cycle(assume_parts)]
-    pub fn assume_parts(
-        &mut self,
-        alloc: Global,
-        program: &Program,
-        condition: &CoreExpr,
-    ) -> Result<(), AllocError>
-        requires { Whole self.old }
-        ensures keeps { OnOk result (Keeps self.old self.new) }
-        ensures walks { OnOk result ((entries : VarId → Term) → Walks self.old self.new (assume_parts (term_of program.now entries condition.now))) }
-    {
-        if literal(condition).is_some() {
-            return Ok(self.assume_whole(program, condition)?);
-        }
-        match condition {
-            CoreExpr::Number(_, _) => Ok(self.assume_whole(program, condition)?),
-            CoreExpr::Name(_) => Ok(self.assume_whole(program, condition)?),
-            CoreExpr::Attribute(_, _) => Ok(self.assume_whole(program, condition)?),
-            CoreExpr::Applied(function, _, operand) => match shift_of(function) {
-                Shift::Same => Ok(self.assume_parts(alloc, program, operand.get())?),
-                _ => Ok(self.assume_whole(program, condition)?),
-            },
-            CoreExpr::Parenthesized(_, inner) => {
-                Ok(self.assume_parts(alloc, program, inner.get())?)
-            }
-            CoreExpr::Prefix(op, _, operand) => match op {
-                PrefixOp::Plus => Ok(self.assume_parts(alloc, program, operand.get())?),
-                _ => Ok(self.assume_whole(program, condition)?),
-            },
-            CoreExpr::Infix(op, _, left, right) => match op {
-                InfixOp::And | InfixOp::AndThen => {
-                    self.assume_parts(alloc, program, left.get())?;
-                    Ok(self.assume_parts(alloc, program, right.get())?)
-                }
-                _ => Ok(self.assume_whole(program, condition)?),
-            },
-            CoreExpr::InType(_, _, _, _) => Ok(self.assume_split(alloc, program, condition)?),
-            CoreExpr::InRange(_, _, _, _, _) => Ok(self.assume_split(alloc, program, condition)?),
-        }
-    }
-
     /// Proves that a value lies in the type that it is given to.
     fn check_range(
         &mut self,
@@ -144,15 +77,61 @@ impl Walk {
     pub fn assignment(
         &mut self,
         alloc: Global,
-        program: &Program,
+        body: &Body,
         target: &Reference,
         expr: &CoreExpr,
     ) -> Result<(), AllocError>
         requires { Whole self.old }
-        ensures { OnOk result (Passes program.now self.old self.new (Set target.now expr.now)) }
+        ensures { OnOk result (Passes body.now.program.now body.now.sub.now self.old self.new (Set target.now expr.now)) }
     {
-        let value = self.checked_id(alloc, program, &[], expr)?;
-        self.assign(alloc, program, expr.place(), target.root.entity, value)?;
+        let value = self.checked_id(alloc, body.program, &[], expr)?;
+        self.assign(alloc, body.program, expr.place(), target.root.entity, value)?;
+        Ok(())
+    }
+
+    /// Proves an annotation of a body, and takes it for a fact from there on.
+    fn show(
+        &mut self,
+        alloc: Global,
+        body: &Body,
+        kind: CondKind,
+        place: Place,
+        condition: &CoreExpr,
+    ) -> Result<(), AllocError>
+        requires { Whole self.old }
+        ensures keeps { OnOk result (Keeps self.old self.new) }
+        ensures walks { OnOk result (Walks self.old self.new (asserted kind place (term_of body.now.program.now (entry_term body.now.program.now body.now.sub.now) condition.now))) }
+    {
+        let interface = Interface::of(alloc, body.sub)?;
+        let entered = Entered::OnEntry(&interface);
+        self.assert_parts(alloc, body.program, &entered, kind, place, condition)?;
+        Ok(())
+    }
+
+    /// A `check` annotation.
+    pub fn checked(
+        &mut self,
+        alloc: Global,
+        body: &Body,
+        place: Place,
+        condition: &CoreExpr,
+    ) -> Result<(), AllocError>
+        requires { Whole self.old }
+        ensures { OnOk result (Passes body.now.program.now body.now.sub.now self.old self.new (Check place condition.now)) }
+    {
+        self.show(alloc, body, CondKind::Check, place, condition)?;
+        Ok(())
+    }
+
+    /// The end of a path, where the postcondition is proved.
+    pub fn finish(&mut self, alloc: Global, body: &Body) -> Result<(), AllocError>
+        requires { Whole self.old }
+        ensures { OnOk result (Ends body.now.program.now body.now.sub.now self.old self.new Skip) }
+    {
+        if let Some(post) = &body.sub.post {
+            self.show(alloc, body, CondKind::Post, post.place, &post.condition)?;
+            return Ok(());
+        }
         Ok(())
     }
 }

@@ -12,6 +12,7 @@ ghost use Rattle.spx_vcg.specs.Largeness.{IsFaultOf};
 use crate::VcFault;
 use crate::branches::Rest;
 use crate::limit::has_large_claim;
+use crate::steps::Body;
 use crate::values::Values;
 use crate::walk::{Facts, Walk};
 use indexmap::IndexSet;
@@ -44,7 +45,8 @@ fn walked(alloc: Global, program: &Program, sub: &Sub) -> Result<SharedClaims, A
     walk.initialize_all(program, sub)?;
     walk.assume_imports(alloc, program, sub)?;
     walk.assume_pre(alloc, program, sub)?;
-    walk.path(alloc, program, sub.statements.as_slice(), &Rest::End)?;
+    let body = Body { program, sub };
+    walk.path(alloc, &body, sub.statements.as_slice(), &Rest::End)?;
     let Walk {
         terms,
         values: _,

@@ -1,15 +1,15 @@
 // The walk along the paths of a body, which makes the conditions on its way: facts, claims and values.
 ghost use Rattle.std.specs.Prelude.{◌≡◌, ◌<◌, List, length, IfOk, OnOk};
-ghost use Rattle.spx_core.specs.declared.entity.VarId.{VarId};
 ghost use Rattle.spx_term.specs.declared.term.Term.{Term};
 ghost use Rattle.spx_term.specs.declared.term.Term.TheVariants as term;
 ghost use Rattle.spx_term.specs.Folding.{term_of as static_term};
 ghost use Rattle.spx_term.specs.Steps.{Assign, Assume, Prove, assume_all};
 ghost use Rattle.spx_paths.specs.Checks.{checked_under, in_type};
-ghost use Rattle.spx_paths.specs.Terms.{term_of};
+ghost use Rattle.spx_paths.specs.Terms.{now_term, term_of};
 ghost use Rattle.spx_arena.specs.Claims.{AreIds};
 ghost use Rattle.spx_vcg.specs.WalkSteps.{AddsFact, Goes, Keeps, Makes, MeanAll, Means, Stands, Walks, Whole};
 
+use crate::entered::Entered;
 use crate::goals::{guarded, in_type};
 use crate::ids;
 use crate::values::Values;
@@ -54,14 +54,15 @@ impl Facts {
 }
 
 impl Walk {
-    /// The id of the term of an expression.
+    /// The id of the term of an expression in code.
     pub fn term_id(&mut self, program: &Program, expr: &CoreExpr) -> Result<TermId, AllocError>
         requires { Whole self.old }
         ensures keeps { OnOk result (Keeps self.old self.new) }
         ensures within { IfOk result (λ id. id.0 < length self.new.terms) }
-        ensures makes { IfOk result (λ id. (entries : VarId → Term) → Makes self.old self.new (λ rest. rest) id (term_of program.now entries expr.now)) }
+        ensures makes { IfOk result (λ id. Makes self.old self.new (λ rest. rest) id (term_of program.now (now_term program.now) expr.now)) }
     {
-        let id = ids::term_id(program, &mut self.terms, &self.values, expr)?;
+        let entered = &Entered::Present;
+        let id = ids::term_id(program, entered, &mut self.terms, &self.values, expr)?;
         Ok(id)
     }
 

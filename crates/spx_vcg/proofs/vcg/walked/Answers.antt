@@ -2,7 +2,7 @@ use Rattle.std.proofs.Common.{List, refl, subst}
 use Rattle.spx_core.specs.declared.statement.CoreStmt.{CoreStmt}
 use Rattle.spx_core.specs.Commands.{Skip, Then, commands}
 use Rattle.spx_vcg.specs.declared.branches.Rest.TheVariants.{End}
-use Rattle.spx_vcg.specs.PathWalk.{Comes}
+use Rattle.spx_vcg.specs.PathWalk.{Ends}
 use Rattle.spx_vcg.proofs.Forms.{nothing_follows}
 use Rattle.spx_vcg.proofs.StartSteps.{all_claims}
 use Rattle.spx_vcg.proofs.vcg.walked.Goals as goal
@@ -15,4 +15,4 @@ returns-clause-claims c =
     all_claims (record { terms = c.new.result; values = c.new-2.result; facts = record { present = c.new-3.result; lists = c.new-lists.result; at = c.none.result }; claims = c.new-4.result }) c.enter_all.new.self c.initialize_all.new.self c.assume_imports.new.self before last p c.args.sub.now
     (record { values = c.new-2.ensures; keys = c.new-3.ensures.empty; lists = c.new-lists.ensures; at = c.none.ensures.first; claims = c.new-4.ensures })
     c.in_ok-enter_all.ensures c.in_ok-initialize_all.ensures c.in_ok-assume_imports.ensures c.in_ok-assume_pre.ensures
-    (subst (λ (ss : List CoreStmt). Comes p before last (Then (commands ss) Skip) Skip) c.as_slice.ensures (subst (λ d. Comes p before last (Then (commands c.as_slice.result.now) d) Skip) (nothing_follows End refl) c.in_ok-path.ensures))
+    (subst (λ (ss : List CoreStmt). Ends p c.args.sub.now before last (Then (commands ss) Skip)) c.as_slice.ensures (subst (λ d. Ends p c.args.sub.now before last (Then (commands c.as_slice.result.now) d)) (nothing_follows End refl) c.in_ok-path.ensures))

@@ -4,11 +4,12 @@ use Rattle.std.specs.Int.{w128}
 use Rattle.spx_core.specs.declared.expression.CoreExpr.{CoreExpr, the_lemmas}
 use Rattle.spx_core.specs.declared.program.Program.{Program}
 use Rattle.spx_core.specs.Places.{place_of}
+use Rattle.spx_paths.specs.Terms.{now_term}
 use Rattle.spx_arena.specs.declared.terms.TermId.{TermId}
 use Rattle.spx_vcg.specs.declared.walk.Walk.{Walk}
 use Rattle.spx_vcg.specs.WalkSteps.{Evaluates}
 use Rattle.spx_vcg.proofs.CheckSteps.{eval_applied, eval_free, eval_in_range, eval_in_type, eval_infix, eval_parenthesized, eval_prefix, eval_static, makes_number}
-use Rattle.spx_vcg.proofs.Expressions.{attribute_free, name_free, number_free}
+use Rattle.spx_vcg.proofs.Expressions.{attribute_free, entry_free, name_free, number_free}
 use Rattle.spx_vcg.proofs.SharedSteps.{id_kept, ids_kept, keeps_twice}
 use Rattle.spx_vcg.proofs.walk.Walk.+checked_id.Goals as goal
 
@@ -20,13 +21,16 @@ pub checked_id-returns-in-Some-clause-makes : goal.checked_id-returns-in-Some-cl
 checked_id-returns-in-Some-clause-makes t c = eval_static c.requires.whole c.in-Some.value c.in-Some.ensures c.in_ok-static_id.ensures.makes
 
 pub checked_id-returns-in_ok-term_id-in-Number-clause-makes : goal.checked_id-returns-in_ok-term_id-in-Number-clause-makes
-checked_id-returns-in_ok-term_id-in-Number-clause-makes t c = eval_free c.requires.whole c.in_ok-term_id-in-Number.ensures.makes (λ entries ls. number_free c.args.program.now entries c.args.expr.now ls c.in-Number.field-0 c.in-Number.field-1 c.in-Number.is)
+checked_id-returns-in_ok-term_id-in-Number-clause-makes t c = eval_free c.requires.whole c.in_ok-term_id-in-Number.ensures.makes (λ ls. number_free c.args.program.now (now_term c.args.program.now) c.args.expr.now ls c.in-Number.field-0 c.in-Number.field-1 c.in-Number.is)
 
 pub checked_id-returns-in_ok-term_id-in-Name-clause-makes : goal.checked_id-returns-in_ok-term_id-in-Name-clause-makes
-checked_id-returns-in_ok-term_id-in-Name-clause-makes t c = eval_free c.requires.whole c.in_ok-term_id-in-Name.ensures.makes (λ entries ls. name_free c.args.program.now entries c.args.expr.now ls c.in-Name.field-0 c.in-Name.is)
+checked_id-returns-in_ok-term_id-in-Name-clause-makes t c = eval_free c.requires.whole c.in_ok-term_id-in-Name.ensures.makes (λ ls. name_free c.args.program.now (now_term c.args.program.now) c.args.expr.now ls c.in-Name.field-0 c.in-Name.is)
+
+pub checked_id-returns-in_ok-term_id-in-Entry-clause-makes : goal.checked_id-returns-in_ok-term_id-in-Entry-clause-makes
+checked_id-returns-in_ok-term_id-in-Entry-clause-makes t c = eval_free c.requires.whole c.in_ok-term_id-in-Entry.ensures.makes (λ ls. entry_free c.args.program.now (now_term c.args.program.now) c.args.expr.now ls c.in-Entry.field-0 c.in-Entry.field-1 c.in-Entry.is)
 
 pub checked_id-returns-in_ok-term_id-in-Attribute-clause-makes : goal.checked_id-returns-in_ok-term_id-in-Attribute-clause-makes
-checked_id-returns-in_ok-term_id-in-Attribute-clause-makes t c = eval_free c.requires.whole c.in_ok-term_id-in-Attribute.ensures.makes (λ entries ls. attribute_free c.args.program.now entries c.args.expr.now ls c.in-Attribute.field-0 c.in-Attribute.field-1 c.in-Attribute.is)
+checked_id-returns-in_ok-term_id-in-Attribute-clause-makes t c = eval_free c.requires.whole c.in_ok-term_id-in-Attribute.ensures.makes (λ ls. attribute_free c.args.program.now (now_term c.args.program.now) c.args.expr.now ls c.in-Attribute.field-0 c.in-Attribute.field-1 c.in-Attribute.is)
 
 pub checked_id-returns-in_ok-checked_id-in-Parenthesized-clause-makes : goal.checked_id-returns-in_ok-checked_id-in-Parenthesized-clause-makes
 checked_id-returns-in_ok-checked_id-in-Parenthesized-clause-makes t c = eval_parenthesized c.requires.whole c.in-Parenthesized.field-0 c.in-Parenthesized.inner c.in-Parenthesized.is (at_part c.get.ensures c.in_ok-checked_id-in-Parenthesized.ensures.makes)

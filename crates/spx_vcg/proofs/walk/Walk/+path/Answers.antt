@@ -3,29 +3,29 @@ use Rattle.std.proofs.lemmas.List.{take_rest}
 use Rattle.spx_core.specs.declared.statement.CoreAlternative.{CoreAlternative, out-CoreAlternative}
 use Rattle.spx_core.specs.declared.statement.CoreArm.{CoreArm, out-CoreArm}
 use Rattle.spx_core.specs.declared.statement.CoreStmt.{CoreStmt}
-use Rattle.spx_core.specs.Commands.{Skip, Then, alternative, arm_before, arms_before, commands, select}
+use Rattle.spx_core.specs.Commands.{Then, alternative, arm_before, arms_before, commands, select}
 use Rattle.spx_vcg.specs.Following.{after}
 use Rattle.spx_arena.proofs.Ids.{wider_ids}
 use Rattle.spx_arena.specs.Claims.{AreIds}
 use Rattle.spx_vcg.specs.ConditionWalk.{State, applied}
-use Rattle.spx_vcg.specs.PathWalk.{Comes, Takes}
-use Rattle.spx_vcg.proofs.BranchSteps.{after_arm, after_branch, after_null, after_set, after_taken, at_end, comes_not, comes_twice, last_arm, next_arm}
+use Rattle.spx_vcg.specs.PathWalk.{Ends, Takes}
+use Rattle.spx_vcg.proofs.BranchSteps.{after_arm, after_branch, after_check, after_null, after_set, after_taken, at_end, comes_ends, last_arm, next_arm}
 use Rattle.spx_vcg.proofs.CheckSteps.{only_at}
 use Rattle.spx_vcg.proofs.ChoiceSteps.{after_case, after_under, here_alternative, next_alternative, no_case}
-use Rattle.spx_vcg.proofs.Forms.{arm_is, assignment_is, case_is, follows_is, if_is, nothing_follows, null_is}
+use Rattle.spx_vcg.proofs.Forms.{arm_is, assignment_is, case_is, check_is, follows_is, if_is, nothing_follows, null_is}
 use Rattle.spx_vcg.proofs.Remaining.{alternative_smaller, body_smaller, branch_smaller, follow_smaller, follows_smaller, left, otherwise_smaller, select_size, size, sizes}
 use Rattle.spx_vcg.proofs.SharedSteps.{adds_twice, only_keeps, state_same}
 use Rattle.spx_vcg.proofs.walk.Walk.+path.Goals as goal
 
 pub taken-returns : goal.taken-returns
 taken-returns t c =
-    after_taken c.args.condition.now (Then (commands c.args.body.now) (after c.args.rest.now)) c.in_ok-mark.mark c.requires c.in_ok-mark.ensures c.in_ok-assume_parts.ensures.keeps c.in_ok-assume_parts.ensures.walks c.in_ok-path.ensures c.back_to.ensures
+    after_taken c.args.condition.now (Then (commands c.args.stmts.now) (after c.args.rest.now)) c.in_ok-mark.mark c.requires c.in_ok-mark.ensures c.in_ok-assume_parts.ensures.keeps c.in_ok-assume_parts.ensures.walks c.in_ok-path.ensures c.back_to.ensures
 
 pub arm-returns : goal.arm-returns
 arm-returns t c =
     let arm = out-CoreArm c.args.arm.now in
     after_arm arm.condition (commands arm.body) (after c.args.rest.now) c.in_ok-condition.ensures.keeps c.in_ok-condition.ensures.within c.in_ok-condition.ensures.makes
-    (subst (λ (ss : List CoreStmt). Takes c.args.program.now c.checked_id.new.self c.taken.new.self arm.condition (Then (commands ss) (after c.args.rest.now))) c.as_slice.ensures c.in_ok-taken.ensures)
+    (subst (λ (ss : List CoreStmt). Takes c.args.body.now.program.now c.args.body.now.sub.now c.checked_id.new.self c.taken.new.self arm.condition (Then (commands ss) (after c.args.rest.now))) c.as_slice.ensures c.in_ok-taken.ensures)
     c.in_ok-not_taken.ensures.keeps c.in_ok-not_taken.ensures.walks (arm_before c.args.arm.now) arm.place (arm_is c.args.arm.now)
 
 pub arms-arm-requires : goal.arms-arm-requires
@@ -55,9 +55,13 @@ pub path-loop-at-preserved-in-Null : goal.path-loop-at-preserved-in-Null
 path-loop-at-preserved-in-Null t c =
     after_null (Then (commands c.args.stmts.now) (after c.args.rest.now)) (after c.args.rest.now) c.args.stmts.now c.loop-at.at c.index-stmts-at.result c.loop-at-test.true c.index-stmts-at.is c.loop-at.invariant (null_is _ c.in-Null.field-0 c.in-Null.is)
 
+pub path-loop-at-preserved-in-Assignment : goal.path-loop-at-preserved-in-Assignment
+path-loop-at-preserved-in-Assignment t c =
+    after_set (Then (commands c.args.stmts.now) (after c.args.rest.now)) (after c.args.rest.now) c.args.stmts.now c.loop-at.at c.index-stmts-at.result c.loop-at-test.true c.index-stmts-at.is c.loop-at.invariant c.in-Assignment.target c.in-Assignment.value (assignment_is _ c.in-Assignment.target c.in-Assignment.value c.in-Assignment.is) c.in_ok-assignment-in-Assignment.ensures
+
 pub path-loop-at-preserved : goal.path-loop-at-preserved
 path-loop-at-preserved t c =
-    after_set (Then (commands c.args.stmts.now) (after c.args.rest.now)) (after c.args.rest.now) c.args.stmts.now c.loop-at.at c.index-stmts-at.result c.loop-at-test.true c.index-stmts-at.is c.loop-at.invariant c.in-Assignment.target c.in-Assignment.value (assignment_is _ c.in-Assignment.target c.in-Assignment.value c.in-Assignment.is) c.in_ok-assignment-in-Assignment.ensures
+    after_check (Then (commands c.args.stmts.now) (after c.args.rest.now)) (after c.args.rest.now) c.args.stmts.now c.loop-at.at c.index-stmts-at.result c.loop-at-test.true c.index-stmts-at.is c.loop-at.invariant c.in-Check.place c.in-Check.condition (check_is _ c.in-Check.place c.in-Check.condition c.in-Check.is) c.in_ok-checked-in-Check.ensures
 
 pub path-arms-requires : goal.path-arms-requires
 path-arms-requires t c =
@@ -103,7 +107,7 @@ path-follow-requires t c =
 
 pub path-returns : goal.path-returns
 path-returns t c =
-    comes_twice (at_end (Then (commands c.args.stmts.now) (after c.args.rest.now)) (after c.args.rest.now) c.args.stmts.now c.loop-at.at (omega (arith, c.loop-at-test.false)) c.loop-at.invariant) c.in_ok-follow.ensures
+    comes_ends (at_end (Then (commands c.args.stmts.now) (after c.args.rest.now)) (after c.args.rest.now) c.args.stmts.now c.loop-at.at (omega (arith, c.loop-at-test.false)) c.loop-at.invariant) c.in_ok-follow.ensures
 
 pub follow-path-requires : goal.follow-path-requires
 follow-path-requires t c =
@@ -111,11 +115,11 @@ follow-path-requires t c =
     follows_smaller (commands c.in-After.stmts.now) (after c.args.rest.now) (after c.in-After.rest.now) (follows_is _ c.in-After.stmts c.in-After.rest c.in-After.is) in
     search rules
 
-pub follow-returns-in-End : goal.follow-returns-in-End
-follow-returns-in-End t c = subst (λ d. Comes c.args.program.now c.args.self.now c.args.self.now d Skip) (sym (nothing_follows _ c.in-End.is)) (comes_not c.requires)
+pub follow-returns-in_ok-finish-in-End : goal.follow-returns-in_ok-finish-in-End
+follow-returns-in_ok-finish-in-End t c = subst (λ d. Ends c.args.body.now.program.now c.args.body.now.sub.now c.args.self.now c.finish.new.self d) (sym (nothing_follows _ c.in-End.is)) c.in_ok-finish-in-End.ensures
 
 pub follow-returns-in_ok-path-in-After : goal.follow-returns-in_ok-path-in-After
-follow-returns-in_ok-path-in-After t c = subst (λ d. Comes c.args.program.now c.args.self.now c.path.new.self d Skip) (sym (follows_is _ c.in-After.stmts c.in-After.rest c.in-After.is)) c.in_ok-path-in-After.ensures
+follow-returns-in_ok-path-in-After t c = subst (λ d. Ends c.args.body.now.program.now c.args.body.now.sub.now c.args.self.now c.path.new.self d) (sym (follows_is _ c.in-After.stmts c.in-After.rest c.in-After.is)) c.in_ok-path-in-After.ensures
 
 pub case-returns-then-is_empty : goal.case-returns-then-is_empty
 case-returns-then-is_empty t c = no_case c.args.selector.now c.args.alternatives.now (after c.args.rest.now) (sym c.is_empty.ensures ∙ c.if-is_empty.true) c.in_ok-follow.ensures
@@ -126,7 +130,7 @@ case-returns t c =
 
 pub alternative-returns : goal.alternative-returns
 alternative-returns t c =
-    after_under c.args.facts.now (Then (commands c.args.body.now) (after c.args.rest.now)) c.in_ok-mark.mark c.requires.whole c.in_ok-mark.ensures c.in_ok-assume_all.ensures.keeps c.in_ok-assume_all.ensures.walks c.in_ok-path.ensures c.back_to.ensures
+    after_under c.args.facts.now (Then (commands c.args.stmts.now) (after c.args.rest.now)) c.in_ok-mark.mark c.requires.whole c.in_ok-mark.ensures c.in_ok-assume_all.ensures.keeps c.in_ok-assume_all.ensures.walks c.in_ok-path.ensures c.back_to.ensures
 
 pub alternatives-alternative-requires : goal.alternatives-alternative-requires
 alternatives-alternative-requires t c =
@@ -134,7 +138,7 @@ alternatives-alternative-requires t c =
     let parts = map alternative c.args.alternatives.now in
     let within = alternative_smaller c.args.alternatives.now c.loop-alternative.alternative-index c.alternative-item.result c.loop-alternative-test.true in
     let smaller : size (commands (out-CoreAlternative c.alternative-item.result).body) ≤ sizes parts = subst (λ (a : CoreAlternative). size (commands (out-CoreAlternative a).body) ≤ sizes parts) (sym c.alternative-item.is) within in
-    let falls : 4 * (size (commands c.as_slice-body.result.now) + left rest) + 1 < 4 * (sizes parts + left rest) + 2 = omega (arith, ap (λ (ss : List CoreStmt). size (commands ss)) c.as_slice-body.ensures) in
+    let falls : 4 * (size (commands c.as_slice-stmts.result.now) + left rest) + 1 < 4 * (sizes parts + left rest) + 2 = omega (arith, ap (λ (ss : List CoreStmt). size (commands ss)) c.as_slice-stmts.ensures) in
     let whole = c.loop-alternative.invariant.whole in
     let known = c.in_ok-facts.ensures.facts in
     (search rules, ((only_keeps whole (only_at c.loop-alternative.self known.grown)).whole, subst (AreIds _) (sym c.as_slice.ensures) known.within))
@@ -156,6 +160,6 @@ alternatives-loop-alternative-preserved t c =
       ids = wider_ids c.alternative_facts.new.earlier takes.adds.grown.more added.within;
       at = λ t m. next_alternative before.whole t
           (record { tree = before.adds.grown.kept c.args.value c.requires.within ∙ m.tree ∙ ap (λ (u : State). applied u t) (sym before.kept) })
-          (before.at t m) (here ∙ ap (λ (ss : List CoreStmt). ((out-CoreAlternative c.alternative-item.result).choices, commands ss) ∷ map alternative (drop (i + 1) c.args.alternatives.now)) (sym c.as_slice-body.ensures))
+          (before.at t m) (here ∙ ap (λ (ss : List CoreStmt). ((out-CoreAlternative c.alternative-item.result).choices, commands ss) ∷ map alternative (drop (i + 1) c.args.alternatives.now)) (sym c.as_slice-stmts.ensures))
           known added c.as_slice.ensures takes;
     }

@@ -14,7 +14,7 @@ abbrev pub decreases-path : goal.decreases-path
 decreases-path l = 4 * (size (commands l.stmts.now) + left (after l.rest.now))
 
 abbrev pub decreases-taken : goal.decreases-taken
-decreases-taken l = 4 * (size (commands l.body.now) + left (after l.rest.now)) + 1
+decreases-taken l = 4 * (size (commands l.stmts.now) + left (after l.rest.now)) + 1
 
 abbrev pub decreases-arm : goal.decreases-arm
 decreases-arm l = 4 * (size (commands (out-CoreArm l.arm.now).body) + left (after l.rest.now)) + 2
@@ -23,7 +23,7 @@ abbrev pub decreases-arms : goal.decreases-arms
 decreases-arms l = 4 * (size (arms_before (commands l.otherwise.now) (map arm_before l.arms.now)) + left (after l.rest.now)) + 3
 
 abbrev pub decreases-alternative : goal.decreases-alternative
-decreases-alternative l = 4 * (size (commands l.body.now) + left (after l.rest.now)) + 1
+decreases-alternative l = 4 * (size (commands l.stmts.now) + left (after l.rest.now)) + 1
 
 abbrev pub decreases-alternatives : goal.decreases-alternatives
 decreases-alternatives l = 4 * (sizes (map alternative l.alternatives.now) + left (after l.rest.now)) + 2
@@ -40,12 +40,12 @@ invariant-alternatives-loop-alternative l = record {
   adds : OnlyAdds l.initial.self l.self;
   kept : state l.self ≡ state l.initial.self;
   ids : AreIds (length l.self.terms) l.earlier;
-  at : (t : Term) → Means l.initial.self l.value t → IsAt l.program l.initial.self l.self l.earlier (map alternative l.alternatives) (map alternative (drop l.alternative-index l.alternatives)) (after l.rest) t;
+  at : (t : Term) → Means l.initial.self l.value t → IsAt l.body.program.now l.body.sub.now l.initial.self l.self l.earlier (map alternative l.alternatives) (map alternative (drop l.alternative-index l.alternatives)) (after l.rest) t;
 }
 
 abbrev pub invariant-arms-loop-arm : goal.invariant-arms-loop-arm
 invariant-arms-loop-arm l =
-    Comes l.program l.initial.self l.self (Then (arms_before (commands l.otherwise) (map arm_before l.arms)) (after l.rest)) (Then (arms_before (commands l.otherwise) (map arm_before (drop l.arm-index l.arms))) (after l.rest))
+    Comes l.body.program.now l.body.sub.now l.initial.self l.self (Then (arms_before (commands l.otherwise) (map arm_before l.arms)) (after l.rest)) (Then (arms_before (commands l.otherwise) (map arm_before (drop l.arm-index l.arms))) (after l.rest))
 
 abbrev pub invariant-path-loop-at : goal.invariant-path-loop-at
-invariant-path-loop-at l = Comes l.program l.initial.self l.self (Then (commands l.stmts) (after l.rest)) (Then (commands (drop l.at l.stmts)) (after l.rest))
+invariant-path-loop-at l = Comes l.body.program.now l.body.sub.now l.initial.self l.self (Then (commands l.stmts) (after l.rest)) (Then (commands (drop l.at l.stmts)) (after l.rest))

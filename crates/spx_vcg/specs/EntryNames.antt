@@ -1,0 +1,31 @@
+-- What names of values on entry stand for.
+use Rattle.std.specs.Prelude.{◌≡◌, not, ◌&&◌, if◌then◌else◌}
+use Rattle.spx_core.specs.declared.entity.VarId.{VarId}
+use Rattle.spx_core.specs.declared.program.Program.{Program}
+use Rattle.spx_core.specs.declared.subprogram.Sub.{Sub}
+use Rattle.spx_core.specs.Dependency.{exports, imports}
+use Rattle.spx_core.specs.Mirror.VarSets.{holds}
+use Rattle.spx_term.specs.declared.term.Name.{Name}
+use Rattle.spx_term.specs.declared.term.Term.{Term}
+use Rattle.spx_term.specs.declared.term.Term.TheVariants.{Variable}
+use Rattle.spx_paths.specs.Terms.{entry, now}
+use Rattle.spx_vcg.specs.declared.entered.Entered.{Entered}
+use Rattle.spx_vcg.specs.declared.entered.Entered.TheVariants.{Present, OnEntry}
+use Rattle.spx_vcg.specs.declared.entered.Interface.{Interface}
+
+-- the imports and exports of a subprogram
+pub record IsInterfaceOf (sub : Sub) (interface : Interface) : Type 0 where
+  pub imports : (v : VarId) → holds interface.imports v ≡ imports v sub
+  pub exports : (v : VarId) → holds interface.exports v ≡ exports v sub
+
+-- an import that is no export has its entry value always
+abbrev pub entry_name : Interface → Program → VarId → Name
+entry_name interface p v = if holds interface.imports v && not (holds interface.exports v) then now p v else entry p v
+
+abbrev pub entered_name : Program → Entered → VarId → Name
+entered_name p Present v = now p v
+entered_name p (OnEntry interface) v = entry_name interface.now p v
+
+-- the terms of the values on entry
+abbrev pub entered_term : Program → Entered → VarId → Term
+entered_term p entered v = Variable (entered_name p entered v)
