@@ -14,7 +14,8 @@ use Rattle.spx_core.specs.declared.subprogram.Sub.{Sub}
 use Rattle.spx_core.specs.declared.program.TypeRow.{TypeRow}
 use Rattle.spx_core.specs.declared.program.Var.{Var}
 use Rattle.spx_core.specs.Regions.{Region}
-use Rattle.spx_core.specs.Resolved.{Counts, after_formals, around_body, declared_by_decls, declared_by_params, declaring_all, own_types, own_vars, params_of, positions, resolved_decls, resolved_derives, resolved_formal_part, resolved_pre, resolved_stmt, resolved_sub, rows_by_decls, sub_of, var_of, variables_by_decls, with_formals}
+use Rattle.spx_core.specs.Dependency.{items_of}
+use Rattle.spx_core.specs.Resolved.{Counts, after_formals, around_annotations, around_body, declared_by_decls, declared_by_params, declaring_all, derives_of, items_for, own_types, own_vars, params_of, positions, resolved_decls, resolved_derives, resolved_formal_part, resolved_predicate, resolved_stmt, resolved_sub, rows_by_decls, sub_of, var_of, variables_by_decls, with_formals}
 use Rattle.spx_resolve.specs.Ids.{ids_from}
 use Rattle.spx_resolve.proofs.Declared.{declaring_append, length_after, positions_are}
 
@@ -32,13 +33,14 @@ vars_after vars mid after ds es first second =
 
 -- ---- a subprogram of its parts
 
-abbrev sub_with : Defining → Subprogram → Option CoreFormalPart → List CoreDecl → Option CoreDerives → Option CorePredicate → List CoreStmt → Option Identifier → List VarId → ℕ → Sub
-sub_with name s part decls derives pre statements end_name vars count = record {
+abbrev sub_with : Defining → Subprogram → Option CoreFormalPart → List CoreDecl → Option CoreDerives → Option CorePredicate → Option CorePredicate → List CoreStmt → Option Identifier → List VarId → ℕ → Sub
+sub_with name s part decls derives pre post statements end_name vars count = record {
   place = s.place;
   name = name;
   formal_part = part;
   derives = derives;
   pre = pre;
+  post = post;
   declarations = decls;
   statements = statements;
   end = s.end;
@@ -48,21 +50,27 @@ sub_with name s part decls derives pre statements end_name vars count = record {
 }
 
 module _ (name : Defining) (s : Subprogram) (before : Counts) (part : Option CoreFormalPart) (decls : List CoreDecl) where
-  sub_is : (derives : Option CoreDerives) (pre : Option CorePredicate) (statements : List CoreStmt) (end_name : Option Identifier) (vars : List VarId) (count : ℕ)
-      → derives ≡ option_map (resolved_derives (declaring_all [] (declared_by_params (params_of part)) ∷ around_body name)) s.derives
-      → pre ≡ option_map (resolved_pre (declaring_all [] (declared_by_params (params_of part)) ∷ around_body name)) s.pre
-      → statements ≡ map (resolved_stmt (declaring_all [] (declared_by_params (params_of part) ++ declared_by_decls decls) ∷ around_body name)) s.statements
+  sub_is : (derives : Option CoreDerives) (pre post : Option CorePredicate) (statements : List CoreStmt) (end_name : Option Identifier) (vars : List VarId) (count : ℕ)
+      → derives ≡ derives_of name part s
+      → pre ≡ option_map (resolved_predicate [] (around_annotations name part)) s.pre
+      → post ≡ option_map (resolved_predicate (items_of derives) (around_annotations name part)) s.post
+      → statements ≡ map (resolved_stmt (items_of derives) (declaring_all [] (declared_by_params (params_of part) ++ declared_by_decls decls) ∷ around_body name)) s.statements
       → end_name ≡ s.end_name
       → vars ≡ positions before.vars (declared_by_params (params_of part) ++ variables_by_decls decls)
       → count ≡ length (declared_by_params (params_of part))
-      → sub_with name s part decls derives pre statements end_name vars count ≡ sub_of name before.vars s part decls
-  sub_is derives pre statements end_name vars count is_derives is_pre are_statements is_end_name are_vars is_count =
-      ap (λ x. sub_with name s part decls x pre statements end_name vars count) is_derives
-      ∙ ap (λ x. sub_with name s part decls (sub_of name before.vars s part decls).derives x statements end_name vars count) is_pre
-      ∙ ap (λ x. sub_with name s part decls (sub_of name before.vars s part decls).derives (sub_of name before.vars s part decls).pre x end_name vars count) are_statements
-      ∙ ap (λ x. sub_with name s part decls (sub_of name before.vars s part decls).derives (sub_of name before.vars s part decls).pre (sub_of name before.vars s part decls).statements x vars count) is_end_name
-      ∙ ap (λ x. sub_with name s part decls (sub_of name before.vars s part decls).derives (sub_of name before.vars s part decls).pre (sub_of name before.vars s part decls).statements s.end_name x count) are_vars
-      ∙ ap (λ x. sub_with name s part decls (sub_of name before.vars s part decls).derives (sub_of name before.vars s part decls).pre (sub_of name before.vars s part decls).statements s.end_name (sub_of name before.vars s part decls).vars x) is_count
+      → sub_with name s part decls derives pre post statements end_name vars count ≡ sub_of name before.vars s part decls
+  sub_is derives pre post statements end_name vars count is_derives is_pre is_post are_statements is_end_name are_vars is_count =
+      let all = sub_of name before.vars s part decls in
+      let post_is : post ≡ all.post = is_post ∙ ap (λ d. option_map (resolved_predicate (items_of d) (around_annotations name part)) s.post) is_derives in
+      let statements_are : statements ≡ all.statements =
+      are_statements ∙ ap (λ d. map (resolved_stmt (items_of d) (declaring_all [] (declared_by_params (params_of part) ++ declared_by_decls decls) ∷ around_body name)) s.statements) is_derives in
+      ap (λ x. sub_with name s part decls x pre post statements end_name vars count) is_derives
+      ∙ ap (λ x. sub_with name s part decls all.derives x post statements end_name vars count) is_pre
+      ∙ ap (λ x. sub_with name s part decls all.derives all.pre x statements end_name vars count) post_is
+      ∙ ap (λ x. sub_with name s part decls all.derives all.pre all.post x end_name vars count) statements_are
+      ∙ ap (λ x. sub_with name s part decls all.derives all.pre all.post all.statements x vars count) is_end_name
+      ∙ ap (λ x. sub_with name s part decls all.derives all.pre all.post all.statements s.end_name x count) are_vars
+      ∙ ap (λ x. sub_with name s part decls all.derives all.pre all.post all.statements s.end_name all.vars x) is_count
 
   sub_is_resolved : part ≡ option_map (resolved_formal_part s.name before.vars) s.formal_part
       → decls ≡ resolved_decls (around_body name) (declaring_all [] (declared_by_params (params_of part))) (after_formals before part) s.declarations
@@ -75,23 +83,24 @@ so_many vars types = record { vars = length vars; types = length types }
 
 -- what its functions give is the subprogram
 pub whole : (name : Defining) (s : Subprogram) (before mid after : List Var) (types types' : List TypeRow) (first middle end : ℕ) (formals : Region) (part : Option CoreFormalPart)
-    (decls : List CoreDecl) (derives : Option CoreDerives) (pre : Option CorePredicate) (statements : List CoreStmt) (end_name : Option Identifier) (vars : List VarId)
+    (decls : List CoreDecl) (derives : Option CoreDerives) (pre post : Option CorePredicate) (statements : List CoreStmt) (end_name : Option Identifier) (vars : List VarId)
     → first ≡ length before → middle ≡ length mid → end ≡ length after
     → (part ≡ option_map (resolved_formal_part s.name (length before)) s.formal_part)
     × (formals ≡ declaring_all [] (declared_by_params (params_of part)))
     × (mid ≡ before ++ map var_of (declared_by_params (params_of part)))
     → derives ≡ option_map (resolved_derives (formals ∷ around_body name)) s.derives
-    → pre ≡ option_map (resolved_pre (formals ∷ around_body name)) s.pre
+    → pre ≡ option_map (resolved_predicate [] (formals ∷ around_body name)) s.pre
+    → post ≡ option_map (resolved_predicate (items_of derives) (formals ∷ around_body name)) s.post
     → decls ≡ resolved_decls (around_body name) formals (so_many mid types) s.declarations
-    → statements ≡ map (resolved_stmt (declaring_all formals (declared_by_decls decls) ∷ around_body name)) s.statements
+    → statements ≡ map (resolved_stmt (items_of derives) (declaring_all formals (declared_by_decls decls) ∷ around_body name)) s.statements
     → after ≡ mid ++ map var_of (variables_by_decls decls)
     → types' ≡ types ++ rows_by_decls decls
     → end_name ≡ s.end_name
     → vars ≡ ids_from first (end - first)
-    → (sub_with name s part decls derives pre statements end_name vars (middle - first) ≡ resolved_sub name (so_many before types) s)
-    × (after ≡ before ++ own_vars (sub_with name s part decls derives pre statements end_name vars (middle - first)))
-    × (types' ≡ types ++ own_types (sub_with name s part decls derives pre statements end_name vars (middle - first)))
-whole name s before mid after types types' first middle end formals part decls derives pre statements end_name vars is_first is_middle is_end (is_part, are_formals, is_mid) is_derives is_pre are_decls are_statements is_after are_types is_end_name are_vars =
+    → (sub_with name s part decls derives pre post statements end_name vars (middle - first) ≡ resolved_sub name (so_many before types) s)
+    × (after ≡ before ++ own_vars (sub_with name s part decls derives pre post statements end_name vars (middle - first)))
+    × (types' ≡ types ++ own_types (sub_with name s part decls derives pre post statements end_name vars (middle - first)))
+whole name s before mid after types types' first middle end formals part decls derives pre post statements end_name vars is_first is_middle is_end (is_part, are_formals, is_mid) is_derives is_pre is_post are_decls are_statements is_after are_types is_end_name are_vars =
     let ds = declared_by_params (params_of part) in
     let es = variables_by_decls decls in
     let made : after ≡ before ++ map var_of (ds ++ es) = vars_after before mid after ds es is_mid is_after in
@@ -104,10 +113,11 @@ whole name s before mid after types types' first middle end formals part decls d
     let decls_are : decls ≡ resolved_decls (around_body name) (declaring_all [] ds) (after_formals (so_many before types) part) s.declarations =
     are_decls ∙ ap (λ r. resolved_decls (around_body name) r (so_many mid types) s.declarations) are_formals
     ∙ ap (λ n. resolved_decls (around_body name) (declaring_all [] ds) (record { vars = n; types = length types }) s.declarations) length_mid in (
-      sub_is name s (so_many before types) part decls derives pre statements end_name vars (middle - first)
+      sub_is name s (so_many before types) part decls derives pre post statements end_name vars (middle - first)
           (is_derives ∙ ap (λ r. option_map (resolved_derives (r ∷ around_body name)) s.derives) are_formals)
-          (is_pre ∙ ap (λ r. option_map (resolved_pre (r ∷ around_body name)) s.pre) are_formals)
-          (are_statements ∙ ap (λ r. map (resolved_stmt (r ∷ around_body name)) s.statements) region)
+          (is_pre ∙ ap (λ r. option_map (resolved_predicate [] (r ∷ around_body name)) s.pre) are_formals)
+          (is_post ∙ ap (λ r. option_map (resolved_predicate (items_of derives) (r ∷ around_body name)) s.post) are_formals)
+          (are_statements ∙ ap (λ r. map (resolved_stmt (items_of derives) (r ∷ around_body name)) s.statements) region)
           is_end_name ids count
           ∙ sub_is_resolved name s (so_many before types) part decls is_part decls_are,
       made,

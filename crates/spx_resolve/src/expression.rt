@@ -1,9 +1,10 @@
 // Names and expressions.
 ghost use Rattle.std.specs.Prelude.{◌≡◌, [], ◌∷◌, IfOk, map};
 ghost use Rattle.spx_core.specs.declared.name.Step.TheVariants as step;
-ghost use Rattle.spx_core.specs.Resolved.{resolved_expr, resolved_function, resolved_name, resolved_reference, resolved_value};
+ghost use Rattle.spx_core.specs.Resolved.{entry_of, resolved_expr, resolved_function, resolved_in, resolved_name, resolved_reference, resolved_value};
 ghost use Rattle.spx_scope.specs.Seen.{seen};
 
+use crate::changed::Changed;
 use spx_core::{CoreExpr, CoreFunction, CoreName, Reference, Step};
 use spx_scope::Scope;
 use spx_tree::{Expr, Function, Identifier, Name};
@@ -88,49 +89,87 @@ fn resolve_function(
     Ok(CoreFunction { name, form })
 }
 
-#[cycle(resolve_expr)]
+/// The value that a variable has on entry.
+fn resolve_entry(
+    alloc: Global,
+    name: &Identifier,
+    changed: &Changed<'_>,
+    scope: &Scope<'_>,
+) -> Result<CoreExpr, AllocError>
+    ensures { IfOk result (λ r. r ≡ entry_of changed.now (resolved_name (seen scope.now) name.now)) }
+{
+    let name = resolve_name(alloc, name, scope)?;
+    let allowed = changed.has(&name);
+    Ok(CoreExpr::Entry(name, allowed))
+}
+
+#[cycle(resolve_in)]
 fn resolve_part(
     alloc: Global,
     expr: &Boxed<Expr>,
+    changed: &Changed<'_>,
     scope: &Scope<'_>,
 ) -> Result<Boxed<CoreExpr>, AllocError>
-    ensures { IfOk result (λ r. r ≡ resolved_expr (seen scope.now) expr.now) }
+    ensures { IfOk result (λ r. r ≡ resolved_in changed.now (seen scope.now) expr.now) }
 {
-    Boxed::new(alloc, resolve_expr(alloc, expr.get(), scope)?)
+    Boxed::new(alloc, resolve_in(alloc, expr.get(), changed, scope)?)
 }
 
-/// An expression.
-#[cycle(resolve_expr)]
-pub fn resolve_expr(alloc: Global, expr: &Expr, scope: &Scope<'_>) -> Result<CoreExpr, AllocError>
-    ensures { IfOk result (λ r. r ≡ resolved_expr (seen scope.now) expr.now) }
+/// An expression of an annotation, in which the values on entry of what is changed may be named.
+#[cycle(resolve_in)]
+pub fn resolve_in(
+    alloc: Global,
+    expr: &Expr,
+    changed: &Changed<'_>,
+    scope: &Scope<'_>,
+) -> Result<CoreExpr, AllocError>
+    ensures { IfOk result (λ r. r ≡ resolved_in changed.now (seen scope.now) expr.now) }
 {
     match expr {
         Expr::Number(value, place) => Ok(CoreExpr::Number(*value, *place)),
         Expr::Name(name) => Ok(resolve_value(alloc, name, scope)?),
+        Expr::Entry(name) => Ok(resolve_entry(alloc, name, changed, scope)?),
         Expr::Applied(function, place, operand) => {
             let function = resolve_function(alloc, function, scope)?;
-            Ok(CoreExpr::Applied(function, *place, resolve_part(alloc, operand, scope)?))
+            Ok(CoreExpr::Applied(
+                function,
+                *place,
+                resolve_part(alloc, operand, changed, scope)?,
+            ))
         }
         Expr::Parenthesized(place, inner) => {
-            Ok(CoreExpr::Parenthesized(*place, resolve_part(alloc, inner, scope)?))
+            Ok(CoreExpr::Parenthesized(*place, resolve_part(alloc, inner, changed, scope)?))
         }
         Expr::Prefix(op, place, operand) => {
-            Ok(CoreExpr::Prefix(*op, *place, resolve_part(alloc, operand, scope)?))
+            Ok(CoreExpr::Prefix(*op, *place, resolve_part(alloc, operand, changed, scope)?))
         }
         Expr::Infix(op, place, left, right) => {
-            let left = resolve_part(alloc, left, scope)?;
-            Ok(CoreExpr::Infix(*op, *place, left, resolve_part(alloc, right, scope)?))
+            let left = resolve_part(alloc, left, changed, scope)?;
+            Ok(CoreExpr::Infix(
+                *op,
+                *place,
+                left,
+                resolve_part(alloc, right, changed, scope)?,
+            ))
         }
         Expr::InType(op, place, tested, type_name) => {
-            let tested = resolve_part(alloc, tested, scope)?;
+            let tested = resolve_part(alloc, tested, changed, scope)?;
             let type_name = resolve_reference(alloc, type_name, scope)?;
             Ok(CoreExpr::InType(*op, *place, tested, type_name))
         }
         Expr::InRange(op, place, tested, low, high) => {
-            let tested = resolve_part(alloc, tested, scope)?;
-            let low = resolve_part(alloc, low, scope)?;
-            let high = resolve_part(alloc, high, scope)?;
+            let tested = resolve_part(alloc, tested, changed, scope)?;
+            let low = resolve_part(alloc, low, changed, scope)?;
+            let high = resolve_part(alloc, high, changed, scope)?;
             Ok(CoreExpr::InRange(*op, *place, tested, low, high))
         }
     }
+}
+
+/// An expression of code, in which no value on entry may be named.
+pub fn resolve_expr(alloc: Global, expr: &Expr, scope: &Scope<'_>) -> Result<CoreExpr, AllocError>
+    ensures { IfOk result (λ r. r ≡ resolved_expr (seen scope.now) expr.now) }
+{
+    let changed = Changed::by_items(alloc, &[])?;
+    resolve_in(alloc, expr, &changed, scope)
 }

@@ -6,6 +6,7 @@
 //! then has that program judged, and answers it or the first rule on names or types that it breaks.
 #![tactic(auto)]
 
+mod changed;
 mod choices;
 mod declaration;
 mod expression;

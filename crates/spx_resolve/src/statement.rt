@@ -1,10 +1,11 @@
 // Statements and annotations.
 ghost use Rattle.std.specs.Prelude.{◌≡◌, IfOk, map, option_map};
-ghost use Rattle.spx_core.specs.Resolved.{exported_names, place_of_null, resolved_alternative, resolved_arm, resolved_derives, resolved_item, resolved_pre, resolved_reference, resolved_stmt};
+ghost use Rattle.spx_core.specs.Resolved.{exported_names, place_of_null, resolved_alternative, resolved_arm, resolved_derives, resolved_item, resolved_predicate, resolved_reference, resolved_stmt};
 ghost use Rattle.spx_scope.specs.Seen.{seen};
 
+use crate::changed::Changed;
 use crate::choices::resolve_listed;
-use crate::expression::{resolve_expr, resolve_reference, resolve_references};
+use crate::expression::{resolve_expr, resolve_in, resolve_reference, resolve_references};
 use spx_core::{
     CoreAlternative, CoreArm, CoreDerives, CoreDerivesItem, CorePredicate, CoreStmt, Reference,
 };
@@ -19,13 +20,14 @@ use std::alloc::{AllocError, Global};
 pub fn resolve_stmts(
     alloc: Global,
     stmts: &[Stmt],
+    changed: &Changed<'_>,
     scope: &Scope<'_>,
 ) -> Result<Items<CoreStmt>, AllocError>
-    ensures { IfOk result (λ r. r ≡ map (resolved_stmt (seen scope.now)) stmts.now) }
+    ensures { IfOk result (λ r. r ≡ map (resolved_stmt changed.now (seen scope.now)) stmts.now) }
 {
     let mut resolved = Items::new(alloc);
     for stmt in stmts {
-        resolved.push(resolve_stmt(alloc, stmt, scope)?)?;
+        resolved.push(resolve_stmt(alloc, stmt, changed, scope)?)?;
     }
     Ok(resolved)
 }
@@ -34,15 +36,16 @@ pub fn resolve_stmts(
 fn resolve_arms(
     alloc: Global,
     arms: &[Arm],
+    changed: &Changed<'_>,
     scope: &Scope<'_>,
 ) -> Result<Items<CoreArm>, AllocError>
-    ensures { IfOk result (λ r. r ≡ map (resolved_arm (seen scope.now)) arms.now) }
+    ensures { IfOk result (λ r. r ≡ map (resolved_arm changed.now (seen scope.now)) arms.now) }
 {
     let mut resolved = Items::new(alloc);
     for arm in arms {
         let place = arm.place;
         let condition = resolve_expr(alloc, &arm.condition, scope)?;
-        let body = resolve_stmts(alloc, arm.body.as_slice(), scope)?;
+        let body = resolve_stmts(alloc, arm.body.as_slice(), changed, scope)?;
         resolved.push(CoreArm {
             place,
             condition,
@@ -56,22 +59,28 @@ fn resolve_arms(
 fn resolve_alternatives(
     alloc: Global,
     alternatives: &[Alternative],
+    changed: &Changed<'_>,
     scope: &Scope<'_>,
 ) -> Result<Items<CoreAlternative>, AllocError>
-    ensures { IfOk result (λ r. r ≡ map (resolved_alternative (seen scope.now)) alternatives.now) }
+    ensures { IfOk result (λ r. r ≡ map (resolved_alternative changed.now (seen scope.now)) alternatives.now) }
 {
     let mut resolved = Items::new(alloc);
     for alternative in alternatives {
         let choices = resolve_listed(alloc, &alternative.choices, scope)?;
-        let body = resolve_stmts(alloc, alternative.body.as_slice(), scope)?;
+        let body = resolve_stmts(alloc, alternative.body.as_slice(), changed, scope)?;
         resolved.push(CoreAlternative { choices, body })?;
     }
     Ok(resolved)
 }
 
 #[cycle(resolve_stmt)]
-fn resolve_stmt(alloc: Global, stmt: &Stmt, scope: &Scope<'_>) -> Result<CoreStmt, AllocError>
-    ensures { IfOk result (λ r. r ≡ resolved_stmt (seen scope.now) stmt.now) }
+fn resolve_stmt(
+    alloc: Global,
+    stmt: &Stmt,
+    changed: &Changed<'_>,
+    scope: &Scope<'_>,
+) -> Result<CoreStmt, AllocError>
+    ensures { IfOk result (λ r. r ≡ resolved_stmt changed.now (seen scope.now) stmt.now) }
 {
     match stmt {
         Stmt::Null(place) => Ok(CoreStmt::Null(*place)),
@@ -80,18 +89,26 @@ fn resolve_stmt(alloc: Global, stmt: &Stmt, scope: &Scope<'_>) -> Result<CoreStm
             Ok(CoreStmt::Assignment(target, resolve_expr(alloc, value, scope)?))
         }
         Stmt::If(arms, None, closing) => {
-            let arms = resolve_arms(alloc, arms.as_slice(), scope)?;
+            let arms = resolve_arms(alloc, arms.as_slice(), changed, scope)?;
             Ok(CoreStmt::If(arms, None, *closing))
         }
         Stmt::If(arms, Some(stmts), closing) => {
-            let arms = resolve_arms(alloc, arms.as_slice(), scope)?;
-            let stmts = resolve_stmts(alloc, stmts.as_slice(), scope)?;
+            let arms = resolve_arms(alloc, arms.as_slice(), changed, scope)?;
+            let stmts = resolve_stmts(alloc, stmts.as_slice(), changed, scope)?;
             Ok(CoreStmt::If(arms, Some(stmts), *closing))
         }
         Stmt::Case(place, selector, alternatives, closing) => {
             let selector = resolve_expr(alloc, selector, scope)?;
-            let alternatives = resolve_alternatives(alloc, alternatives.as_slice(), scope)?;
+            let alternatives = resolve_alternatives(
+                alloc,
+                alternatives.as_slice(),
+                changed,
+                scope,
+            )?;
             Ok(CoreStmt::Case(*place, selector, alternatives, *closing))
+        }
+        Stmt::Check(place, condition) => {
+            Ok(CoreStmt::Check(*place, resolve_in(alloc, condition, changed, scope)?))
         }
     }
 }
@@ -169,18 +186,19 @@ pub fn resolve_derives(
     }
 }
 
-/// The precondition of a subprogram, if it has one.
-pub fn resolve_precondition(
+/// The precondition or the postcondition of a subprogram, if it has one.
+pub fn resolve_predicate(
     alloc: Global,
-    pre: &Option<Predicate>,
+    predicate: &Option<Predicate>,
+    changed: &Changed<'_>,
     scope: &Scope<'_>,
 ) -> Result<Option<CorePredicate>, AllocError>
-    ensures { IfOk result (λ r. r ≡ option_map (resolved_pre (seen scope.now)) pre.now) }
+    ensures { IfOk result (λ r. r ≡ option_map (resolved_predicate changed.now (seen scope.now)) predicate.now) }
 {
-    match pre {
-        Some(pre) => Ok(Some(CorePredicate {
-            place: pre.place,
-            condition: resolve_expr(alloc, &pre.condition, scope)?,
+    match predicate {
+        Some(predicate) => Ok(Some(CorePredicate {
+            place: predicate.place,
+            condition: resolve_in(alloc, &predicate.condition, changed, scope)?,
         })),
         None => Ok(None),
     }

@@ -1,14 +1,17 @@
 // Subprograms and programs.
 ghost use Rattle.std.specs.Prelude.{◌≡◌, ◌∷◌, ◌++◌, ◌-◌, [], IfOk, length, map, option_map};
 ghost use Rattle.std.specs.List.{flat_map, range_with_len};
-ghost use Rattle.spx_core.specs.Resolved.{around_body, declared_by_decls, declared_by_params, declaring, declaring_all, own_types, own_vars, params_of, resolved, resolved_decls, resolved_derives, resolved_formal_part, resolved_pre, resolved_stmt, resolved_sub, resolved_subs, rows_by_decls, sub_at, var_of, variables_by_decls};
+ghost use Rattle.spx_core.specs.Resolved.{around_body, declared_by_decls, declared_by_params, declaring, declaring_all, own_types, own_vars, params_of, resolved, resolved_decls, resolved_derives, resolved_formal_part, resolved_predicate, resolved_stmt, resolved_sub, resolved_subs, rows_by_decls, sub_at, var_of, variables_by_decls};
+ghost use Rattle.spx_core.specs.Dependency.{items_of};
+ghost use Rattle.spx_scope.specs.Seen.{seen};
 ghost use Rattle.spx_resolve.specs.Counting.{counts_of};
 ghost use Rattle.spx_resolve.specs.Ids.{ids_from};
 ghost use Rattle.spx_resolve.specs.Units.{subprogram_of};
 
+use crate::changed::Changed;
 use crate::declaration::{resolve_decls, resolve_params};
 use crate::names::declare;
-use crate::statement::{resolve_derives, resolve_precondition, resolve_stmts};
+use crate::statement::{resolve_derives, resolve_predicate, resolve_stmts};
 use crate::tables::Tables;
 use spx_core::{
     CoreDecl, CoreDerives, CoreFormalPart, CorePredicate, CoreStmt, CoreUnit, Defining, Entity,
@@ -64,13 +67,54 @@ fn ids_between(alloc: Global, first: usize, end: usize) -> Result<Items<VarId>, 
     Ok(ids)
 }
 
+/// What stands after the dependency relation of a subprogram.
+#[derive(Drop)]
+struct Rest {
+    pre: Option<CorePredicate>,
+    post: Option<CorePredicate>,
+    declarations: Items<CoreDecl>,
+    statements: Items<CoreStmt>,
+}
+
+/// The other annotations and the body of a subprogram with this relation.
+fn resolve_rest(
+    alloc: Global,
+    formals: Region,
+    tables: &mut Tables,
+    outer: &Scope<'_>,
+    derives: &Option<CoreDerives>,
+    subprogram: &Subprogram,
+) -> Result<Rest, AllocError>
+    ensures pre { IfOk result (λ r. r.pre ≡ option_map (resolved_predicate [] (formals ∷ seen outer.now)) subprogram.now.pre) }
+    ensures post { IfOk result (λ r. r.post ≡ option_map (resolved_predicate (items_of derives.now) (formals ∷ seen outer.now)) subprogram.now.post) }
+    ensures declarations { IfOk result (λ r. r.declarations ≡ resolved_decls (seen outer.now) formals (counts_of tables.old) subprogram.now.declarations) }
+    ensures statements { IfOk result (λ r. r.statements ≡ map (resolved_stmt (items_of derives.now) (declaring_all formals (declared_by_decls r.declarations) ∷ seen outer.now)) subprogram.now.statements) }
+    ensures vars { IfOk result (λ r. tables.new.vars ≡ tables.old.vars ++ map var_of (variables_by_decls r.declarations)) }
+    ensures types { IfOk result (λ r. tables.new.types ≡ tables.old.types ++ rows_by_decls r.declarations) }
+{
+    let mut region = formals;
+    let scope = Scope::inside(&region, &*outer);
+    let none = Changed::by_items(alloc, &[])?;
+    let pre = resolve_predicate(alloc, &subprogram.pre, &none, &scope)?;
+    let changed = Changed::by(alloc, derives)?;
+    let post = resolve_predicate(alloc, &subprogram.post, &changed, &scope)?;
+    let declarations = subprogram.declarations.as_slice();
+    let declarations = resolve_decls(alloc, &mut region, tables, outer, declarations)?;
+    let scope = Scope::inside(&region, &*outer);
+    let statements = resolve_stmts(alloc, subprogram.statements.as_slice(), &changed, &scope)?;
+    Ok(Rest {
+        pre,
+        post,
+        declarations,
+        statements,
+    })
+}
+
 /// What stands after the formal part of a subprogram.
 #[derive(Drop)]
 struct Inner {
     derives: Option<CoreDerives>,
-    pre: Option<CorePredicate>,
-    declarations: Items<CoreDecl>,
-    statements: Items<CoreStmt>,
+    rest: Rest,
 }
 
 /// The annotations and the body of a subprogram: there its name and its formals are seen.
@@ -83,29 +127,19 @@ fn resolve_inner(
     subprogram: &Subprogram,
 ) -> Result<Inner, AllocError>
     ensures derives { IfOk result (λ r. r.derives ≡ option_map (resolved_derives (formals ∷ around_body name.now)) subprogram.now.derives) }
-    ensures pre { IfOk result (λ r. r.pre ≡ option_map (resolved_pre (formals ∷ around_body name.now)) subprogram.now.pre) }
-    ensures declarations { IfOk result (λ r. r.declarations ≡ resolved_decls (around_body name.now) formals (counts_of tables.old) subprogram.now.declarations) }
-    ensures statements { IfOk result (λ r. r.statements ≡ map (resolved_stmt (declaring_all formals (declared_by_decls r.declarations) ∷ around_body name.now)) subprogram.now.statements) }
-    ensures vars { IfOk result (λ r. tables.new.vars ≡ tables.old.vars ++ map var_of (variables_by_decls r.declarations)) }
-    ensures types { IfOk result (λ r. tables.new.types ≡ tables.old.types ++ rows_by_decls r.declarations) }
+    ensures pre { IfOk result (λ r. r.rest.pre ≡ option_map (resolved_predicate [] (formals ∷ around_body name.now)) subprogram.now.pre) }
+    ensures post { IfOk result (λ r. r.rest.post ≡ option_map (resolved_predicate (items_of r.derives) (formals ∷ around_body name.now)) subprogram.now.post) }
+    ensures declarations { IfOk result (λ r. r.rest.declarations ≡ resolved_decls (around_body name.now) formals (counts_of tables.old) subprogram.now.declarations) }
+    ensures statements { IfOk result (λ r. r.rest.statements ≡ map (resolved_stmt (items_of r.derives) (declaring_all formals (declared_by_decls r.rest.declarations) ∷ around_body name.now)) subprogram.now.statements) }
+    ensures vars { IfOk result (λ r. tables.new.vars ≡ tables.old.vars ++ map var_of (variables_by_decls r.rest.declarations)) }
+    ensures types { IfOk result (λ r. tables.new.types ≡ tables.old.types ++ rows_by_decls r.rest.declarations) }
 {
     let outermost = Scope::outermost(everywhere);
     let own_name = region_of(alloc, name)?;
     let outer = Scope::inside(&own_name, &outermost);
-    let mut region = formals;
-    let scope = Scope::inside(&region, &outer);
-    let derives = resolve_derives(alloc, &subprogram.derives, &scope)?;
-    let pre = resolve_precondition(alloc, &subprogram.pre, &scope)?;
-    let declarations = subprogram.declarations.as_slice();
-    let declarations = resolve_decls(alloc, &mut region, tables, &outer, declarations)?;
-    let scope = Scope::inside(&region, &outer);
-    let statements = resolve_stmts(alloc, subprogram.statements.as_slice(), &scope)?;
-    Ok(Inner {
-        derives,
-        pre,
-        declarations,
-        statements,
-    })
+    let derives = resolve_derives(alloc, &subprogram.derives, &Scope::inside(&formals, &outer))?;
+    let rest = resolve_rest(alloc, formals, tables, &outer, &derives, subprogram)?;
+    Ok(Inner { derives, rest })
 }
 
 fn copy_end_name(alloc: Global, name: &Option<Identifier>) -> Result<Option<Identifier>, AllocError>
@@ -140,9 +174,10 @@ fn resolve_subprogram(
         name,
         formal_part,
         derives: inner.derives,
-        pre: inner.pre,
-        declarations: inner.declarations,
-        statements: inner.statements,
+        pre: inner.rest.pre,
+        post: inner.rest.post,
+        declarations: inner.rest.declarations,
+        statements: inner.rest.statements,
         end: subprogram.end,
         end_name,
         vars,
