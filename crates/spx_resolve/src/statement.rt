@@ -1,5 +1,5 @@
 // Statements and annotations.
-ghost use Rattle.std.specs.Prelude.{◌≡◌, IfOk, map, option_map};
+ghost use Rattle.std.specs.Prelude.{◌≡◌, [], IfOk, map, option_map};
 ghost use Rattle.spx_core.specs.Resolved.{exported_names, place_of_null, resolved_alternative, resolved_arm, resolved_derives, resolved_item, resolved_predicate, resolved_reference, resolved_stmt};
 ghost use Rattle.spx_scope.specs.Seen.{seen};
 
@@ -202,4 +202,16 @@ pub fn resolve_predicate(
         })),
         None => Ok(None),
     }
+}
+
+/// The precondition of a subprogram, if it has one: no value on entry may be named there.
+pub fn resolve_precondition(
+    alloc: Global,
+    pre: &Option<Predicate>,
+    scope: &Scope<'_>,
+) -> Result<Option<CorePredicate>, AllocError>
+    ensures { IfOk result (λ r. r ≡ option_map (resolved_predicate [] (seen scope.now)) pre.now) }
+{
+    let changed = Changed::by_items(alloc, &[])?;
+    resolve_predicate(alloc, pre, &changed, scope)
 }

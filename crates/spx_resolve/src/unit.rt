@@ -11,14 +11,14 @@ ghost use Rattle.spx_resolve.specs.Units.{subprogram_of};
 use crate::changed::Changed;
 use crate::declaration::{resolve_decls, resolve_params};
 use crate::names::declare;
-use crate::statement::{resolve_derives, resolve_predicate, resolve_stmts};
+use crate::statement::{resolve_derives, resolve_precondition, resolve_predicate, resolve_stmts};
 use crate::tables::Tables;
 use spx_core::{
     CoreDecl, CoreDerives, CoreFormalPart, CorePredicate, CoreStmt, CoreUnit, Defining, Entity,
     Program, Sub, SubId, Var, VarId,
 };
 use spx_scope::{Region, Scope, Standard};
-use spx_tree::{Identifier, Subprogram, Unit};
+use spx_tree::{Identifier, Predicate, Stmt, Subprogram, Unit};
 use sqlite_items::Items;
 use std::alloc::{AllocError, Global};
 use std::slice;
@@ -67,54 +67,93 @@ fn ids_between(alloc: Global, first: usize, end: usize) -> Result<Items<VarId>, 
     Ok(ids)
 }
 
-/// What stands after the dependency relation of a subprogram.
+/// The postcondition of a subprogram, if it has one, inside a region.
+fn resolve_post(
+    alloc: Global,
+    post: &Option<Predicate>,
+    changed: &Changed<'_>,
+    region: &Region,
+    outer: &Scope<'_>,
+) -> Result<Option<CorePredicate>, AllocError>
+    ensures { IfOk result (λ r. r ≡ option_map (resolved_predicate changed.now (region.now ∷ seen outer.now)) post.now) }
+{
+    resolve_predicate(alloc, post, changed, &Scope::inside(region, outer))
+}
+
+/// Statements inside a region.
+fn resolve_statements(
+    alloc: Global,
+    stmts: &[Stmt],
+    changed: &Changed<'_>,
+    region: &Region,
+    outer: &Scope<'_>,
+) -> Result<Items<CoreStmt>, AllocError>
+    ensures { IfOk result (λ r. r ≡ map (resolved_stmt changed.now (region.now ∷ seen outer.now)) stmts.now) }
+{
+    resolve_stmts(alloc, stmts, changed, &Scope::inside(region, outer))
+}
+
+/// The postcondition, the declarations and the statements of a subprogram.
 #[derive(Drop)]
-struct Rest {
-    pre: Option<CorePredicate>,
+struct Body {
     post: Option<CorePredicate>,
     declarations: Items<CoreDecl>,
     statements: Items<CoreStmt>,
 }
 
-/// The other annotations and the body of a subprogram with this relation.
-fn resolve_rest(
+/// The postcondition and the body of a subprogram, of which the relation changes these variables.
+fn resolve_body(
     alloc: Global,
     formals: Region,
     tables: &mut Tables,
     outer: &Scope<'_>,
-    derives: &Option<CoreDerives>,
+    changed: &Changed<'_>,
     subprogram: &Subprogram,
-) -> Result<Rest, AllocError>
-    ensures pre { IfOk result (λ r. r.pre ≡ option_map (resolved_predicate [] (formals ∷ seen outer.now)) subprogram.now.pre) }
-    ensures post { IfOk result (λ r. r.post ≡ option_map (resolved_predicate (items_of derives.now) (formals ∷ seen outer.now)) subprogram.now.post) }
+) -> Result<Body, AllocError>
+    ensures post { IfOk result (λ r. r.post ≡ option_map (resolved_predicate changed.now (formals ∷ seen outer.now)) subprogram.now.post) }
     ensures declarations { IfOk result (λ r. r.declarations ≡ resolved_decls (seen outer.now) formals (counts_of tables.old) subprogram.now.declarations) }
-    ensures statements { IfOk result (λ r. r.statements ≡ map (resolved_stmt (items_of derives.now) (declaring_all formals (declared_by_decls r.declarations) ∷ seen outer.now)) subprogram.now.statements) }
+    ensures statements { IfOk result (λ r. r.statements ≡ map (resolved_stmt changed.now (declaring_all formals (declared_by_decls r.declarations) ∷ seen outer.now)) subprogram.now.statements) }
     ensures vars { IfOk result (λ r. tables.new.vars ≡ tables.old.vars ++ map var_of (variables_by_decls r.declarations)) }
     ensures types { IfOk result (λ r. tables.new.types ≡ tables.old.types ++ rows_by_decls r.declarations) }
 {
     let mut region = formals;
-    let scope = Scope::inside(&region, &*outer);
-    let none = Changed::by_items(alloc, &[])?;
-    let pre = resolve_predicate(alloc, &subprogram.pre, &none, &scope)?;
-    let changed = Changed::by(alloc, derives)?;
-    let post = resolve_predicate(alloc, &subprogram.post, &changed, &scope)?;
+    let post = resolve_post(alloc, &subprogram.post, changed, &region, outer)?;
     let declarations = subprogram.declarations.as_slice();
     let declarations = resolve_decls(alloc, &mut region, tables, outer, declarations)?;
-    let scope = Scope::inside(&region, &*outer);
-    let statements = resolve_stmts(alloc, subprogram.statements.as_slice(), &changed, &scope)?;
-    Ok(Rest {
-        pre,
+    let statements = subprogram.statements.as_slice();
+    let statements = resolve_statements(alloc, statements, changed, &region, outer)?;
+    Ok(Body {
         post,
         declarations,
         statements,
     })
 }
 
+/// The postcondition and the body of a subprogram with this dependency relation.
+fn resolve_under(
+    alloc: Global,
+    formals: Region,
+    tables: &mut Tables,
+    outer: &Scope<'_>,
+    derives: &Option<CoreDerives>,
+    subprogram: &Subprogram,
+) -> Result<Body, AllocError>
+    ensures post { IfOk result (λ r. r.post ≡ option_map (resolved_predicate (items_of derives.now) (formals ∷ seen outer.now)) subprogram.now.post) }
+    ensures declarations { IfOk result (λ r. r.declarations ≡ resolved_decls (seen outer.now) formals (counts_of tables.old) subprogram.now.declarations) }
+    ensures statements { IfOk result (λ r. r.statements ≡ map (resolved_stmt (items_of derives.now) (declaring_all formals (declared_by_decls r.declarations) ∷ seen outer.now)) subprogram.now.statements) }
+    ensures vars { IfOk result (λ r. tables.new.vars ≡ tables.old.vars ++ map var_of (variables_by_decls r.declarations)) }
+    ensures types { IfOk result (λ r. tables.new.types ≡ tables.old.types ++ rows_by_decls r.declarations) }
+{
+    let changed = Changed::by(alloc, derives)?;
+    resolve_body(alloc, formals, tables, outer, &changed, subprogram)
+}
+
 /// What stands after the formal part of a subprogram.
 #[derive(Drop)]
 struct Inner {
     derives: Option<CoreDerives>,
-    rest: Rest,
+    pre: Option<CorePredicate>,
+    body: Body,
 }
 
 /// The annotations and the body of a subprogram: there its name and its formals are seen.
@@ -127,19 +166,21 @@ fn resolve_inner(
     subprogram: &Subprogram,
 ) -> Result<Inner, AllocError>
     ensures derives { IfOk result (λ r. r.derives ≡ option_map (resolved_derives (formals ∷ around_body name.now)) subprogram.now.derives) }
-    ensures pre { IfOk result (λ r. r.rest.pre ≡ option_map (resolved_predicate [] (formals ∷ around_body name.now)) subprogram.now.pre) }
-    ensures post { IfOk result (λ r. r.rest.post ≡ option_map (resolved_predicate (items_of r.derives) (formals ∷ around_body name.now)) subprogram.now.post) }
-    ensures declarations { IfOk result (λ r. r.rest.declarations ≡ resolved_decls (around_body name.now) formals (counts_of tables.old) subprogram.now.declarations) }
-    ensures statements { IfOk result (λ r. r.rest.statements ≡ map (resolved_stmt (items_of r.derives) (declaring_all formals (declared_by_decls r.rest.declarations) ∷ around_body name.now)) subprogram.now.statements) }
-    ensures vars { IfOk result (λ r. tables.new.vars ≡ tables.old.vars ++ map var_of (variables_by_decls r.rest.declarations)) }
-    ensures types { IfOk result (λ r. tables.new.types ≡ tables.old.types ++ rows_by_decls r.rest.declarations) }
+    ensures pre { IfOk result (λ r. r.pre ≡ option_map (resolved_predicate [] (formals ∷ around_body name.now)) subprogram.now.pre) }
+    ensures post { IfOk result (λ r. r.body.post ≡ option_map (resolved_predicate (items_of r.derives) (formals ∷ around_body name.now)) subprogram.now.post) }
+    ensures declarations { IfOk result (λ r. r.body.declarations ≡ resolved_decls (around_body name.now) formals (counts_of tables.old) subprogram.now.declarations) }
+    ensures statements { IfOk result (λ r. r.body.statements ≡ map (resolved_stmt (items_of r.derives) (declaring_all formals (declared_by_decls r.body.declarations) ∷ around_body name.now)) subprogram.now.statements) }
+    ensures vars { IfOk result (λ r. tables.new.vars ≡ tables.old.vars ++ map var_of (variables_by_decls r.body.declarations)) }
+    ensures types { IfOk result (λ r. tables.new.types ≡ tables.old.types ++ rows_by_decls r.body.declarations) }
 {
     let outermost = Scope::outermost(everywhere);
     let own_name = region_of(alloc, name)?;
     let outer = Scope::inside(&own_name, &outermost);
-    let derives = resolve_derives(alloc, &subprogram.derives, &Scope::inside(&formals, &outer))?;
-    let rest = resolve_rest(alloc, formals, tables, &outer, &derives, subprogram)?;
-    Ok(Inner { derives, rest })
+    let scope = Scope::inside(&formals, &outer);
+    let derives = resolve_derives(alloc, &subprogram.derives, &scope)?;
+    let pre = resolve_precondition(alloc, &subprogram.pre, &scope)?;
+    let body = resolve_under(alloc, formals, tables, &outer, &derives, subprogram)?;
+    Ok(Inner { derives, pre, body })
 }
 
 fn copy_end_name(alloc: Global, name: &Option<Identifier>) -> Result<Option<Identifier>, AllocError>
@@ -174,10 +215,10 @@ fn resolve_subprogram(
         name,
         formal_part,
         derives: inner.derives,
-        pre: inner.rest.pre,
-        post: inner.rest.post,
-        declarations: inner.rest.declarations,
-        statements: inner.rest.statements,
+        pre: inner.pre,
+        post: inner.body.post,
+        declarations: inner.body.declarations,
+        statements: inner.body.statements,
         end: subprogram.end,
         end_name,
         vars,
