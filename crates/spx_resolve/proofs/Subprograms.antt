@@ -15,7 +15,7 @@ use Rattle.spx_core.specs.declared.program.TypeRow.{TypeRow}
 use Rattle.spx_core.specs.declared.program.Var.{Var}
 use Rattle.spx_core.specs.Regions.{Region}
 use Rattle.spx_core.specs.Dependency.{items_of}
-use Rattle.spx_core.specs.Resolved.{Counts, after_formals, around_annotations, around_body, declared_by_decls, declared_by_params, declaring_all, derives_of, items_for, own_types, own_vars, params_of, positions, resolved_decls, resolved_derives, resolved_formal_part, resolved_predicate, resolved_stmt, resolved_sub, rows_by_decls, sub_of, var_of, variables_by_decls, with_formals}
+use Rattle.spx_core.specs.Resolved.{Counts, after_formals, around_annotations, around_body, declared_by_decls, declared_by_params, declaring_all, derives_of, own_types, own_vars, params_of, positions, resolved_decls, resolved_derives, resolved_formal_part, resolved_predicate, resolved_stmt, resolved_sub, rows_by_decls, sub_of, var_of, variables_by_decls, with_formals}
 use Rattle.spx_resolve.specs.Ids.{ids_from}
 use Rattle.spx_resolve.proofs.Declared.{declaring_append, length_after, positions_are}
 

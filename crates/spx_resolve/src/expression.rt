@@ -130,12 +130,8 @@ pub fn resolve_in(
         Expr::Name(name) => Ok(resolve_value(alloc, name, scope)?),
         Expr::Entry(name) => Ok(resolve_entry(alloc, name, changed, scope)?),
         Expr::Applied(function, place, operand) => {
-            let function = resolve_function(alloc, function, scope)?;
-            Ok(CoreExpr::Applied(
-                function,
-                *place,
-                resolve_part(alloc, operand, changed, scope)?,
-            ))
+            let operand = resolve_part(alloc, operand, changed, scope)?;
+            Ok(CoreExpr::Applied(resolve_function(alloc, function, scope)?, *place, operand))
         }
         Expr::Parenthesized(place, inner) => {
             Ok(CoreExpr::Parenthesized(*place, resolve_part(alloc, inner, changed, scope)?))
@@ -145,17 +141,12 @@ pub fn resolve_in(
         }
         Expr::Infix(op, place, left, right) => {
             let left = resolve_part(alloc, left, changed, scope)?;
-            Ok(CoreExpr::Infix(
-                *op,
-                *place,
-                left,
-                resolve_part(alloc, right, changed, scope)?,
-            ))
+            let right = resolve_part(alloc, right, changed, scope)?;
+            Ok(CoreExpr::Infix(*op, *place, left, right))
         }
-        Expr::InType(op, place, tested, type_name) => {
+        Expr::InType(op, place, tested, name) => {
             let tested = resolve_part(alloc, tested, changed, scope)?;
-            let type_name = resolve_reference(alloc, type_name, scope)?;
-            Ok(CoreExpr::InType(*op, *place, tested, type_name))
+            Ok(CoreExpr::InType(*op, *place, tested, resolve_reference(alloc, name, scope)?))
         }
         Expr::InRange(op, place, tested, low, high) => {
             let tested = resolve_part(alloc, tested, changed, scope)?;
