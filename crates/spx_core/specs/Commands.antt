@@ -1,6 +1,8 @@
 -- What statements do, without lists: statements in a row are a chain, and `elsif` is an `if` in the `else` before it (Ada 95 RM 5.1 to 5.4).
 use Rattle.std.specs.Prelude.{Bool, true, ◌||◌, ◌&&◌, is_none, is_some, List, [], ◌∷◌, ◌++◌, map, Option, Some, None}
 use Rattle.spx_text.specs.declared.place.Place.{Place}
+use Rattle.spx_tree.specs.declared.statement.AssertionKind.{AssertionKind}
+use Rattle.spx_tree.specs.declared.statement.AssertionKind.TheVariants as assertion
 use Rattle.spx_core.specs.declared.name.Reference.{Reference}
 use Rattle.spx_core.specs.declared.expression.CoreExpr.{CoreExpr}
 use Rattle.spx_core.specs.declared.statement.CoreStmt.{CoreStmt, CoreStmt-F, fold-CoreStmt}
@@ -21,8 +23,10 @@ mutual
     Choose : Place → CoreExpr → Command → Command → Command
     -- at the word `case`: the alternative for the value of the selector
     Select : Place → CoreExpr → Alternatives → Command
-    -- at the word `check`: nothing, where the condition is true
-    Check : Place → CoreExpr → Command
+    -- at the word `assert` or `check`: nothing, where the condition is true
+    Assertion : AssertionKind → Place → CoreExpr → Command
+    -- at the word `while`: the body, again and again as long as the condition is true (Ada 95 RM 5.5)
+    While : Place → CoreExpr → Command → Command
 
   -- no choices: `others`
   pub data Alternatives : Type 0 where
@@ -67,7 +71,7 @@ stmt_step (CoreStmt-F.Null place) = Skip
 stmt_step (CoreStmt-F.Assignment target value) = Set target value
 stmt_step (CoreStmt-F.If arms otherwise closing) = arms_before (or_skip otherwise) arms
 stmt_step (CoreStmt-F.Case place selector alternatives closing) = select place selector alternatives
-stmt_step (CoreStmt-F.Check place condition) = Check place condition
+stmt_step (CoreStmt-F.Assertion kind place condition) = Assertion kind place condition
 
 abbrev pub command : CoreStmt → Command
 command = fold-CoreStmt Command (Option (List CoreChoice) × Command) (Command → Command) stmt_step alternative_step arm_step
@@ -80,6 +84,23 @@ alternative = fold-CoreAlternative Command (Option (List CoreChoice) × Command)
 
 abbrev pub commands : List CoreStmt → Command
 commands stmts = chain (map command stmts)
+
+-- ---- cuts
+
+-- paths end at an `assert`, and begin again there
+abbrev pub is_cut : AssertionKind → Bool
+is_cut assertion.Assert = true
+is_cut assertion.Check = false
+
+-- the command itself is an `assert`
+abbrev pub is_assert : Command → Bool
+is_assert (Assertion kind place condition) = is_cut kind
+is_assert _ = false
+
+-- one of the statements in a row is an `assert`
+abbrev pub has_own_cut : Command → Bool
+has_own_cut (Then a b) = is_assert a || has_own_cut b
+has_own_cut _ = false
 
 -- ---- choices
 

@@ -6,7 +6,7 @@ use Rattle.spx_core.specs.declared.entity.VarId.{VarId}
 use Rattle.spx_core.specs.declared.name.CoreName.{CoreName}
 use Rattle.spx_core.specs.declared.expression.CoreExpr.{CoreExpr}
 use Rattle.spx_core.specs.declared.statement.CoreStmt.{CoreStmt}
-use Rattle.spx_core.specs.Commands.{Command, Skip, Set, Then, Choose, Select, Check, Alternatives, Last, When, commands}
+use Rattle.spx_core.specs.Commands.{Command, Skip, Set, Then, Choose, Select, Assertion, While, Alternatives, Last, When, commands}
 use Rattle.spx_core.specs.Uses.{is_same, variable_of}
 use Rattle.spx_core.specs.Reads.{names_read}
 
@@ -37,6 +37,8 @@ pub data Effect : Type 0 where
   choose : List Read → Effect → Effect → Place → Effect
   -- what is read, of which nothing flows
   observe : List Read → Effect
+  -- what the condition reads before each turn, the body, and the place at which a finding on the condition stands
+  repeat : List Read → Effect → Place → Effect
 
 abbrev mutual
   pub effect : Command → Effect
@@ -45,7 +47,8 @@ abbrev mutual
   effect (Then a b) = next (effect a) (effect b)
   effect (Choose place condition a b) = choose (reads_of condition) (effect a) (effect b) place
   effect (Select place selector alternatives) = effect_among (reads_of selector) place alternatives
-  effect (Check place condition) = observe (reads_of condition)
+  effect (Assertion kind place condition) = observe (reads_of condition)
+  effect (While place condition body) = repeat (reads_of condition) (effect body) place
 
   -- the selector chooses each alternative before the next; the last one is both arms of a choice, so that the selector is read also where there is no other
   pub effect_among : List Read → Place → Alternatives → Effect
@@ -63,6 +66,7 @@ sets v (assign target reads place) = is_same v target
 sets v (next a b) = sets v a || sets v b
 sets v (choose tests a b place) = sets v a || sets v b
 sets v (observe values) = false
+sets v (repeat tests body place) = sets v body
 
 abbrev pub reads : VarId → Effect → Bool
 reads v nothing = false
@@ -70,6 +74,7 @@ reads v (assign target values place) = is_read v values
 reads v (next a b) = reads v a || reads v b
 reads v (choose tests a b place) = is_read v tests || (reads v a || reads v b)
 reads v (observe values) = is_read v values
+reads v (repeat tests body place) = is_read v tests || reads v body
 
 -- one of the statements sets the variable
 abbrev pub defines : VarId → List CoreStmt → Bool

@@ -100,7 +100,7 @@ erased_stmt_step (CoreStmt-F.Null place) = stmt.Null place
 erased_stmt_step (CoreStmt-F.Assignment target value) = stmt.Assignment (erased_reference target) (erased_expr value)
 erased_stmt_step (CoreStmt-F.If arms otherwise closing) = stmt.If arms otherwise closing
 erased_stmt_step (CoreStmt-F.Case place selector alternatives closing) = stmt.Case place (erased_expr selector) alternatives closing
-erased_stmt_step (CoreStmt-F.Check place condition) = stmt.Check place (erased_expr condition)
+erased_stmt_step (CoreStmt-F.Assertion kind place condition) = stmt.Assertion kind place (erased_expr condition)
 
 abbrev pub erased_stmt : CoreStmt → Stmt
 erased_stmt = fold-CoreStmt Stmt Alternative Arm erased_stmt_step erased_alternative_step erased_arm_step

@@ -3,16 +3,23 @@ use Rattle.std.specs.Prelude.{◌≡◌, ◌↔◌, ◌⊎◌, false, ◌||◌, 
 use Rattle.spx_core.specs.declared.entity.VarId.{VarId}
 use Rattle.spx_core.specs.declared.statement.CoreStmt.{CoreStmt}
 use Rattle.spx_core.specs.Uses.{is_same}
-use Rattle.spx_core.specs.Effects.{Effect, nothing, assign, next, choose, observe, effects, sets, is_read}
+use Rattle.spx_core.specs.Effects.{Effect, nothing, assign, next, choose, observe, repeat, effects, sets, is_read}
+
+-- some number of steps, each from the variable to which the one before it came
+pub data Steps (R : VarId → VarId → Type 0) : VarId → VarId → Type 0 where
+  stay : {u : VarId} → Steps R u u
+  step : {u v w : VarId} → R u v → Steps R v w → Steps R u w
 
 -- What u holds before may come to what w holds after: a target comes from what the right side reads, each other variable from itself; of two
--- arms either may be run, and what the condition reads comes to all that an arm sets.
+-- arms either may be run, and what the condition reads comes to all that an arm sets. A loop is some number of turns; what its condition reads
+-- before one of them comes to all that the body sets.
 abbrev pub MayFlow : Effect → VarId → VarId → Type 0
 MayFlow nothing u w = u ≡ w
 MayFlow (assign target reads place) u w = (IsTrue (is_same w target) × IsTrue (is_read u reads)) ⊎ ((is_same w target ≡ false) × (u ≡ w))
 MayFlow (next a b) u w = (v : VarId) × MayFlow a u v × MayFlow b v w
 MayFlow (choose tests a b place) u w = MayFlow a u w ⊎ (MayFlow b u w ⊎ (IsTrue (sets w a || sets w b) × IsTrue (is_read u tests)))
 MayFlow (observe values) u w = u ≡ w
+MayFlow (repeat tests body place) u w = Steps (MayFlow body) u w ⊎ (IsTrue (sets w body) × (x : VarId) × Steps (MayFlow body) u x × IsTrue (is_read x tests))
 
 -- the flows of a list are those of two parts that it is cut into, one after the other
 abbrev pub FlowsCompose : Type 0

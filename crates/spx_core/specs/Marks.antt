@@ -4,8 +4,8 @@ use Rattle.std.specs.Prelude.{◌≡◌, ◌↔◌, ◌⊎◌, ◌&&◌, ◌||�
 use Rattle.spx_text.specs.declared.place.Place.{Place}
 use Rattle.spx_core.specs.declared.entity.VarId.{VarId}
 use Rattle.spx_core.specs.Uses.{is_same}
-use Rattle.spx_core.specs.Effects.{Effect, Read, nothing, assign, next, choose, observe, sets, is_read}
-use Rattle.spx_core.specs.Flow.{MayFlow}
+use Rattle.spx_core.specs.Effects.{Effect, Read, nothing, assign, next, choose, observe, repeat, sets, is_read}
+use Rattle.spx_core.specs.Flow.{MayFlow, Steps}
 
 abbrev pub same_place : Place → Place → Bool
 same_place a b = (a.file == b.file) && ((a.line == b.line) && (a.column == b.column))
@@ -17,6 +17,7 @@ Occurs (assign target reads place) p = IsSome target × (place ≡ p)
 Occurs (next a b) p = Occurs a p ⊎ Occurs b p
 Occurs (choose tests a b place) p = (place ≡ p) ⊎ (Occurs a p ⊎ Occurs b p)
 Occurs (observe values) p = ⊥
+Occurs (repeat tests body place) p = (place ≡ p) ⊎ Occurs body p
 
 abbrev pub with_mark : Place → VarId → Place → List Read → List Read
 with_mark p m place reads = if same_place place p then (place, m) ∷ reads else reads
@@ -28,6 +29,7 @@ marked p m (assign target reads place) = assign target (with_mark p m place read
 marked p m (next a b) = next (marked p m a) (marked p m b)
 marked p m (choose tests a b place) = choose (with_mark p m place tests) (marked p m a) (marked p m b) place
 marked p m (observe values) = observe values
+marked p m (repeat tests body place) = repeat (with_mark p m place tests) (marked p m body) place
 
 -- what the variable holds before may come to what the occurrence reads
 abbrev pub Lambda : Effect → VarId → Place → Type 0
@@ -36,6 +38,7 @@ Lambda (assign target reads place) u p = IsSome target × (place ≡ p) × IsTru
 Lambda (next a b) u p = Lambda a u p ⊎ ((v : VarId) × MayFlow a u v × Lambda b v p)
 Lambda (choose tests a b place) u p = ((place ≡ p) × IsTrue (is_read u tests)) ⊎ (Lambda a u p ⊎ Lambda b u p)
 Lambda (observe values) u p = ⊥
+Lambda (repeat tests body place) u p = (v : VarId) × Steps (MayFlow body) u v × (((place ≡ p) × IsTrue (is_read v tests)) ⊎ Lambda body v p)
 
 -- what the occurrence reads may come to what the variable holds after
 abbrev pub Mu : Effect → Place → VarId → Type 0
@@ -44,6 +47,7 @@ Mu (assign target reads place) p w = (place ≡ p) × IsTrue (is_same w target)
 Mu (next a b) p w = ((v : VarId) × Mu a p v × MayFlow b v w) ⊎ Mu b p w
 Mu (choose tests a b place) p w = ((place ≡ p) × IsTrue (sets w a || sets w b)) ⊎ (Mu a p w ⊎ Mu b p w)
 Mu (observe values) p w = ⊥
+Mu (repeat tests body place) p w = ((place ≡ p) × IsTrue (sets w body)) ⊎ ((v : VarId) × Mu body p v × MayFlow (repeat tests body place) v w)
 
 -- a mark adds the flows from it to what `Mu` says, and no other
 abbrev pub MarkLaw : Type 0

@@ -24,6 +24,7 @@ use Rattle.spx_core.specs.declared.function.CoreFunction.{CoreFunction}
 use Rattle.spx_core.specs.declared.function.Mapping.{Mapping}
 use Rattle.spx_core.specs.declared.function.Span.{Span}
 use Rattle.spx_tree.specs.declared.expression.FunctionForm.TheVariants as form
+use Rattle.spx_tree.specs.declared.statement.AssertionKind.{AssertionKind}
 use Rattle.spx_core.specs.declared.statement.CoreDecl.{CoreDecl}
 use Rattle.spx_core.specs.declared.statement.CoreDecl.TheVariants as decl
 use Rattle.spx_core.specs.declared.statement.CoreChoice.{CoreChoice}
@@ -39,7 +40,7 @@ use Rattle.spx_core.specs.declared.rule.RuleName.TheVariants.{N1, N2, N3, N5, N1
 use Rattle.spx_core.specs.declared.rule.ExprType.{ExprType}
 use Rattle.spx_core.specs.declared.rule.ExprType.TheVariants.{Of}
 use Rattle.spx_core.specs.declared.rule.Typing.{Typing}
-use Rattle.spx_core.specs.Commands.{Command, Set, Then, Choose, Select, Check, Alternatives, bodies_in, choices_in, commands, has_others, has_others_last, spans_of}
+use Rattle.spx_core.specs.Commands.{Command, Set, Then, Choose, Select, Assertion, While, Alternatives, bodies_in, choices_in, commands, has_others, has_others_last, spans_of}
 use Rattle.spx_core.specs.Dependency.{relation}
 use Rattle.spx_core.specs.Extents.{extent}
 use Rattle.spx_core.specs.HasType.{HasType}
@@ -191,7 +192,9 @@ pub data BreaksCommand : Command → RuleName → Place → Type 0 where
   choice : (at : Place) (selector : CoreExpr) (alternatives : Alternatives) (choice : CoreChoice) (e : CoreExpr) (t : Typing) (rule : RuleName) (place : Place) → Contains (choices_in alternatives) choice → IsBoundOf choice e → HasType selector t
       → BreaksChoice t.of e rule place → BreaksCommand (Select at selector alternatives) rule place
   alternative : (at : Place) (selector : CoreExpr) (alternatives : Alternatives) (a : Command) (rule : RuleName) (place : Place) → Contains (bodies_in alternatives) a → BreaksCommand a rule place → BreaksCommand (Select at selector alternatives) rule place
-  checked : (at : Place) (c : CoreExpr) (rule : RuleName) (place : Place) → BreaksCondition c rule place → BreaksCommand (Check at c) rule place
+  asserted : (kind : AssertionKind) (at : Place) (c : CoreExpr) (rule : RuleName) (place : Place) → BreaksCondition c rule place → BreaksCommand (Assertion kind at c) rule place
+  turned : (at : Place) (c : CoreExpr) (a : Command) (rule : RuleName) (place : Place) → BreaksCondition c rule place → BreaksCommand (While at c a) rule place
+  body : (at : Place) (c : CoreExpr) (a : Command) (rule : RuleName) (place : Place) → BreaksCommand a rule place → BreaksCommand (While at c a) rule place
 
 -- ---- declarations
 

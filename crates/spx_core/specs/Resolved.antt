@@ -170,7 +170,7 @@ stmt_step items regions (Stmt-F.Null place) = stmt.Null place
 stmt_step items regions (Stmt-F.Assignment target value) = stmt.Assignment (resolved_reference regions target) (resolved_expr regions value)
 stmt_step items regions (Stmt-F.If arms otherwise closing) = stmt.If arms otherwise closing
 stmt_step items regions (Stmt-F.Case place selector alternatives closing) = stmt.Case place (resolved_expr regions selector) alternatives closing
-stmt_step items regions (Stmt-F.Check place condition) = stmt.Check place (resolved_in items regions condition)
+stmt_step items regions (Stmt-F.Assertion kind place condition) = stmt.Assertion kind place (resolved_in items regions condition)
 
 abbrev pub resolved_stmt : List CoreDerivesItem → Regions → Stmt → CoreStmt
 resolved_stmt items regions = fold-Stmt CoreStmt CoreAlternative CoreArm (stmt_step items regions) (alternative_step regions) (arm_step regions)
@@ -265,13 +265,13 @@ abbrev pub integer_type : ℕ → Option ℤ → Option ℤ → Subtype
 integer_type position (Some first) (Some last) = record { id = id_at position; base = integer_base (id_at position) first last; first = first; last = last }
 integer_type position low high = UNIVERSAL
 
--- a new type of so many literals
+-- a new type of so many literals; the grammar has one at least
 abbrev pub enumeration_base : TypeId → ℕ → BaseType
-enumeration_base id count = record { id = id; class = class.Enumeration; first = pos 0; last = pos count -ℤ pos 1 }
+enumeration_base id count = record { id = id; class = class.Enumeration; first = pos 0; last = pos (count - 1) }
 
 abbrev pub enumeration_type : ℕ → ℕ → Subtype
 enumeration_type position count =
-    record { id = id_at position; base = enumeration_base (id_at position) count; first = pos 0; last = pos count -ℤ pos 1 }
+    record { id = id_at position; base = enumeration_base (id_at position) count; first = pos 0; last = pos (count - 1) }
 
 -- the values of a base type between two
 abbrev pub bounded : ℕ → BaseType → Option ℤ → Option ℤ → Subtype

@@ -1,6 +1,6 @@
 -- Where the variables of a subprogram are seen: the names of its body denote its formals and locals, those of its relation its formals, each
 -- with the facts that are declared of it.
-use Rattle.std.specs.Prelude.{◌≡◌, ⊤, ℤ, true, false, ◌||◌, ◌==◌, All, Option, Some, option_and_then, option_map, slice_get}
+use Rattle.std.specs.Prelude.{◌≡◌, ⊤, ℤ, int_le, true, false, ◌||◌, ◌==◌, All, Option, Some, option_and_then, option_map, slice_get}
 use Rattle.std.specs.List.{IsDistinct}
 use Rattle.spx_core.specs.declared.entity.VarId.{VarId}
 use Rattle.spx_core.specs.declared.entity.VarKind.{VarKind}
@@ -16,7 +16,7 @@ use Rattle.spx_core.specs.declared.program.TypeRow.{TypeRow}
 use Rattle.spx_core.specs.declared.program.Var.{Var}
 use Rattle.spx_core.specs.declared.program.Program.{Program}
 use Rattle.spx_core.specs.declared.subprogram.Sub.{Sub}
-use Rattle.spx_core.specs.Commands.{Command, Skip, Set, Then, Choose, Select, Check, Alternatives, Last, When, commands}
+use Rattle.spx_core.specs.Commands.{Command, Skip, Set, Then, Choose, Select, Assertion, While, Alternatives, Last, When, commands}
 use Rattle.spx_core.specs.Reads.{names_read}
 use Rattle.spx_core.specs.Uses.{denotes}
 use Rattle.spx_core.specs.Dependency.{exports, imports, relation}
@@ -44,7 +44,8 @@ abbrev mutual
   TargetsHaveTheirModes p (Then a b) = TargetsHaveTheirModes p a × TargetsHaveTheirModes p b
   TargetsHaveTheirModes p (Choose place condition a b) = TargetsHaveTheirModes p a × TargetsHaveTheirModes p b
   TargetsHaveTheirModes p (Select place selector alternatives) = AllHaveTheirModes p alternatives
-  TargetsHaveTheirModes p (Check place condition) = ⊤
+  TargetsHaveTheirModes p (Assertion kind place condition) = ⊤
+  TargetsHaveTheirModes p (While place condition body) = TargetsHaveTheirModes p body
 
   pub AllHaveTheirModes : Program → Alternatives → Type 0
   AllHaveTheirModes p (Last choices a) = TargetsHaveTheirModes p a
@@ -75,7 +76,8 @@ abbrev mutual
   AreAsDeclared p (Then a b) = AreAsDeclared p a × AreAsDeclared p b
   AreAsDeclared p (Choose place condition a b) = All (IsAsDeclared p) (names_read condition) × (AreAsDeclared p a × AreAsDeclared p b)
   AreAsDeclared p (Select place selector alternatives) = All (IsAsDeclared p) (names_read selector) × AllAreAsDeclared p alternatives
-  AreAsDeclared p (Check place condition) = All (IsAsDeclared p) (names_read condition)
+  AreAsDeclared p (Assertion kind place condition) = All (IsAsDeclared p) (names_read condition)
+  AreAsDeclared p (While place condition body) = All (IsAsDeclared p) (names_read condition) × AreAsDeclared p body
 
   pub AllAreAsDeclared : Program → Alternatives → Type 0
   AllAreAsDeclared p (Last choices a) = AreAsDeclared p a
@@ -95,6 +97,10 @@ pub record Scoped (p : Program) (sub : Sub) : Type 0 where
   pub body_names : AreAsDeclared p (commands sub.statements)
   pub pre_names : (pre : CorePredicate) → sub.pre ≡ Some pre → All (IsAsDeclared p) (names_read pre.condition)
   pub post_names : (post : CorePredicate) → sub.post ≡ Some post → All (IsAsDeclared p) (names_read post.condition)
+
+-- each type has a value
+abbrev pub TypesHaveValues : Program → Type 0
+TypesHaveValues p = All (λ (row : TypeRow). int_le row.subtype.first row.subtype.last ≡ true) p.types
 
 -- a local that is declared with a value has one of its type
 abbrev pub StartsInType : Program → Sub → Type 0

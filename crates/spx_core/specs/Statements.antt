@@ -25,7 +25,7 @@ use Rattle.spx_core.specs.declared.statement.CoreChoice.{CoreChoice}
 use Rattle.spx_core.specs.declared.function.Span.{Span}
 use Rattle.spx_core.specs.declared.rule.ExprType.{ExprType}
 use Rattle.spx_core.specs.declared.rule.Typing.{Typing}
-use Rattle.spx_core.specs.Commands.{Command, Skip, Set, Then, Choose, Select, Check, Alternatives, Last, When, choices_in, commands, has_others, has_others_last, listed, spans_of}
+use Rattle.spx_core.specs.Commands.{Command, Skip, Set, Then, Choose, Select, Assertion, While, Alternatives, Last, When, choices_in, commands, has_others, has_others_last, listed, spans_of}
 use Rattle.spx_core.specs.Dependency.{relation}
 use Rattle.spx_core.specs.Judged.{Judged, ◌>>=◌, breach_in, condition, each, if_there, judged, keeps, operand_of, referred_object, referred_target, referred_type}
 use Rattle.spx_core.specs.Extents.{extent}
@@ -124,7 +124,7 @@ test e = judged e >>= λ t. condition t
 abbrev pub judged_predicate : CorePredicate → Judged ⊤
 judged_predicate predicate = test predicate.condition
 
--- ---- statements (Ada 95 RM 5.2 to 5.4)
+-- ---- statements (Ada 95 RM 5.2 to 5.5)
 
 abbrev pub assignment : Reference → CoreExpr → Judged ⊤
 assignment target value = do
@@ -179,7 +179,8 @@ abbrev mutual
     _ ← keeps N17 place (has_right_choices selector alternatives)
     of ← selected selector
     judged_alternatives of alternatives
-  judged_command (Check place condition) = test condition
+  judged_command (Assertion kind place condition) = test condition
+  judged_command (While place condition body) = test condition >>= λ _. judged_command body
 
   pub judged_alternatives : ExprType → Alternatives → Judged ⊤
   judged_alternatives of (Last choices a) = judged_choices of choices >>= λ _. judged_command a

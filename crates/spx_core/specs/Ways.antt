@@ -4,7 +4,7 @@ use Rattle.std.specs.Option.{option_to_list}
 use Rattle.spx_text.specs.declared.place.Place.{Place}
 use Rattle.spx_core.specs.declared.entity.VarId.{VarId}
 use Rattle.spx_core.specs.Formals.{stands_in}
-use Rattle.spx_core.specs.Effects.{Effect, nothing, assign, next, choose, observe}
+use Rattle.spx_core.specs.Effects.{Effect, nothing, assign, next, choose, observe, repeat}
 
 abbrev pub Ways : Type 1
 Ways = List VarId → Type 0
@@ -13,6 +13,11 @@ Ways = List VarId → Type 0
 abbrev pub Follow : Ways → Ways → Ways
 Follow A B way = (front : List VarId) × (back : List VarId) × (way ≡ front ++ back) × A front × B back
 
+-- some number of ways, one after the other
+pub data Turns (A : Ways) : Ways where
+  none : Turns A []
+  more : {front back : List VarId} → A front → Turns A back → Turns A (front ++ back)
+
 -- a way on past the statement
 abbrev pub Goes : Effect → Ways
 Goes nothing way = way ≡ []
@@ -20,6 +25,7 @@ Goes (assign target reads place) way = way ≡ option_to_list target
 Goes (next a b) way = Follow (Goes a) (Goes b) way
 Goes (choose tests a b place) way = Goes a way ⊎ Goes b way
 Goes (observe values) way = way ≡ []
+Goes (repeat tests body place) way = Turns (Goes body) way
 
 -- a way to a read of v at the place p
 abbrev pub Reaches : Effect → Place → VarId → Ways
@@ -28,6 +34,7 @@ Reaches (assign target reads place) p v way = Contains reads (p, v) × (way ≡ 
 Reaches (next a b) p v way = Reaches a p v way ⊎ Follow (Goes a) (Reaches b p v) way
 Reaches (choose tests a b place) p v way = (Contains tests (p, v) × (way ≡ [])) ⊎ (Reaches a p v way ⊎ Reaches b p v way)
 Reaches (observe values) p v way = Contains values (p, v) × (way ≡ [])
+Reaches (repeat tests body place) p v way = (Contains tests (p, v) × Turns (Goes body) way) ⊎ Follow (Turns (Goes body)) (Reaches body p v) way
 
 -- one of the ways does not set v
 abbrev pub Free : Ways → VarId → Type 0

@@ -2,7 +2,7 @@
 
 use crate::{CoreExpr, Defining, Reference, Span};
 use spx_text::Place;
-use spx_tree::Closing;
+use spx_tree::{AssertionKind, Closing};
 use sqlite_items::Items;
 
 /// `low .. high`
@@ -46,8 +46,8 @@ pub enum CoreStmt {
     If(Items<CoreArm>, Option<Items<CoreStmt>>, Closing),
     /// At the word `case`: the selector, the alternatives, one or more, and the closing words (Ada 95 RM 5.4).
     Case(Place, CoreExpr, Items<CoreAlternative>, Closing),
-    /// At the word `check`: what must be true there (Barnes).
-    Check(Place, CoreExpr),
+    /// At the word `assert` or `check`: what must be true there (Barnes).
+    Assertion(AssertionKind, Place, CoreExpr),
 }
 
 /// A condition and the statements after `then`, at the word `if` or `elsif`.

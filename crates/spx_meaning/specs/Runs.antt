@@ -1,5 +1,5 @@
--- What statements and calls do to a store, within a bound (Ada 95 RM 3.3.1, 5.2 to 5.4, 6.4).
-use Rattle.std.specs.Prelude.{ℕ, ℤ, Bool, true, false, not, ◌||◌, if◌then◌else◌, List, [], ◌∷◌, is_some, Option, Some, None, option_map}
+-- What statements and calls do to a store, within a bound (Ada 95 RM 3.3.1, 5.2 to 5.5, 6.4).
+use Rattle.std.specs.Prelude.{ℕ, zero, suc, ℤ, Bool, true, false, not, ◌||◌, if◌then◌else◌, List, [], ◌∷◌, is_some, Option, Some, None, option_map}
 use Rattle.std.specs.List.{list_all}
 use Rattle.spx_text.specs.declared.place.Place.{Place}
 use Rattle.spx_core.specs.declared.entity.VarId.{VarId}
@@ -10,7 +10,9 @@ use Rattle.spx_core.specs.declared.program.Program.{Program}
 use Rattle.spx_core.specs.declared.entity.Mode.TheVariants as mode
 use Rattle.spx_core.specs.declared.subprogram.CorePredicate.{CorePredicate}
 use Rattle.spx_core.specs.declared.subprogram.Sub.{Sub}
-use Rattle.spx_core.specs.Commands.{Command, Skip, Set, Then, Choose, Select, Check, Alternatives, Last, When, commands, spans_of}
+use Rattle.spx_tree.specs.declared.statement.AssertionKind.{AssertionKind}
+use Rattle.spx_tree.specs.declared.statement.AssertionKind.TheVariants as assertion
+use Rattle.spx_core.specs.Commands.{Command, Skip, Set, Then, Choose, Select, Assertion, While, Alternatives, Last, When, commands, spans_of}
 use Rattle.spx_core.specs.declared.entity.Subtype.{Subtype}
 use Rattle.spx_core.specs.declared.rule.ExprType.TheVariants.{Of}
 use Rattle.spx_core.specs.declared.statement.CoreChoice.{CoreChoice}
@@ -64,6 +66,23 @@ abbrev pub has_value : Option (List CoreChoice) → Value → Bool
 has_value None x = true
 has_value (Some choices) x = is_chosen (as_number x) (spans_of choices)
 
+-- what fails where an annotation among statements is false
+abbrev pub untrue : AssertionKind → BadKind
+untrue assertion.Assert = bad.Assert
+untrue assertion.Check = bad.Check
+
+-- what follows a turn of a loop; an exit leaves the loop
+abbrev pub after_turn : Outcome → (Store → Outcome) → Outcome
+after_turn (Ended s) go = go s
+after_turn (Left s) go = Ended s
+after_turn (Bad kind place) go = Bad kind place
+after_turn Later go = Later
+
+-- The turns of a loop as long as its test is true (Ada 95 RM 5.5). A turn and the rest of the loop have one less of the bound; at 0 there is none.
+abbrev pub turns : (test : ℕ → Store → Answer) → (body : ℕ → Store → Outcome) → ℕ → Store → Outcome
+turns test body zero s = use_value (test zero s) (λ x. if as_truth x then Later else Ended s)
+turns test body (suc n) s = use_value (test (suc n) s) (λ x. if as_truth x then after_turn (body n s) (turns test body n) else Ended s)
+
 -- A command; the bound is handed down to each part.
 abbrev mutual
   pub run : Frame → ℕ → Store → Command → Outcome
@@ -72,7 +91,8 @@ abbrev mutual
   run f n s (Then a b) = then_do (run f n s a) (λ t. run f n t b)
   run f n s (Choose place condition a b) = use_value (eval f n s condition) (λ x. if as_truth x then run f n s a else run f n s b)
   run f n s (Select place selector alternatives) = use_value (eval f n s selector) (λ x. run_for x f n s alternatives)
-  run f n s (Check place condition) = demand (truth f s condition) bad.Check place s
+  run f n s (Assertion kind place condition) = demand (truth f s condition) (untrue kind) place s
+  run f n s (While place condition body) = turns (λ k t. eval f k t condition) (λ k t. run f k t body) n s
 
   -- the alternative for this value: that with the last choices has all values that are left
   pub run_for : Value → Frame → ℕ → Store → Alternatives → Outcome

@@ -1,10 +1,12 @@
 -- The trees of steps through a body.
-use Rattle.std.specs.Prelude.{ℕ, ◌+◌, false, if◌then◌else◌, List, [], ◌∷◌, ◌++◌, flat_map, map, Option, Some, None}
+use Rattle.std.specs.Prelude.{ℕ, ◌+◌, Bool, true, false, ◌&&◌, if◌then◌else◌, List, [], ◌∷◌, ◌++◌, flat_map, map, Option, Some, None}
 use Rattle.spx_core.specs.declared.entity.VarId.{VarId}
 use Rattle.spx_core.specs.declared.program.Program.{Program}
 use Rattle.spx_core.specs.declared.subprogram.CorePredicate.{CorePredicate}
 use Rattle.spx_core.specs.declared.subprogram.Sub.{Sub}
-use Rattle.spx_core.specs.Commands.{Command, Skip, Set, Then, Choose, Select, Check, Alternatives, Last, When, commands}
+use Rattle.spx_tree.specs.declared.statement.AssertionKind.{AssertionKind}
+use Rattle.spx_tree.specs.declared.statement.AssertionKind.TheVariants as assertion
+use Rattle.spx_core.specs.Commands.{Command, Skip, Set, Then, Choose, Select, Assertion, While, Alternatives, Last, When, commands, has_own_cut, is_cut}
 use Rattle.spx_text.specs.declared.place.Place.{Place}
 use Rattle.spx_core.specs.Places.{place_of}
 use Rattle.spx_core.specs.Dependency.{exports, imports}
@@ -26,7 +28,7 @@ use Rattle.spx_term.specs.Conjuncts.{conjuncts}
 use Rattle.spx_term.specs.Steps.{Tree, Cut, Assume, Assign, Split, assume_all, assume_parts, check}
 use Rattle.spx_meaning.specs.Runs.{initial_value}
 use Rattle.spx_meaning.specs.Stores.{type_of}
-use Rattle.spx_paths.specs.Terms.{between, now, entry, now_term, entry_term, term_of}
+use Rattle.spx_paths.specs.Terms.{between, now, entry, now_term, entry_term, term_of, term_with}
 use Rattle.spx_paths.specs.Checks.{checks, in_type}
 use Rattle.spx_core.specs.declared.entity.Class.{Class}
 use Rattle.spx_core.specs.declared.entity.Class.TheVariants as class
@@ -49,6 +51,24 @@ assigned p place None t rest = rest
 -- an annotation is shown, each part of it for itself, and is known from there on
 abbrev pub asserted : CondKind → Place → Term → Tree → Tree
 asserted kind place t rest = check kind place (conjuncts t) rest
+
+-- an annotation among statements: at an `assert` the path ends
+abbrev pub noted : AssertionKind → Place → Term → Tree → Tree
+noted assertion.Assert place t rest = asserted kind.Assert place t Cut
+noted assertion.Check place t rest = asserted kind.Check place t rest
+
+-- ---- conditions of statements (Ada 95 RM 5.3, 5.5)
+
+-- the one where the condition is true, the other where it is not
+abbrev pub tested : Program → CoreExpr → (holds fails : ℕ → Tree) → ℕ → Tree
+tested p condition holds fails made =
+    checks p (now_term p) [] condition
+    (Split (assume_parts (term_of p (now_term p) condition) (holds made)) (Assume (term.Prefix Not (term_of p (now_term p) condition)) (fails made)))
+
+-- the body of a loop as far as its own cut; a loop without one has a cut before its body
+abbrev pub as_far_as_cut : Bool → (ℕ → Tree) → ℕ → Tree
+as_far_as_cut true body made = body made
+as_far_as_cut false body made = Cut
 
 -- ---- alternatives (Ada 95 RM 5.4)
 
@@ -87,12 +107,11 @@ abbrev mutual
   walk p sub (Set target e) rest leave made =
       checks p (now_term p) [] e (assigned p (place_of e) (variable_of target.root.entity) (term_of p (now_term p) e) (rest made))
   walk p sub (Then a b) rest leave made = walk p sub a (walk p sub b rest leave) leave made
-  walk p sub (Choose place condition a b) rest leave made =
-      checks p (now_term p) [] condition
-      (Split (assume_parts (term_of p (now_term p) condition) (walk p sub a rest leave made)) (Assume (term.Prefix Not (term_of p (now_term p) condition)) (walk p sub b rest leave made)))
+  walk p sub (Choose place condition a b) rest leave made = tested p condition (walk p sub a rest leave) (walk p sub b rest leave) made
   walk p sub (Select place selector alternatives) rest leave made =
       checks p (now_term p) [] selector (walk_for p sub (term_of p (now_term p) selector) [] alternatives rest leave made)
-  walk p sub (Check place condition) rest leave made = asserted kind.Check place (term_of p (entry_term p sub) condition) (rest made)
+  walk p sub (Assertion kind place condition) rest leave made = noted kind place (term_of p (entry_term p sub) condition) (rest made)
+  walk p sub (While place condition body) rest leave made = tested p condition (as_far_as_cut (has_own_cut body) (walk p sub body (λ m. Cut) rest)) rest made
 
   -- the alternatives for the value of the selector, after earlier choices
   pub walk_for : Program → Sub → Term → List Term → Alternatives → (rest leave : ℕ → Tree) → ℕ → Tree
@@ -108,7 +127,8 @@ abbrev mutual
   arrivals (Then a b) rest leave = arrivals a (arrivals b rest leave) leave
   arrivals (Choose place condition a b) rest leave = arrivals a rest leave + arrivals b rest leave
   arrivals (Select place selector alternatives) rest leave = arrivals_for alternatives rest leave
-  arrivals (Check place condition) rest leave = rest
+  arrivals (Assertion kind place condition) rest leave = if is_cut kind then 1 else rest
+  arrivals (While place condition body) rest leave = (if has_own_cut body then arrivals body 1 rest else 1) + rest
 
   pub arrivals_for : Alternatives → (rest leave : ℕ) → ℕ
   arrivals_for (Last choices a) rest leave = arrivals a rest leave
@@ -154,10 +174,77 @@ ending p sub made = ending_with p sub sub.post
 abbrev pub start_tree : Program → Sub → Tree
 start_tree p sub = entering p sub (formals sub) (initializing p (locals sub) (assume_all (first_facts p sub) (walk p sub (commands sub.statements) (ending p sub) (ending p sub) 0)))
 
--- a tree from each cut: the start of the body is the only one
+-- ---- cuts
+
+-- a variable lies in its type; an unset one counts as a value of it
+abbrev pub var_facts : Program → VarId → List Term
+var_facts p v = in_type (type_of p v) (now_term p v)
+
+-- the value on entry of an import that is exported too lies in its type
+abbrev pub entry_facts : Program → Sub → VarId → List Term
+entry_facts p sub v = if imports v sub && exports v sub then in_type (type_of p v) (term.Variable (entry p v)) else []
+
+-- the precondition was true of the values on entry
+abbrev pub pre_facts_on_entry : Program → Sub → Option CorePredicate → List Term
+pre_facts_on_entry p sub None = []
+pre_facts_on_entry p sub (Some pre) = conjuncts (term_with (entry_term p sub) (entry_term p sub) pre.condition)
+
+-- what is known after each cut
+abbrev pub cut_facts : Program → Sub → List Term
+cut_facts p sub = flat_map (var_facts p) (formals sub) ++ (flat_map (var_facts p) (locals sub) ++ (flat_map (entry_facts p sub) (formals sub) ++ pre_facts_on_entry p sub sub.pre))
+
+-- the steps from a cut on, where this is known too
+abbrev pub from_cut : Program → Sub → List Term → Tree → Tree
+from_cut p sub known rest = assume_all (cut_facts p sub ++ known) rest
+
+-- the cut before the body of a loop that has none of its own: nothing more is known there
+abbrev pub loop_cut : Program → Sub → Bool → Tree → List Tree
+loop_cut p sub true rest = []
+loop_cut p sub false rest = from_cut p sub (term.Truth true ∷ []) rest ∷ []
+
+-- a tree from an `assert`, where it is known
+abbrev pub noted_cut : Program → Sub → AssertionKind → CoreExpr → Tree → List Tree
+noted_cut p sub assertion.Assert condition rest = from_cut p sub (conjuncts (term_of p (entry_term p sub) condition)) rest ∷ []
+noted_cut p sub assertion.Check condition rest = []
+
+-- A tree from each cut in a command, in the order of the text, along what follows it.
+abbrev mutual
+  pub cuts : Program → Sub → Command → (rest leave : ℕ → Tree) → List Tree
+  cuts p sub Skip rest leave = []
+  cuts p sub (Set target e) rest leave = []
+  cuts p sub (Then a b) rest leave = cuts p sub a (walk p sub b rest leave) leave ++ cuts p sub b rest leave
+  cuts p sub (Choose place condition a b) rest leave = cuts p sub a rest leave ++ cuts p sub b rest leave
+  cuts p sub (Select place selector alternatives) rest leave = cuts_for p sub alternatives rest leave
+  cuts p sub (Assertion kind place condition) rest leave = noted_cut p sub kind condition (rest 0)
+  cuts p sub (While place condition body) rest leave =
+      loop_cut p sub (has_own_cut body) (walk p sub body (walk p sub (While place condition body) rest leave) rest 0) ++ cuts p sub body (walk p sub (While place condition body) rest leave) rest
+
+  pub cuts_for : Program → Sub → Alternatives → (rest leave : ℕ → Tree) → List Tree
+  cuts_for p sub (Last choices a) rest leave = cuts p sub a rest leave
+  cuts_for p sub (When choices a more) rest leave = cuts p sub a rest leave ++ cuts_for p sub more rest leave
+
+-- how many paths there are from the cuts in a command
+abbrev mutual
+  pub cut_arrivals : Command → (rest leave : ℕ) → ℕ
+  cut_arrivals Skip rest leave = 0
+  cut_arrivals (Set target e) rest leave = 0
+  cut_arrivals (Then a b) rest leave = cut_arrivals a (arrivals b rest leave) leave + cut_arrivals b rest leave
+  cut_arrivals (Choose place condition a b) rest leave = cut_arrivals a rest leave + cut_arrivals b rest leave
+  cut_arrivals (Select place selector alternatives) rest leave = cut_arrivals_for alternatives rest leave
+  cut_arrivals (Assertion kind place condition) rest leave = if is_cut kind then rest else 0
+  cut_arrivals (While place condition body) rest leave =
+      (if has_own_cut body then 0 else arrivals body (arrivals (While place condition body) rest leave) rest) + cut_arrivals body (arrivals (While place condition body) rest leave) rest
+
+  pub cut_arrivals_for : Alternatives → (rest leave : ℕ) → ℕ
+  cut_arrivals_for (Last choices a) rest leave = cut_arrivals a rest leave
+  cut_arrivals_for (When choices a more) rest leave = cut_arrivals a rest leave + cut_arrivals_for more rest leave
+
+-- ---- all trees and paths
+
+-- a tree from each cut: from the start of the body, then from those in it
 abbrev pub trees_of : Program → Sub → List Tree
-trees_of p sub = start_tree p sub ∷ []
+trees_of p sub = start_tree p sub ∷ cuts p sub (commands sub.statements) (ending p sub) (ending p sub)
 
 -- how many paths there are from the cuts of a body
 abbrev pub path_count : Sub → ℕ
-path_count sub = arrivals (commands sub.statements) 1 1
+path_count sub = arrivals (commands sub.statements) 1 1 + cut_arrivals (commands sub.statements) 1 1

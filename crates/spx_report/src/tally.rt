@@ -30,6 +30,7 @@ fn kind_text(kind: CondKind) -> &'static [u8]
         CondKind::Overflow => b"overflow",
         CondKind::Range => b"range",
         CondKind::Post => b"post",
+        CondKind::Assert => b"assert",
         CondKind::Check => b"check",
     }
 }

@@ -50,7 +50,7 @@ module _ (m n : ℕ) (le : m ≤ n) (inner : (x : Stmt) → Within m x → Withi
   formed_more : (y : Stmt-F Stmt Alternative Arm) → IsFormed m (Within m) y → IsFormed n (Within n) y
   formed_more (Stmt-F.Null place) f = tt
   formed_more (Stmt-F.Assignment target e) f = layer_more m n le _ e f
-  formed_more (Stmt-F.Check place condition) f = layer_more m n le _ condition f
+  formed_more (Stmt-F.Assertion kind place condition) f = layer_more m n le _ condition f
   formed_more (Stmt-F.If arms otherwise closing) f =
       (let some = f.0 in omega arith, one_more (λ a. IsArm m (Within m) (out-Arm a)) (λ a. IsArm n (Within n) (out-Arm a)) arm_more arms f.1, there_more (OneOrMore (Within m)) (OneOrMore (Within n)) (one_more (Within m) (Within n) inner) otherwise f.2)
   formed_more (Stmt-F.Case place selector alternatives closing) f =

@@ -54,6 +54,7 @@ keeps k.Procedure = ItsPlace
 keeps k.Derives = ItsPlace
 keeps k.Pre = ItsPlace
 keeps k.Post = ItsPlace
+keeps k.Assert = ItsPlace
 keeps k.Check = ItsPlace
 keeps k.Implication = ItsPlace
 keeps k.Equivalence = ItsPlace

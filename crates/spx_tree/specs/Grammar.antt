@@ -238,14 +238,14 @@ abbrev pub IsAlternative : ℕ → (Stmt → Type 0) → Alternative-F Stmt Alte
 IsAlternative levels Inner alternative = IfThere (OneOrMore (IsChoice (levels - 1))) alternative.choices × OneOrMore Inner alternative.body
 
 -- one level: "null" ";" (Ada 95 RM 5.1) | name ":=" expression ";" (5.2) | "if" arm {"elsif" arm} ["else" statements] "end" "if" ";" (5.3)
--- | "case" expression "is" alternative {alternative} "end" "case" ";" (5.4) | "check" predicate ";" (Barnes)
+-- | "case" expression "is" alternative {alternative} "end" "case" ";" (5.4) | ("assert" | "check") predicate ";" (Barnes)
 abbrev pub IsFormed : ℕ → (Stmt → Type 0) → Stmt-F Stmt Alternative Arm → Type 0
 IsFormed levels Inner (Stmt-F.Null place) = ⊤
 IsFormed levels Inner (Stmt-F.Assignment target value) = IsExpr levels value
 IsFormed levels Inner (Stmt-F.If arms otherwise closing) = (0 < levels) × OneOrMore (λ arm. IsArm levels Inner (out-Arm arm)) arms × IfThere (OneOrMore Inner) otherwise
 IsFormed levels Inner (Stmt-F.Case place selector alternatives closing) =
     (0 < levels) × IsExpr (levels - 1) selector × OneOrMore (λ alternative. IsAlternative levels Inner (out-Alternative alternative)) alternatives
-IsFormed levels Inner (Stmt-F.Check place condition) = IsCondition levels condition
+IsFormed levels Inner (Stmt-F.Assertion kind place condition) = IsCondition levels condition
 
 -- a statement one level below a place where so many levels are left
 abbrev pub Within : ℕ → Stmt → Type 0

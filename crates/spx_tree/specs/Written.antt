@@ -25,6 +25,8 @@ use Rattle.spx_tree.specs.declared.declaration.TypeDef.{TypeDef}
 use Rattle.spx_tree.specs.declared.declaration.TypeDef.TheVariants as definition
 use Rattle.spx_tree.specs.declared.statement.Stmt.{Stmt, Stmt-F, fold-Stmt}
 use Rattle.spx_tree.specs.declared.statement.Arm.{Arm, Arm-F, fold-Arm}
+use Rattle.spx_tree.specs.declared.statement.AssertionKind.{AssertionKind}
+use Rattle.spx_tree.specs.declared.statement.AssertionKind.TheVariants as assertion
 use Rattle.spx_tree.specs.declared.statement.Alternative.{Alternative, Alternative-F, fold-Alternative}
 use Rattle.spx_tree.specs.declared.statement.Choice.{Choice}
 use Rattle.spx_tree.specs.declared.annotation.Exports.{Exports}
@@ -254,15 +256,20 @@ written_choices (Some choices) = separated (bare program k.Bar) written_choice c
 abbrev pub alternative_step : Alternative-F (List Form) (List Form) (Kind → List Form) → List Form
 alternative_step alternative = bare program k.When ∷ (written_choices alternative.choices ++ bare program k.Arrow ∷ joined alternative.body)
 
+-- the word of an annotation among statements
+abbrev pub assertion_word : AssertionKind → Kind
+assertion_word assertion.Assert = k.Assert
+assertion_word assertion.Check = k.Check
+
 -- one level, whose parts are written: "null" ";" | name ":=" expression ";" | "if" arm {"elsif" arm} ["else" statements] "end" "if" ";"
--- | "case" expression "is" alternative {alternative} "end" "case" ";" | "check" predicate ";", in annotation text
+-- | "case" expression "is" alternative {alternative} "end" "case" ";" | ("assert" | "check") predicate ";", in annotation text
 abbrev pub stmt_step : Stmt-F (List Form) (List Form) (Kind → List Form) → List Form
 stmt_step (Stmt-F.Null place) = placed program k.Null place ∷ bare program k.Semicolon ∷ []
 stmt_step (Stmt-F.Assignment target value) = written_name program target ++ bare program k.Assignment ∷ (written_expr program value ++ bare program k.Semicolon ∷ [])
 stmt_step (Stmt-F.If arms otherwise closing) = all_arms arms ++ (else_part otherwise ++ placed program k.End closing.end ∷ placed program k.If closing.word ∷ bare program k.Semicolon ∷ [])
 stmt_step (Stmt-F.Case place selector alternatives closing) =
     placed program k.Case place ∷ (written_expr program selector ++ bare program k.Is ∷ (joined alternatives ++ placed program k.End closing.end ∷ placed program k.Case closing.word ∷ bare program k.Semicolon ∷ []))
-stmt_step (Stmt-F.Check place condition) = written_at k.Check place condition
+stmt_step (Stmt-F.Assertion kind place condition) = written_at (assertion_word kind) place condition
 
 -- statement
 abbrev pub written_stmt : Stmt → List Form

@@ -18,8 +18,17 @@ pub enum Stmt {
     If(Items<Arm>, Option<Items<Stmt>>, Closing),
     /// At the word `case`: the selector, the alternatives, one or more, and the closing words (Ada 95 RM 5.4).
     Case(Place, Expr, Items<Alternative>, Closing),
-    /// At the word `check`, in annotation text: what must be true there (Barnes).
-    Check(Place, Expr),
+    /// At the word `assert` or `check`, in annotation text: what must be true there (Barnes).
+    Assertion(AssertionKind, Place, Expr),
+}
+
+/// What is known after an annotation among statements (Barnes).
+#[derive(Clone, Copy, Debug, PartialEq, Eq)]
+pub enum AssertionKind {
+    /// Of variables that may have changed, only what the annotation says: paths end and begin there.
+    Assert,
+    /// What was known before, and what the annotation says.
+    Check,
 }
 
 /// A condition and the statements after `then`, at the word `if` or `elsif`.
@@ -79,7 +88,9 @@ impl Stmt {
                 let alternatives = copy_alternatives(alloc, alternatives.as_slice())?;
                 Ok(Stmt::Case(*place, selector, alternatives, *closing))
             }
-            Stmt::Check(place, condition) => Ok(Stmt::Check(*place, condition.copy(alloc)?)),
+            Stmt::Assertion(kind, place, condition) => {
+                Ok(Stmt::Assertion(*kind, *place, condition.copy(alloc)?))
+            }
         }
     }
 }
