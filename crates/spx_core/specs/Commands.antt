@@ -1,5 +1,5 @@
 -- What statements do, without lists: statements in a row are a chain, and `elsif` is an `if` in the `else` before it (Ada 95 RM 5.1 to 5.4).
-use Rattle.std.specs.Prelude.{Bool, true, ◌||◌, ◌&&◌, is_none, is_some, List, [], ◌∷◌, ◌++◌, map, Option, Some, None}
+use Rattle.std.specs.Prelude.{Bool, true, false, ◌||◌, ◌&&◌, is_none, is_some, List, [], ◌∷◌, ◌++◌, map, Option, Some, None}
 use Rattle.spx_text.specs.declared.place.Place.{Place}
 use Rattle.spx_tree.specs.declared.statement.AssertionKind.{AssertionKind}
 use Rattle.spx_tree.specs.declared.statement.AssertionKind.TheVariants as assertion

@@ -8,7 +8,7 @@ use Rattle.spx_core.specs.Effects.{Effect, nothing, assign, next, choose, observ
 -- some number of steps, each from the variable to which the one before it came
 pub data Steps (R : VarId → VarId → Type 0) : VarId → VarId → Type 0 where
   stay : {u : VarId} → Steps R u u
-  step : {u v w : VarId} → R u v → Steps R v w → Steps R u w
+  advance : {u v w : VarId} → R u v → Steps R v w → Steps R u w
 
 -- What u holds before may come to what w holds after: a target comes from what the right side reads, each other variable from itself; of two
 -- arms either may be run, and what the condition reads comes to all that an arm sets. A loop is some number of turns; what its condition reads

@@ -14,9 +14,9 @@ abbrev pub Follow : Ways → Ways → Ways
 Follow A B way = (front : List VarId) × (back : List VarId) × (way ≡ front ++ back) × A front × B back
 
 -- some number of ways, one after the other
-pub data Turns (A : Ways) : Ways where
-  none : Turns A []
-  more : {front back : List VarId} → A front → Turns A back → Turns A (front ++ back)
+pub data Turns (A : Ways) : List VarId → Type 0 where
+  no_turn : Turns A []
+  turn : {front back : List VarId} → A front → Turns A back → Turns A (front ++ back)
 
 -- a way on past the statement
 abbrev pub Goes : Effect → Ways

@@ -15,9 +15,9 @@ use Rattle.spx_core.specs.Uses.{denotes, is_same, uses, variable_of}
 use Rattle.spx_core.specs.Reads.{names_read}
 use Rattle.spx_core.specs.Formals.{stands_in}
 use Rattle.spx_core.specs.Dependency.{imports}
-use Rattle.spx_core.specs.Effects.{Effect, Read, nothing, assign, next, choose, observe, effect, effects, sets, reads, is_read, read_of, reads_of, defines}
-use Rattle.spx_core.specs.Flow.{MayFlow, FlowsCompose, FlowsKeep}
-use Rattle.spx_core.specs.Ways.{Free, Goes}
+use Rattle.spx_core.specs.Effects.{Effect, Read, nothing, assign, next, choose, observe, repeat, effect, effects, sets, reads, is_read, read_of, reads_of, defines}
+use Rattle.spx_core.specs.Flow.{MayFlow, Steps, stay, advance, FlowsCompose, FlowsKeep}
+use Rattle.spx_core.specs.Ways.{Free, Goes, no_turn}
 use Rattle.spx_core.specs.FlowRules.{left, ExportsAreSet}
 
 -- ---- reads
@@ -51,6 +51,19 @@ composes (s ∷ front) back u w = (
   λ h. (h.1.0, h.1.1, (composes front back h.1.0 w).1 (h.0, h.1.2, h.2)),
 )
 
+-- steps that lead to a variable from no other start there
+steps_to : (R : VarId → VarId → Type 0) (w : VarId) → ((v : VarId) → R v w → v ≡ w) → (u : VarId) → Steps R u w → u ≡ w
+steps_to R w only u stay = refl
+steps_to R w only u (advance {v = v} r rest) = only u (subst (R u) (steps_to R w only v rest) r)
+
+-- steps that lead from a variable to no other end there
+pub steps_from : (R : VarId → VarId → Type 0) (u : VarId) → ((v : VarId) → R u v → u ≡ v) → (w : VarId) → Steps R u w → u ≡ w
+steps_from R u only w steps = from u refl steps
+  where
+    from : (v : VarId) → u ≡ v → Steps R v w → u ≡ w
+    from v here stay = here
+    from v here (advance {v = x} r rest) = from x (only x (subst (λ y. R y x) (sym here) r)) rest
+
 pub keeps : FlowsKeep
 keeps nothing u w none = (λ h. h, λ h. h)
 keeps (assign target values place) u w none = (
@@ -68,6 +81,10 @@ keeps (choose tests a b place) u w none =
       λ e. inl ((keeps a u w parts.0).1 e),
     )
 keeps (observe values) u w none = (λ h. h, λ h. h)
+keeps (repeat tests body place) u w none = (
+  λ h. ⊎_elim (λ turns. steps_to (MayFlow body) w (λ v flow. (keeps body v w none).0 flow) u turns) (λ tested. absurd (both_ways (sets w body) none tested.0)) h,
+  λ e. inl (subst (Steps (MayFlow body) u) e stay),
+)
 
 -- what is not read flows to itself only
 pub unread : (e : Effect) (u w : VarId) → reads u e ≡ false → MayFlow e u w → u ≡ w
@@ -82,6 +99,14 @@ unread (choose tests a b place) u w none flow =
     let arms = or_parts (reads u a) (reads u b) parts.1 in
     ⊎_elim (λ first. unread a u w arms.0 first) (λ more. ⊎_elim (λ second. unread b u w arms.1 second) (λ tested. absurd (both_ways (is_read u tests) parts.0 tested.1)) more) flow
 unread (observe values) u w none flow = flow
+unread (repeat tests body place) u w none flow =
+    let parts = or_parts (is_read u tests) (reads u body) none in
+    let only : (v : VarId) → MayFlow body u v → u ≡ v = λ v. unread body u v parts.1 in
+    ⊎_elim (λ turns. steps_from (MayFlow body) u only w turns)
+    (λ tested.
+    let here : u ≡ tested.1 = steps_from (MayFlow body) u only tested.1 tested.2 in
+    absurd (both_ways (is_read u tests) parts.0 (ap (λ v. is_read v tests) here ∙ tested.3)))
+    flow
 
 -- ---- ways
 
@@ -106,6 +131,7 @@ goes_free (choose tests a b place) v none =
     let first = goes_free a v (or_parts (sets v a) (sets v b) none).0 in
     (first.0, inl first.1, first.2)
 goes_free (observe values) v none = ([], refl, refl)
+goes_free (repeat tests body place) v none = ([], no_turn, refl)
 
 -- ---- what is set
 
