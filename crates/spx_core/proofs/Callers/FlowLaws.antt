@@ -58,11 +58,11 @@ steps_to R w only u (advance {v = v} r rest) = only u (subst (R u) (steps_to R w
 
 -- steps that lead from a variable to no other end there
 pub steps_from : (R : VarId → VarId → Type 0) (u : VarId) → ((v : VarId) → R u v → u ≡ v) → (w : VarId) → Steps R u w → u ≡ w
-steps_from R u only w steps = from u refl steps
+steps_from R u only w steps = from u steps refl
   where
-    from : (v : VarId) → u ≡ v → Steps R v w → u ≡ w
-    from v here stay = here
-    from v here (advance {v = x} r rest) = from x (only x (subst (λ y. R y x) (sym here) r)) rest
+    from : (v : VarId) → Steps R v w → u ≡ v → u ≡ w
+    from v stay here = here
+    from v (advance {v = x} r rest) here = from x rest (only x (subst (λ y. R y x) (sym here) r))
 
 pub keeps : FlowsKeep
 keeps nothing u w none = (λ h. h, λ h. h)
