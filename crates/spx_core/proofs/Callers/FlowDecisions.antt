@@ -1,5 +1,5 @@
 -- What the flow rules find in a subprogram can be listed, from the definitions alone.
-use Rattle.std.proofs.Common.{◌≡◌, ◌↔◌, ◌⊎◌, Bool, true, false, ◌||◌, List, [], ◌++◌, Option, Some, None, refl, sym, ap, ◌∙◌, subst, inl, inr, ⊎_elim}
+use Rattle.std.proofs.Common.{◌≡◌, ◌↔◌, ◌⊎◌, Bool, true, false, ◌||◌, List, [], ◌∷◌, ◌++◌, Option, Some, None, refl, sym, ap, ◌∙◌, subst, inl, inr, ⊎_elim}
 use Rattle.std.specs.Prelude.{◌==◌, Contains}
 use Rattle.std.specs.Option.{option_to_list}
 use Rattle.std.proofs.lemmas.Bool.{and_parts, eqb-true, eq-eqb, or_cases, or_left, or_parts, or_right}
@@ -10,15 +10,16 @@ use Rattle.spx_core.specs.declared.subprogram.Sub.{Sub}
 use Rattle.spx_core.specs.Uses.{is_same}
 use Rattle.spx_core.specs.Dependency.{Pair, declared_pairs, derives, exports, imports}
 use Rattle.spx_core.specs.Formals.{formals, is_formal, stands_in}
-use Rattle.spx_core.specs.Effects.{Effect, Read, nothing, assign, next, choose, observe, sets, is_read}
-use Rattle.spx_core.specs.Flow.{MayFlow}
+use Rattle.spx_core.specs.Effects.{Effect, Read, nothing, assign, next, choose, observe, repeat, sets, is_read}
+use Rattle.spx_core.specs.Flow.{MayFlow, Steps, stay, advance}
 use Rattle.spx_core.specs.Marks.{Occurs, marked}
-use Rattle.spx_core.specs.Ways.{Ways, Follow, Free, Goes, Reaches}
+use Rattle.spx_core.specs.Ways.{Ways, Follow, Free, Goes, Reaches, Turns, no_turn}
 use Rattle.spx_core.specs.declared.program.Program.{Program}
 use Rattle.spx_core.specs.FlowRules.{Missing, Unused, Ineffective, MayBeUnset, body_effect, mark, read, left, starts_set}
+use Rattle.spx_core.proofs.Elements.{in_cases, in_none}
 use Rattle.spx_core.proofs.Callers.ListTests.{covers, found, passes}
 use Rattle.spx_core.proofs.Callers.Variables.{same_var}
-use Rattle.spx_core.proofs.Callers.FlowLaws.{without}
+use Rattle.spx_core.proofs.Callers.FlowLaws.{keeps, steps_on, without}
 use Rattle.spx_core.proofs.Callers.Listings.{Decided, Listing, after, both, decided_as, elements, every, is_false, is_true, joined, listed_or_not, listing_as, mapped, neither, no_listing, one_listing, one_of, pairs, those}
 
 -- ---- variables
@@ -34,7 +35,7 @@ variable : (o : Option VarId) → Listing (λ v. is_same v o ≡ true)
 variable (Some w) = listing_as (one_listing w) (λ v. ((same_number w v).1, (same_number w v).0))
 variable None = no_listing (λ v h. absurd cc)
 
--- ---- flows
+-- ---- targets
 
 either_test : (a b : Bool) → ((a ≡ true) ⊎ (b ≡ true)) ↔ ((a || b) ≡ true)
 either_test a b = (λ h. ⊎_elim (or_left a b) (or_right a b) h, or_cases a b)
@@ -45,6 +46,70 @@ targets (assign target reads place) = variable target
 targets (next a b) = listing_as (joined (targets a) (targets b)) (λ v. either_test (sets v a) (sets v b))
 targets (choose tests a b place) = listing_as (joined (targets a) (targets b)) (λ v. either_test (sets v a) (sets v b))
 targets (observe values) = no_listing (λ v h. absurd cc)
+targets (repeat tests body place) = targets body
+
+-- ---- turns
+
+-- where what one step leads to can be listed, so can what some number of steps lead to
+module _ (R : VarId → VarId → Type 0) (one_step : (u : VarId) → Listing (R u)) where
+  -- no step, one, or several that pass only variables of the list
+  abbrev Via : List VarId → VarId → VarId → Type 0
+  Via [] u w = (u ≡ w) ⊎ R u w
+  Via (x ∷ xs) u w = Via xs u w ⊎ (Via xs x w × Via xs u x)
+
+  -- what such ways lead to can be listed
+  via_from : (xs : List VarId) (u : VarId) → Listing (Via xs u)
+  via_from [] u = joined (one_listing u) (one_step u)
+  via_from (x ∷ xs) u = joined (via_from xs u) (those (via_from xs x) (λ w. listed_or_not same_or_not (via_from xs u) x))
+
+  -- no step is such a way
+  via_none : (xs : List VarId) (u w : VarId) → u ≡ w → Via xs u w
+  via_none [] u w here = inl here
+  via_none (x ∷ xs) u w here = inl (via_none xs u w here)
+
+  -- one step is such a way
+  via_one : (xs : List VarId) (u w : VarId) → R u w → Via xs u w
+  via_one [] u w r = inr r
+  via_one (x ∷ xs) u w r = inl (via_one xs u w r)
+
+  -- two ways that meet at a variable of the list are one
+  via_both : (xs : List VarId) (u v w : VarId) → Contains xs v → Via xs u v → Via xs v w → Via xs u w
+  via_both [] u v w is first second = absurd (in_none v is)
+  via_both (x ∷ xs) u v w is first second =
+      ⊎_elim
+      (λ e. inr (⊎_elim (λ q. subst (λ y. Via xs y w) (sym e) q) (λ q. q.0) second, ⊎_elim (λ p. subst (Via xs u) (sym e) p) (λ p. p.1) first))
+      (λ later. ⊎_elim
+      (λ p. ⊎_elim (λ q. inl (via_both xs u v w later p q)) (λ q. inr (q.0, via_both xs u v x later p q.1)) second)
+      (λ p. ⊎_elim (λ q. inr (via_both xs x v w later p.0 q, p.1)) (λ q. inr (q.0, p.1)) second)
+      first)
+      (in_cases x v xs is)
+
+  -- such a way is some number of steps
+  via_steps : (xs : List VarId) (u w : VarId) → Via xs u w → Steps R u w
+  via_steps [] u w h = ⊎_elim (λ here. subst (Steps R u) here stay) (λ r. advance r stay) h
+  via_steps (x ∷ xs) u w h = ⊎_elim (via_steps xs u w) (λ parts. steps_on (via_steps xs u x parts.1) (via_steps xs x w parts.0)) h
+
+  -- each step leads to a variable of the list, or stays
+  module _ (xs : List VarId) (leads : (u v : VarId) → R u v → Contains xs v ⊎ (u ≡ v)) where
+    -- some number of steps is such a way
+    steps_via : (u w : VarId) → Steps R u w → Via xs u w
+    steps_via u w stay = via_none xs u u refl
+    steps_via u w (advance {v = v} r rest) =
+        ⊎_elim (λ is. via_both xs u v w is (via_one xs u v r) (steps_via v w rest)) (λ e. subst (λ x. Via xs x w) (sym e) (steps_via v w rest)) (leads u v r)
+
+    -- what some number of steps lead to can be listed
+    steps_listed : (u : VarId) → Listing (Steps R u)
+    steps_listed u = listing_as (via_from xs u) (λ w. (via_steps xs u w, steps_via u w))
+
+-- ---- flows
+
+-- a flow leads to a target, or stays
+leads_to_target : (e : Effect) (u w : VarId) → MayFlow e u w → Contains (targets e).list w ⊎ (u ≡ w)
+leads_to_target e u w flow = by_target (sets w e) refl
+  where
+    by_target : (b : Bool) → sets w e ≡ b → Contains (targets e).list w ⊎ (u ≡ w)
+    by_target true set = inl (((targets e).exact w).1 set)
+    by_target false none = inr ((keeps e u w none).0 flow)
 
 flows_from : (u : VarId) (e : Effect) → Listing (λ w. MayFlow e u w)
 flows_from u nothing = one_listing u
@@ -55,6 +120,9 @@ flows_from u (next a b) = after (flows_from u a) (λ v. flows_from v b)
 flows_from u (choose tests a b place) =
     joined (flows_from u a) (joined (flows_from u b) (those (targets (next a b)) (λ w. is_true (is_read u tests))))
 flows_from u (observe values) = one_listing u
+flows_from u (repeat tests body place) =
+    let turns : Listing (Steps (MayFlow body) u) = steps_listed (MayFlow body) (λ v. flows_from v body) (targets body).list (leads_to_target body) u in
+    joined turns (listing_as (after (those turns (λ x. is_true (is_read x tests))) (λ x. targets body)) (λ w. (λ h. (h.2, h.0, h.1.0, h.1.1), λ h. (h.1, (h.2, h.3), h.0))))
 
 flows_or_not : (e : Effect) (u w : VarId) → Decided (MayFlow e u w)
 flows_or_not e u w = listed_or_not same_or_not (flows_from u e) w
@@ -91,6 +159,7 @@ goes_or_not v (assign target reads place) =
 goes_or_not v (next a b) = decided_as (both (goes_or_not v a) (goes_or_not v b)) (free_follow (Goes a) (Goes b) v)
 goes_or_not v (choose tests a b place) = decided_as (one_of (goes_or_not v a) (goes_or_not v b)) (free_either (Goes a) (Goes b) v)
 goes_or_not v (observe values) = inl ([], refl, refl)
+goes_or_not v (repeat tests body place) = inl ([], no_turn, refl)
 
 -- reads of variables before they are set
 abbrev EarlyIn : Effect → Read → Type 0
@@ -113,6 +182,12 @@ early_reads (choose tests a b place) = listing_as (joined (elements tests) (join
       λ h. ⊎_elim (λ one. inl (here.1 one)) (λ more. inr (arms.1 more)) (all.1 h),
     ))
 early_reads (observe values) = listing_as (elements values) (λ r. free_at_once (Contains values r) r.1)
+early_reads (repeat tests body place) = listing_as (joined (elements tests) (early_reads body)) (λ r.
+    let later = free_follow (Turns (Goes body)) (Reaches body r.0 r.1) r.1 in
+    let all = free_either (λ way. Contains tests r × Turns (Goes body) way) (Follow (Turns (Goes body)) (Reaches body r.0 r.1)) r.1 in (
+      λ h. all.0 (⊎_elim (λ here. inl ([], (here, no_turn), refl)) (λ more. inr (later.0 (([], no_turn, refl), more))) h),
+      λ h. ⊎_elim (λ here. inl here.1.0) (λ more. inr (later.1 more).1) (all.1 h),
+    ))
 
 -- ---- occurrences
 
@@ -123,6 +198,7 @@ occurrences (assign None reads place) = no_listing (λ p h. absurd cc)
 occurrences (next a b) = joined (occurrences a) (occurrences b)
 occurrences (choose tests a b place) = joined (one_listing place) (joined (occurrences a) (occurrences b))
 occurrences (observe values) = no_listing (λ p h. h)
+occurrences (repeat tests body place) = joined (one_listing place) (occurrences body)
 
 -- ---- subprograms
 

@@ -51,18 +51,28 @@ composes (s ∷ front) back u w = (
   λ h. (h.1.0, h.1.1, (composes front back h.1.0 w).1 (h.0, h.1.2, h.2)),
 )
 
+-- steps, then steps from where they end
+pub steps_on : {R : VarId → VarId → Type 0} {u v w : VarId} → Steps R u v → Steps R v w → Steps R u w
+steps_on stay more = more
+steps_on (advance r rest) more = advance r (steps_on rest more)
+
+-- each step is one of another relation
+pub steps_as : {R S : VarId → VarId → Type 0} → ((u v : VarId) → R u v → S u v) → {u w : VarId} → Steps R u w → Steps S u w
+steps_as each stay = stay
+steps_as each (advance {u = u} {v = v} r rest) = advance (each u v r) (steps_as each rest)
+
 -- steps that lead to a variable from no other start there
-steps_to : (R : VarId → VarId → Type 0) (w : VarId) → ((v : VarId) → R v w → v ≡ w) → (u : VarId) → Steps R u w → u ≡ w
+pub steps_to : (R : VarId → VarId → Type 0) (w : VarId) → ((v : VarId) → R v w → v ≡ w) → (u : VarId) → Steps R u w → u ≡ w
 steps_to R w only u stay = refl
 steps_to R w only u (advance {v = v} r rest) = only u (subst (R u) (steps_to R w only v rest) r)
 
 -- steps that lead from a variable to no other end there
 pub steps_from : (R : VarId → VarId → Type 0) (u : VarId) → ((v : VarId) → R u v → u ≡ v) → (w : VarId) → Steps R u w → u ≡ w
-steps_from R u only w steps = from u steps refl
+steps_from R u only w steps = from steps refl
   where
-    from : (v : VarId) → Steps R v w → u ≡ v → u ≡ w
-    from v stay here = here
-    from v (advance {v = x} r rest) here = from x rest (only x (subst (λ y. R y x) (sym here) r))
+    from : {v x : VarId} → Steps R v x → u ≡ v → u ≡ x
+    from stay here = here
+    from (advance {v = x} r rest) here = from rest (only x (subst (λ v. R v x) (sym here) r))
 
 pub keeps : FlowsKeep
 keeps nothing u w none = (λ h. h, λ h. h)

@@ -9,12 +9,12 @@ use Rattle.spx_core.specs.declared.program.Program.{Program}
 use Rattle.spx_core.specs.declared.subprogram.Sub.{Sub}
 use Rattle.spx_core.specs.Formals.{is_formal, is_local}
 use Rattle.spx_core.specs.Dependency.{exports}
-use Rattle.spx_core.specs.Effects.{Effect, Read, nothing, assign, next, choose, observe, sets, reads, is_read}
-use Rattle.spx_core.specs.Flow.{MayFlow}
+use Rattle.spx_core.specs.Effects.{Effect, Read, nothing, assign, next, choose, observe, repeat, sets, reads, is_read}
+use Rattle.spx_core.specs.Flow.{MayFlow, Steps, stay, advance}
 use Rattle.spx_core.specs.Marks.{MarkLaw, Mu, marked, same_place, with_mark}
 use Rattle.spx_core.specs.FlowRules.{MarkReaches, body_effect, mark}
 use Rattle.spx_core.specs.Scopes.{Scoped, kind_of}
-use Rattle.spx_core.proofs.Callers.FlowLaws.{keeps, unread}
+use Rattle.spx_core.proofs.Callers.FlowLaws.{keeps, steps_as, steps_to, unread}
 use Rattle.spx_core.proofs.Callers.Variables.{same_var}
 
 -- ---- places
@@ -36,6 +36,27 @@ same_place_itself a = by_parts (a.file == a.file) (a.line == a.line) (a.column =
     by_parts true true false f l c = absurd cc
     by_parts true false z f l c = absurd cc
     by_parts false y z f l c = absurd cc
+
+-- ---- turns
+
+-- a step of S is one of R, or leads from m to what has M; a step of R to m starts there
+module _ (m : VarId) (R S : VarId → VarId → Type 0) (M : VarId → Type 0) (law : (u w : VarId) → S u w ↔ (R u w ⊎ ((m ≡ u) × M w))) (keep : (u : VarId) → R u m → u ≡ m) where
+  -- steps of S are steps of R, or they start at m, and steps of R lead to their end from what has M
+  after_mark : {u w : VarId} → Steps S u w → Steps R u w ⊎ ((m ≡ u) × (v : VarId) × M v × Steps R v w)
+  after_mark stay = inl stay
+  after_mark (advance {u = u} {v = v} s rest) =
+      ⊎_elim
+      (λ r. ⊎_elim (λ more. inl (advance r more)) (λ k. inr (sym (keep u (subst (R u) (sym k.0) r)), k.1, k.2, k.3)) (after_mark rest))
+      (λ k. ⊎_elim (λ more. inr (k.0, v, k.1, more)) (λ later. inr (k.0, later.1, later.2, later.3)) (after_mark rest))
+      ((law u v).0 s)
+
+  -- the law of steps, from the law of one step
+  law_of_steps : (u w : VarId) → Steps S u w ↔ (Steps R u w ⊎ ((m ≡ u) × (v : VarId) × M v × Steps R v w))
+  law_of_steps u w =
+      let kept : (v : VarId) → Steps R v w → Steps S v w = λ v. steps_as (λ x y r. (law x y).1 (inl r)) in (
+        λ h. after_mark h,
+        λ h. ⊎_elim (kept u) (λ k. advance ((law u k.1).1 (inr (k.0, k.2))) (kept k.1 k.3)) h,
+      )
 
 -- ---- the law
 
@@ -61,6 +82,7 @@ module _ (p : Place) (m : VarId) where
   sets_marked w (next a b) = ap₂ ◌||◌ (sets_marked w a) (sets_marked w b)
   sets_marked w (choose tests a b place) = ap₂ ◌||◌ (sets_marked w a) (sets_marked w b)
   sets_marked w (observe values) = refl
+  sets_marked w (repeat tests body place) = sets_marked w body
 
   law : (e : Effect) → sets m e ≡ false → (u w : VarId) → MayFlow (marked p m e) u w ↔ (MayFlow e u w ⊎ ((m ≡ u) × Mu e p w))
   law nothing none u w = (λ h. inl h, λ h. ⊎_elim (λ e. e) (λ e. absurd e.1) h)
@@ -104,6 +126,36 @@ module _ (p : Place) (m : VarId) where
             h,
       )
   law (observe values) none u w = (λ h. inl h, λ h. ⊎_elim (λ e. e) (λ e. absurd e.1) h)
+  law (repeat tests body place) none u w =
+      let R = MayFlow body in
+      let S = MayFlow (marked p m body) in
+      let set : sets w (marked p m body) ≡ sets w body = sets_marked w body in
+      let turns : (x : VarId) → Steps S u x ↔ (Steps R u x ⊎ ((m ≡ u) × (v : VarId) × Mu body p v × Steps R v x)) = law_of_steps m R S (Mu body p) (law body none) (λ v. (keeps body v m none).0) u in
+      let at_mark : Steps S u m → u ≡ m = steps_to S m (λ v. (keeps (marked p m body) v m (sets_marked m body ∙ none)).0) u in (
+        λ h. ⊎_elim
+            (λ flow. ⊎_elim (λ r. inl (inl r)) (λ k. inr (k.0, inr (k.1, k.2, inl k.3))) ((turns w).0 flow))
+            (λ tested. ⊎_elim
+            (λ c. ⊎_elim
+            (λ r. inl (inr (sym set ∙ tested.0, tested.1, r, c)))
+            (λ k. inr (k.0, inr (k.1, k.2, inr (sym set ∙ tested.0, tested.1, k.3, c))))
+            ((turns tested.1).0 tested.2))
+            (λ k. inr (sym (at_mark (subst (Steps S u) (sym k.0) tested.2)), inl (k.1, sym set ∙ tested.0)))
+            ((reads_mark place tests tested.1).0 tested.3))
+            h,
+        λ h. ⊎_elim
+            (λ q. ⊎_elim
+            (λ flow. inl ((turns w).1 (inl flow)))
+            (λ tested. inr (set ∙ tested.0, tested.1, (turns tested.1).1 (inl tested.2), (reads_mark place tests tested.1).1 (inl tested.3)))
+            q)
+            (λ k. ⊎_elim
+            (λ q. inr (set ∙ q.1, u, stay, (reads_mark place tests u).1 (inr (k.0, q.0))))
+            (λ q. ⊎_elim
+            (λ flow. inl ((turns w).1 (inr (k.0, q.0, q.1, flow))))
+            (λ tested. inr (set ∙ tested.0, tested.1, (turns tested.1).1 (inr (k.0, q.0, q.1, tested.2)), (reads_mark place tests tested.1).1 (inl tested.3)))
+            q.2)
+            k.1)
+            h,
+      )
 
 pub mark_law : MarkLaw
 mark_law p m e none u w = law p m e none u w
