@@ -172,7 +172,8 @@ module _ (items : List CoreDerivesItem) (regions : Regions) where
   stmt_at_layer (Stmt-F.Case place selector alternatives closing) =
       erased_stmt_at (CoreStmt-F.Case place (resolved_expr regions selector) (map (resolved_alternative items regions) (map (λ a. a.0) alternatives)) closing)
       ∙ ap₂ (λ (e : Expr) (a : List Alternative). stmt.Case place e a closing) (kept_expr regions selector) (all_kept erased_alternative (resolved_alternative items regions) alternatives)
-  stmt_at_layer (Stmt-F.Check place condition) = erased_stmt_at (CoreStmt-F.Check place (resolved_in items regions condition)) ∙ ap (stmt.Check place) (kept_in items regions condition)
+  stmt_at_layer (Stmt-F.Assertion kind place condition) =
+      erased_stmt_at (CoreStmt-F.Assertion kind place (resolved_in items regions condition)) ∙ ap (stmt.Assertion kind place) (kept_in items regions condition)
 
   stmt_layer : (y : Stmt-F ShownStmt ShownAlternative ShownArm) → KeptStmt (roll-Stmt (bare_stmt y))
   stmt_layer y =

@@ -38,7 +38,7 @@ use Rattle.spx_core.specs.declared.program.Var.{Var}
 use Rattle.spx_core.specs.declared.program.Program.{Program}
 use Rattle.spx_core.specs.declared.subprogram.CorePredicate.{CorePredicate}
 use Rattle.spx_core.specs.declared.subprogram.Sub.{Sub}
-use Rattle.spx_core.specs.Commands.{Command, Skip, Set, Then, Choose, Select, Check, Alternatives, Last, When, alternative, alternatives_of, arm_before, arms_before, chain, command, commands, select}
+use Rattle.spx_core.specs.Commands.{Command, Skip, Set, Then, Choose, Select, Assertion, While, Alternatives, Last, When, alternative, alternatives_of, arm_before, arms_before, chain, command, commands, select}
 use Rattle.spx_core.specs.Commands as commands_of
 use Rattle.spx_core.specs.Reads.{names_read}
 use Rattle.spx_core.specs.Uses.{denotes, mentions, uses}
@@ -95,7 +95,8 @@ abbrev mutual
   Resolves regions (Then a b) = Resolves regions a × Resolves regions b
   Resolves regions (Choose place condition a b) = IsValueIn regions condition × Resolves regions a × Resolves regions b
   Resolves regions (Select place selector alternatives) = IsValueIn regions selector × AllResolve regions alternatives
-  Resolves regions (Check place condition) = IsValueIn regions condition
+  Resolves regions (Assertion kind place condition) = IsValueIn regions condition
+  Resolves regions (While place condition body) = IsValueIn regions condition × Resolves regions body
 
   AllResolve : Regions → Alternatives → Type 0
   AllResolve regions (Last choices a) = Resolves regions a
@@ -161,8 +162,8 @@ module _ (items : List CoreDerivesItem) (regions : Regions) where
       (arms_resolve _ (chain_resolves stmts) arms)
   stmt_at_layer (Stmt-F.Case place selector alternatives closing) =
       subst (Resolves regions) (sym (command_at (CoreStmt-F.Case place (resolved_expr regions selector) (map (resolved_alternative items regions) (map (λ a. a.0) alternatives)) closing))) (select_resolves place selector alternatives)
-  stmt_at_layer (Stmt-F.Check place condition) =
-      subst (Resolves regions) (sym (command_at (CoreStmt-F.Check place (resolved_in items regions condition)))) (items, condition, refl)
+  stmt_at_layer (Stmt-F.Assertion kind place condition) =
+      subst (Resolves regions) (sym (command_at (CoreStmt-F.Assertion kind place (resolved_in items regions condition)))) (items, condition, refl)
 
   stmt_layer : (y : Stmt-F StmtShown AlternativeShown ArmShown) → StmtResolves (roll-Stmt (bare_stmt y))
   stmt_layer y =
@@ -211,7 +212,8 @@ module _ (more : List TypeRow) (P : VarId → Object → Type 0) (regions : Regi
     assigned_variable (Then a b) written h = ⊎_elim (assigned_variable a written.0) (assigned_variable b written.1) (or_cases (sets v (effect a)) (sets v (effect b)) h)
     assigned_variable (Choose place condition a b) written h = ⊎_elim (assigned_variable a written.1) (assigned_variable b written.2) (or_cases (sets v (effect a)) (sets v (effect b)) h)
     assigned_variable (Select place selector alternatives) written h = assigned_among (reads_of selector) place alternatives written.1 h
-    assigned_variable (Check place condition) written h = absurd cc
+    assigned_variable (Assertion kind place condition) written h = absurd cc
+    assigned_variable (While place condition body) written h = assigned_variable body written.1 h
 
     assigned_among : (tests : List Read) (place : Place) (alternatives : Alternatives) → AllResolve regions alternatives → sets v (effect_among tests place alternatives) ≡ true → (object : Object) × P v object
     assigned_among tests place (Last choices a) written h = ⊎_elim (assigned_variable a written) (assigned_variable a written) (or_cases (sets v (effect a)) (sets v (effect a)) h)
@@ -228,7 +230,9 @@ module _ (more : List TypeRow) (P : VarId → Object → Type 0) (regions : Regi
         (λ arms. ⊎_elim (read_variable a written.1) (read_variable b written.2) (or_cases (reads v (effect a)) (reads v (effect b)) arms))
         (or_cases (is_read v (reads_of condition)) (reads v (effect a) || reads v (effect b)) h)
     read_variable (Select place selector alternatives) written h = read_among (reads_of selector) place (value_variable selector written.0) alternatives written.1 h
-    read_variable (Check place condition) written h = value_variable condition written h
+    read_variable (Assertion kind place condition) written h = value_variable condition written h
+    read_variable (While place condition body) written h =
+        ⊎_elim (value_variable condition written.0) (read_variable body written.1) (or_cases (is_read v (reads_of condition)) (reads v (effect body)) h)
 
     -- the tests read such a variable
     read_among : (tests : List Read) (place : Place) → (is_read v tests ≡ true → (object : Object) × P v object) → (alternatives : Alternatives) → AllResolve regions alternatives → reads v (effect_among tests place alternatives) ≡ true
@@ -261,7 +265,8 @@ module _ (p : Program) (more : List TypeRow) (P : VarId → Object → Type 0) (
     targets_have_modes (Then a b) written = (targets_have_modes a written.0, targets_have_modes b written.1)
     targets_have_modes (Choose place condition a b) written = (targets_have_modes a written.1, targets_have_modes b written.2)
     targets_have_modes (Select place selector alternatives) written = all_have_modes alternatives written.1
-    targets_have_modes (Check place condition) written = tt
+    targets_have_modes (Assertion kind place condition) written = tt
+    targets_have_modes (While place condition body) written = targets_have_modes body written.1
 
     all_have_modes : (alternatives : Alternatives) → AllResolve regions alternatives → AllHaveTheirModes p alternatives
     all_have_modes (Last choices a) written = targets_have_modes a written
@@ -291,7 +296,8 @@ module _ (p : Program) (more : List TypeRow) (P : VarId → Object → Type 0) (
     command_as_declared (Then a b) written = (command_as_declared a written.0, command_as_declared b written.1)
     command_as_declared (Choose place condition a b) written = (read_as_declared condition written.0, (command_as_declared a written.1, command_as_declared b written.2))
     command_as_declared (Select place selector alternatives) written = (read_as_declared selector written.0, alternatives_as_declared alternatives written.1)
-    command_as_declared (Check place condition) written = read_as_declared condition written
+    command_as_declared (Assertion kind place condition) written = read_as_declared condition written
+    command_as_declared (While place condition body) written = (read_as_declared condition written.0, command_as_declared body written.1)
 
     alternatives_as_declared : (alternatives : Alternatives) → AllResolve regions alternatives → AllAreAsDeclared p alternatives
     alternatives_as_declared (Last choices a) written = command_as_declared a written

@@ -15,7 +15,7 @@ use Rattle.spx_core.specs.declared.rule.RuleName.TheVariants.{N10, N12, N17}
 use Rattle.spx_core.specs.declared.rule.ExprType.{ExprType}
 use Rattle.spx_core.specs.declared.rule.ExprType.TheVariants.{Of}
 use Rattle.spx_core.specs.declared.rule.Typing.{Typing}
-use Rattle.spx_core.specs.Commands.{Command, Skip, Set, Then, Choose, Select, Check, Alternatives, Last, When, bodies_in, choices_in, has_others, has_others_last, listed, spans_of}
+use Rattle.spx_core.specs.Commands.{Command, Skip, Set, Then, Choose, Select, Assertion, While, Alternatives, Last, When, bodies_in, choices_in, has_others, has_others_last, listed, spans_of}
 use Rattle.spx_core.specs.HasType.{HasType}
 use Rattle.spx_core.specs.Extents.{extent}
 use Rattle.spx_core.specs.Judged.{Judged, ◌>>=◌, if_there, judged, keeps, named_target, operand_of, referred_target}
@@ -149,7 +149,9 @@ mutual
       by_part (keeps N17 at (has_right_choices selector alternatives)) _ b h
       (λ k. by_test (BreaksCommand (Select at selector alternatives)) N17 at _ b k (λ wrong. broken.bad_choices at selector alternatives (wrong_choices selector alternatives wrong))) (λ _ _ h.
       by_part (selected selector) _ b h (selected_found at selector alternatives b) (λ of is e. alternatives_at at selector alternatives b of is (alternatives_found alternatives of b e)))
-  command_found (Check at e) b h = broken.checked at e b.rule b.place (condition_found e b h)
+  command_found (Assertion kind at e) b h = broken.asserted kind at e b.rule b.place (condition_found e b h)
+  command_found (While at e body) b h =
+      by_part (test e) (λ _. judged_command body) b h (λ is. broken.turned at e body b.rule b.place (condition_found e b is)) (λ _ _ is. broken.body at e body b.rule b.place (command_found body b is))
 
   alternatives_found : (alternatives : Alternatives) (of : ExprType) (b : Breach) → judged_alternatives of alternatives ≡ Err b → BreaksAlternatives of alternatives b
   alternatives_found (Last choices a) of b h = by_part (judged_choices of choices) (λ _. judged_command a) b h (λ e. inl (choices_found of choices b e)) (λ _ _ e. inr (a, in_first a [], command_found a b e))
@@ -258,4 +260,6 @@ no_command _ _ _ (broken.choice at selector alternatives choice e t rule place w
 no_command _ _ _ (broken.alternative at selector alternatives a rule place within h) ok =
     let s = selector_is at selector alternatives ok in
     no_command a rule place h (bodies_pass s.typing.of alternatives s.rest a within)
-no_command _ _ _ (broken.checked at e rule place h) ok = no_condition e rule place h ok
+no_command _ _ _ (broken.asserted kind at e rule place h) ok = no_condition e rule place h ok
+no_command _ _ _ (broken.turned at e body rule place h) ok = no_condition e rule place h (bound (test e) (λ _. judged_command body) tt ok).1
+no_command _ _ _ (broken.body at e body rule place h) ok = no_command body rule place h (bound (test e) (λ _. judged_command body) tt ok).2
