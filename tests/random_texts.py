@@ -50,7 +50,7 @@ PIECES = tuple(piece.encode('ascii') for piece in (
     '   C, D : constant := 2;\n', '   V : S;\n', 'C', 'Red', ' + C', ': constant', ':= 5', '(Red)', 'case', 'when', 'others', '=>', '|', 'end case',
     'end case;', 'case X is', 'when 1 =>', 'when others =>', 'when 1 .. 5 | 7 =>', '   case X is when 1 => X := 2; when others => X := 3; end case;\n',
     'Integer (', "Integer'(", "Hue'Succ (", "'Pos", "'Val (1)", ' := 5', '   V : Integer := 5;\n', '<->', ' -> X = X', ' <-> X = X', 'X~', '~',
-    'check', 'post', 'assert', '\n--# check X = X;\n', '\n--# post X = X;\n', '\n--# check X~ = X;\n', '(X = X -> X = X)'))
+    'check', 'post', 'assert', '\n--# check X = X;\n', '\n--# assert X = X;\n', '\n--# post X = X;\n', '\n--# check X~ = X;\n', '(X = X -> X = X)'))
 # Bytes that are apt to end a lexeme, a line or a text.
 EDGES = b'\0\t\n\v\f\r -#0A_\x80\xa0\xff'
 
@@ -280,13 +280,13 @@ class Selection(Branch):
         return [self.selector]
 
 
-# Around the condition of a `check`, which stands on a line of its own in the end.
-CHECK, END_OF_CHECK = '\1', '\2'
+# Around the condition of an `assert` or a `check`, which is on a line of its own in the end.
+ASSERT, CHECK, END_OF_CHECK = '\3', '\1', '\2'
 
 
 def checked(text):
-    """The text with each `check` on a line of its own."""
-    return text.replace(CHECK, '\n--# check ').replace(f'{END_OF_CHECK};', ';\n')
+    """The text with each `assert` and each `check` on a line of its own."""
+    return text.replace(ASSERT, '\n--# assert ').replace(CHECK, '\n--# check ').replace(f'{END_OF_CHECK};', ';\n')
 
 
 def assignments(statements):
@@ -752,7 +752,8 @@ class Writer:
         while self.random.random() < 0.1:
             found.insert(self.random.randrange(len(found) + 1), 'null')
         while self.readable and self.random.random() < 0.12:
-            found.insert(self.random.randrange(len(found) + 1), f'{CHECK}{self.predicate(self.readable)}{END_OF_CHECK}')
+            word = ASSERT if self.random.random() < 0.4 else CHECK
+            found.insert(self.random.randrange(len(found) + 1), f'{word}{self.predicate(self.readable)}{END_OF_CHECK}')
         return found
 
     def spelled_branch(self, branch):

@@ -460,9 +460,14 @@ class Null:
 
 @dataclass(frozen=True)
 class Asserted:
-    """`check condition;`, which stands at its word. A postcondition is one too, at the word `post`."""
+    """`assert condition;` or `check condition;`, which stands at its word. A postcondition is one too, at the word `post`."""
+    word: str
     place: Place
     condition: Expression
+
+    def is_cut(self):
+        """Paths end at an `assert`, and begin anew after it."""
+        return self.word == 'assert'
 
 
 @dataclass(frozen=True)
@@ -766,7 +771,7 @@ class Parser:
             return None
         condition = self.predicate(True, above)
         self.take(';', marked=True)
-        return Asserted(word.place, condition)
+        return Asserted(kind, word.place, condition)
 
     def declarations(self):
         """{declaration}"""
@@ -817,15 +822,15 @@ class Parser:
     def statements(self, above):
         """statement {statement}, under so many levels"""
         statements = [self.statement(above)]
-        while self.next_is('check', marked=True) or any(self.next_is(kind) for kind in ('null', 'identifier', 'if', 'case')):
+        while any(self.next_is(kind, marked=True) for kind in ('assert', 'check')) or any(self.next_is(kind) for kind in ('null', 'identifier', 'if', 'case')):
             statements.append(self.statement(above))
         return statements
 
     def statement(self, above):
-        """"null" ";" | name ":=" expression ";" | an `if` | a `case` | "check" predicate ";" in annotation text"""
-        check = self.asserted('check', above)
-        if check:
-            return check
+        """"null" ";" | name ":=" expression ";" | an `if` | a `case` | ("assert" | "check") predicate ";" in annotation text"""
+        asserted = self.asserted('assert', above) or self.asserted('check', above)
+        if asserted:
+            return asserted
         if self.take_if('null'):
             self.take(';')
             return Null()
@@ -1461,7 +1466,7 @@ class Resolver:
         self.changed = changed
         condition = self.condition(tree.condition)
         self.changed = set()
-        return Asserted(tree.place, condition)
+        return Asserted(tree.word, tree.place, condition)
 
     def statements(self, trees):
         """Statements over what their names denote, in the order of the text."""
@@ -1886,6 +1891,13 @@ class EntryTerm:
 
 
 @dataclass(frozen=True, eq=False)
+class LaterTerm:
+    """The value that a variable has at a cut, where it may be another one than on entry: a truth value, or a number."""
+    word: str
+    is_truth: bool
+
+
+@dataclass(frozen=True, eq=False)
 class PrefixTerm:
     """`operator operand`, over a term: a minus, `abs` or `not`."""
     operator: str
@@ -1900,7 +1912,7 @@ class InfixTerm:
     right: object
 
 
-number, truth, entry = cache(NumberTerm), cache(TruthTerm), cache(EntryTerm)
+number, truth, entry, later = cache(NumberTerm), cache(TruthTerm), cache(EntryTerm), cache(LaterTerm)
 prefix, infix = cache(PrefixTerm), cache(InfixTerm)
 
 
@@ -2079,15 +2091,37 @@ def choices_term(choices, term):
     return first
 
 
-def asserted_check(kind, asserted, values):
+def asserted_check(asserted, values):
     """All that `and` joins in an annotation is to be shown."""
-    return Check(kind, asserted.place, facts_of(asserted.condition, values))
+    return Check(asserted.word, asserted.place, facts_of(asserted.condition, values))
+
+
+def cut_values(procedure):
+    """After a cut an export or a local has some value; a formal that is no export has that on entry."""
+    exported = Relation(procedure.items()).exported
+    fixed = {formal.word for formal in procedure.formals} - exported
+    return {word: (entry if word in fixed else later)(word, procedure.subtypes[word].kind is BOOLEAN) for word in procedure.words()}
+
+
+def cut_facts(procedure):
+    """After a cut each formal and each local lies in its type, and so does the value on entry of each import that is exported too;
+    and each part of the precondition is true of the values on entry.
+    """
+    relation, values, on_entry = Relation(procedure.items()), cut_values(procedure), entry_values(procedure)
+    facts = ()
+    for word in procedure.words():
+        facts = with_facts(facts, bounds_of(procedure.subtypes[word], values[word]))
+    for formal in procedure.formals:
+        if formal.word in relation.imported & relation.exported:
+            facts = with_facts(facts, bounds_of(formal.subtype, on_entry[formal.word]))
+    return with_facts(facts, facts_of(procedure.pre, on_entry)) if procedure.pre else facts
 
 
 class Walk:
     """Goes along all paths of a procedure, and collects what there is to show, once for all paths that begin alike."""
 
     def __init__(self, procedure):
+        self.procedure = procedure
         self.subtypes = procedure.subtypes
         self.post = procedure.post
         self.found = []
@@ -2100,7 +2134,10 @@ class Walk:
         return facts
 
     def go(self, statements, facts, values):
-        """Along statements to the end, where the postcondition is to be shown. A target stands for its term after its assignment."""
+        """Along statements to the next cut, or to the end, where the postcondition is to be shown.
+
+        A target stands for its term after its assignment.
+        """
         for at, statement in enumerate(statements):
             if isinstance(statement, (If, Case)):
                 part = self.part if isinstance(statement, If) else self.select
@@ -2111,9 +2148,22 @@ class Walk:
                 facts = self.show(checks_of_assignment(self.subtypes[word], value, values), facts)
                 values = {**values, word: term_of(value, values)}
             elif isinstance(statement, Asserted):
-                facts = self.show([asserted_check('check', statement, values)], facts)
+                facts = self.show([asserted_check(statement, values)], facts)
+                if statement.is_cut():
+                    return
         if self.post:
-            self.show([asserted_check('post', self.post, values)], facts)
+            self.show([asserted_check(self.post, values)], facts)
+
+    def go_from_cuts(self, statements, after):
+        """From each cut in statements, in their order, along those after it and then along these others."""
+        for at, statement in enumerate(statements):
+            rest = statements[at + 1:] + after
+            if isinstance(statement, Asserted) and statement.is_cut():
+                values = cut_values(self.procedure)
+                self.go(rest, with_facts(cut_facts(self.procedure), facts_of(statement.condition, values)), values)
+            elif isinstance(statement, (If, Case)):
+                for branch in statement.branches():
+                    self.go_from_cuts(branch, rest)
 
     def part(self, tree, rest, facts, values):
         """Each branch, and after it the rest: an arm where its condition holds and those before it do not."""
@@ -2123,7 +2173,6 @@ class Walk:
             self.go(arm.statements + rest, with_facts(facts, facts_of(arm.condition, values)), values)
             facts = with_facts(facts, (negation(condition),))
         self.go(tree.otherwise + rest, facts, values)
-
 
     def select(self, tree, rest, facts, values):
         """Each alternative where the selector has one of its values, and after it the rest: `others` where it has no other one."""
@@ -2142,21 +2191,25 @@ def conditions_of(procedure):
     """What there is to show along the paths of a procedure, in the order of the walk."""
     walk = Walk(procedure)
     walk.go(procedure.statements, first_facts(procedure), entry_values(procedure))
+    walk.go_from_cuts(procedure.statements, [])
     return walk.found
 
 
-def paths_of(statements):
-    """The number of ways from the first of the statements to their end."""
-    found = 1
-    for statement in statements:
-        if isinstance(statement, (If, Case)):
-            found *= sum(paths_of(branch) for branch in statement.branches())
-    return found
+def paths_of(statements, after):
+    """The number of ways from the first of the statements to a cut or on along what has so many after it; and that of those from cuts in them."""
+    from_cuts = 0
+    for statement in reversed(statements):
+        if isinstance(statement, Asserted) and statement.is_cut():
+            from_cuts, after = from_cuts + after, 1
+        elif isinstance(statement, (If, Case)):
+            found = [paths_of(branch, after) for branch in statement.branches()]
+            from_cuts, after = from_cuts + sum(inside for _, inside in found), sum(before for before, _ in found)
+    return after, from_cuts
 
 
 def require_few_paths(procedure):
     """No procedure has more paths than one may have."""
-    if paths_of(procedure.statements) > MOST_PATHS:
+    if sum(paths_of(procedure.statements, 1)) > MOST_PATHS:
         raise TooManyPaths
 
 
@@ -2212,7 +2265,7 @@ def is_literal(term):
 def is_of_numbers(comparison):
     """Whether a comparison is one of numbers."""
     left = comparison.left
-    if isinstance(left, EntryTerm):
+    if isinstance(left, (EntryTerm, LaterTerm)):
         return not left.is_truth
     if isinstance(left, PrefixTerm):
         return left.operator != 'not'

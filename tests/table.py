@@ -5065,7 +5065,7 @@ def syntax_of_checks():
     """Tokens with which no `check` and no postcondition goes on."""
     for name, statement in {
             'check_in_code': 'check @X > 0', 'check_without_a_condition': '--# check @', 'two_conditions_of_a_check': '--# check X > 0@, X < 5',
-            'assignment_in_a_check': '--# check X @:= 1', 'assert': '--# @assert X > 0', 'pre_among_statements': '--# @pre X > 0',
+            'assignment_in_a_check': '--# check X @:= 1', 'pre_among_statements': '--# @pre X > 0',
             'post_among_statements': '--# @post X > 0', 'name_before_check': '--# @X check X > 0', 'unmarked_condition': '--# check\n@X > 0',
             'condition_half_marked': '--# check X >\n@0', 'null_marked': '--# @null', 'assignment_marked': '--# @X := 1'}.items():
         yield unexpected(f'{name}.adb', longer(X, 'X from X', 'X := X', statement))
@@ -5125,13 +5125,14 @@ def syntax_of_predicates():
 # A text with all that annotations among statements and postconditions are made of, token by token.
 PIECES = ('procedure', 'Inc', '(', 'X', ':', 'in', 'out', 'Integer', ')', '\n--#', 'derives', 'X', 'from', 'X', ';', '\n--#', 'pre', 'X', '>', '5', '->', 'X', '>', '6', ';',
           '\n--#', 'post', '(', 'X', '=', 'X', '~', '<->', 'X', '=', 'X', ')', '->', 'True', ';', '\nis', 'begin', '\n--#', 'check', 'X', '~', '=', 'X', '->', 'True', ';',
-          '\nX', ':=', 'X', ';', '\nif', 'X', '>', '0', 'then', 'X', ':=', 'X', ';', '\n--#', 'check', 'X', '=', '0', 'or', 'True', ';', '\nend', 'if', ';', '\nend', ';', '\n')
+          '\nX', ':=', 'X', ';', '\nif', 'X', '>', '0', 'then', 'X', ':=', 'X', ';', '\n--#', 'check', 'X', '=', '0', 'or', 'True', ';', '\nend', 'if', ';',
+          '\n--#', 'assert', 'X', '=', 'X', 'or', 'True', ';', '\nend', ';', '\n')
 
 
 def cut_and_spoiled():
     """The text that is cut before each of its tokens ends too early. With `abort` before one it is stopped there."""
     whole = ' '.join(PIECES)
-    yield accepted('pieces.adb', whole, 6)
+    yield accepted('pieces.adb', whole, 7)
     for at, piece in enumerate(PIECES[:-1]):
         before = ' '.join(PIECES[:at])
         if piece != '\n--#':
@@ -5245,6 +5246,89 @@ def conditions_of_annotations():
     yield examined('twelve_ifs_and_a_post.adb', ending('True', *['if A > 0 then X := A; end if'] * 12, params='A : in Integer; X : in out Integer', derives='X from X, A'), ('Inc', 8191))
 
 
+def asserting(condition, *statements, pre=None, post=None, params=X, derives='X from X', declared=()):
+    """The text of a procedure with an `assert`, and statements after it."""
+    return longer(params, derives, f'--# assert {condition}', *statements, pre=pre, post=post, declared=declared)
+
+
+def places_of_assertions():
+    """Where an `assert` may stand, how it is written, and tokens with which none goes on."""
+    yield accepted('assert_alone.adb', longer(None, None, '--# assert True'), 1)
+    yield accepted('assert_first.adb', asserting('X = X', 'X := X'), 2)
+    yield accepted('assert_last.adb', longer(X, 'X from X', 'X := X', '--# assert X = X'), 2)
+    yield accepted('asserts_in_a_row.adb', longer(X, 'X from X', 'X := X', '--# assert X <= X', '--# assert X >= X'), 3)
+    yield accepted('assert_in_arms.adb', longer(X, 'X from X', 'if X > 0 then\n--# assert X > 0;\nX := X; else\n--# assert X <= 0;\nX := X; end if'), 4)
+    yield accepted('assert_in_alternatives.adb',
+                   longer(A_TO_X, 'X from A', 'case A is when 1 =>\n--# assert A = 1;\nX := 1; when others =>\n--# assert not (A = 1);\nX := A; end case'), 4)
+    yield accepted('assert_on_several_lines.adb', longer(X, 'X from X', 'X := X', '--# ASSERT X\n  --#   = -- a comment\n  --#\n--# X'), 2)
+    yield accepted('assert_as_a_name_in_code.adb', longer(OUT_X, 'X from', 'assert := 1', 'X := assert', declared=['assert : Integer']), 2)
+    for name, statement in {
+            'assert_in_code': 'assert @X > 0', 'assert_without_a_condition': '--# assert @', 'two_conditions_of_an_assert': '--# assert X > 0@, X < 5',
+            'assignment_in_an_assert': '--# assert X @:= 1', 'name_before_assert': '--# @X assert X > 0', 'unmarked_condition_of_an_assert': '--# assert\n@X > 0',
+            'two_implications_in_an_assert': '--# assert X > 0 -> X > 0 @-> X > 0', 'check_after_assert': '--# assert @check X > 0'}.items():
+        yield unexpected(f'{name}.adb', longer(X, 'X from X', 'X := X', statement))
+    yield unexpected('assert_with_an_unmarked_semicolon.adb', longer(X, 'X from X', 'X := X', '--# assert X > 0\n@'))
+    yield unexpected('assert_among_declarations.adb', longer(X, 'X from X', 'X := X', declared=['--# @assert X > 0']))
+    yield accepted('assertion_of_200_levels.adb', asserting(nested(200, 'True'), 'X := X'), 2)
+    yield too_nested('assertion_of_201_levels.adb', asserting(nested(201, 'True'), 'X := X'))
+
+
+def rules_of_assertions():
+    """The rules and the flow of an `assert` are those of a `check`."""
+    yield refused('number_for_an_assertion.adb', asserting('@X', 'X := X'), 'N10')
+    yield refused('undeclared_in_an_assertion.adb', asserting('@Y = X', 'X := X'), 'N1')
+    yield refused('import_on_entry_in_an_assertion.adb', asserting('@A~ = A', 'X := A', params=A_TO_X, derives='X from A'), 'N18')
+    yield refused('static_fault_in_an_assertion.adb', asserting('1 @/ 0 = X', 'X := X'), 'N12')
+    yield refused('local_unset_in_an_assertion.adb', asserting('@V = 1', 'X := X', declared=['V : Integer']), 'F4 unset: V')
+    yield refused('value_for_an_assertion_only.adb', longer(X, 'X from X', '@V := X', '--# assert V = X', 'X := X', declared=['V : Integer']), 'F3')
+    yield refused('import_for_an_assertion_only.adb', longer('A : in Integer; X : in out Integer', '@X from X, A', '--# assert A = A', 'X := X'), 'F2 unused: X from A')
+
+
+def facts_after_cuts():
+    """After an `assert`, of what may have changed only what it says is known; types, and the precondition of the values on entry, are too."""
+    yield examined('false_assertion.adb', longer(X, 'X from X', '--# @assert X > 0', 'X := X'), ('Inc', 2, (1, 'assert')))
+    yield examined('assertion_of_false.adb', longer(X, 'X from X', '--# @assert False', 'X := X + 1'), ('Inc', 3, (1, 'assert')))
+    yield examined('two_goals_of_an_assertion.adb', longer(X, 'X from X', '--# @assert X > 0 and X < 10', 'X := X + 1'), ('Inc', 3, (1, 'assert')))
+    yield examined('precondition_on_an_export_is_lost.adb', asserting('True', 'X := X @+ 1', pre='X < 100'), ('Inc', 3, 2))
+    yield accepted('precondition_that_is_asserted.adb', asserting('X < 100', 'X := X + 1', pre='X < 100'), 3)
+    yield accepted('precondition_on_an_import_stays.adb', asserting('True', 'X := A', pre='A > 0', params='A : in Integer; X : out Positive', derives='X from A'), 2)
+    yield examined('value_before_an_assertion_is_lost.adb', longer(OUT_X, 'X from', 'X := 1', '--# assert True', 'X := X @+ 1'), ('Inc', 4, 3))
+    yield accepted('value_that_is_asserted.adb', longer(OUT_X, 'X from', 'X := 1', '--# assert X = 1', 'X := X + 1'), 4)
+    yield accepted('value_of_a_local_that_is_asserted.adb', longer(OUT_X, 'X from', 'V := 1', '--# assert V = 1', 'X := V + 1', declared=['V : Integer']), 4)
+    yield examined('initial_value_is_lost.adb', asserting('True', 'X := V @+ 1', params=OUT_X, derives='X from', declared=['V : Integer := 1']), ('Inc', 3, 2))
+    yield accepted('constant_stays.adb', asserting('True', 'X := C + 1', params=OUT_X, derives='X from', declared=['C : constant Integer := 1']), 2)
+    yield examined('fact_of_a_condition_is_lost.adb', longer(X, 'X from X', 'if X > 0 then\n--# assert True;\n--# @check X > 0;\nX := X; end if'), ('Inc', 3, (2, 'check')))
+    yield examined('fact_of_a_check_is_lost.adb', longer(X, 'X from X', '--# @check X > 0', '--# assert True', '--# @check X > 0', 'X := X'), ('Inc', 4, (1, 'check'), (3, 'check')))
+    yield examined('check_after_an_assertion.adb', longer(X, 'X from X', '--# assert True', '--# @check X < 100', 'X := X + 1'), ('Inc', 4, (2, 'check')))
+    yield accepted('type_of_a_local.adb', longer('X : out Natural', 'X from', 'V := 1', '--# assert True', 'X := V', declared=['V : Natural']), 3)
+    yield accepted('type_of_an_output.adb', longer('X : out Natural', 'X from', 'X := 1', '--# assert True', 'X := X'), 3)
+    yield accepted('type_of_a_value_on_entry.adb', asserting('True', 'X := X', post='X~ >= 0', params='X : in out Natural'), 3)
+    yield accepted('type_of_an_unset_local.adb', longer('X : out Natural', 'X from', '--# assert True', 'V := 1', 'X := V', declared=['V : Natural']), 3)
+    yield accepted('precondition_of_values_on_entry.adb', asserting('True', 'X := X', pre='X > 0', post='X~ > 0'), 3)
+    yield examined('precondition_is_not_of_present_values.adb', asserting('True', 'X := X', pre='X > 0', post='X > 0').replace('post', '@post'), ('Inc', 3, (3, 'post')))
+    yield accepted('post_that_is_asserted.adb', longer(X, 'X from X', 'X := X', '--# assert X = X~', post='X = X~'), 3)
+    yield examined('equal_names_are_not_replaced.adb',
+                   asserting("X = X~ and X < Integer'Last", 'X := X + 1', pre="X < Integer'Last", post='X = X~ + 1').replace('post', '@post'), ('Inc', 4, (4, 'post')))
+    yield accepted('cuts_one_after_another.adb', longer(OUT_X, 'X from', 'X := 1', '--# assert X = 1', 'X := X + 1', '--# assert X = 2', 'X := X + 1'), 7)
+    yield accepted('assertion_over_literals.adb',
+                   longer(OUT_X, 'X from', 'H := Green', '--# assert H = Green', '--# check H >= Red', "X := Hue'Pos (H)", declared=['type Hue is (Red, Green)', 'H : Hue']), 4)
+    yield accepted('truth_value_that_is_asserted.adb', longer(TRUTHS, 'X from A & null from B, X', 'X := A', '--# assert X = A', '--# check X = A', post='X = A'), 3)
+
+
+def order_of_cuts():
+    """The conditions from the start come first, then those from each cut in the order of the text."""
+    yield examined('assert_in_one_arm.adb', longer(A_TO_X, 'X from A', 'if A > 0 then\n--# assert A > 0;\nX := A; else X := 0; end if', '--# @check X > 0'), ('Inc', 5, (3, 'check')))
+    yield examined('check_on_two_paths.adb', longer(A_TO_X, 'X from A', 'if A > 0 then\n--# assert True;\nX := A; else X := 0; end if', '--# @@check X > 0'),
+                   ('Inc', 5, (3, 'check'), (5, 'check')))
+    yield examined('assert_after_arms.adb', longer(A_TO_X, 'X from A', 'if A > 0 then X := A; else X := 0; end if', '--# @assert X > 0', 'X := X'), ('Inc', 5, (4, 'assert')))
+    yield examined('cuts_in_both_arms.adb',
+                   longer(A_TO_X, 'X from A', 'if A > 0 then\n--# assert True;\nX := A @+ 1; else\n--# assert True;\nX := A @- 1; end if'), ('Inc', 6, 3, 5))
+    yield accepted('eleven_ifs_before_and_after_a_cut.adb',
+                   longer('A : in Integer; X : in out Integer', 'X from X, A', *['if A > 0 then X := A; end if'] * 11, '--# assert True', *['if A > 0 then X := A; end if'] * 11), 6142)
+    yield too_many_paths('twelve_ifs_before_a_cut_and_one_after.adb',
+                     longer('A : in Integer; X : in out Integer', 'X from X, A', *['if A > 0 then X := A; end if'] * 12, '--# assert True', 'if A > 0 then X := A; end if'))
+
+
 # ---------------------------------------------------------------- the table
 
 GROUPS = (form, relations, simplifier, numbers, places, words, layout, comments, marks, other_bytes, tokens, grammar,
@@ -5264,7 +5348,7 @@ GROUPS = (form, relations, simplifier, numbers, places, words, layout, comments,
           breaches_of_declarations, functions_of_types, conditions_of_functions, flow_of_functions, syntax_of_functions,
           initial_values, values_of_choices, rules_of_choices, conditions_of_cases, flow_of_cases, syntax_of_cases,
           places_of_checks, syntax_of_checks, syntax_of_predicates, cut_and_spoiled, rules_of_predicates, flow_of_checks,
-          conditions_of_annotations)
+          conditions_of_annotations, places_of_assertions, rules_of_assertions, facts_after_cuts, order_of_cuts)
 CASES = tuple(case for group in GROUPS for case in group())
 
 
