@@ -34,7 +34,7 @@ use Rattle.spx_core.specs.Formals.{stands_in}
 use Rattle.spx_core.specs.Regions.{Region, Regions}
 use Rattle.spx_core.specs.Resolved.{around_formals, around_names, bounded, constant_of, counted, Counts, declared_by, declared_by_decls, declared_by_params, declaring, declaring_all, defining, defining_all, enumeration_type, id_at, integer_type, local_kind, meant_at, mode_of, narrowed, object_of, params_of, positions, resolved_decl, resolved_decls, resolved_expr, resolved_formal_part, resolved_param, resolved_params, resolved_range, resolved_reference, resolved_type, rows_by, rows_by_decls, standard_types, static_value, subtype_of, var_in, var_of, variable_at, variables_by, variables_by_decls}
 use Rattle.spx_core.specs.Scopes.{IsLocalKind, object_declared, object_in}
-use Rattle.spx_core.proofs.RegionLaws.{AllHold, HasRow, Holds, HoldsIn, row_at, declaring_all_holds, hidden_holds, root_holds, standard_holds, subtype_has_row}
+use Rattle.spx_core.proofs.RegionLaws.{AllHold, HasRow, Holds, HoldsIn, row_at, declaring_all_holds, hidden_holds, root_holds, predefined_have_rows, standard_holds, subtype_holds}
 use Rattle.spx_core.proofs.Callers.ListTests.{each_append, each_split}
 use Rattle.spx_core.proofs.Callers.Variables.{same_var}
 
@@ -73,6 +73,26 @@ kind_is_local (Some value) = tt
 -- any variable, so that only types are asked for their rows
 abbrev pub Any : VarId → Object → Type 0
 Any v object = ⊤
+
+-- ---- names that denote such variables and subtypes
+
+module _ (T : Subtype → Type 0) where
+  consecutive_known : (K : Object → Type 0) (position : ℕ) (ds : List Defining) → Consecutive K position ds → AllHold T Any ds
+  consecutive_known K position [] each = tt
+  consecutive_known K position (d ∷ ds) each = (subst (λ e. Holds T Any (Some e)) (sym each.0.2) tt, consecutive_known K (position + 1) ds each.1)
+
+  -- what is seen where the locals of a subprogram with these formals are declared
+  pub formals_known : (K : Object → Type 0) (position : ℕ) (ds : List Defining) → Consecutive K position ds → HoldsIn T Any (declaring_all [] ds)
+  formals_known K position ds each = declaring_all_holds T Any [] ds tt (consecutive_known K position ds each)
+
+  pub meanings_hold : (P : VarId → Object → Type 0) (region : Region) (meaning : Meaning) (position : ℕ) (names : List Identifier) → ((k : ℕ) → Holds T P (Some (meant_at meaning k)))
+      → AllHold T P (defining_all region meaning position names)
+  meanings_hold P region meaning position [] each = tt
+  meanings_hold P region meaning position (name ∷ names) each = (each position, meanings_hold P (declaring region (defining region (meant_at meaning position) name)) meaning (position + 1) names each)
+
+  pub constants_hold : (P : VarId → Object → Type 0) (type_name : Option Reference) (value : Option ℤ) → Holds T P (Some (constant_of type_name value))
+  constants_hold P None value = tt
+  constants_hold P (Some type_name) value = tt
 
 -- ---- the rows of declared types
 
@@ -115,37 +135,23 @@ module _ (more : List TypeRow) where
 
   -- ---- what declarations declare
 
-  pub consecutive_known : (K : Object → Type 0) (position : ℕ) (ds : List Defining) → Consecutive K position ds → AllHold more Any ds
-  consecutive_known K position [] each = tt
-  consecutive_known K position (d ∷ ds) each = (subst (λ e. Holds more Any (Some e)) (sym each.0.2) tt, consecutive_known K (position + 1) ds each.1)
-
-  -- names of which none denotes a variable or a type
-  others_hold : (P : VarId → Object → Type 0) (region : Region) (meaning : Meaning) (position : ℕ) (names : List Identifier) → ((k : ℕ) → Holds more P (Some (meant_at meaning k)))
-      → AllHold more P (defining_all region meaning position names)
-  others_hold P region meaning position [] each = tt
-  others_hold P region meaning position (name ∷ names) each = (each position, others_hold P (declaring region (defining region (meant_at meaning position) name)) meaning (position + 1) names each)
-
-  constants_hold : (P : VarId → Object → Type 0) (type_name : Option Reference) (value : Option ℤ) → Holds more P (Some (constant_of type_name value))
-  constants_hold P None value = tt
-  constants_hold P (Some type_name) value = tt
-
   -- the variables among what is declared are consecutive, and what holds of them holds of all of it: types have their rows
   pub record Known (position : ℕ) (variables all : List Defining) : Type 1 where
     pub consecutive : Consecutive (IsLocal more) position variables
-    pub holds : (P : VarId → Object → Type 0) → AllHold more P variables → AllHold more P all
+    pub holds : (P : VarId → Object → Type 0) → AllHold (HasRow more) P variables → AllHold (HasRow more) P all
 
-  module _ (outer : Regions) (known : AllByRecursion (HoldsIn more Any) outer) where
-    type_has_row : (region : Region) (names : List Identifier) (type_name : Name) → HoldsIn more Any region → HasRow more (subtype_of (resolved_reference (around_names outer region names) type_name).root.entity)
-    type_has_row region names type_name own = subtype_has_row more Any _ (root_holds more Any (around_names outer region names) (hidden_holds more Any names, (own, known)) type_name)
+  module _ (outer : Regions) (known : AllByRecursion (HoldsIn (HasRow more) Any) outer) where
+    type_has_row : (region : Region) (names : List Identifier) (type_name : Name) → HoldsIn (HasRow more) Any region → HasRow more (subtype_of (resolved_reference (around_names outer region names) type_name).root.entity)
+    type_has_row region names type_name own = subtype_holds (HasRow more) Any (predefined_have_rows more) _ (root_holds (HasRow more) Any (around_names outer region names) (hidden_holds (HasRow more) Any names, (own, known)) type_name)
 
-    params_consecutive : (region : Region) (position : ℕ) (params : List Param) → HoldsIn more Any region → Consecutive (IsFormal more) position (declared_by_params (resolved_params outer region position params))
+    params_consecutive : (region : Region) (position : ℕ) (params : List Param) → HoldsIn (HasRow more) Any region → Consecutive (IsFormal more) position (declared_by_params (resolved_params outer region position params))
     params_consecutive region position [] own = tt
     params_consecutive region position (p ∷ ps) own =
         let param = resolved_param outer region position p in
         let first =
         defining_consecutive (IsFormal more) region (object_of (Formal (mode_of p.mode)) param.type_name) position p.names ((mode_of p.mode, refl), type_has_row region p.names p.type_name own) in
         consecutive_append (IsFormal more) position param.names _ first
-        (params_consecutive (declaring_all region param.names) (position + length param.names) ps (declaring_all_holds more Any region param.names own (consecutive_known (IsFormal more) position param.names first)))
+        (params_consecutive (declaring_all region param.names) (position + length param.names) ps (declaring_all_holds (HasRow more) Any region param.names own (consecutive_known (HasRow more) (IsFormal more) position param.names first)))
 
     -- the rows of a declaration follow these
     abbrev Stands : Counts → List TypeRow → List TypeRow → List TypeRow → Type 0
@@ -157,22 +163,22 @@ module _ (more : List TypeRow) where
         let r = resolved_range (around_names outer region (name ∷ [])) range in
         record { consecutive = tt; holds = λ P h. (new_has_row front back before.types name.text _ stands.0 stands.1 (integer_is_new before.types (static_value r.low) (static_value r.high)), tt) }
     type_known region before name (definition.Enumeration place literals) front back stands =
-        record { consecutive = tt; holds = λ P h. (new_has_row front back before.types name.text _ stands.0 stands.1 (inl refl), others_hold P _ (meaning.Literals (enumeration_type before.types (length literals))) 0 literals (λ k. tt)) }
+        record { consecutive = tt; holds = λ P h. (new_has_row front back before.types name.text _ stands.0 stands.1 (inl refl), meanings_hold (HasRow more) P _ (meaning.Literals (enumeration_type before.types (length literals))) 0 literals (λ k. tt)) }
 
-    decl_known : (region : Region) (before : Counts) (d : Decl) (front back : List TypeRow) → HoldsIn more Any region → Stands before front (rows_by (resolved_decl outer region before d)) back
+    decl_known : (region : Region) (before : Counts) (d : Decl) (front back : List TypeRow) → HoldsIn (HasRow more) Any region → Stands before front (rows_by (resolved_decl outer region before d)) back
         → Known before.vars (variables_by (resolved_decl outer region before d)) (declared_by (resolved_decl outer region before d))
     decl_known region before (decl.Variables names type_name value) front back own stands =
         let around = around_names outer region names in
         let kind = local_kind (option_map (resolved_expr around) value) in
         record { consecutive = defining_consecutive (IsLocal more) region (object_of kind (resolved_reference around type_name)) before.vars names (kind_is_local (option_map (resolved_expr around) value), type_has_row region names type_name own); holds = λ P h. h }
     decl_known region before (decl.Constants names type_name value) front back own stands =
-        record { consecutive = tt; holds = λ P h. others_hold P region _ 0 names (λ k. constants_hold P (option_map (resolved_reference (around_names outer region names)) type_name) (static_value (resolved_expr (around_names outer region names) value))) }
+        record { consecutive = tt; holds = λ P h. meanings_hold (HasRow more) P region _ 0 names (λ k. constants_hold (HasRow more) P (option_map (resolved_reference (around_names outer region names)) type_name) (static_value (resolved_expr (around_names outer region names) value))) }
     decl_known region before (decl.FullType name d) front back own stands = type_known region before name d front back stands
     decl_known region before (decl.Subtype name parent range) front back own stands =
         let around = around_names outer region (name ∷ []) in
         record { consecutive = tt; holds = λ P h. (new_has_row front back before.types name.text _ stands.0 stands.1 (narrowed_is_new before.types (subtype_of (resolved_reference around parent).root.entity) (option_map (resolved_range around) range)), tt) }
 
-    pub decls_known : (region : Region) (before : Counts) (ds : List Decl) (front back : List TypeRow) → HoldsIn more Any region → Stands before front (rows_by_decls (resolved_decls outer region before ds)) back
+    pub decls_known : (region : Region) (before : Counts) (ds : List Decl) (front back : List TypeRow) → HoldsIn (HasRow more) Any region → Stands before front (rows_by_decls (resolved_decls outer region before ds)) back
         → Known before.vars (variables_by_decls (resolved_decls outer region before ds)) (declared_by_decls (resolved_decls outer region before ds))
     decls_known region before [] front back own stands = record { consecutive = tt; holds = λ P h. h }
     decls_known region before (d ∷ ds) front back own stands =
@@ -180,7 +186,7 @@ module _ (more : List TypeRow) where
         let next = declaring_all region (declared_by one) in
         let later = resolved_decls outer next (counted before one) ds in
         let first = decl_known region before d front (rows_by_decls later ++ back) own (stands.0, stands.1 ∙ ap (λ (rows : List TypeRow). front ++ rows) (append_assoc (rows_by one) (rows_by_decls later) back)) in
-        let along = declaring_all_holds more Any region (declared_by one) own (first.holds Any (consecutive_known (IsLocal more) before.vars (variables_by one) first.consecutive)) in
+        let along = declaring_all_holds (HasRow more) Any region (declared_by one) own (first.holds Any (consecutive_known (HasRow more) (IsLocal more) before.vars (variables_by one) first.consecutive)) in
         let count = length-append standard_types front in
         let rest = decls_known next (counted before one) ds (front ++ rows_by one) back along (
           ap length (sym (append_assoc standard_types front (rows_by one))) ∙ length-append (standard_types ++ front) (rows_by one) ∙ ap (λ n. n + length (rows_by one)) stands.0,
@@ -188,16 +194,12 @@ module _ (more : List TypeRow) where
         ) in
         record {
           consecutive = consecutive_append (IsLocal more) before.vars (variables_by one) (variables_by_decls later) first.consecutive rest.consecutive;
-          holds = λ P h. let parts = each_split (λ (x : Defining). Holds more P (Some x.entity)) (variables_by one) (variables_by_decls later) h in each_append (λ (x : Defining). Holds more P (Some x.entity)) (declared_by one) (declared_by_decls later) (first.holds P parts.0) (rest.holds P parts.1);
+          holds = λ P h. let parts = each_split (λ (x : Defining). Holds (HasRow more) P (Some x.entity)) (variables_by one) (variables_by_decls later) h in each_append (λ (x : Defining). Holds (HasRow more) P (Some x.entity)) (declared_by one) (declared_by_decls later) (first.holds P parts.0) (rest.holds P parts.1);
         }
 
   pub formals_consecutive : (name : Identifier) (position : ℕ) (part : Option FormalPart) → Consecutive (IsFormal more) position (declared_by_params (params_of (option_map (resolved_formal_part name position) part)))
   formals_consecutive name position None = tt
-  formals_consecutive name position (Some part) = params_consecutive (around_formals name) (hidden_holds more Any (name ∷ []), (standard_holds more Any, tt)) [] position part.params tt
-
-  -- what is seen where the locals of a subprogram with these formals are declared
-  pub formals_known : (position : ℕ) (ds : List Defining) → Consecutive (IsFormal more) position ds → HoldsIn more Any (declaring_all [] ds)
-  formals_known position ds each = declaring_all_holds more Any [] ds tt (consecutive_known (IsFormal more) position ds each)
+  formals_consecutive name position (Some part) = params_consecutive (around_formals name) (hidden_holds (HasRow more) Any (name ∷ []), (standard_holds (HasRow more) Any (predefined_have_rows more), tt)) [] position part.params tt
 
 -- ---- their positions
 
@@ -240,20 +242,20 @@ module _ (p : Program) (more : List TypeRow) (types : p.types ≡ standard_types
 
   -- what follows from their kinds, positions and rows holds of them
   pub rows : (P : VarId → Object → Type 0) (before : List Var) (position : ℕ) (ds : List Defining) (after : List Var) → length before ≡ position → p.vars ≡ before ++ (map var_of ds ++ after)
-      → Consecutive K position ds → ((v : VarId) (object : Object) → K object → is_at v position ds ≡ true → object_declared p v ≡ Some object → P v object) → AllHold more P ds
+      → Consecutive K position ds → ((v : VarId) (object : Object) → K object → is_at v position ds ≡ true → object_declared p v ≡ Some object → P v object) → AllHold (HasRow more) P ds
   rows P before position [] after len vars each follows = tt
   rows P before position (d ∷ ds) after len vars each follows =
       let at = or_left (position == position) (is_at (record { 0 = position }) (position + 1) ds) (eq-eqb position position refl) in
       let here = follows (record { 0 = position }) each.0.0 each.0.1 at (row_is before position d (map var_of ds ++ after) each.0.0 each.0.1 len vars each.0.2) in (
-        subst (λ e. Holds more P (Some e)) (sym each.0.2) here,
+        subst (λ e. Holds (HasRow more) P (Some e)) (sym each.0.2) here,
         rows P (before ++ var_of d ∷ []) (position + 1) ds after (length_push before (var_of d) ∙ ap (λ n. n + 1) len) (vars ∙ sym (append_assoc before (var_of d ∷ []) (map var_of ds ++ after))) each.1
             (λ v object kind at row. follows v object kind (or_right (position == v.0) (is_at v (position + 1) ds) at) row),
       )
 
-  pub at_position : (P : VarId → Object → Type 0) (v : VarId) (position : ℕ) (ds : List Defining) → Consecutive K position ds → AllHold more P ds → is_at v position ds ≡ true → (object : Object) × P v object
+  pub at_position : (P : VarId → Object → Type 0) (v : VarId) (position : ℕ) (ds : List Defining) → Consecutive K position ds → AllHold (HasRow more) P ds → is_at v position ds ≡ true → (object : Object) × P v object
   at_position P v position [] each all h = absurd cc
   at_position P v position (d ∷ ds) each all h =
       elim (or_cases (position == v.0) (is_at v (position + 1) ds) h) [
-        | inl here ↦ (each.0.0, subst (λ u. P u each.0.0) (same_var (record { 0 = position }) v (eqb-true position v.0 here)) (subst (λ e. Holds more P (Some e)) each.0.2 all.0))
+        | inl here ↦ (each.0.0, subst (λ u. P u each.0.0) (same_var (record { 0 = position }) v (eqb-true position v.0 here)) (subst (λ e. Holds (HasRow more) P (Some e)) each.0.2 all.0))
         | inr later ↦ at_position P v (position + 1) ds each.1 all.1 later
       ]

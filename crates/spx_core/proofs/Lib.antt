@@ -14,3 +14,4 @@ mod DeclarationBreachLaws
 mod StatementBreachLaws
 mod ProgramBreachLaws
 mod InitialValues
+mod TypeValues

@@ -38,41 +38,48 @@ row_at more position = slice_get (standard_types ++ more) position
 abbrev pub HasRow : List TypeRow → Subtype → Type 0
 HasRow more subtype = option_map (λ (row : TypeRow). row.subtype) (row_at more subtype.id.0) ≡ Some subtype
 
--- of what is denoted: such a variable, or a subtype that has a row
-abbrev pub Holds : List TypeRow → (VarId → Object → Type 0) → Option Entity → Type 0
-Holds more P (Some (entity.Variable v object)) = P v object
-Holds more P (Some (entity.TypeName subtype)) = HasRow more subtype
-Holds more P other = ⊤
+-- of what is denoted: such a variable, or such a subtype
+abbrev pub Holds : (Subtype → Type 0) → (VarId → Object → Type 0) → Option Entity → Type 0
+Holds T P (Some (entity.Variable v object)) = P v object
+Holds T P (Some (entity.TypeName subtype)) = T subtype
+Holds T P other = ⊤
 
--- what a name of a type denotes has a row, and so has what counts as denoted where there is none
-pub subtype_has_row : (more : List TypeRow) (P : VarId → Object → Type 0) (o : Option Entity) → Holds more P o → HasRow more (subtype_of o)
-subtype_has_row more P (Some (entity.TypeName subtype)) h = h
-subtype_has_row more P (Some (entity.Variable v object)) h = refl
-subtype_has_row more P (Some (entity.Constant subtype n)) h = refl
-subtype_has_row more P (Some (entity.NamedNumber n)) h = refl
-subtype_has_row more P (Some (entity.Literal subtype position)) h = refl
-subtype_has_row more P (Some (entity.Subprogram sub)) h = refl
-subtype_has_row more P None h = refl
+-- the predefined types are such subtypes
+abbrev pub OfPredefined : (Subtype → Type 0) → Type 0
+OfPredefined T = AllByRecursion (λ (row : TypeRow). T row.subtype) standard_types
 
-module _ (more : List TypeRow) (P : VarId → Object → Type 0) where
+pub predefined_have_rows : (more : List TypeRow) → OfPredefined (HasRow more)
+predefined_have_rows more = (refl, (refl, (refl, (refl, (refl, tt)))))
+
+-- what a name of a type denotes is such a subtype, and so is what counts as denoted where there is none
+pub subtype_holds : (T : Subtype → Type 0) (P : VarId → Object → Type 0) → OfPredefined T → (o : Option Entity) → Holds T P o → T (subtype_of o)
+subtype_holds T P predefined (Some (entity.TypeName subtype)) h = h
+subtype_holds T P predefined (Some (entity.Variable v object)) h = predefined.0
+subtype_holds T P predefined (Some (entity.Constant subtype n)) h = predefined.0
+subtype_holds T P predefined (Some (entity.NamedNumber n)) h = predefined.0
+subtype_holds T P predefined (Some (entity.Literal subtype position)) h = predefined.0
+subtype_holds T P predefined (Some (entity.Subprogram sub)) h = predefined.0
+subtype_holds T P predefined None h = predefined.0
+
+module _ (T : Subtype → Type 0) (P : VarId → Object → Type 0) where
   abbrev pub AllHold : List Defining → Type 0
-  AllHold ds = AllByRecursion (λ (d : Defining). Holds more P (Some d.entity)) ds
+  AllHold ds = AllByRecursion (λ (d : Defining). Holds T P (Some d.entity)) ds
 
   abbrev pub HoldsIn : Region → Type 0
-  HoldsIn region = AllByRecursion (λ (d : Declaration). Holds more P d.entity) region
+  HoldsIn region = AllByRecursion (λ (d : Declaration). Holds T P d.entity) region
 
   -- ---- regions
 
-  found_holds : (region : Region) (word : List ℕ) (outer : Option Entity) → HoldsIn region → Holds more P outer → Holds more P (unwrap_or (declared_in region word) outer)
+  found_holds : (region : Region) (word : List ℕ) (outer : Option Entity) → HoldsIn region → Holds T P outer → Holds T P (unwrap_or (declared_in region word) outer)
   found_holds [] word outer all h = h
   found_holds (d ∷ ds) word outer all h =
-      either (λ o. Holds more P (unwrap_or o outer)) (str_eq_ignore_ascii_case word d.word) (Some d.entity) (declared_in ds word) all.0 (found_holds ds word outer all.1 h)
+      either (λ o. Holds T P (unwrap_or o outer)) (str_eq_ignore_ascii_case word d.word) (Some d.entity) (declared_in ds word) all.0 (found_holds ds word outer all.1 h)
 
-  denoted_holds : (regions : Regions) (word : List ℕ) → AllByRecursion HoldsIn regions → Holds more P (denoted regions word)
+  denoted_holds : (regions : Regions) (word : List ℕ) → AllByRecursion HoldsIn regions → Holds T P (denoted regions word)
   denoted_holds [] word all = tt
   denoted_holds (region ∷ outer) word all = found_holds region word (denoted outer word) all.0 (denoted_holds outer word all.1)
 
-  declaring_holds : (region : Region) (d : Defining) → HoldsIn region → Holds more P (Some d.entity) → HoldsIn (declaring region d)
+  declaring_holds : (region : Region) (d : Defining) → HoldsIn region → Holds T P (Some d.entity) → HoldsIn (declaring region d)
   declaring_holds region d all h =
       let new : Region = record { word = d.name.text; entity = Some d.entity } ∷ [] in
       either HoldsIn (is_some (declared_in region d.name.text)) region (region ++ new) all (each_append _ region new all (h, tt))
@@ -85,20 +92,20 @@ module _ (more : List TypeRow) (P : VarId → Object → Type 0) where
   hidden_holds [] = tt
   hidden_holds (name ∷ names) = (tt, hidden_holds names)
 
-  pub standard_holds : HoldsIn standard
+  pub standard_holds : OfPredefined T → HoldsIn standard
   unfolding standard
-  standard_holds = (refl, (tt, (tt, (refl, (refl, (refl, tt))))))
+  standard_holds predefined = let named = predefined.1 in (named.0, (tt, (tt, (named.1.0, (named.1.1.0, (named.1.1.1.0, tt))))))
 
-  pub around_holds : (name : Defining) → Holds more P (Some name.entity) → AllByRecursion HoldsIn (around_body name)
-  around_holds name h = (declaring_holds [] name tt h, (standard_holds, tt))
+  pub around_holds : OfPredefined T → (name : Defining) → Holds T P (Some name.entity) → AllByRecursion HoldsIn (around_body name)
+  around_holds predefined name h = (declaring_holds [] name tt h, (standard_holds predefined, tt))
 
   -- inside a subprogram that declares these
-  pub inside_holds : (name : Defining) (ds : List Defining) → Holds more P (Some name.entity) → AllHold ds → AllByRecursion HoldsIn (declaring_all [] ds ∷ around_body name)
-  inside_holds name ds h all = (declaring_all_holds [] ds tt all, around_holds name h)
+  pub inside_holds : OfPredefined T → (name : Defining) (ds : List Defining) → Holds T P (Some name.entity) → AllHold ds → AllByRecursion HoldsIn (declaring_all [] ds ∷ around_body name)
+  inside_holds predefined name ds h all = (declaring_all_holds [] ds tt all, around_holds predefined name h)
 
   -- ---- names and expressions
 
-  denoted_variable : (v : VarId) (o : Option Entity) → Holds more P o → is_same v (variable_of o) ≡ true → (object : Object) × (o ≡ Some (entity.Variable v object)) × P v object
+  denoted_variable : (v : VarId) (o : Option Entity) → Holds T P o → is_same v (variable_of o) ≡ true → (object : Object) × (o ≡ Some (entity.Variable v object)) × P v object
   denoted_variable v (Some (entity.Variable w object)) h is =
       let e = same_var w v (eqb-true w.0 v.0 is) in
       (object, ap (λ u. Some (entity.Variable u object)) e, subst (λ u. P u object) e h)
@@ -121,14 +128,14 @@ module _ (more : List TypeRow) (P : VarId → Object → Type 0) where
         let known = reference_variable v one.0 one.1 in
         (known.0, known.2)
 
-    pub root_holds : (name : Name) → Holds more P (resolved_reference regions name).root.entity
+    pub root_holds : (name : Name) → Holds T P (resolved_reference regions name).root.entity
     root_holds (Simple name) = denoted_holds regions name.text all
     root_holds (Attribute prefix designator) = denoted_holds regions prefix.text all
 
     -- ---- the names that an expression reads
 
     abbrev pub AreKnown : List CoreName → Type 0
-    AreKnown names = AllByRecursion (λ (name : CoreName). Holds more P name.entity) names
+    AreKnown names = AllByRecursion (λ (name : CoreName). Holds T P name.entity) names
 
     both_known : (xs ys : List CoreName) → AreKnown xs → AreKnown ys → AreKnown (xs ++ ys)
     both_known xs ys left right = each_append _ xs ys left right

@@ -24,6 +24,7 @@ use Rattle.spx_core.specs.declared.entity.Mode.{Mode}
 use Rattle.spx_core.specs.declared.entity.VarKind.{VarKind}
 use Rattle.spx_core.specs.declared.entity.VarKind.TheVariants.{Formal}
 use Rattle.spx_core.specs.declared.entity.Object.{Object}
+use Rattle.spx_core.specs.declared.entity.Subtype.{Subtype}
 use Rattle.spx_core.specs.declared.name.CoreName.{CoreName}
 use Rattle.spx_core.specs.declared.name.Defining.{Defining}
 use Rattle.spx_core.specs.declared.name.Reference.{Reference}
@@ -55,7 +56,7 @@ use Rattle.spx_core.specs.Scopes.{AllAreAsDeclared, AllHaveTheirModes, AreAsDecl
 use Rattle.spx_core.proofs.Callers.Pairs.{exports_are, imports_are}
 use Rattle.spx_core.proofs.Callers.ListTests.{each_append, some_mapped}
 use Rattle.spx_core.proofs.Callers.FlowLaws.{reads_uses}
-use Rattle.spx_core.proofs.RegionLaws.{AllHold, HasRow, Holds, HoldsIn, around_holds, inside_holds, mentioned_variable, read_known, reference_variable, root_holds, used_variable}
+use Rattle.spx_core.proofs.RegionLaws.{AllHold, HasRow, Holds, HoldsIn, around_holds, inside_holds, mentioned_variable, predefined_have_rows, read_known, reference_variable, root_holds, used_variable}
 use Rattle.spx_core.proofs.Consecutive.{Any, Consecutive, Known, positions_differ, IsFormal, IsLocal, at_position, decls_known, first_positions, formals_consecutive, formals_known, is_at, last_positions, rows}
 
 mode_in_row : (kind : VarKind) (row : Option Var) → option_map (λ (var : Var). var.kind) row ≡ Some kind → option_and_then (λ (var : Var). mode_in var.kind) row ≡ mode_in kind
@@ -190,10 +191,10 @@ module _ (items : List CoreDerivesItem) (regions : Regions) where
   stmts_resolve [] = tt
   stmts_resolve (s ∷ stmts) = (stmt_resolves s, stmts_resolve stmts)
 
-module _ (more : List TypeRow) (P : VarId → Object → Type 0) (regions : Regions) (all : AllByRecursion (HoldsIn more P) regions) (v : VarId) where
+module _ (T : Subtype → Type 0) (P : VarId → Object → Type 0) (regions : Regions) (all : AllByRecursion (HoldsIn T P) regions) (v : VarId) where
   imported_variable : (item : DerivesItem) → has_import v (resolved_item regions item) ≡ true → (object : Object) × P v object
   imported_variable item h =
-      ⊎_elim (mentioned_variable more P regions all v item.imports.names) (λ itself. mentioned_variable more P regions all v (exported_names item.exports) (and_parts (is_some item.imports.itself) (has_export v (resolved_item regions item)) itself).1)
+      ⊎_elim (mentioned_variable T P regions all v item.imports.names) (λ itself. mentioned_variable T P regions all v (exported_names item.exports) (and_parts (is_some item.imports.itself) (has_export v (resolved_item regions item)) itself).1)
       (or_cases (mentions v (map (resolved_reference regions) item.imports.names)) (is_some item.imports.itself && has_export v (resolved_item regions item)) h)
 
   in_relation : (test : CoreDerivesItem → Bool) → ((item : DerivesItem) → test (resolved_item regions item) ≡ true → (object : Object) × P v object)
@@ -202,13 +203,13 @@ module _ (more : List TypeRow) (P : VarId → Object → Type 0) (regions : Regi
   in_relation test known (Some derives) h = let one = some_mapped test (resolved_item regions) derives.items h in known one.0 one.1
 
   value_variable : (value : CoreExpr) → IsValueIn regions value → is_read v (reads_of value) ≡ true → (object : Object) × P v object
-  value_variable value written h = used_variable more P regions all written.0 v written.1 (ap (uses v) (sym written.2) ∙ sym (reads_uses v value) ∙ h)
+  value_variable value written h = used_variable T P regions all written.0 v written.1 (ap (uses v) (sym written.2) ∙ sym (reads_uses v value) ∙ h)
 
   mutual
     assigned_variable : (c : Command) → Resolves regions c → sets v (effect c) ≡ true → (object : Object) × P v object
     assigned_variable Skip written h = absurd cc
     assigned_variable (Set target value) written h =
-        let known = reference_variable more P regions all v written.0.0 (ap (λ (name : Reference). denotes v name.root) (sym written.0.1) ∙ h) in (known.0, known.2)
+        let known = reference_variable T P regions all v written.0.0 (ap (λ (name : Reference). denotes v name.root) (sym written.0.1) ∙ h) in (known.0, known.2)
     assigned_variable (Then a b) written h = ⊎_elim (assigned_variable a written.0) (assigned_variable b written.1) (or_cases (sets v (effect a)) (sets v (effect b)) h)
     assigned_variable (Choose place condition a b) written h = ⊎_elim (assigned_variable a written.1) (assigned_variable b written.2) (or_cases (sets v (effect a)) (sets v (effect b)) h)
     assigned_variable (Select place selector alternatives) written h = assigned_among (reads_of selector) place alternatives written.1 h
@@ -244,10 +245,10 @@ module _ (more : List TypeRow) (P : VarId → Object → Type 0) (regions : Regi
         ⊎_elim tested (λ arms. ⊎_elim (read_variable a written.0) (read_among tests place tested rest written.1) (or_cases (reads v (effect a)) (reads v (effect_among tests place rest)) arms))
         (or_cases (is_read v tests) (reads v (effect a) || reads v (effect_among tests place rest)) h)
 
-module _ (p : Program) (more : List TypeRow) (P : VarId → Object → Type 0) (row : (v : VarId) (object : Object) → P v object → object_declared p v ≡ Some object) (regions : Regions) (all : AllByRecursion (HoldsIn more P) regions) where
+module _ (p : Program) (T : Subtype → Type 0) (P : VarId → Object → Type 0) (row : (v : VarId) (object : Object) → P v object → object_declared p v ≡ Some object) (regions : Regions) (all : AllByRecursion (HoldsIn T P) regions) where
   has_its_mode : (name : Name) → HasItsMode p (resolved_reference regions name)
   has_its_mode name v is =
-      let known = reference_variable more P regions all v name is in
+      let known = reference_variable T P regions all v name is in
       ap mode_denoted known.1 ∙ sym (mode_is p v known.0.kind (kind_is p v known.0 (row v known.0 known.2)))
 
   have_their_modes : (names : List Name) → All (HasItsMode p) (map (resolved_reference regions) names)
@@ -274,20 +275,20 @@ module _ (p : Program) (more : List TypeRow) (P : VarId → Object → Type 0) (
 
   -- ---- what is declared of the variables that names denote
 
-  as_declared : (name : CoreName) → Holds more P name.entity → IsAsDeclared p name
-  as_declared name h v object is = row v object (subst (Holds more P) is h)
+  as_declared : (name : CoreName) → Holds T P name.entity → IsAsDeclared p name
+  as_declared name h v object is = row v object (subst (Holds T P) is h)
 
-  all_as_declared : (names : List CoreName) → AllByRecursion (λ (name : CoreName). Holds more P name.entity) names → AllByRecursion (IsAsDeclared p) names
+  all_as_declared : (names : List CoreName) → AllByRecursion (λ (name : CoreName). Holds T P name.entity) names → AllByRecursion (IsAsDeclared p) names
   all_as_declared [] known = tt
   all_as_declared (name ∷ names) known = (as_declared name known.0, all_as_declared names known.1)
 
   read_as_declared : (value : CoreExpr) → IsValueIn regions value → All (IsAsDeclared p) (names_read value)
   read_as_declared value written =
       subst (λ e. All (IsAsDeclared p) (names_read e)) (sym written.2)
-      (All-from_recursion (IsAsDeclared p) _ (all_as_declared (names_read (resolved_in written.0 regions written.1)) (read_known more P regions all written.0 written.1)))
+      (All-from_recursion (IsAsDeclared p) _ (all_as_declared (names_read (resolved_in written.0 regions written.1)) (read_known T P regions all written.0 written.1)))
 
   target_as_declared : (target : Reference) → IsTargetIn regions target → IsAsDeclared p target.root
-  target_as_declared target written = subst (λ (r : Reference). IsAsDeclared p r.root) (sym written.1) (as_declared (resolved_reference regions written.0).root (root_holds more P regions all written.0))
+  target_as_declared target written = subst (λ (r : Reference). IsAsDeclared p r.root) (sym written.1) (as_declared (resolved_reference regions written.0).root (root_holds T P regions all written.0))
 
   mutual
     command_as_declared : (c : Command) → Resolves regions c → AreAsDeclared p c
@@ -356,7 +357,7 @@ module _ (p : Program) (more : List TypeRow) (types : p.types ≡ standard_types
 
     module _ (vars : p.vars ≡ before ++ (own_vars sub ++ after)) (front back : List TypeRow) (count : length (standard_types ++ front) ≡ counts.types) (rows_are : more ≡ front ++ (own_types sub ++ back)) where
       names_known : Known more (first + length its_formals) its_locals its_names
-      names_known = decls_known more (around_body name) (around_holds more Any name tt) (declaring_all [] its_formals) (after_formals counts sub.formal_part) s.declarations front back (formals_known more first its_formals formals_are) (count, rows_are)
+      names_known = decls_known more (around_body name) (around_holds (HasRow more) Any (predefined_have_rows more) name tt) (declaring_all [] its_formals) (after_formals counts sub.formal_part) s.declarations front back (formals_known (HasRow more) (IsFormal more) first its_formals formals_are) (count, rows_are)
 
       pub locals_are : Consecutive (IsLocal more) (first + length its_formals) its_locals
       locals_are = names_known.consecutive
@@ -364,26 +365,26 @@ module _ (p : Program) (more : List TypeRow) (types : p.types ≡ standard_types
       vars_are : p.vars ≡ before ++ (map var_of its_formals ++ (map var_of its_locals ++ after))
       vars_are = vars ∙ ap (λ ws. before ++ (ws ++ after)) (map-append var_of its_formals its_locals) ∙ ap (λ ws. before ++ ws) (append_assoc (map var_of its_formals) (map var_of its_locals) after)
 
-      formal_rows : (P : VarId → Object → Type 0) → ((v : VarId) (object : Object) → IsFormal more object → is_formal v sub ≡ true → object_declared p v ≡ Some object → P v object) → AllHold more P its_formals
+      formal_rows : (P : VarId → Object → Type 0) → ((v : VarId) (object : Object) → IsFormal more object → is_formal v sub ≡ true → object_declared p v ≡ Some object → P v object) → AllHold (HasRow more) P its_formals
       formal_rows P follows =
           rows p more types (IsFormal more) (λ object k. k.1) P before first its_formals (map var_of its_locals ++ after) len vars_are formals_are (λ v object kind at row. follows v object kind (formal_positions v ∙ at) row)
 
       rows_of_locals : (K : Object → Type 0) → ((object : Object) → K object → HasRow more object.subtype) → Consecutive K (first + length its_formals) its_locals → (P : VarId → Object → Type 0)
-          → ((v : VarId) (object : Object) → K object → is_local v sub ≡ true → object_declared p v ≡ Some object → P v object) → AllHold more P its_locals
+          → ((v : VarId) (object : Object) → K object → is_local v sub ≡ true → object_declared p v ≡ Some object → P v object) → AllHold (HasRow more) P its_locals
       rows_of_locals K typed are P follows =
           rows p more types K typed P (before ++ map var_of its_formals) (first + length its_formals) its_locals after
           (length-append before (map var_of its_formals) ∙ ap₂ ◌+◌ len (length-map its_formals var_of)) (vars_are ∙ sym (append_assoc before (map var_of its_formals) (map var_of its_locals ++ after))) are
           (λ v object kind at row. follows v object kind (local_positions v ∙ at) row)
 
-      local_rows : (P : VarId → Object → Type 0) → ((v : VarId) (object : Object) → IsLocal more object → is_local v sub ≡ true → object_declared p v ≡ Some object → P v object) → AllHold more P its_locals
+      local_rows : (P : VarId → Object → Type 0) → ((v : VarId) (object : Object) → IsLocal more object → is_local v sub ≡ true → object_declared p v ≡ Some object → P v object) → AllHold (HasRow more) P its_locals
       local_rows P follows = rows_of_locals (IsLocal more) (λ object k. k.1) locals_are P follows
 
-      in_annotations : AllByRecursion (HoldsIn more FormalRow) annotations
-      in_annotations = inside_holds more FormalRow name its_formals tt (formal_rows FormalRow (λ v object kind formal row. (formal, row)))
+      in_annotations : AllByRecursion (HoldsIn (HasRow more) FormalRow) annotations
+      in_annotations = inside_holds (HasRow more) FormalRow (predefined_have_rows more) name its_formals tt (formal_rows FormalRow (λ v object kind formal row. (formal, row)))
 
-      in_body : AllByRecursion (HoldsIn more Own) body
+      in_body : AllByRecursion (HoldsIn (HasRow more) Own) body
       in_body =
-          inside_holds more Own name (its_formals ++ its_names) tt
+          inside_holds (HasRow more) Own (predefined_have_rows more) name (its_formals ++ its_names) tt
           (each_append _ its_formals its_names (formal_rows Own (λ v object kind formal row. (or_left (is_formal v sub) (is_local v sub) formal, row)))
           (names_known.holds Own (local_rows Own (λ v object kind local row. (or_right (is_formal v sub) (is_local v sub) local, row)))))
 
@@ -415,19 +416,19 @@ module _ (p : Program) (more : List TypeRow) (types : p.types ≡ standard_types
 
       scoped_sub : Scoped p sub
       scoped_sub = record {
-        targets = λ v h. (assigned_variable more Own body in_body v (commands sub.statements) its_commands h).1.0;
-        read = λ v h. (read_variable more Own body in_body v (commands sub.statements) its_commands h).1.0;
-        exported = λ v h. (in_relation more FormalRow annotations in_annotations v (has_export v) (λ item. mentioned_variable more FormalRow annotations in_annotations v (exported_names item.exports)) s.derives (sym (exports_are v sub) ∙ h)).1.0;
-        imported = λ v h. (in_relation more FormalRow annotations in_annotations v (has_import v) (imported_variable more FormalRow annotations in_annotations v) s.derives (sym (imports_are v sub) ∙ h)).1.0;
+        targets = λ v h. (assigned_variable (HasRow more) Own body in_body v (commands sub.statements) its_commands h).1.0;
+        read = λ v h. (read_variable (HasRow more) Own body in_body v (commands sub.statements) its_commands h).1.0;
+        exported = λ v h. (in_relation (HasRow more) FormalRow annotations in_annotations v (has_export v) (λ item. mentioned_variable (HasRow more) FormalRow annotations in_annotations v (exported_names item.exports)) s.derives (sym (exports_are v sub) ∙ h)).1.0;
+        imported = λ v h. (in_relation (HasRow more) FormalRow annotations in_annotations v (has_import v) (imported_variable (HasRow more) FormalRow annotations in_annotations v) s.derives (sym (imports_are v sub) ∙ h)).1.0;
         formal_kinds = formal_kind;
         local_kinds = local_kind;
         once = positions_differ first (its_formals ++ its_locals);
         apart = no_local;
-        relation_modes = relation_has_modes p more FormalRow (λ v object h. h.1) annotations in_annotations s.derives;
-        target_modes = targets_have_modes p more Own (λ v object h. h.1) body in_body (commands sub.statements) its_commands;
-        body_names = command_as_declared p more Own (λ v object h. h.1) body in_body (commands sub.statements) its_commands;
-        pre_names = predicate_as_declared p more FormalRow (λ v object h. h.1) annotations in_annotations [] s.pre;
-        post_names = predicate_as_declared p more FormalRow (λ v object h. h.1) annotations in_annotations its_items s.post;
+        relation_modes = relation_has_modes p (HasRow more) FormalRow (λ v object h. h.1) annotations in_annotations s.derives;
+        target_modes = targets_have_modes p (HasRow more) Own (λ v object h. h.1) body in_body (commands sub.statements) its_commands;
+        body_names = command_as_declared p (HasRow more) Own (λ v object h. h.1) body in_body (commands sub.statements) its_commands;
+        pre_names = predicate_as_declared p (HasRow more) FormalRow (λ v object h. h.1) annotations in_annotations [] s.pre;
+        post_names = predicate_as_declared p (HasRow more) FormalRow (λ v object h. h.1) annotations in_annotations its_items s.post;
       }
 
   -- ---- programs
