@@ -1,8 +1,8 @@
 -- A result other than Later is the same at every greater bound.
-use Rattle.std.proofs.Common.{◌≡◌, ◌≢◌, ℕ, ◌≤◌, Bool, true, false, refl, sym, ap, ◌∙◌}
+use Rattle.std.proofs.Common.{◌≡◌, ◌≢◌, ℕ, zero, suc, ◌≤◌, Bool, true, false, refl, sym, ap, ◌∙◌, arith}
 use Rattle.std.specs.Prelude.{if◌then◌else◌}
 use Rattle.spx_core.specs.declared.expression.CoreExpr.{CoreExpr}
-use Rattle.spx_core.specs.Commands.{Command, Skip, Set, Then, Choose, Select, Check, Alternatives, Last, When, commands}
+use Rattle.spx_core.specs.Commands.{Command, Skip, Set, Then, Choose, Select, Assertion, While, Alternatives, Last, When, commands}
 use Rattle.spx_core.specs.Places.{place_of}
 use Rattle.spx_core.specs.Uses.{variable_of}
 use Rattle.spx_term.specs.declared.value.Value.{Value}
@@ -10,7 +10,7 @@ use Rattle.spx_term.specs.Meaning.{as_truth}
 use Rattle.spx_meaning.specs.Stores.{Store}
 use Rattle.spx_meaning.specs.Frames.{Frame, around}
 use Rattle.spx_meaning.specs.Evaluation.{Answer, Gives, Fails, Waits, eval}
-use Rattle.spx_meaning.specs.Runs.{Outcome, Ended, Left, Bad, Later, then_do, use_value, assign, demand_pre, entry_of, has_value, run, run_for, run_body}
+use Rattle.spx_meaning.specs.Runs.{Outcome, Ended, Left, Bad, Later, then_do, use_value, after_turn, assign, demand_pre, entry_of, has_value, turns, run, run_for, run_body}
 use Rattle.spx_meaning.specs.Laws.{CallsAreSettled, RunsAreSettled}
 use Rattle.spx_meaning.proofs.Callers.Evaluation.{eval_same}
 
@@ -23,6 +23,12 @@ kept_then (Ended t) o' go go' first second there = ap (λ z. then_do z go') (fir
 kept_then (Left t) o' go go' first second there = ap (λ z. then_do z go') (first (λ e. absurd (cc)))
 kept_then (Bad kind place) o' go go' first second there = ap (λ z. then_do z go') (first (λ e. absurd (cc)))
 kept_then Later o' go go' first second there = absurd (there refl)
+
+kept_turn : (o o' : Outcome) (go go' : Store → Outcome) → Kept o o' → ((t : Store) → Kept (go t) (go' t)) → Kept (after_turn o go) (after_turn o' go')
+kept_turn (Ended t) o' go go' first second there = ap (λ z. after_turn z go') (first (λ e. absurd (cc))) ∙ second t there
+kept_turn (Left t) o' go go' first second there = ap (λ z. after_turn z go') (first (λ e. absurd (cc)))
+kept_turn (Bad kind place) o' go go' first second there = ap (λ z. after_turn z go') (first (λ e. absurd (cc)))
+kept_turn Later o' go go' first second there = absurd (there refl)
 
 kept_use : (a : Answer) (go go' : Value → Outcome) → ((x : Value) → Kept (go x) (go' x)) → Kept (use_value a go) (use_value a go')
 kept_use (Gives x) go go' more there = more x there
@@ -40,6 +46,21 @@ eval_at f n m s e = eval_same f f n m s s e (λ v used. refl)
 kept_use_at : (a b : Answer) (go go' : Value → Outcome) → a ≡ b → ((x : Value) → Kept (go x) (go' x)) → Kept (use_value a go) (use_value b go')
 kept_use_at a b go go' same more there = ap (λ z. use_value z go') (sym same) ∙ kept_use a go go' more there
 
+same : (o : Outcome) → Kept o o
+same o there = refl
+
+nothing_yet : (o : Outcome) → Kept Later o
+nothing_yet o there = absurd (there refl)
+
+module _ (test : ℕ → Store → Answer) (body : ℕ → Store → Outcome) (test_at : (n m : ℕ) (s : Store) → test n s ≡ test m s) (body_kept : (n m : ℕ) → n ≤ m → (s : Store) → Kept (body n s) (body m s)) where
+  turns_kept : (n m : ℕ) → n ≤ m → (s : Store) → Kept (turns test body n s) (turns test body m s)
+  turns_kept zero zero less s = same _
+  turns_kept zero (suc m) less s = kept_use_at (test zero s) (test (suc m) s) _ _ (test_at zero (suc m) s) (λ x. kept_arm (as_truth x) Later (Ended s) _ (Ended s) (nothing_yet _) (same (Ended s)))
+  turns_kept (suc n) zero less s = absurd (omega arith)
+  turns_kept (suc n) (suc m) less s =
+      kept_use_at (test (suc n) s) (test (suc m) s) _ _ (test_at (suc n) (suc m) s)
+      (λ x. kept_arm (as_truth x) _ (Ended s) _ (Ended s) (kept_turn (body n s) (body m s) (turns test body n) (turns test body m) (body_kept n m (omega arith) s) (λ t. turns_kept n m (omega arith) t)) (same (Ended s)))
+
 mutual
   pub runs_kept : (f : Frame) (n m : ℕ) → n ≤ m → (s : Store) (c : Command) → Kept (run f n s c) (run f m s c)
   runs_kept f n m less s Skip = λ there. refl
@@ -52,7 +73,9 @@ mutual
   runs_kept f n m less s (Select place selector alternatives) =
       kept_use_at (eval f n s selector) (eval f m s selector) (λ x. run_for x f n s alternatives) (λ x. run_for x f m s alternatives) (eval_at f n m s selector)
       (λ x. one_kept x f n m less s alternatives)
-  runs_kept f n m less s (Check place condition) = λ there. refl
+  runs_kept f n m less s (Assertion kind place condition) = λ there. refl
+  runs_kept f n m less s (While place condition body) =
+      turns_kept (λ k t. eval f k t condition) (λ k t. run f k t body) (λ k j t. eval_at f k j t condition) (λ k j less t. runs_kept f k j less t body) n m less s
 
   one_kept : (x : Value) (f : Frame) (n m : ℕ) → n ≤ m → (s : Store) (alternatives : Alternatives) → Kept (run_for x f n s alternatives) (run_for x f m s alternatives)
   one_kept x f n m less s (Last choices a) = runs_kept f n m less s a
@@ -61,9 +84,6 @@ mutual
 
 pub runs_settled : RunsAreSettled
 runs_settled f s c n m less there = runs_kept f n m less s c there
-
-same : (o : Outcome) → Kept o o
-same o there = refl
 
 bodies_kept : (f : Frame) (n m : ℕ) → n ≤ m → Kept (run_body f n) (run_body f m)
 bodies_kept f n m less =

@@ -1,27 +1,27 @@
 -- What a variable is after two runs of a command is decided by what flows to it.
-use Rattle.std.proofs.Common.{◌≡◌, ℕ, Bool, true, false, ◌||◌, List, Some, refl, sym, ap, ◌∙◌, subst, inl, inr}
+use Rattle.std.proofs.Common.{◌≡◌, ℕ, Bool, true, false, ◌||◌, List, Some, refl, sym, ap, ◌∙◌, subst, inl, inr, ⊎_elim}
 use Rattle.std.specs.Prelude.{⊤, if◌then◌else◌}
 use Rattle.std.proofs.lemmas.Bool.{or_parts}
 use Rattle.spx_text.specs.declared.place.Place.{Place}
 use Rattle.spx_core.specs.declared.entity.VarId.{VarId}
 use Rattle.spx_core.specs.declared.name.Reference.{Reference}
 use Rattle.spx_core.specs.declared.expression.CoreExpr.{CoreExpr}
-use Rattle.spx_core.specs.Commands.{Command, Skip, Set, Then, Choose, Select, Check, Alternatives, Last, When}
+use Rattle.spx_core.specs.Commands.{Command, Skip, Set, Then, Choose, Select, Assertion, While, Alternatives, Last, When}
 use Rattle.spx_core.specs.Uses.{denotes}
-use Rattle.spx_core.specs.Effects.{Read, choose, effect, effect_among, is_read, reads_of, sets}
-use Rattle.spx_core.specs.Flow.{MayFlow}
+use Rattle.spx_core.specs.Effects.{Effect, Read, choose, repeat, effect, effect_among, is_read, reads_of, sets}
+use Rattle.spx_core.specs.Flow.{MayFlow, stay, advance}
 use Rattle.spx_term.specs.declared.value.Value.{Value}
 use Rattle.spx_term.specs.Meaning.{as_truth}
 use Rattle.spx_meaning.specs.Stores.{Store, look}
 use Rattle.spx_meaning.specs.Frames.{Frame}
-use Rattle.spx_meaning.specs.Evaluation.{eval}
+use Rattle.spx_meaning.specs.Evaluation.{Answer, Gives, eval}
 use Rattle.spx_meaning.specs.Annotations.{truth}
-use Rattle.spx_meaning.specs.declared.bad.BadKind.TheVariants as bad
-use Rattle.spx_meaning.specs.Runs.{Outcome, Ended, Left, Bad, Later, then_do, has_value, run, run_for}
+use Rattle.spx_meaning.specs.Runs.{Outcome, Ended, Left, Bad, Later, then_do, has_value, untrue, run, run_for}
 use Rattle.spx_meaning.specs.Laws.{Agree}
 use Rattle.spx_core.proofs.Callers.FlowLaws.{keeps, reads_uses}
 use Rattle.spx_meaning.proofs.Callers.Evaluation.{eval_same}
 use Rattle.spx_meaning.proofs.Callers.Runs.{same_store, same_gift, demand_ended, then_ended, use_ended, Assigns, assignment}
+use Rattle.spx_meaning.proofs.Callers.Loops.{Went, stopped, turned, LoopWent, went}
 
 -- ---- a variable that no part of a command sets keeps its value
 
@@ -29,6 +29,12 @@ use Rattle.spx_meaning.proofs.Callers.Runs.{same_store, same_gift, demand_ended,
 either_arm : (b : Bool) (o o' : Outcome) (t : Store) (P : Type 0) → (o ≡ Ended t → P) → (o' ≡ Ended t → P) → (if b then o else o') ≡ Ended t → P
 either_arm true o o' t P first second ended = first ended
 either_arm false o o' t P first second ended = second ended
+
+-- what every turn of a loop keeps, the loop keeps
+kept_in_turns : (test : ℕ → Store → Answer) (body : ℕ → Store → Outcome) (v : VarId) → ((n : ℕ) (s t : Store) → body n s ≡ Ended t → look t v ≡ look s v)
+    → (n : ℕ) (s s' : Store) → Went test body n s s' → look s' v ≡ look s v
+kept_in_turns test body v each n s s' (stopped x gives is) = refl
+kept_in_turns test body v each n s s' (turned {n = k} {t = t} x gives is turn rest) = kept_in_turns test body v each k t s' rest ∙ each k s t turn
 
 mutual
   pub kept : (f : Frame) (n : ℕ) (s s' : Store) (c : Command) (v : VarId) → run f n s c ≡ Ended s' → sets v (effect c) ≡ false → look s' v ≡ look s v
@@ -45,7 +51,9 @@ mutual
   kept f n s s' (Select place selector alternatives) v ended h =
       let used = use_ended (eval f n s selector) (λ x. run_for x f n s alternatives) s' ended in
       kept_among f n s s' used.0 (reads_of selector) place alternatives v used.2 h
-  kept f n s s' (Check place condition) v ended h = ap (λ x. look x v) (sym (demand_ended (truth f s condition) bad.Check place s s' ended).1)
+  kept f n s s' (Assertion kind place condition) v ended h = ap (λ x. look x v) (sym (demand_ended (truth f s condition) (untrue kind) place s s' ended).1)
+  kept f n s s' (While place condition body) v ended h =
+      kept_in_turns (λ k t. eval f k t condition) (λ k t. run f k t body) v (λ k t t' turn. kept f k t t' body v turn h) n s s' (went f n s s' place condition body ended)
 
   kept_among : (f : Frame) (n : ℕ) (s s' : Store) (x : Value) (tests : List Read) (place : Place) (alternatives : Alternatives) (v : VarId) → run_for x f n s alternatives ≡ Ended s' → sets v (effect_among tests place alternatives) ≡ false → look s' v ≡ look s v
   kept_among f n s s' x tests place (Last choices a) v ended h = kept f n s s' a v ended (or_parts (sets v (effect a)) (sets v (effect a)) h).0
@@ -181,27 +189,60 @@ module _ (f g : Frame) (n m : ℕ) where
     pair_select : ForOneValue → Pair (MayFlow (effect selection)) s t (run f n s selection) (run g m t selection)
     pair_select each = pair_of _ s t (run f n s selection) (run g m t selection) (λ s' t' ended ended' w agree. by_selected each s' t' ended ended' w agree (sets w (effect selection)) refl)
 
+-- what flows after a turn to what a loop sets flows to it before the turn
+turn_before : (tests : List Read) (e : Effect) (place : Place) (u v w : VarId) → MayFlow e u v → MayFlow (repeat tests e place) v w → MayFlow (repeat tests e place) u w
+turn_before tests e place u v w turn flow = ⊎_elim (λ steps. inl (advance turn steps)) (λ tested. inr (tested.0, tested.1, advance turn tested.2, tested.3)) flow
+
+module _ (f g : Frame) (place : Place) (condition : CoreExpr) (body : Command) (each : (n m : ℕ) (s t : Store) → Pair (MayFlow (effect body)) s t (run f n s body) (run g m t body)) where
+  abbrev loop : Command
+  loop = While place condition body
+
+  abbrev AgreeBefore : VarId → Store → Store → Type 0
+  AgreeBefore w s t = Agree (λ u. MayFlow (effect loop) u w) s t
+
+  -- two runs of a loop that sets the variable make one decision before each turn
+  same_test : (n m : ℕ) (s t : Store) (w : VarId) → sets w (effect body) ≡ true → AgreeBefore w s t → (x y : Value) → eval f n s condition ≡ Gives x → eval g m t condition ≡ Gives y → as_truth x ≡ as_truth y
+  same_test n m s t w is agree x y gives gives' =
+      ap as_truth (same_gift x y (sym gives ∙ eval_same f g n m s t condition (λ u h. agree u (inr (is, u, stay, reads_uses u condition ∙ h))) ∙ gives'))
+
+  lockstep : (w : VarId) → sets w (effect body) ≡ true → (n m : ℕ) (s t s' t' : Store) → LoopWent f condition body n s s' → LoopWent g condition body m t t' → AgreeBefore w s t → look s' w ≡ look t' w
+  lockstep w is n m s t s' t' (stopped x gives stop) (stopped y gives' stop') agree = agree w (inl stay)
+  lockstep w is n m s t s' t' (stopped x gives stop) (turned y gives' go_on turn' rest') agree = absurd (let h = same_test n m s t w is agree x y gives gives' in cc)
+  lockstep w is n m s t s' t' (turned x gives go_on turn rest) (stopped y gives' stop) agree = absurd (let h = same_test n m s t w is agree x y gives gives' in cc)
+  lockstep w is n m s t s' t' (turned {n = k} {t = a} x gives go_on turn rest) (turned {n = j} {t = b} y gives' go_on' turn' rest') agree =
+      lockstep w is k j a b s' t' rest rest'
+      (λ u flow. pair_ended (MayFlow (effect body)) s t a b (run f k s body) (run g j t body) (each k j s t) turn turn' u (λ v step. agree v (turn_before (reads_of condition) (effect body) place v u w step flow)))
+
+  by_turns : (n m : ℕ) (s t s' t' : Store) → run f n s loop ≡ Ended s' → run g m t loop ≡ Ended t' → (w : VarId) → AgreeBefore w s t → (d : Bool) → sets w (effect body) ≡ d → look s' w ≡ look t' w
+  by_turns n m s t s' t' ended ended' w agree true is = lockstep w is n m s t s' t' (went f n s s' place condition body ended) (went g m t t' place condition body ended') agree
+  by_turns n m s t s' t' ended ended' w agree false is = kept f n s s' loop w ended is ∙ agree w (inl stay) ∙ sym (kept g m t t' loop w ended' is)
+
+  pair_while : (n m : ℕ) (s t : Store) → Pair (MayFlow (effect loop)) s t (run f n s loop) (run g m t loop)
+  pair_while n m s t = pair_of _ s t (run f n s loop) (run g m t loop) (λ s' t' ended ended' w agree. by_turns n m s t s' t' ended ended' w agree (sets w (effect body)) refl)
+
+module _ (f g : Frame) where
   mutual
     -- the flows of a command decide any two runs of it
-    pub pairs : (s t : Store) (c : Command) → Pair (MayFlow (effect c)) s t (run f n s c) (run g m t c)
-    pairs s t Skip = λ w agree. agree w refl
-    pairs s t (Set target e) = pair_set s t target e
-    pairs s t (Then a b) = pair_then (MayFlow (effect a)) (MayFlow (effect b)) s t (run f n s a) (run g m t a) (λ x. run f n x b) (λ y. run g m y b) (pairs s t a) (λ s' t'. pairs s' t' b)
-    pairs s t (Choose place condition a b) = pair_choose s t place condition a b (pairs s t a) (pairs s t b)
-    pairs s t (Select place selector alternatives) = pair_select s t place selector alternatives (λ x. pairs_among s t x (reads_of selector) place alternatives)
-    pairs s t (Check place condition) =
-        pair_of (MayFlow (effect (Check place condition))) s t (run f n s (Check place condition)) (run g m t (Check place condition))
+    pub pairs : (n m : ℕ) (s t : Store) (c : Command) → Pair (MayFlow (effect c)) s t (run f n s c) (run g m t c)
+    pairs n m s t Skip = λ w agree. agree w refl
+    pairs n m s t (Set target e) = pair_set f g n m s t target e
+    pairs n m s t (Then a b) = pair_then (MayFlow (effect a)) (MayFlow (effect b)) s t (run f n s a) (run g m t a) (λ x. run f n x b) (λ y. run g m y b) (pairs n m s t a) (λ s' t'. pairs n m s' t' b)
+    pairs n m s t (Choose place condition a b) = pair_choose f g n m s t place condition a b (pairs n m s t a) (pairs n m s t b)
+    pairs n m s t (Select place selector alternatives) = pair_select f g n m s t place selector alternatives (λ x. pairs_among n m s t x (reads_of selector) place alternatives)
+    pairs n m s t (Assertion kind place condition) =
+        pair_of (MayFlow (effect (Assertion kind place condition))) s t (run f n s (Assertion kind place condition)) (run g m t (Assertion kind place condition))
         (λ s' t' ended ended' w agree.
-        let here = demand_ended (truth f s condition) bad.Check place s s' ended in
-        let there = demand_ended (truth g t condition) bad.Check place t t' ended' in
+        let here = demand_ended (truth f s condition) (untrue kind) place s s' ended in
+        let there = demand_ended (truth g t condition) (untrue kind) place t t' ended' in
         ap (λ x. look x w) (sym here.1) ∙ agree w refl ∙ ap (λ x. look x w) there.1)
+    pairs n m s t (While place condition body) = pair_while f g place condition body (λ k j a b. pairs k j a b body) n m s t
 
-    pairs_among : (s t : Store) (x : Value) (tests : List Read) (place : Place) (alternatives : Alternatives) → Pair (MayFlow (effect_among tests place alternatives)) s t (run_for x f n s alternatives) (run_for x g m t alternatives)
-    pairs_among s t x tests place (Last choices a) = pair_wider (MayFlow (effect a)) _ s t (run f n s a) (run g m t a) (λ u w flow. inl flow) (pairs s t a)
-    pairs_among s t x tests place (When choices a rest) =
+    pairs_among : (n m : ℕ) (s t : Store) (x : Value) (tests : List Read) (place : Place) (alternatives : Alternatives) → Pair (MayFlow (effect_among tests place alternatives)) s t (run_for x f n s alternatives) (run_for x g m t alternatives)
+    pairs_among n m s t x tests place (Last choices a) = pair_wider (MayFlow (effect a)) _ s t (run f n s a) (run g m t a) (λ u w flow. inl flow) (pairs n m s t a)
+    pairs_among n m s t x tests place (When choices a rest) =
         pair_arm (MayFlow (choose tests (effect a) (effect_among tests place rest) place)) s t (has_value choices x) (run f n s a) (run g m t a) (run_for x f n s rest) (run_for x g m t rest)
-        (pair_wider (MayFlow (effect a)) _ s t (run f n s a) (run g m t a) (λ u w flow. inl flow) (pairs s t a))
-        (pair_wider (MayFlow (effect_among tests place rest)) _ s t (run_for x f n s rest) (run_for x g m t rest) (λ u w flow. inr (inl flow)) (pairs_among s t x tests place rest))
+        (pair_wider (MayFlow (effect a)) _ s t (run f n s a) (run g m t a) (λ u w flow. inl flow) (pairs n m s t a))
+        (pair_wider (MayFlow (effect_among tests place rest)) _ s t (run_for x f n s rest) (run_for x g m t rest) (λ u w flow. inr (inl flow)) (pairs_among n m s t x tests place rest))
 
 pub determined : (f g : Frame) (n m : ℕ) (s t s' t' : Store) (c : Command) → run f n s c ≡ Ended s' → run g m t c ≡ Ended t' → Determined (MayFlow (effect c)) s t s' t'
 determined f g n m s t s' t' c ended ended' = pair_ended (MayFlow (effect c)) s t s' t' (run f n s c) (run g m t c) (pairs f g n m s t c) ended ended'
