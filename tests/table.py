@@ -2309,7 +2309,7 @@ def documented():
                   'F1 missing: X from X', 'F4 unset: X')
     yield refused('limit_with_an_arm_that_does_nothing.adb', at_end(limit.replace('X := 100', 'null')),
                   'F1 missing: X from X', 'F4 unset: X')
-    for name, total, named in (('swap', 4, 'Swap'), ('clamp', 8, 'Clamp')):
+    for name, total, named in (('swap', 4, 'Swap'), ('clamp', 8, 'Clamp'), ('blend', 9, 'Blend')):
         yield accepted(f'{name}.adb', (TOP / 'examples' / f'{name}.adb').read_text(encoding='utf-8'), total, named=named)
     share = (TOP / 'examples' / 'guard.adb').read_text(encoding='utf-8')
     yield accepted('guard.adb', share, 1, named='Share')
