@@ -422,6 +422,7 @@ module _ (p : Program) (more : List TypeRow) (types : p.types ≡ standard_types
         imported = λ v h. (in_relation (HasRow more) FormalRow annotations in_annotations v (has_import v) (imported_variable (HasRow more) FormalRow annotations in_annotations v) s.derives (sym (imports_are v sub) ∙ h)).1.0;
         formal_kinds = formal_kind;
         local_kinds = local_kind;
+        local_types = λ v h. let one = local_as (IsLocal more) (λ object k. k.1) locals_are v h in (one.0, one.1);
         once = positions_differ first (its_formals ++ its_locals);
         apart = no_local;
         relation_modes = relation_has_modes p (HasRow more) FormalRow (λ v object h. h.1) annotations in_annotations s.derives;

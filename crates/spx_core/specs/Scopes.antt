@@ -90,6 +90,7 @@ pub record Scoped (p : Program) (sub : Sub) : Type 0 where
   pub imported : (v : VarId) → imports v sub ≡ true → is_formal v sub ≡ true
   pub formal_kinds : (v : VarId) → is_formal v sub ≡ true → (mode : Mode) × (kind_of p v ≡ Some (Formal mode))
   pub local_kinds : (v : VarId) → is_local v sub ≡ true → (kind : VarKind) × (kind_of p v ≡ Some kind) × IsLocalKind kind
+  pub local_types : (v : VarId) → is_local v sub ≡ true → (object : Object) × (object_declared p v ≡ Some object)
   pub once : IsDistinct (λ (v : VarId) (w : VarId). w.0 == v.0) sub.vars
   pub apart : (v : VarId) → is_formal v sub ≡ true → is_local v sub ≡ false
   pub relation_modes : All (HaveTheirModes p) (relation sub)
