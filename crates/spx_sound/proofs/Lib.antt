@@ -7,7 +7,10 @@ pub mod NeverBadExpressions
 pub mod NeverBadAnnotations
 pub mod Extents
 pub mod Selections
+pub mod NeverBadStores
+pub mod NeverBadLoops
 pub mod NeverBadBodies
 pub mod NeverUnset
 pub mod NeverBad
+pub mod SortedTrees
 pub mod CleanConditions

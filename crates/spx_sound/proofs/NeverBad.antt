@@ -22,7 +22,7 @@ use Rattle.spx_core.specs.Dependency.{exports, imports}
 use Rattle.spx_core.specs.Formals.{formals, mode_of, initial_in, initial_of, is_formal, is_local, locals, stands_in}
 use Rattle.spx_core.specs.FlowRules.{HasNoFinding, body_effect, read, left}
 use Rattle.spx_core.specs.Rules.{ObeysRules}
-use Rattle.spx_core.specs.Scopes.{Scoped, StartsInType, kind_of, object_declared, object_in}
+use Rattle.spx_core.specs.Scopes.{Scoped, StartsInType, TypesHaveValues, kind_of, object_declared, object_in}
 use Rattle.spx_core.specs.Effects.{defines, effect, reads}
 use Rattle.spx_core.specs.Types.{has_truths, is_between, is_true}
 use Rattle.spx_term.specs.declared.condition.CondKind.TheVariants.{Post as PostCondition}
@@ -56,11 +56,13 @@ use Rattle.spx_paths.specs.Fit.{HasValidConditions, Fit}
 use Rattle.spx_core.proofs.Callers.ListTests.{each_append}
 use Rattle.spx_sound.proofs.Typings.{TypedSub, typed_subs}
 use Rattle.spx_sound.proofs.NeverBadTrees.{AllHold, changed, Safe, each_flat_map, assumed, safe_sub}
-use Rattle.spx_sound.proofs.NeverBadRuns.{Never, Good, good_then, good_demand, joined}
+use Rattle.spx_sound.proofs.NeverBadRuns.{Never, Nowhere, Good, good_then, good_demand, joined}
 use Rattle.spx_sound.proofs.NeverBadExpressions.{type_facts, AgreesWith, static_term_value}
-use Rattle.spx_sound.proofs.NeverBadAnnotations.{parts_where_true}
+use Rattle.spx_sound.proofs.NeverBadAnnotations.{now_terms, parts_where_true}
 use Rattle.spx_sound.proofs.Extents.{AreInTypes}
-use Rattle.spx_sound.proofs.NeverBadBodies.{same_name-Decides, Fits, Reaches, Spares, asserted_good, stays, walk_good}
+use Rattle.spx_sound.proofs.NeverBadStores.{same_name-Decides, Fits, Reaches, Spares, asserted_good, stays}
+use Rattle.spx_sound.proofs.NeverBadLoops.{Began}
+use Rattle.spx_sound.proofs.NeverBadBodies.{walk_good}
 use Rattle.spx_sound.proofs.NeverUnset.{IsClear, Passes, never_unset, reaches_reads}
 
 -- ---- the valuation of a store
@@ -198,7 +200,7 @@ cleared_other p s (v ∷ vars) w none =
 
 -- ---- a call
 
-module _ (p : Program) (sub : Sub) (scoped : Scoped p sub) (initial : StartsInType p sub) (obeys : ObeysRules p sub) where
+module _ (p : Program) (sub : Sub) (scoped : Scoped p sub) (initial : StartsInType p sub) (types : TypesHaveValues p) (obeys : ObeysRules p sub) where
   -- what is imported is set on entry
   import_starts_set : (x : VarId) → imports x sub ≡ true → starts_new p x ≡ false
   import_starts_set x import =
@@ -271,12 +273,14 @@ module _ (p : Program) (sub : Sub) (scoped : Scoped p sub) (initial : StartsInTy
         ]
 
     first_in_types : AreInTypes p first
-    first_in_types x object w declared is =
+    first_in_types x w is =
         elim (first_value x w is) [
           | inl before ↦ before
           | inr here ↦
-              let of = type_is p x object declared in
-              let between = initial x object here.0 here.1 declared (declared_initial p x object here.0 declared here.2) in
+              let row = scoped.local_types x here.1 in
+              let object = row.0 in
+              let of = type_is p x object row.1 in
+              let between = initial x object here.0 here.1 row.1 (declared_initial p x object here.0 row.1 here.2) in
               subst (λ (t : Subtype). is_in t w ≡ true) (sym of)
               (subst (λ u. is_in object.subtype u ≡ true) (sym (here.3 ∙ ap (λ (t : Subtype). value_in_type t here.0) of)) (static_within object.subtype.base.class object.subtype.first object.subtype.last here.0 between))
         ]
@@ -300,6 +304,9 @@ module _ (p : Program) (sub : Sub) (scoped : Scoped p sub) (initial : StartsInTy
     pre_first (Some pre) is h =
         ap as_truth (meant_same frame (around p sub s) refl first s pre.condition (λ x used. kept_import x (obeys.precondition pre x is used)) (λ x used. kept_import x (obeys.precondition pre x is used))) ∙ h
 
+    first_began : Began frame
+    first_began = record { types = types; in_types = first_in_types; precondition = pre_first sub.pre refl start.precondition }
+
     -- ---- checks
 
     -- the facts at the start hold
@@ -315,7 +322,7 @@ module _ (p : Program) (sub : Sub) (scoped : Scoped p sub) (initial : StartsInTy
 
     pre_facts_hold : (pre : Option CorePredicate) → pre_holds frame pre first ≡ true → AllHold first_valuation (pre_facts p sub pre)
     pre_facts_hold None h = tt
-    pre_facts_hold (Some pre) h = parts_where_true frame first first_valuation first_agrees (entry_term p sub) first_anchored pre.condition h
+    pre_facts_hold (Some pre) h = parts_where_true frame first first_valuation (now_term p) (entry_term p sub) (now_terms p first first_valuation first_agrees) first_anchored pre.condition h
 
     abbrev body_tree : Tree
     body_tree = walk p sub (commands sub.statements) (ending p sub) (ending p sub) 0
@@ -381,38 +388,38 @@ module _ (p : Program) (sub : Sub) (scoped : Scoped p sub) (initial : StartsInTy
     abbrev IsDone : Store → Type 0
     IsDone t = Reaches frame (ending p sub) t × Passes (body_effect sub) first t
 
-    body_good : HasNoFinding p sub → TypedSub sub → HasValidConditions p sub → (n : ℕ) → Good Never (body_run n) IsDone (λ t. ⊤)
+    body_good : HasNoFinding p sub → TypedSub sub → HasValidConditions p sub → (n : ℕ) → Good Never (body_run n) IsDone Nowhere
     body_good flows typed valid n =
-        joined (body_run n) (Reaches frame (ending p sub)) (Passes (body_effect sub) first) (Reaches frame (ending p sub)) (λ t. ⊤)
-        (walk_good frame n (commands sub.statements) (ending p sub) (ending p sub) 0 first first_valuation typed.statements scoped.body_names import_is_spared first_fits (body_safe valid))
-        (never_unset frame n first (commands sub.statements) (first_clear flows))
+        joined (body_run n) (Reaches frame (ending p sub)) (Passes (body_effect sub) first) (Reaches frame (ending p sub)) Nowhere
+        (walk_good frame first_began (commands sub.statements) n (ending p sub) (ending p sub) 0 first first_valuation typed.statements scoped.body_names import_is_spared (λ v respects. (safe_sub p sub valid v respects).1) first_fits (body_safe valid))
+        (never_unset frame (commands sub.statements) n first (first_clear flows))
 
     pre_good : (pre : Option CorePredicate) → pre_holds frame pre first ≡ true → demand_pre frame pre first ≡ Ended first
     pre_good None h = refl
     pre_good (Some pre) h = ap (λ b. demand b Pre pre.place first) h
 
     -- there the postcondition is true
-    post_good : (post : Option CorePredicate) (t : Store) (v : Valuation) → Fits frame t v → Safe (ending_with p sub post) v → Good Never (demand_post frame post t) (λ t. ⊤) (λ t. ⊤)
+    post_good : (post : Option CorePredicate) (t : Store) (v : Valuation) → Fits frame t v → Safe (ending_with p sub post) v → Good Never (demand_post frame post t) (λ t. ⊤) Nowhere
     post_good None t v fits safe = tt
     post_good (Some post) t v fits safe =
-        good_demand Never (truth frame t post.condition) Post post.place t (λ t. ⊤) (λ t. ⊤) tt
+        good_demand Never (truth frame t post.condition) Post post.place t (λ t. ⊤) Nowhere tt
         (λ untrue. both_ways (truth frame t post.condition) untrue (asserted_good frame PostCondition post.place post.condition Cut t v fits safe).0)
 
-    call_good : HasNoFinding p sub → TypedSub sub → HasValidConditions p sub → (n : ℕ) → Good Never (call p n sub s) (λ t. ⊤) (λ t. ⊤)
+    call_good : HasNoFinding p sub → TypedSub sub → HasValidConditions p sub → (n : ℕ) → Good Never (call p n sub s) (λ t. ⊤) Nowhere
     call_good flows typed valid n =
         let look_after : Store → Outcome = λ t. demand_post frame sub.post t in
         let ending_of : Store → Outcome = λ t. then_do (demand (exports_set sub t) Unset sub.end t) look_after in
-        subst (λ o. Good Never (then_do o (λ e. then_do (run frame n e (commands sub.statements)) ending_of)) (λ t. ⊤) (λ t. ⊤)) (sym (pre_good sub.pre (pre_first sub.pre refl start.precondition)))
-        (good_then Never (body_run n) ending_of IsDone (λ t. ⊤) (λ t. ⊤) (body_good flows typed valid n)
+        subst (λ o. Good Never (then_do o (λ e. then_do (run frame n e (commands sub.statements)) ending_of)) (λ t. ⊤) Nowhere) (sym (pre_good sub.pre (pre_first sub.pre refl start.precondition)))
+        (good_then Never (body_run n) ending_of IsDone (λ t. ⊤) Nowhere (body_good flows typed valid n)
         (λ t done.
         let known = done.0 in
-        subst (λ b. Good Never (then_do (demand b Unset sub.end t) look_after) (λ t. ⊤) (λ t. ⊤)) (sym (exports_good flows t done.1 (formals sub))) (post_good sub.post t known.valuation known.fits known.safe)))
+        subst (λ b. Good Never (then_do (demand b Unset sub.end t) look_after) (λ t. ⊤) Nowhere) (sym (exports_good flows t done.1 (formals sub))) (post_good sub.post t known.valuation known.fits known.safe)))
 
   pub is_never_bad : HasNoFinding p sub → TypedSub sub → HasValidConditions p sub → IsNeverBad p sub
-  is_never_bad flows typed valid n s start kind place bad = subst (λ o. Good Never o (λ t. ⊤) (λ t. ⊤)) bad (call_good s start flows typed valid n)
+  is_never_bad flows typed valid n s start kind place bad = subst (λ o. Good Never o (λ t. ⊤) Nowhere) bad (call_good s start flows typed valid n)
 
 -- ---- programs
 
-pub never_bad : (p : Program) → All (Scoped p) p.subs → All (StartsInType p) p.subs → All (ObeysRules p) p.subs → Fit p → NeverBad p
-never_bad p scoped initial obeys fit k d within =
-    is_never_bad p (get_or p.subs k d) (scoped k d within) (initial k d within) (obeys k d within) (fit.flows k d within) (typed_subs p fit.typed k d within) (fit.conditions k d within)
+pub never_bad : (p : Program) → All (Scoped p) p.subs → All (StartsInType p) p.subs → TypesHaveValues p → All (ObeysRules p) p.subs → Fit p → NeverBad p
+never_bad p scoped initial types obeys fit k d within =
+    is_never_bad p (get_or p.subs k d) (scoped k d within) (initial k d within) types (obeys k d within) (fit.flows k d within) (typed_subs p fit.typed k d within) (fit.conditions k d within)

@@ -23,6 +23,7 @@ use Rattle.spx_core.specs.declared.expression.CoreExpr.TheVariants.{Name, Attrib
 use Rattle.spx_core.specs.declared.rule.ExprType.{ExprType}
 use Rattle.spx_core.specs.declared.rule.ExprType.TheVariants.{Universal, Of}
 use Rattle.spx_core.specs.declared.rule.Typing.{Typing}
+use Rattle.spx_core.specs.declared.program.Program.{Program}
 use Rattle.spx_core.specs.declared.function.Mapping.{Mapping}
 use Rattle.spx_core.specs.declared.function.Shift.{Shift}
 use Rattle.spx_core.specs.declared.function.Shift.TheVariants as shift
@@ -43,12 +44,12 @@ use Rattle.spx_meaning.specs.Frames.{Frame}
 use Rattle.spx_meaning.specs.Literals.{literal, literal_in, value_of as value_in}
 use Rattle.spx_meaning.specs.Evaluation.{applied, applied_sign, first_in, last_in, member, term_op, mapped_value, moved}
 use Rattle.spx_meaning.specs.Annotations.{meant, meant_step, value_or, value_or_zero}
-use Rattle.spx_paths.specs.Terms.{first_term, last_term, member_term, named, now_term, literal_or, signed_term, term_of, term_with-Parenthesized, term_with-Prefix, term_with-Infix, term_with-InType, term_with-InRange, term_with-Name, term_with-Entry, term_with-Attribute, mapped_term, term_with-Applied}
+use Rattle.spx_paths.specs.Terms.{first_term, last_term, member_term, named, now, now_term, literal_or, signed_term, term_with, term_with-Number, term_with-Parenthesized, term_with-Prefix, term_with-Infix, term_with-InType, term_with-InRange, term_with-Name, term_with-Entry, term_with-Attribute, mapped_term, term_with-Applied}
 use Rattle.spx_core.proofs.Callers.Expressions.{Cases, induct, fold-Number, fold-Name, fold-Entry, fold-Attribute, fold-Parenthesized, fold-Prefix, fold-Infix, fold-InType, fold-InRange, fold-Applied}
 use Rattle.spx_sound.proofs.Classes.{number_is_ordered, numbers_are_ordered, numeric_has_numbers, of_numbers}
 use Rattle.spx_sound.proofs.Typings as typed
 use Rattle.spx_sound.proofs.NeverBadTrees.{AllHold}
-use Rattle.spx_sound.proofs.NeverBadExpressions.{truth_from, static_term_value, signed_term_value, member_type_value, member_value as member_term_value, value-Number, named_value, value-named, AgreesWith, mapped_term_value}
+use Rattle.spx_sound.proofs.NeverBadExpressions.{truth_from, static_term_value, signed_term_value, member_type_value, member_value as member_term_value, AgreesWith, mapped_term_value}
 
 -- ---- numbers and truth values
 
@@ -354,22 +355,22 @@ module _ (f : Frame) (s : Store) where
 
 -- ---- annotations
 
--- where these terms have the values on entry
-module _ (f : Frame) (s : Store) (v : Valuation) (agrees : AgreesWith f.program s v) (entered : VarId → Term) (anchored : (x : VarId) → value_of v (entered x) ≡ reading f.program f.entry x) where
+-- the terms of the present values have them
+pub now_terms : (p : Program) (s : Store) (v : Valuation) → AgreesWith p s v → (x : VarId) → value_of v (now_term p x) ≡ reading p s x
+now_terms p s v agrees x = terms.fold-Variable (value_step v) (now p x) ∙ agrees x
+
+-- where these terms have the present values, and these the values on entry
+module _ (f : Frame) (s : Store) (v : Valuation) (present entered : VarId → Term) (presents : (x : VarId) → value_of v (present x) ≡ reading f.program s x) (anchored : (x : VarId) → value_of v (entered x) ≡ reading f.program f.entry x) where
   abbrev the_term : CoreExpr → Term
-  the_term e = term_of f.program entered e
+  the_term e = term_with present entered e
 
-  reading_good : (o : Option VarId) → reading_of f.program s o ≡ named_value v f.program o
-  reading_good (Some x) = sym (agrees x)
-  reading_good None = refl
+  named_means : (at : Store) (stands : VarId → Term) → ((x : VarId) → value_of v (stands x) ≡ reading f.program at x) → (o : Option VarId) → reading_of f.program at o ≡ value_of v (named stands o)
+  named_means at stands worth (Some x) = sym (worth x)
+  named_means at stands worth None = sym (terms.fold-Number (value_step v) (pos 0))
 
-  entry_means : (o : Option VarId) → reading_of f.program f.entry o ≡ value_of v (named entered o)
-  entry_means (Some x) = sym (anchored x)
-  entry_means None = sym (terms.fold-Number (value_step v) (pos 0))
-
-  name_means : (o : Option VarId) (l : Option Value) → value_or l (reading_of f.program s o) ≡ value_of v (literal_or l (named (now_term f.program) o))
+  name_means : (o : Option VarId) (l : Option Value) → value_or l (reading_of f.program s o) ≡ value_of v (literal_or l (named present o))
   name_means o (Some x) = sym (static_term_value v x)
-  name_means o None = reading_good o ∙ sym (value-named v f.program o)
+  name_means o None = named_means s present presents o
 
   attribute_means : (l : Option Value) → value_or_zero l ≡ value_of v (literal_or l (term.Number (pos 0)))
   attribute_means (Some x) = sym (static_term_value v x)
@@ -392,34 +393,34 @@ module _ (f : Frame) (s : Store) (v : Valuation) (agrees : AgreesWith f.program 
 
   means_cases : Cases MeansItsTerm
   means_cases = record {
-    number = λ n place. fold-Number (meant_step f s) n place ∙ sym (value-Number v f.program entered n place);
+    number = λ n place. fold-Number (meant_step f s) n place ∙ sym (ap (value_of v) (term_with-Number present entered n place) ∙ terms.fold-Number (value_step v) n);
     name = λ name.
         fold-Name (meant_step f s) name
         ∙ ap (λ j. value_or (literal_in j) (reading_of f.program s (variable_of name.entity))) (sym (fold-Name expr_step name))
         ∙ name_means (variable_of name.entity) (literal (Name name))
-        ∙ ap (value_of v) (sym (term_with-Name (now_term f.program) entered name));
+        ∙ ap (value_of v) (sym (term_with-Name present entered name));
     entry = λ name allowed.
-        fold-Entry (meant_step f s) name allowed ∙ entry_means (variable_of name.entity) ∙ ap (value_of v) (sym (term_with-Entry (now_term f.program) entered name allowed));
+        fold-Entry (meant_step f s) name allowed ∙ named_means f.entry entered anchored (variable_of name.entity) ∙ ap (value_of v) (sym (term_with-Entry present entered name allowed));
     attribute = λ prefix designator.
         fold-Attribute (meant_step f s) prefix designator
         ∙ ap (λ j. value_or_zero (literal_in j)) (sym (fold-Attribute expr_step prefix designator))
         ∙ attribute_means (literal (Attribute prefix designator))
-        ∙ ap (value_of v) (sym (term_with-Attribute (now_term f.program) entered prefix designator));
+        ∙ ap (value_of v) (sym (term_with-Attribute present entered prefix designator));
     applied = λ function place a g.
-        means_or (Applied function place a) (mapped_term (application function) (the_term a)) (term_with-Applied (now_term f.program) entered function place a)
+        means_or (Applied function place a) (mapped_term (application function) (the_term a)) (term_with-Applied present entered function place a)
         (fold-Applied (meant_step f s) function place a ∙ ap (mapped_value (application function)) g ∙ sym (mapped_term_value v (application function) (the_term a)));
-    parenthesized = λ place a g. fold-Parenthesized (meant_step f s) place a ∙ g ∙ ap (value_of v) (sym (term_with-Parenthesized (now_term f.program) entered place a));
+    parenthesized = λ place a g. fold-Parenthesized (meant_step f s) place a ∙ g ∙ ap (value_of v) (sym (term_with-Parenthesized present entered place a));
     prefix = λ o place a g.
-        means_or (Prefix o place a) (signed_term o (the_term a)) (term_with-Prefix (now_term f.program) entered o place a)
+        means_or (Prefix o place a) (signed_term o (the_term a)) (term_with-Prefix present entered o place a)
         (fold-Prefix (meant_step f s) o place a ∙ ap (applied_sign o) g ∙ sym (signed_term_value v o (the_term a)));
     «infix» = λ o place a b g h.
-        means_or (Infix o place a b) (term.Infix (term_op o) (the_term a) (the_term b)) (term_with-Infix (now_term f.program) entered o place a b)
+        means_or (Infix o place a b) (term.Infix (term_op o) (the_term a) (the_term b)) (term_with-Infix present entered o place a b)
         (fold-Infix (meant_step f s) o place a b ∙ ap₂ (applied o) g h ∙ sym (terms.fold-Infix (value_step v) (term_op o) (the_term a) (the_term b)));
     in_type = λ o place a name g.
-        means_or (InType o place a name) (member_term o (the_term a) (first_term name) (last_term name)) (term_with-InType (now_term f.program) entered o place a name)
+        means_or (InType o place a name) (member_term o (the_term a) (first_term name) (last_term name)) (term_with-InType present entered o place a name)
         (fold-InType (meant_step f s) o place a name ∙ ap (λ w. member o w (first_in name) (last_in name)) g ∙ sym (member_type_value v o (the_term a) name));
     in_range = λ o place a low high g h k.
-        means_or (InRange o place a low high) (member_term o (the_term a) (the_term low) (the_term high)) (term_with-InRange (now_term f.program) entered o place a low high)
+        means_or (InRange o place a low high) (member_term o (the_term a) (the_term low) (the_term high)) (term_with-InRange present entered o place a low high)
         (fold-InRange (meant_step f s) o place a low high
         ∙ ap (λ w. member o w (meant f s low) (meant f s high)) g
         ∙ ap₂ (member o (value_of v (the_term a))) h k

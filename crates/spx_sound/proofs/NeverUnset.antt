@@ -1,8 +1,10 @@
 -- Where no way leads from an unset variable to a read of it, a command reads none.
-use Rattle.std.proofs.Common.{◌≡◌, ℕ, Bool, true, false, ◌==◌, if◌then◌else◌, List, [], ◌++◌, pos, int_lt, Option, Some, None, refl, sym, ◌∙◌, subst, inl, inr, Ok, Err, ◌||◌}
-use Rattle.std.specs.Prelude.{⊤, Contains}
+use Rattle.std.proofs.Common.{◌≡◌, ℕ, zero, suc, append_assoc, ap, Bool, true, false, ◌==◌, if◌then◌else◌, List, [], ◌++◌, pos, int_lt, Option, Some, None, refl, sym, ◌∙◌, subst, inl, inr, Ok, Err, ◌||◌}
+use Rattle.std.specs.Prelude.{Contains}
 use Rattle.std.proofs.lemmas.Bool.{eq-eqb, eqb-true, or_left, or_right}
 use Rattle.spx_text.specs.declared.place.Place.{Place}
+use Rattle.spx_tree.specs.declared.statement.AssertionKind.{AssertionKind}
+use Rattle.spx_tree.specs.declared.statement.AssertionKind.TheVariants as assertion
 use Rattle.spx_tree.specs.declared.expression.InfixOp.{InfixOp}
 use Rattle.spx_tree.specs.declared.expression.InfixOp.TheVariants as op
 use Rattle.spx_tree.specs.declared.expression.PrefixOp.{PrefixOp}
@@ -15,12 +17,12 @@ use Rattle.spx_core.specs.declared.expression.CoreExpr.{CoreExpr}
 use Rattle.spx_core.specs.declared.expression.CoreExpr.TheVariants.{Name, Attribute, Applied, Prefix, Infix, InType, InRange}
 use Rattle.spx_core.specs.declared.function.Mapping.{Mapping}
 use Rattle.spx_core.specs.declared.function.Span.{Span}
-use Rattle.spx_core.specs.Commands.{Command, Skip, Set, Then, Choose, Select, Check, Alternatives, Last, When}
-use Rattle.spx_core.specs.Effects.{Effect, Read, assign as assigns, effect, reads_of, choose, effect_among, nothing, next, observe, is_read, reads}
+use Rattle.spx_core.specs.Commands.{Command, Skip, Set, Then, Choose, Select, Assertion, While, Alternatives, Last, When}
+use Rattle.spx_core.specs.Effects.{Effect, Read, assign as assigns, effect, reads_of, choose, effect_among, nothing, next, observe, repeat, is_read, reads}
 use Rattle.spx_core.specs.Formals.{stands_in}
 use Rattle.spx_core.specs.Places.{place_of}
 use Rattle.spx_core.specs.Uses.{is_same, uses, variable_of}
-use Rattle.spx_core.specs.Ways.{Free, Goes, Reaches}
+use Rattle.spx_core.specs.Ways.{Free, Goes, Reaches, no_turn, turn}
 use Rattle.spx_core.specs.Judged.{Judged, application}
 use Rattle.spx_core.proofs.Callers.Expressions.{Cases, induct}
 use Rattle.spx_core.proofs.Callers.FlowLaws.{goes_free, reads_uses, without}
@@ -30,15 +32,15 @@ use Rattle.spx_core.proofs.Callers.Variables.{same_var}
 use Rattle.spx_term.specs.declared.value.Value.{Value}
 use Rattle.spx_term.specs.declared.value.Value.TheVariants as value
 use Rattle.spx_term.specs.Meaning.{as_number, as_truth, same_value}
-use Rattle.spx_meaning.specs.declared.bad.BadKind.TheVariants.{Division, Overflow, Range, Check as CheckBad}
+use Rattle.spx_meaning.specs.declared.bad.BadKind.TheVariants.{Division, Overflow, Range}
 use Rattle.spx_meaning.specs.Stores.{Store, look, put, type_of, is_in, is_within}
 use Rattle.spx_meaning.specs.Frames.{Frame}
 use Rattle.spx_meaning.specs.Literals.{base_of, literal}
 use Rattle.spx_meaning.specs.Evaluation.{Answer, Gives, Fails, with_value, applied, applied_sign, decided, first_in, in_base, last_in, checked, member, signed, read, read_at, static_or, unless_negative, unless_zero, eval, eval-Number, eval-Name, eval-Entry, eval-Attribute, eval-Parenthesized, eval-Prefix, eval-Infix, eval-InType, eval-InRange, eval-Applied, mapping_checked, moved, within_bounds}
 use Rattle.spx_meaning.specs.Annotations.{truth}
-use Rattle.spx_meaning.specs.Runs.{assign, run, Outcome, has_value, run_for}
+use Rattle.spx_meaning.specs.Runs.{Ended, Later, after_turn, assign, run, Outcome, has_value, run_for, untrue}
 use Rattle.spx_meaning.proofs.Callers.Stores.{look-put_either}
-use Rattle.spx_sound.proofs.NeverBadRuns.{IsOther, HasGoodKind, kind_with, kind_use, Good, good_then, good_if, good_demand, good_weaker}
+use Rattle.spx_sound.proofs.NeverBadRuns.{IsOther, HasGoodKind, kind_with, kind_use, Nowhere, Good, good_after, good_then, good_if, good_demand, good_weaker}
 
 -- ---- expressions
 
@@ -167,14 +169,14 @@ abbrev pub Passes : Effect → Store → Store → Type 0
 Passes e s t = (v : VarId) → look t v ≡ None → (look s v ≡ None) × Free (Goes e) v
 
 -- what has run as an arm of a choice has run as the choice
-first_arm : (s : Store) (tests : List Read) (a b : Effect) (place : Place) (o : Outcome) → (IsClear a s → Good IsOther o (Passes a s) (λ t. ⊤)) → IsClear (choose tests a b place) s → Good IsOther o (Passes (choose tests a b place) s) (λ t. ⊤)
+first_arm : (s : Store) (tests : List Read) (a b : Effect) (place : Place) (o : Outcome) → (IsClear a s → Good IsOther o (Passes a s) Nowhere) → IsClear (choose tests a b place) s → Good IsOther o (Passes (choose tests a b place) s) Nowhere
 first_arm s tests a b place o first clear =
-    good_weaker IsOther o (Passes a s) (Passes (choose tests a b place) s) (λ t. ⊤) (λ t. ⊤) (first (λ at v unset way. clear at v unset (way.0, inr (inl way.1), way.2)))
+    good_weaker IsOther o (Passes a s) (Passes (choose tests a b place) s) Nowhere Nowhere (first (λ at v unset way. clear at v unset (way.0, inr (inl way.1), way.2)))
     (λ t goes v unset. let g = goes v unset in (g.0, (g.1.0, inl g.1.1, g.1.2))) (λ t l. l)
 
-second_arm : (s : Store) (tests : List Read) (a b : Effect) (place : Place) (o : Outcome) → (IsClear b s → Good IsOther o (Passes b s) (λ t. ⊤)) → IsClear (choose tests a b place) s → Good IsOther o (Passes (choose tests a b place) s) (λ t. ⊤)
+second_arm : (s : Store) (tests : List Read) (a b : Effect) (place : Place) (o : Outcome) → (IsClear b s → Good IsOther o (Passes b s) Nowhere) → IsClear (choose tests a b place) s → Good IsOther o (Passes (choose tests a b place) s) Nowhere
 second_arm s tests a b place o second clear =
-    good_weaker IsOther o (Passes b s) (Passes (choose tests a b place) s) (λ t. ⊤) (λ t. ⊤) (second (λ at v unset way. clear at v unset (way.0, inr (inr way.1), way.2)))
+    good_weaker IsOther o (Passes b s) (Passes (choose tests a b place) s) Nowhere Nowhere (second (λ at v unset way. clear at v unset (way.0, inr (inr way.1), way.2)))
     (λ t goes v unset. let g = goes v unset in (g.0, (g.1.0, inr g.1.1, g.1.2))) (λ t l. l)
 
 -- a way to a read of a selector sets nothing
@@ -198,6 +200,36 @@ reaches_reads (choose tests a b at) place v way h =
           (elim arm [ inl first ↦ or_left (reads v a) (reads v b) (reaches_reads a place v way first) | inr second ↦ or_right (reads v a) (reads v b) (reaches_reads b place v way second) ])
     ]
 reaches_reads (observe values) place v way h = is_among place v values h.0
+reaches_reads (repeat tests body at) place v way h =
+    elim h [
+      | inl test ↦ or_left (is_read v tests) (reads v body) (is_among place v tests test.0)
+      | inr turned ↦ or_right (is_read v tests) (reads v body) (reaches_reads body place v turned.1 turned.4)
+    ]
+
+-- after a turn in which what is unset after was so before, no way leads to a read either
+clear_after : (tests : List Read) (body : Effect) (at : Place) (s t : Store) → IsClear (repeat tests body at) s → Passes body s t → IsClear (repeat tests body at) t
+clear_after tests body at s t clear passes place v unset way =
+    let before = passes v unset in
+    let front = before.1 in
+    clear place v before.0 (front.0 ++ way.0, by_part way.1, without v front.0 way.0 front.2 way.2)
+  where
+    by_part : Reaches (repeat tests body at) place v way.0 → Reaches (repeat tests body at) place v ((passes v unset).1.0 ++ way.0)
+    by_part (inl test) = inl (test.0, turn (passes v unset).1.1 test.1)
+    by_part (inr turned) =
+        let front = (passes v unset).1 in
+        inr (front.0 ++ turned.0, turned.1, ap (λ (w : List VarId). front.0 ++ w) turned.2 ∙ sym (append_assoc front.0 turned.0 turned.1), turn front.1 turned.3, turned.4)
+
+-- what is unset after a turn and more of them was so before
+passes_after : (tests : List Read) (body : Effect) (at : Place) (s t u : Store) → Passes body s t → Passes (repeat tests body at) t u → Passes (repeat tests body at) s u
+passes_after tests body at s t u first more v unset =
+    let after = more v unset in
+    let before = first v after.0 in
+    (before.0, (before.1.0 ++ after.1.0, turn before.1.1 after.1.1, without v before.1.0 after.1.0 before.1.2 after.1.2))
+
+-- an annotation among statements that fails is on no unset variable
+untrue_other : (kind : AssertionKind) → IsOther (untrue kind)
+untrue_other assertion.Assert e = cc
+untrue_other assertion.Check e = cc
 
 -- what an expression uses, it reads at some place
 read_place : (v : VarId) (e : CoreExpr) → uses v e ≡ true → (place : Place) × Contains (reads_of e) (place, v)
@@ -208,30 +240,30 @@ read_place v e h =
 
 -- ---- commands
 
-module _ (f : Frame) (n : ℕ) where
+module _ (f : Frame) where
   -- no read of an unset variable, and what is unset after has a way
-  abbrev Sets : Store → Command → Type 0
-  Sets s c = IsClear (effect c) s → Good IsOther (run f n s c) (Passes (effect c) s) (λ t. ⊤)
+  abbrev Sets : ℕ → Store → Command → Type 0
+  Sets n s c = IsClear (effect c) s → Good IsOther (run f n s c) (Passes (effect c) s) Nowhere
 
-  assign_passes : (s : Store) (place at : Place) (reads : List Read) (o : Option VarId) (x : Value) → Good IsOther (assign f.program place o s x) (Passes (assigns o reads at) s) (λ t. ⊤)
+  assign_passes : (s : Store) (place at : Place) (reads : List Read) (o : Option VarId) (x : Value) → Good IsOther (assign f.program place o s x) (Passes (assigns o reads at) s) Nowhere
   assign_passes s place at reads (Some w) x =
-      good_demand IsOther (is_in (type_of f.program w) x) Range place (put s w (Some x)) (Passes (assigns (Some w) reads at) s) (λ t. ⊤)
+      good_demand IsOther (is_in (type_of f.program w) x) Range place (put s w (Some x)) (Passes (assigns (Some w) reads at) s) Nowhere
       (λ v unset. elim (look-put_either s w v (Some x)) [ inl h ↦ absurd (let e = h.1 in cc) | inr h ↦ (sym h.1 ∙ unset, goes_free (assigns (Some w) reads at) v h.0) ])
       (λ is e. cc)
   assign_passes s place at reads None x = λ v unset. (unset, goes_free (assigns None reads at) v refl)
 
-  set_sets : (s : Store) (target : Reference) (e : CoreExpr) → Sets s (Set target e)
-  set_sets s target e clear =
-      kind_use IsOther (eval f n s e) (assign f.program (place_of e) (variable_of target.root.entity) s) (Passes (effect (Set target e)) s) (λ t. ⊤)
+  set_sets : (n : ℕ) (s : Store) (target : Reference) (e : CoreExpr) → Sets n s (Set target e)
+  set_sets n s target e clear =
+      kind_use IsOther (eval f n s e) (assign f.program (place_of e) (variable_of target.root.entity) s) (Passes (effect (Set target e)) s) Nowhere
       (eval_kind f n s e (λ v used unset. let r = read_place v e used in clear r.0 v unset ([], (r.1, refl), refl)))
       (λ x. assign_passes s (place_of e) target.root.name.place (reads_of e) (variable_of target.root.entity) x)
 
-  then_sets : (s : Store) (a b : Command) → Sets s a → ((t : Store) → Sets t b) → Sets s (Then a b)
-  then_sets s a b first second clear =
-      good_then IsOther (run f n s a) (λ t. run f n t b) (Passes (effect a) s) (Passes (effect (Then a b)) s) (λ t. ⊤)
+  then_sets : (n : ℕ) (s : Store) (a b : Command) → Sets n s a → ((t : Store) → Sets n t b) → Sets n s (Then a b)
+  then_sets n s a b first second clear =
+      good_then IsOther (run f n s a) (λ t. run f n t b) (Passes (effect a) s) (Passes (effect (Then a b)) s) Nowhere
       (first (λ place v unset way. clear place v unset (way.0, inl way.1, way.2)))
       (λ t passes.
-      good_weaker IsOther (run f n t b) (Passes (effect b) t) (Passes (effect (Then a b)) s) (λ t. ⊤) (λ t. ⊤)
+      good_weaker IsOther (run f n t b) (Passes (effect b) t) (Passes (effect (Then a b)) s) Nowhere Nowhere
       (second t (λ place v unset way.
       let before = passes v unset in
       let whole = follow v (Goes (effect a)) (Reaches (effect b) place v) before.1 way in
@@ -242,37 +274,61 @@ module _ (f : Frame) (n : ℕ) where
       (before.0, follow v (Goes (effect a)) (Goes (effect b)) before.1 after.1))
       (λ u l. l))
 
-  choose_sets : (s : Store) (place : Place) (e : CoreExpr) (a b : Command) → Sets s a → Sets s b → Sets s (Choose place e a b)
-  choose_sets s place e a b first second clear =
+  choose_sets : (n : ℕ) (s : Store) (place : Place) (e : CoreExpr) (a b : Command) → Sets n s a → Sets n s b → Sets n s (Choose place e a b)
+  choose_sets n s place e a b first second clear =
       let whole = effect (Choose place e a b) in
-      kind_use IsOther (eval f n s e) (λ x. if as_truth x then run f n s a else run f n s b) (Passes whole s) (λ t. ⊤)
+      kind_use IsOther (eval f n s e) (λ x. if as_truth x then run f n s a else run f n s b) (Passes whole s) Nowhere
       (eval_kind f n s e (λ v used unset. let r = read_place v e used in clear r.0 v unset ([], inl (r.1, refl), refl)))
       (λ x.
-      good_if IsOther (as_truth x) (run f n s a) (run f n s b) (Passes whole s) (λ t. ⊤)
+      good_if IsOther (as_truth x) (run f n s a) (run f n s b) (Passes whole s) Nowhere
       (λ is. first_arm s (reads_of e) (effect a) (effect b) place (run f n s a) first clear)
       (λ is. second_arm s (reads_of e) (effect a) (effect b) place (run f n s b) second clear))
 
   -- the reads of a selector go before the alternatives
-  select_sets : (s : Store) (place : Place) (selector : CoreExpr) (alternatives : Alternatives) → (IsClear (effect_among (reads_of selector) place alternatives) s → (x : Value) → Good IsOther (run_for x f n s alternatives) (Passes (effect_among (reads_of selector) place alternatives) s) (λ t. ⊤))
-      → Sets s (Select place selector alternatives)
-  select_sets s place selector alternatives each clear =
-      kind_use IsOther (eval f n s selector) (λ x. run_for x f n s alternatives) (Passes (effect (Select place selector alternatives)) s) (λ t. ⊤)
+  select_sets : (n : ℕ) (s : Store) (place : Place) (selector : CoreExpr) (alternatives : Alternatives) → (IsClear (effect_among (reads_of selector) place alternatives) s → (x : Value) → Good IsOther (run_for x f n s alternatives) (Passes (effect_among (reads_of selector) place alternatives) s) Nowhere)
+      → Sets n s (Select place selector alternatives)
+  select_sets n s place selector alternatives each clear =
+      kind_use IsOther (eval f n s selector) (λ x. run_for x f n s alternatives) (Passes (effect (Select place selector alternatives)) s) Nowhere
       (eval_kind f n s selector (λ v used unset. let r = read_place v selector used in clear r.0 v unset ([], reads_tests (reads_of selector) place alternatives r.0 v r.1, refl))) (each clear)
 
-  mutual
-    pub never_unset : (s : Store) (c : Command) → Sets s c
-    never_unset s Skip clear = λ v unset. (unset, ([], refl, refl))
-    never_unset s (Set target e) clear = set_sets s target e clear
-    never_unset s (Then a b) clear = then_sets s a b (never_unset s a) (λ t. never_unset t b) clear
-    never_unset s (Choose place e a b) clear = choose_sets s place e a b (never_unset s a) (never_unset s b) clear
-    never_unset s (Select place selector alternatives) clear = select_sets s place selector alternatives (λ c x. never_unset_for s x (reads_of selector) place alternatives c) clear
-    never_unset s (Check place condition) clear =
-        good_demand IsOther (truth f s condition) CheckBad place s (Passes (effect (Check place condition)) s) (λ t. ⊤) (λ v unset. (unset, ([], refl, refl))) (λ is e. cc)
+  -- a turn and the rest of the loop have one less of the bound
+  repeat_sets : (place : Place) (e : CoreExpr) (body : Command) → ((n : ℕ) (s : Store) → Sets n s body) → (n : ℕ) (s : Store) → Sets n s (While place e body)
+  repeat_sets place e body each zero s clear =
+      kind_use IsOther (eval f 0 s e) (λ x. if as_truth x then Later else Ended s) (Passes (effect (While place e body)) s) Nowhere
+      (eval_kind f 0 s e (λ v used unset. let r = read_place v e used in clear r.0 v unset ([], inl (r.1, no_turn), refl)))
+      (λ x. good_if IsOther (as_truth x) Later (Ended s) (Passes (effect (While place e body)) s) Nowhere (λ is. tt) (λ is v unset. (unset, ([], no_turn, refl))))
+  repeat_sets place e body each (suc n) s clear =
+      let tests = reads_of e in
+      let whole = effect (While place e body) in
+      let more : Store → Outcome = λ t. run f n t (While place e body) in
+      kind_use IsOther (eval f (suc n) s e) (λ x. if as_truth x then after_turn (run f n s body) more else Ended s) (Passes whole s) Nowhere
+      (eval_kind f (suc n) s e (λ v used unset. let r = read_place v e used in clear r.0 v unset ([], inl (r.1, no_turn), refl)))
+      (λ x.
+      good_if IsOther (as_truth x) (after_turn (run f n s body) more) (Ended s) (Passes whole s) Nowhere
+      (λ is.
+      good_after IsOther (run f n s body) more (Passes (effect body) s) (Passes whole s) Nowhere
+      (good_weaker IsOther (run f n s body) (Passes (effect body) s) (Passes (effect body) s) Nowhere (Passes whole s) (each n s (λ at v unset way. clear at v unset (way.0, inr ([], way.0, refl, no_turn, way.1), way.2)))
+      (λ t passes. passes) (λ t none. absurd none))
+      (λ t passes.
+      good_weaker IsOther (more t) (Passes whole t) (Passes whole s) Nowhere Nowhere (repeat_sets place e body each n t (clear_after tests (effect body) place s t clear passes))
+      (λ u further. passes_after tests (effect body) place s t u passes further) (λ u none. none)))
+      (λ is v unset. (unset, ([], no_turn, refl))))
 
-    never_unset_for : (s : Store) (x : Value) (tests : List Read) (place : Place) (alternatives : Alternatives) → IsClear (effect_among tests place alternatives) s
-        → Good IsOther (run_for x f n s alternatives) (Passes (effect_among tests place alternatives) s) (λ t. ⊤)
-    never_unset_for s x tests place (Last choices a) clear = first_arm s tests (effect a) (effect a) place (run f n s a) (never_unset s a) clear
-    never_unset_for s x tests place (When choices a rest) clear =
+  mutual
+    pub never_unset : (c : Command) (n : ℕ) (s : Store) → Sets n s c
+    never_unset Skip n s clear = λ v unset. (unset, ([], refl, refl))
+    never_unset (Set target e) n s clear = set_sets n s target e clear
+    never_unset (Then a b) n s clear = then_sets n s a b (never_unset a n s) (λ t. never_unset b n t) clear
+    never_unset (Choose place e a b) n s clear = choose_sets n s place e a b (never_unset a n s) (never_unset b n s) clear
+    never_unset (Select place selector alternatives) n s clear = select_sets n s place selector alternatives (λ c x. never_unset_for alternatives n s x (reads_of selector) place c) clear
+    never_unset (Assertion kind place condition) n s clear =
+        good_demand IsOther (truth f s condition) (untrue kind) place s (Passes (effect (Assertion kind place condition)) s) Nowhere (λ v unset. (unset, ([], refl, refl))) (λ is. untrue_other kind)
+    never_unset (While place e body) n s clear = repeat_sets place e body (never_unset body) n s clear
+
+    never_unset_for : (alternatives : Alternatives) (n : ℕ) (s : Store) (x : Value) (tests : List Read) (place : Place) → IsClear (effect_among tests place alternatives) s
+        → Good IsOther (run_for x f n s alternatives) (Passes (effect_among tests place alternatives) s) Nowhere
+    never_unset_for (Last choices a) n s x tests place clear = first_arm s tests (effect a) (effect a) place (run f n s a) (never_unset a n s) clear
+    never_unset_for (When choices a rest) n s x tests place clear =
         let more = effect_among tests place rest in
-        good_if IsOther (has_value choices x) (run f n s a) (run_for x f n s rest) (Passes (choose tests (effect a) more place) s) (λ t. ⊤)
-        (λ is. first_arm s tests (effect a) more place (run f n s a) (never_unset s a) clear) (λ is. second_arm s tests (effect a) more place (run_for x f n s rest) (never_unset_for s x tests place rest) clear)
+        good_if IsOther (has_value choices x) (run f n s a) (run_for x f n s rest) (Passes (choose tests (effect a) more place) s) Nowhere
+        (λ is. first_arm s tests (effect a) more place (run f n s a) (never_unset a n s) clear) (λ is. second_arm s tests (effect a) more place (run_for x f n s rest) (never_unset_for rest n s x tests place) clear)

@@ -55,7 +55,7 @@ use Rattle.spx_term.proofs.FoldingLaws.{sorted_value}
 use Rattle.spx_meaning.specs.Evaluation.{term_op}
 use Rattle.spx_meaning.specs.Literals.{literal, literal_in, value_of as value_in}
 use Rattle.spx_meaning.proofs.Callers.Types.{type_is}
-use Rattle.spx_paths.specs.Terms.{between, entry, entry_term, first_term, last_term, literal_or, member_term, named, now, now_term, signed_term, sort_of_class, sort_of_var, term_of, term_with-Parenthesized, term_with-Prefix, term_with-Infix, term_with-InType, term_with-InRange, term_with-Number, term_with-Name, term_with-Entry, term_with-Attribute, mapped_term, moved_term, term_with-Applied}
+use Rattle.spx_paths.specs.Terms.{between, entry, entry_term, first_term, last_term, literal_or, member_term, named, now, now_term, signed_term, sort_of_class, sort_of_var, term_of, term_with, term_with-Parenthesized, term_with-Prefix, term_with-Infix, term_with-InType, term_with-InRange, term_with-Number, term_with-Name, term_with-Entry, term_with-Attribute, mapped_term, moved_term, term_with-Applied}
 use Rattle.spx_sound.proofs.Classes.{literals_have_numbers, number_is_ordered, numbers_are_ordered, numeric_has_numbers}
 use Rattle.spx_sound.proofs.Typings.{joined, tested_in, tested_between, variable_named, Cases, typed_induct, RightSide, Maps, maps_numbers, keeps_truths, result_typing}
 
@@ -294,11 +294,11 @@ module _ (p : Program) where
       let first = each_parts (IsAsDeclared p) (names_read a) (names_read low ++ names_read high) (along _ (names_read a ++ (names_read low ++ names_read high)) (fold-InRange names_step o place a low high) h) in
       (first.0, each_parts (IsAsDeclared p) (names_read low) (names_read high) first.1)
 
-  -- the term of a variable has the sort of the type that its name stands with
-  object_sorted : (name : CoreName) (v : VarId) (object : Object) → name.entity ≡ Some (entity.Variable v object) → IsAsDeclared p name → HasSortOf (sort_of_class object.subtype.base.class) (named (now_term p) (variable_of name.entity))
-  object_sorted name v object is declared =
-      ap (λ e. sort_of (named (now_term p) (variable_of e))) is ∙ terms.fold-Variable sort_step (now p v)
-      ∙ ap (λ s. Some (sort_of_class s.base.class)) (type_is p v object (declared v object is))
+  -- the term that stands for a variable has the sort of the type that its name stands with
+  named_sorted : (stands : VarId → Term) → ((x : VarId) → HasSortOf (sort_of_var p x) (stands x)) → (name : CoreName) (v : VarId) (object : Object) → name.entity ≡ Some (entity.Variable v object) → IsAsDeclared p name
+      → HasSortOf (sort_of_class object.subtype.base.class) (named stands (variable_of name.entity))
+  named_sorted stands sorts name v object is declared =
+      ap (λ e. sort_of (named stands (variable_of e))) is ∙ sorts v ∙ ap (λ s. Some (sort_of_class s.base.class)) (type_is p v object (declared v object is))
 
   -- the terms of a variable, for its value now and on entry, have its sort
   pub now_sorted : (x : VarId) → HasSortOf (sort_of_var p x) (now_term p x)
@@ -311,61 +311,61 @@ module _ (p : Program) where
       by_import true = now_sorted x
       by_import false = terms.fold-Variable sort_step (entry p x)
 
-  module _ (entered : VarId → Term) (sorts : (x : VarId) → HasSortOf (sort_of_var p x) (entered x)) where
-    -- the term of a value on entry has the sort of the type that its name stands with
-    entered_sorted : (name : CoreName) (v : VarId) (object : Object) → name.entity ≡ Some (entity.Variable v object) → IsAsDeclared p name → HasSortOf (sort_of_class object.subtype.base.class) (named entered (variable_of name.entity))
-    entered_sorted name v object is declared =
-        ap (λ e. sort_of (named entered (variable_of e))) is ∙ sorts v ∙ ap (λ s. Some (sort_of_class s.base.class)) (type_is p v object (declared v object is))
-
+  -- where these terms stand for present values and for values on entry
+  module _ (present entered : VarId → Term) (presents : (x : VarId) → HasSortOf (sort_of_var p x) (present x)) (sorts : (x : VarId) → HasSortOf (sort_of_var p x) (entered x)) where
     abbrev pub IsSorted : CoreExpr → Typing → Type 0
-    IsSorted e t = AreDeclared p e → HasSortOf (sort_of_type t.of) (term_of p entered e)
+    IsSorted e t = AreDeclared p e → HasSortOf (sort_of_type t.of) (term_with present entered e)
 
     -- a node that stands for its literal, or else for what it computes
-    sorted_or : (e : CoreExpr) (a : Term) (t : Typing) → term_of p entered e ≡ literal_or (literal e) a → judged e ≡ Ok t → HasSortOf (sort_of_type t.of) a → HasSortOf (sort_of_type t.of) (term_of p entered e)
+    sorted_or : (e : CoreExpr) (a : Term) (t : Typing) → term_with present entered e ≡ literal_or (literal e) a → judged e ≡ Ok t → HasSortOf (sort_of_type t.of) a → HasSortOf (sort_of_type t.of) (term_with present entered e)
     sorted_or e a t is typed h = ap sort_of is ∙ ap (λ j. sort_of (literal_or (literal_in j) a)) typed ∙ literal_sorted t.of t.value a h
 
     -- one that always has a literal
-    sorted_as : (e : CoreExpr) (a : Term) (of : ExprType) (n : ℤ) (place : Place) → term_of p entered e ≡ literal_or (literal e) a → judged e ≡ Ok (typing of (Some n) place) → HasSortOf (sort_of_type of) (term_of p entered e)
+    sorted_as : (e : CoreExpr) (a : Term) (of : ExprType) (n : ℤ) (place : Place) → term_with present entered e ≡ literal_or (literal e) a → judged e ≡ Ok (typing of (Some n) place) → HasSortOf (sort_of_type of) (term_with present entered e)
     sorted_as e a of n place is typed = ap sort_of is ∙ ap (λ j. sort_of (literal_or (literal_in j) a)) typed ∙ literal_of_type of n
 
     pub sorted_cases : Cases IsSorted
     sorted_cases = record {
-      number = λ n place d. ap sort_of (term_with-Number (now_term p) entered n place) ∙ terms.fold-Number sort_step n;
+      number = λ n place d. ap sort_of (term_with-Number present entered n place) ∙ terms.fold-Number sort_step n;
       object = λ name v object is typed d.
-          sorted_or (Name name) (named (now_term p) (variable_of name.entity)) (typing (type.Of object.subtype.base) None name.name.place) (term_with-Name (now_term p) entered name) typed
-          (object_sorted name v object is (declared-Name name d));
-      static = λ name subtype n typed d. sorted_as (Name name) (named (now_term p) (variable_of name.entity)) (type.Of subtype.base) (position_in subtype.base.class n) name.name.place (term_with-Name (now_term p) entered name) typed;
-      named_number = λ name n typed d. sorted_as (Name name) (named (now_term p) (variable_of name.entity)) type.Universal n name.name.place (term_with-Name (now_term p) entered name) typed;
+          sorted_or (Name name) (named present (variable_of name.entity)) (typing (type.Of object.subtype.base) None name.name.place) (term_with-Name present entered name) typed
+          (named_sorted present presents name v object is (declared-Name name d));
+      static = λ name subtype n typed d. sorted_as (Name name) (named present (variable_of name.entity)) (type.Of subtype.base) (position_in subtype.base.class n) name.name.place (term_with-Name present entered name) typed;
+      named_number = λ name n typed d. sorted_as (Name name) (named present (variable_of name.entity)) type.Universal n name.name.place (term_with-Name present entered name) typed;
       entry = λ name allowed v object is typed d.
-          ap sort_of (term_with-Entry (now_term p) entered name allowed) ∙ entered_sorted name v object is (declared-Entry name allowed d);
+          ap sort_of (term_with-Entry present entered name allowed) ∙ named_sorted entered sorts name v object is (declared-Entry name allowed d);
       attribute = λ prefix designator base n has typed d.
-          sorted_as (Attribute prefix designator) (term.Number (pos 0)) (type.Of base) n prefix.name.place (term_with-Attribute (now_term p) entered prefix designator) typed;
+          sorted_as (Attribute prefix designator) (term.Number (pos 0)) (type.Of base) n prefix.name.place (term_with-Attribute present entered prefix designator) typed;
       applied = λ function place a m o known maps taken operand typed h d.
-          let t = term_of p entered a in
-          sorted_or (Applied function place a) (mapped_term (application function) t) (result_typing function m o) (term_with-Applied (now_term p) entered function place a) typed
+          let t = term_with present entered a in
+          sorted_or (Applied function place a) (mapped_term (application function) t) (result_typing function m o) (term_with-Applied present entered function place a) typed
           (subst (λ j. HasSortOf (sort_of_class m.result.class) (mapped_term j t)) (sym known) (result_sorted m o.of t maps taken (h (declared-Applied function place a d))));
-      parenthesized = λ place a o h d. ap sort_of (term_with-Parenthesized (now_term p) entered place a) ∙ h (declared-Parenthesized place a d);
+      parenthesized = λ place a o h d. ap sort_of (term_with-Parenthesized present entered place a) ∙ h (declared-Parenthesized place a d);
       prefix = λ o place a t fits typed h d.
-          sorted_or (Prefix o place a) (signed_term o (term_of p entered a)) (typing t.of (signed_result o t.value) place) (term_with-Prefix (now_term p) entered o place a) typed
-          (signed_sorted o t.of (term_of p entered a) fits (h (declared-Prefix o place a d)));
+          sorted_or (Prefix o place a) (signed_term o (term_with present entered a)) (typing t.of (signed_result o t.value) place) (term_with-Prefix present entered o place a) typed
+          (signed_sorted o t.of (term_with present entered a) fits (h (declared-Prefix o place a d)));
       «infix» = λ o place a b l r fits typed h k d.
           let parts = declared-Infix o place a b d in
-          sorted_or (Infix o place a b) (term.Infix (term_op o) (term_of p entered a) (term_of p entered b)) (joined o place l r) (term_with-Infix (now_term p) entered o place a b) typed
-          (operation_sorted o l.of r.of r.value (term_of p entered a) (term_of p entered b) fits (h parts.0) (k parts.1));
+          sorted_or (Infix o place a b) (term.Infix (term_op o) (term_with present entered a) (term_with present entered b)) (joined o place l r) (term_with-Infix present entered o place a b) typed
+          (operation_sorted o l.of r.of r.value (term_with present entered a) (term_with present entered b) fits (h parts.0) (k parts.1));
       in_type = λ o place a name t subtype named has fits typed h d.
           let number = h (declared-InType o place a name d) ∙ ap Some (is_of_sort subtype.base t.of fits ∙ class_number subtype.base.class has) in
-          sorted_or (InType o place a name) (member_term o (term_of p entered a) (first_term name) (last_term name)) (tested_in o place t subtype) (term_with-InType (now_term p) entered o place a name) typed
-          (member_sorted o (term_of p entered a) (first_term name) (last_term name) number (terms.fold-Number sort_step _) (terms.fold-Number sort_step _));
+          sorted_or (InType o place a name) (member_term o (term_with present entered a) (first_term name) (last_term name)) (tested_in o place t subtype) (term_with-InType present entered o place a name) typed
+          (member_sorted o (term_with present entered a) (first_term name) (last_term name) number (terms.fold-Number sort_step _) (terms.fold-Number sort_step _));
       in_range = λ o place a low high t l g fits typed h k m d.
           let parts = declared-InRange o place a low high d in
           let sorts = three_numbers t.of l.of g.of fits in
-          sorted_or (InRange o place a low high) (member_term o (term_of p entered a) (term_of p entered low) (term_of p entered high)) (tested_between o place t l g) (term_with-InRange (now_term p) entered o place a low high) typed
-          (member_sorted o (term_of p entered a) (term_of p entered low) (term_of p entered high) (h parts.0 ∙ ap Some sorts.0) (k parts.1.0 ∙ ap Some sorts.1) (m parts.1.1 ∙ ap Some sorts.2));
+          sorted_or (InRange o place a low high) (member_term o (term_with present entered a) (term_with present entered low) (term_with present entered high)) (tested_between o place t l g) (term_with-InRange present entered o place a low high) typed
+          (member_sorted o (term_with present entered a) (term_with present entered low) (term_with present entered high) (h parts.0 ∙ ap Some sorts.0) (k parts.1.0 ∙ ap Some sorts.1) (m parts.1.1 ∙ ap Some sorts.2));
     }
 
     -- the term of an expression that breaks no rule has the sort of its type
-    pub is_sorted : (e : CoreExpr) (t : Typing) → judged e ≡ Ok t → AreDeclared p e → HasSortOf (sort_of_type t.of) (term_of p entered e)
-    is_sorted = typed_induct IsSorted sorted_cases
+    pub sorted_with : (e : CoreExpr) (t : Typing) → judged e ≡ Ok t → AreDeclared p e → HasSortOf (sort_of_type t.of) (term_with present entered e)
+    sorted_with = typed_induct IsSorted sorted_cases
+
+  -- so has the one over the names of the present values
+  pub is_sorted : (entered : VarId → Term) → ((x : VarId) → HasSortOf (sort_of_var p x) (entered x)) → (e : CoreExpr) (t : Typing) → judged e ≡ Ok t → AreDeclared p e → HasSortOf (sort_of_type t.of) (term_of p entered e)
+  is_sorted entered sorts = sorted_with (now_term p) entered now_sorted sorts
 
 -- the right side of an assignment has the sort of the variable that the target denotes
 pub right_sort : (p : Program) (target : Reference) (e : CoreExpr) → IsAsDeclared p target.root → (right : RightSide target e) → (v : VarId) → variable_of target.root.entity ≡ Some v → sort_of_type right.typing.of ≡ sort_of_var p v

@@ -38,7 +38,7 @@ use Rattle.spx_core.specs.declared.function.OperandType.TheVariants.{ValueOf}
 use Rattle.spx_core.specs.declared.function.Shift.TheVariants as shift
 use Rattle.spx_core.specs.Judged.{Judged, ◌>>=◌, keeps, named_object, named_target, object_at, each, if_there, typing, attribute_of, is_attribute, named_type, named_value, value_at, ordered_type, member_of_range, member_of_type, operand_of, referred_target, referred_type, target_at, type_at, whole, condition, sign, operation, expr_step, judged, application, applied_form, attribute_function, bounds_in, conversion, function_at, has_attribute, is_function, is_word, mapped, qualification}
 use Rattle.spx_core.specs.Extents.{extent}
-use Rattle.spx_core.specs.Commands.{Command, Set, Then, Choose, commands, Select, Alternatives, Last, When, choices_in, has_others_last, listed}
+use Rattle.spx_core.specs.Commands.{Command, Set, Then, Choose, commands, Select, While, Alternatives, Last, When, choices_in, has_others_last, listed}
 use Rattle.spx_core.specs.Dependency.{relation}
 use Rattle.spx_core.specs.Resolved.{params_of}
 use Rattle.spx_core.specs.Statements.{judged_param, judged_item, judged_predicate, judged_decl, judged_command, judged_name, judged_sub, test, Typed, are_given_once, has_right_choices, judged_alternatives, judged_choice, judged_choices, judged_heads, selected}
@@ -378,8 +378,8 @@ right_side target e h =
     }
 
 -- a test is a truth value
-pub tested : (e : CoreExpr) → test e ≡ Ok tt → (t : Typing) × (judged e ≡ Ok t) × (is_boolean t.of ≡ true)
-tested e h =
+pub test_typed : (e : CoreExpr) → test e ≡ Ok tt → (t : Typing) × (judged e ≡ Ok t) × (is_boolean t.of ≡ true)
+test_typed e h =
     let truth = bound (judged e) condition tt h in
     (truth.0, truth.1, kept_last _ _ _ truth.2)
 
@@ -395,6 +395,9 @@ arms_typed place e a b h =
     let first = bound (test e) (λ _. judged_command a >>= λ _. judged_command b) tt h in
     let arms = both_typed a b first.2 in
     (first.1, arms.0, arms.1)
+
+pub loop_typed : (place : Place) (e : CoreExpr) (body : Command) → IsTyped (While place e body) → (test e ≡ Ok tt) × IsTyped body
+loop_typed place e body h = let first = bound (test e) (λ _. judged_command body) tt h in (first.1, first.2)
 
 -- so are the alternatives for a selector of a type
 abbrev pub AreTyped : ExprType → Alternatives → Type 0
