@@ -2,6 +2,7 @@
 pub mod ListTests
 pub mod Variables
 pub mod Expressions
+pub mod CommandForms
 pub mod ReadsLaws
 pub mod Pairs
 pub mod FlowLaws

@@ -18,7 +18,8 @@ use Rattle.spx_core.specs.Commands.{alternative, command, choices_in, given_by, 
 use Rattle.spx_core.specs.Judged.{Judged, ◌>>=◌, each, keeps}
 use Rattle.spx_core.specs.Statements.{has_right_choices, selected, judged_alternatives, judged_choice, judged_choices, judged_command}
 use Rattle.spx_core.specs.Types.{are_apart, is_between, overlap}
-use Rattle.spx_types.proofs.CaseForms.{case_command, front}
+use Rattle.spx_core.proofs.Callers.CommandForms.{command-Case}
+use Rattle.spx_types.proofs.CaseForms.{front}
 use Rattle.spx_types.specs.Choices.{alternatives_in, done_in, given, judged_selector, listed_by, next_of, spans_in}
 
 each_of_both : {A : Type 0} (f : A → Judged ⊤) (xs ys : List A) → each f (xs ++ ys) ≡ (each f xs >>= λ _. each f ys)
@@ -95,7 +96,7 @@ selection_judged place selector (a ∷ rest) = in_turn (keeps N17 place (has_rig
 pub case_judged : (s : CoreStmt) (place : Place) (selector : CoreExpr) (alternatives : List CoreAlternative) (closing : Closing) → s ≡ Case place selector alternatives closing
     → judged_command (command s) ≡ (judged_selector place selector alternatives >>= λ of. judged_alternatives of (alternatives_in alternatives))
 case_judged s place selector alternatives closing is =
-    ap judged_command (case_command s place selector alternatives closing is) ∙ selection_judged place selector alternatives
+    ap judged_command (command-Case s place selector alternatives closing is) ∙ selection_judged place selector alternatives
 
 -- ---- the alternative at a position
 

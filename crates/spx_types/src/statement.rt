@@ -127,6 +127,6 @@ fn judge_stmt(stmt: &CoreStmt) -> Result<(), Breach>
             let of = judge_selector(*place, selector, alternatives)?;
             judge_alternatives(of, alternatives)
         }
-        CoreStmt::Check(_, condition) => test(condition),
+        CoreStmt::Assertion(_, _, condition) => test(condition),
     }
 }
