@@ -7,10 +7,12 @@ use Rattle.spx_tree.specs.declared.statement.Arm.{Arm}
 use Rattle.spx_tree.specs.declared.expression.Expr.{Expr}
 use Rattle.spx_tree.specs.declared.statement.Choice.{Choice}
 use Rattle.spx_tree.specs.declared.statement.Alternative.{Alternative}
+use Rattle.spx_tree.specs.declared.statement.AssertionKind.{AssertionKind}
+use Rattle.spx_tree.specs.declared.statement.AssertionKind.TheVariants as assertion
 use Rattle.spx_tree.specs.declared.statement.Stmt.{Stmt}
-use Rattle.spx_tree.specs.declared.statement.Stmt.TheVariants.{Null, Assignment, If, Case, Check}
+use Rattle.spx_tree.specs.declared.statement.Stmt.TheVariants.{Null, Assignment, If, Case, Assertion}
 use Rattle.spx_tree.specs.Form.{Form}
-use Rattle.spx_tree.specs.Written.{program, annotation}
+use Rattle.spx_tree.specs.Written.{program, annotation, assertion_word}
 use Rattle.spx_parse_body.specs.declared.statements.StmtKind.{StmtKind}
 use Rattle.spx_parse_body.specs.declared.statements.StmtKind.TheVariants as kinds
 use Rattle.spx_parse_body.specs.Reading.{Reader, ◌>>=◌, ◌>>◌, pure, refuse, too_deep, peek, sees, expect, expect_place, if_seen, deeper, more_items}
@@ -23,15 +25,16 @@ null_statement = do
   expect program k.Semicolon
   pure (Null place)
 
--- "check" predicate ";", in annotation text
-unfoldable pub check_statement : ℕ → Reader Stmt
-check_statement levels = do
-  checked ← predicate_after k.Check levels
-  pure (Check checked.place checked.condition)
+-- ("assert" | "check") predicate ";", in annotation text
+unfoldable pub assertion_statement : AssertionKind → ℕ → Reader Stmt
+assertion_statement kind levels = do
+  asserted ← predicate_after (assertion_word kind) levels
+  pure (Assertion kind asserted.place asserted.condition)
 
 -- what a form of annotation text starts
 abbrev pub noted_stmt : Option Kind → Option StmtKind
-noted_stmt (Some k.Check) = Some kinds.Check
+noted_stmt (Some k.Assert) = Some (kinds.Assertion assertion.Assert)
+noted_stmt (Some k.Check) = Some (kinds.Assertion assertion.Check)
 noted_stmt _ = None
 
 -- what a form starts, by its kind in program text and in annotation text
@@ -155,10 +158,10 @@ module _ (inner : Reader (List Stmt)) (levels : ℕ) where
   stmt_by (Some kinds.Assignment) = assignment
   stmt_by (Some kinds.If) = if_statement
   stmt_by (Some kinds.Case) = case_statement
-  stmt_by (Some kinds.Check) = check_statement levels
+  stmt_by (Some (kinds.Assertion kind)) = assertion_statement kind levels
   stmt_by None = refuse
 
-  -- null statement | assignment | if statement | case statement | check statement
+  -- null statement | assignment | if statement | case statement | assertion statement
   unfoldable pub stmt : Reader Stmt
   stmt = λ fs. stmt_by (next_stmt fs) fs
 

@@ -1,5 +1,7 @@
 // From tokens to statements (Ada 95 RM 5).
 ghost use Rattle.std.specs.Prelude.{◌≡◌, ◌<◌, ◌∷◌, []};
+ghost use Rattle.spx_tree.specs.Form.{keeps, ItsPlace};
+ghost use Rattle.spx_tree.specs.Written as written;
 ghost use Rattle.spx_tree.specs.Written.{program};
 ghost use Rattle.spx_tree.specs.declared.token.Kind.TheVariants as k;
 ghost use Rattle.spx_parse_body.specs.Reading as reading;
@@ -9,7 +11,7 @@ ghost use Rattle.spx_parse_body.specs.Answers.{Reads};
 use crate::cursor::{ANNOTATION, Cursor, PROGRAM, Stop};
 use crate::expressions::{expression, name, predicate_after, simple_expression};
 use spx_text::Place;
-use spx_tree::{Alternative, Arm, Choice, Closing, Expr, Kind, Stmt};
+use spx_tree::{Alternative, Arm, AssertionKind, Choice, Closing, Expr, Kind, Stmt};
 use sqlite_items::Items;
 use std::alloc::Global;
 
@@ -21,7 +23,7 @@ pub enum StmtKind {
     If,
     Case,
     /// In annotation text.
-    Check,
+    Assertion(AssertionKind),
 }
 
 // null_statement = "null" ";"
@@ -259,13 +261,29 @@ fn case_statement(alloc: Global, cursor: &mut Cursor<'_>, levels: u32) -> Result
     Ok(Stmt::Case(place, selector, alternatives, closing))
 }
 
-// check_statement = "check" predicate ";", in annotation text
-#[tactic(auto, unfolding(crate::specs::Statements::check_statement))]
-fn check_statement(alloc: Global, cursor: &mut Cursor<'_>, levels: u32) -> Result<Stmt, Stop>
-    ensures { Reads (read.check_statement levels cursor.old) result cursor.new }
+/// The word of an annotation among statements.
+fn assertion_word(kind: AssertionKind) -> Kind
+    ensures word { result ≡ written.assertion_word kind }
+    ensures place { keeps result ≡ ItsPlace }
 {
-    let checked = predicate_after(alloc, cursor, levels, Kind::Check)?;
-    Ok(Stmt::Check(checked.place, checked.condition))
+    match kind {
+        AssertionKind::Assert => Kind::Assert,
+        AssertionKind::Check => Kind::Check,
+    }
+}
+
+// assertion_statement = ("assert" | "check") predicate ";", in annotation text
+#[tactic(auto, unfolding(crate::specs::Statements::assertion_statement))]
+fn assertion_statement(
+    alloc: Global,
+    cursor: &mut Cursor<'_>,
+    levels: u32,
+    kind: AssertionKind,
+) -> Result<Stmt, Stop>
+    ensures { Reads (read.assertion_statement kind levels cursor.old) result cursor.new }
+{
+    let asserted = predicate_after(alloc, cursor, levels, assertion_word(kind))?;
+    Ok(Stmt::Assertion(kind, asserted.place, asserted.condition))
 }
 
 /// What a token of annotation text starts.
@@ -273,7 +291,8 @@ fn noted_stmt(kind: Option<Kind>) -> Option<StmtKind>
     ensures { result ≡ read.noted_stmt kind }
 {
     match kind {
-        Some(Kind::Check) => Some(StmtKind::Check),
+        Some(Kind::Assert) => Some(StmtKind::Assertion(AssertionKind::Assert)),
+        Some(Kind::Check) => Some(StmtKind::Assertion(AssertionKind::Check)),
         _ => None,
     }
 }
@@ -291,7 +310,7 @@ fn next_stmt(cursor: &Cursor<'_>) -> Option<StmtKind>
     }
 }
 
-// stmt = null_statement | assignment | if_statement | case_statement | check_statement
+// stmt = null_statement | assignment | if_statement | case_statement | assertion_statement
 #[cycle(stmts)]
 #[tactic(auto, unfolding(crate::specs::Statements::stmt))]
 fn stmt(alloc: Global, cursor: &mut Cursor<'_>, levels: u32) -> Result<Stmt, Stop>
@@ -302,7 +321,7 @@ fn stmt(alloc: Global, cursor: &mut Cursor<'_>, levels: u32) -> Result<Stmt, Sto
         Some(StmtKind::Assignment) => assignment(alloc, cursor, levels),
         Some(StmtKind::If) => if_statement(alloc, cursor, levels),
         Some(StmtKind::Case) => case_statement(alloc, cursor, levels),
-        Some(StmtKind::Check) => check_statement(alloc, cursor, levels),
+        Some(StmtKind::Assertion(kind)) => assertion_statement(alloc, cursor, levels, kind),
         None => Err(cursor.expected()),
     }
 }

@@ -11,17 +11,19 @@ use Rattle.spx_tree.specs.declared.statement.Closing.{Closing}
 use Rattle.spx_tree.specs.declared.statement.Choice.{Choice}
 use Rattle.spx_tree.specs.declared.statement.Alternative.{Alternative, out-Alternative}
 use Rattle.spx_tree.specs.declared.statement.Arm.{Arm, out-Arm}
+use Rattle.spx_tree.specs.declared.statement.AssertionKind.{AssertionKind}
+use Rattle.spx_tree.specs.declared.statement.AssertionKind.TheVariants as assertion
 use Rattle.spx_tree.specs.declared.statement.Stmt.{Stmt, Stmt-F, out-Stmt}
-use Rattle.spx_tree.specs.declared.statement.Stmt.TheVariants.{Null, Assignment, If, Case, Check, outs-Null, outs-Assignment, outs-If, outs-Case, outs-Check}
-use Rattle.spx_tree.specs.Form.{Form, bare, placed}
-use Rattle.spx_tree.specs.Written.{program, annotation, joined, optional, elsif_arms, all_arms, written_upper, written_choice, written_choices, written_expr, written_stmt, written_arm, written_alternative, written_stmts, separated}
+use Rattle.spx_tree.specs.declared.statement.Stmt.TheVariants.{Null, Assignment, If, Case, Assertion, outs-Null, outs-Assignment, outs-If, outs-Case, outs-Assertion}
+use Rattle.spx_tree.specs.Form.{Form, ItsPlace, bare, placed, keeps}
+use Rattle.spx_tree.specs.Written.{program, annotation, assertion_word, joined, optional, elsif_arms, all_arms, written_upper, written_choice, written_choices, written_expr, written_stmt, written_arm, written_alternative, written_stmts, separated}
 use Rattle.spx_tree.specs.Grammar.{OneOrMore, IfThere, OfLayer, IsArm, IsChoice, IsAlternative, IsFormed, Within, IsStmt}
 use Rattle.spx_tree.proofs.WrittenLevels.{written_level, spelled_stmt, spelled_arm, spelled_alternative, elsif_joined}
 use Rattle.spx_parse_body.specs.Reading.{Reader, ◌>>=◌, ◌>>◌, pure, peek, sees, refuse, expect, item_step}
 use Rattle.spx_parse_body.specs.declared.statements.StmtKind.{StmtKind}
 use Rattle.spx_parse_body.specs.declared.statements.StmtKind.TheVariants as kinds
 use Rattle.spx_parse_body.specs.Statements as read
-use Rattle.spx_parse_body.specs.Statements.{null_statement, assignment, upper, choice, more_choices, some_choices, choices_by, choices, arm, elsif_arm, if_statement, alternative, more_alternatives, alternatives, case_statement, check_statement, noted_stmt, stmt_of, next_stmt, stmt_by, stmt, sees_stmt, more_stmts, some_stmts, stmts_below, stmts}
+use Rattle.spx_parse_body.specs.Statements.{null_statement, assignment, upper, choice, more_choices, some_choices, choices_by, choices, arm, elsif_arm, if_statement, alternative, more_alternatives, alternatives, case_statement, assertion_statement, noted_stmt, stmt_of, next_stmt, stmt_by, stmt, sees_stmt, more_stmts, some_stmts, stmts_below, stmts}
 use Rattle.spx_parse_body.proofs.Callers.Loops.{Shrinks}
 use Rattle.spx_parse_body.proofs.Callers.Lawful.{Ends, Any, Sees, Always, just}
 use Rattle.spx_parse_body.proofs.Callers.Good.{Good, Starts, Adds, no_level, good_bind, good_then, good_as, good_before, good_given, good_more, good_pure, good_refuse, good_expect, good_expect_place, good_choose, list_shrinks, starts_bind, starts_choose, starts_expect, starts_open, starts_place}
@@ -77,11 +79,16 @@ null_starts levels here =
 stmt_ends : (levels : ℕ) → Ends written_stmt (IsStmt levels) []
 stmt_ends levels = ((null_starts {L = ⊤} {P = ⊤} {on = λ fs. peek program fs ≡ Some k.Null} levels (λ fs here. here)).good.law tt tt).ends
 
-check_starts : {L P : Type 0} {on : List Form → Type 0} (levels : ℕ) → ((fs : List Form) → on fs → peek annotation fs ≡ Some k.Check) → Starts L P written_stmt (IsStmt levels) [] on (check_statement levels) (check_statement (suc levels))
-unfolding check_statement
-check_starts levels here =
-    starts_bind (predicate_after_starts k.Check levels refl here) (λ x.
-    good_pure (Check x.place x.condition) (λ l w. sym (spelled_as (Check x.place x.condition) _ (outs-Check x.place x.condition))) (λ l w. fits_as levels (Check x.place x.condition) _ (outs-Check x.place x.condition) w.1))
+word_keeps : (kind : AssertionKind) → keeps (assertion_word kind) ≡ ItsPlace
+word_keeps assertion.Assert = refl
+word_keeps assertion.Check = refl
+
+assertion_starts : {L P : Type 0} {on : List Form → Type 0} (kind : AssertionKind) (levels : ℕ) → ((fs : List Form) → on fs → peek annotation fs ≡ Some (assertion_word kind))
+    → Starts L P written_stmt (IsStmt levels) [] on (assertion_statement kind levels) (assertion_statement kind (suc levels))
+unfolding assertion_statement
+assertion_starts kind levels here =
+    starts_bind (predicate_after_starts (assertion_word kind) levels (word_keeps kind) here) (λ x.
+    good_pure (Assertion kind x.place x.condition) (λ l w. sym (spelled_as (Assertion kind x.place x.condition) _ (outs-Assertion kind x.place x.condition))) (λ l w. fits_as levels (Assertion kind x.place x.condition) _ (outs-Assertion kind x.place x.condition) w.1))
 
 -- ---- what statements start with
 
@@ -91,7 +98,7 @@ StartsAs kind noted kinds.Null = kind ≡ Some k.Null
 StartsAs kind noted kinds.Assignment = kind ≡ Some k.Identifier
 StartsAs kind noted kinds.If = kind ≡ Some k.If
 StartsAs kind noted kinds.Case = kind ≡ Some k.Case
-StartsAs kind noted kinds.Check = noted ≡ Some k.Check
+StartsAs kind noted (kinds.Assertion asserted) = noted ≡ Some (assertion_word asserted)
 
 starts_as : (kind noted : Option Kind) (found x : StmtKind) → StartsAs kind noted found → Some found ≡ Some x → StartsAs kind noted x
 starts_as kind noted found x s e = subst (StartsAs kind noted) (some_is found x e) s
@@ -100,7 +107,8 @@ starts_as kind noted found x s e = subst (StartsAs kind noted) (some_is found x 
     some_is a b e = cc
 
 noted_is : (kind noted : Option Kind) (x : StmtKind) → noted_stmt noted ≡ Some x → StartsAs kind noted x
-noted_is kind (Some k.Check) x e = starts_as kind (Some k.Check) kinds.Check x refl e
+noted_is kind (Some k.Assert) x e = starts_as kind (Some k.Assert) (kinds.Assertion assertion.Assert) x refl e
+noted_is kind (Some k.Check) x e = starts_as kind (Some k.Check) (kinds.Assertion assertion.Check) x refl e
 noted_is kind _ x e = absurd cc
 
 stmt_is : (kind noted : Option Kind) (x : StmtKind) → stmt_of kind noted ≡ Some x → StartsAs kind noted x
@@ -265,7 +273,7 @@ module _ (inner inner' : Reader (List Stmt)) (levels : ℕ) (good : Good (0 < le
   begun_case kinds.Assignment = assignment_starts (next_is kinds.Assignment)
   begun_case kinds.If = if_starts (next_is kinds.If)
   begun_case kinds.Case = case_starts (next_is kinds.Case)
-  begun_case kinds.Check = check_starts levels (next_is kinds.Check)
+  begun_case (kinds.Assertion kind) = assertion_starts kind levels (next_is (kinds.Assertion kind))
 
   stmt_case : {L P : Type 0} (x : Option StmtKind) → Good L P written_stmt (IsStmt levels) [] (Sees next_stmt x) (stmt_by inner levels x) (stmt_by inner' (suc levels) x)
   stmt_case None = good_refuse (λ l w. stmt_ends levels)

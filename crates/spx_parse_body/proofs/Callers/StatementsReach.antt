@@ -11,17 +11,19 @@ use Rattle.spx_tree.specs.declared.statement.Closing.{Closing}
 use Rattle.spx_tree.specs.declared.statement.Choice.{Choice}
 use Rattle.spx_tree.specs.declared.statement.Alternative.{Alternative, out-Alternative, roll-out-Alternative}
 use Rattle.spx_tree.specs.declared.statement.Arm.{Arm, Arm-F, out-Arm, roll-out-Arm}
+use Rattle.spx_tree.specs.declared.statement.AssertionKind.{AssertionKind}
+use Rattle.spx_tree.specs.declared.statement.AssertionKind.TheVariants as assertion
 use Rattle.spx_tree.specs.declared.statement.Stmt.{Stmt, Stmt-F, out-Stmt, roll-Stmt, roll-out-Stmt}
-use Rattle.spx_tree.specs.declared.statement.Stmt.TheVariants.{Null, Assignment, If, Case, Check, outs-Null, outs-Assignment, outs-If, outs-Case, outs-Check}
+use Rattle.spx_tree.specs.declared.statement.Stmt.TheVariants.{Null, Assignment, If, Case, Assertion, outs-Null, outs-Assignment, outs-If, outs-Case, outs-Assertion}
 use Rattle.spx_tree.specs.Form.{Form, bare, placed}
-use Rattle.spx_tree.specs.Written.{program, optional, separated, following, written_name, written_expr, written_upper, written_choice, written_choices, elsif_arms, written_stmt, written_arm, written_alternative, written_stmts}
+use Rattle.spx_tree.specs.Written.{program, assertion_word, optional, separated, following, written_name, written_expr, written_upper, written_choice, written_choices, elsif_arms, written_stmt, written_arm, written_alternative, written_stmts}
 use Rattle.spx_tree.specs.Grammar.{Each, OneOrMore, IfThere, OfLayer, IsExpr, IsFormed, Within, IsStmt}
 use Rattle.spx_tree.proofs.WrittenLevels.{written_level, spelled_stmt, spelled_arm, spelled_alternative, elsif_joined}
 use Rattle.spx_parse_body.specs.Reading.{Reader, ◌>>◌, peek, sees, expect, optional_by, if_seen, item_step}
 use Rattle.spx_parse_body.proofs.Callers.Shaped.{kind_self}
 use Rattle.spx_parse_body.specs.declared.statements.StmtKind.TheVariants as kinds
 use Rattle.spx_parse_body.specs.Statements as read
-use Rattle.spx_parse_body.specs.Statements.{assignment, upper, choice, more_choices, some_choices, choices_by, choices, arm, elsif_arm, if_statement, alternative, more_alternatives, alternatives, case_statement, null_statement, check_statement, next_stmt, stmt_by, stmt, sees_stmt, more_stmts, some_stmts, stmts_below, stmts}
+use Rattle.spx_parse_body.specs.Statements.{assignment, upper, choice, more_choices, some_choices, choices_by, choices, arm, elsif_arm, if_statement, alternative, more_alternatives, alternatives, case_statement, null_statement, assertion_statement, next_stmt, stmt_by, stmt, sees_stmt, more_stmts, some_stmts, stmts_below, stmts}
 use Rattle.spx_parse_body.proofs.Callers.Loops.{Shrinks}
 use Rattle.spx_parse_body.proofs.Callers.Separated.{not_seen, sees_front, reaches_separated, reaches_some_items}
 use Rattle.spx_parse_body.proofs.Callers.Reaches.{Reaches, reaches_bind, reaches_pure, reaches_choose, reaches_deeper, reaches_expect, reaches_expect_place, reaches_is, reaches_items_before, peek_front}
@@ -37,6 +39,10 @@ target_first : (target : Name) (fs ws : List Form) → next_stmt ((written_name 
 target_first (Simple prefix) fs ws = refl
 target_first (Attribute prefix designator) fs ws = refl
 
+asserted_first : (kind : AssertionKind) (place : Place) (condition : Expr) (ws : List Form) → next_stmt (written_level (Stmt-F.Assertion kind place condition) ++ ws) ≡ Some (kinds.Assertion kind)
+asserted_first assertion.Assert place condition ws = refl
+asserted_first assertion.Check place condition ws = refl
+
 arms_first : (levels : ℕ) (xs : List Arm) (ws : List Form) → OneOrMore (FitsArm levels) xs → next_stmt (written_arms xs ++ ws) ≡ Some kinds.If
 arms_first levels [] ws f = absurd f
 arms_first levels (x ∷ xs) ws f =
@@ -46,7 +52,7 @@ level_seen : (levels : ℕ) (y : Stmt-F Stmt Alternative Arm) (ws : List Form) �
 level_seen levels (Stmt-F.Null place) ws f = refl
 level_seen levels (Stmt-F.Assignment target value) ws f = ap is_some (target_first target _ ws)
 level_seen levels (Stmt-F.Case place selector xs closing) ws f = refl
-level_seen levels (Stmt-F.Check place condition) ws f = refl
+level_seen levels (Stmt-F.Assertion kind place condition) ws f = ap is_some (asserted_first kind place condition ws)
 level_seen levels (Stmt-F.If arms otherwise closing) ws f = ap sees_stmt (append_assoc (written_arms arms) _ ws) ∙ ap is_some (arms_first levels arms _ f.1)
 
 stmt_seen : (levels : ℕ) (x : Stmt) (ws : List Form) → IsStmt levels x → sees_stmt (written_stmt x ++ ws) ≡ true
@@ -257,7 +263,7 @@ module _ (inner : Reader (List Stmt)) (levels : ℕ) (stmt_shrinks : Shrinks see
 
   -- by the last level of the statement
   level_again : (x : Stmt) (y : Stmt-F Stmt Alternative Arm) (fs zs : List Form) → out-Stmt x ≡ y → IsFormed levels (Within levels) y → fs ≡ written_level y ++ zs → Reaches (stmt inner levels) fs x zs
-  unfolding stmt null_statement check_statement
+  unfolding stmt null_statement assertion_statement
   level_again x (Stmt-F.Null place) fs zs out f h =
       reaches_is (same_out x (Null place) _ out (outs-Null place))
       (reaches_choose next_stmt (stmt_by inner levels) (Some kinds.Null) (ap next_stmt h)
@@ -272,10 +278,10 @@ module _ (inner : Reader (List Stmt)) (levels : ℕ) (stmt_shrinks : Shrinks see
   level_again x (Stmt-F.Case place selector xs closing) fs zs out f h =
       reaches_is (same_out x (Case place selector xs closing) _ out (outs-Case place selector xs closing))
       (reaches_choose next_stmt (stmt_by inner levels) (Some kinds.Case) (ap next_stmt h) (case_again f.0 place selector xs closing fs zs f.1 f.2 h))
-  level_again x (Stmt-F.Check place condition) fs zs out f h =
-      reaches_is (same_out x (Check place condition) _ out (outs-Check place condition))
-      (reaches_choose next_stmt (stmt_by inner levels) (Some kinds.Check) (ap next_stmt h)
-      (reaches_bind _ (predicate_after_again k.Check levels (record { place = place; condition = condition }) fs zs f h) (λ us a. reaches_pure a)))
+  level_again x (Stmt-F.Assertion kind place condition) fs zs out f h =
+      reaches_is (same_out x (Assertion kind place condition) _ out (outs-Assertion kind place condition))
+      (reaches_choose next_stmt (stmt_by inner levels) (Some (kinds.Assertion kind)) (ap next_stmt h ∙ asserted_first kind place condition zs)
+      (reaches_bind _ (predicate_after_again (assertion_word kind) levels (record { place = place; condition = condition }) fs zs f h) (λ us a. reaches_pure a)))
 
   stmt_again : (x : Stmt) (fs zs : List Form) → IsStmt levels x → fs ≡ written_stmt x ++ zs → Reaches (stmt inner levels) fs x zs
   stmt_again x fs zs f h = level_again x (out-Stmt x) fs zs refl f (h ∙ ap (λ (ws : List Form). ws ++ zs) (spelled_stmt x))
