@@ -137,7 +137,7 @@ pub fn enumeration_type(position: usize, count: usize) -> Subtype
     ensures { result ≡ enumeration_type position count }
 {
     let id = TypeId(position);
-    let last = count as i128 - 1;
+    let last = count.saturating_sub(1) as i128;
     let base = BaseType {
         id,
         class: Class::Enumeration,

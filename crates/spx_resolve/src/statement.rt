@@ -107,8 +107,9 @@ fn resolve_stmt(
             )?;
             Ok(CoreStmt::Case(*place, selector, alternatives, *closing))
         }
-        Stmt::Check(place, condition) => {
-            Ok(CoreStmt::Check(*place, resolve_in(alloc, condition, changed, scope)?))
+        Stmt::Assertion(kind, place, condition) => {
+            let condition = resolve_in(alloc, condition, changed, scope)?;
+            Ok(CoreStmt::Assertion(*kind, *place, condition))
         }
     }
 }
