@@ -6,8 +6,9 @@ use Rattle.spx_tree.specs.declared.expression.InfixOp.TheVariants as op
 use Rattle.spx_tree.specs.declared.expression.Expr.{Expr-F, roll-Expr, fold-roll-Expr}
 use Rattle.spx_tree.specs.declared.expression.Expr.TheBlock.{hidden-the_row-Expr-0}
 use Rattle.spx_tree.specs.declared.expression.Expr.TheVariants as written_expr
+use Rattle.spx_tree.specs.declared.statement.AssertionKind.TheVariants as assertion
 use Rattle.spx_tree.specs.declared.statement.Stmt.{Stmt-F, out-Stmt}
-use Rattle.spx_tree.specs.declared.statement.Stmt.TheVariants.{outs-Assignment, outs-Check}
+use Rattle.spx_tree.specs.declared.statement.Stmt.TheVariants.{outs-Assignment, outs-Assertion}
 use Rattle.spx_tree.specs.Lexemes.{unreserved, kind_of_word, code_delimiters, annotation_delimiters, delimiters}
 use Rattle.spx_tree.specs.Places.{place_after_bytes}
 use Rattle.spx_tree.specs.Spells.{Spells}
@@ -27,7 +28,7 @@ use Rattle.spx_examples.specs.Assertions.{is_next, is_positive, post_on, program
 use Rattle.spx_examples.specs.AssertionText.{asserted_bytes, asserted_tokens, next_written, positive_written, check_written, asserted_units, asserted_sub, asserted_program}
 use Rattle.spx_examples.specs.Increment.{place, word, x_written, successor_written, step_written, relation, x_at}
 use Rattle.spx_examples.proofs.IncrementNames.{regions, x_denotes}
-use Rattle.spx_examples.proofs.Resolving.{resolved_check, resolved_step, resolved_x}
+use Rattle.spx_examples.proofs.Resolving.{resolved_assertion, resolved_step, resolved_x}
 use Rattle.spx_examples.proofs.Spelling.{Piece, Word, Digits, Delimiter, Space, Head, LineEnd, spelled_by}
 
 -- ---- its tokens
@@ -73,8 +74,8 @@ sum = record { low = omega arith; layered = (tt, tt, omega arith, omega arith); 
 step_is : out-Stmt step_written ≡ Stmt-F.Assignment (x_written 6 4) (successor_written 6 9)
 step_is = outs-Assignment (x_written 6 4) (successor_written 6 9)
 
-check_is : out-Stmt check_written ≡ Stmt-F.Check (place 7 8) positive_written
-check_is = outs-Check (place 7 8) positive_written
+check_is : out-Stmt check_written ≡ Stmt-F.Assertion assertion.Check (place 7 8) positive_written
+check_is = outs-Assertion assertion.Check (place 7 8) positive_written
 
 step_stmt : IsStmt 2 step_written
 step_stmt = subst (IsFormed 2 (Within 2)) (sym step_is) sum
@@ -88,7 +89,7 @@ grammatical = (record { formal_part = ((tt, tt), tt); derives = ((tt, tt), tt); 
 step_written_as : written_stmt step_written ≡ written_level (Stmt-F.Assignment (x_written 6 4) (successor_written 6 9))
 step_written_as = spelled_stmt step_written ∙ ap written_level step_is
 
-check_written_as : written_stmt check_written ≡ written_level (Stmt-F.Check (place 7 8) positive_written)
+check_written_as : written_stmt check_written ≡ written_level (Stmt-F.Assertion assertion.Check (place 7 8) positive_written)
 check_written_as = spelled_stmt check_written ∙ ap written_level check_is
 
 pub as_written : written asserted_units ≡ forms_of asserted_bytes asserted_tokens
@@ -128,4 +129,4 @@ pub made : resolved asserted_units ≡ asserted_program
 unfolding standard
 made =
     ap₂ with_parts resolved_next
-    (ap₂ (λ (a b : CoreStmt). a ∷ b ∷ []) (resolved_step items regions x_denotes 6 4 9) (resolved_check items regions (place 7 8) positive_written ∙ ap (stmt.Check (place 7 8)) resolved_positive))
+    (ap₂ (λ (a b : CoreStmt). a ∷ b ∷ []) (resolved_step items regions x_denotes 6 4 9) (resolved_assertion items regions assertion.Check (place 7 8) positive_written ∙ ap (stmt.Assertion assertion.Check (place 7 8)) resolved_positive))

@@ -5,6 +5,7 @@ use Rattle.std.specs.List.{flat_map}
 use Rattle.std.specs.Fmt.{digits}
 use Rattle.spx_text.specs.declared.place.Place.{Place}
 use Rattle.spx_tree.specs.declared.expression.InfixOp.TheVariants as op
+use Rattle.spx_tree.specs.declared.statement.AssertionKind.TheVariants as assertion
 use Rattle.spx_core.specs.declared.entity.TheConstants.{BOOLEAN, INTEGER}
 use Rattle.spx_core.specs.declared.expression.CoreExpr.{CoreExpr}
 use Rattle.spx_core.specs.declared.expression.CoreExpr.TheVariants as expr
@@ -30,13 +31,14 @@ use Rattle.spx_term.proofs.Terms as terms
 use Rattle.spx_meaning.specs.Literals.{literal, literal_in}
 use Rattle.spx_paths.specs.Terms.{now_term, entry_term, literal_or, term_of, term_with-Entry, term_with-Infix, term_with-Number}
 use Rattle.spx_paths.specs.Walks.{asserted, ending, start_tree, walk}
-use Rattle.spx_paths.specs.Conditions.{conditions_of, numbered}
+use Rattle.spx_paths.specs.Conditions.{conditions_of}
 use Rattle.spx_examples.specs.Assertions.{entry_at, after_entry, is_kept, is_next, is_positive, promising, program_of, only_checking, checking_both, next_is_next, entry_is_positive, entry_is_kept, promised_conditions, check_condition, kept_condition, both_condition, kept_after_both}
 use Rattle.spx_examples.specs.Increment.{place, x_at, entry_x, next_x, known_entry, sum_goals}
 use Rattle.spx_examples.proofs.IncrementRules.{inc_command}
-use Rattle.spx_examples.proofs.Statements.{check_is, operating}
+use Rattle.spx_examples.proofs.Statements.{assertion_is, operating}
 use Rattle.spx_examples.proofs.Successor.{judged_x}
 use Rattle.spx_examples.proofs.Sums.{claims_with, entry_all_once, first_x, last_x, first_next, last_next, same_x, now_name, now_x, next_now, in_integer, on_entry, summed, path_from_entry, term_of_operation, walk_step, before_number, x_on_entry, entry_once, entry_on_entry, goals_on_entry, entry_taken, taken, first_is_new_on_entry, last_is_new_on_entry, next_on_entry}
+use Rattle.spx_examples.proofs.Trees.{conditions_from, trees_are}
 use Rattle.spx_examples.proofs.TermEquality.{is_first, is_later, is_new, other_op}
 
 -- ---- terms
@@ -145,7 +147,7 @@ checking_tree : start_tree (program_of only_checking) only_checking ≡ path_fro
 checking_tree =
     let last : ℕ → Tree = ending (program_of only_checking) only_checking in
     ap path_from_entry
-    (ap (λ c. walk (program_of only_checking) only_checking c last last 0) (check_is (place 6 8) (is_positive 6 14))
+    (ap (λ c. walk (program_of only_checking) only_checking c last last 0) (assertion_is assertion.Check (place 6 8) (is_positive 6 14))
     ∙ asserted_is kind.Check (place 6 8) _ sign.Greater now_x (term.Number (pos 0)) (last 0) (term_of_positive only_checking refl 6 14) refl
     ∙ ap (check kind.Check (place 6 8) (now_is_positive ∷ [])) (asserted_is kind.Post (place 3 5) _ sign.Equal now_x entry_x Cut (term_of_kept only_checking refl 3 10) refl))
 
@@ -158,7 +160,7 @@ both_tree : start_tree (program_of checking_both) checking_both ≡ path_from_en
 both_tree =
     let last : ℕ → Tree = ending (program_of checking_both) checking_both in
     ap path_from_entry
-    (ap (λ c. walk (program_of checking_both) checking_both c last last 0) (check_is (place 6 8) both)
+    (ap (λ c. walk (program_of checking_both) checking_both c last last 0) (assertion_is assertion.Check (place 6 8) both)
     ∙ ap (λ t. asserted kind.Check (place 6 8) t (last 0)) (term_of_both checking_both refl)
     ∙ ap₂ (check kind.Check (place 6 8)) both_parts (asserted_is kind.Post (place 3 5) _ sign.Equal now_x entry_x Cut (term_of_kept checking_both refl 3 10) refl))
 
@@ -265,13 +267,13 @@ both_claims =
     ∙ ap₂ (λ t u. two_claims known_entry (known_entry ++ entry_is_positive ∷ entry_is_kept ∷ []) (t ∷ u ∷ []) u) positive_goal kept_goal
 
 pub promised_are : conditions_of (program_of promised) promised ≡ promised_conditions
-unfolding conditions_of digits
-promised_are = ap (λ tree. numbered (codes "Inc") 1 (map tidy (flat_map claims_of (tree ∷ [])))) promised_tree ∙ ap (numbered (codes "Inc") 1) promised_claims
+unfolding digits
+promised_are = conditions_from (program_of promised) promised _ _ (trees_are (program_of promised) promised _ _ [] inc_command promised_tree refl) promised_claims
 
 pub checking_are : conditions_of (program_of only_checking) only_checking ≡ check_condition ∷ kept_condition ∷ []
-unfolding conditions_of digits
-checking_are = ap (λ tree. numbered (codes "Inc") 1 (map tidy (flat_map claims_of (tree ∷ [])))) checking_tree ∙ ap (numbered (codes "Inc") 1) checking_claims
+unfolding digits
+checking_are = conditions_from (program_of only_checking) only_checking _ _ (trees_are (program_of only_checking) only_checking _ _ [] (assertion_is assertion.Check (place 6 8) (is_positive 6 14)) checking_tree refl) checking_claims
 
 pub both_are : conditions_of (program_of checking_both) checking_both ≡ both_condition ∷ kept_after_both ∷ []
-unfolding conditions_of digits
-both_are = ap (λ tree. numbered (codes "Inc") 1 (map tidy (flat_map claims_of (tree ∷ [])))) both_tree ∙ ap (numbered (codes "Inc") 1) both_claims
+unfolding digits
+both_are = conditions_from (program_of checking_both) checking_both _ _ (trees_are (program_of checking_both) checking_both _ _ [] (assertion_is assertion.Check (place 6 8) both) both_tree refl) both_claims

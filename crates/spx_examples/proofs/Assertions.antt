@@ -3,11 +3,12 @@ use Rattle.std.proofs.Common.{◌≡◌, ℕ, ◌+◌, ℤ, pos, true, [], ◌�
 use Rattle.spx_text.specs.declared.place.Place.{Place}
 use Rattle.spx_tree.specs.declared.expression.InfixOp.{InfixOp}
 use Rattle.spx_tree.specs.declared.expression.InfixOp.TheVariants as op
+use Rattle.spx_tree.specs.declared.statement.AssertionKind.TheVariants as assertion
 use Rattle.spx_core.specs.declared.entity.TheConstants.{INTEGER_FIRST, INTEGER_LAST}
 use Rattle.spx_core.specs.declared.expression.CoreExpr.{CoreExpr}
 use Rattle.spx_core.specs.declared.expression.CoreExpr.TheVariants.{Name, Number, Infix}
 use Rattle.spx_core.specs.declared.subprogram.Sub.{Sub}
-use Rattle.spx_core.specs.Commands.{Check, Skip, Then, commands}
+use Rattle.spx_core.specs.Commands.{Assertion, Skip, Then, commands}
 use Rattle.spx_core.proofs.Callers.Expressions.{fold-Entry, fold-Name, fold-Number, fold-Infix}
 use Rattle.spx_term.specs.declared.value.Value.{Value}
 use Rattle.spx_term.specs.declared.value.Value.TheVariants as value
@@ -22,7 +23,7 @@ use Rattle.spx_examples.specs.Assertions.{entry_at, after_entry, is_kept, is_nex
 use Rattle.spx_examples.specs.Increment.{place, x, x_at, x_named, successor, step}
 use Rattle.spx_examples.specs.Variants.{local_program, local_sub, local_y_at, out_program, only_null}
 use Rattle.spx_examples.proofs.IncrementRuns.{body_runs}
-use Rattle.spx_examples.proofs.Statements.{assignment_sets, check_is, check_looks, null_is}
+use Rattle.spx_examples.proofs.Statements.{assignment_sets, assertion_is, assertion_looks, null_is}
 use Rattle.spx_examples.proofs.Successor.{assigning, step_command, step_runs, successor_of, x_is}
 
 -- ---- what conditions mean
@@ -90,11 +91,11 @@ unset_is_first n v =
 abbrev looking_at : ℕ → Value → Store → Outcome
 looking_at line v s = demand (as_truth v) bad.Check (place line 8) s
 
-after_step : (condition : CoreExpr) → commands (step ∷ checking 7 condition ∷ []) ≡ Then (step_command 6 4 9) (Then (Check (place 7 8) condition) Skip)
-after_step condition = ap₂ (λ a b. Then a (Then b Skip)) (assignment_sets (x_named 6 4) (successor 6 9)) (check_looks (place 7 8) condition)
+after_step : (condition : CoreExpr) → commands (step ∷ checking 7 condition ∷ []) ≡ Then (step_command 6 4 9) (Then (Assertion assertion.Check (place 7 8) condition) Skip)
+after_step condition = ap₂ (λ a b. Then a (Then b Skip)) (assignment_sets (x_named 6 4) (successor 6 9)) (assertion_looks assertion.Check (place 7 8) condition)
 
-before_step : (condition : CoreExpr) → commands (checking 5 condition ∷ step ∷ []) ≡ Then (Check (place 5 8) condition) (Then (step_command 6 4 9) Skip)
-before_step condition = ap₂ (λ a b. Then a (Then b Skip)) (check_looks (place 5 8) condition) (assignment_sets (x_named 6 4) (successor 6 9))
+before_step : (condition : CoreExpr) → commands (checking 5 condition ∷ step ∷ []) ≡ Then (Assertion assertion.Check (place 5 8) condition) (Then (step_command 6 4 9) Skip)
+before_step condition = ap₂ (λ a b. Then a (Then b Skip)) (assertion_looks assertion.Check (place 5 8) condition) (assignment_sets (x_named 6 4) (successor 6 9))
 
 -- the body, where the assignment has this outcome
 abbrev then_looking : Frame → CoreExpr → Outcome → Outcome
@@ -151,7 +152,7 @@ unfolding value_of_op
 check_changes_nothing n =
     let f : Frame = from only_checking (pos 7) in
     let s : Store = x_is (pos 7) in
-    ap (λ c. to_promise f (run f n s c)) (check_is (place 6 8) (is_positive 6 14))
+    ap (λ c. to_promise f (run f n s c)) (assertion_is assertion.Check (place 6 8) (is_positive 6 14))
     ∙ ap (λ v. to_promise f (then_do (demand (as_truth v) bad.Check (place 6 8) s) Ended)) (positive_means f s 6 14)
     ∙ ap (only_looking (value.Truth true)) (kept_means f s 3 10)
 
@@ -184,7 +185,7 @@ unset_runs : (o : InfixOp) (n : ℕ) (v : Value) (w : Option Value) → call (lo
     ≡ to_promise (around_unset o v) (then_do (looking_at 6 (applied o (value.Number INTEGER_FIRST) (value.Number (pos 0))) (unset_y v)) Ended)
 unset_runs o n v w =
     let f : Frame = around_unset o v in
-    ap (λ c. to_promise f (run f n (unset_y v) c)) (check_is (place 6 8) (Infix o (place 6 16) (Name (local_y_at 6 14)) (Number (pos 0) (place 6 18))))
+    ap (λ c. to_promise f (run f n (unset_y v) c)) (assertion_is assertion.Check (place 6 8) (Infix o (place 6 16) (Name (local_y_at 6 14)) (Number (pos 0) (place 6 18))))
     ∙ ap (λ x. to_promise f (then_do (looking_at 6 x (unset_y v)) Ended)) (unset_means o v)
 
 pub unset_is_below : (n : ℕ) (v : Value) (w : Option Value) → call (local_program (checking_unset op.Less)) n (local_sub (checking_unset op.Less)) (Some v ∷ w ∷ []) ≡ Ended (unset_y v)

@@ -3,6 +3,7 @@ mod Resolving
 mod Successor
 mod OneVariable
 mod TermEquality
+mod Trees
 mod Sums
 mod SumsPlain
 mod IncrementTypes

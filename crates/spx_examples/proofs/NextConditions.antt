@@ -1,5 +1,5 @@
 -- The paths of the procedure `Next`, and its verification conditions, which need no proof.
-use Rattle.std.proofs.Common.{◌≡◌, pos, List, [], ◌∷◌, map, refl, sym, ap, ap₂, subst, ◌∙◌}
+use Rattle.std.proofs.Common.{◌≡◌, pos, List, [], ◌∷◌, refl, sym, ap, ap₂, subst, ◌∙◌}
 use Rattle.std.specs.Prelude.{codes}
 use Rattle.std.specs.List.{flat_map}
 use Rattle.std.specs.Fmt.{digits}
@@ -19,15 +19,16 @@ use Rattle.spx_term.specs.Goals.{goal_of}
 use Rattle.spx_term.specs.Intervals.{allowed, structural}
 use Rattle.spx_term.specs.Paths.{branches}
 use Rattle.spx_term.specs.Plain.{Plain}
-use Rattle.spx_term.specs.Steps.{Tree, Cut, Assume, Assign, Split, assume_all, claims_of, tidy}
+use Rattle.spx_term.specs.Steps.{Tree, Cut, Assume, Assign, Split, assume_all}
 use Rattle.spx_paths.specs.Terms.{now_term, term_of, term_with-Number}
 use Rattle.spx_paths.specs.Checks.{checks, checks-Infix, checks-Name, checks-Number, unless_static}
-use Rattle.spx_paths.specs.Walks.{ending, start_tree, walk}
-use Rattle.spx_paths.specs.Conditions.{ArePlain, conditions_of, numbered, paths}
+use Rattle.spx_paths.specs.Walks.{ending, start_tree, trees_of, walk}
+use Rattle.spx_paths.specs.Conditions.{ArePlain, conditions_of, paths}
 use Rattle.spx_examples.specs.Increment.{place, x_at, entry_x}
 use Rattle.spx_examples.specs.Next.{below_hundred, branch, next_sub, next_program, below_now, path_through_arm, path_past_arm, overflow_condition, range_condition, next_conditions}
 use Rattle.spx_examples.proofs.NextRules.{next_command, below_is_not}
 use Rattle.spx_examples.proofs.Sums.{now_name, now_x, in_integer, summed, term_of_operation, walk_step, claims_are}
+use Rattle.spx_examples.proofs.Trees.{conditions_from, trees_are}
 use Rattle.spx_examples.proofs.SumsPlain.{Fits, range_plain, overflow_plain}
 
 -- ---- the tree of steps
@@ -64,12 +65,15 @@ tree_is = ap (λ rest. Assign now_name entry_x (assume_all (in_integer now_x) re
 
 -- ---- paths and conditions
 
+the_trees : trees_of next_program next_sub ≡ Assign now_name entry_x (assume_all (in_integer now_x) (fork below_now (below_now ∷ []) (summed (place 6 14) Cut))) ∷ []
+the_trees = trees_are next_program next_sub _ _ [] next_command tree_is refl
+
 pub paths_are : paths next_program next_sub ≡ path_through_arm ∷ path_past_arm ∷ []
-paths_are = ap (λ tree. flat_map branches (tree ∷ [])) tree_is
+paths_are = ap (flat_map branches) the_trees
 
 pub conditions_are : conditions_of next_program next_sub ≡ next_conditions
-unfolding conditions_of digits
-conditions_are = ap (λ tree. numbered (codes "Next") 1 (map tidy (flat_map claims_of (tree ∷ [])))) tree_is ∙ ap (numbered (codes "Next") 1) (claims_are (pos 100) (place 6 14))
+unfolding digits
+conditions_are = conditions_from next_program next_sub _ _ the_trees (claims_are (pos 100) (place 6 14))
 
 below_hundred_fits : Fits (pos 100) (pos 99)
 unfolding allowed structural fits

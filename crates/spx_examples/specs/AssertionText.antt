@@ -3,6 +3,7 @@ use Rattle.std.specs.Prelude.{pos, List, [], ◌∷◌, ◌++◌, ℕ, Some, Non
 use Rattle.spx_tree.specs.declared.expression.InfixOp.TheVariants as op
 use Rattle.spx_tree.specs.declared.expression.Expr.{Expr}
 use Rattle.spx_tree.specs.declared.expression.Expr.TheVariants as written_expr
+use Rattle.spx_tree.specs.declared.statement.AssertionKind.TheVariants as assertion
 use Rattle.spx_tree.specs.declared.statement.Stmt.{Stmt}
 use Rattle.spx_tree.specs.declared.statement.Stmt.TheVariants as written_stmt
 use Rattle.spx_tree.specs.declared.subprogram.Unit.{Unit}
@@ -82,7 +83,7 @@ positive_written = written_expr.Infix op.Greater (place 7 16) (written_expr.Name
 
 -- `check X > 0`
 abbrev pub check_written : Stmt
-check_written = written_stmt.Check (place 7 8) positive_written
+check_written = written_stmt.Assertion assertion.Check (place 7 8) positive_written
 
 abbrev pub asserted_units : List Unit
 asserted_units =

@@ -16,6 +16,7 @@ use Rattle.spx_tree.specs.declared.expression.InfixOp.TheVariants as op
 use Rattle.spx_tree.specs.declared.expression.Expr.{Expr}
 use Rattle.spx_tree.specs.declared.expression.Expr.TheVariants as written_expr
 use Rattle.spx_tree.specs.declared.expression.Name.TheVariants.{Simple}
+use Rattle.spx_tree.specs.declared.statement.AssertionKind.TheVariants as assertion
 use Rattle.spx_tree.specs.declared.statement.Stmt.TheVariants as written_stmt
 use Rattle.spx_tree.specs.declared.subprogram.Param.{Param}
 use Rattle.spx_tree.specs.declared.subprogram.Subprogram.{Subprogram}
@@ -92,7 +93,7 @@ post_on condition = record { place = place 3 5; condition = condition }
 
 -- `check` condition, in this line
 abbrev pub checking : ℕ → CoreExpr → CoreStmt
-checking line condition = stmt.Check (place line 8) condition
+checking line condition = stmt.Assertion assertion.Check (place line 8) condition
 
 -- the procedure with this postcondition
 abbrev pub promising : CoreExpr → Sub
@@ -207,7 +208,7 @@ ensuring s condition = record s { post = Some (record { place = place 3 5; condi
 
 -- `check` this in the place of its statement
 abbrev pub looking : Subprogram → Expr → Subprogram
-looking s condition = record s { statements = written_stmt.Check (place 6 8) condition ∷ [] }
+looking s condition = record s { statements = written_stmt.Assertion assertion.Check (place 6 8) condition ∷ [] }
 
 -- a parameter of a name of one letter, at its column
 abbrev pub param_written : List ℕ → WrittenMode → ℕ → Param
