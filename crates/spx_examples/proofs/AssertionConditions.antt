@@ -1,7 +1,5 @@
 -- The verification conditions of postconditions and `check` annotations.
 use Rattle.std.proofs.Common.{◌≡◌, ℕ, ◌+◌, pos, true, false, if◌then◌else◌, List, [], ◌∷◌, ◌++◌, None, Ok, map, fold, refl, ap, ap₂, ◌∙◌}
-use Rattle.std.specs.Prelude.{codes}
-use Rattle.std.specs.List.{flat_map}
 use Rattle.std.specs.Fmt.{digits}
 use Rattle.spx_text.specs.declared.place.Place.{Place}
 use Rattle.spx_tree.specs.declared.expression.InfixOp.TheVariants as op
@@ -32,7 +30,7 @@ use Rattle.spx_meaning.specs.Literals.{literal, literal_in}
 use Rattle.spx_paths.specs.Terms.{now_term, entry_term, literal_or, term_of, term_with-Entry, term_with-Infix, term_with-Number}
 use Rattle.spx_paths.specs.Walks.{asserted, ending, start_tree, walk}
 use Rattle.spx_paths.specs.Conditions.{conditions_of}
-use Rattle.spx_examples.specs.Assertions.{entry_at, after_entry, is_kept, is_next, is_positive, promising, program_of, only_checking, checking_both, next_is_next, entry_is_positive, entry_is_kept, promised_conditions, check_condition, kept_condition, both_condition, kept_after_both}
+use Rattle.spx_examples.specs.Assertions.{entry_at, after_entry, is_kept, is_next, is_positive, promising, program_of, only_checking, checking_both, now_is_kept, now_is_positive, next_is_next, entry_is_positive, entry_is_kept, promised_conditions, check_condition, kept_condition, both_condition, kept_after_both}
 use Rattle.spx_examples.specs.Increment.{place, x_at, entry_x, next_x, known_entry, sum_goals}
 use Rattle.spx_examples.proofs.IncrementRules.{inc_command}
 use Rattle.spx_examples.proofs.Statements.{assertion_is, operating}
@@ -90,7 +88,7 @@ module _ (sub : Sub) (is : entry_term (program_of sub) sub (record { 0 = 0 }) �
       ∙ ap₂ (λ l t. literal_or l (term.Infix sign.Add t (term_of p (entry_term p sub) (expr.Number (pos 1) (place line (column + 5)))))) (ap literal_in (judged_after line column)) (term_of_entry line column)
       ∙ ap (term.Infix sign.Add entry_x) (term_with-Number (now_term p) (entry_term p sub) (pos 1) (place line (column + 5)))
 
-  term_of_kept : (line column : ℕ) → term_of p (entry_term p sub) (is_kept line column) ≡ term.Infix sign.Equal now_x entry_x
+  pub term_of_kept : (line column : ℕ) → term_of p (entry_term p sub) (is_kept line column) ≡ term.Infix sign.Equal now_x entry_x
   term_of_kept line column =
       term_of_operation p (entry_term p sub) op.Equal (place line (column + 2)) line column (entry_at line (column + 4)) (compared line column (entry_at line (column + 4)) _ (judged_entry line (column + 4)))
       ∙ ap (term.Infix sign.Equal now_x) (term_of_entry line (column + 4))
@@ -100,7 +98,7 @@ module _ (sub : Sub) (is : entry_term (program_of sub) sub (record { 0 = 0 }) �
       term_of_operation p (entry_term p sub) op.Equal (place line (column + 2)) line column (after_entry line (column + 4)) (compared line column (after_entry line (column + 4)) _ (judged_after line (column + 4)))
       ∙ ap (term.Infix sign.Equal now_x) (term_of_after line (column + 4))
 
-  term_of_positive : (line column : ℕ) → term_of p (entry_term p sub) (is_positive line column) ≡ term.Infix sign.Greater now_x (term.Number (pos 0))
+  pub term_of_positive : (line column : ℕ) → term_of p (entry_term p sub) (is_positive line column) ≡ term.Infix sign.Greater now_x (term.Number (pos 0))
   term_of_positive line column =
       term_of_operation p (entry_term p sub) op.Greater (place line (column + 2)) line column (expr.Number (pos 0) (place line (column + 4))) (positive_is_not line column)
       ∙ ap (term.Infix sign.Greater now_x) (term_with-Number (now_term p) (entry_term p sub) (pos 0) (place line (column + 4)))
@@ -122,18 +120,12 @@ abbrev at_end : Term → Tree
 at_end t = check kind.Post (place 3 5) (t ∷ []) Cut
 
 -- a comparison is its own only part
-asserted_is : (k : CondKind) (at : Place) (t : Term) (o : TermOp) (a b : Term) (rest : Tree) → t ≡ term.Infix o a b → parts_of o a b (conjuncts a) (conjuncts b) ≡ term.Infix o a b ∷ [] → asserted k at t rest ≡ check k at (term.Infix o a b ∷ []) rest
+pub asserted_is : (k : CondKind) (at : Place) (t : Term) (o : TermOp) (a b : Term) (rest : Tree) → t ≡ term.Infix o a b → parts_of o a b (conjuncts a) (conjuncts b) ≡ term.Infix o a b ∷ [] → asserted k at t rest ≡ check k at (term.Infix o a b ∷ []) rest
 asserted_is k at t o a b rest is parts = ap (λ t. asserted k at t rest) is ∙ ap (λ ts. check k at ts rest) (conjuncts-Infix o a b ∙ parts)
 
--- `X = X~ + 1`, `X > 0` and `X = X~`
+-- `X = X~ + 1`
 abbrev next_now_is : Term
 next_now_is = term.Infix sign.Equal now_x next_x
-
-abbrev now_is_positive : Term
-now_is_positive = term.Infix sign.Greater now_x (term.Number (pos 0))
-
-abbrev now_is_kept : Term
-now_is_kept = term.Infix sign.Equal now_x entry_x
 
 promised_tree : start_tree (program_of promised) promised ≡ path_from_entry (summed (place 6 11) (at_end next_now_is))
 promised_tree =
@@ -195,10 +187,10 @@ next_goal =
     ap on_entry (of_both next_now sign.Equal now_x next_x next_now next_x (x_replaced next_now) (next_stays next_now))
     ∙ of_both entry_x sign.Equal next_now next_x next_x next_x next_on_entry (next_stays entry_x)
 
-kept_goal : on_entry now_is_kept ≡ entry_is_kept
+pub kept_goal : on_entry now_is_kept ≡ entry_is_kept
 kept_goal = of_both entry_x sign.Equal now_x entry_x entry_x entry_x x_on_entry (entry_stays entry_x)
 
-positive_goal : on_entry now_is_positive ≡ entry_is_positive
+pub positive_goal : on_entry now_is_positive ≡ entry_is_positive
 positive_goal = before_number sign.Greater now_x entry_x (pos 0) x_on_entry
 
 -- ---- hypotheses

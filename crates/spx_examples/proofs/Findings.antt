@@ -140,7 +140,7 @@ seven_effect : body_effect gives_seven ≡ next (assign (Some x) ((place 6 9, y)
 seven_effect = giving_name [] (out_x_at 6 4) (seven_y_at 6 9)
 
 -- `name > 0` reads the name
-test_reads : (at zero : Place) (name : CoreName) → names_read (Infix op.Greater at (Name name) (Number (pos 0) zero)) ≡ name ∷ []
+pub test_reads : (at zero : Place) (name : CoreName) → names_read (Infix op.Greater at (Name name) (Number (pos 0) zero)) ≡ name ∷ []
 test_reads at zero name = fold-Infix names_step op.Greater at (Name name) (Number (pos 0) zero) ∙ ap₂ (λ (a b : List CoreName). a ++ b) (fold-Name names_step name) (fold-Number names_step (pos 0) zero)
 
 local_check_effect : body_effect checks_local ≡ next stepped (next (observe ((place 7 14, y) ∷ [])) nothing)

@@ -48,5 +48,9 @@ mod Declarations
 mod Selections
 mod Assertions
 mod AssertionConditions
+mod AssertionCuts
 mod AssertionText
 mod AssertedText
+mod Loops
+mod LoopFlows
+mod LoopCuts
