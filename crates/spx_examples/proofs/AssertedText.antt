@@ -1,13 +1,15 @@
--- The text of a procedure with a postcondition and a `check`, cut into its parts, its units in the grammar, and the program that they are resolved to.
-use Rattle.std.proofs.Common.{◌≡◌, pos, List, [], ◌∷◌, ◌++◌, Some, true, refl, sym, ap, ap₂, subst, ◌∙◌, arith}
+-- The texts of a procedure with a postcondition and a `check` or an `assert`, cut into its parts, its units in the grammar, and the program that they are resolved to.
+use Rattle.std.proofs.Common.{◌≡◌, ℕ, ◌+◌, pos, List, [], ◌∷◌, ◌++◌, Some, true, refl, sym, ap, ap₂, subst, ◌∙◌, arith}
 use Rattle.std.specs.Prelude.{codes}
 use denote.Hole.Carrier.{hidden, roll}
 use Rattle.spx_tree.specs.declared.expression.InfixOp.TheVariants as op
 use Rattle.spx_tree.specs.declared.expression.Expr.{Expr-F, roll-Expr, fold-roll-Expr}
 use Rattle.spx_tree.specs.declared.expression.Expr.TheBlock.{hidden-the_row-Expr-0}
 use Rattle.spx_tree.specs.declared.expression.Expr.TheVariants as written_expr
+use Rattle.spx_tree.specs.declared.statement.AssertionKind.{AssertionKind}
+use Rattle.spx_tree.specs.declared.statement.AssertionKind.TheVariants as assertion
 use Rattle.spx_tree.specs.declared.statement.Stmt.{Stmt-F, out-Stmt}
-use Rattle.spx_tree.specs.declared.statement.Stmt.TheVariants.{outs-Assignment, outs-Check}
+use Rattle.spx_tree.specs.declared.statement.Stmt.TheVariants.{outs-Assignment, outs-Assertion}
 use Rattle.spx_tree.specs.Lexemes.{unreserved, kind_of_word, code_delimiters, annotation_delimiters, delimiters}
 use Rattle.spx_tree.specs.Places.{place_after_bytes}
 use Rattle.spx_tree.specs.Spells.{Spells}
@@ -24,10 +26,10 @@ use Rattle.spx_core.specs.declared.program.Program.{Program}
 use Rattle.spx_core.specs.Regions.{standard}
 use Rattle.spx_core.specs.Resolved.{expr_step, resolved, resolved_in}
 use Rattle.spx_examples.specs.Assertions.{is_next, is_positive, post_on, program_of}
-use Rattle.spx_examples.specs.AssertionText.{asserted_bytes, asserted_tokens, next_written, positive_written, check_written, asserted_units, asserted_sub, asserted_program}
+use Rattle.spx_examples.specs.AssertionText.{assert_bytes, assert_tokens, assert_units, asserted_bytes, asserted_tokens, asserted_units, next_written, noted_sub, noted_written, positive_written, tokens_with, units_with}
 use Rattle.spx_examples.specs.Increment.{place, word, x_written, successor_written, step_written, relation, x_at}
 use Rattle.spx_examples.proofs.IncrementNames.{regions, x_denotes}
-use Rattle.spx_examples.proofs.Resolving.{resolved_check, resolved_step, resolved_x}
+use Rattle.spx_examples.proofs.Resolving.{resolved_assertion, resolved_step, resolved_x}
 use Rattle.spx_examples.proofs.Spelling.{Piece, Word, Digits, Delimiter, Space, Head, LineEnd, spelled_by}
 
 -- ---- its tokens
@@ -48,13 +50,17 @@ post = Head ∷ Space ∷ Word (codes "post") ∷ Space ∷ Word (codes "X") ∷
 abbrev body : List Piece
 body = Word (codes "is") ∷ LineEnd ∷ Word (codes "begin") ∷ LineEnd ∷ Space ∷ Space ∷ Space ∷ Word (codes "X") ∷ Space ∷ Delimiter (codes ":=") ∷ Space ∷ Word (codes "X") ∷ Space ∷ Delimiter (codes "+") ∷ Space ∷ Digits (codes "1") ∷ Delimiter (codes ";") ∷ LineEnd ∷ []
 
--- `--# check X > 0;` and the end
-abbrev last : List Piece
-last = Space ∷ Space ∷ Space ∷ Head ∷ Space ∷ Word (codes "check") ∷ Space ∷ Word (codes "X") ∷ Space ∷ Delimiter (codes ">") ∷ Space ∷ Digits (codes "0") ∷ Delimiter (codes ";") ∷ LineEnd ∷ Word (codes "end") ∷ Space ∷ Word (codes "Inc") ∷ Delimiter (codes ";") ∷ LineEnd ∷ []
+-- this word, `X > 0;` and the end
+abbrev last : List ℕ → List Piece
+last word = Space ∷ Space ∷ Space ∷ Head ∷ Space ∷ Word word ∷ Space ∷ Word (codes "X") ∷ Space ∷ Delimiter (codes ">") ∷ Space ∷ Digits (codes "0") ∷ Delimiter (codes ";") ∷ LineEnd ∷ Word (codes "end") ∷ Space ∷ Word (codes "Inc") ∷ Delimiter (codes ";") ∷ LineEnd ∷ []
 
 pub spelled : Spells 0 asserted_bytes asserted_tokens
 unfolding unreserved kind_of_word delimiters code_delimiters annotation_delimiters place_after_bytes
-spelled = spelled_by (heading ++ derives ++ post ++ body ++ last) refl refl refl
+spelled = spelled_by (heading ++ derives ++ post ++ body ++ last (codes "check")) refl refl refl
+
+pub assert_spelled : Spells 0 assert_bytes (tokens_with assert_tokens)
+unfolding unreserved kind_of_word delimiters code_delimiters annotation_delimiters place_after_bytes
+assert_spelled = spelled_by (heading ++ derives ++ post ++ body ++ last (codes "assert")) refl refl refl
 
 -- ---- its tree
 
@@ -62,9 +68,9 @@ next_condition : IsCondition 2 next_written
 unfolding hidden-the_row-Expr-0 hidden
 next_condition = record { low = omega arith; layered = (tt, (tt, tt, omega arith, omega arith), omega arith, omega arith); of_layer = omega arith }
 
-positive_condition : IsCondition 2 positive_written
+positive_condition : (column : ℕ) → IsCondition 2 (positive_written column)
 unfolding hidden-the_row-Expr-0 hidden
-positive_condition = record { low = omega arith; layered = (tt, tt, omega arith, omega arith); of_layer = omega arith }
+positive_condition column = record { low = omega arith; layered = (tt, tt, omega arith, omega arith); of_layer = omega arith }
 
 sum : IsExpr 2 (successor_written 6 9)
 unfolding hidden-the_row-Expr-0 hidden
@@ -73,27 +79,32 @@ sum = record { low = omega arith; layered = (tt, tt, omega arith, omega arith); 
 step_is : out-Stmt step_written ≡ Stmt-F.Assignment (x_written 6 4) (successor_written 6 9)
 step_is = outs-Assignment (x_written 6 4) (successor_written 6 9)
 
-check_is : out-Stmt check_written ≡ Stmt-F.Check (place 7 8) positive_written
-check_is = outs-Check (place 7 8) positive_written
-
 step_stmt : IsStmt 2 step_written
 step_stmt = subst (IsFormed 2 (Within 2)) (sym step_is) sum
-
-check_stmt : IsStmt 2 check_written
-check_stmt = subst (IsFormed 2 (Within 2)) (sym check_is) positive_condition
-
-pub grammatical : IsFile 2 asserted_units
-grammatical = (record { formal_part = ((tt, tt), tt); derives = ((tt, tt), tt); pre = tt; post = next_condition; declarations = tt; statements = (step_stmt, (check_stmt, tt)) }, tt)
 
 step_written_as : written_stmt step_written ≡ written_level (Stmt-F.Assignment (x_written 6 4) (successor_written 6 9))
 step_written_as = spelled_stmt step_written ∙ ap written_level step_is
 
-check_written_as : written_stmt check_written ≡ written_level (Stmt-F.Check (place 7 8) positive_written)
-check_written_as = spelled_stmt check_written ∙ ap written_level check_is
+module _ (kind : AssertionKind) (column : ℕ) where
+  noted_is : out-Stmt (noted_written kind column) ≡ Stmt-F.Assertion kind (place 7 8) (positive_written column)
+  noted_is = outs-Assertion kind (place 7 8) (positive_written column)
+
+  noted_stmt : IsStmt 2 (noted_written kind column)
+  noted_stmt = subst (IsFormed 2 (Within 2)) (sym noted_is) (positive_condition column)
+
+  pub grammatical : IsFile 2 (units_with (noted_written kind column))
+  grammatical = (record { formal_part = ((tt, tt), tt); derives = ((tt, tt), tt); pre = tt; post = next_condition; declarations = tt; statements = (step_stmt, (noted_stmt, tt)) }, tt)
+
+  noted_written_as : written_stmt (noted_written kind column) ≡ written_level (Stmt-F.Assertion kind (place 7 8) (positive_written column))
+  noted_written_as = spelled_stmt (noted_written kind column) ∙ ap written_level noted_is
 
 pub as_written : written asserted_units ≡ forms_of asserted_bytes asserted_tokens
 unfolding hidden-the_row-Expr-0 hidden
-as_written = rw step_written_as (rw check_written_as refl)
+as_written = rw step_written_as (rw (noted_written_as assertion.Check 14) refl)
+
+pub assert_as_written : written assert_units ≡ forms_of assert_bytes (tokens_with assert_tokens)
+unfolding hidden-the_row-Expr-0 hidden
+assert_as_written = rw step_written_as (rw (noted_written_as assertion.Assert 15) refl)
 
 -- ---- its program
 
@@ -114,18 +125,19 @@ resolved_next =
     (fold-roll-Expr CoreExpr (expr_step items regions) (Expr-F.Infix op.Add (place 3 17) (written_expr.Entry (word (codes "X") 3 14)) (written_expr.Number (pos 1) (place 3 19)))
     ∙ ap₂ (expr.Infix op.Add (place 3 17)) resolved_entry (fold-roll-Expr CoreExpr (expr_step items regions) (Expr-F.Number (pos 1) (place 3 19))))
 
-resolved_positive : resolved_in items regions positive_written ≡ is_positive 7 14
-unfolding roll-Expr roll
-resolved_positive =
-    fold-roll-Expr CoreExpr (expr_step items regions) (Expr-F.Infix op.Greater (place 7 16) (written_expr.Name (x_written 7 14)) (written_expr.Number (pos 0) (place 7 18)))
-    ∙ ap₂ (expr.Infix op.Greater (place 7 16)) (resolved_x items regions x_denotes 7 14) (fold-roll-Expr CoreExpr (expr_step items regions) (Expr-F.Number (pos 0) (place 7 18)))
+module _ (kind : AssertionKind) (column : ℕ) where
+  resolved_positive : resolved_in items regions (positive_written column) ≡ is_positive 7 column
+  unfolding roll-Expr roll
+  resolved_positive =
+      fold-roll-Expr CoreExpr (expr_step items regions) (Expr-F.Infix op.Greater (place 7 (column + 2)) (written_expr.Name (x_written 7 column)) (written_expr.Number (pos 0) (place 7 (column + 4))))
+      ∙ ap₂ (expr.Infix op.Greater (place 7 (column + 2))) (resolved_x items regions x_denotes 7 column) (fold-roll-Expr CoreExpr (expr_step items regions) (Expr-F.Number (pos 0) (place 7 (column + 4))))
 
--- the program with this postcondition and these statements
-abbrev with_parts : CoreExpr → List CoreStmt → Program
-with_parts condition statements = program_of (record asserted_sub { post = Some (post_on condition); statements = statements })
+  -- the program with this postcondition and these statements
+  abbrev with_parts : CoreExpr → List CoreStmt → Program
+  with_parts condition statements = program_of (record (noted_sub kind column) { post = Some (post_on condition); statements = statements })
 
-pub made : resolved asserted_units ≡ asserted_program
-unfolding standard
-made =
-    ap₂ with_parts resolved_next
-    (ap₂ (λ (a b : CoreStmt). a ∷ b ∷ []) (resolved_step items regions x_denotes 6 4 9) (resolved_check items regions (place 7 8) positive_written ∙ ap (stmt.Check (place 7 8)) resolved_positive))
+  pub made : resolved (units_with (noted_written kind column)) ≡ program_of (noted_sub kind column)
+  unfolding standard
+  made =
+      ap₂ with_parts resolved_next
+      (ap₂ (λ (a b : CoreStmt). a ∷ b ∷ []) (resolved_step items regions x_denotes 6 4 9) (resolved_assertion items regions kind (place 7 8) (positive_written column) ∙ ap (stmt.Assertion kind (place 7 8)) resolved_positive))

@@ -1,10 +1,9 @@
 -- The verification conditions of postconditions and `check` annotations.
 use Rattle.std.proofs.Common.{◌≡◌, ℕ, ◌+◌, pos, true, false, if◌then◌else◌, List, [], ◌∷◌, ◌++◌, None, Ok, map, fold, refl, ap, ap₂, ◌∙◌}
-use Rattle.std.specs.Prelude.{codes}
-use Rattle.std.specs.List.{flat_map}
 use Rattle.std.specs.Fmt.{digits}
 use Rattle.spx_text.specs.declared.place.Place.{Place}
 use Rattle.spx_tree.specs.declared.expression.InfixOp.TheVariants as op
+use Rattle.spx_tree.specs.declared.statement.AssertionKind.TheVariants as assertion
 use Rattle.spx_core.specs.declared.entity.TheConstants.{BOOLEAN, INTEGER}
 use Rattle.spx_core.specs.declared.expression.CoreExpr.{CoreExpr}
 use Rattle.spx_core.specs.declared.expression.CoreExpr.TheVariants as expr
@@ -30,13 +29,14 @@ use Rattle.spx_term.proofs.Terms as terms
 use Rattle.spx_meaning.specs.Literals.{literal, literal_in}
 use Rattle.spx_paths.specs.Terms.{now_term, entry_term, literal_or, term_of, term_with-Entry, term_with-Infix, term_with-Number}
 use Rattle.spx_paths.specs.Walks.{asserted, ending, start_tree, walk}
-use Rattle.spx_paths.specs.Conditions.{conditions_of, numbered}
-use Rattle.spx_examples.specs.Assertions.{entry_at, after_entry, is_kept, is_next, is_positive, promising, program_of, only_checking, checking_both, next_is_next, entry_is_positive, entry_is_kept, promised_conditions, check_condition, kept_condition, both_condition, kept_after_both}
+use Rattle.spx_paths.specs.Conditions.{conditions_of}
+use Rattle.spx_examples.specs.Assertions.{entry_at, after_entry, is_kept, is_next, is_positive, promising, program_of, only_checking, checking_both, now_is_kept, now_is_positive, next_is_next, entry_is_positive, entry_is_kept, promised_conditions, check_condition, kept_condition, both_condition, kept_after_both}
 use Rattle.spx_examples.specs.Increment.{place, x_at, entry_x, next_x, known_entry, sum_goals}
 use Rattle.spx_examples.proofs.IncrementRules.{inc_command}
-use Rattle.spx_examples.proofs.Statements.{check_is, operating}
+use Rattle.spx_examples.proofs.Statements.{assertion_is, operating}
 use Rattle.spx_examples.proofs.Successor.{judged_x}
 use Rattle.spx_examples.proofs.Sums.{claims_with, entry_all_once, first_x, last_x, first_next, last_next, same_x, now_name, now_x, next_now, in_integer, on_entry, summed, path_from_entry, term_of_operation, walk_step, before_number, x_on_entry, entry_once, entry_on_entry, goals_on_entry, entry_taken, taken, first_is_new_on_entry, last_is_new_on_entry, next_on_entry}
+use Rattle.spx_examples.proofs.Trees.{conditions_from, trees_are}
 use Rattle.spx_examples.proofs.TermEquality.{is_first, is_later, is_new, other_op}
 
 -- ---- terms
@@ -88,7 +88,7 @@ module _ (sub : Sub) (is : entry_term (program_of sub) sub (record { 0 = 0 }) �
       ∙ ap₂ (λ l t. literal_or l (term.Infix sign.Add t (term_of p (entry_term p sub) (expr.Number (pos 1) (place line (column + 5)))))) (ap literal_in (judged_after line column)) (term_of_entry line column)
       ∙ ap (term.Infix sign.Add entry_x) (term_with-Number (now_term p) (entry_term p sub) (pos 1) (place line (column + 5)))
 
-  term_of_kept : (line column : ℕ) → term_of p (entry_term p sub) (is_kept line column) ≡ term.Infix sign.Equal now_x entry_x
+  pub term_of_kept : (line column : ℕ) → term_of p (entry_term p sub) (is_kept line column) ≡ term.Infix sign.Equal now_x entry_x
   term_of_kept line column =
       term_of_operation p (entry_term p sub) op.Equal (place line (column + 2)) line column (entry_at line (column + 4)) (compared line column (entry_at line (column + 4)) _ (judged_entry line (column + 4)))
       ∙ ap (term.Infix sign.Equal now_x) (term_of_entry line (column + 4))
@@ -98,7 +98,7 @@ module _ (sub : Sub) (is : entry_term (program_of sub) sub (record { 0 = 0 }) �
       term_of_operation p (entry_term p sub) op.Equal (place line (column + 2)) line column (after_entry line (column + 4)) (compared line column (after_entry line (column + 4)) _ (judged_after line (column + 4)))
       ∙ ap (term.Infix sign.Equal now_x) (term_of_after line (column + 4))
 
-  term_of_positive : (line column : ℕ) → term_of p (entry_term p sub) (is_positive line column) ≡ term.Infix sign.Greater now_x (term.Number (pos 0))
+  pub term_of_positive : (line column : ℕ) → term_of p (entry_term p sub) (is_positive line column) ≡ term.Infix sign.Greater now_x (term.Number (pos 0))
   term_of_positive line column =
       term_of_operation p (entry_term p sub) op.Greater (place line (column + 2)) line column (expr.Number (pos 0) (place line (column + 4))) (positive_is_not line column)
       ∙ ap (term.Infix sign.Greater now_x) (term_with-Number (now_term p) (entry_term p sub) (pos 0) (place line (column + 4)))
@@ -120,18 +120,12 @@ abbrev at_end : Term → Tree
 at_end t = check kind.Post (place 3 5) (t ∷ []) Cut
 
 -- a comparison is its own only part
-asserted_is : (k : CondKind) (at : Place) (t : Term) (o : TermOp) (a b : Term) (rest : Tree) → t ≡ term.Infix o a b → parts_of o a b (conjuncts a) (conjuncts b) ≡ term.Infix o a b ∷ [] → asserted k at t rest ≡ check k at (term.Infix o a b ∷ []) rest
+pub asserted_is : (k : CondKind) (at : Place) (t : Term) (o : TermOp) (a b : Term) (rest : Tree) → t ≡ term.Infix o a b → parts_of o a b (conjuncts a) (conjuncts b) ≡ term.Infix o a b ∷ [] → asserted k at t rest ≡ check k at (term.Infix o a b ∷ []) rest
 asserted_is k at t o a b rest is parts = ap (λ t. asserted k at t rest) is ∙ ap (λ ts. check k at ts rest) (conjuncts-Infix o a b ∙ parts)
 
--- `X = X~ + 1`, `X > 0` and `X = X~`
+-- `X = X~ + 1`
 abbrev next_now_is : Term
 next_now_is = term.Infix sign.Equal now_x next_x
-
-abbrev now_is_positive : Term
-now_is_positive = term.Infix sign.Greater now_x (term.Number (pos 0))
-
-abbrev now_is_kept : Term
-now_is_kept = term.Infix sign.Equal now_x entry_x
 
 promised_tree : start_tree (program_of promised) promised ≡ path_from_entry (summed (place 6 11) (at_end next_now_is))
 promised_tree =
@@ -145,7 +139,7 @@ checking_tree : start_tree (program_of only_checking) only_checking ≡ path_fro
 checking_tree =
     let last : ℕ → Tree = ending (program_of only_checking) only_checking in
     ap path_from_entry
-    (ap (λ c. walk (program_of only_checking) only_checking c last last 0) (check_is (place 6 8) (is_positive 6 14))
+    (ap (λ c. walk (program_of only_checking) only_checking c last last 0) (assertion_is assertion.Check (place 6 8) (is_positive 6 14))
     ∙ asserted_is kind.Check (place 6 8) _ sign.Greater now_x (term.Number (pos 0)) (last 0) (term_of_positive only_checking refl 6 14) refl
     ∙ ap (check kind.Check (place 6 8) (now_is_positive ∷ [])) (asserted_is kind.Post (place 3 5) _ sign.Equal now_x entry_x Cut (term_of_kept only_checking refl 3 10) refl))
 
@@ -158,7 +152,7 @@ both_tree : start_tree (program_of checking_both) checking_both ≡ path_from_en
 both_tree =
     let last : ℕ → Tree = ending (program_of checking_both) checking_both in
     ap path_from_entry
-    (ap (λ c. walk (program_of checking_both) checking_both c last last 0) (check_is (place 6 8) both)
+    (ap (λ c. walk (program_of checking_both) checking_both c last last 0) (assertion_is assertion.Check (place 6 8) both)
     ∙ ap (λ t. asserted kind.Check (place 6 8) t (last 0)) (term_of_both checking_both refl)
     ∙ ap₂ (check kind.Check (place 6 8)) both_parts (asserted_is kind.Post (place 3 5) _ sign.Equal now_x entry_x Cut (term_of_kept checking_both refl 3 10) refl))
 
@@ -193,10 +187,10 @@ next_goal =
     ap on_entry (of_both next_now sign.Equal now_x next_x next_now next_x (x_replaced next_now) (next_stays next_now))
     ∙ of_both entry_x sign.Equal next_now next_x next_x next_x next_on_entry (next_stays entry_x)
 
-kept_goal : on_entry now_is_kept ≡ entry_is_kept
+pub kept_goal : on_entry now_is_kept ≡ entry_is_kept
 kept_goal = of_both entry_x sign.Equal now_x entry_x entry_x entry_x x_on_entry (entry_stays entry_x)
 
-positive_goal : on_entry now_is_positive ≡ entry_is_positive
+pub positive_goal : on_entry now_is_positive ≡ entry_is_positive
 positive_goal = before_number sign.Greater now_x entry_x (pos 0) x_on_entry
 
 -- ---- hypotheses
@@ -265,13 +259,13 @@ both_claims =
     ∙ ap₂ (λ t u. two_claims known_entry (known_entry ++ entry_is_positive ∷ entry_is_kept ∷ []) (t ∷ u ∷ []) u) positive_goal kept_goal
 
 pub promised_are : conditions_of (program_of promised) promised ≡ promised_conditions
-unfolding conditions_of digits
-promised_are = ap (λ tree. numbered (codes "Inc") 1 (map tidy (flat_map claims_of (tree ∷ [])))) promised_tree ∙ ap (numbered (codes "Inc") 1) promised_claims
+unfolding digits
+promised_are = conditions_from (program_of promised) promised _ _ (trees_are (program_of promised) promised _ _ [] inc_command promised_tree refl) promised_claims
 
 pub checking_are : conditions_of (program_of only_checking) only_checking ≡ check_condition ∷ kept_condition ∷ []
-unfolding conditions_of digits
-checking_are = ap (λ tree. numbered (codes "Inc") 1 (map tidy (flat_map claims_of (tree ∷ [])))) checking_tree ∙ ap (numbered (codes "Inc") 1) checking_claims
+unfolding digits
+checking_are = conditions_from (program_of only_checking) only_checking _ _ (trees_are (program_of only_checking) only_checking _ _ [] (assertion_is assertion.Check (place 6 8) (is_positive 6 14)) checking_tree refl) checking_claims
 
 pub both_are : conditions_of (program_of checking_both) checking_both ≡ both_condition ∷ kept_after_both ∷ []
-unfolding conditions_of digits
-both_are = ap (λ tree. numbered (codes "Inc") 1 (map tidy (flat_map claims_of (tree ∷ [])))) both_tree ∙ ap (numbered (codes "Inc") 1) both_claims
+unfolding digits
+both_are = conditions_from (program_of checking_both) checking_both _ _ (trees_are (program_of checking_both) checking_both _ _ [] (assertion_is assertion.Check (place 6 8) both) both_tree refl) both_claims

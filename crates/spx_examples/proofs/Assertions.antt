@@ -3,11 +3,13 @@ use Rattle.std.proofs.Common.{◌≡◌, ℕ, ◌+◌, ℤ, pos, true, [], ◌�
 use Rattle.spx_text.specs.declared.place.Place.{Place}
 use Rattle.spx_tree.specs.declared.expression.InfixOp.{InfixOp}
 use Rattle.spx_tree.specs.declared.expression.InfixOp.TheVariants as op
+use Rattle.spx_tree.specs.declared.statement.AssertionKind.{AssertionKind}
+use Rattle.spx_tree.specs.declared.statement.AssertionKind.TheVariants as assertion
 use Rattle.spx_core.specs.declared.entity.TheConstants.{INTEGER_FIRST, INTEGER_LAST}
 use Rattle.spx_core.specs.declared.expression.CoreExpr.{CoreExpr}
 use Rattle.spx_core.specs.declared.expression.CoreExpr.TheVariants.{Name, Number, Infix}
 use Rattle.spx_core.specs.declared.subprogram.Sub.{Sub}
-use Rattle.spx_core.specs.Commands.{Check, Skip, Then, commands}
+use Rattle.spx_core.specs.Commands.{Assertion, Skip, Then, commands}
 use Rattle.spx_core.proofs.Callers.Expressions.{fold-Entry, fold-Name, fold-Number, fold-Infix}
 use Rattle.spx_term.specs.declared.value.Value.{Value}
 use Rattle.spx_term.specs.declared.value.Value.TheVariants as value
@@ -17,12 +19,12 @@ use Rattle.spx_meaning.specs.Stores.{Store, reading}
 use Rattle.spx_meaning.specs.Frames.{Frame, around}
 use Rattle.spx_meaning.specs.Annotations.{meant, meant_step}
 use Rattle.spx_meaning.specs.Evaluation.{applied, read}
-use Rattle.spx_meaning.specs.Runs.{Outcome, Ended, Bad, then_do, demand, demand_post, exports_set, run, call}
-use Rattle.spx_examples.specs.Assertions.{entry_at, after_entry, is_kept, is_next, is_positive, promising, program_of, checking, step_and_check, check_and_step, only_checking, unset_and_promising, checking_unset}
+use Rattle.spx_meaning.specs.Runs.{Outcome, Ended, Bad, then_do, demand, demand_post, exports_set, run, call, untrue}
+use Rattle.spx_examples.specs.Assertions.{entry_at, after_entry, is_kept, is_next, is_positive, promising, program_of, checking, noting, step_and, step_and_assert, step_and_check, check_and_step, only_checking, unset_and_promising, checking_unset}
 use Rattle.spx_examples.specs.Increment.{place, x, x_at, x_named, successor, step}
 use Rattle.spx_examples.specs.Variants.{local_program, local_sub, local_y_at, out_program, only_null}
 use Rattle.spx_examples.proofs.IncrementRuns.{body_runs}
-use Rattle.spx_examples.proofs.Statements.{assignment_sets, check_is, check_looks, null_is}
+use Rattle.spx_examples.proofs.Statements.{assignment_sets, assertion_is, assertion_looks, null_is}
 use Rattle.spx_examples.proofs.Successor.{assigning, step_command, step_runs, successor_of, x_is}
 
 -- ---- what conditions mean
@@ -84,54 +86,66 @@ unset_is_first n v =
     let f : Frame = around (record (out_program only_null) { subs = unset_and_promising ∷ [] }) unset_and_promising (None ∷ []) in
     ap (λ c. to_promise f (run f n (None ∷ []) c)) (null_is (place 6 4))
 
--- ---- checks
+-- ---- assertions among statements
 
--- `check` this, in this line, as it means this
-abbrev looking_at : ℕ → Value → Store → Outcome
-looking_at line v s = demand (as_truth v) bad.Check (place line 8) s
+-- `assert` or `check` this, in this line, as it means this
+abbrev looking_at : AssertionKind → ℕ → Value → Store → Outcome
+looking_at kind line v s = demand (as_truth v) (untrue kind) (place line 8) s
 
-after_step : (condition : CoreExpr) → commands (step ∷ checking 7 condition ∷ []) ≡ Then (step_command 6 4 9) (Then (Check (place 7 8) condition) Skip)
-after_step condition = ap₂ (λ a b. Then a (Then b Skip)) (assignment_sets (x_named 6 4) (successor 6 9)) (check_looks (place 7 8) condition)
+after_step : (kind : AssertionKind) (condition : CoreExpr) → commands (step ∷ noting kind 7 condition ∷ []) ≡ Then (step_command 6 4 9) (Then (Assertion kind (place 7 8) condition) Skip)
+after_step kind condition = ap₂ (λ a b. Then a (Then b Skip)) (assignment_sets (x_named 6 4) (successor 6 9)) (assertion_looks kind (place 7 8) condition)
 
-before_step : (condition : CoreExpr) → commands (checking 5 condition ∷ step ∷ []) ≡ Then (Check (place 5 8) condition) (Then (step_command 6 4 9) Skip)
-before_step condition = ap₂ (λ a b. Then a (Then b Skip)) (check_looks (place 5 8) condition) (assignment_sets (x_named 6 4) (successor 6 9))
+before_step : (condition : CoreExpr) → commands (checking 5 condition ∷ step ∷ []) ≡ Then (Assertion assertion.Check (place 5 8) condition) (Then (step_command 6 4 9) Skip)
+before_step condition = ap₂ (λ a b. Then a (Then b Skip)) (assertion_looks assertion.Check (place 5 8) condition) (assignment_sets (x_named 6 4) (successor 6 9))
 
 -- the body, where the assignment has this outcome
-abbrev then_looking : Frame → CoreExpr → Outcome → Outcome
-then_looking f condition outcome = to_promise f (then_do outcome (λ t. then_do (looking_at 7 (meant f t condition) t) Ended))
+abbrev then_looking : AssertionKind → Frame → CoreExpr → Outcome → Outcome
+then_looking kind f condition outcome = to_promise f (then_do outcome (λ t. then_do (looking_at kind 7 (meant f t condition) t) Ended))
 
-step_runs_first : (n : ℕ) (m : ℤ) (condition : CoreExpr) → call (program_of (step_and_check condition)) n (step_and_check condition) (x_is m)
-    ≡ then_looking (from (step_and_check condition) m) condition (assigning (program_of (step_and_check condition)) (x_is m) (place 6 11) (successor_of (place 6 11) (read (x_is m) (place 6 9) (Some x))))
-step_runs_first n m condition =
-    let f : Frame = from (step_and_check condition) m in
-    ap (λ c. to_promise f (run f n (x_is m) c)) (after_step condition)
-    ∙ ap (then_looking f condition) (step_runs f n (x_is m) 6 4 9)
+step_runs_first : (kind : AssertionKind) (n : ℕ) (m : ℤ) (condition : CoreExpr) → call (program_of (step_and kind condition)) n (step_and kind condition) (x_is m)
+    ≡ then_looking kind (from (step_and kind condition) m) condition (assigning (program_of (step_and kind condition)) (x_is m) (place 6 11) (successor_of (place 6 11) (read (x_is m) (place 6 9) (Some x))))
+step_runs_first kind n m condition =
+    let f : Frame = from (step_and kind condition) m in
+    ap (λ c. to_promise f (run f n (x_is m) c)) (after_step kind condition)
+    ∙ ap (then_looking kind f condition) (step_runs f n (x_is m) 6 4 9)
 
 -- after the assignment X has this value, and the condition means this
-abbrev checked_at : Sub → ℤ → ℤ → Value → Outcome
-checked_at sub m k v = to_promise (from sub m) (then_do (looking_at 7 v (x_is k)) Ended)
+abbrev noted_at : AssertionKind → Sub → ℤ → ℤ → Value → Outcome
+noted_at kind sub m k v = to_promise (from sub m) (then_do (looking_at kind 7 v (x_is k)) Ended)
+
+pub next_asserted : (n : ℕ) → call (program_of (step_and_assert (is_next 7 15))) n (step_and_assert (is_next 7 15)) (x_is (pos 41)) ≡ Ended (x_is (pos 42))
+unfolding value_of_op
+next_asserted n =
+    let sub : Sub = step_and_assert (is_next 7 15) in
+    step_runs_first assertion.Assert n (pos 41) (is_next 7 15) ∙ ap (noted_at assertion.Assert sub (pos 41) (pos 42)) (next_means (from sub (pos 41)) (x_is (pos 42)) 7 15)
+
+pub kept_asserted : (n : ℕ) → call (program_of (step_and_assert (is_kept 7 15))) n (step_and_assert (is_kept 7 15)) (x_is (pos 41)) ≡ Bad bad.Assert (place 7 8)
+unfolding value_of_op
+kept_asserted n =
+    let sub : Sub = step_and_assert (is_kept 7 15) in
+    step_runs_first assertion.Assert n (pos 41) (is_kept 7 15) ∙ ap (noted_at assertion.Assert sub (pos 41) (pos 42)) (kept_means (from sub (pos 41)) (x_is (pos 42)) 7 15)
 
 pub positive_after : (n : ℕ) → call (program_of (step_and_check (is_positive 7 14))) n (step_and_check (is_positive 7 14)) (x_is (pos 0)) ≡ Ended (x_is (pos 1))
 unfolding value_of_op
 positive_after n =
     let sub : Sub = step_and_check (is_positive 7 14) in
-    step_runs_first n (pos 0) (is_positive 7 14) ∙ ap (checked_at sub (pos 0) (pos 1)) (positive_means (from sub (pos 0)) (x_is (pos 1)) 7 14)
+    step_runs_first assertion.Check n (pos 0) (is_positive 7 14) ∙ ap (noted_at assertion.Check sub (pos 0) (pos 1)) (positive_means (from sub (pos 0)) (x_is (pos 1)) 7 14)
 
 pub next_after : (n : ℕ) → call (program_of (step_and_check (is_next 7 14))) n (step_and_check (is_next 7 14)) (x_is (pos 41)) ≡ Ended (x_is (pos 42))
 unfolding value_of_op
 next_after n =
     let sub : Sub = step_and_check (is_next 7 14) in
-    step_runs_first n (pos 41) (is_next 7 14) ∙ ap (checked_at sub (pos 41) (pos 42)) (next_means (from sub (pos 41)) (x_is (pos 42)) 7 14)
+    step_runs_first assertion.Check n (pos 41) (is_next 7 14) ∙ ap (noted_at assertion.Check sub (pos 41) (pos 42)) (next_means (from sub (pos 41)) (x_is (pos 42)) 7 14)
 
 pub kept_after : (n : ℕ) → call (program_of (step_and_check (is_kept 7 14))) n (step_and_check (is_kept 7 14)) (x_is (pos 41)) ≡ Bad bad.Check (place 7 8)
 unfolding value_of_op
 kept_after n =
     let sub : Sub = step_and_check (is_kept 7 14) in
-    step_runs_first n (pos 41) (is_kept 7 14) ∙ ap (checked_at sub (pos 41) (pos 42)) (kept_means (from sub (pos 41)) (x_is (pos 42)) 7 14)
+    step_runs_first assertion.Check n (pos 41) (is_kept 7 14) ∙ ap (noted_at assertion.Check sub (pos 41) (pos 42)) (kept_means (from sub (pos 41)) (x_is (pos 42)) 7 14)
 
 -- the body that checks first, where the condition means this
 abbrev looking_first : Frame → ℕ → Value → Outcome
-looking_first f n v = to_promise f (then_do (looking_at 5 v f.entry) (λ t. run f n t (Then (step_command 6 4 9) Skip)))
+looking_first f n v = to_promise f (then_do (looking_at assertion.Check 5 v f.entry) (λ t. run f n t (Then (step_command 6 4 9) Skip)))
 
 pub positive_before : (n : ℕ) → call (program_of (check_and_step (is_positive 5 14))) n (check_and_step (is_positive 5 14)) (x_is (pos 0)) ≡ Bad bad.Check (place 5 8)
 unfolding value_of_op
@@ -151,7 +165,7 @@ unfolding value_of_op
 check_changes_nothing n =
     let f : Frame = from only_checking (pos 7) in
     let s : Store = x_is (pos 7) in
-    ap (λ c. to_promise f (run f n s c)) (check_is (place 6 8) (is_positive 6 14))
+    ap (λ c. to_promise f (run f n s c)) (assertion_is assertion.Check (place 6 8) (is_positive 6 14))
     ∙ ap (λ v. to_promise f (then_do (demand (as_truth v) bad.Check (place 6 8) s) Ended)) (positive_means f s 6 14)
     ∙ ap (only_looking (value.Truth true)) (kept_means f s 3 10)
 
@@ -181,11 +195,11 @@ unset_means o v =
     ∙ ap₂ (applied o) (fold-Name step (local_y_at 6 14)) (fold-Number step (pos 0) (place 6 18))
 
 unset_runs : (o : InfixOp) (n : ℕ) (v : Value) (w : Option Value) → call (local_program (checking_unset o)) n (local_sub (checking_unset o)) (Some v ∷ w ∷ [])
-    ≡ to_promise (around_unset o v) (then_do (looking_at 6 (applied o (value.Number INTEGER_FIRST) (value.Number (pos 0))) (unset_y v)) Ended)
+    ≡ to_promise (around_unset o v) (then_do (looking_at assertion.Check 6 (applied o (value.Number INTEGER_FIRST) (value.Number (pos 0))) (unset_y v)) Ended)
 unset_runs o n v w =
     let f : Frame = around_unset o v in
-    ap (λ c. to_promise f (run f n (unset_y v) c)) (check_is (place 6 8) (Infix o (place 6 16) (Name (local_y_at 6 14)) (Number (pos 0) (place 6 18))))
-    ∙ ap (λ x. to_promise f (then_do (looking_at 6 x (unset_y v)) Ended)) (unset_means o v)
+    ap (λ c. to_promise f (run f n (unset_y v) c)) (assertion_is assertion.Check (place 6 8) (Infix o (place 6 16) (Name (local_y_at 6 14)) (Number (pos 0) (place 6 18))))
+    ∙ ap (λ x. to_promise f (then_do (looking_at assertion.Check 6 x (unset_y v)) Ended)) (unset_means o v)
 
 pub unset_is_below : (n : ℕ) (v : Value) (w : Option Value) → call (local_program (checking_unset op.Less)) n (local_sub (checking_unset op.Less)) (Some v ∷ w ∷ []) ≡ Ended (unset_y v)
 unfolding value_of_op

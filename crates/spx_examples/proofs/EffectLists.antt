@@ -1,6 +1,6 @@
--- What may flow and what may be unset, as lists.
+-- What may flow and what may be unset, as lists. What may flow is listed where there is no loop.
 use Rattle.std.proofs.Common.{◌≡◌, ◌↔◌, ◌⊎◌, inl, inr, ⊎_elim, Bool, true, false, not, List, [], ◌∷◌, ◌++◌, Some, None, refl, sym, ap₂, subst, ◌∙◌}
-use Rattle.std.specs.Prelude.{IsTrue, ◌==◌, ◌||◌, ◌&&◌}
+use Rattle.std.specs.Prelude.{IsTrue, ◌==◌, ◌||◌, ◌&&◌, Contains}
 use Rattle.std.specs.List.{flat_map}
 use Rattle.std.specs.Option.{option_to_list}
 use Rattle.std.proofs.lemmas.Bool.{or_parts}
@@ -9,11 +9,30 @@ use Rattle.spx_text.specs.declared.place.Place.{Place}
 use Rattle.spx_core.specs.declared.entity.VarId.{VarId}
 use Rattle.spx_core.specs.Formals.{stands_in}
 use Rattle.spx_core.specs.Uses.{is_same}
-use Rattle.spx_core.specs.Effects.{Effect, Read, nothing, assign, next, choose, observe, sets, is_read}
+use Rattle.spx_core.specs.Effects.{Effect, Read, nothing, assign, next, choose, observe, repeat, sets, is_read}
 use Rattle.spx_core.specs.Flow.{MayFlow}
-use Rattle.spx_core.specs.Marks.{Occurs}
-use Rattle.spx_core.specs.Ways.{Ways, Follow, Free, Goes, Reaches}
+use Rattle.spx_core.specs.Marks.{Occurs, marked}
+use Rattle.spx_core.specs.Ways.{Ways, Turns, no_turn, Follow, Free, Goes, Reaches}
 use Rattle.spx_examples.proofs.Lists.{same, turned, chain, either, both, flipped, not_is, and_is, or_is, Among, only, those, of_single, of_both, of_only, of_one, of_each, of_those, contains_is, or_none, in_target, stands_any}
+
+-- ---- loops
+
+abbrev pub has_loop : Effect → Bool
+has_loop nothing = false
+has_loop (assign target reads place) = false
+has_loop (next a b) = has_loop a || has_loop b
+has_loop (choose tests a b place) = has_loop a || has_loop b
+has_loop (observe values) = false
+has_loop (repeat tests body place) = true
+
+-- a mark makes no loop
+pub marked_loops : (at : Place) (m : VarId) (e : Effect) → has_loop (marked at m e) ≡ has_loop e
+marked_loops at m nothing = refl
+marked_loops at m (assign target reads place) = refl
+marked_loops at m (next a b) = ap₂ ◌||◌ (marked_loops at m a) (marked_loops at m b)
+marked_loops at m (choose tests a b place) = ap₂ ◌||◌ (marked_loops at m a) (marked_loops at m b)
+marked_loops at m (observe values) = refl
+marked_loops at m (repeat tests body place) = refl
 
 -- ---- flow
 
@@ -31,26 +50,31 @@ sources (assign target reads place) w = only (is_same w target) (vars_of reads) 
 sources (next a b) w = flat_map (sources a) (sources b w)
 sources (choose tests a b place) w = sources a w ++ (sources b w ++ only (sets w a || sets w b) (vars_of tests))
 sources (observe values) w = w ∷ []
+sources (repeat tests body place) w = []
 
 -- what is read comes there where a test holds
 comes_if : (b : Bool) (reads : List Read) (u : VarId) → Among (only b (vars_of reads)) u ↔ (IsTrue b × IsTrue (is_read u reads))
 comes_if b reads u = chain (of_only b (vars_of reads) u) (both same (vars_are u reads))
 
-pub sources_are : (e : Effect) (u w : VarId) → Among (sources e w) u ↔ MayFlow e u w
-sources_are nothing u w = chain (of_single w u) (flipped w u)
-sources_are (assign target reads place) u w =
+pub sources_are : (e : Effect) → has_loop e ≡ false → (u w : VarId) → Among (sources e w) u ↔ MayFlow e u w
+sources_are nothing none u w = chain (of_single w u) (flipped w u)
+sources_are (assign target reads place) none u w =
     let given = is_same w target in
     chain (of_both (only given (vars_of reads)) (only (not given) (w ∷ [])) u)
     (either (comes_if given reads u) (chain (of_one (not given) w u) (both (not_is given) (flipped w u))))
-sources_are (next a b) u w = chain (of_each (sources a) (sources b w) u) (
-  λ h. (h.0, (sources_are a u h.0).0 h.2, (sources_are b h.0 w).0 h.1),
-  λ h. (h.0, (sources_are b h.0 w).1 h.2, (sources_are a u h.0).1 h.1),
-)
-sources_are (choose tests a b place) u w =
+sources_are (next a b) none u w =
+    let parts = or_parts (has_loop a) (has_loop b) none in
+    chain (of_each (sources a) (sources b w) u) (
+      λ h. (h.0, (sources_are a parts.0 u h.0).0 h.2, (sources_are b parts.1 h.0 w).0 h.1),
+      λ h. (h.0, (sources_are b parts.1 h.0 w).1 h.2, (sources_are a parts.0 u h.0).1 h.1),
+    )
+sources_are (choose tests a b place) none u w =
+    let parts = or_parts (has_loop a) (has_loop b) none in
     let chosen = only (sets w a || sets w b) (vars_of tests) in
     chain (of_both (sources a w) (sources b w ++ chosen) u)
-    (either (sources_are a u w) (chain (of_both (sources b w) chosen u) (either (sources_are b u w) (comes_if (sets w a || sets w b) tests u))))
-sources_are (observe values) u w = chain (of_single w u) (flipped w u)
+    (either (sources_are a parts.0 u w) (chain (of_both (sources b w) chosen u) (either (sources_are b parts.1 u w) (comes_if (sets w a || sets w b) tests u))))
+sources_are (observe values) none u w = chain (of_single w u) (flipped w u)
+sources_are (repeat tests body place) none u w = absurd (cc)
 
 -- ---- occurrences
 
@@ -62,6 +86,7 @@ occurrences (assign None reads place) = []
 occurrences (next a b) = occurrences a ++ occurrences b
 occurrences (choose tests a b place) = place ∷ (occurrences a ++ occurrences b)
 occurrences (observe values) = []
+occurrences (repeat tests body place) = place ∷ occurrences body
 
 pub occurrences_are : (e : Effect) (at : Place) → Among (occurrences e) at ↔ Occurs e at
 occurrences_are nothing at = same
@@ -70,6 +95,7 @@ occurrences_are (assign None reads place) at = (λ h. absurd h, λ h. absurd (le
 occurrences_are (next a b) at = chain (of_both (occurrences a) (occurrences b) at) (either (occurrences_are a at) (occurrences_are b at))
 occurrences_are (choose tests a b place) at = either same (chain (of_both (occurrences a) (occurrences b) at) (either (occurrences_are a at) (occurrences_are b at)))
 occurrences_are (observe values) at = same
+occurrences_are (repeat tests body place) at = either same (occurrences_are body at)
 
 -- ---- ways that do not set v
 
@@ -102,6 +128,7 @@ skips v (assign target reads place) = not (is_same v target)
 skips v (next a b) = skips v a && skips v b
 skips v (choose tests a b place) = skips v a || skips v b
 skips v (observe values) = true
+skips v (repeat tests body place) = true
 
 pub skips_is : (v : VarId) (e : Effect) → IsTrue (skips v e) ↔ Free (Goes e) v
 skips_is v nothing = (λ h. ([], refl, refl), λ h. refl)
@@ -112,6 +139,7 @@ skips_is v (assign target reads place) = chain (not_is (is_same v target)) (
 skips_is v (next a b) = chain (and_is (skips v a) (skips v b)) (chain (both (skips_is v a) (skips_is v b)) (turned (free_follow (Goes a) (Goes b) v)))
 skips_is v (choose tests a b place) = chain (or_is (skips v a) (skips v b)) (chain (either (skips_is v a) (skips_is v b)) (turned (free_either (Goes a) (Goes b) v)))
 skips_is v (observe values) = (λ h. ([], refl, refl), λ h. refl)
+skips_is v (repeat tests body place) = (λ h. ([], no_turn, refl), λ h. refl)
 
 -- the reads to which some way leads that does not set what is read
 abbrev pub first_reads : Effect → List Read
@@ -120,6 +148,7 @@ first_reads (assign target reads place) = reads
 first_reads (next a b) = first_reads a ++ those (λ (r : Read). skips r.1 a) (first_reads b)
 first_reads (choose tests a b place) = tests ++ (first_reads a ++ first_reads b)
 first_reads (observe values) = values
+first_reads (repeat tests body place) = tests ++ first_reads body
 
 pub first_reads_are : (e : Effect) (at : Place) (v : VarId) → Among (first_reads e) (at, v) ↔ Free (Reaches e at v) v
 first_reads_are nothing at v = (λ h. absurd h, λ h. absurd h.1)
@@ -134,3 +163,9 @@ first_reads_are (choose tests a b place) at v =
     chain (of_both tests (first_reads a ++ first_reads b) (at, v))
     (chain (either (free_now tests at v) arms) (turned (free_either (Reaches (assign None tests at) at v) (λ way. Reaches a at v way ⊎ Reaches b at v way) v)))
 first_reads_are (observe values) at v = free_now values at v
+first_reads_are (repeat tests body place) at v =
+    let now : Among tests (at, v) ↔ Free (λ way. Contains tests (at, v) × Turns (Goes body) way) v =
+    (λ h. ([], ((contains_is tests (at, v)).1 h, no_turn), refl), λ h. (contains_is tests (at, v)).0 h.1.0) in
+    let later = chain (λ h. (([], no_turn, refl), (first_reads_are body at v).0 h), λ h. (first_reads_are body at v).1 h.1) (turned (free_follow (Turns (Goes body)) (Reaches body at v) v)) in
+    chain (of_both tests (first_reads body) (at, v))
+    (chain (either now later) (turned (free_either (λ way. Contains tests (at, v) × Turns (Goes body) way) (Follow (Turns (Goes body)) (Reaches body at v)) v)))

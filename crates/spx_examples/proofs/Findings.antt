@@ -4,6 +4,7 @@ use Rattle.std.specs.List.{filter_map}
 use denote.Hole.Carrier.{roll}
 use Rattle.spx_text.specs.declared.place.Place.{Place}
 use Rattle.spx_tree.specs.declared.expression.InfixOp.TheVariants as op
+use Rattle.spx_tree.specs.declared.statement.AssertionKind.TheVariants as assertion
 use Rattle.spx_tree.specs.declared.statement.Closing.{Closing}
 use Rattle.spx_core.specs.declared.expression.CoreExpr.{CoreExpr}
 use Rattle.spx_core.specs.declared.expression.CoreExpr.TheVariants.{Name, Number, Infix}
@@ -12,7 +13,7 @@ use Rattle.spx_core.specs.declared.statement.CoreStmt.{CoreStmt, CoreStmt-F, rol
 use Rattle.spx_core.specs.declared.statement.CoreStmt.TheVariants as stmt
 use Rattle.spx_core.specs.declared.statement.CoreArm.{fold-roll-CoreArm}
 use Rattle.spx_core.specs.declared.statement.CoreChoice.{CoreChoice}
-use Rattle.spx_core.specs.Commands.{Command, Skip, Set, Then, Choose, Check, alternative_step, arm_step, stmt_step, commands}
+use Rattle.spx_core.specs.Commands.{Command, Skip, Set, Then, Choose, Assertion, alternative_step, arm_step, stmt_step, commands}
 use Rattle.spx_core.specs.Effects.{Effect, assign, choose, effect, effects, next, nothing, observe, read_of}
 use Rattle.spx_core.specs.FlowRules.{body_effect, HasNoFlowFinding}
 use Rattle.spx_core.specs.Reads.{names_read, names_step}
@@ -26,7 +27,7 @@ use Rattle.spx_examples.specs.Flag as in_flag
 use Rattle.spx_examples.specs.Found.{Finds, nothing_found}
 use Rattle.spx_examples.specs.Findings.{gives, declared, by_star, undeclared, overdeclared, with_formal, local_y_at, inc_with_local, with_local, positive_at, reads_after_arm, out_with_local, gives_seven, gives_unset, gives_set, overwrites, decides_nothing, sets_in_both, as_flag, seven_program, seven_y_at}
 use Rattle.spx_examples.specs.Variants.{out_x_at}
-use Rattle.spx_examples.proofs.Statements.{null_is, assignment_is, check_is, if_is}
+use Rattle.spx_examples.proofs.Statements.{null_is, assignment_is, assertion_is, if_is}
 use Rattle.spx_examples.proofs.Successor.{step_effect}
 use Rattle.spx_examples.proofs.Flag.{names_read_are as condition_reads, effect_is}
 use Rattle.spx_examples.proofs.FlowLists.{found, no_finding}
@@ -63,9 +64,9 @@ module _ (rest : List CoreStmt) where
       ∙ ap (λ names. next (choose (filter_map read_of names) (effect a) (effect b) at) (effects rest)) are
 
   -- a `check` whose condition reads these names
-  looking : (at : Place) (condition : CoreExpr) (names : List CoreName) → names_read condition ≡ names → effects (stmt.Check at condition ∷ rest) ≡ next (observe (filter_map read_of names)) (effects rest)
+  looking : (at : Place) (condition : CoreExpr) (names : List CoreName) → names_read condition ≡ names → effects (stmt.Assertion assertion.Check at condition ∷ rest) ≡ next (observe (filter_map read_of names)) (effects rest)
   looking at condition names are =
-      first_effect (stmt.Check at condition) (Check at condition) (check_is at condition)
+      first_effect (stmt.Assertion assertion.Check at condition) (Assertion assertion.Check at condition) (assertion_is assertion.Check at condition)
       ∙ ap (λ names. next (observe (filter_map read_of names)) (effects rest)) are
 
 if_else_is : (at : Place) (condition : CoreExpr) (body otherwise : List CoreStmt) (closing : Closing) → commands (stmt.If (arm at condition body ∷ []) (Some otherwise) closing ∷ []) ≡ Then (Choose at condition (commands body) (commands otherwise)) Skip
@@ -139,13 +140,13 @@ seven_effect : body_effect gives_seven ≡ next (assign (Some x) ((place 6 9, y)
 seven_effect = giving_name [] (out_x_at 6 4) (seven_y_at 6 9)
 
 -- `name > 0` reads the name
-test_reads : (at zero : Place) (name : CoreName) → names_read (Infix op.Greater at (Name name) (Number (pos 0) zero)) ≡ name ∷ []
+pub test_reads : (at zero : Place) (name : CoreName) → names_read (Infix op.Greater at (Name name) (Number (pos 0) zero)) ≡ name ∷ []
 test_reads at zero name = fold-Infix names_step op.Greater at (Name name) (Number (pos 0) zero) ∙ ap₂ (λ (a b : List CoreName). a ++ b) (fold-Name names_step name) (fold-Number names_step (pos 0) zero)
 
 local_check_effect : body_effect checks_local ≡ next stepped (next (observe ((place 7 14, y) ∷ [])) nothing)
 local_check_effect =
     let condition : CoreExpr = Infix op.Greater (place 7 16) (Name (local_y_at 7 14)) (Number (pos 0) (place 7 18)) in
-    stepping (stmt.Check (place 7 8) condition ∷ [])
+    stepping (stmt.Assertion assertion.Check (place 7 8) condition ∷ [])
     ∙ ap (next stepped) (looking [] (place 7 8) condition (local_y_at 7 14 ∷ []) (test_reads (place 7 16) (place 7 18) (local_y_at 7 14)))
 
 import_check_effect : body_effect checks_import ≡ next (observe ((place 5 14, x) ∷ [])) (next (assign (Some y) [] (place 6 4)) nothing)
@@ -158,46 +159,46 @@ import_check_effect =
 -- ---- what is found
 
 pub declared_clean : HasNoFlowFinding (with_formal declared)
-declared_clean = no_finding (with_formal declared) declared refl (found (with_formal declared) declared _ declared_effect)
+declared_clean = no_finding (with_formal declared) declared refl (found (with_formal declared) declared _ declared_effect refl)
 
 pub star_clean : HasNoFlowFinding (with_formal by_star)
-star_clean = no_finding (with_formal by_star) by_star refl (found (with_formal by_star) by_star _ declared_effect)
+star_clean = no_finding (with_formal by_star) by_star refl (found (with_formal by_star) by_star _ declared_effect refl)
 
 pub missing : Finds (with_formal undeclared) undeclared (record nothing_found { missing = (x, y) ∷ [] })
-missing = found (with_formal undeclared) undeclared _ declared_effect
+missing = found (with_formal undeclared) undeclared _ declared_effect refl
 
 pub unused : Finds (with_formal overdeclared) overdeclared (record nothing_found { unused = (x, y) ∷ [] })
-unused = found (with_formal overdeclared) overdeclared _ overdeclared_effect
+unused = found (with_formal overdeclared) overdeclared _ overdeclared_effect refl
 
 pub overwritten : Finds (as_flag overwrites) overwrites (record nothing_found { ineffective = place 5 4 ∷ [] })
-overwritten = found (as_flag overwrites) overwrites _ overwrites_effect
+overwritten = found (as_flag overwrites) overwrites _ overwrites_effect refl
 
 pub of_local : Finds (with_local inc_with_local) inc_with_local (record nothing_found { ineffective = place 7 4 ∷ [] })
-of_local = found (with_local inc_with_local) inc_with_local _ local_effect
+of_local = found (with_local inc_with_local) inc_with_local _ local_effect refl
 
 pub undecided : Finds (as_flag decides_nothing) decides_nothing (record nothing_found { ineffective = place 5 4 ∷ [] })
-undecided = found (as_flag decides_nothing) decides_nothing _ decides_effect
+undecided = found (as_flag decides_nothing) decides_nothing _ decides_effect refl
 
 pub both_clean : HasNoFlowFinding (as_flag sets_in_both)
-both_clean = no_finding (as_flag sets_in_both) sets_in_both refl (found (as_flag sets_in_both) sets_in_both _ both_effect)
+both_clean = no_finding (as_flag sets_in_both) sets_in_both refl (found (as_flag sets_in_both) sets_in_both _ both_effect refl)
 
 pub one_arm : Finds flag_program flag (record nothing_found { missing = (y, y) ∷ []; unset = (flag.end, y) ∷ [] })
-one_arm = found flag_program flag flag_effect effect_is
+one_arm = found flag_program flag flag_effect effect_is refl
 
 pub after_arm : Finds (with_local reads_after_arm) reads_after_arm (record nothing_found { unset = (place 9 9, y) ∷ [] })
-after_arm = found (with_local reads_after_arm) reads_after_arm _ arm_effect
+after_arm = found (with_local reads_after_arm) reads_after_arm _ arm_effect refl
 
 pub unset : Finds (out_with_local gives_unset) gives_unset (record nothing_found { unset = (place 6 9, y) ∷ [] })
-unset = found (out_with_local gives_unset) gives_unset _ unset_effect
+unset = found (out_with_local gives_unset) gives_unset _ unset_effect refl
 
 pub seven_clean : HasNoFlowFinding seven_program
-seven_clean = no_finding seven_program gives_seven refl (found seven_program gives_seven _ seven_effect)
+seven_clean = no_finding seven_program gives_seven refl (found seven_program gives_seven _ seven_effect refl)
 
 pub set_clean : HasNoFlowFinding (out_with_local gives_set)
-set_clean = no_finding (out_with_local gives_set) gives_set refl (found (out_with_local gives_set) gives_set _ set_effect)
+set_clean = no_finding (out_with_local gives_set) gives_set refl (found (out_with_local gives_set) gives_set _ set_effect refl)
 
 pub unset_in_check : Finds (with_local checks_local) checks_local (record nothing_found { unset = (place 7 14, y) ∷ [] })
-unset_in_check = found (with_local checks_local) checks_local _ local_check_effect
+unset_in_check = found (with_local checks_local) checks_local _ local_check_effect refl
 
 pub unused_in_check : Finds (as_flag checks_import) checks_import (record nothing_found { unused = (x, y) ∷ [] })
-unused_in_check = found (as_flag checks_import) checks_import _ import_check_effect
+unused_in_check = found (as_flag checks_import) checks_import _ import_check_effect refl

@@ -1,4 +1,4 @@
--- The findings on flow, as lists: what is found of a body is computed from its effect.
+-- The findings on flow, as lists: what is found of a body without a loop is computed from its effect.
 use Rattle.std.proofs.Common.{◌≡◌, ◌↔◌, ◌⊎◌, inl, inr, ⊎_elim, Bool, false, not, List, [], ◌∷◌, ◌++◌, refl, sym, ap, ap₂, subst, ◌∙◌}
 use Rattle.std.specs.Prelude.{IsTrue, ◌||◌, ◌&&◌, All, Contains}
 use Rattle.std.specs.List.{flat_map, list_any}
@@ -18,7 +18,7 @@ use Rattle.spx_core.specs.FlowRules.{body_effect, mark, Missing, Unused, Ineffec
 use Rattle.spx_core.specs.Marks.{marked}
 use Rattle.spx_examples.specs.Found.{Found, Finds, nothing_found}
 use Rattle.spx_examples.proofs.Lists.{same, turned, chain, both, not_is, and_is, Among, only, those, of_both, of_each, of_one, of_those, contains_is, in_target, stands_is, stands_any}
-use Rattle.spx_examples.proofs.EffectLists.{sources, sources_are, occurrences, occurrences_are, skips, skips_is, first_reads, first_reads_are}
+use Rattle.spx_examples.proofs.EffectLists.{has_loop, marked_loops, sources, sources_are, occurrences, occurrences_are, skips, skips_is, first_reads, first_reads_are}
 
 -- ---- lists
 
@@ -74,13 +74,13 @@ module _ (p : Program) (sub : Sub) where
   abbrev flows : Effect → VarId → VarId → Bool
   flows e u v = stands_in u (sources e v)
 
-  flows_are : (e : Effect) (u v : VarId) → IsTrue (flows e u v) ↔ MayFlow e u v
-  flows_are e u v = chain (stands_is u (sources e v)) (sources_are e u v)
+  flows_are : (e : Effect) → has_loop e ≡ false → (u v : VarId) → IsTrue (flows e u v) ↔ MayFlow e u v
+  flows_are e no_loop u v = chain (stands_is u (sources e v)) (sources_are e no_loop u v)
 
-  no_flow : (e : Effect) (u v : VarId) → IsTrue (not (flows e u v)) ↔ ¬ MayFlow e u v
-  no_flow e u v = chain (not_is (flows e u v)) (
-    λ none flow. absurd (let some = (flows_are e u v).1 flow in cc),
-    λ none. false_from_ne_true (flows e u v) (λ h. none ((flows_are e u v).0 h)),
+  no_flow : (e : Effect) → has_loop e ≡ false → (u v : VarId) → IsTrue (not (flows e u v)) ↔ ¬ MayFlow e u v
+  no_flow e no_loop u v = chain (not_is (flows e u v)) (
+    λ none flow. absurd (let some = (flows_are e no_loop u v).1 flow in cc),
+    λ none. false_from_ne_true (flows e u v) (λ h. none ((flows_are e no_loop u v).0 h)),
   )
 
   -- a mark at this place comes to an export
@@ -113,27 +113,27 @@ module _ (p : Program) (sub : Sub) where
   abbrev body : Effect
   body = body_effect sub
 
-  missing_are : (u v : VarId) → Missing sub u v ↔ Among (findings body).missing (u, v)
-  missing_are u v =
-      let test = chain (and_is (flows body u v) (not (derives u v sub))) (both (flows_are body u v) (not_is (derives u v sub))) in
+  missing_are : has_loop body ≡ false → (u v : VarId) → Missing sub u v ↔ Among (findings body).missing (u, v)
+  missing_are no_loop u v =
+      let test = chain (and_is (flows body u v) (not (derives u v sub))) (both (flows_are body no_loop u v) (not_is (derives u v sub))) in
       turned (chain (of_pairs (is_missing body) (formals sub) (exports_of sub) u v) (
         λ h. ((stands_is u (formals sub)).1 h.0, (exports_are sub v).1 h.1, (test.0 h.2).0, (test.0 h.2).1),
         λ h. ((stands_is u (formals sub)).0 h.0, (exports_are sub v).0 h.1, test.1 (h.2, h.3)),
       ))
 
-  unused_are : (u v : VarId) → Unused sub u v ↔ Among (findings body).unused (u, v)
-  unused_are u v =
-      let test = chain (and_is (derives u v sub) (not (flows body u v))) (both same (no_flow body u v)) in
+  unused_are : has_loop body ≡ false → (u v : VarId) → Unused sub u v ↔ Among (findings body).unused (u, v)
+  unused_are no_loop u v =
+      let test = chain (and_is (derives u v sub) (not (flows body u v))) (both same (no_flow body no_loop u v)) in
       turned (chain (of_pairs (is_unused body) (formals sub) (exports_of sub) u v) (
         λ h. ((stands_is u (formals sub)).1 h.0, (test.0 h.2).0, (test.0 h.2).1),
         λ h. ((stands_is u (formals sub)).0 h.0, (exports_are sub v).0 (derived_is_export u v (declared_pairs sub) h.1), test.1 (h.1, h.2)),
       ))
 
-  ineffective_are : (at : Place) → Ineffective p sub at ↔ Among (findings body).ineffective at
-  ineffective_are at =
+  ineffective_are : has_loop body ≡ false → (at : Place) → Ineffective p sub at ↔ Among (findings body).ineffective at
+  ineffective_are no_loop at =
       let marks = marked at (mark p) body in
       let test = chain (not_is (arrives body at)) (none_is (λ w. flows marks (mark p) w) (exports_of sub)) in
-      let none = λ (w : VarId). chain (turned (not_is (flows marks (mark p) w))) (no_flow marks (mark p) w) in
+      let none = λ (w : VarId). chain (turned (not_is (flows marks (mark p) w))) (no_flow marks (marked_loops at (mark p) body ∙ no_loop) (mark p) w) in
       turned (chain (of_those (λ q. not (arrives body q)) (occurrences body) at) (
         λ h. ((occurrences_are body at).0 h.1, λ w exported. (none w).0 (test.0 h.0 w ((exports_are sub w).0 exported))),
         λ h. (test.1 (λ w among. (none w).1 (h.1 w ((exports_are sub w).1 among))), (occurrences_are body at).1 h.0),
@@ -159,17 +159,17 @@ module _ (p : Program) (sub : Sub) where
   unset_are : (at : Place) (v : VarId) → MayBeUnset p sub at v ↔ Among (findings body).unset (at, v)
   unset_are at v = chain (unset_by at v, λ h. ⊎_elim (is_read at v) (is_at_end at v) h) (turned (of_both (reads_unset body) (left_unset body) (at, v)))
 
-  all_found : Finds p sub (findings body)
-  all_found = record {
-    missing = λ u v. chain (missing_are u v) (turned (contains_is (findings body).missing (u, v)));
-    unused = λ u v. chain (unused_are u v) (turned (contains_is (findings body).unused (u, v)));
-    ineffective = λ at. chain (ineffective_are at) (turned (contains_is (findings body).ineffective at));
+  all_found : has_loop body ≡ false → Finds p sub (findings body)
+  all_found no_loop = record {
+    missing = λ u v. chain (missing_are no_loop u v) (turned (contains_is (findings body).missing (u, v)));
+    unused = λ u v. chain (unused_are no_loop u v) (turned (contains_is (findings body).unused (u, v)));
+    ineffective = λ at. chain (ineffective_are no_loop at) (turned (contains_is (findings body).ineffective at));
     unset = λ at v. chain (unset_are at v) (turned (contains_is (findings body).unset (at, v)));
   }
 
   -- what is found is computed from the effect of the body
-  pub found : (e : Effect) → body_effect sub ≡ e → Finds p sub (findings e)
-  found e is = subst (λ f. Finds p sub (findings f)) is all_found
+  pub found : (e : Effect) → body_effect sub ≡ e → has_loop e ≡ false → Finds p sub (findings e)
+  found e is no_loop = subst (λ f. Finds p sub (findings f)) is (all_found (ap has_loop is ∙ no_loop))
 
   none_in : {A : Type 0} (P : Type 0) (z : A) → P ↔ Contains [] z → ¬ P
   none_in P z h holds = (contains_is [] z).0 (h.0 holds)

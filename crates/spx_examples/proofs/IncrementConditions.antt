@@ -1,7 +1,6 @@
 -- The verification conditions of the procedure `Inc`.
-use Rattle.std.proofs.Common.{◌≡◌, pos, [], ◌∷◌, ◌++◌, map, ap, ap₂, ◌∙◌}
+use Rattle.std.proofs.Common.{◌≡◌, pos, [], ◌∷◌, ◌++◌, refl, ap, ap₂, ◌∙◌}
 use Rattle.std.specs.Prelude.{codes}
-use Rattle.std.specs.List.{flat_map}
 use Rattle.std.specs.Fmt.{digits}
 use Rattle.spx_tree.specs.declared.expression.InfixOp.TheVariants as op
 use Rattle.spx_core.specs.declared.entity.TheConstants.{INTEGER_LAST}
@@ -10,14 +9,15 @@ use Rattle.spx_term.specs.declared.term.TermOp.TheVariants as sign
 use Rattle.spx_term.specs.declared.term.Term.{Term}
 use Rattle.spx_term.specs.declared.term.Term.TheVariants as term
 use Rattle.spx_term.specs.Conjuncts.{conjuncts, conjuncts-Infix}
-use Rattle.spx_term.specs.Steps.{Tree, Cut, Assign, assume_all, claims_of, tidy}
+use Rattle.spx_term.specs.Steps.{Tree, Cut, Assign, assume_all}
 use Rattle.spx_paths.specs.Terms.{now_term, entry_term, term_of, term_with-Attribute, literal_or}
 use Rattle.spx_paths.specs.Walks.{ending, start_tree, walk}
-use Rattle.spx_paths.specs.Conditions.{conditions_of, numbered}
+use Rattle.spx_paths.specs.Conditions.{conditions_of}
 use Rattle.spx_examples.specs.Increment.{place, word, integer_at, integer_last, below_last, step, inc, increment, entry_x, inc_conditions}
 use Rattle.spx_examples.proofs.IncrementRules.{inc_command}
 use Rattle.spx_examples.proofs.IncrementTypes.{last_is_static, below_is_not}
 use Rattle.spx_examples.proofs.Sums.{now_name, now_x, in_integer, below_now, summed, path_below, term_of_operation, walk_step, claims_are}
+use Rattle.spx_examples.proofs.Trees.{conditions_from, trees_are}
 
 term_of_below : term_of increment (entry_term increment inc) below_last ≡ below_now INTEGER_LAST
 term_of_below =
@@ -38,5 +38,5 @@ tree_is =
     ∙ ap (λ parts. Assign now_name entry_x (assume_all (in_integer now_x ++ parts) (summed (place 6 11) Cut))) (conjuncts-Infix sign.Less now_x (term.Number INTEGER_LAST))
 
 pub conditions_are : conditions_of increment inc ≡ inc_conditions
-unfolding conditions_of digits
-conditions_are = ap (λ tree. numbered (codes "Inc") 1 (map tidy (flat_map claims_of (tree ∷ [])))) tree_is ∙ ap (numbered (codes "Inc") 1) (claims_are INTEGER_LAST (place 6 11))
+unfolding digits
+conditions_are = conditions_from increment inc (path_below INTEGER_LAST (summed (place 6 11) Cut) ∷ []) _ (trees_are increment inc _ _ [] inc_command tree_is refl) (claims_are INTEGER_LAST (place 6 11))

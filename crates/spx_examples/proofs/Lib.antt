@@ -3,6 +3,7 @@ mod Resolving
 mod Successor
 mod OneVariable
 mod TermEquality
+mod Trees
 mod Sums
 mod SumsPlain
 mod IncrementTypes
@@ -47,5 +48,9 @@ mod Declarations
 mod Selections
 mod Assertions
 mod AssertionConditions
+mod AssertionCuts
 mod AssertionText
 mod AssertedText
+mod Loops
+mod LoopFlows
+mod LoopCuts

@@ -106,7 +106,7 @@ contains_is xs z = (λ h. at_position xs z h.0 h.1 h.2, positioned xs z)
 
 -- ---- variables
 
-same_is : (w u : VarId) → IsTrue (w.0 == u.0) ↔ (w ≡ u)
+pub same_is : (w u : VarId) → IsTrue (w.0 == u.0) ↔ (w ≡ u)
 same_is w u = (λ h. ap (λ k. record { 0 = k }) (eqb-true w.0 u.0 h), λ e. eq-eqb w.0 u.0 (ap (λ (v : VarId). v.0) e))
 
 pub stands_is : (u : VarId) (vars : List VarId) → IsTrue (stands_in u vars) ↔ Among vars u

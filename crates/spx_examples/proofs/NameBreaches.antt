@@ -9,6 +9,7 @@ use Rattle.spx_tree.specs.declared.expression.Name.TheVariants.{Simple, Attribut
 use Rattle.spx_tree.specs.declared.expression.Expr.{Expr, Expr-F, roll-Expr, map-Expr, fold-roll-Expr}
 use Rattle.spx_tree.specs.declared.expression.Expr.TheBlock.{hidden-the_row-Expr-0}
 use Rattle.spx_tree.specs.declared.expression.Expr.TheVariants as written_expr
+use Rattle.spx_tree.specs.declared.statement.AssertionKind.{AssertionKind}
 use Rattle.spx_tree.specs.declared.statement.Closing.{Closing}
 use Rattle.spx_tree.specs.declared.statement.Stmt.{Stmt}
 use Rattle.spx_tree.specs.declared.statement.Stmt.TheVariants as written_stmt
@@ -29,8 +30,8 @@ use Rattle.spx_core.specs.Resolved.{around_body, at_start, counted_sub, declarin
 use Rattle.spx_core.specs.Resolved as resolving
 use Rattle.spx_core.specs.Statements.{first_name_breach, judged_name, judged_command, judged_decl, judged_end, judged_item, judged_param, judged_predicate, judged_sub}
 use Rattle.spx_core.proofs.Callers.Expressions.{fold-Number, fold-Name, fold-Entry, fold-Attribute, fold-Applied, fold-Parenthesized, fold-Prefix, fold-Infix, fold-InType, fold-InRange}
-use Rattle.spx_examples.proofs.Statements.{assignment_is, check_is, if_is, and_no_more}
-use Rattle.spx_examples.proofs.Resolving.{resolved_assignment, resolved_check, resolved_if}
+use Rattle.spx_examples.proofs.Statements.{assignment_is, assertion_is, if_is, and_no_more}
+use Rattle.spx_examples.proofs.Resolving.{resolved_assignment, resolved_assertion, resolved_if}
 
 -- `if test then body end if`
 abbrev if_written : Place → Expr → List Stmt → Closing → Stmt
@@ -126,14 +127,14 @@ module _ (items : List CoreDerivesItem) (around : Regions) where
       ∙ ap judged_command (if_is at (resolved_expr around test) (map (resolved_stmt items around) body) closing)
       ∙ ap (λ j. and_no_more (if_now j body)) (judged_is [] around test)
 
-  -- what a `check` is judged to be
-  abbrev check_now : Expr → Judged ⊤
-  check_now test = expr_now items around test >>= λ t. condition t
+  -- what an `assert` or a `check` is judged to be
+  abbrev assertion_now : Expr → Judged ⊤
+  assertion_now test = expr_now items around test >>= λ t. condition t
 
-  check_body : (at : Place) (test : Expr) → judged_command (commands (resolved_stmt items around (written_stmt.Check at test) ∷ [])) ≡ and_no_more (check_now test)
-  check_body at test =
-      ap (λ s. judged_command (commands (s ∷ []))) (resolved_check items around at test)
-      ∙ ap judged_command (check_is at (resolved_in items around test))
+  assertion_body : (kind : AssertionKind) (at : Place) (test : Expr) → judged_command (commands (resolved_stmt items around (written_stmt.Assertion kind at test) ∷ [])) ≡ and_no_more (assertion_now test)
+  assertion_body kind at test =
+      ap (λ s. judged_command (commands (s ∷ []))) (resolved_assertion items around kind at test)
+      ∙ ap judged_command (assertion_is kind at (resolved_in items around test))
       ∙ ap (λ j. and_no_more (j >>= λ t. condition t)) (judged_is items around test)
 
 -- ---- procedures
@@ -191,7 +192,7 @@ module _ (s : Subprogram) (others : List Unit) where
   breach_of_if at test body closing is =
       with_body (if_written at test body closing) is (and_no_more (if_now (relation first) (inside first) (expr_now [] (inside first) test) body)) (if_body (relation first) (inside first) at test body closing)
 
-  -- where it is a `check`
-  pub breach_of_check : (at : Place) (test : Expr) → s.statements ≡ written_stmt.Check at test ∷ []
-      → first_name_breach (unit.Subprogram s ∷ others) ≡ breach_with (first_with (and_no_more (check_now (relation first) (inside first) test)))
-  breach_of_check at test is = with_body (written_stmt.Check at test) is (and_no_more (check_now (relation first) (inside first) test)) (check_body (relation first) (inside first) at test)
+  -- where it is an `assert` or a `check`
+  pub breach_of_assertion : (kind : AssertionKind) (at : Place) (test : Expr) → s.statements ≡ written_stmt.Assertion kind at test ∷ []
+      → first_name_breach (unit.Subprogram s ∷ others) ≡ breach_with (first_with (and_no_more (assertion_now (relation first) (inside first) test)))
+  breach_of_assertion kind at test is = with_body (written_stmt.Assertion kind at test) is (and_no_more (assertion_now (relation first) (inside first) test)) (assertion_body (relation first) (inside first) kind at test)

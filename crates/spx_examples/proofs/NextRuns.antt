@@ -19,10 +19,10 @@ use Rattle.spx_examples.proofs.Statements.{to_end}
 use Rattle.spx_examples.proofs.NextRules.{next_command, judged_below}
 
 -- whether X is below 100, where X is read as this
-abbrev below_of : Answer → Answer
+abbrev pub below_of : Answer → Answer
 below_of answer = with_value answer (λ y. Gives (applied op.Less y (value.Number (pos 100))))
 
-eval_below : (f : Frame) (n : ℕ) (s : Store) → eval f n s below_hundred ≡ below_of (read s (place 5 7) (Some x))
+pub eval_below : (f : Frame) (n : ℕ) (s : Store) → eval f n s below_hundred ≡ below_of (read s (place 5 7) (Some x))
 eval_below f n s =
     eval_operated f n s op.Less (place 5 9) (Name (x_at 5 7)) (Number (pos 100) (place 5 11)) _ _ _
     judged_below (eval_name f n s (x_at 5 7)) (eval-Number f n s (pos 100) (place 5 11))

@@ -1,7 +1,6 @@
 -- The verification conditions of the procedure `Inc` without its precondition are not valid.
-use Rattle.std.proofs.Common.{◌≡◌, ℤ, pos, true, false, [], ◌∷◌, map, sym, ap, ap₂, subst, ◌∙◌}
-use Rattle.std.specs.Prelude.{codes, All}
-use Rattle.std.specs.List.{flat_map}
+use Rattle.std.proofs.Common.{◌≡◌, ℤ, pos, true, false, [], ◌∷◌, refl, sym, ap, ap₂, subst, ◌∙◌}
+use Rattle.std.specs.Prelude.{All}
 use Rattle.std.specs.Fmt.{digits}
 use Rattle.std.proofs.lemmas.List.Elements.{All-cons, All-nil, All-head}
 use Rattle.spx_core.specs.declared.entity.TheConstants.{INTEGER_FIRST, INTEGER_LAST}
@@ -17,15 +16,16 @@ use Rattle.spx_term.specs.declared.value.Value.{Value}
 use Rattle.spx_term.specs.declared.value.Value.TheVariants.{Number, Truth}
 use Rattle.spx_term.specs.Goals.{goal_of}
 use Rattle.spx_term.specs.Meaning.{Valuation, HasSort, Holds, value_of, value_of_op, value_step}
-use Rattle.spx_term.specs.Steps.{Cut, claims_of, tidy}
+use Rattle.spx_term.specs.Steps.{Cut}
 use Rattle.spx_term.proofs.Terms as terms
 use Rattle.spx_paths.specs.Walks.{ending, start_tree, walk}
-use Rattle.spx_paths.specs.Conditions.{conditions_of, numbered}
+use Rattle.spx_paths.specs.Conditions.{conditions_of}
 use Rattle.spx_paths.specs.Fit.{Fit, HasValidConditions, IsValid}
 use Rattle.spx_examples.specs.Increment.{place, step, entry_x, next_x, at_least_first, at_most_last, known_entry, sum_goals}
 use Rattle.spx_examples.specs.Refused.{inc_without_pre, increment_without_pre, overflow_without_pre, range_without_pre}
 use Rattle.spx_examples.proofs.IncrementRules.{inc_command}
 use Rattle.spx_examples.proofs.Sums.{summed, path_from_entry, walk_step, claims_from_entry}
+use Rattle.spx_examples.proofs.Trees.{conditions_from, trees_are}
 
 -- ---- what they are
 
@@ -36,8 +36,10 @@ tree_is : start_tree increment_without_pre inc_without_pre ≡ path_from_entry (
 tree_is = ap path_from_entry body_walk
 
 pub conditions_are : conditions_of increment_without_pre inc_without_pre ≡ overflow_without_pre ∷ range_without_pre ∷ []
-unfolding conditions_of digits
-conditions_are = ap (λ tree. numbered (codes "Inc") 1 (map tidy (flat_map claims_of (tree ∷ [])))) tree_is ∙ ap (numbered (codes "Inc") 1) (claims_from_entry (place 6 11))
+unfolding digits
+conditions_are =
+    conditions_from increment_without_pre inc_without_pre (path_from_entry (summed (place 6 11) Cut) ∷ []) _
+    (trees_are increment_without_pre inc_without_pre _ _ [] inc_command tree_is refl) (claims_from_entry (place 6 11))
 
 -- ---- values that refute the first
 

@@ -7,6 +7,7 @@ use Rattle.spx_tree.specs.declared.expression.InfixOp.TheVariants as op
 use Rattle.spx_tree.specs.declared.expression.Name.{Name}
 use Rattle.spx_tree.specs.declared.expression.Expr.{Expr, Expr-F, roll-Expr, fold-roll-Expr}
 use Rattle.spx_tree.specs.declared.expression.Expr.TheVariants as written_expr
+use Rattle.spx_tree.specs.declared.statement.AssertionKind.{AssertionKind}
 use Rattle.spx_tree.specs.declared.statement.Closing.{Closing}
 use Rattle.spx_tree.specs.declared.statement.Stmt.{Stmt, Stmt-F, roll-Stmt, fold-roll-Stmt}
 use Rattle.spx_tree.specs.declared.statement.Stmt.TheVariants as written_stmt
@@ -47,9 +48,9 @@ module _ (items : List CoreDerivesItem) (around : Regions) where
       fold-roll-Stmt CoreStmt CoreAlternative CoreArm (stmt_step items around) (alternative_step around) (arm_step around) (Stmt-F.If (written_arm at condition body ∷ []) None closing)
       ∙ ap (λ (a : CoreArm). stmt.If (a ∷ []) None closing) (fold-roll-Arm CoreStmt CoreAlternative CoreArm (stmt_step items around) (alternative_step around) (arm_step around) (record { place = at; condition = condition; body = body }))
 
-  pub resolved_check : (at : Place) (condition : Expr) → resolved_stmt items around (written_stmt.Check at condition) ≡ stmt.Check at (resolved_in items around condition)
+  pub resolved_assertion : (kind : AssertionKind) (at : Place) (condition : Expr) → resolved_stmt items around (written_stmt.Assertion kind at condition) ≡ stmt.Assertion kind at (resolved_in items around condition)
   unfolding roll-Stmt roll
-  resolved_check at condition = fold-roll-Stmt CoreStmt CoreAlternative CoreArm (stmt_step items around) (alternative_step around) (arm_step around) (Stmt-F.Check at condition)
+  resolved_assertion kind at condition = fold-roll-Stmt CoreStmt CoreAlternative CoreArm (stmt_step items around) (alternative_step around) (arm_step around) (Stmt-F.Assertion kind at condition)
 
   -- where X denotes the variable
   module _ (is : XDenotes around) where

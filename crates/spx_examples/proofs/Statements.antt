@@ -3,6 +3,7 @@ use Rattle.std.proofs.Common.{◌≡◌, List, [], ◌∷◌, Option, None, Some
 use Rattle.std.specs.Prelude.{⊤}
 use denote.Hole.Carrier.{roll}
 use Rattle.spx_text.specs.declared.place.Place.{Place}
+use Rattle.spx_tree.specs.declared.statement.AssertionKind.{AssertionKind}
 use Rattle.spx_tree.specs.declared.statement.Closing.{Closing}
 use Rattle.spx_tree.specs.declared.expression.InfixOp.{InfixOp}
 use Rattle.spx_core.specs.declared.name.Reference.{Reference}
@@ -14,7 +15,7 @@ use Rattle.spx_core.specs.declared.statement.CoreChoice.{CoreChoice}
 use Rattle.spx_core.specs.declared.rule.Typing.{Typing}
 use Rattle.spx_core.specs.declared.subprogram.Sub.{Sub}
 use Rattle.spx_core.specs.Judged.{Judged, ◌>>=◌, operation}
-use Rattle.spx_core.specs.Commands.{Command, Skip, Set, Then, Choose, Check, alternative_step, arm_step, stmt_step, command, commands}
+use Rattle.spx_core.specs.Commands.{Command, Skip, Set, Then, Choose, Assertion, alternative_step, arm_step, stmt_step, command, commands}
 use Rattle.spx_meaning.specs.declared.bad.BadKind.TheVariants.{Unset}
 use Rattle.spx_meaning.specs.Runs.{Outcome, Ended, then_do, demand, exports_set}
 use Rattle.spx_examples.specs.Branches.{arm}
@@ -23,13 +24,13 @@ pub null_is : (at : Place) → commands (stmt.Null at ∷ []) ≡ Then Skip Skip
 unfolding roll-CoreStmt roll
 null_is at = ap (λ c. Then c Skip) (fold-roll-CoreStmt Command (Option (List CoreChoice) × Command) (Command → Command) stmt_step alternative_step arm_step (CoreStmt-F.Null at))
 
--- a `check` looks at its condition
-pub check_looks : (at : Place) (condition : CoreExpr) → command (stmt.Check at condition) ≡ Check at condition
+-- an `assert` or a `check` looks at its condition
+pub assertion_looks : (kind : AssertionKind) (at : Place) (condition : CoreExpr) → command (stmt.Assertion kind at condition) ≡ Assertion kind at condition
 unfolding roll-CoreStmt roll
-check_looks at condition = fold-roll-CoreStmt Command (Option (List CoreChoice) × Command) (Command → Command) stmt_step alternative_step arm_step (CoreStmt-F.Check at condition)
+assertion_looks kind at condition = fold-roll-CoreStmt Command (Option (List CoreChoice) × Command) (Command → Command) stmt_step alternative_step arm_step (CoreStmt-F.Assertion kind at condition)
 
-pub check_is : (at : Place) (condition : CoreExpr) → commands (stmt.Check at condition ∷ []) ≡ Then (Check at condition) Skip
-check_is at condition = ap (λ c. Then c Skip) (check_looks at condition)
+pub assertion_is : (kind : AssertionKind) (at : Place) (condition : CoreExpr) → commands (stmt.Assertion kind at condition ∷ []) ≡ Then (Assertion kind at condition) Skip
+assertion_is kind at condition = ap (λ c. Then c Skip) (assertion_looks kind at condition)
 
 -- an assignment sets its target
 pub assignment_sets : (target : Reference) (value : CoreExpr) → command (stmt.Assignment target value) ≡ Set target value

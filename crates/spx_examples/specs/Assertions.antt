@@ -1,5 +1,5 @@
--- Variants of the procedures `Inc` and `Flag` with a postcondition, with `check` annotations and with values on entry. The first are resolved. Each has
--- parts that are not those of
+-- Variants of the procedures `Inc` and `Flag` with a postcondition, with `assert` and `check` annotations and with values on entry. The first are resolved.
+-- Each has parts that are not those of
 --
 --     procedure Inc (X : in out Integer)
 --     --# derives X from X;
@@ -9,13 +9,15 @@
 --        X := X + 1;
 --     end Inc;
 --
--- A `check` stands in a line of its own.
+-- An `assert` or a `check` stands in a line of its own.
 use Rattle.std.specs.Prelude.{◌≡◌, ℕ, ◌+◌, ℤ, pos, Bool, true, List, [], ◌∷◌, ◌++◌, Some, None, codes}
 use Rattle.spx_tree.specs.declared.expression.InfixOp.{InfixOp}
 use Rattle.spx_tree.specs.declared.expression.InfixOp.TheVariants as op
 use Rattle.spx_tree.specs.declared.expression.Expr.{Expr}
 use Rattle.spx_tree.specs.declared.expression.Expr.TheVariants as written_expr
 use Rattle.spx_tree.specs.declared.expression.Name.TheVariants.{Simple}
+use Rattle.spx_tree.specs.declared.statement.AssertionKind.{AssertionKind}
+use Rattle.spx_tree.specs.declared.statement.AssertionKind.TheVariants as assertion
 use Rattle.spx_tree.specs.declared.statement.Stmt.TheVariants as written_stmt
 use Rattle.spx_tree.specs.declared.subprogram.Param.{Param}
 use Rattle.spx_tree.specs.declared.subprogram.Subprogram.{Subprogram}
@@ -35,13 +37,20 @@ use Rattle.spx_core.specs.declared.subprogram.CorePredicate.{CorePredicate}
 use Rattle.spx_core.specs.declared.subprogram.Sub.{Sub}
 use Rattle.spx_term.specs.declared.condition.CondKind.TheVariants as kind
 use Rattle.spx_term.specs.declared.condition.Condition.{Condition}
+use Rattle.spx_term.specs.declared.term.Sort.TheVariants.{Integer}
+use Rattle.spx_term.specs.declared.term.Symbol.TheVariants as symbol
 use Rattle.spx_term.specs.declared.term.TermOp.TheVariants as sign
+use Rattle.spx_term.specs.declared.term.TermPrefix.TheVariants.{Not}
 use Rattle.spx_term.specs.declared.term.Term.{Term}
 use Rattle.spx_term.specs.declared.term.Term.TheVariants as term
+use Rattle.spx_term.specs.Steps.{Tree, Cut, Assign, assume_all, check as proving}
 use Rattle.spx_meaning.specs.Annotations.{meant}
 use Rattle.spx_meaning.specs.Frames.{Frame}
+use Rattle.spx_paths.specs.Terms.{now}
+use Rattle.spx_examples.specs.Branches.{arm}
 use Rattle.spx_examples.specs.Example.{in_annotation, in_code}
-use Rattle.spx_examples.specs.Increment.{place, word, x, x_at, step, inc, increment, x_written, successor_written, entry_x, next_x, known_entry, sum_goals}
+use Rattle.spx_examples.specs.Increment.{place, word, x, x_at, step, inc, increment, x_written, successor_written, entry_x, entry_below, next_x, known_entry, sum_goals, at_least_first, at_most_last}
+use Rattle.spx_examples.specs.Next.{below_hundred, closing, forked, x_now}
 use Rattle.spx_examples.specs.NameRules.{stepping, with_relation, with_local}
 use Rattle.spx_examples.specs.Operators.{two, truth, values}
 use Rattle.spx_examples.specs.Refused.{overflow_without_pre, range_without_pre}
@@ -90,9 +99,12 @@ positive_name name = expr.Infix op.Greater (place 3 12) (expr.Name name) (expr.N
 abbrev pub post_on : CoreExpr → CorePredicate
 post_on condition = record { place = place 3 5; condition = condition }
 
--- `check` condition, in this line
+-- `assert` or `check` condition, in this line
+abbrev pub noting : AssertionKind → ℕ → CoreExpr → CoreStmt
+noting kind line condition = stmt.Assertion kind (place line 8) condition
+
 abbrev pub checking : ℕ → CoreExpr → CoreStmt
-checking line condition = stmt.Check (place line 8) condition
+checking = noting assertion.Check
 
 -- the procedure with this postcondition
 abbrev pub promising : CoreExpr → Sub
@@ -106,9 +118,15 @@ doing statements line = record inc { pre = None; statements = statements; end = 
 abbrev pub program_of : Sub → Program
 program_of sub = record increment { subs = sub ∷ [] }
 
--- `X := X + 1`, and then `check` this, which begins at column 14 of line 7
+-- `X := X + 1`, and then `assert` or `check` this, which begins in line 7, at column 15 or at column 14
+abbrev pub step_and : AssertionKind → CoreExpr → Sub
+step_and kind condition = doing (step ∷ noting kind 7 condition ∷ []) 8
+
+abbrev pub step_and_assert : CoreExpr → Sub
+step_and_assert = step_and assertion.Assert
+
 abbrev pub step_and_check : CoreExpr → Sub
-step_and_check condition = doing (step ∷ checking 7 condition ∷ []) 8
+step_and_check = step_and assertion.Check
 
 -- `check` this, which begins at column 14 of line 5, and then `X := X + 1`
 abbrev pub check_and_step : CoreExpr → Sub
@@ -146,6 +164,14 @@ checking_unset o = checking 6 (expr.Infix o (place 6 16) (expr.Name (unset_y_at 
 
 -- ---- conditions to be shown
 
+-- the term lies in `Integer`
+abbrev pub lies_in_integer : Term → List Term
+lies_in_integer t = at_least_first t ∷ at_most_last t ∷ []
+
+-- the value of Y now, a variable of that type
+abbrev pub y_now : Term
+y_now = term.Variable (record { symbol = symbol.Now 1; sort = Integer })
+
 -- `X~ + 1 = X~ + 1`
 abbrev pub next_is_next : Term
 next_is_next = term.Infix sign.Equal next_x next_x
@@ -179,6 +205,54 @@ both_condition = record check_condition { goals = entry_is_positive ∷ entry_is
 abbrev pub kept_after_both : Condition
 kept_after_both = record kept_condition { hyps = known_entry ++ entry_is_positive ∷ entry_is_kept ∷ [] }
 
+-- ---- an `assert` in an arm
+--
+--     procedure Inc (X : in out Integer)
+--     --# derives X from X;
+--     --# pre X > 0; post X = X~;
+--     is begin
+--        if X < 100 then
+--           --# assert X > 0;
+--        end if;
+--     end Inc;
+
+abbrev pub asserting_in_arm : Sub
+asserting_in_arm = record (doing (stmt.If (arm (place 5 4) below_hundred (stmt.Assertion assertion.Assert (place 6 11) (is_positive 6 18) ∷ []) ∷ []) None closing ∷ []) 8) {
+  pre = Some (record { place = place 3 5; condition = is_positive 3 9 });
+  post = Some (record { place = place 3 16; condition = is_kept 3 21 });
+}
+
+-- `X > 0` and `X = X~`
+abbrev pub now_is_positive : Term
+now_is_positive = term.Infix sign.Greater x_now (term.Number (pos 0))
+
+abbrev pub now_is_kept : Term
+now_is_kept = term.Infix sign.Equal x_now entry_x
+
+-- the end of its paths
+abbrev pub kept_at_end : Tree
+kept_at_end = proving kind.Post (place 3 16) (now_is_kept ∷ []) Cut
+
+-- the tree from its start: the path through the arm ends at the `assert`
+abbrev pub tree_from_start : Tree
+tree_from_start =
+    Assign (now (program_of asserting_in_arm) x) entry_x
+    (assume_all (lies_in_integer x_now ++ now_is_positive ∷ []) (forked (proving kind.Assert (place 6 11) (now_is_positive ∷ []) Cut) kept_at_end))
+
+-- the tree from the `assert`: X and X~ lie in their type, the precondition was true of X~, and what is asserted is true of X
+abbrev pub tree_from_assert : Tree
+tree_from_assert = assume_all (lies_in_integer x_now ++ known_entry ++ entry_is_positive ∷ now_is_positive ∷ []) kept_at_end
+
+-- its conditions: the `assert` and the end of the path past the arm, and then the end of the path from the `assert`
+abbrev pub asserted_in_arm : Condition
+asserted_in_arm = record { name = codes "Inc.1"; kind = kind.Assert; place = place 6 11; hyps = known_entry ++ entry_is_positive ∷ entry_below (pos 100) ∷ []; goals = entry_is_positive ∷ [] }
+
+abbrev pub kept_past_arm : Condition
+kept_past_arm = record { name = codes "Inc.2"; kind = kind.Post; place = place 3 16; hyps = known_entry ++ entry_is_positive ∷ term.Prefix Not (entry_below (pos 100)) ∷ []; goals = entry_is_kept ∷ [] }
+
+abbrev pub kept_from_assert : Condition
+kept_from_assert = record { name = codes "Inc.3"; kind = kind.Post; place = place 3 16; hyps = lies_in_integer x_now ++ known_entry ++ entry_is_positive ∷ now_is_positive ∷ []; goals = now_is_kept ∷ [] }
+
 -- ---- flow
 
 -- `check Y > 0` for a local Y that nothing sets
@@ -207,7 +281,7 @@ ensuring s condition = record s { post = Some (record { place = place 3 5; condi
 
 -- `check` this in the place of its statement
 abbrev pub looking : Subprogram → Expr → Subprogram
-looking s condition = record s { statements = written_stmt.Check (place 6 8) condition ∷ [] }
+looking s condition = record s { statements = written_stmt.Assertion assertion.Check (place 6 8) condition ∷ [] }
 
 -- a parameter of a name of one letter, at its column
 abbrev pub param_written : List ℕ → WrittenMode → ℕ → Param

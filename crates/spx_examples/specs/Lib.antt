@@ -18,3 +18,4 @@ pub mod Declarations
 pub mod Selections
 pub mod Assertions
 pub mod AssertionText
+pub mod Loops

@@ -43,6 +43,7 @@ use Rattle.spx_term.specs.declared.term.TermOp.TheVariants as sign
 use Rattle.spx_term.specs.declared.term.TermPrefix.TheVariants.{Not}
 use Rattle.spx_term.specs.declared.term.Term.{Term}
 use Rattle.spx_term.specs.declared.term.Term.TheVariants as term
+use Rattle.spx_term.specs.Steps.{Tree, Assume, Split}
 use Rattle.spx_paths.specs.Terms.{now, now_term}
 use Rattle.spx_examples.specs.Branches.{arm}
 use Rattle.spx_examples.specs.Increment.{place, word, x_written, successor_written, x, object, x_at, x_named, integer_at, successor, inc_id, increment, entry_x, at_least_first, at_most_last, known_below, sum_goals}
@@ -156,6 +157,10 @@ x_now = now_term next_program x
 -- `X < 100`, of the value now
 abbrev pub below_now : Term
 below_now = term.Infix sign.Less x_now (term.Number (pos 100))
+
+-- where it is tested: the one where it is true, the other where it is not
+abbrev pub forked : (holds fails : Tree) → Tree
+forked holds fails = Split (Assume below_now holds) (Assume (term.Prefix Not below_now) fails)
 
 -- `X + 1`, of the value now
 abbrev pub next_now : Term

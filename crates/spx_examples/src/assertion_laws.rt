@@ -1,6 +1,6 @@
-// What holds of postconditions, `check` annotations and values on entry, each law as the contract of a function that does nothing. The procedures
+// What holds of postconditions, `assert` and `check` annotations and values on entry, each law as the contract of a function that does nothing. The procedures
 // are variants of `Inc` and `Flag`.
-ghost use Rattle.std.specs.Prelude.{◌≡◌, ℕ, ℤ, pos, Bool, false, not, ◌||◌, [], ◌∷◌, Option, Some, None, Ok, Err, codes, if◌then◌else◌};
+ghost use Rattle.std.specs.Prelude.{◌≡◌, ℕ, ℤ, pos, Bool, false, not, ◌||◌, [], ◌∷◌, ◌++◌, Option, Some, None, Ok, Err, codes, if◌then◌else◌};
 ghost use Rattle.spx_tree.specs.declared.expression.Expr.TheVariants as written_expr;
 ghost use Rattle.spx_tree.specs.declared.expression.InfixOp.TheVariants as op;
 ghost use Rattle.spx_tree.specs.Form.{forms_of};
@@ -17,22 +17,24 @@ ghost use Rattle.spx_core.specs.Obeyed.{first_rule_breach};
 ghost use Rattle.spx_core.specs.Resolved.{resolved};
 ghost use Rattle.spx_core.specs.Statements.{first_name_breach};
 ghost use Rattle.spx_term.specs.declared.value.Value.{Value};
-ghost use Rattle.spx_meaning.specs.declared.bad.BadKind.TheVariants.{Check, Post, Unset};
+ghost use Rattle.spx_meaning.specs.declared.bad.BadKind.TheVariants.{Assert, Check, Post, Unset};
 ghost use Rattle.spx_meaning.specs.Annotations.{meant};
 ghost use Rattle.spx_meaning.specs.Frames.{Frame};
 ghost use Rattle.spx_meaning.specs.Runs.{Bad, Ended, call};
 ghost use Rattle.spx_meaning.specs.Stores.{Store, reading};
 ghost use Rattle.spx_paths.specs.Conditions.{conditions_of};
-ghost use Rattle.spx_examples.specs.Assertions.{entry_at, is_kept, is_next, is_positive, promising, program_of, step_and_check, check_and_step, only_checking, checking_both, unset_and_promising, promised_conditions, check_condition, kept_condition, both_condition, kept_after_both, checks_local, checks_import, entry_written, requiring, ensuring, looking, two_formals, one_local, flag_promising, z_promised, MeansTable, false_at, of_literals, implying, positive_written, checking_unset, assertion_line, assertion_tokens, tilde_in_code, constant_at};
-ghost use Rattle.spx_examples.specs.AssertionText.{asserted_bytes, asserted_tokens, asserted_units, asserted_program};
+ghost use Rattle.spx_paths.specs.Walks.{cut_facts, path_count, trees_of};
+ghost use Rattle.spx_examples.specs.Assertions.{asserted_in_arm, asserting_in_arm, kept_from_assert, kept_past_arm, lies_in_integer, now_is_positive, step_and_assert, tree_from_assert, tree_from_start, y_now, entry_at, is_kept, is_next, is_positive, promising, program_of, step_and_check, check_and_step, only_checking, checking_both, unset_and_promising, promised_conditions, check_condition, kept_condition, both_condition, kept_after_both, checks_local, checks_import, entry_written, requiring, ensuring, looking, two_formals, one_local, flag_promising, z_promised, MeansTable, false_at, of_literals, implying, positive_written, checking_unset, assertion_line, assertion_tokens, tilde_in_code, constant_at};
+ghost use Rattle.spx_examples.specs.AssertionText.{assert_bytes, assert_program, assert_tokens, assert_units, asserted_bytes, asserted_tokens, asserted_units, asserted_program, tokens_with};
 ghost use Rattle.spx_examples.specs.Findings.{as_flag, with_local};
-ghost use Rattle.spx_examples.specs.Flag.{x_at as in_flag, y_at, y};
+ghost use Rattle.spx_examples.specs.Flag.{x_at as in_flag, y_at, y, flag, flag_program};
 ghost use Rattle.spx_examples.specs.Found.{Finds, nothing_found};
-ghost use Rattle.spx_examples.specs.Increment.{place, word, x, x_at, x_written};
+ghost use Rattle.spx_examples.specs.Increment.{place, word, x, x_at, x_written, entry_x};
 ghost use Rattle.spx_examples.specs.NameRules.{breach, alone, assigning, stepping};
+ghost use Rattle.spx_examples.specs.Next.{x_now};
 ghost use Rattle.spx_examples.specs.Operators.{true_at};
 ghost use Rattle.spx_examples.specs.VariableRules.{only};
-ghost use Rattle.spx_examples.specs.Variants.{number, local_program, local_sub, out_program, only_null};
+ghost use Rattle.spx_examples.specs.Variants.{number, flag_with_pre, flag_with_pre_program, local_program, local_sub, out_program, only_null};
 
 /// `post X = X~ + 1` is true after `X := X + 1`, and `post X = X~` is not, which is bad at the word `post`. An export that is left unset is met before.
 pub fn a_postcondition_is_met_on_the_way_out()
@@ -65,12 +67,34 @@ pub fn a_check_is_true_or_false()
     ensures unset_above { (n : ℕ) (v : Value) (w : Option Value) → call (local_program (checking_unset op.Greater)) n (local_sub (checking_unset op.Greater)) (Some v ∷ w ∷ []) ≡ Bad Check (place 6 8) }
 {}
 
+/// An `assert` is looked at where it stands, as a `check` is: one that is false is bad at its word, and a run goes on past one that is true.
+pub fn an_assert_is_met_where_it_stands()
+    ensures holds { (n : ℕ) → call (program_of (step_and_assert (is_next 7 15))) n (step_and_assert (is_next 7 15)) (number (pos 41) ∷ []) ≡ Ended (number (pos 42) ∷ []) }
+    ensures fails { (n : ℕ) → call (program_of (step_and_assert (is_kept 7 15))) n (step_and_assert (is_kept 7 15)) (number (pos 41) ∷ []) ≡ Bad Assert (place 7 8) }
+{}
+
 /// A postcondition asks for a last condition: `post X = X~ + 1` after `X := X + 1` for `X~ + 1 = X~ + 1`. A `check` asks for one, and is known from there on;
 /// each part of a conjunction is shown, and known, for itself.
 pub fn assertions_ask_for_conditions()
     ensures post { conditions_of (program_of (promising (is_next 3 10))) (promising (is_next 3 10)) ≡ promised_conditions }
     ensures check { conditions_of (program_of only_checking) only_checking ≡ check_condition ∷ kept_condition ∷ [] }
     ensures both { conditions_of (program_of checking_both) checking_both ≡ both_condition ∷ kept_after_both ∷ [] }
+{}
+
+/// With an `assert` in an arm there is one tree more, from the `assert` on: the path through the arm ends there, and another one begins. The conditions come
+/// tree by tree. After the `assert` the types, the precondition for X~ and what it says are known, and no more: neither the test nor that X = X~ is.
+pub fn an_assert_cuts_paths()
+    ensures trees { trees_of (program_of asserting_in_arm) asserting_in_arm ≡ tree_from_start ∷ tree_from_assert ∷ [] }
+    ensures paths { path_count asserting_in_arm ≡ 3 }
+    ensures conditions { conditions_of (program_of asserting_in_arm) asserting_in_arm ≡ asserted_in_arm ∷ kept_past_arm ∷ kept_from_assert ∷ [] }
+{}
+
+/// Known after each cut are the types of formals of any mode and of locals, and of values on entry for what is imported and exported too; and the
+/// precondition, which for an import that is no export is about its value.
+pub fn what_is_known_after_a_cut()
+    ensures formals { cut_facts flag_program flag ≡ lies_in_integer x_now ++ lies_in_integer y_now }
+    ensures local { cut_facts (local_program only_null) (local_sub only_null) ≡ lies_in_integer x_now ++ lies_in_integer y_now ++ lies_in_integer entry_x }
+    ensures precondition { cut_facts flag_with_pre_program flag_with_pre ≡ lies_in_integer x_now ++ lies_in_integer y_now ++ now_is_positive ∷ [] }
 {}
 
 /// `X~` stands in a postcondition or a `check`, for a variable that is both imported and exported. It does not in a precondition or in code, nor for an
@@ -171,4 +195,12 @@ pub fn assertions_are_read()
     ensures grammatical { IsFile 2 asserted_units }
     ensures as_written { written asserted_units ≡ forms_of asserted_bytes asserted_tokens }
     ensures made { resolved asserted_units ≡ asserted_program }
+{}
+
+/// The same of a text with an `assert` in the place of the `check`.
+pub fn an_assert_is_read()
+    ensures spelled { Spells 0 assert_bytes (tokens_with assert_tokens) }
+    ensures grammatical { IsFile 2 assert_units }
+    ensures as_written { written assert_units ≡ forms_of assert_bytes (tokens_with assert_tokens) }
+    ensures made { resolved assert_units ≡ assert_program }
 {}

@@ -9,6 +9,7 @@ pub mod call_laws;
 pub mod declaration_laws;
 pub mod flow_laws;
 pub mod laws;
+pub mod loop_laws;
 pub mod name_rule_laws;
 pub mod operator_laws;
 pub mod run_laws;

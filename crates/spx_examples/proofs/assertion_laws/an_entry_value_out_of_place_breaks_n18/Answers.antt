@@ -2,7 +2,7 @@ use Rattle.std.proofs.Common.{refl}
 use denote.Hole.Carrier.{hidden}
 use Rattle.spx_tree.specs.declared.expression.Expr.TheBlock.{hidden-the_row-Expr-0}
 use Rattle.spx_core.specs.Regions.{standard}
-use Rattle.spx_examples.proofs.NameBreaches.{breach_is, breach_of_check}
+use Rattle.spx_examples.proofs.NameBreaches.{breach_is, breach_of_assertion}
 use Rattle.spx_examples.proofs.assertion_laws.an_entry_value_out_of_place_breaks_n18.Goals as goal
 
 pub returns-clause-post : goal.returns-clause-post
@@ -11,7 +11,7 @@ returns-clause-post c = breach_is _ _ _ _ refl
 
 pub returns-clause-check : goal.returns-clause-check
 unfolding standard hidden-the_row-Expr-0 hidden
-returns-clause-check c = breach_of_check _ _ _ _ refl
+returns-clause-check c = breach_of_assertion _ _ _ _ _ refl
 
 pub returns-clause-pre : goal.returns-clause-pre
 unfolding standard hidden-the_row-Expr-0 hidden
@@ -31,8 +31,8 @@ returns-clause-export c = breach_is _ _ _ _ refl
 
 pub returns-clause-import_in_check : goal.returns-clause-import_in_check
 unfolding standard hidden-the_row-Expr-0 hidden
-returns-clause-import_in_check c = breach_of_check _ _ _ _ refl
+returns-clause-import_in_check c = breach_of_assertion _ _ _ _ _ refl
 
 pub returns-clause-local : goal.returns-clause-local
 unfolding standard hidden-the_row-Expr-0 hidden
-returns-clause-local c = breach_of_check _ _ _ _ refl
+returns-clause-local c = breach_of_assertion _ _ _ _ _ refl

@@ -1,0 +1,15 @@
+use Rattle.spx_tree.specs.declared.statement.AssertionKind.TheVariants as assertion
+use Rattle.spx_examples.proofs.AssertedText.{assert_spelled, grammatical, assert_as_written, made}
+use Rattle.spx_examples.proofs.assertion_laws.an_assert_is_read.Goals as goal
+
+pub returns-clause-spelled : goal.returns-clause-spelled
+returns-clause-spelled c = assert_spelled
+
+pub returns-clause-grammatical : goal.returns-clause-grammatical
+returns-clause-grammatical c = grammatical assertion.Assert 15
+
+pub returns-clause-as_written : goal.returns-clause-as_written
+returns-clause-as_written c = assert_as_written
+
+pub returns-clause-made : goal.returns-clause-made
+returns-clause-made c = made assertion.Assert 15
