@@ -26,7 +26,9 @@ ghost use Rattle.spx_examples.specs.Flag.{y, flag, flag_program, flag_effect};
 ghost use Rattle.spx_examples.specs.Next.{next_sub, next_program, next_effect, path_through_arm, path_past_arm, next_conditions};
 ghost use Rattle.spx_examples.specs.Refused.{x_is_last};
 
-use spx_core::laws::{initial_values_fit, names_are_scoped, resolution, rules_hold};
+use spx_core::laws::{
+    initial_values_fit, names_are_scoped, resolution, rules_hold, types_have_values,
+};
 
 /// `elsif` is an `if` in the `else` before it.
 pub fn elsif_is_nested()
@@ -70,6 +72,7 @@ pub fn next_is_never_bad()
     next_is_clean();
     names_are_scoped();
     initial_values_fit();
+    types_have_values();
     rules_hold();
 }
 

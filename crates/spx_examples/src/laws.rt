@@ -17,7 +17,9 @@ ghost use Rattle.spx_meaning.specs.Runs.{Bad, Ended, call};
 ghost use Rattle.spx_examples.specs.Increment.{place, x, inc, inc_conditions, inc_effect, increment};
 ghost use Rattle.spx_examples.specs.Refused.{inc_without_pre, increment_without_pre, x_is_last, overflow_without_pre, range_without_pre};
 
-use spx_core::laws::{initial_values_fit, names_are_scoped, resolution, rules_hold};
+use spx_core::laws::{
+    initial_values_fit, names_are_scoped, resolution, rules_hold, types_have_values,
+};
 
 /// The procedure of examples/inc.adb meets the premises of the laws, so they are not empty.
 pub fn increment_is_clean()
@@ -45,6 +47,7 @@ pub fn increment_is_never_bad()
     increment_is_clean();
     names_are_scoped();
     initial_values_fit();
+    types_have_values();
     rules_hold();
 }
 

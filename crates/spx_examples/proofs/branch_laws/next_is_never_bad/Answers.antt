@@ -12,4 +12,4 @@ pub returns-clause-never_bad : goal.returns-clause-never_bad
 returns-clause-never_bad c =
     let clean = c.next_is_clean.ensures in
     let scoped = c.names_are_scoped.ensures next_program clean.visible in
-    never_bad next_program scoped (c.initial_values_fit.ensures next_program clean.visible clean.typed) (c.rules_hold.ensures next_program clean.visible clean.obeys) (clean_is_fit next_program scoped clean)
+    never_bad next_program scoped (c.initial_values_fit.ensures next_program clean.visible clean.typed) (c.types_have_values.ensures next_program clean.visible clean.typed) (c.rules_hold.ensures next_program clean.visible clean.obeys) (clean_is_fit next_program scoped clean)

@@ -12,4 +12,4 @@ pub returns-clause-never_bad : goal.returns-clause-never_bad
 returns-clause-never_bad c =
     let clean = c.increment_is_clean.ensures.clean in
     let scoped = c.names_are_scoped.ensures increment clean.visible in
-    never_bad increment scoped (c.initial_values_fit.ensures increment clean.visible clean.typed) (c.rules_hold.ensures increment clean.visible clean.obeys) (clean_is_fit increment scoped clean)
+    never_bad increment scoped (c.initial_values_fit.ensures increment clean.visible clean.typed) (c.types_have_values.ensures increment clean.visible clean.typed) (c.rules_hold.ensures increment clean.visible clean.obeys) (clean_is_fit increment scoped clean)
