@@ -11,6 +11,7 @@ use Rattle.spx_core.specs.declared.expression.CoreExpr.TheVariants.{Name, Number
 use Rattle.spx_core.specs.declared.subprogram.Sub.{Sub}
 use Rattle.spx_core.specs.Commands.{Assertion, Skip, Then, commands}
 use Rattle.spx_core.proofs.Callers.Expressions.{fold-Entry, fold-Name, fold-Number, fold-Infix}
+use Rattle.spx_core.proofs.Callers.CommandForms.{command-Assertion, command-Assignment}
 use Rattle.spx_term.specs.declared.value.Value.{Value}
 use Rattle.spx_term.specs.declared.value.Value.TheVariants as value
 use Rattle.spx_term.specs.Meaning.{as_truth, value_of_op}
@@ -24,7 +25,7 @@ use Rattle.spx_examples.specs.Assertions.{entry_at, after_entry, is_kept, is_nex
 use Rattle.spx_examples.specs.Increment.{place, x, x_at, x_named, successor, step}
 use Rattle.spx_examples.specs.Variants.{local_program, local_sub, local_y_at, out_program, only_null}
 use Rattle.spx_examples.proofs.IncrementRuns.{body_runs}
-use Rattle.spx_examples.proofs.Statements.{assignment_sets, assertion_is, assertion_looks, null_is}
+use Rattle.spx_examples.proofs.Statements.{assertion_is, null_is}
 use Rattle.spx_examples.proofs.Successor.{assigning, step_command, step_runs, successor_of, x_is}
 
 -- ---- what conditions mean
@@ -93,10 +94,10 @@ abbrev looking_at : AssertionKind → ℕ → Value → Store → Outcome
 looking_at kind line v s = demand (as_truth v) (untrue kind) (place line 8) s
 
 after_step : (kind : AssertionKind) (condition : CoreExpr) → commands (step ∷ noting kind 7 condition ∷ []) ≡ Then (step_command 6 4 9) (Then (Assertion kind (place 7 8) condition) Skip)
-after_step kind condition = ap₂ (λ a b. Then a (Then b Skip)) (assignment_sets (x_named 6 4) (successor 6 9)) (assertion_looks kind (place 7 8) condition)
+after_step kind condition = ap₂ (λ a b. Then a (Then b Skip)) (command-Assignment (x_named 6 4) (successor 6 9)) (command-Assertion kind (place 7 8) condition)
 
 before_step : (condition : CoreExpr) → commands (checking 5 condition ∷ step ∷ []) ≡ Then (Assertion assertion.Check (place 5 8) condition) (Then (step_command 6 4 9) Skip)
-before_step condition = ap₂ (λ a b. Then a (Then b Skip)) (assertion_looks assertion.Check (place 5 8) condition) (assignment_sets (x_named 6 4) (successor 6 9))
+before_step condition = ap₂ (λ a b. Then a (Then b Skip)) (command-Assertion assertion.Check (place 5 8) condition) (command-Assignment (x_named 6 4) (successor 6 9))
 
 -- the body, where the assignment has this outcome
 abbrev then_looking : AssertionKind → Frame → CoreExpr → Outcome → Outcome

@@ -16,6 +16,7 @@ use Rattle.spx_core.specs.Judged.{◌>>=◌, expr_step, judged, operand_of, typi
 use Rattle.spx_core.specs.Judged as rules
 use Rattle.spx_core.specs.Places.{place_in}
 use Rattle.spx_core.proofs.Callers.Expressions.{fold-Name, fold-Number, fold-Parenthesized, fold-Prefix}
+use Rattle.spx_core.proofs.Callers.CommandForms.{command-Assignment}
 use Rattle.spx_term.specs.declared.value.Value.{Value}
 use Rattle.spx_term.specs.declared.value.Value.TheVariants as value
 use Rattle.spx_term.specs.Meaning.{as_truth, value_of_op, value_of_prefix}
@@ -27,7 +28,7 @@ use Rattle.spx_meaning.specs.Runs.{Outcome, Ended, Bad, then_do, use_value, run,
 use Rattle.spx_examples.specs.Increment.{place, x, x_at, x_named, successor}
 use Rattle.spx_examples.specs.Variants.{number, local_y_at, local_sub, local_program, only_null, giving, the_local, negated, past_last, local_and_sum, sum_and_local, twice, local_above, testing}
 use Rattle.spx_examples.proofs.Evaluations.{taking, assigns, eval_name, eval_signed, numeric, sum_is_not_static, comparison_is_not_static, left_fails}
-use Rattle.spx_examples.proofs.Statements.{null_is, assignment_sets, assignment_is, if_is, and_no_more, to_end}
+use Rattle.spx_examples.proofs.Statements.{null_is, assignment_is, if_is, and_no_more, to_end}
 use Rattle.spx_examples.proofs.Successor.{judged_x, judged_successor, eval_successor, step_command, successor_of, assigning, step_runs}
 
 -- where the local is unset
@@ -137,7 +138,7 @@ sum_before_local n w =
 -- ---- one statement after the other
 
 twice_command : commands twice ≡ Then (step_command 6 4 9) (Then (step_command 6 16 21) Skip)
-twice_command = ap₂ Then (assignment_sets (x_named 6 4) (successor 6 9)) (assignment_is (x_named 6 16) (successor 6 21))
+twice_command = ap₂ Then (command-Assignment (x_named 6 4) (successor 6 9)) (assignment_is (x_named 6 16) (successor 6 21))
 
 -- X := X + 1 at this place, whose X is read at the other
 abbrev stepped : Frame → Store → Place → Place → Outcome

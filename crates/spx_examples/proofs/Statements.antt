@@ -15,30 +15,20 @@ use Rattle.spx_core.specs.declared.statement.CoreChoice.{CoreChoice}
 use Rattle.spx_core.specs.declared.rule.Typing.{Typing}
 use Rattle.spx_core.specs.declared.subprogram.Sub.{Sub}
 use Rattle.spx_core.specs.Judged.{Judged, ◌>>=◌, operation}
-use Rattle.spx_core.specs.Commands.{Command, Skip, Set, Then, Choose, Assertion, alternative_step, arm_step, stmt_step, command, commands}
+use Rattle.spx_core.specs.Commands.{Command, Skip, Set, Then, Choose, Assertion, alternative_step, arm_step, stmt_step, commands}
+use Rattle.spx_core.proofs.Callers.CommandForms.{command-Assertion, command-Assignment, command-Null}
 use Rattle.spx_meaning.specs.declared.bad.BadKind.TheVariants.{Unset}
 use Rattle.spx_meaning.specs.Runs.{Outcome, Ended, then_do, demand, exports_set}
 use Rattle.spx_examples.specs.Branches.{arm}
 
 pub null_is : (at : Place) → commands (stmt.Null at ∷ []) ≡ Then Skip Skip
-unfolding roll-CoreStmt roll
-null_is at = ap (λ c. Then c Skip) (fold-roll-CoreStmt Command (Option (List CoreChoice) × Command) (Command → Command) stmt_step alternative_step arm_step (CoreStmt-F.Null at))
-
--- an `assert` or a `check` looks at its condition
-pub assertion_looks : (kind : AssertionKind) (at : Place) (condition : CoreExpr) → command (stmt.Assertion kind at condition) ≡ Assertion kind at condition
-unfolding roll-CoreStmt roll
-assertion_looks kind at condition = fold-roll-CoreStmt Command (Option (List CoreChoice) × Command) (Command → Command) stmt_step alternative_step arm_step (CoreStmt-F.Assertion kind at condition)
+null_is at = ap (λ c. Then c Skip) (command-Null at)
 
 pub assertion_is : (kind : AssertionKind) (at : Place) (condition : CoreExpr) → commands (stmt.Assertion kind at condition ∷ []) ≡ Then (Assertion kind at condition) Skip
-assertion_is kind at condition = ap (λ c. Then c Skip) (assertion_looks kind at condition)
-
--- an assignment sets its target
-pub assignment_sets : (target : Reference) (value : CoreExpr) → command (stmt.Assignment target value) ≡ Set target value
-unfolding roll-CoreStmt roll
-assignment_sets target value = fold-roll-CoreStmt Command (Option (List CoreChoice) × Command) (Command → Command) stmt_step alternative_step arm_step (CoreStmt-F.Assignment target value)
+assertion_is kind at condition = ap (λ c. Then c Skip) (command-Assertion kind at condition)
 
 pub assignment_is : (target : Reference) (value : CoreExpr) → commands (stmt.Assignment target value ∷ []) ≡ Then (Set target value) Skip
-assignment_is target value = ap (λ c. Then c Skip) (assignment_sets target value)
+assignment_is target value = ap (λ c. Then c Skip) (command-Assignment target value)
 
 -- an `if` of one arm and no `else` chooses between the arm and nothing
 pub if_is : (at : Place) (condition : CoreExpr) (body : List CoreStmt) (closing : Closing) → commands (stmt.If (arm at condition body ∷ []) None closing ∷ []) ≡ Then (Choose at condition (commands body) Skip) Skip
