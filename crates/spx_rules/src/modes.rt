@@ -193,6 +193,6 @@ fn obey_stmt(stmt: &CoreStmt) -> Result<(), Breach>
             obey_stmts(stmts.as_slice())
         }
         CoreStmt::Case(_, _, alternatives, _) => obey_alternatives(alternatives.as_slice()),
-        CoreStmt::Check(_, _) => Ok(()),
+        CoreStmt::Assertion(_, _, _) => Ok(()),
     }
 }

@@ -3,7 +3,7 @@ use Rattle.std.specs.Prelude.{⊤}
 use Rattle.spx_core.specs.Judged.{Judged, ◌>>=◌}
 use Rattle.spx_core.specs.Obeyed.{obeyed_alternatives}
 use Rattle.spx_types.specs.Choices.{alternatives_in}
-use Rattle.spx_types.proofs.CaseForms.{case_command}
+use Rattle.spx_core.proofs.Callers.CommandForms.{command-Case}
 use Rattle.spx_rules.proofs.CaseRules.{case_obeyed, obeyed_at}
 use Rattle.spx_rules.proofs.modes.+obey_stmt.Goals as goal
 
@@ -21,5 +21,5 @@ obey_alternatives-loop-alternative-preserved t c =
 pub obey_stmt-returns-in-Case : goal.obey_stmt-returns-in-Case
 obey_stmt-returns-in-Case t c =
     let here = c.in-Case in
-    let h = case_obeyed c.args.stmt.now here.field-0 here.field-1 here.alternatives (case_command c.args.stmt.now here.field-0 here.field-1 here.alternatives here.field-3 here.is) in
+    let h = case_obeyed c.args.stmt.now here.field-0 here.field-1 here.alternatives (command-Case c.args.stmt.now here.field-0 here.field-1 here.alternatives here.field-3 here.is) in
     c.obey_alternatives.ensures ∙ ap (λ alternatives. obeyed_alternatives (alternatives_in alternatives)) c.as_slice-in-Case.ensures ∙ sym h
