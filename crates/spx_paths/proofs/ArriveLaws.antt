@@ -21,15 +21,16 @@ use Rattle.spx_core.specs.Commands.{Command, Assertion, Set, Skip, alternative, 
 use Rattle.spx_term.specs.declared.path.PathStep.{PathStep}
 use Rattle.spx_term.specs.Paths.{branches}
 use Rattle.spx_term.specs.declared.term.Term.{Term}
-use Rattle.spx_term.specs.Steps.{Tree, assume_all}
+use Rattle.spx_term.specs.Steps.{Tree, Cut, assume_all}
 use Rattle.spx_paths.specs.declared.beginning.Beginning.{Beginning}
+use Rattle.spx_paths.specs.declared.beginning.Beginning.TheVariants.{GoesOn, Ended}
 use Rattle.spx_paths.specs.declared.path.Path.{Path}
 use Rattle.spx_paths.specs.Prefixes.{Arrive, ArriveAlternatives, ArriveArm, ArriveArms, ArriveBefore, ArriveEach, ArriveFrom, ArriveWhen, BeginIn, Splits, after, after_alternatives, after_beginning, after_each, opening, with_arms, Walked}
 use Rattle.spx_paths.specs.Conditions.{paths}
 use Rattle.spx_paths.specs.Terms.{now_term, term_of}
 use Rattle.spx_paths.specs.Checks.{checks}
 use Rattle.spx_paths.specs.Walks.{alternative_facts, and_these, ending, ending_with, start_tree, walk, walk_for}
-use Rattle.spx_paths.proofs.PrefixLaws.{after_split, each_more, each_single}
+use Rattle.spx_paths.proofs.PrefixLaws.{after_split, all_of, each_more, each_single, on_from}
 
 -- the steps of a path
 abbrev pub steps_of : Path → List PathStep
@@ -92,6 +93,14 @@ case_arrives p sub place selector value (first ∷ others) old new found some is
     ∙ ap (λ t. after new (walk_for p sub t [] all rest leave made)) (sym is)
     ∙ each_alternative p sub value [] (alternative first) (map alternative others) new rest leave made
     ∙ arrives rest leave made
+
+-- a path that goes on
+pub from_on : (p : Program) (sub : Sub) (c : Command) (beginning : Beginning) (steps : List PathStep) (found : List Beginning) → beginning ≡ GoesOn steps → Arrive p sub c steps found → ArriveFrom p sub c beginning found
+from_on p sub c beginning steps found is arrives = λ rest leave made. ap (λ b. after_beginning b (walk p sub c rest leave made)) is ∙ on_from steps (walk p sub c rest leave made) ∙ arrives rest leave made
+
+-- one that has ended
+pub from_ended : (p : Program) (sub : Sub) (c : Command) (beginning : Beginning) (steps : List PathStep) (found : List Beginning) → beginning ≡ Ended steps → ((rest : Tree) → after steps Cut ≡ after_each found rest) → ArriveFrom p sub c beginning found
+from_ended p sub c beginning steps found is ends = λ rest leave made. ap (λ b. after_beginning b (walk p sub c rest leave made)) is ∙ all_of steps (walk p sub c rest leave made) ∙ ends (rest made)
 
 -- one path more was walked
 pub each_arrive : (p : Program) (sub : Sub) (c : Command) (before : List Beginning) (beginning : Beginning) (found more all : List Beginning) → ArriveEach p sub c before found → ArriveFrom p sub c beginning more → all ≡ found ++ more → ArriveEach p sub c (before ++ beginning ∷ []) all

@@ -50,13 +50,19 @@ pub each_single : (beginning : Beginning) (tree : Tree) → after_each (beginnin
 unfolding after_each
 each_single beginning tree = append-nil (after_beginning beginning tree)
 
+pub on_from : (steps : List PathStep) (tree : Tree) → after_beginning (GoesOn steps) tree ≡ after steps tree
+unfolding after_beginning
+on_from steps tree = refl
+
+pub all_of : (steps : List PathStep) (tree : Tree) → after_beginning (Ended steps) tree ≡ after steps Cut
+unfolding after_beginning after
+all_of steps tree = ap (λ (path : List PathStep). path ∷ []) (sym (append-nil steps))
+
 pub each_one : (steps : List PathStep) (tree : Tree) → after_each (GoesOn steps ∷ []) tree ≡ after steps tree
-unfolding after_each after_beginning
-each_one steps tree = append-nil (after steps tree)
+each_one steps tree = each_single (GoesOn steps) tree ∙ on_from steps tree
 
 pub each_ended : (steps : List PathStep) (tree : Tree) → after_each (Ended steps ∷ []) tree ≡ after steps Cut
-unfolding after_each after_beginning after
-each_ended steps tree = ap (λ (path : List PathStep). path ∷ []) (sym (append-nil steps))
+each_ended steps tree = each_single (Ended steps) tree ∙ all_of steps tree
 
 pub each_more : (found more : List Beginning) (tree : Tree) → after_each (found ++ more) tree ≡ after_each found tree ++ after_each more tree
 unfolding after_each

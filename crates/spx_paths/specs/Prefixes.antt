@@ -1,5 +1,5 @@
 -- Paths that are made step by step from the start. What is left of a tree stands after the steps so far.
-use Rattle.std.specs.Prelude.{◌≡◌, ℕ, Bool, true, false, if◌then◌else◌, List, [], ◌∷◌, ◌++◌, map, flat_map, Option}
+use Rattle.std.specs.Prelude.{◌≡◌, ℕ, Bool, true, false, ◌&&◌, if◌then◌else◌, List, [], ◌∷◌, ◌++◌, map, flat_map, Option}
 use Rattle.spx_core.specs.declared.program.Program.{Program}
 use Rattle.spx_core.specs.declared.subprogram.Sub.{Sub}
 use Rattle.spx_core.specs.declared.entity.VarId.{VarId}
@@ -138,8 +138,8 @@ abbrev pub known_of : Program → Bool → VarId → List Term
 known_of p is_import v = if is_import then in_type (type_of p v) (now_term p v) else []
 
 -- the value on entry of an import that is exported too lies in its type
-abbrev pub known_on_entry : Program → (is_kept : Bool) → VarId → List Term
-known_on_entry p is_kept v = if is_kept then in_type (type_of p v) (term.Variable (entry p v)) else []
+abbrev pub known_on_entry : Program → (is_import is_export : Bool) → VarId → List Term
+known_on_entry p is_import is_export v = if is_import && is_export then in_type (type_of p v) (term.Variable (entry p v)) else []
 
 -- what stands before the first statement
 abbrev pub opening : Program → Sub → Tree → Tree

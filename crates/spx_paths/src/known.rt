@@ -33,17 +33,18 @@ fn assume_vars(
     Ok(())
 }
 
-/// The value on entry of a variable lies in its type, if it may have another value now.
+/// The value on entry of an import that is exported too lies in its type.
 fn assume_entry(
     alloc: Global,
     program: &Program,
     steps: &mut Items<PathStep>,
     var: VarId,
-    is_kept: bool,
+    is_import: bool,
+    is_export: bool,
 ) -> Result<(), AllocError>
-    ensures { OnOk result (Walked steps.old steps.new (assume_all (known_on_entry program.now is_kept var))) }
+    ensures { OnOk result (Walked steps.old steps.new (assume_all (known_on_entry program.now is_import is_export var))) }
 {
-    if is_kept {
+    if is_import && is_export {
         let term = Term::Variable(entry(program, var));
         let facts = in_type(alloc, type_of(program, var), &term)?;
         assume_all(alloc, steps, facts.as_slice())?;
@@ -64,8 +65,9 @@ fn assume_entries(
     let imports = VarSet::imports(alloc, sub)?;
     let exports = VarSet::exports(alloc, sub)?;
     for var in sub.formals() {
-        let is_kept = imports.contains(*var) && exports.contains(*var);
-        assume_entry(alloc, program, steps, *var, is_kept)?;
+        let is_import = imports.contains(*var);
+        let is_export = exports.contains(*var);
+        assume_entry(alloc, program, steps, *var, is_import, is_export)?;
     }
     Ok(())
 }

@@ -114,8 +114,8 @@ fn walk_assertion(
     match kind {
         AssertionKind::Assert => {
             add_annotation(alloc, program, sub, &mut steps, CondKind::Assert, place, condition)?;
-            let found = one_ended(alloc, steps)?;
-            Ok(found)
+            let ended = one_ended(alloc, steps)?;
+            Ok(ended)
         }
         AssertionKind::Check => {
             add_annotation(alloc, program, sub, &mut steps, CondKind::Check, place, condition)?;

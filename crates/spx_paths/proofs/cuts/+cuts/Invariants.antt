@@ -1,15 +1,12 @@
 use Rattle.std.proofs.Common.{◌≡◌, ◌++◌, ℕ, drop, map}
 use Rattle.spx_core.specs.Commands.{alternative, commands}
 use Rattle.spx_term.specs.Steps.{Tree}
-use Rattle.spx_paths.specs.Prefixes.{BeginBefore, all_branches, after_each, cut_alternatives, with_arms}
-use Rattle.spx_paths.specs.Walks.{cuts, walk}
+use Rattle.spx_paths.specs.Prefixes.{BeginBefore, after_each, cut_alternatives, with_arms}
+use Rattle.spx_paths.proofs.CutLaws.{BeginAsFar}
 use Rattle.spx_paths.proofs.cuts.+cuts.Given as goal
 
 abbrev pub invariant-paths_from_cuts-loop-stmt : goal.invariant-paths_from_cuts-loop-stmt
-invariant-paths_from_cuts-loop-stmt l =
-    (rest leave : ℕ → Tree)
-    → all_branches (cuts l.program l.sub (commands l.stmts) rest leave)
-    ≡ after_each l.found.items (walk l.program l.sub (commands (drop l.stmt-index l.stmts)) rest leave 0) ++ all_branches (cuts l.program l.sub (commands (drop l.stmt-index l.stmts)) rest leave)
+invariant-paths_from_cuts-loop-stmt l = BeginAsFar l.program l.sub (commands l.stmts) (commands (drop l.stmt-index l.stmts)) l.found.items
 
 abbrev pub invariant-from_arms-loop-arm : goal.invariant-from_arms-loop-arm
 invariant-from_arms-loop-arm l = BeginBefore l.program l.sub (with_arms l.arms) (with_arms (drop l.arm-index l.arms)) l.found.items

@@ -7,12 +7,12 @@ use Rattle.spx_core.specs.declared.statement.CoreArm.{CoreArm}
 use Rattle.spx_core.specs.declared.statement.CoreStmt.{CoreStmt}
 use Rattle.spx_core.specs.declared.statement.CoreStmt.TheVariants as stmt
 use Rattle.spx_core.specs.Commands.{Command, Assertion, Set, Skip, alternative, command, commands, select}
-use Rattle.spx_paths.specs.Prefixes.{Arrive, ArriveEach, Walked, after_each, with_arms}
+use Rattle.spx_paths.specs.Prefixes.{Arrive, ArriveAlternatives, ArriveEach, Walked, after_each, with_arms}
 use Rattle.spx_paths.proofs.PrefixLaws.{each_none}
 use Rattle.std.specs.Prelude.{IfOk}
 use Rattle.spx_term.specs.Steps.{assume_all}
 use Rattle.spx_paths.specs.Walks.{alternative_facts, walk}
-use Rattle.spx_paths.proofs.ArriveLaws.{alternatives_more, arm_arrives, arms_more, assertion_is, assignment_is, case_arrives, case_is, each_arrive, from_one, if_alone_is, if_arrives, if_else_is, none_is, null_is}
+use Rattle.spx_paths.proofs.ArriveLaws.{alternatives_more, arm_arrives, arms_more, assertion_is, assignment_is, case_arrives, case_is, each_arrive, from_ended, from_on, from_one, if_alone_is, if_arrives, if_else_is, none_is, null_is}
 use Rattle.spx_paths.proofs.walk.+walk.Goals as goal
 
 pub walk_arm-returns : goal.walk_arm-returns
@@ -31,6 +31,12 @@ walk_from_each-returns t c =
     let given = c.into_iter-beginning-iterator.ensures.into_iter_gives in
     let e : c.loop-beginning.yielded ≡ before = sym (map-id c.loop-beginning.yielded) ∙ (YieldsList-end (YieldsList-from_vec before given.0 (given.1 ∙ c.args.before.ok.0)) c.loop-beginning.yielded c.loop-beginning.beginning-iterator c.loop-beginning.yielded_by c.next.result c.next.new.self c.in-None.is c.next.ensures.steps).0 in
     subst (λ paths. ArriveEach c.args.program.now c.args.sub.now (command c.args.stmt.now) paths c.loop-beginning.found.items) e c.loop-beginning.invariant
+
+pub walk_on-returns-in_ok-found-in-GoesOn : goal.walk_on-returns-in_ok-found-in-GoesOn
+walk_on-returns-in_ok-found-in-GoesOn t c = from_on c.args.program.now c.args.sub.now (command c.args.stmt.now) c.args.beginning c.in-GoesOn.steps c.in_ok-found-in-GoesOn.found.items c.in-GoesOn.is c.in_ok-found-in-GoesOn.ensures
+
+pub walk_on-returns-in_ok-found-in-Ended : goal.walk_on-returns-in_ok-found-in-Ended
+walk_on-returns-in_ok-found-in-Ended t c = from_ended c.args.program.now c.args.sub.now (command c.args.stmt.now) c.args.beginning c.in-Ended.steps c.in_ok-found-in-Ended.found.items c.in-Ended.is c.in_ok-found-in-Ended.ensures
 
 pub walk_arms-loop-arm-preserved : goal.walk_arms-loop-arm-preserved
 walk_arms-loop-arm-preserved t c =
@@ -120,7 +126,8 @@ walk_case-returns-then-is_empty t c = λ place.
 
 pub walk_case-returns : goal.walk_case-returns
 walk_case-returns t c = λ place.
-    case_arrives c.args.program.now c.args.sub.now place c.args.selector.now c.in_ok-value.value c.args.alternatives.now c.args.steps _ c.in_ok-found.found.items (sym c.is_empty.ensures ∙ c.if-is_empty.false) c.in_ok-value.ensures c.in_ok-check_expr.ensures c.in_ok-found.ensures
+    case_arrives c.args.program.now c.args.sub.now place c.args.selector.now c.in_ok-value.value c.args.alternatives.now c.args.steps _ c.in_ok-found.found.items (sym c.is_empty.ensures ∙ c.if-is_empty.false) c.in_ok-value.ensures c.in_ok-check_expr.ensures
+    (subst (λ steps. ArriveAlternatives c.args.program.now c.args.sub.now c.in_ok-value.value c.args.alternatives.now steps c.in_ok-found.found.items) c.as_slice.ensures c.in_ok-found.ensures)
 
 pub walk_stmt-returns-in-Case : goal.walk_stmt-returns-in-Case
 walk_stmt-returns-in-Case t c =
