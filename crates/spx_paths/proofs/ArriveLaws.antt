@@ -1,7 +1,7 @@
 -- Walks along arms and lists of paths.
 use Rattle.std.proofs.Common.{◌≡◌, ◌+◌, ◌<◌, ◌==◌, true, false, ℕ, List, [], ◌∷◌, ◌++◌, map, length, get_or, drop, add-one, drop-cons, refl, sym, subst, ap, ap₂, ◌∙◌, arith}
 use Rattle.std.proofs.lemmas.Bool.{eqb-true}
-use Rattle.std.proofs.lemmas.List.{append-nil, append_assoc, map-id}
+use Rattle.std.proofs.lemmas.List.{append-nil, append_assoc, map-append, map-id}
 use Rattle.std.proofs.lemmas.Option.{get_or_from_slice_get}
 use Rattle.std.specs.Prelude.{Some, None, Option, slice_get}
 use Rattle.spx_core.specs.declared.program.Program.{Program}
@@ -9,35 +9,42 @@ use Rattle.spx_core.specs.declared.statement.CoreAlternative.{CoreAlternative, o
 use Rattle.spx_core.specs.declared.statement.CoreChoice.{CoreChoice}
 use Rattle.spx_core.specs.declared.statement.CoreArm.{CoreArm, out-CoreArm, fold_out-CoreArm}
 use Rattle.spx_core.specs.declared.statement.CoreStmt.{CoreStmt, fold_out-CoreStmt}
-use Rattle.spx_core.specs.declared.statement.CoreStmt.TheVariants.{outs-Null, outs-Assignment, outs-If, outs-Case, outs-Check}
+use Rattle.spx_core.specs.declared.statement.CoreStmt.TheVariants.{outs-Null, outs-Assignment, outs-If, outs-Case, outs-Assertion}
 use Rattle.spx_core.specs.declared.statement.CoreStmt.TheVariants as stmt
 use Rattle.spx_core.specs.declared.expression.CoreExpr.{CoreExpr}
 use Rattle.spx_core.specs.declared.name.Reference.{Reference}
+use Rattle.spx_tree.specs.declared.statement.AssertionKind.{AssertionKind}
 use Rattle.spx_tree.specs.declared.statement.Closing.{Closing}
 use Rattle.spx_text.specs.declared.place.Place.{Place}
 use Rattle.spx_core.specs.declared.subprogram.Sub.{Sub}
-use Rattle.spx_core.specs.Commands.{Command, Check, Set, Skip, alternative, alternatives_of, command, commands, select}
+use Rattle.spx_core.specs.Commands.{Command, Assertion, Set, Skip, alternative, alternatives_of, command, commands, select}
 use Rattle.spx_term.specs.declared.path.PathStep.{PathStep}
 use Rattle.spx_term.specs.Paths.{branches}
 use Rattle.spx_term.specs.declared.term.Term.{Term}
 use Rattle.spx_term.specs.Steps.{Tree, Cut, assume_all}
+use Rattle.spx_paths.specs.declared.beginning.Beginning.{Beginning}
+use Rattle.spx_paths.specs.declared.beginning.Beginning.TheVariants.{GoesOn, Ended}
 use Rattle.spx_paths.specs.declared.path.Path.{Path}
-use Rattle.spx_paths.specs.Prefixes.{Arrive, ArriveAlternatives, ArriveArm, ArriveArms, ArriveBefore, ArriveEach, ArriveWhen, Splits, after, after_alternatives, after_each, opening, with_arms, Walked}
+use Rattle.spx_paths.specs.Prefixes.{Arrive, ArriveAlternatives, ArriveArm, ArriveArms, ArriveBefore, ArriveEach, ArriveFrom, ArriveWhen, BeginIn, Splits, after, after_alternatives, after_beginning, after_each, opening, with_arms, Walked}
 use Rattle.spx_paths.specs.Conditions.{paths}
 use Rattle.spx_paths.specs.Terms.{now_term, term_of}
 use Rattle.spx_paths.specs.Checks.{checks}
 use Rattle.spx_paths.specs.Walks.{alternative_facts, and_these, ending, ending_with, start_tree, walk, walk_for}
-use Rattle.spx_paths.proofs.PrefixLaws.{after_split, each_more, each_one}
+use Rattle.spx_paths.proofs.PrefixLaws.{after_split, all_of, each_more, each_single, on_from}
+
+-- the steps of a path
+abbrev pub steps_of : Path → List PathStep
+steps_of path = path.steps
 
 -- a path that splits, and then goes through the body of the arm
-pub arm_arrives : (p : Program) (sub : Sub) (arm : CoreArm) (old new taken : List PathStep) (found : List Path) → Splits p (out-CoreArm arm).condition old new taken → Arrive p sub (commands (out-CoreArm arm).body) taken found → ArriveArm p sub arm old new found
+pub arm_arrives : (p : Program) (sub : Sub) (arm : CoreArm) (old new taken : List PathStep) (found : List Beginning) → Splits p (out-CoreArm arm).condition old new taken → Arrive p sub (commands (out-CoreArm arm).body) taken found → ArriveArm p sub arm old new found
 arm_arrives p sub arm old new taken found splits arrives = λ last rest leave made.
     rw fold_out-CoreArm
     (splits (walk p sub (commands (out-CoreArm arm).body) rest leave made) (walk p sub last rest leave made)
     ∙ ap (λ paths. paths ++ after new (walk p sub last rest leave made)) (arrives rest leave made))
 
 -- one part after the other
-pub before_both : (p : Program) (sub : Sub) (whole part rest : Command → Command) (old middle new : List PathStep) (found more all : List Path) → ArriveBefore p sub whole part old middle found → ArriveBefore p sub part rest middle new more → all ≡ found ++ more
+pub before_both : (p : Program) (sub : Sub) (whole part rest : Command → Command) (old middle new : List PathStep) (found more all : List Beginning) → ArriveBefore p sub whole part old middle found → ArriveBefore p sub part rest middle new more → all ≡ found ++ more
     → ArriveBefore p sub whole rest old new all
 before_both p sub whole part rest old middle new found more all one two is = λ last next leave made.
     let tail = after new (walk p sub (rest last) next leave made) in
@@ -47,7 +54,7 @@ before_both p sub whole part rest old middle new found more all one two is = λ 
     ∙ ap (λ paths. paths ++ tail) (sym (each_more found more (next made)) ∙ ap (λ paths. after_each paths (next made)) (sym is))
 
 -- arms, and then what is done where each condition is false
-pub if_arrives : (p : Program) (sub : Sub) (arms : List CoreArm) (last : Command) (old new : List PathStep) (found more all : List Path) → ArriveArms p sub arms old new found → Arrive p sub last new more → all ≡ found ++ more → Arrive p sub (with_arms arms last) old all
+pub if_arrives : (p : Program) (sub : Sub) (arms : List CoreArm) (last : Command) (old new : List PathStep) (found more all : List Beginning) → ArriveArms p sub arms old new found → Arrive p sub last new more → all ≡ found ++ more → Arrive p sub (with_arms arms last) old all
 if_arrives p sub arms last old new found more all one two is = λ rest leave made.
     one last rest leave made
     ∙ ap (λ paths. after_each found (rest made) ++ paths) (two rest leave made)
@@ -72,8 +79,12 @@ pub none_is : (alternatives : List CoreAlternative) (place : Place) (selector : 
 none_is [] place selector is = refl
 none_is (first ∷ others) place selector is = absurd (omega (arith, eqb-true (length (first ∷ others)) 0 is))
 
+pub none_left_is : (alternatives : List CoreAlternative) (place : Place) (selector : CoreExpr) → length alternatives < 1 → select place selector (map alternative alternatives) ≡ Skip
+none_left_is [] place selector below = refl
+none_left_is (first ∷ others) place selector below = absurd (omega arith)
+
 -- the checks of the selector, and then alternatives
-pub case_arrives : (p : Program) (sub : Sub) (place : Place) (selector : CoreExpr) (value : Term) (alternatives : List CoreAlternative) (old new : List PathStep) (found : List Path) → (length alternatives == 0) ≡ false → value ≡ term_of p (now_term p) selector
+pub case_arrives : (p : Program) (sub : Sub) (place : Place) (selector : CoreExpr) (value : Term) (alternatives : List CoreAlternative) (old new : List PathStep) (found : List Beginning) → (length alternatives == 0) ≡ false → value ≡ term_of p (now_term p) selector
     → Walked old new (checks p (now_term p) [] selector) → ArriveAlternatives p sub value alternatives new found → Arrive p sub (select place selector (map alternative alternatives)) old found
 case_arrives p sub place selector value [] old new found some is checked arrives = absurd (cc)
 case_arrives p sub place selector value (first ∷ others) old new found some is checked arrives = λ rest leave made.
@@ -83,11 +94,19 @@ case_arrives p sub place selector value (first ∷ others) old new found some is
     ∙ each_alternative p sub value [] (alternative first) (map alternative others) new rest leave made
     ∙ arrives rest leave made
 
+-- a path that goes on
+pub from_on : (p : Program) (sub : Sub) (c : Command) (beginning : Beginning) (steps : List PathStep) (found : List Beginning) → beginning ≡ GoesOn steps → Arrive p sub c steps found → ArriveFrom p sub c beginning found
+from_on p sub c beginning steps found is arrives = λ rest leave made. ap (λ b. after_beginning b (walk p sub c rest leave made)) is ∙ on_from steps (walk p sub c rest leave made) ∙ arrives rest leave made
+
+-- one that has ended
+pub from_ended : (p : Program) (sub : Sub) (c : Command) (beginning : Beginning) (steps : List PathStep) (found : List Beginning) → beginning ≡ Ended steps → ((rest : Tree) → after steps Cut ≡ after_each found rest) → ArriveFrom p sub c beginning found
+from_ended p sub c beginning steps found is ends = λ rest leave made. ap (λ b. after_beginning b (walk p sub c rest leave made)) is ∙ all_of steps (walk p sub c rest leave made) ∙ ends (rest made)
+
 -- one path more was walked
-pub each_arrive : (p : Program) (sub : Sub) (c : Command) (before : List Path) (path : Path) (found more all : List Path) → ArriveEach p sub c before found → Arrive p sub c path.steps more → all ≡ found ++ more → ArriveEach p sub c (before ++ path ∷ []) all
-each_arrive p sub c before path found more all one two is = λ rest leave made.
-    each_more before (path ∷ []) (walk p sub c rest leave made)
-    ∙ ap₂ (λ (x y : List (List PathStep)). x ++ y) (one rest leave made) (each_one path (walk p sub c rest leave made) ∙ two rest leave made)
+pub each_arrive : (p : Program) (sub : Sub) (c : Command) (before : List Beginning) (beginning : Beginning) (found more all : List Beginning) → ArriveEach p sub c before found → ArriveFrom p sub c beginning more → all ≡ found ++ more → ArriveEach p sub c (before ++ beginning ∷ []) all
+each_arrive p sub c before beginning found more all one two is = λ rest leave made.
+    each_more before (beginning ∷ []) (walk p sub c rest leave made)
+    ∙ ap₂ (λ (x y : List (List PathStep)). x ++ y) (one rest leave made) (each_single beginning (walk p sub c rest leave made) ∙ two rest leave made)
     ∙ sym (each_more found more (rest made))
     ∙ ap (λ paths. after_each paths (rest made)) (sym is)
 
@@ -96,7 +115,7 @@ pub from_one : {A : Type 0} (xs : List A) (i : ℕ) (x : A) → i < length xs �
 from_one xs i x below is = rw (add-one, drop-cons xs i x, sym is)
 
 -- one arm more was walked
-pub arms_more : (p : Program) (sub : Sub) (arms : List CoreArm) (i : ℕ) (arm : CoreArm) (old middle new : List PathStep) (found more all : List Path) → i < length arms → arm ≡ get_or arms i arm → ArriveBefore p sub (with_arms arms) (with_arms (drop i arms)) old middle found
+pub arms_more : (p : Program) (sub : Sub) (arms : List CoreArm) (i : ℕ) (arm : CoreArm) (old middle new : List PathStep) (found more all : List Beginning) → i < length arms → arm ≡ get_or arms i arm → ArriveBefore p sub (with_arms arms) (with_arms (drop i arms)) old middle found
     → ArriveArm p sub arm middle new more → all ≡ found ++ more → ArriveBefore p sub (with_arms arms) (with_arms (drop (i + 1) arms)) old new all
 arms_more p sub arms i arm old middle new found more all below at one two is =
     before_both p sub (with_arms arms) (with_arms (drop i arms)) (with_arms (drop (i + 1) arms)) old middle new found more all one
@@ -104,7 +123,7 @@ arms_more p sub arms i arm old middle new found more all below at one two is =
     is
 
 -- one alternative more was walked
-pub alternatives_more : (p : Program) (sub : Sub) (t : Term) (alternatives : List CoreAlternative) (i : ℕ) (chosen : CoreAlternative) (earlier later : List Term) (steps taken : List PathStep) (found more all : List Path) → i < length alternatives
+pub alternatives_more : (p : Program) (sub : Sub) (t : Term) (alternatives : List CoreAlternative) (i : ℕ) (chosen : CoreAlternative) (earlier later : List Term) (steps taken : List PathStep) (found more all : List Beginning) → i < length alternatives
     → chosen ≡ get_or alternatives i chosen → ArriveWhen p sub t alternatives earlier (drop i alternatives) steps found → Walked steps taken (assume_all (alternative_facts t earlier (out-CoreAlternative chosen).choices))
     → Arrive p sub (commands (out-CoreAlternative chosen).body) taken more → all ≡ found ++ more → later ≡ and_these t earlier (out-CoreAlternative chosen).choices → ArriveWhen p sub t alternatives later (drop (i + 1) alternatives) steps all
 alternatives_more p sub t alternatives i chosen earlier later steps taken found more all below at one walked two is after_these = λ rest leave made.
@@ -119,33 +138,31 @@ alternatives_more p sub t alternatives i chosen earlier later steps taken found 
     ∙ ap (λ paths. paths ++ tail) (sym (each_more found more (rest made)) ∙ ap (λ paths. after_each paths (rest made)) (sym is))
     ∙ ap (λ terms. after_each all (rest made) ++ after_alternatives p sub t terms others steps rest leave made) (sym after_these)
 
--- at the end of a body
-pub each_ended : (found : List Path) → after_each found Cut ≡ map (λ (path : Path). path.steps) found
-unfolding after_each after
-each_ended [] = refl
-each_ended (path ∷ found) = ap₂ (λ (x : List PathStep) (xs : List (List PathStep)). x ∷ xs) (append-nil path.steps) (each_ended found)
+-- ---- bodies
 
 pub all_paths : (tree : Tree) → after [] tree ≡ branches tree
 unfolding after
 all_paths tree = map-id (branches tree)
 
 -- one path more was ended
-pub one_ended : (before : List Path) (path last : Path) (ended all : List Path) (part : Tree → Tree) → after_each ended Cut ≡ after_each before (part Cut) → Walked path.steps last.steps part → all ≡ ended ++ last ∷ [] → after_each all Cut ≡ after_each (before ++ path ∷ []) (part Cut)
-one_ended before path last ended all part so_far walked is =
-    ap (λ paths. after_each paths Cut) is
-    ∙ each_more ended (last ∷ []) Cut
-    ∙ ap₂ (λ (x y : List (List PathStep)). x ++ y) so_far (each_one last Cut ∙ sym (walked Cut) ∙ sym (each_one path (part Cut)))
-    ∙ sym (each_more before (path ∷ []) (part Cut))
+pub one_more_ended : (before : List Beginning) (beginning : Beginning) (path : Path) (ended all : List Path) (tree : Tree) → map steps_of ended ≡ after_each before tree → after_beginning beginning tree ≡ path.steps ∷ [] → all ≡ ended ++ path ∷ [] → map steps_of all ≡ after_each (before ++ beginning ∷ []) tree
+one_more_ended before beginning path ended all tree so_far ends is =
+    ap (map steps_of) is
+    ∙ map-append steps_of ended (path ∷ [])
+    ∙ ap₂ (λ (x y : List (List PathStep)). x ++ y) so_far (sym ends ∙ sym (each_single beginning tree))
+    ∙ sym (each_more before (beginning ∷ []) tree)
 
--- from the start to the end of a body
-pub paths_are : (p : Program) (sub : Sub) (start : List PathStep) (found ended : List Path) → Walked [] start (opening p sub) → Arrive p sub (commands sub.statements) start found → after_each ended Cut ≡ after_each found (ending_with p sub sub.post) → map (λ (path : Path). path.steps) ended ≡ paths p sub
-paths_are p sub start found ended opens arrives ends =
-    sym (each_ended ended)
-    ∙ ends
-    ∙ sym (arrives (ending p sub) (ending p sub) 0)
-    ∙ sym (opens (walk p sub (commands sub.statements) (ending p sub) (ending p sub) 0))
-    ∙ all_paths (start_tree p sub)
-    ∙ sym (append-nil (branches (start_tree p sub)))
+-- from each cut to the next
+pub paths_are : (p : Program) (sub : Sub) (start : List PathStep) (found more all : List Beginning) (ended : List Path) → Walked [] start (opening p sub) → Arrive p sub (commands sub.statements) start found → BeginIn p sub (commands sub.statements) more → all ≡ found ++ more
+    → map steps_of ended ≡ after_each all (ending_with p sub sub.post) → map steps_of ended ≡ paths p sub
+paths_are p sub start found more all ended opens arrives begins is ends =
+    let body = commands sub.statements in
+    ends
+    ∙ ap (λ paths. after_each paths (ending p sub 0)) is
+    ∙ each_more found more (ending p sub 0)
+    ∙ ap₂ (λ (x y : List (List PathStep)). x ++ y)
+      (sym (arrives (ending p sub) (ending p sub) 0) ∙ sym (opens (walk p sub body (ending p sub) (ending p sub) 0)) ∙ all_paths (start_tree p sub))
+      (sym (begins (ending p sub) (ending p sub)))
 
 -- the subprogram at a position
 pub the_sub : (subs list : List Sub) (i : ℕ) (first sub : Sub) → list ≡ subs → first ≡ get_or list i first → slice_get subs i ≡ Some sub → first ≡ sub
@@ -159,8 +176,8 @@ null_is place = rw (fold_out-CoreStmt, outs-Null)
 pub assignment_is : (target : Reference) (value : CoreExpr) → command (stmt.Assignment target value) ≡ Set target value
 assignment_is target value = rw (fold_out-CoreStmt, outs-Assignment)
 
-pub check_is : (place : Place) (condition : CoreExpr) → command (stmt.Check place condition) ≡ Check place condition
-check_is place condition = rw (fold_out-CoreStmt, outs-Check)
+pub assertion_is : (kind : AssertionKind) (place : Place) (condition : CoreExpr) → command (stmt.Assertion kind place condition) ≡ Assertion kind place condition
+assertion_is kind place condition = rw (fold_out-CoreStmt, outs-Assertion)
 
 pub if_alone_is : (arms : List CoreArm) (closing : Closing) → command (stmt.If arms None closing) ≡ with_arms arms Skip
 if_alone_is arms closing = rw (fold_out-CoreStmt, outs-If)

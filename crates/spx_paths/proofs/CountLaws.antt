@@ -1,7 +1,9 @@
 -- The paths of a body are as many as are counted.
 use Rattle.std.specs.Prelude.{pos}
-use Rattle.std.proofs.Common.{◌≡◌, ◌≤◌, ℕ, ◌+◌, Bool, true, false, List, [], ◌∷◌, length, map, add-zero, if◌then◌else◌, Option, Some, None, Ok, Err, refl, sym, ap, ap₂, ◌∙◌, arith}
+use Rattle.std.proofs.Common.{◌≡◌, ◌≤◌, ℕ, ◌+◌, Bool, true, false, List, [], ◌∷◌, ◌++◌, length, map, add-zero, if◌then◌else◌, Option, Some, None, Ok, Err, refl, sym, ap, ap₂, ◌∙◌, arith}
+use Rattle.std.proofs.lemmas.Grind.{flat_map-append}
 use Rattle.std.proofs.lemmas.List.{length-append, length-map}
+use Rattle.std.specs.List.{flat_map}
 use Rattle.spx_text.specs.declared.place.Place.{Place}
 use Rattle.spx_core.specs.declared.entity.BaseType.{BaseType}
 use Rattle.spx_core.specs.declared.entity.Class.{Class}
@@ -14,10 +16,11 @@ use Rattle.spx_core.specs.declared.function.Span.{Span}
 use Rattle.spx_core.specs.declared.program.Program.{Program}
 use Rattle.spx_core.specs.declared.statement.CoreAlternative.{CoreAlternative}
 use Rattle.spx_core.specs.declared.statement.CoreChoice.{CoreChoice}
-use Rattle.spx_paths.specs.Counts.{arrivals_in}
+use Rattle.spx_paths.specs.declared.count.Counts.{Counts}
+use Rattle.spx_paths.specs.Counts.{arrivals_in, capped, cut_arrivals_in, AreCounts}
 use Rattle.spx_core.specs.declared.subprogram.CorePredicate.{CorePredicate}
 use Rattle.spx_core.specs.declared.subprogram.Sub.{Sub}
-use Rattle.spx_core.specs.Commands.{Command, Skip, Set, Then, Choose, Select, Check, Alternatives, Last, When, alternative, alternatives_of, commands, select}
+use Rattle.spx_core.specs.Commands.{Command, Skip, Set, Then, Choose, Select, Assertion, While, Alternatives, Last, When, alternative, alternatives_of, commands, has_own_cut, select}
 use Rattle.spx_core.specs.Dependency.{exports}
 use Rattle.spx_core.specs.Formals.{formals, locals}
 use Rattle.spx_core.specs.Judged.{Judged, application}
@@ -28,6 +31,8 @@ use Rattle.spx_tree.specs.declared.expression.InfixOp.{InfixOp}
 use Rattle.spx_tree.specs.declared.expression.InfixOp.TheVariants as op
 use Rattle.spx_tree.specs.declared.expression.PrefixOp.{PrefixOp}
 use Rattle.spx_tree.specs.declared.expression.PrefixOp.TheVariants as prefix
+use Rattle.spx_tree.specs.declared.statement.AssertionKind.{AssertionKind}
+use Rattle.spx_tree.specs.declared.statement.AssertionKind.TheVariants as assertion
 use Rattle.spx_term.specs.declared.condition.CondKind.{CondKind}
 use Rattle.spx_term.specs.declared.condition.CondKind.TheVariants as kind
 use Rattle.spx_term.specs.declared.path.PathStep.{PathStep}
@@ -48,7 +53,7 @@ use Rattle.spx_term.specs.Folding.{term_of as static_term}
 use Rattle.spx_paths.specs.Terms.{entry, entry_term, moved_term, now, now_term, term_of}
 use Rattle.spx_paths.specs.Checks.{base_check, bounds_check, check_forms, checked_under, checks, divisor_check, guarded, in_range, in_type, mapping_check, operation_check, right_lefts, sign_check, unless_static}
 use Rattle.spx_paths.specs.Conditions.{PathsAreCounted}
-use Rattle.spx_paths.specs.Walks.{alternative_facts, and_these, arrivals, arrivals_for, asserted, assigned, checked_in, ending, ending_with, entering, first_facts, initializing, starting_with, walk, walk_for}
+use Rattle.spx_paths.specs.Walks.{alternative_facts, and_these, arrivals, arrivals_for, as_far_as_cut, asserted, assigned, checked_in, cut_arrivals, cut_arrivals_for, cut_facts, cuts, cuts_for, ending, ending_with, entering, first_facts, from_cut, initializing, loop_cut, noted_cut, start_tree, starting_with, tested, walk, walk_for}
 
 -- how many paths a tree has
 abbrev count : Tree → ℕ
@@ -148,6 +153,17 @@ module _ (p : Program) (entered : VarId → Term) where
         simp check_forms (unless (literal (expr.InRange op place a low high)) (and_then (first lefts _) (and_then (second lefts _) (third lefts rest))));
   })
 
+count_tested : (p : Program) (condition : CoreExpr) (holds fails : ℕ → Tree) (made : ℕ) → count (tested p condition holds fails made) ≡ count (holds made) + count (fails made)
+count_tested p condition holds fails made =
+    let t = term_of p (now_term p) condition in
+    (count_checks p (now_term p) condition [] _).same
+    ∙ length-append (branches (assume_parts t (holds made))) _
+    ∙ ap₂ (λ (m n : ℕ). m + n) (count_facts (conjuncts t) (holds made)) (one_step _ (branches (fails made)))
+
+count_as_far : (b : Bool) (body : ℕ → Tree) (made n : ℕ) → count (body made) ≡ n → count (as_far_as_cut b body made) ≡ (if b then n else 1)
+count_as_far true body made n is = is
+count_as_far false body made n is = refl
+
 -- as many paths lead through a command as arrive
 mutual
   count_walk : (p : Program) (sub : Sub) (c : Command) (rest leave : ℕ → Tree) (r l : ℕ) → ((m : ℕ) → count (rest m) ≡ r) → ((m : ℕ) → count (leave m) ≡ l)
@@ -158,14 +174,15 @@ mutual
   count_walk p sub (Then a b) rest leave r l goes leaves made =
       count_walk p sub a (walk p sub b rest leave) leave (arrivals b r l) l (count_walk p sub b rest leave r l goes leaves) leaves made
   count_walk p sub (Choose place condition a b) rest leave r l goes leaves made =
-      let holds = term_of p (now_term p) condition in
-      (count_checks p (now_term p) condition [] _).same
-      ∙ length-append (branches (assume_parts holds (walk p sub a rest leave made))) _
-      ∙ ap₂ (λ (m n : ℕ). m + n) (count_facts (conjuncts holds) (walk p sub a rest leave made) ∙ count_walk p sub a rest leave r l goes leaves made)
-      (one_step _ (branches (walk p sub b rest leave made)) ∙ count_walk p sub b rest leave r l goes leaves made)
+      count_tested p condition (walk p sub a rest leave) (walk p sub b rest leave) made ∙ ap₂ (λ (m n : ℕ). m + n) (count_walk p sub a rest leave r l goes leaves made) (count_walk p sub b rest leave r l goes leaves made)
   count_walk p sub (Select place selector alternatives) rest leave r l goes leaves made =
       (count_checks p (now_term p) selector [] _).same ∙ count_for p sub alternatives (term_of p (now_term p) selector) [] rest leave r l goes leaves made
-  count_walk p sub (Check place condition) rest leave r l goes leaves made = (asserts kind.Check place (term_of p (entry_term p sub) condition) (rest made)).same ∙ goes made
+  count_walk p sub (Assertion assertion.Assert place condition) rest leave r l goes leaves made = (asserts kind.Assert place (term_of p (entry_term p sub) condition) Cut).same
+  count_walk p sub (Assertion assertion.Check place condition) rest leave r l goes leaves made = (asserts kind.Check place (term_of p (entry_term p sub) condition) (rest made)).same ∙ goes made
+  count_walk p sub (While place condition body) rest leave r l goes leaves made =
+      let turn = walk p sub body (λ m. Cut) rest in
+      count_tested p condition (as_far_as_cut (has_own_cut body) turn) rest made
+      ∙ ap₂ (λ (m n : ℕ). m + n) (count_as_far (has_own_cut body) turn made (arrivals body 1 r) (count_walk p sub body (λ m. Cut) rest 1 r (λ m. refl) goes made)) (goes made)
 
   count_for : (p : Program) (sub : Sub) (alternatives : Alternatives) (t : Term) (earlier : List Term) (rest leave : ℕ → Tree) (r l : ℕ) → ((m : ℕ) → count (rest m) ≡ r)
       → ((m : ℕ) → count (leave m) ≡ l) → (made : ℕ) → count (walk_for p sub t earlier alternatives rest leave made) ≡ arrivals_for alternatives r l
@@ -176,6 +193,46 @@ mutual
       length-append (branches (assume_all (alternative_facts t earlier choices) taken)) _
       ∙ ap₂ (λ (m n : ℕ). m + n) (count_facts (alternative_facts t earlier choices) taken ∙ count_walk p sub a rest leave r l goes leaves made)
       (count_for p sub more t (and_these t earlier choices) rest leave r l goes leaves made)
+
+-- how many paths several trees have
+abbrev count_all : List Tree → ℕ
+count_all trees = length (flat_map branches trees)
+
+count_both : (trees more : List Tree) → count_all (trees ++ more) ≡ count_all trees + count_all more
+count_both trees more = ap length (flat_map-append branches trees more) ∙ length-append (flat_map branches trees) (flat_map branches more)
+
+count_from_cut : (p : Program) (sub : Sub) (known : List Term) (rest : Tree) → count_all (from_cut p sub known rest ∷ []) ≡ count rest
+count_from_cut p sub known rest = length-append (branches (from_cut p sub known rest)) [] ∙ add-zero _ ∙ count_facts (cut_facts p sub ++ known) rest
+
+count_loop_cut : (p : Program) (sub : Sub) (b : Bool) (rest : Tree) (n : ℕ) → count rest ≡ n → count_all (loop_cut p sub b rest) ≡ (if b then 0 else n)
+count_loop_cut p sub true rest n is = refl
+count_loop_cut p sub false rest n is = count_from_cut p sub (term.Truth true ∷ []) rest ∙ is
+
+-- as many paths lead from the cuts in a command as are counted
+mutual
+  count_cuts : (p : Program) (sub : Sub) (c : Command) (rest leave : ℕ → Tree) (r l : ℕ) → ((m : ℕ) → count (rest m) ≡ r) → ((m : ℕ) → count (leave m) ≡ l) → count_all (cuts p sub c rest leave) ≡ cut_arrivals c r l
+  count_cuts p sub Skip rest leave r l goes leaves = refl
+  count_cuts p sub (Set target e) rest leave r l goes leaves = refl
+  count_cuts p sub (Then a b) rest leave r l goes leaves =
+      count_both (cuts p sub a (walk p sub b rest leave) leave) _
+      ∙ ap₂ (λ (m n : ℕ). m + n) (count_cuts p sub a (walk p sub b rest leave) leave (arrivals b r l) l (count_walk p sub b rest leave r l goes leaves) leaves) (count_cuts p sub b rest leave r l goes leaves)
+  count_cuts p sub (Choose place condition a b) rest leave r l goes leaves =
+      count_both (cuts p sub a rest leave) _ ∙ ap₂ (λ (m n : ℕ). m + n) (count_cuts p sub a rest leave r l goes leaves) (count_cuts p sub b rest leave r l goes leaves)
+  count_cuts p sub (Select place selector alternatives) rest leave r l goes leaves = count_cuts_for p sub alternatives rest leave r l goes leaves
+  count_cuts p sub (Assertion assertion.Assert place condition) rest leave r l goes leaves = count_from_cut p sub (conjuncts (term_of p (entry_term p sub) condition)) (rest 0) ∙ goes 0
+  count_cuts p sub (Assertion assertion.Check place condition) rest leave r l goes leaves = refl
+  count_cuts p sub (While place condition body) rest leave r l goes leaves =
+      let again = walk p sub (While place condition body) rest leave in
+      let n = arrivals (While place condition body) r l in
+      let goes_again = count_walk p sub (While place condition body) rest leave r l goes leaves in
+      let turn = walk p sub body again rest in
+      count_both (loop_cut p sub (has_own_cut body) (turn 0)) _
+      ∙ ap₂ (λ (m n : ℕ). m + n) (count_loop_cut p sub (has_own_cut body) (turn 0) (arrivals body n r) (count_walk p sub body again rest n r goes_again goes 0)) (count_cuts p sub body again rest n r goes_again goes)
+
+  count_cuts_for : (p : Program) (sub : Sub) (alternatives : Alternatives) (rest leave : ℕ → Tree) (r l : ℕ) → ((m : ℕ) → count (rest m) ≡ r) → ((m : ℕ) → count (leave m) ≡ l) → count_all (cuts_for p sub alternatives rest leave) ≡ cut_arrivals_for alternatives r l
+  count_cuts_for p sub (Last choices a) rest leave r l goes leaves = count_cuts p sub a rest leave r l goes leaves
+  count_cuts_for p sub (When choices a more) rest leave r l goes leaves =
+      count_both (cuts p sub a rest leave) _ ∙ ap₂ (λ (m n : ℕ). m + n) (count_cuts p sub a rest leave r l goes leaves) (count_cuts_for p sub more rest leave r l goes leaves)
 
 perhaps : (b : Bool) (x : Name) (t : Term) (rest : Tree) → count (if b then Assign x t rest else rest) ≡ count rest
 perhaps true x t rest = one_step (step.Assign x t) (branches rest)
@@ -194,6 +251,14 @@ pub arrivals_select : (place : Place) (selector : CoreExpr) (alternatives : List
 arrivals_select place selector [] rest leave some = absurd (omega arith)
 arrivals_select place selector (first ∷ others) rest leave some = arrivals_alternatives (alternative first) (map alternative others) rest leave
 
+cuts_alternatives : (first : Option (List CoreChoice) × Command) (others : List (Option (List CoreChoice) × Command)) (rest leave : ℕ) → cut_arrivals_for (alternatives_of first others) rest leave ≡ cut_arrivals_in (first ∷ others) rest leave
+cuts_alternatives first [] rest leave = sym (add-zero _)
+cuts_alternatives first (second ∷ more) rest leave = ap (λ n. cut_arrivals first.1 rest leave + n) (cuts_alternatives second more rest leave)
+
+pub cut_arrivals_select : (place : Place) (selector : CoreExpr) (alternatives : List CoreAlternative) (rest leave : ℕ) → cut_arrivals (select place selector (map alternative alternatives)) rest leave ≡ cut_arrivals_in (map alternative alternatives) rest leave
+cut_arrivals_select place selector [] rest leave = refl
+cut_arrivals_select place selector (first ∷ others) rest leave = cuts_alternatives (alternative first) (map alternative others) rest leave
+
 count_start : (x : Name) (o : Option Value) (rest : Tree) → count (starting_with x o rest) ≡ count rest
 count_start x None rest = refl
 count_start x (Some v) rest = one_step (step.Assign x (static_term v)) (branches rest)
@@ -206,11 +271,59 @@ count_ending : (p : Program) (sub : Sub) (post : Option CorePredicate) → count
 count_ending p sub None = refl
 count_ending p sub (Some post) = (asserts kind.Post post.place (term_of p (entry_term p sub) post.condition) Cut).same
 
-pub paths_are_counted : PathsAreCounted
-paths_are_counted p sub =
-    length-append (branches (entering p sub (formals sub) _)) []
-    ∙ add-zero _
-    ∙ count_entering p sub (formals sub) _
+count_first : (p : Program) (sub : Sub) → count (start_tree p sub) ≡ arrivals (commands sub.statements) 1 1
+count_first p sub =
+    count_entering p sub (formals sub) _
     ∙ count_initializing p (locals sub) _
     ∙ count_facts (first_facts p sub) _
     ∙ count_walk p sub (commands sub.statements) (ending p sub) (ending p sub) 1 1 (λ m. count_ending p sub sub.post) (λ m. count_ending p sub sub.post) 0
+
+pub paths_are_counted : PathsAreCounted
+paths_are_counted p sub =
+    length-append (branches (start_tree p sub)) _
+    ∙ ap₂ (λ (m n : ℕ). m + n) (count_first p sub) (count_cuts p sub (commands sub.statements) (ending p sub) (ending p sub) 1 1 (λ m. count_ending p sub sub.post) (λ m. count_ending p sub sub.post))
+
+-- ---- counts that stop
+
+-- the counts so far and those of what is left make the counts of the whole
+pub record IsLeft (counts : Counts) (first second left_first left_second : ℕ) : Type 0 where
+  pub before : capped first ≡ capped (counts.before + left_first)
+  pub from_cuts : capped second ≡ capped (counts.from_cuts + left_second)
+
+-- neither count is past the number at which it stops
+pub record Stops (counts : Counts) : Type 0 where
+  pub before : counts.before ≡ capped counts.before
+  pub from_cuts : counts.from_cuts ≡ capped counts.from_cuts
+
+one_more : (all count part more new of_part : ℕ) → capped all ≡ capped (count + (part + more)) → of_part ≡ capped part → new ≡ capped (count + of_part) → capped all ≡ capped (new + more)
+one_more all count part more new of_part e b n = omega arith
+
+-- one part more was counted
+pub counts_more : {counts part new : Counts} {first second m n f s left_first left_second : ℕ} → IsLeft counts first second m n → m ≡ f + left_first → n ≡ s + left_second → AreCounts part f s → AreCounts new (counts.before + part.before) (counts.from_cuts + part.from_cuts) → IsLeft new first second left_first left_second
+counts_more {counts = counts} left is cuts_is part new = record {
+  before = one_more _ _ _ _ _ _ (left.before ∙ ap (λ n. capped (counts.before + n)) is) part.before new.before;
+  from_cuts = one_more _ _ _ _ _ _ (left.from_cuts ∙ ap (λ n. capped (counts.from_cuts + n)) cuts_is) part.from_cuts new.from_cuts;
+}
+
+pub counts_of : {counts : Counts} {first second m n : ℕ} → AreCounts counts m n → first ≡ m → second ≡ n → AreCounts counts first second
+counts_of are is cuts_is = record { before = are.before ∙ ap capped (sym is); from_cuts = are.from_cuts ∙ ap capped (sym cuts_is) }
+
+both_stop : (count m : ℕ) → count ≡ capped m → count ≡ capped count
+both_stop count m is = omega arith
+
+pub counts_stop : {counts : Counts} {m n : ℕ} → AreCounts counts m n → Stops counts
+counts_stop are = record { before = both_stop _ _ are.before; from_cuts = both_stop _ _ are.from_cuts }
+
+all_counted : (all count : ℕ) → capped all ≡ capped (count + 0) → count ≡ capped count → count ≡ capped all
+all_counted all count left stops = omega arith
+
+-- nothing is left
+pub none_left : {counts : Counts} {first second : ℕ} → IsLeft counts first second 0 0 → Stops counts → AreCounts counts first second
+none_left left stops = record { before = all_counted _ _ left.before stops.before; from_cuts = all_counted _ _ left.from_cuts stops.from_cuts }
+
+last_counted : (all count part new of_part : ℕ) → capped all ≡ capped (count + part) → of_part ≡ capped part → new ≡ capped (count + of_part) → new ≡ capped all
+last_counted all count part new of_part left part_is new_is = omega arith
+
+-- the last part was counted
+pub counts_last : {counts part new : Counts} {first second f s : ℕ} → IsLeft counts first second f s → AreCounts part f s → AreCounts new (counts.before + part.before) (counts.from_cuts + part.from_cuts) → AreCounts new first second
+counts_last left part new = record { before = last_counted _ _ _ _ _ left.before part.before new.before; from_cuts = last_counted _ _ _ _ _ left.from_cuts part.from_cuts new.from_cuts }

@@ -3,3 +3,4 @@ pub mod ClaimLaws
 pub mod PrefixLaws
 pub mod CheckLaws
 pub mod ArriveLaws
+pub mod CutLaws

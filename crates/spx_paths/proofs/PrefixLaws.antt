@@ -13,9 +13,10 @@ use Rattle.spx_term.specs.declared.term.Term.{Term}
 use Rattle.spx_term.specs.declared.term.Term.TheVariants as term
 use Rattle.spx_term.specs.Conjuncts.{conjuncts, conjuncts-Number, conjuncts-Truth, conjuncts-Variable, conjuncts-Prefix, conjuncts-Infix, parts_of}
 use Rattle.spx_term.specs.Paths.{branches}
-use Rattle.spx_term.specs.Steps.{Tree, Assume, Assign, Prove, Split, assume_all}
-use Rattle.spx_paths.specs.declared.path.Path.{Path}
-use Rattle.spx_paths.specs.Prefixes.{after, after_each, is_and}
+use Rattle.spx_term.specs.Steps.{Tree, Cut, Assume, Assign, Prove, Split, assume_all}
+use Rattle.spx_paths.specs.declared.beginning.Beginning.{Beginning}
+use Rattle.spx_paths.specs.declared.beginning.Beginning.TheVariants.{GoesOn, Ended}
+use Rattle.spx_paths.specs.Prefixes.{after, after_beginning, after_each, is_and}
 
 one_more : (steps : List PathStep) (s : PathStep) (paths : List (List PathStep)) → map (λ more. steps ++ more) (map (λ path. s ∷ path) paths) ≡ map (λ more. (steps ++ s ∷ []) ++ more) paths
 one_more steps s [] = refl
@@ -45,13 +46,27 @@ pub each_none : (tree : Tree) → after_each [] tree ≡ []
 unfolding after_each
 each_none tree = refl
 
-pub each_one : (path : Path) (tree : Tree) → after_each (path ∷ []) tree ≡ after path.steps tree
+pub each_single : (beginning : Beginning) (tree : Tree) → after_each (beginning ∷ []) tree ≡ after_beginning beginning tree
 unfolding after_each
-each_one path tree = append-nil (after path.steps tree)
+each_single beginning tree = append-nil (after_beginning beginning tree)
 
-pub each_more : (paths more : List Path) (tree : Tree) → after_each (paths ++ more) tree ≡ after_each paths tree ++ after_each more tree
+pub on_from : (steps : List PathStep) (tree : Tree) → after_beginning (GoesOn steps) tree ≡ after steps tree
+unfolding after_beginning
+on_from steps tree = refl
+
+pub all_of : (steps : List PathStep) (tree : Tree) → after_beginning (Ended steps) tree ≡ after steps Cut
+unfolding after_beginning after
+all_of steps tree = ap (λ (path : List PathStep). path ∷ []) (sym (append-nil steps))
+
+pub each_one : (steps : List PathStep) (tree : Tree) → after_each (GoesOn steps ∷ []) tree ≡ after steps tree
+each_one steps tree = each_single (GoesOn steps) tree ∙ on_from steps tree
+
+pub each_ended : (steps : List PathStep) (tree : Tree) → after_each (Ended steps ∷ []) tree ≡ after steps Cut
+each_ended steps tree = each_single (Ended steps) tree ∙ all_of steps tree
+
+pub each_more : (found more : List Beginning) (tree : Tree) → after_each (found ++ more) tree ≡ after_each found tree ++ after_each more tree
 unfolding after_each
-each_more paths more tree = flat_map-append (λ (path : Path). after path.steps tree) paths more
+each_more found more tree = flat_map-append (λ (beginning : Beginning). after_beginning beginning tree) found more
 
 pub ruleset each_laws = (each_none, each_one, each_more, append-nil, append_assoc)
 

@@ -2,27 +2,39 @@
 use Rattle.std.specs.Prelude.{◌≡◌, ℕ, ◌+◌, min, List, [], ◌∷◌, Option}
 use Rattle.spx_core.specs.declared.statement.CoreChoice.{CoreChoice}
 use Rattle.spx_core.specs.Commands.{Command, arms_before}
+use Rattle.spx_paths.specs.declared.count.Counts.{Counts}
 use Rattle.spx_paths.specs.declared.fault.TheConstants.{MOST_PATHS}
-use Rattle.spx_paths.specs.Walks.{arrivals}
+use Rattle.spx_paths.specs.Walks.{arrivals, cut_arrivals}
 
 -- a count that stops at the first number past the most
 abbrev pub capped : ℕ → ℕ
 capped n = min n (MOST_PATHS + 1)
 
--- whatever the paths after the command are: if there are so many after it, there are so many before it
-abbrev pub CountsBack : Command → (after before : ℕ) → Type 0
-CountsBack c after before = (rest leave : ℕ) → after ≡ capped rest → before ≡ capped (arrivals c rest leave)
+-- the counts of so many paths before a command, and so many from the cuts in it
+pub record AreCounts (counts : Counts) (first second : ℕ) : Type 0 where
+  pub before : counts.before ≡ capped first
+  pub from_cuts : counts.from_cuts ≡ capped second
 
--- the same for arms, where there are so many before what stands after `else`
-abbrev pub CountsArms : List (Command → Command) → (after otherwise before : ℕ) → Type 0
-CountsArms arms after otherwise before =
-    (last : Command) (rest leave : ℕ) → after ≡ capped rest → otherwise ≡ capped (arrivals last rest leave) → before ≡ capped (arrivals (arms_before last arms) rest leave)
+-- whatever the paths after the command are: if there are so many after it, these are the counts of the command
+abbrev pub CountsBack : Command → (after : ℕ) → Counts → Type 0
+CountsBack c after counts = (rest leave : ℕ) → after ≡ capped rest → AreCounts counts (arrivals c rest leave) (cut_arrivals c rest leave)
+
+-- the same for arms, where these are the counts of what stands after `else`
+abbrev pub CountsArms : List (Command → Command) → (after : ℕ) → (otherwise counts : Counts) → Type 0
+CountsArms arms after otherwise counts =
+    (last : Command) (rest leave : ℕ)
+    → after ≡ capped rest → AreCounts otherwise (arrivals last rest leave) (cut_arrivals last rest leave) → AreCounts counts (arrivals (arms_before last arms) rest leave) (cut_arrivals (arms_before last arms) rest leave)
 
 -- how many there are before alternatives: a sum
 abbrev pub arrivals_in : List (Option (List CoreChoice) × Command) → (rest leave : ℕ) → ℕ
 arrivals_in [] rest leave = 0
 arrivals_in (first ∷ others) rest leave = arrivals first.1 rest leave + arrivals_in others rest leave
 
+-- how many there are from the cuts in them: a sum
+abbrev pub cut_arrivals_in : List (Option (List CoreChoice) × Command) → (rest leave : ℕ) → ℕ
+cut_arrivals_in [] rest leave = 0
+cut_arrivals_in (first ∷ others) rest leave = cut_arrivals first.1 rest leave + cut_arrivals_in others rest leave
+
 -- the same for alternatives
-abbrev pub CountsAlternatives : List (Option (List CoreChoice) × Command) → (after before : ℕ) → Type 0
-CountsAlternatives alternatives after before = (rest leave : ℕ) → after ≡ capped rest → before ≡ capped (arrivals_in alternatives rest leave)
+abbrev pub CountsAlternatives : List (Option (List CoreChoice) × Command) → (after : ℕ) → Counts → Type 0
+CountsAlternatives alternatives after counts = (rest leave : ℕ) → after ≡ capped rest → AreCounts counts (arrivals_in alternatives rest leave) (cut_arrivals_in alternatives rest leave)

@@ -1,5 +1,5 @@
 -- Paths that are made step by step from the start. What is left of a tree stands after the steps so far.
-use Rattle.std.specs.Prelude.{◌≡◌, ℕ, Bool, true, false, if◌then◌else◌, List, [], ◌∷◌, ◌++◌, map, flat_map, Option}
+use Rattle.std.specs.Prelude.{◌≡◌, ℕ, Bool, true, false, ◌&&◌, if◌then◌else◌, List, [], ◌∷◌, ◌++◌, map, flat_map, Option}
 use Rattle.spx_core.specs.declared.program.Program.{Program}
 use Rattle.spx_core.specs.declared.subprogram.Sub.{Sub}
 use Rattle.spx_core.specs.declared.entity.VarId.{VarId}
@@ -17,30 +17,40 @@ use Rattle.spx_term.specs.declared.term.TermPrefix.TheVariants.{Not}
 use Rattle.spx_term.specs.declared.term.Term.{Term}
 use Rattle.spx_term.specs.declared.term.Term.TheVariants as term
 use Rattle.spx_term.specs.Steps.{Tree, Assign, Assume, Split, assume_all, assume_parts}
-use Rattle.spx_paths.specs.declared.path.Path.{Path}
+use Rattle.spx_paths.specs.declared.beginning.Beginning.{Beginning}
+use Rattle.spx_paths.specs.declared.beginning.Beginning.TheVariants.{GoesOn, Ended}
 use Rattle.spx_meaning.specs.Stores.{type_of}
 use Rattle.spx_paths.specs.Checks.{checks, in_type}
 use Rattle.spx_paths.specs.Terms.{entry, now, now_term, term_of}
-use Rattle.spx_paths.specs.Walks.{alternative_facts, and_these, entering, first_facts, initializing, walk}
+use Rattle.spx_paths.specs.Walks.{alternative_facts, and_these, cuts, entering, first_facts, initializing, walk}
 
 -- the paths of a tree, each after these steps
 unfoldable pub after : List PathStep → Tree → List (List PathStep)
 after steps tree = map (λ more. steps ++ more) (branches tree)
 
+-- the paths of a tree after the beginning of a path, which is all of it where it has ended
+unfoldable pub after_beginning : Beginning → Tree → List (List PathStep)
+after_beginning (GoesOn steps) tree = after steps tree
+after_beginning (Ended steps) tree = steps ∷ []
+
 -- the paths of a tree after each of the paths so far
-unfoldable pub after_each : List Path → Tree → List (List PathStep)
-after_each paths tree = flat_map (λ (path : Path). after path.steps tree) paths
+unfoldable pub after_each : List Beginning → Tree → List (List PathStep)
+after_each found tree = flat_map (λ beginning. after_beginning beginning tree) found
 
 -- a part of a tree without branches was walked
 abbrev pub Walked : (old new : List PathStep) → (Tree → Tree) → Type 0
 Walked old new part = (rest : Tree) → after old (part rest) ≡ after new rest
 
 -- a command was walked: these are the paths as far as what stands after it
-abbrev pub Arrive : Program → Sub → Command → List PathStep → List Path → Type 0
+abbrev pub Arrive : Program → Sub → Command → List PathStep → List Beginning → Type 0
 Arrive p sub c steps found = (rest leave : ℕ → Tree) (made : ℕ) → after steps (walk p sub c rest leave made) ≡ after_each found (rest made)
 
+-- the same from the end of a path that goes on
+abbrev pub ArriveFrom : Program → Sub → Command → Beginning → (found : List Beginning) → Type 0
+ArriveFrom p sub c beginning found = (rest leave : ℕ → Tree) (made : ℕ) → after_beginning beginning (walk p sub c rest leave made) ≡ after_each found (rest made)
+
 -- the same from each of several paths
-abbrev pub ArriveEach : Program → Sub → Command → (before found : List Path) → Type 0
+abbrev pub ArriveEach : Program → Sub → Command → (before found : List Beginning) → Type 0
 ArriveEach p sub c before found = (rest leave : ℕ → Tree) (made : ℕ) → after_each before (walk p sub c rest leave made) ≡ after_each found (rest made)
 
 -- a command without branches was walked
@@ -54,19 +64,19 @@ Splits p condition old new taken =
     → after old (checks p (now_term p) [] condition (Split (assume_parts (term_of p (now_term p) condition) first) (Assume (term.Prefix Not (term_of p (now_term p) condition)) second))) ≡ after taken first ++ after new second
 
 -- Arms were walked as far as a part of them. Each is a command, if what stands last is given. One path is left, which goes on with the part.
-abbrev pub ArriveBefore : Program → Sub → (whole part : Command → Command) → (old new : List PathStep) → List Path → Type 0
+abbrev pub ArriveBefore : Program → Sub → (whole part : Command → Command) → (old new : List PathStep) → List Beginning → Type 0
 ArriveBefore p sub whole part old new found =
     (last : Command) (rest leave : ℕ → Tree) (made : ℕ)
     → after old (walk p sub (whole last) rest leave made) ≡ after_each found (rest made) ++ after new (walk p sub (part last) rest leave made)
 
-abbrev pub ArriveArm : Program → Sub → CoreArm → (old new : List PathStep) → List Path → Type 0
+abbrev pub ArriveArm : Program → Sub → CoreArm → (old new : List PathStep) → List Beginning → Type 0
 ArriveArm p sub arm old new found = ArriveBefore p sub (arm_before arm) (λ last. last) old new found
 
 -- what stands last, after these arms
 abbrev pub with_arms : List CoreArm → Command → Command
 with_arms arms last = arms_before last (map arm_before arms)
 
-abbrev pub ArriveArms : Program → Sub → List CoreArm → (old new : List PathStep) → List Path → Type 0
+abbrev pub ArriveArms : Program → Sub → List CoreArm → (old new : List PathStep) → List Beginning → Type 0
 ArriveArms p sub arms old new found = ArriveBefore p sub (with_arms arms) (λ last. last) old new found
 
 -- The paths of alternatives for the value of a selector after these steps, one alternative after the other. Earlier choices have other values.
@@ -76,15 +86,41 @@ after_alternatives p sub t earlier (first ∷ others) steps rest leave made =
     after steps (assume_all (alternative_facts t earlier first.0) (walk p sub first.1 rest leave made)) ++ after_alternatives p sub t (and_these t earlier first.0) others steps rest leave made
 
 -- alternatives were walked as far as these others, before which earlier choices stand
-abbrev pub ArriveWhen : Program → Sub → Term → List CoreAlternative → (earlier : List Term) → (others : List CoreAlternative) → List PathStep → List Path → Type 0
+abbrev pub ArriveWhen : Program → Sub → Term → List CoreAlternative → (earlier : List Term) → (others : List CoreAlternative) → List PathStep → List Beginning → Type 0
 ArriveWhen p sub t alternatives earlier others steps found =
     (rest leave : ℕ → Tree) (made : ℕ)
     → after_alternatives p sub t [] (map alternative alternatives) steps rest leave made ≡ after_each found (rest made) ++ after_alternatives p sub t earlier (map alternative others) steps rest leave made
 
 -- all were
-abbrev pub ArriveAlternatives : Program → Sub → Term → List CoreAlternative → List PathStep → List Path → Type 0
+abbrev pub ArriveAlternatives : Program → Sub → Term → List CoreAlternative → List PathStep → List Beginning → Type 0
 ArriveAlternatives p sub t alternatives steps found =
     (rest leave : ℕ → Tree) (made : ℕ) → after_alternatives p sub t [] (map alternative alternatives) steps rest leave made ≡ after_each found (rest made)
+
+-- ---- from cuts
+
+-- the paths of several trees
+abbrev pub all_branches : List Tree → List (List PathStep)
+all_branches = flat_map branches
+
+-- these are the paths from the cuts in a command as far as what stands after it
+abbrev pub BeginIn : Program → Sub → Command → List Beginning → Type 0
+BeginIn p sub c found = (rest leave : ℕ → Tree) → all_branches (cuts p sub c rest leave) ≡ after_each found (rest 0)
+
+-- these are the paths from the cuts in arms as far as a part of them, if what stands last is given
+abbrev pub BeginBefore : Program → Sub → (whole part : Command → Command) → List Beginning → Type 0
+BeginBefore p sub whole part found =
+    (last : Command) (rest leave : ℕ → Tree) → all_branches (cuts p sub (whole last) rest leave) ≡ after_each found (rest 0) ++ all_branches (cuts p sub (part last) rest leave)
+
+abbrev pub BeginArms : Program → Sub → List CoreArm → List Beginning → Type 0
+BeginArms p sub arms found = BeginBefore p sub (with_arms arms) (λ last. last) found
+
+-- the paths from the cuts in alternatives, one after the other
+abbrev pub cut_alternatives : Program → Sub → List (Option (List CoreChoice) × Command) → (rest leave : ℕ → Tree) → List (List PathStep)
+cut_alternatives p sub [] rest leave = []
+cut_alternatives p sub (first ∷ others) rest leave = all_branches (cuts p sub first.1 rest leave) ++ cut_alternatives p sub others rest leave
+
+abbrev pub BeginAlternatives : Program → Sub → List (Option (List CoreChoice) × Command) → List Beginning → Type 0
+BeginAlternatives p sub alternatives found = (rest leave : ℕ → Tree) → cut_alternatives p sub alternatives rest leave ≡ after_each found (rest 0)
 
 -- the operator of a conjunction
 abbrev pub is_and : TermOp → Bool
@@ -100,6 +136,10 @@ entered p is_export v rest = if is_export then Assign (now p v) (term.Variable (
 -- an import lies in its type
 abbrev pub known_of : Program → Bool → VarId → List Term
 known_of p is_import v = if is_import then in_type (type_of p v) (now_term p v) else []
+
+-- the value on entry of an import that is exported too lies in its type
+abbrev pub known_on_entry : Program → (is_import is_export : Bool) → VarId → List Term
+known_on_entry p is_import is_export v = if is_import && is_export then in_type (type_of p v) (term.Variable (entry p v)) else []
 
 -- what stands before the first statement
 abbrev pub opening : Program → Sub → Tree → Tree

@@ -2,12 +2,24 @@
 ghost use Rattle.std.specs.Prelude.{◌≡◌, ◌+◌, map};
 ghost use Rattle.spx_core.specs.declared.statement.CoreAlternative.{out-CoreAlternative};
 ghost use Rattle.spx_core.specs.declared.statement.CoreArm.{out-CoreArm};
-ghost use Rattle.spx_core.specs.Commands.{alternative, arm_before, command, commands};
-ghost use Rattle.spx_paths.specs.Counts.{capped, CountsAlternatives, CountsArms, CountsBack};
+ghost use Rattle.spx_text.specs.declared.place.Place.{Place};
+ghost use Rattle.spx_core.specs.declared.expression.CoreExpr.{CoreExpr};
+ghost use Rattle.spx_core.specs.Commands.{Assertion, alternative, arm_before, command, commands};
+ghost use Rattle.spx_paths.specs.Counts.{capped, AreCounts, CountsAlternatives, CountsArms, CountsBack};
 ghost use Rattle.spx_paths.specs.Limits.{has_many_paths};
 
 use crate::MOST_PATHS;
 use spx_core::{CoreAlternative, CoreArm, CoreStmt, Sub};
+use spx_tree::AssertionKind;
+
+/// The counts of statements.
+#[derive(Clone, Copy)]
+struct Counts {
+    /// How many paths there are before them, to the next cuts.
+    before: u32,
+    /// How many paths there are from the cuts in them.
+    from_cuts: u32,
+}
 
 /// The sum of two counts.
 fn capped_sum(left: u32, right: u32) -> u32
@@ -16,71 +28,114 @@ fn capped_sum(left: u32, right: u32) -> u32
     left.saturating_add(right).min(MOST_PATHS + 1)
 }
 
-/// How many paths there are before statements, from how many there are after them.
+/// The counts of what stands beside one another.
+fn sums(left: Counts, right: Counts) -> Counts
+    ensures { AreCounts result (left.before + right.before) (left.from_cuts + right.from_cuts) }
+{
+    Counts {
+        before: capped_sum(left.before, right.before),
+        from_cuts: capped_sum(left.from_cuts, right.from_cuts),
+    }
+}
+
+/// The counts of statements, from how many paths there are after them.
 #[cycle(count)]
-fn count_stmts(stmts: &[CoreStmt], after: u32) -> u32
+fn count_stmts(stmts: &[CoreStmt], after: u32) -> Counts
     ensures { CountsBack (commands stmts.now) after result }
 {
-    let mut count = after;
+    let mut counts = Counts {
+        before: after,
+        from_cuts: 0,
+    };
     for stmt in stmts.iter().rev() {
-        count = count_stmt(stmt, count);
+        let here = count_stmt(stmt, counts.before);
+        counts = Counts {
+            before: here.before,
+            from_cuts: capped_sum(here.from_cuts, counts.from_cuts),
+        };
     }
-    count
+    counts
 }
 
-/// How many there are before arms, from how many there are after the statement and before what stands after `else`.
+/// The counts of arms, from how many paths there are after the statement and from the counts of what stands after `else`.
 #[cycle(count)]
-fn count_arms(arms: &[CoreArm], after: u32, otherwise: u32) -> u32
+fn count_arms(arms: &[CoreArm], after: u32, otherwise: Counts) -> Counts
     ensures { CountsArms (map arm_before arms.now) after otherwise result }
 {
-    let mut count = 0;
+    let mut counts = Counts {
+        before: 0,
+        from_cuts: 0,
+    };
     for arm in arms {
-        count = capped_sum(count, count_body(arm, after));
+        counts = sums(counts, count_body(arm, after));
     }
-    capped_sum(count, otherwise)
+    sums(counts, otherwise)
 }
 
 #[cycle(count)]
-fn count_body(arm: &CoreArm, after: u32) -> u32
+fn count_body(arm: &CoreArm, after: u32) -> Counts
     ensures { CountsBack (commands (out-CoreArm arm.now).body) after result }
 {
     count_stmts(arm.body.as_slice(), after)
 }
 
-/// How many there are before alternatives, from how many there are after the statement.
+/// The counts of alternatives, from how many paths there are after the statement.
 #[cycle(count)]
-fn count_alternatives(alternatives: &[CoreAlternative], after: u32) -> u32
+fn count_alternatives(alternatives: &[CoreAlternative], after: u32) -> Counts
     ensures { CountsAlternatives (map alternative alternatives.now) after result }
 {
-    let mut count = 0;
+    let mut counts = Counts {
+        before: 0,
+        from_cuts: 0,
+    };
     for chosen in alternatives {
-        count = capped_sum(count, count_alternative(chosen, after));
+        counts = sums(counts, count_alternative(chosen, after));
     }
-    count
+    counts
 }
 
 #[cycle(count)]
-fn count_alternative(chosen: &CoreAlternative, after: u32) -> u32
+fn count_alternative(chosen: &CoreAlternative, after: u32) -> Counts
     ensures { CountsBack (commands (out-CoreAlternative chosen.now).body) after result }
 {
     count_stmts(chosen.body.as_slice(), after)
 }
 
+/// The counts of an `assert`, where paths end and begin, or of a `check`.
+fn count_assertion(kind: AssertionKind, after: u32) -> Counts
+    ensures { (place : Place) (condition : CoreExpr) → CountsBack (Assertion kind place condition) after result }
+{
+    match kind {
+        AssertionKind::Assert => Counts {
+            before: 1,
+            from_cuts: after,
+        },
+        AssertionKind::Check => Counts {
+            before: after,
+            from_cuts: 0,
+        },
+    }
+}
+
 #[cycle(count)]
-fn count_stmt(stmt: &CoreStmt, after: u32) -> u32
+fn count_stmt(stmt: &CoreStmt, after: u32) -> Counts
     ensures { CountsBack (command stmt.now) after result }
 {
+    let without_cuts = Counts {
+        before: after,
+        from_cuts: 0,
+    };
     match stmt {
-        CoreStmt::Null(_) => after,
-        CoreStmt::Assignment(_, _) => after,
-        CoreStmt::Check(_, _) => after,
-        CoreStmt::If(arms, None, _) => count_arms(arms.as_slice(), after, after),
+        CoreStmt::Null(_) => without_cuts,
+        CoreStmt::Assignment(_, _) => without_cuts,
+        CoreStmt::Assertion(kind, _, _) => count_assertion(*kind, after),
+        CoreStmt::If(arms, None, _) => count_arms(arms.as_slice(), after, without_cuts),
         CoreStmt::If(arms, Some(stmts), _) => {
             let otherwise = count_stmts(stmts.as_slice(), after);
             count_arms(arms.as_slice(), after, otherwise)
         }
         CoreStmt::Case(_, _, alternatives, _) => match alternatives.as_slice() {
-            [] => after,
+            [] => without_cuts,
             alternatives => count_alternatives(alternatives, after),
         },
     }
@@ -90,5 +145,6 @@ fn count_stmt(stmt: &CoreStmt, after: u32) -> u32
 pub fn has_many_paths(sub: &Sub) -> bool
     ensures { result ≡ has_many_paths sub.now }
 {
-    count_stmts(sub.statements.as_slice(), 1) > MOST_PATHS
+    let counts = count_stmts(sub.statements.as_slice(), 1);
+    capped_sum(counts.before, counts.from_cuts) > MOST_PATHS
 }

@@ -1,65 +1,69 @@
 // The steps at the end of a body.
-ghost use Rattle.std.specs.Prelude.{◌≡◌, IfOk};
+ghost use Rattle.std.specs.Prelude.{◌≡◌, [], ◌∷◌, map, IfOk, OnOk};
 ghost use Rattle.spx_term.specs.Steps.{Cut};
-ghost use Rattle.spx_paths.specs.Prefixes.{Walked, after_each};
-ghost use Rattle.spx_paths.specs.Walks.{asserted, ending_with};
+ghost use Rattle.spx_paths.specs.Prefixes.{after, after_beginning, after_each};
+ghost use Rattle.spx_paths.specs.Walks.{ending_with};
 
+use crate::beginning::Beginning;
 use crate::entered::Entered;
 use crate::path::Path;
 use crate::steps::assert_parts;
 use crate::terms::term_of;
 use spx_core::{Program, Sub};
-use spx_term::{CondKind, Term};
-use spx_text::Place;
+use spx_term::{CondKind, PathStep};
+use sqlite_items::Items;
 use std::alloc::{AllocError, Global};
 
-/// The path, with an annotation that is to be shown at its end.
-fn show_at_end(
+/// Adds the postcondition, which is shown at the end.
+fn show_post(
     alloc: Global,
-    kind: CondKind,
-    place: Place,
-    shown: &Term,
-    path: Path,
-) -> Result<Path, AllocError>
-    ensures { IfOk result (λ ended. Walked path.steps ended.steps (asserted kind place shown.now)) }
+    program: &Program,
+    sub: &Sub,
+    steps: &mut Items<PathStep>,
+) -> Result<(), AllocError>
+    ensures { OnOk result (after steps.old (ending_with program.now sub.now sub.now.post) ≡ after steps.new Cut) }
 {
-    let mut path = path;
-    assert_parts(alloc, &mut path.steps, kind, place, shown)?;
-    Ok(path)
-}
-
-/// Each of the paths, with an annotation that is to be shown at its end.
-fn show_at_ends(
-    alloc: Global,
-    kind: CondKind,
-    place: Place,
-    shown: &Term,
-    found: Vec<Path>,
-) -> Result<Vec<Path>, AllocError>
-    ensures { IfOk result (λ ended. after_each ended.items Cut ≡ after_each found.items (asserted kind place shown.now Cut)) }
-{
-    let mut ended = Vec::new(alloc);
-    for path in found {
-        ended.push(show_at_end(alloc, kind, place, shown, path)?)?;
+    match &sub.post {
+        None => Ok(()),
+        Some(post) => {
+            let shown = term_of(alloc, program, &Entered::OnEntry(sub), &post.condition)?;
+            assert_parts(alloc, steps, CondKind::Post, post.place, &shown)?;
+            Ok(())
+        }
     }
-    Ok(ended)
 }
 
-/// The paths of a body, with its postcondition at the end of each.
+/// The path as far as its end. One that goes on comes to the end of the body.
+fn end_path(
+    alloc: Global,
+    program: &Program,
+    sub: &Sub,
+    beginning: Beginning,
+) -> Result<Path, AllocError>
+    ensures { IfOk result (λ path. after_beginning beginning (ending_with program.now sub.now sub.now.post) ≡ path.steps ∷ []) }
+{
+    match beginning {
+        Beginning::GoesOn(steps) => {
+            let mut steps = steps;
+            show_post(alloc, program, sub, &mut steps)?;
+            Ok(Path { steps })
+        }
+        Beginning::Ended(steps) => Ok(Path { steps }),
+    }
+}
+
+/// The paths of a body, with its postcondition at the end of each that comes there.
 pub(crate) fn end_paths(
     alloc: Global,
     program: &Program,
     sub: &Sub,
-    found: Vec<Path>,
+    found: Vec<Beginning>,
 ) -> Result<Vec<Path>, AllocError>
-    ensures { IfOk result (λ ended. after_each ended.items Cut ≡ after_each found.items (ending_with program.now sub.now sub.now.post)) }
+    ensures { IfOk result (λ ended. map (λ path. path.steps) ended.items ≡ after_each found.items (ending_with program.now sub.now sub.now.post)) }
 {
-    match &sub.post {
-        None => Ok(found),
-        Some(post) => {
-            let shown = term_of(alloc, program, &Entered::OnEntry(sub), &post.condition)?;
-            let ended = show_at_ends(alloc, CondKind::Post, post.place, &shown, found)?;
-            Ok(ended)
-        }
+    let mut ended = Vec::new(alloc);
+    for beginning in found {
+        ended.push(end_path(alloc, program, sub, beginning)?)?;
     }
+    Ok(ended)
 }

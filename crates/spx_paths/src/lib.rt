@@ -8,13 +8,16 @@
 //! list (`paths_are_counted`), and a body asks for what its paths ask for, and for nothing else (`claims_are_of_paths`).
 #![tactic(auto)]
 
+mod beginning;
 mod checks;
 mod choices;
 mod count;
+mod cuts;
 mod ending;
 mod entered;
 mod fault;
 mod goals;
+mod known;
 pub mod laws;
 mod literals;
 mod path;

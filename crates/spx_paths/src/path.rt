@@ -1,10 +1,11 @@
-// The paths of a body, from its start to each end.
+// The paths of a body, from each cut to the next.
 ghost use Rattle.std.specs.Prelude.{◌≡◌, ◌<◌, false, Some, length, map, slice_get, IfErr, IfOk, OnOk};
 ghost use Rattle.spx_core.specs.declared.subprogram.Sub.{Sub};
 ghost use Rattle.spx_paths.specs.Conditions.{paths};
 ghost use Rattle.spx_paths.specs.Limits.{IsPathFaultOf, has_many_paths};
 
 use crate::count::has_many_paths;
+use crate::cuts::paths_from_cuts;
 use crate::ending::end_paths;
 use crate::start::start;
 use crate::walk::walk_stmts;
@@ -20,19 +21,6 @@ pub struct Path {
     pub steps: Items<PathStep>,
 }
 
-impl Path {
-    /// An equal path.
-    pub(crate) fn copy(&self, alloc: Global) -> Result<Path, AllocError>
-        ensures { IfOk result (λ path. path.steps ≡ self.now.steps) }
-    {
-        let mut steps = Items::new(alloc);
-        for step in self.steps.as_slice() {
-            steps.push(step.copy(alloc)?)?;
-        }
-        Ok(Path { steps })
-    }
-}
-
 /// The paths of a body. They are counted before a step is made.
 fn body_paths(alloc: Global, program: &Program, sub: &Sub) -> Result<Items<Path>, PathFault>
     ensures exact { IfOk result (λ all. map (λ path. path.steps) all ≡ paths program.now sub.now) }
@@ -43,7 +31,9 @@ fn body_paths(alloc: Global, program: &Program, sub: &Sub) -> Result<Items<Path>
         return Err(PathFault::TooManyPaths(MOST_PATHS + 1));
     }
     let start = start(alloc, program, sub)?;
-    let found = walk_stmts(alloc, program, sub, sub.statements.as_slice(), start)?;
+    let stmts = sub.statements.as_slice();
+    let mut found = walk_stmts(alloc, program, sub, stmts, start)?;
+    found.append(&mut paths_from_cuts(alloc, program, sub, stmts)?)?;
     let ended = end_paths(alloc, program, sub, found)?;
     Ok(Items::from_vec(ended))
 }

@@ -15,6 +15,20 @@ use spx_text::Place;
 use sqlite_items::Items;
 use std::alloc::{AllocError, Global};
 
+/// Equal steps.
+pub(crate) fn copy_steps(
+    alloc: Global,
+    steps: &[PathStep],
+) -> Result<Items<PathStep>, AllocError>
+    ensures { IfOk result (λ copies. copies ≡ steps.now) }
+{
+    let mut copies = Items::new(alloc);
+    for step in steps {
+        copies.push(step.copy(alloc)?)?;
+    }
+    Ok(copies)
+}
+
 /// Adds that a term is true.
 #[tactic(auto, using(crate::proofs::PrefixLaws::step_laws))]
 pub(crate) fn assume(steps: &mut Items<PathStep>, fact: Term) -> Result<(), AllocError>

@@ -6,10 +6,10 @@ ghost use Rattle.spx_core.specs.Uses.{variable_of};
 ghost use Rattle.spx_term.specs.Folding.{term_of as static_term};
 ghost use Rattle.spx_meaning.specs.Evaluation.{term_op};
 ghost use Rattle.spx_meaning.specs.Literals.{literal};
-ghost use Rattle.spx_paths.specs.Entries.{entered_term};
-ghost use Rattle.spx_paths.specs.Terms.{between, entry, first_term, last_term, literal_or, mapped_term, member_term, moved_term, named, now, now_term, signed_term, sort_of_class, sort_of_var, term_of};
+ghost use Rattle.spx_paths.specs.Entries.{entered_term, present_term};
+ghost use Rattle.spx_paths.specs.Terms.{between, entry, first_term, last_term, literal_or, mapped_term, member_term, moved_term, now, signed_term, sort_of_class, sort_of_var, term_with};
 
-use crate::entered::{Entered, entered_name_term};
+use crate::entered::{Entered, entered_name_term, present_name_term};
 use crate::literals::literal;
 use spx_core::{
     Class, CoreExpr, CoreFunction, Entity, Program, Reference, Shift, Subtype, UNIVERSAL, VarId,
@@ -101,16 +101,6 @@ fn literal_or(expr: &CoreExpr, term: Term) -> Term
     match literal(expr) {
         Some(value) => static_term(value),
         None => term,
-    }
-}
-
-/// The present value of what a name denotes. What denotes no variable counts as 0.
-fn name_term(program: &Program, entity: Option<Entity>) -> Term
-    ensures { result ≡ named (now_term program.now) (variable_of entity) }
-{
-    match variable_of(entity) {
-        Some(var) => Term::Variable(now(program, var)),
-        None => Term::Number(0),
     }
 }
 
@@ -211,11 +201,14 @@ pub(crate) fn term_of(
     entered: &Entered,
     expr: &CoreExpr,
 ) -> Result<Term, AllocError>
-    ensures { IfOk result (λ t. t ≡ term_of program.now (entered_term program.now entered.now) expr.now) }
+    ensures { IfOk result (λ t. t ≡ term_with (present_term program.now entered.now) (entered_term program.now entered.now) expr.now) }
 {
     match expr {
         CoreExpr::Number(value, _) => Ok(Term::Number(*value)),
-        CoreExpr::Name(name) => Ok(literal_or(expr, name_term(program, name.entity))),
+        CoreExpr::Name(name) => {
+            let value = present_name_term(alloc, program, entered, name.entity)?;
+            Ok(literal_or(expr, value))
+        }
         CoreExpr::Entry(name, _) => entered_name_term(alloc, program, entered, name.entity),
         CoreExpr::Attribute(_, _) => Ok(literal_or(expr, Term::Number(0))),
         CoreExpr::Applied(function, _, operand) => {

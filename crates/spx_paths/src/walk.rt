@@ -1,33 +1,45 @@
 // The walk along statements, which adds the steps of each path.
-ghost use Rattle.std.specs.Prelude.{map, IfOk, OnOk};
+ghost use Rattle.std.specs.Prelude.{◌≡◌, map, IfOk, OnOk};
 ghost use Rattle.spx_text.specs.declared.place.Place.{Place};
 ghost use Rattle.spx_core.specs.declared.statement.CoreAlternative.{out-CoreAlternative};
 ghost use Rattle.spx_core.specs.declared.program.Program.{Program};
 ghost use Rattle.spx_core.specs.declared.subprogram.Sub.{Sub};
-ghost use Rattle.spx_core.specs.Commands.{Check, Set, Skip, alternative, command, commands, select};
-ghost use Rattle.spx_paths.specs.Prefixes.{Arrive, ArriveAlternatives, ArriveArm, ArriveArms, ArriveEach, Passes, Splits, Walked};
-ghost use Rattle.spx_paths.specs.Walks.{alternative_facts};
-ghost use Rattle.spx_term.specs.Steps.{assume_all};
+ghost use Rattle.spx_core.specs.Commands.{Assertion, Set, Skip, alternative, command, commands, select};
+ghost use Rattle.spx_paths.specs.Prefixes.{after, after_each, Arrive, ArriveAlternatives, ArriveArm, ArriveArms, ArriveEach, ArriveFrom, Passes, Splits, Walked};
+ghost use Rattle.spx_paths.specs.Terms.{entry_term, term_of};
+ghost use Rattle.spx_paths.specs.Walks.{alternative_facts, asserted};
+ghost use Rattle.spx_term.specs.Steps.{Cut, Tree, assume_all};
 
+use crate::beginning::Beginning;
 use crate::checks::check_expr;
 use crate::choices::{add_choices, assume_chosen};
 use crate::entered::Entered;
-use crate::path::Path;
-use crate::steps::{assert_parts, assign, assume, assume_parts};
+use crate::steps::{assert_parts, assign, assume, assume_parts, copy_steps};
 use crate::terms::term_of;
 use spx_core::{CoreAlternative, CoreArm, CoreExpr, CoreStmt, Program, Reference, Sub};
 use spx_term::{CondKind, PathStep, Term, TermPrefix};
 use spx_text::Place;
+use spx_tree::AssertionKind;
 use sqlite_items::Items;
 use std::alloc::{AllocError, Global};
 
-/// The list of one path.
+/// The list of one path, which goes on.
 #[tactic(auto, using(crate::proofs::PrefixLaws::each_one))]
-fn one(alloc: Global, path: Path) -> Result<Vec<Path>, AllocError>
-    ensures { (p : Program) (s : Sub) → IfOk result (λ found. Arrive p s Skip path.steps found.items) }
+fn one(alloc: Global, steps: Items<PathStep>) -> Result<Vec<Beginning>, AllocError>
+    ensures { (p : Program) (s : Sub) → IfOk result (λ found. Arrive p s Skip steps found.items) }
 {
     let mut found = Vec::new(alloc);
-    found.push(path)?;
+    found.push(Beginning::GoesOn(steps))?;
+    Ok(found)
+}
+
+/// The list of one path, which ends.
+#[tactic(auto, using(crate::proofs::PrefixLaws::each_ended))]
+fn one_ended(alloc: Global, steps: Items<PathStep>) -> Result<Vec<Beginning>, AllocError>
+    ensures { IfOk result (λ found. (rest : Tree) → after steps Cut ≡ after_each found.items rest) }
+{
+    let mut found = Vec::new(alloc);
+    found.push(Beginning::Ended(steps))?;
     Ok(found)
 }
 
@@ -59,46 +71,58 @@ fn walk_assignment(
     program: &Program,
     target: &Reference,
     value: &CoreExpr,
-    path: Path,
-) -> Result<Vec<Path>, AllocError>
-    ensures { (s : Sub) → IfOk result (λ found. Arrive program.now s (Set target.now value.now) path.steps found.items) }
+    steps: Items<PathStep>,
+) -> Result<Vec<Beginning>, AllocError>
+    ensures { (s : Sub) → IfOk result (λ found. Arrive program.now s (Set target.now value.now) steps found.items) }
 {
-    let mut path = path;
-    add_assignment(alloc, program, &mut path.steps, target, value)?;
-    let found = one(alloc, path)?;
+    let mut steps = steps;
+    add_assignment(alloc, program, &mut steps, target, value)?;
+    let found = one(alloc, steps)?;
     Ok(found)
 }
 
-/// Adds the steps of a `check` annotation: each part is shown, and is a fact from there on.
-fn add_check(
+/// Adds the steps of an annotation: each part is shown, and is a fact from there on.
+fn add_annotation(
     alloc: Global,
     program: &Program,
     sub: &Sub,
     steps: &mut Items<PathStep>,
+    kind: CondKind,
     place: Place,
     condition: &CoreExpr,
 ) -> Result<(), AllocError>
-    ensures { OnOk result (Passes program.now sub.now (Check place condition.now) steps.old steps.new) }
+    ensures { OnOk result (Walked steps.old steps.new (asserted kind place (term_of program.now (entry_term program.now sub.now) condition.now))) }
 {
     let shown = term_of(alloc, program, &Entered::OnEntry(sub), condition)?;
-    assert_parts(alloc, steps, CondKind::Check, place, &shown)?;
+    assert_parts(alloc, steps, kind, place, &shown)?;
     Ok(())
 }
 
-fn walk_check(
+/// Walks an `assert`, where a path ends, or a `check`.
+fn walk_assertion(
     alloc: Global,
     program: &Program,
     sub: &Sub,
+    kind: AssertionKind,
     place: Place,
     condition: &CoreExpr,
-    path: Path,
-) -> Result<Vec<Path>, AllocError>
-    ensures { IfOk result (λ found. Arrive program.now sub.now (Check place condition.now) path.steps found.items) }
+    steps: Items<PathStep>,
+) -> Result<Vec<Beginning>, AllocError>
+    ensures { IfOk result (λ found. Arrive program.now sub.now (Assertion kind place condition.now) steps found.items) }
 {
-    let mut path = path;
-    add_check(alloc, program, sub, &mut path.steps, place, condition)?;
-    let found = one(alloc, path)?;
-    Ok(found)
+    let mut steps = steps;
+    match kind {
+        AssertionKind::Assert => {
+            add_annotation(alloc, program, sub, &mut steps, CondKind::Assert, place, condition)?;
+            let ended = one_ended(alloc, steps)?;
+            Ok(ended)
+        }
+        AssertionKind::Check => {
+            add_annotation(alloc, program, sub, &mut steps, CondKind::Check, place, condition)?;
+            let found = one(alloc, steps)?;
+            Ok(found)
+        }
+    }
 }
 
 /// Splits a path at a condition: the path goes on where it is false, and the result where it is true.
@@ -106,17 +130,17 @@ fn walk_check(
 fn split(
     alloc: Global,
     program: &Program,
-    path: &mut Path,
+    steps: &mut Items<PathStep>,
     condition: &CoreExpr,
-) -> Result<Path, AllocError>
-    ensures { IfOk result (λ taken. Splits program.now condition.now path.old.steps path.new.steps taken.steps) }
+) -> Result<Items<PathStep>, AllocError>
+    ensures { IfOk result (λ taken. Splits program.now condition.now steps.old steps.new taken) }
 {
-    check_expr(alloc, program, &mut path.steps, &[], condition)?;
-    let mut taken = path.copy(alloc)?;
+    check_expr(alloc, program, steps, &[], condition)?;
+    let mut taken = copy_steps(alloc, steps.as_slice())?;
     let holds = term_of(alloc, program, &Entered::Present, condition)?;
-    assume_parts(alloc, &mut taken.steps, &holds)?;
+    assume_parts(alloc, &mut taken, &holds)?;
     let fails = Term::prefix(alloc, TermPrefix::Not, holds)?;
-    assume(&mut path.steps, fails)?;
+    assume(steps, fails)?;
     Ok(taken)
 }
 
@@ -126,12 +150,12 @@ fn choose(
     value: &Term,
     earlier: &[Term],
     chosen: &CoreAlternative,
-    path: &Path,
-) -> Result<Path, AllocError>
-    ensures { IfOk result (λ taken. Walked path.now.steps taken.steps (assume_all (alternative_facts value.now earlier.now (out-CoreAlternative chosen.now).choices))) }
+    steps: &[PathStep],
+) -> Result<Items<PathStep>, AllocError>
+    ensures { IfOk result (λ taken. Walked steps.now taken (assume_all (alternative_facts value.now earlier.now (out-CoreAlternative chosen.now).choices))) }
 {
-    let mut taken = path.copy(alloc)?;
-    assume_chosen(alloc, &mut taken.steps, value, earlier, chosen)?;
+    let mut taken = copy_steps(alloc, steps)?;
+    assume_chosen(alloc, &mut taken, value, earlier, chosen)?;
     Ok(taken)
 }
 
@@ -142,11 +166,11 @@ pub(crate) fn walk_stmts(
     program: &Program,
     sub: &Sub,
     stmts: &[CoreStmt],
-    path: Path,
-) -> Result<Vec<Path>, AllocError>
-    ensures { IfOk result (λ found. Arrive program.now sub.now (commands stmts.now) path.steps found.items) }
+    steps: Items<PathStep>,
+) -> Result<Vec<Beginning>, AllocError>
+    ensures { IfOk result (λ found. Arrive program.now sub.now (commands stmts.now) steps found.items) }
 {
-    let mut found = one(alloc, path)?;
+    let mut found = one(alloc, steps)?;
     for stmt in stmts {
         found = walk_from_each(alloc, program, sub, stmt, found)?;
     }
@@ -155,20 +179,43 @@ pub(crate) fn walk_stmts(
 
 /// Walks a statement from the end of each of these paths.
 #[cycle(walk)]
-fn walk_from_each(
+pub(crate) fn walk_from_each(
     alloc: Global,
     program: &Program,
     sub: &Sub,
     stmt: &CoreStmt,
-    before: Vec<Path>,
-) -> Result<Vec<Path>, AllocError>
+    before: Vec<Beginning>,
+) -> Result<Vec<Beginning>, AllocError>
     ensures { IfOk result (λ found. ArriveEach program.now sub.now (command stmt.now) before.items found.items) }
 {
     let mut found = Vec::new(alloc);
-    for path in before {
-        found.append(&mut walk_stmt(alloc, program, sub, stmt, path)?)?;
+    for beginning in before {
+        found.append(&mut walk_on(alloc, program, sub, stmt, beginning)?)?;
     }
     Ok(found)
+}
+
+/// Walks a statement from the end of a path that goes on. One that has ended stays as it is.
+#[cycle(walk)]
+fn walk_on(
+    alloc: Global,
+    program: &Program,
+    sub: &Sub,
+    stmt: &CoreStmt,
+    beginning: Beginning,
+) -> Result<Vec<Beginning>, AllocError>
+    ensures { IfOk result (λ found. ArriveFrom program.now sub.now (command stmt.now) beginning found.items) }
+{
+    match beginning {
+        Beginning::GoesOn(steps) => {
+            let found = walk_stmt(alloc, program, sub, stmt, steps)?;
+            Ok(found)
+        }
+        Beginning::Ended(steps) => {
+            let found = one_ended(alloc, steps)?;
+            Ok(found)
+        }
+    }
 }
 
 #[cycle(walk)]
@@ -177,32 +224,32 @@ fn walk_stmt(
     program: &Program,
     sub: &Sub,
     stmt: &CoreStmt,
-    path: Path,
-) -> Result<Vec<Path>, AllocError>
-    ensures { IfOk result (λ found. Arrive program.now sub.now (command stmt.now) path.steps found.items) }
+    steps: Items<PathStep>,
+) -> Result<Vec<Beginning>, AllocError>
+    ensures { IfOk result (λ found. Arrive program.now sub.now (command stmt.now) steps found.items) }
 {
-    let mut path = path;
+    let mut steps = steps;
     match stmt {
-        CoreStmt::Null(_) => one(alloc, path),
-        CoreStmt::Assignment(target, value) => walk_assignment(alloc, program, target, value, path),
-        CoreStmt::Check(place, condition) => {
-            walk_check(alloc, program, sub, *place, condition, path)
+        CoreStmt::Null(_) => one(alloc, steps),
+        CoreStmt::Assignment(target, value) => walk_assignment(alloc, program, target, value, steps),
+        CoreStmt::Assertion(kind, place, condition) => {
+            walk_assertion(alloc, program, sub, *kind, *place, condition, steps)
         }
         CoreStmt::If(arms, otherwise, _) => {
-            let mut found = walk_arms(alloc, program, sub, arms.as_slice(), &mut path)?;
+            let mut found = walk_arms(alloc, program, sub, arms.as_slice(), &mut steps)?;
             match otherwise {
                 None => {
-                    found.append(&mut one(alloc, path)?)?;
+                    found.append(&mut one(alloc, steps)?)?;
                     Ok(found)
                 }
                 Some(stmts) => {
-                    found.append(&mut walk_stmts(alloc, program, sub, stmts.as_slice(), path)?)?;
+                    found.append(&mut walk_stmts(alloc, program, sub, stmts.as_slice(), steps)?)?;
                     Ok(found)
                 }
             }
         }
         CoreStmt::Case(_, selector, alternatives, _) => {
-            walk_case(alloc, program, sub, alternatives.as_slice(), selector, path)
+            walk_case(alloc, program, sub, alternatives.as_slice(), selector, steps)
         }
     }
 }
@@ -215,17 +262,17 @@ fn walk_case(
     sub: &Sub,
     alternatives: &[CoreAlternative],
     selector: &CoreExpr,
-    path: Path,
-) -> Result<Vec<Path>, AllocError>
-    ensures { (place : Place) → IfOk result (λ found. Arrive program.now sub.now (select place selector.now (map alternative alternatives.now)) path.steps found.items) }
+    steps: Items<PathStep>,
+) -> Result<Vec<Beginning>, AllocError>
+    ensures { (place : Place) → IfOk result (λ found. Arrive program.now sub.now (select place selector.now (map alternative alternatives.now)) steps found.items) }
 {
     if alternatives.is_empty() {
-        return one(alloc, path);
+        return one(alloc, steps);
     }
-    let mut path = path;
-    check_expr(alloc, program, &mut path.steps, &[], selector)?;
+    let mut steps = steps;
+    check_expr(alloc, program, &mut steps, &[], selector)?;
     let value = term_of(alloc, program, &Entered::Present, selector)?;
-    let found = walk_alternatives(alloc, program, sub, alternatives, &value, &path)?;
+    let found = walk_alternatives(alloc, program, sub, alternatives, &value, steps.as_slice())?;
     Ok(found)
 }
 
@@ -237,14 +284,14 @@ fn walk_alternatives(
     sub: &Sub,
     alternatives: &[CoreAlternative],
     value: &Term,
-    path: &Path,
-) -> Result<Vec<Path>, AllocError>
-    ensures { IfOk result (λ found. ArriveAlternatives program.now sub.now value.now alternatives.now path.now.steps found.items) }
+    steps: &[PathStep],
+) -> Result<Vec<Beginning>, AllocError>
+    ensures { IfOk result (λ found. ArriveAlternatives program.now sub.now value.now alternatives.now steps.now found.items) }
 {
     let mut found = Vec::new(alloc);
     let mut earlier = Items::new(alloc);
     for chosen in alternatives {
-        let taken = choose(alloc, value, earlier.as_slice(), chosen, path)?;
+        let taken = choose(alloc, value, earlier.as_slice(), chosen, steps)?;
         found.append(&mut walk_alternative(alloc, program, sub, chosen, taken)?)?;
         add_choices(alloc, value, &mut earlier, chosen)?;
     }
@@ -258,11 +305,11 @@ fn walk_alternative(
     program: &Program,
     sub: &Sub,
     chosen: &CoreAlternative,
-    path: Path,
-) -> Result<Vec<Path>, AllocError>
-    ensures { IfOk result (λ found. Arrive program.now sub.now (commands (out-CoreAlternative chosen.now).body) path.steps found.items) }
+    steps: Items<PathStep>,
+) -> Result<Vec<Beginning>, AllocError>
+    ensures { IfOk result (λ found. Arrive program.now sub.now (commands (out-CoreAlternative chosen.now).body) steps found.items) }
 {
-    walk_stmts(alloc, program, sub, chosen.body.as_slice(), path)
+    walk_stmts(alloc, program, sub, chosen.body.as_slice(), steps)
 }
 
 /// Walks arms. The path goes on where no condition is true.
@@ -272,13 +319,13 @@ fn walk_arms(
     program: &Program,
     sub: &Sub,
     arms: &[CoreArm],
-    path: &mut Path,
-) -> Result<Vec<Path>, AllocError>
-    ensures { IfOk result (λ found. ArriveArms program.now sub.now arms.now path.old.steps path.new.steps found.items) }
+    steps: &mut Items<PathStep>,
+) -> Result<Vec<Beginning>, AllocError>
+    ensures { IfOk result (λ found. ArriveArms program.now sub.now arms.now steps.old steps.new found.items) }
 {
     let mut found = Vec::new(alloc);
     for arm in arms {
-        found.append(&mut walk_arm(alloc, program, sub, arm, path)?)?;
+        found.append(&mut walk_arm(alloc, program, sub, arm, steps)?)?;
     }
     Ok(found)
 }
@@ -290,11 +337,11 @@ fn walk_arm(
     program: &Program,
     sub: &Sub,
     arm: &CoreArm,
-    path: &mut Path,
-) -> Result<Vec<Path>, AllocError>
-    ensures { IfOk result (λ found. ArriveArm program.now sub.now arm.now path.old.steps path.new.steps found.items) }
+    steps: &mut Items<PathStep>,
+) -> Result<Vec<Beginning>, AllocError>
+    ensures { IfOk result (λ found. ArriveArm program.now sub.now arm.now steps.old steps.new found.items) }
 {
-    let taken = split(alloc, program, path, &arm.condition)?;
+    let taken = split(alloc, program, steps, &arm.condition)?;
     let found = walk_stmts(alloc, program, sub, arm.body.as_slice(), taken)?;
     Ok(found)
 }

@@ -6,35 +6,41 @@ use Rattle.spx_core.specs.declared.statement.CoreAlternative.{CoreAlternative, o
 use Rattle.spx_core.specs.declared.statement.CoreArm.{CoreArm}
 use Rattle.spx_core.specs.declared.statement.CoreStmt.{CoreStmt}
 use Rattle.spx_core.specs.declared.statement.CoreStmt.TheVariants as stmt
-use Rattle.spx_core.specs.Commands.{Command, Check, Set, Skip, alternative, command, commands, select}
-use Rattle.spx_paths.specs.Prefixes.{Arrive, ArriveEach, Walked, after_each, with_arms}
+use Rattle.spx_core.specs.Commands.{Command, Assertion, Set, Skip, alternative, command, commands, select}
+use Rattle.spx_paths.specs.Prefixes.{Arrive, ArriveAlternatives, ArriveEach, Walked, after_each, with_arms}
 use Rattle.spx_paths.proofs.PrefixLaws.{each_none}
 use Rattle.std.specs.Prelude.{IfOk}
 use Rattle.spx_term.specs.Steps.{assume_all}
 use Rattle.spx_paths.specs.Walks.{alternative_facts, walk}
-use Rattle.spx_paths.proofs.ArriveLaws.{alternatives_more, arm_arrives, arms_more, assignment_is, case_arrives, case_is, check_is, each_arrive, from_one, if_alone_is, if_arrives, if_else_is, none_is, null_is}
+use Rattle.spx_paths.proofs.ArriveLaws.{alternatives_more, arm_arrives, arms_more, assertion_is, assignment_is, case_arrives, case_is, each_arrive, from_ended, from_on, from_one, if_alone_is, if_arrives, if_else_is, none_is, null_is}
 use Rattle.spx_paths.proofs.walk.+walk.Goals as goal
 
 pub walk_arm-returns : goal.walk_arm-returns
 walk_arm-returns t c =
     let found = c.in_ok-found.found.items in
-    arm_arrives c.args.program.now c.args.sub.now c.args.arm.now _ _ c.in_ok-taken.taken.steps found c.in_ok-taken.ensures
-    (subst (λ (stmts : List CoreStmt). Arrive c.args.program.now c.args.sub.now (commands stmts) c.in_ok-taken.taken.steps found) c.as_slice.ensures c.in_ok-found.ensures)
+    arm_arrives c.args.program.now c.args.sub.now c.args.arm.now _ _ c.in_ok-taken.taken found c.in_ok-taken.ensures
+    (subst (λ (stmts : List CoreStmt). Arrive c.args.program.now c.args.sub.now (commands stmts) c.in_ok-taken.taken found) c.as_slice.ensures c.in_ok-found.ensures)
 
-pub walk_from_each-loop-path-preserved : goal.walk_from_each-loop-path-preserved
-walk_from_each-loop-path-preserved t c =
-    each_arrive c.args.program.now c.args.sub.now (command c.args.stmt.now) c.loop-path.yielded c.in-Some.path c.loop-path.found.items c.in_ok-walk_stmt.field-0.items _ c.loop-path.invariant c.in_ok-walk_stmt.ensures c.in_ok-append.ensures.items
+pub walk_from_each-loop-beginning-preserved : goal.walk_from_each-loop-beginning-preserved
+walk_from_each-loop-beginning-preserved t c =
+    each_arrive c.args.program.now c.args.sub.now (command c.args.stmt.now) c.loop-beginning.yielded c.in-Some.beginning c.loop-beginning.found.items c.in_ok-walk_on.field-0.items _ c.loop-beginning.invariant c.in_ok-walk_on.ensures c.in_ok-append.ensures.items
 
 pub walk_from_each-returns : goal.walk_from_each-returns
 walk_from_each-returns t c =
     let before = c.args.before.items in
-    let given = c.into_iter-path-iterator.ensures.into_iter_gives in
-    let e : c.loop-path.yielded ≡ before = sym (map-id c.loop-path.yielded) ∙ (YieldsList-end (YieldsList-from_vec before given.0 (given.1 ∙ c.args.before.ok.0)) c.loop-path.yielded c.loop-path.path-iterator c.loop-path.yielded_by c.next.result c.next.new.self c.in-None.is c.next.ensures.steps).0 in
-    subst (λ paths. ArriveEach c.args.program.now c.args.sub.now (command c.args.stmt.now) paths c.loop-path.found.items) e c.loop-path.invariant
+    let given = c.into_iter-beginning-iterator.ensures.into_iter_gives in
+    let e : c.loop-beginning.yielded ≡ before = sym (map-id c.loop-beginning.yielded) ∙ (YieldsList-end (YieldsList-from_vec before given.0 (given.1 ∙ c.args.before.ok.0)) c.loop-beginning.yielded c.loop-beginning.beginning-iterator c.loop-beginning.yielded_by c.next.result c.next.new.self c.in-None.is c.next.ensures.steps).0 in
+    subst (λ paths. ArriveEach c.args.program.now c.args.sub.now (command c.args.stmt.now) paths c.loop-beginning.found.items) e c.loop-beginning.invariant
+
+pub walk_on-returns-in_ok-found-in-GoesOn : goal.walk_on-returns-in_ok-found-in-GoesOn
+walk_on-returns-in_ok-found-in-GoesOn t c = from_on c.args.program.now c.args.sub.now (command c.args.stmt.now) c.args.beginning c.in-GoesOn.steps c.in_ok-found-in-GoesOn.found.items c.in-GoesOn.is c.in_ok-found-in-GoesOn.ensures
+
+pub walk_on-returns-in_ok-found-in-Ended : goal.walk_on-returns-in_ok-found-in-Ended
+walk_on-returns-in_ok-found-in-Ended t c = from_ended c.args.program.now c.args.sub.now (command c.args.stmt.now) c.args.beginning c.in-Ended.steps c.in_ok-found-in-Ended.found.items c.in-Ended.is c.in_ok-found-in-Ended.ensures
 
 pub walk_arms-loop-arm-preserved : goal.walk_arms-loop-arm-preserved
 walk_arms-loop-arm-preserved t c =
-    arms_more c.args.program.now c.args.sub.now c.args.arms.now c.loop-arm.arm-index c.arm-item.result _ c.loop-arm.path.steps _ c.loop-arm.found.items c.in_ok-walk_arm.field-0.items _ c.loop-arm-test.true c.arm-item.is c.loop-arm.invariant c.in_ok-walk_arm.ensures
+    arms_more c.args.program.now c.args.sub.now c.args.arms.now c.loop-arm.arm-index c.arm-item.result _ c.loop-arm.steps _ c.loop-arm.found.items c.in_ok-walk_arm.field-0.items _ c.loop-arm-test.true c.arm-item.is c.loop-arm.invariant c.in_ok-walk_arm.ensures
     c.in_ok-append.ensures.items
 
 pub walk_arms-returns : goal.walk_arms-returns
@@ -52,8 +58,8 @@ walk_stmts-returns t c = let e = drop_all c.loop-stmt.stmt-index c.args.stmts.no
 pub walk_stmts-loop-stmt-init : goal.walk_stmts-loop-stmt-init
 walk_stmts-loop-stmt-init t c = λ rest leave made. c.in_ok-found.ensures c.args.program.now c.args.sub.now (walk c.args.program.now c.args.sub.now (commands c.args.stmts.now) rest leave) leave made
 
-pub walk_from_each-loop-path-init : goal.walk_from_each-loop-path-init
-walk_from_each-loop-path-init t c = λ rest leave made. rw (c.new-found.ensures.items, each_none, each_none)
+pub walk_from_each-loop-beginning-init : goal.walk_from_each-loop-beginning-init
+walk_from_each-loop-beginning-init t c = λ rest leave made. rw (c.new-found.ensures.items, each_none, each_none)
 
 pub walk_arms-loop-arm-init : goal.walk_arms-loop-arm-init
 walk_arms-loop-arm-init t c = λ last rest leave made. rw (c.new-found.ensures.items, each_none)
@@ -61,19 +67,19 @@ walk_arms-loop-arm-init t c = λ last rest leave made. rw (c.new-found.ensures.i
 pub walk_stmt-returns-in-Null : goal.walk_stmt-returns-in-Null
 walk_stmt-returns-in-Null t c =
     let is : command c.args.stmt.now ≡ Skip = ap command c.in-Null.is ∙ null_is c.in-Null.field-0 in
-    subst (λ (cmd : Command). IfOk c.one.result (λ found. Arrive c.args.program.now c.args.sub.now cmd c.args.path.steps found.items)) (sym is) (c.one.ensures c.args.program.now c.args.sub.now)
+    subst (λ (cmd : Command). IfOk c.one.result (λ found. Arrive c.args.program.now c.args.sub.now cmd c.args.steps found.items)) (sym is) (c.one.ensures c.args.program.now c.args.sub.now)
 
 pub walk_stmt-returns-in-Assignment : goal.walk_stmt-returns-in-Assignment
 walk_stmt-returns-in-Assignment t c =
     let at = c.in-Assignment in
     let is : command c.args.stmt.now ≡ Set at.target at.value = ap command at.is ∙ assignment_is at.target at.value in
-    subst (λ (cmd : Command). IfOk c.walk_assignment.result (λ found. Arrive c.args.program.now c.args.sub.now cmd c.args.path.steps found.items)) (sym is) (c.walk_assignment.ensures c.args.sub.now)
+    subst (λ (cmd : Command). IfOk c.walk_assignment.result (λ found. Arrive c.args.program.now c.args.sub.now cmd c.args.steps found.items)) (sym is) (c.walk_assignment.ensures c.args.sub.now)
 
-pub walk_stmt-returns-in-Check : goal.walk_stmt-returns-in-Check
-walk_stmt-returns-in-Check t c =
-    let at = c.in-Check in
-    let is : command c.args.stmt.now ≡ Check at.place at.condition = ap command at.is ∙ check_is at.place at.condition in
-    subst (λ (cmd : Command). IfOk c.walk_check.result (λ found. Arrive c.args.program.now c.args.sub.now cmd c.args.path.steps found.items)) (sym is) c.walk_check.ensures
+pub walk_stmt-returns-in-Assertion : goal.walk_stmt-returns-in-Assertion
+walk_stmt-returns-in-Assertion t c =
+    let at = c.in-Assertion in
+    let is : command c.args.stmt.now ≡ Assertion at.kind at.place at.condition = ap command at.is ∙ assertion_is at.kind at.place at.condition in
+    subst (λ (cmd : Command). IfOk c.walk_assertion.result (λ found. Arrive c.args.program.now c.args.sub.now cmd c.args.steps found.items)) (sym is) c.walk_assertion.ensures
 
 pub walk_stmt-returns-in_ok-append-in-None : goal.walk_stmt-returns-in_ok-append-in-None
 walk_stmt-returns-in_ok-append-in-None t c =
@@ -82,7 +88,7 @@ walk_stmt-returns-in_ok-append-in-None t c =
     let other = c.in_ok-one-in-None in
     let is : command c.args.stmt.now ≡ with_arms arms Skip
     = ap command c.in-If.is ∙ ap (λ otherwise. command (stmt.If c.in-If.arms otherwise c.in-If.field-2)) c.in-None.is ∙ if_alone_is c.in-If.arms c.in-If.field-2 ∙ ap (λ (xs : List CoreArm). with_arms xs Skip) (sym c.as_slice.ensures) in
-    subst (λ (cmd : Command). Arrive c.args.program.now c.args.sub.now cmd c.args.path.steps c.append.new.self.items) (sym is)
+    subst (λ (cmd : Command). Arrive c.args.program.now c.args.sub.now cmd c.args.steps c.append.new.self.items) (sym is)
     (if_arrives c.args.program.now c.args.sub.now arms Skip _ _ walked.found.items other.field-0.items _ walked.ensures (other.ensures c.args.program.now c.args.sub.now) c.in_ok-append-in-None.ensures.items)
 
 pub walk_stmt-returns-in_ok-append-in-Some : goal.walk_stmt-returns-in_ok-append-in-Some
@@ -96,7 +102,7 @@ walk_stmt-returns-in_ok-append-in-Some t c =
     ∙ ap (λ otherwise. command (stmt.If c.in-If.arms otherwise c.in-If.field-2)) c.in-Some.is
     ∙ if_else_is c.in-If.arms c.in-Some.stmts c.in-If.field-2
     ∙ ap₂ (λ (xs : List CoreArm) (ys : List CoreStmt). with_arms xs (commands ys)) (sym c.as_slice.ensures) (sym c.as_slice-in-Some.ensures) in
-    subst (λ (cmd : Command). Arrive c.args.program.now c.args.sub.now cmd c.args.path.steps c.append-in-Some.new.self.items) (sym is)
+    subst (λ (cmd : Command). Arrive c.args.program.now c.args.sub.now cmd c.args.steps c.append-in-Some.new.self.items) (sym is)
     (if_arrives c.args.program.now c.args.sub.now arms (commands stmts) _ _ walked.found.items other.field-0.items _ walked.ensures other.ensures c.in_ok-append-in-Some.ensures.items)
 
 pub walk_alternatives-loop-chosen-init : goal.walk_alternatives-loop-chosen-init
@@ -105,9 +111,9 @@ walk_alternatives-loop-chosen-init t c = λ rest leave made. rw (c.new-found.ens
 pub walk_alternatives-loop-chosen-preserved : goal.walk_alternatives-loop-chosen-preserved
 walk_alternatives-loop-chosen-preserved t c =
     let value = c.args.value.now in
-    let steps = c.args.path.now.steps in
+    let steps = c.args.steps.now in
     let chosen = c.chosen-item.result in
-    let taken = c.in_ok-taken.taken.steps in
+    let taken = c.in_ok-taken.taken in
     alternatives_more c.args.program.now c.args.sub.now value c.args.alternatives.now c.loop-chosen.chosen-index chosen c.loop-chosen.earlier _ steps taken c.loop-chosen.found.items c.in_ok-walk_alternative.field-0.items _ c.loop-chosen-test.true c.chosen-item.is c.loop-chosen.invariant
     (subst (λ terms. Walked steps taken (assume_all (alternative_facts value terms (out-CoreAlternative chosen).choices))) c.as_slice.ensures c.in_ok-taken.ensures)
     c.in_ok-walk_alternative.ensures
@@ -116,15 +122,16 @@ walk_alternatives-loop-chosen-preserved t c =
 
 pub walk_case-returns-then-is_empty : goal.walk_case-returns-then-is_empty
 walk_case-returns-then-is_empty t c = λ place.
-    subst (λ (cmd : Command). IfOk c.one.result (λ found. Arrive c.args.program.now c.args.sub.now cmd c.args.path.steps found.items)) (sym (none_is c.args.alternatives.now place c.args.selector.now (sym c.is_empty.ensures ∙ c.if-is_empty.true))) (c.one.ensures c.args.program.now c.args.sub.now)
+    subst (λ (cmd : Command). IfOk c.one.result (λ found. Arrive c.args.program.now c.args.sub.now cmd c.args.steps found.items)) (sym (none_is c.args.alternatives.now place c.args.selector.now (sym c.is_empty.ensures ∙ c.if-is_empty.true))) (c.one.ensures c.args.program.now c.args.sub.now)
 
 pub walk_case-returns : goal.walk_case-returns
 walk_case-returns t c = λ place.
-    case_arrives c.args.program.now c.args.sub.now place c.args.selector.now c.in_ok-value.value c.args.alternatives.now c.args.path.steps _ c.in_ok-found.found.items (sym c.is_empty.ensures ∙ c.if-is_empty.false) c.in_ok-value.ensures c.in_ok-check_expr.ensures c.in_ok-found.ensures
+    case_arrives c.args.program.now c.args.sub.now place c.args.selector.now c.in_ok-value.value c.args.alternatives.now c.args.steps _ c.in_ok-found.found.items (sym c.is_empty.ensures ∙ c.if-is_empty.false) c.in_ok-value.ensures c.in_ok-check_expr.ensures
+    (subst (λ steps. ArriveAlternatives c.args.program.now c.args.sub.now c.in_ok-value.value c.args.alternatives.now steps c.in_ok-found.found.items) c.as_slice.ensures c.in_ok-found.ensures)
 
 pub walk_stmt-returns-in-Case : goal.walk_stmt-returns-in-Case
 walk_stmt-returns-in-Case t c =
     let at = c.in-Case in
     let is : command c.args.stmt.now ≡ select at.field-0 at.selector (map alternative c.as_slice-in-Case.result.now)
     = ap command at.is ∙ case_is at.field-0 at.selector at.alternatives at.field-3 ∙ ap (λ (xs : List CoreAlternative). select at.field-0 at.selector (map alternative xs)) (sym c.as_slice-in-Case.ensures) in
-    subst (λ (cmd : Command). IfOk c.walk_case.result (λ found. Arrive c.args.program.now c.args.sub.now cmd c.args.path.steps found.items)) (sym is) (c.walk_case.ensures at.field-0)
+    subst (λ (cmd : Command). IfOk c.walk_case.result (λ found. Arrive c.args.program.now c.args.sub.now cmd c.args.steps found.items)) (sym is) (c.walk_case.ensures at.field-0)

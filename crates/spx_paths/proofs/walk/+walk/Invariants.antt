@@ -8,13 +8,13 @@ use Rattle.spx_paths.proofs.walk.+walk.Given as goal
 abbrev pub invariant-walk_stmts-loop-stmt : goal.invariant-walk_stmts-loop-stmt
 invariant-walk_stmts-loop-stmt l =
     (rest leave : ℕ → Tree) (made : ℕ)
-    → after l.fn.path.steps (walk l.program l.sub (commands l.stmts) rest leave made) ≡ after_each l.found.items (walk l.program l.sub (commands (drop l.stmt-index l.stmts)) rest leave made)
+    → after l.fn.steps (walk l.program l.sub (commands l.stmts) rest leave made) ≡ after_each l.found.items (walk l.program l.sub (commands (drop l.stmt-index l.stmts)) rest leave made)
 
-abbrev pub invariant-walk_from_each-loop-path : goal.invariant-walk_from_each-loop-path
-invariant-walk_from_each-loop-path l = ArriveEach l.program l.sub (command l.stmt) l.yielded l.found.items
+abbrev pub invariant-walk_from_each-loop-beginning : goal.invariant-walk_from_each-loop-beginning
+invariant-walk_from_each-loop-beginning l = ArriveEach l.program l.sub (command l.stmt) l.yielded l.found.items
 
 abbrev pub invariant-walk_arms-loop-arm : goal.invariant-walk_arms-loop-arm
-invariant-walk_arms-loop-arm l = ArriveBefore l.program l.sub (with_arms l.arms) (with_arms (drop l.arm-index l.arms)) l.initial.path.steps l.path.steps l.found.items
+invariant-walk_arms-loop-arm l = ArriveBefore l.program l.sub (with_arms l.arms) (with_arms (drop l.arm-index l.arms)) l.initial.steps l.steps l.found.items
 
 abbrev pub invariant-walk_alternatives-loop-chosen : goal.invariant-walk_alternatives-loop-chosen
-invariant-walk_alternatives-loop-chosen l = ArriveWhen l.program l.sub l.value l.alternatives l.earlier (drop l.chosen-index l.alternatives) l.path.steps l.found.items
+invariant-walk_alternatives-loop-chosen l = ArriveWhen l.program l.sub l.value l.alternatives l.earlier (drop l.chosen-index l.alternatives) l.steps l.found.items

@@ -1,0 +1,142 @@
+// The paths from the cuts in statements.
+ghost use Rattle.std.specs.Prelude.{map, IfOk};
+ghost use Rattle.spx_text.specs.declared.place.Place.{Place};
+ghost use Rattle.spx_core.specs.declared.statement.CoreAlternative.{out-CoreAlternative};
+ghost use Rattle.spx_core.specs.declared.statement.CoreArm.{out-CoreArm};
+ghost use Rattle.spx_core.specs.Commands.{Assertion, alternative, command, commands, select};
+ghost use Rattle.spx_paths.specs.Prefixes.{BeginAlternatives, BeginArms, BeginIn};
+
+use crate::beginning::Beginning;
+use crate::known::from_cut;
+use crate::walk::walk_from_each;
+use spx_core::{CoreAlternative, CoreArm, CoreExpr, CoreStmt, Program, Sub};
+use spx_tree::AssertionKind;
+use std::alloc::{AllocError, Global};
+
+/// The path from an `assert`. There is none from a `check`.
+fn from_assertion(
+    alloc: Global,
+    program: &Program,
+    sub: &Sub,
+    kind: AssertionKind,
+    condition: &CoreExpr,
+) -> Result<Vec<Beginning>, AllocError>
+    ensures { (place : Place) → IfOk result (λ found. BeginIn program.now sub.now (Assertion kind place condition.now) found.items) }
+{
+    let mut found = Vec::new(alloc);
+    match kind {
+        AssertionKind::Assert => {
+            let steps = from_cut(alloc, program, sub, condition)?;
+            found.push(Beginning::GoesOn(steps))?;
+            Ok(found)
+        }
+        AssertionKind::Check => Ok(found),
+    }
+}
+
+/// The paths from the cuts in statements, as far as the end of the statements.
+#[cycle(cuts)]
+pub(crate) fn paths_from_cuts(
+    alloc: Global,
+    program: &Program,
+    sub: &Sub,
+    stmts: &[CoreStmt],
+) -> Result<Vec<Beginning>, AllocError>
+    ensures { IfOk result (λ found. BeginIn program.now sub.now (commands stmts.now) found.items) }
+{
+    let mut found = Vec::new(alloc);
+    for stmt in stmts {
+        found = walk_from_each(alloc, program, sub, stmt, found)?;
+        found.append(&mut from_stmt(alloc, program, sub, stmt)?)?;
+    }
+    Ok(found)
+}
+
+#[cycle(cuts)]
+fn from_stmt(
+    alloc: Global,
+    program: &Program,
+    sub: &Sub,
+    stmt: &CoreStmt,
+) -> Result<Vec<Beginning>, AllocError>
+    ensures { IfOk result (λ found. BeginIn program.now sub.now (command stmt.now) found.items) }
+{
+    match stmt {
+        CoreStmt::Null(_) => Ok(Vec::new(alloc)),
+        CoreStmt::Assignment(_, _) => Ok(Vec::new(alloc)),
+        CoreStmt::Assertion(kind, _, condition) => {
+            from_assertion(alloc, program, sub, *kind, condition)
+        }
+        CoreStmt::If(arms, otherwise, _) => {
+            let mut found = from_arms(alloc, program, sub, arms.as_slice())?;
+            match otherwise {
+                None => Ok(found),
+                Some(stmts) => {
+                    found.append(&mut paths_from_cuts(alloc, program, sub, stmts.as_slice())?)?;
+                    Ok(found)
+                }
+            }
+        }
+        CoreStmt::Case(_, _, alternatives, _) => {
+            from_alternatives(alloc, program, sub, alternatives.as_slice())
+        }
+    }
+}
+
+/// The paths from the cuts in arms.
+#[cycle(cuts)]
+fn from_arms(
+    alloc: Global,
+    program: &Program,
+    sub: &Sub,
+    arms: &[CoreArm],
+) -> Result<Vec<Beginning>, AllocError>
+    ensures { IfOk result (λ found. BeginArms program.now sub.now arms.now found.items) }
+{
+    let mut found = Vec::new(alloc);
+    for arm in arms {
+        found.append(&mut from_arm(alloc, program, sub, arm)?)?;
+    }
+    Ok(found)
+}
+
+#[cycle(cuts)]
+fn from_arm(
+    alloc: Global,
+    program: &Program,
+    sub: &Sub,
+    arm: &CoreArm,
+) -> Result<Vec<Beginning>, AllocError>
+    ensures { IfOk result (λ found. BeginIn program.now sub.now (commands (out-CoreArm arm.now).body) found.items) }
+{
+    paths_from_cuts(alloc, program, sub, arm.body.as_slice())
+}
+
+/// The paths from the cuts in alternatives.
+#[cycle(cuts)]
+fn from_alternatives(
+    alloc: Global,
+    program: &Program,
+    sub: &Sub,
+    alternatives: &[CoreAlternative],
+) -> Result<Vec<Beginning>, AllocError>
+    ensures { IfOk result (λ found. BeginAlternatives program.now sub.now (map alternative alternatives.now) found.items) }
+{
+    let mut found = Vec::new(alloc);
+    for chosen in alternatives {
+        found.append(&mut from_alternative(alloc, program, sub, chosen)?)?;
+    }
+    Ok(found)
+}
+
+#[cycle(cuts)]
+fn from_alternative(
+    alloc: Global,
+    program: &Program,
+    sub: &Sub,
+    chosen: &CoreAlternative,
+) -> Result<Vec<Beginning>, AllocError>
+    ensures { IfOk result (λ found. BeginIn program.now sub.now (commands (out-CoreAlternative chosen.now).body) found.items) }
+{
+    paths_from_cuts(alloc, program, sub, chosen.body.as_slice())
+}
