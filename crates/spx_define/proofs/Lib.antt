@@ -1,6 +1,5 @@
 mod Elements
 mod WayLaws
 mod FoundLaws
-mod CommandForms
 mod PassLaws
 mod UnsetReads

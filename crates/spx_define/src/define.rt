@@ -154,7 +154,7 @@ fn go_over(
         CoreStmt::Case(_, selector, alternatives, _) => {
             go_over_case(alloc, alternatives.as_slice(), selector, set, found)
         }
-        CoreStmt::Check(_, condition) => add_unset_names(set, condition, found),
+        CoreStmt::Assertion(_, _, condition) => add_unset_names(set, condition, found),
     }
 }
 

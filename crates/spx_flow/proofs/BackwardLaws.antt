@@ -8,7 +8,7 @@ use Rattle.std.proofs.lemmas.List.Elements.{All-push}
 use Rattle.std.proofs.lemmas.Option.{slice_get_within}
 use Rattle.spx_text.specs.declared.place.Place.{Place}
 use Rattle.spx_core.specs.declared.entity.VarId.{VarId}
-use Rattle.spx_core.specs.Effects.{Effect, Read, nothing, assign, next, choose, observe, is_read, sets}
+use Rattle.spx_core.specs.Effects.{Effect, Read, nothing, assign, next, choose, observe, repeat, is_read, sets}
 use Rattle.spx_core.specs.Flow.{MayFlow}
 use Rattle.spx_core.specs.Marks.{Mu, Occurs}
 use Rattle.spx_core.specs.Mirror.VarSets.{place_in_set}
@@ -207,6 +207,11 @@ sets_on : (a b : Effect) (v w : VarId) → sets v a ≡ true → MayFlow b v w �
 sets_on a b v w set flow true is = or_right (sets w a) (sets w b) is
 sets_on a b v w set flow false none = or_left (sets w a) (sets w b) (ap (λ x. sets x a) (sym ((keeps b v w none).0 flow)) ∙ set)
 
+-- so it is within one effect
+still_set : (e : Effect) (v w : VarId) → sets v e ≡ true → MayFlow e v w → (is : Bool) → sets w e ≡ is → sets w e ≡ true
+still_set e v w set flow true is = is
+still_set e v w set flow false none = ap (λ x. sets x e) (sym ((keeps e v w none).0 flow)) ∙ set
+
 -- an occurrence gives its value to a variable that is set
 mu_sets : (e : Effect) (p : Place) (w : VarId) → Mu e p w → sets w e ≡ true
 mu_sets nothing p w h = absurd h
@@ -216,6 +221,9 @@ mu_sets (next a b) p w h =
 mu_sets (choose tests a b place) p w h =
     ⊎_elim (λ tested. tested.1) (λ arms. ⊎_elim (λ one. or_left (sets w a) (sets w b) (mu_sets a p w one)) (λ two. or_right (sets w a) (sets w b) (mu_sets b p w two)) arms) h
 mu_sets (observe values) p w h = absurd h
+mu_sets (repeat tests body place) p w h =
+    let all = repeat tests body place in
+    ⊎_elim (λ tested. tested.1) (λ (q : (v : VarId) × Mu body p v × MayFlow all v w). still_set all q.0 w (mu_sets body p q.0 q.1) q.2 (sets w body) refl) h
 
 -- one statement more is before the others
 pub steps_next : (set : List ℕ) (e d : Effect) (old mid new : Matrix) (start before after : List Occurrence) → Covers set e → StepsBack set d old mid start before → StepsBack set e mid new before after → StepsBack set (next e d) old new start after

@@ -13,7 +13,7 @@ use Rattle.spx_core.specs.declared.expression.CoreExpr.{CoreExpr}
 use Rattle.spx_core.specs.Commands.{Command, Skip, alternative, arm_before, arms_before, command, commands, select}
 use Rattle.spx_core.specs.Effects.{Effect, Read, choose, effect, effects, is_read, nothing, reads, reads_of, sets}
 use Rattle.spx_flow.specs.Positions.{Covers}
-use Rattle.spx_flow.proofs.CommandForms.{command-If-else, command_arm, select_last, select_more}
+use Rattle.spx_core.proofs.Callers.CommandForms.{command-If-else, command_arm, select_last, select_more}
 
 module _ (set : List ℕ) where
   first_covered : (tests : List Read) (a b : Effect) (place : Place) → Covers set (choose tests a b place) → Covers set a

@@ -1,4 +1,3 @@
-mod CommandForms
 mod TargetLaws
 mod CoversLaws
 mod PositionLaws

@@ -11,7 +11,7 @@ use Rattle.spx_core.specs.declared.expression.CoreExpr.{CoreExpr}
 use Rattle.spx_core.specs.Commands.{Command, Skip, alternative, alternatives_of, arm_before, arms_before, command, commands, select}
 use Rattle.spx_core.specs.Effects.{effect, effect_among, effects, reads_of, sets}
 use Rattle.spx_flow.specs.Targets.{alternatives_set, arm_sets, arms_set}
-use Rattle.spx_flow.proofs.CommandForms.{command-Case, command-If, command-If-else, command_arm}
+use Rattle.spx_core.proofs.Callers.CommandForms.{command-Case, command-If, command-If-else, command_arm}
 
 pub or_assoc : (a b c : Bool) → ((a || b) || c) ≡ (a || (b || c))
 or_assoc true b c = refl

@@ -105,7 +105,7 @@ fn before(
             before_case(alloc, vars, alternatives, *place, selector, rho, mu)?;
             Ok(())
         }
-        CoreStmt::Check(_, _) => Ok(()),
+        CoreStmt::Assertion(_, _, _) => Ok(()),
     }
 }
 

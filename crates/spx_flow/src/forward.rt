@@ -99,7 +99,7 @@ fn after(
             after_case(alloc, vars, alternatives, *place, selector, state, lambda)?;
             Ok(())
         }
-        CoreStmt::Check(_, _) => Ok(()),
+        CoreStmt::Assertion(_, _, _) => Ok(()),
     }
 }
 

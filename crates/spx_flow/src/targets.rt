@@ -53,7 +53,7 @@ fn add_targets(stmt: &CoreStmt, found: &mut Targets) -> Result<(), AllocError>
             add_targets_of_alternatives(alternatives.as_slice(), found)?;
             Ok(())
         }
-        CoreStmt::Check(_, _) => Ok(()),
+        CoreStmt::Assertion(_, _, _) => Ok(()),
     }
 }
 

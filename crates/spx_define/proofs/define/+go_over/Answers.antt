@@ -7,7 +7,7 @@ use Rattle.spx_core.specs.Commands.{Choose, Skip, alternative, arm_before, arms_
 use Rattle.spx_core.specs.Uses.{variable_of}
 use Rattle.spx_core.specs.Effects.{effect, effects, reads_of}
 use Rattle.spx_define.specs.Passes.{Passes, PassesBefore}
-use Rattle.spx_define.proofs.CommandForms.{command-Assignment, command-Check, command-If, command-If-else, command_arm, select_last, select_more}
+use Rattle.spx_core.proofs.Callers.CommandForms.{command-Assignment, command-Assertion, command-If, command-If-else, command_arm, select_last, select_more}
 use Rattle.spx_define.proofs.PassLaws.{passes_assign, passes_choose, passes_copied, passes_next, passes_nothing, passes_observe, passes_once}
 use Rattle.spx_define.proofs.Elements.{left_before, left_last, left_of}
 use Rattle.spx_define.proofs.define.+go_over.Goals as goal
@@ -51,15 +51,15 @@ go_over-returns-in_ok-go_over_arms-in-Some t c =
     subst (λ k. Passes (effect k) set new_set found new) (sym (command-If-else c.args.stmt.now here.arms here.otherwise c.in-Some.stmts here.field-2 here.is c.in-Some.is))
     (arms (commands c.in-Some.stmts) found (passes_copied (effects c.in-Some.stmts) set start.ends mid_set found mid start.ensures otherwise))
 
-pub go_over-returns-in-Check : goal.go_over-returns-in-Check
-go_over-returns-in-Check t c =
-    let condition = c.in-Check.condition in
+pub go_over-returns-in-Assertion : goal.go_over-returns-in-Assertion
+go_over-returns-in-Assertion t c =
+    let condition = c.in-Assertion.condition in
     let set = c.args.set.now in
     let old = c.args.found.now.keys in
-    let new = c.add_unset_names-in-Check.new.found.keys in
-    on_ok_weaker c.add_unset_names-in-Check.result
-    (λ finds. subst (λ k. Passes (effect k) set set old new) (sym (ap command c.in-Check.is ∙ command-Check c.in-Check.field-0 condition)) (passes_observe (reads_of condition) set old new finds))
-    c.add_unset_names-in-Check.ensures
+    let new = c.add_unset_names-in-Assertion.new.found.keys in
+    on_ok_weaker c.add_unset_names-in-Assertion.result
+    (λ finds. subst (λ k. Passes (effect k) set set old new) (sym (ap command c.in-Assertion.is ∙ command-Assertion c.in-Assertion.field-0 c.in-Assertion.field-1 condition)) (passes_observe (reads_of condition) set old new finds))
+    c.add_unset_names-in-Assertion.ensures
 
 pub go_over_all-loop-stmt-preserved : goal.go_over_all-loop-stmt-preserved
 go_over_all-loop-stmt-preserved t c set found rest =

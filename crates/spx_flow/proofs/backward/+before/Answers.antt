@@ -11,7 +11,7 @@ use Rattle.spx_core.specs.Mirror.VarSets.{holds}
 use Rattle.spx_flow.specs.Branches.{Arms, Done, Joins}
 use Rattle.spx_flow.specs.Positions.{Covers}
 use Rattle.spx_flow.specs.BackwardSteps.{StepsBack}
-use Rattle.spx_flow.proofs.CommandForms.{command-Null, command-Assignment, command-Case, command-Check, command-If, command-If-else, command_arm, select_last, select_more}
+use Rattle.spx_core.proofs.Callers.CommandForms.{command-Null, command-Assignment, command-Case, command-Assertion, command-If, command-If-else, command_arm, select_last, select_more}
 use Rattle.spx_flow.proofs.CoversLaws.{alternatives_covered, arms_covered, body_covered, if_else_covered}
 use Rattle.spx_flow.proofs.PositionLaws.{covers_one}
 use Rattle.spx_flow.proofs.TargetLaws.{or_nothing}
@@ -45,10 +45,10 @@ before-returns-in-Null t c =
     (subst (λ k. StepsBack c.args.vars.now (effect k) c.args.rho.now c.args.rho.now c.args.mu.now c.args.mu.now) (sym (command-Null c.in-Null.field-0))
     (idle_null c.args.vars.now c.args.rho.now c.args.mu.now c.requires.covers.once c.requires.rows))
 
-pub before-returns-in-Check : goal.before-returns-in-Check
-before-returns-in-Check t c =
-    subst (λ k. StepsBack c.args.vars.now (effect k) c.args.rho.now c.args.rho.now c.args.mu.now c.args.mu.now) (sym (ap command c.in-Check.is ∙ command-Check c.in-Check.field-0 c.in-Check.field-1))
-    (idle_observed c.args.vars.now (reads_of c.in-Check.field-1) c.args.rho.now c.args.mu.now c.requires.covers.once c.requires.rows)
+pub before-returns-in-Assertion : goal.before-returns-in-Assertion
+before-returns-in-Assertion t c =
+    subst (λ k. StepsBack c.args.vars.now (effect k) c.args.rho.now c.args.rho.now c.args.mu.now c.args.mu.now) (sym (ap command c.in-Assertion.is ∙ command-Assertion c.in-Assertion.field-0 c.in-Assertion.field-1 c.in-Assertion.field-2))
+    (idle_observed c.args.vars.now (reads_of c.in-Assertion.field-2) c.args.rho.now c.args.mu.now c.requires.covers.once c.requires.rows)
 
 pub before-before_assignment-requires-clause-covers : goal.before-before_assignment-requires-clause-covers
 before-before_assignment-requires-clause-covers t c =

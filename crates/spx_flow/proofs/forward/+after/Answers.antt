@@ -11,7 +11,7 @@ use Rattle.spx_core.specs.Mirror.VarSets.{holds}
 use Rattle.spx_flow.specs.Branches.{Arms, Done, Joins}
 use Rattle.spx_flow.specs.Positions.{Covers}
 use Rattle.spx_flow.specs.ForwardSteps.{StepsForward}
-use Rattle.spx_flow.proofs.CommandForms.{command-Null, command-Assignment, command-Case, command-Check, command-If, command-If-else, command_arm, select_last, select_more}
+use Rattle.spx_core.proofs.Callers.CommandForms.{command-Null, command-Assignment, command-Case, command-Assertion, command-If, command-If-else, command_arm, select_last, select_more}
 use Rattle.spx_flow.proofs.CoversLaws.{alternatives_covered, arms_covered, body_covered, if_else_covered}
 use Rattle.spx_flow.proofs.PositionLaws.{covers_one}
 use Rattle.spx_flow.proofs.TargetLaws.{or_nothing}
@@ -45,10 +45,10 @@ after-returns-in-Null t c =
     (subst (λ k. StepsForward c.args.vars.now (effect k) c.args.state.now c.args.state.now c.args.lambda.now c.args.lambda.now) (sym (command-Null c.in-Null.field-0))
     (idle_null c.args.vars.now c.args.state.now c.args.lambda.now c.requires.covers.once c.requires.rows))
 
-pub after-returns-in-Check : goal.after-returns-in-Check
-after-returns-in-Check t c =
-    subst (λ k. StepsForward c.args.vars.now (effect k) c.args.state.now c.args.state.now c.args.lambda.now c.args.lambda.now) (sym (ap command c.in-Check.is ∙ command-Check c.in-Check.field-0 c.in-Check.field-1))
-    (idle_observed c.args.vars.now (reads_of c.in-Check.field-1) c.args.state.now c.args.lambda.now c.requires.covers.once c.requires.rows)
+pub after-returns-in-Assertion : goal.after-returns-in-Assertion
+after-returns-in-Assertion t c =
+    subst (λ k. StepsForward c.args.vars.now (effect k) c.args.state.now c.args.state.now c.args.lambda.now c.args.lambda.now) (sym (ap command c.in-Assertion.is ∙ command-Assertion c.in-Assertion.field-0 c.in-Assertion.field-1 c.in-Assertion.field-2))
+    (idle_observed c.args.vars.now (reads_of c.in-Assertion.field-2) c.args.state.now c.args.lambda.now c.requires.covers.once c.requires.rows)
 
 pub after-after_assignment-requires-clause-covers : goal.after-after_assignment-requires-clause-covers
 after-after_assignment-requires-clause-covers t c =
