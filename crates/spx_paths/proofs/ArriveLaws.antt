@@ -161,8 +161,8 @@ paths_are p sub start found more all ended opens arrives begins is ends =
     ∙ ap (λ paths. after_each paths (ending p sub 0)) is
     ∙ each_more found more (ending p sub 0)
     ∙ ap₂ (λ (x y : List (List PathStep)). x ++ y)
-      (sym (arrives (ending p sub) (ending p sub) 0) ∙ sym (opens (walk p sub body (ending p sub) (ending p sub) 0)) ∙ all_paths (start_tree p sub))
-      (sym (begins (ending p sub) (ending p sub)))
+    (sym (arrives (ending p sub) (ending p sub) 0) ∙ sym (opens (walk p sub body (ending p sub) (ending p sub) 0)) ∙ all_paths (start_tree p sub))
+    (sym (begins (ending p sub) (ending p sub)))
 
 -- the subprogram at a position
 pub the_sub : (subs list : List Sub) (i : ℕ) (first sub : Sub) → list ≡ subs → first ≡ get_or list i first → slice_get subs i ≡ Some sub → first ≡ sub

@@ -313,17 +313,3 @@ both_stop count m is = omega arith
 
 pub counts_stop : {counts : Counts} {m n : ℕ} → AreCounts counts m n → Stops counts
 counts_stop are = record { before = both_stop _ _ are.before; from_cuts = both_stop _ _ are.from_cuts }
-
-all_counted : (all count : ℕ) → capped all ≡ capped (count + 0) → count ≡ capped count → count ≡ capped all
-all_counted all count left stops = omega arith
-
--- nothing is left
-pub none_left : {counts : Counts} {first second : ℕ} → IsLeft counts first second 0 0 → Stops counts → AreCounts counts first second
-none_left left stops = record { before = all_counted _ _ left.before stops.before; from_cuts = all_counted _ _ left.from_cuts stops.from_cuts }
-
-last_counted : (all count part new of_part : ℕ) → capped all ≡ capped (count + part) → of_part ≡ capped part → new ≡ capped (count + of_part) → new ≡ capped all
-last_counted all count part new of_part left part_is new_is = omega arith
-
--- the last part was counted
-pub counts_last : {counts part new : Counts} {first second f s : ℕ} → IsLeft counts first second f s → AreCounts part f s → AreCounts new (counts.before + part.before) (counts.from_cuts + part.from_cuts) → AreCounts new first second
-counts_last left part new = record { before = last_counted _ _ _ _ _ left.before part.before new.before; from_cuts = last_counted _ _ _ _ _ left.from_cuts part.from_cuts new.from_cuts }

@@ -38,6 +38,10 @@ pub after_split : (steps : List PathStep) (first second : Tree) → after steps 
 unfolding after
 after_split steps first second = map-append (λ more. steps ++ more) (branches first) (branches second)
 
+pub after_cut : (steps : List PathStep) → after steps Cut ≡ steps ∷ []
+unfolding after
+after_cut steps = ap (λ (path : List PathStep). path ∷ []) (append-nil steps)
+
 pub ruleset step_laws = (after_assume, after_assign, after_prove, after_split)
 
 -- ---- several paths
@@ -55,8 +59,8 @@ unfolding after_beginning
 on_from steps tree = refl
 
 pub all_of : (steps : List PathStep) (tree : Tree) → after_beginning (Ended steps) tree ≡ after steps Cut
-unfolding after_beginning after
-all_of steps tree = ap (λ (path : List PathStep). path ∷ []) (sym (append-nil steps))
+unfolding after_beginning
+all_of steps tree = sym (after_cut steps)
 
 pub each_one : (steps : List PathStep) (tree : Tree) → after_each (GoesOn steps ∷ []) tree ≡ after steps tree
 each_one steps tree = each_single (GoesOn steps) tree ∙ on_from steps tree

@@ -113,12 +113,28 @@ fn walk_assertion(
     let mut steps = steps;
     match kind {
         AssertionKind::Assert => {
-            add_annotation(alloc, program, sub, &mut steps, CondKind::Assert, place, condition)?;
+            add_annotation(
+                alloc,
+                program,
+                sub,
+                &mut steps,
+                CondKind::Assert,
+                place,
+                condition,
+            )?;
             let ended = one_ended(alloc, steps)?;
             Ok(ended)
         }
         AssertionKind::Check => {
-            add_annotation(alloc, program, sub, &mut steps, CondKind::Check, place, condition)?;
+            add_annotation(
+                alloc,
+                program,
+                sub,
+                &mut steps,
+                CondKind::Check,
+                place,
+                condition,
+            )?;
             let found = one(alloc, steps)?;
             Ok(found)
         }
@@ -231,7 +247,9 @@ fn walk_stmt(
     let mut steps = steps;
     match stmt {
         CoreStmt::Null(_) => one(alloc, steps),
-        CoreStmt::Assignment(target, value) => walk_assignment(alloc, program, target, value, steps),
+        CoreStmt::Assignment(target, value) => walk_assignment(
+            alloc, program, target, value, steps,
+        ),
         CoreStmt::Assertion(kind, place, condition) => {
             walk_assertion(alloc, program, sub, *kind, *place, condition, steps)
         }
@@ -249,7 +267,14 @@ fn walk_stmt(
             }
         }
         CoreStmt::Case(_, selector, alternatives, _) => {
-            walk_case(alloc, program, sub, alternatives.as_slice(), selector, steps)
+            walk_case(
+                alloc,
+                program,
+                sub,
+                alternatives.as_slice(),
+                selector,
+                steps,
+            )
         }
     }
 }

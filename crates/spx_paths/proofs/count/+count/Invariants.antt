@@ -12,12 +12,12 @@ abbrev pub invariant-count_arms-loop-arm : goal.invariant-count_arms-loop-arm
 invariant-count_arms-loop-arm l =
     (last : Command) (rest leave : ℕ) → l.after ≡ capped rest
     → IsLeft l.counts (arrivals (arms_before last (map arm_before l.arms)) rest leave) (cut_arrivals (arms_before last (map arm_before l.arms)) rest leave)
-      (arrivals (arms_before last (map arm_before (drop l.arm-index l.arms))) rest leave) (cut_arrivals (arms_before last (map arm_before (drop l.arm-index l.arms))) rest leave)
+    (arrivals (arms_before last (map arm_before (drop l.arm-index l.arms))) rest leave) (cut_arrivals (arms_before last (map arm_before (drop l.arm-index l.arms))) rest leave)
 
 abbrev pub invariant-count_alternatives-loop-chosen : goal.invariant-count_alternatives-loop-chosen
 invariant-count_alternatives-loop-chosen l = record {
   stops : Stops l.counts;
   is_left : (rest leave : ℕ) → l.after ≡ capped rest
-    → IsLeft l.counts (arrivals_in (map alternative l.alternatives) rest leave) (cut_arrivals_in (map alternative l.alternatives) rest leave)
+      → IsLeft l.counts (arrivals_in (map alternative l.alternatives) rest leave) (cut_arrivals_in (map alternative l.alternatives) rest leave)
       (arrivals_in (map alternative (drop l.chosen-index l.alternatives)) rest leave) (cut_arrivals_in (map alternative (drop l.chosen-index l.alternatives)) rest leave);
 }

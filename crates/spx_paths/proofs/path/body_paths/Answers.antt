@@ -13,6 +13,6 @@ returns-clause-exact c =
     let ended = c.in_ok-ended.ended.items in
     ap (map steps_of) c.from_vec.ensures
     ∙ paths_are c.args.program.now c.args.sub.now start found more _ ended c.in_ok-start.ensures
-      (subst (λ (stmts : List CoreStmt). Arrive c.args.program.now c.args.sub.now (commands stmts) start found) c.as_slice-stmts.ensures c.in_ok-found.ensures)
-      (subst (λ (stmts : List CoreStmt). BeginIn c.args.program.now c.args.sub.now (commands stmts) more) c.as_slice-stmts.ensures c.in_ok-paths_from_cuts.ensures)
-      c.in_ok-append.ensures.items c.in_ok-ended.ensures
+    (subst (λ (stmts : List CoreStmt). Arrive c.args.program.now c.args.sub.now (commands stmts) start found) c.as_slice-stmts.ensures c.in_ok-found.ensures)
+    (subst (λ (stmts : List CoreStmt). BeginIn c.args.program.now c.args.sub.now (commands stmts) more) c.as_slice-stmts.ensures c.in_ok-paths_from_cuts.ensures)
+    c.in_ok-append.ensures.items c.in_ok-ended.ensures
