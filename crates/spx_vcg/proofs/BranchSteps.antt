@@ -4,13 +4,14 @@ use Rattle.std.proofs.lemmas.List.{at_drop_all}
 use Rattle.std.proofs.Math.ListN.{get_or-append}
 use Rattle.std.proofs.Math.Seq.{take-append_seam}
 use Rattle.spx_text.specs.declared.place.Place.{Place}
+use Rattle.spx_tree.specs.declared.statement.AssertionKind.TheVariants.{Assert, Check}
 use Rattle.spx_core.specs.declared.expression.CoreExpr.{CoreExpr}
 use Rattle.spx_core.specs.declared.name.Reference.{Reference}
 use Rattle.spx_core.specs.declared.program.Program.{Program}
 use Rattle.spx_core.specs.declared.statement.CoreArm.{CoreArm}
 use Rattle.spx_core.specs.declared.statement.CoreStmt.{CoreStmt}
 use Rattle.spx_core.specs.declared.subprogram.Sub.{Sub}
-use Rattle.spx_core.specs.Commands.{Command, Skip, Set, Then, Choose, Check, arm_before, arms_before, command, commands}
+use Rattle.spx_core.specs.Commands.{Command, Skip, Set, Then, Choose, Assertion, arm_before, arms_before, command, commands}
 use Rattle.spx_term.specs.declared.term.Term.{Term}
 use Rattle.spx_term.specs.declared.term.Term.TheVariants.{Prefix}
 use Rattle.spx_term.specs.declared.term.TermPrefix.TheVariants.{Not}
@@ -179,10 +180,16 @@ module _ {p : Program} {sub : Sub} {a b : Walk} (start following : Command) (stm
       let here = at_statement (Set target value) e in
       record { whole = passes.whole; adds = adds_twice here.adds passes.adds; same = λ made. here.same made ∙ passes.goes.same (walk p sub (Then next following) (ending p sub) (ending p sub) made) }
 
-  pub after_check : {c : Walk} (place : Place) (condition : CoreExpr) → command stmt ≡ Check place condition → Passes p sub b c (Check place condition) → Comes p sub a c start (Then next following)
+  pub after_check : {c : Walk} (place : Place) (condition : CoreExpr) → command stmt ≡ Assertion Check place condition → Passes p sub b c (Assertion Check place condition) → Comes p sub a c start (Then next following)
   after_check {c} place condition e passes =
-      let here = at_statement (Check place condition) e in
+      let here = at_statement (Assertion Check place condition) e in
       record { whole = passes.whole; adds = adds_twice here.adds passes.adds; same = λ made. here.same made ∙ passes.goes.same (walk p sub (Then next following) (ending p sub) (ending p sub) made) }
+
+  -- at an `assert` the path ends
+  pub after_assert : {c : Walk} (place : Place) (condition : CoreExpr) → command stmt ≡ Assertion Assert place condition → Ends p sub b c (Assertion Assert place condition) → Ends p sub a c start
+  after_assert {c} place condition e ends =
+      let here = at_statement (Assertion Assert place condition) e in
+      record { whole = ends.whole; adds = adds_twice here.adds ends.adds; same = λ made. here.same made ∙ ends.same made }
 
   pub after_branch : {c : Walk} (d then : Command) → command stmt ≡ d → then ≡ Then next following → Ends p sub b c (Then d then) → Ends p sub a c start
   after_branch {c} d then e f ends =

@@ -109,7 +109,7 @@ module _ {p : Program} {lefts : List TermId} {w : Walk} {e : CoreExpr} (whole : 
   eval_static {x} {id} s is m = record {
     makes = λ ls ml. record {
       walks = walks_along (static_free p (now_term p) ls e s (sym is)) m.walks;
-      means = subst (Means x id) (sym (static_is p (now_term p) e s (sym is))) m.means;
+      means = subst (Means x id) (sym (static_is (now_term p) (now_term p) e s (sym is))) m.means;
     };
   }
 
@@ -120,7 +120,7 @@ module _ {p : Program} {lefts : List TermId} {w : Walk} {e : CoreExpr} (whole : 
   eval_parenthesized {x} {id} place a is v = record {
     makes = λ ls ml.
         let m = v.makes ls ml in
-        record { walks = walks_along (parenthesized_checks p (now_term p) e ls place a is) m.walks; means = subst (Means x id) (sym (parenthesized_term p (now_term p) e place a is)) m.means };
+        record { walks = walks_along (parenthesized_checks p (now_term p) e ls place a is) m.walks; means = subst (Means x id) (sym (parenthesized_term (now_term p) (now_term p) e place a is)) m.means };
   }
 
   module _ (none : None ≡ literal e) (are : AreIds (length w.terms) lefts) where
@@ -131,7 +131,7 @@ module _ {p : Program} {lefts : List TermId} {w : Walk} {e : CoreExpr} (whole : 
       makes = λ ls ml.
           let first = v.makes ls ml in
           let t = term_of p (now_term p) e in
-          let same = prefix_term p (now_term p) e none o place a is in
+          let same = prefix_term (now_term p) (now_term p) e none o place a is in
           let second = signed (term_of p (now_term p) a) first.means in
           let here : Means y id t = subst (Means y id) (sym same) second.means in
           let lefts_here = all_kept whole (keeps_twice kx ky) are ml in
@@ -155,7 +155,7 @@ module _ {p : Program} {lefts : List TermId} {w : Walk} {e : CoreExpr} (whole : 
           (subst (λ (q : Place). Means y id (moved_term (shift_in mapping) ta) → Walks y z (mapping_check ls mapping q ta)) at_is (check ls ta (all_kept whole (keeps_twice kx ky) are ml))) second.means in
           record {
             walks = walks_along (applied_checks p (now_term p) e ls none function place a is) (walks_twice first.walks (walks_twice second.walks third));
-            means = means_kept ky.whole kz wid (subst (Means y id) (sym (applied_term p (now_term p) e none function place a is)) second.means);
+            means = means_kept ky.whole kz wid (subst (Means y id) (sym (applied_term (now_term p) (now_term p) e none function place a is)) second.means);
           };
     }
 
@@ -175,7 +175,7 @@ module _ {p : Program} {lefts : List TermId} {w : Walk} {e : CoreExpr} (whole : 
           let second = v2.makes (right_lefts o ls ta) guards_g in
           let xy = keeps_twice kg ky in
           let third = made ta tb (means_kept kx.whole xy wi first.means) second.means in
-          let here : Means z id t = subst (Means z id) (sym (infix_term p (now_term p) e none o place a b is)) third.means in
+          let here : Means z id t = subst (Means z id) (sym (infix_term (now_term p) (now_term p) e none o place a b is)) third.means in
           let lefts_z = all_kept whole (keeps_twice kx (keeps_twice xy kz)) are ml in
           let fourth = subst (λ (r : BaseType). Walks z u (operation_check ls o r place (place_of b) tb t)) base_is (subst (λ (q : Place). Walks z u (operation_check ls o base place q tb t)) at_is (check ls tb t lefts_z (means_kept ky.whole kz wj second.means) here)) in
           record {
@@ -193,7 +193,7 @@ module _ {p : Program} {lefts : List TermId} {w : Walk} {e : CoreExpr} (whole : 
           let last = made (term_of p (now_term p) a) (Number subtype.first) (Number subtype.last) (means_kept kx.whole (keeps_twice ky kz) wi first.means) (means_kept ky.whole kz wj low.means) high.means in
           record {
             walks = walks_along (in_type_checks p (now_term p) e ls none o place a name is) (walks_twice first.walks (walks_twice low.walks (walks_twice high.walks last.walks)));
-            means = subst (Means u id) ((λ n. member_term o (term_of p (now_term p) a) (Number (sub n).first) (Number (sub n).last)) ∙ sym (in_type_term p (now_term p) e none o place a name is)) last.means;
+            means = subst (Means u id) ((λ n. member_term o (term_of p (now_term p) a) (Number (sub n).first) (Number (sub n).last)) ∙ sym (in_type_term (now_term p) (now_term p) e none o place a name is)) last.means;
           };
     }
 
@@ -208,6 +208,6 @@ module _ {p : Program} {lefts : List TermId} {w : Walk} {e : CoreExpr} (whole : 
           let last = made (term_of p (now_term p) a) (term_of p (now_term p) low) (term_of p (now_term p) high) (means_kept kx.whole (keeps_twice ky kz) wi first.means) (means_kept ky.whole kz wj second.means) third.means in
           record {
             walks = walks_along (in_range_checks p (now_term p) e ls none o place a low high is) (walks_twice first.walks (walks_twice second.walks (walks_twice third.walks last.walks)));
-            means = subst (Means u id) (sym (in_range_term p (now_term p) e none o place a low high is)) last.means;
+            means = subst (Means u id) (sym (in_range_term (now_term p) (now_term p) e none o place a low high is)) last.means;
           };
     }

@@ -29,7 +29,7 @@ use Rattle.spx_term.specs.Folding.{term_of as static_term}
 use Rattle.spx_term.specs.Steps.{Tree}
 use Rattle.spx_meaning.specs.Evaluation.{term_op}
 use Rattle.spx_meaning.specs.Literals.{base_of, literal, literal_in}
-use Rattle.spx_paths.specs.Terms.{first_term, last_term, literal_or, mapped_term, member_term, moved_term, named, now_term, signed_term, term_of, term_with-Applied, term_with-Attribute, term_with-Entry, term_with-InRange, term_with-InType, term_with-Infix, term_with-Name, term_with-Number, term_with-Parenthesized, term_with-Prefix}
+use Rattle.spx_paths.specs.Terms.{first_term, last_term, literal_or, mapped_term, member_term, moved_term, named, signed_term, term_of, term_with, term_with-Applied, term_with-Attribute, term_with-Entry, term_with-InRange, term_with-InType, term_with-Infix, term_with-Name, term_with-Number, term_with-Parenthesized, term_with-Prefix}
 use Rattle.spx_paths.specs.Checks.{checks, checks-Applied, checks-Attribute, checks-Entry, checks-InRange, checks-InType, checks-Infix, checks-Name, checks-Number, checks-Parenthesized, checks-Prefix, mapping_check, operation_check, right_lefts, sign_check, unless_static}
 use Rattle.spx_vcg.specs.Functions.{shift_in}
 use Rattle.spx_vcg.proofs.CheckLaws.{literal-Parenthesized, static_unchecked}
@@ -58,18 +58,18 @@ of_entry : (name : CoreName) (allowed : Bool) (s : Value) (t : Term) → literal
 of_entry name allowed s t e = let is : None ≡ Some s = sym (entry_literal name allowed) ∙ e in absurd (cc)
 
 -- a static expression has its value for its term
-pub static_is : (p : Program) (entries : VarId → Term) (e : CoreExpr) (s : Value) → literal e ≡ Some s → term_of p entries e ≡ static_term s
-static_is p entries = induct (λ e. (s : Value) → literal e ≡ Some s → term_of p entries e ≡ static_term s) (record {
-  number = λ n place s is. term_with-Number (now_term p) entries n place ∙ sym (static_number n) ∙ ap static_term (sym (of_number n place s is));
-  name = λ name s is. term_with-Name (now_term p) entries name ∙ or_static _ s _ is;
+pub static_is : (present entries : VarId → Term) (e : CoreExpr) (s : Value) → literal e ≡ Some s → term_with present entries e ≡ static_term s
+static_is present entries = induct (λ e. (s : Value) → literal e ≡ Some s → term_with present entries e ≡ static_term s) (record {
+  number = λ n place s is. term_with-Number present entries n place ∙ sym (static_number n) ∙ ap static_term (sym (of_number n place s is));
+  name = λ name s is. term_with-Name present entries name ∙ or_static _ s _ is;
   entry = λ name allowed s is. of_entry name allowed s _ is;
-  attribute = λ prefix designator s is. term_with-Attribute (now_term p) entries prefix designator ∙ or_static _ s _ is;
-  applied = λ function place a more s is. term_with-Applied (now_term p) entries function place a ∙ or_static _ s _ is;
-  parenthesized = λ place a more s is. term_with-Parenthesized (now_term p) entries place a ∙ more s (sym (literal-Parenthesized place a) ∙ is);
-  prefix = λ op place a more s is. term_with-Prefix (now_term p) entries op place a ∙ or_static _ s _ is;
-  «infix» = λ op place a b first second s is. term_with-Infix (now_term p) entries op place a b ∙ or_static _ s _ is;
-  in_type = λ op place a name more s is. term_with-InType (now_term p) entries op place a name ∙ or_static _ s _ is;
-  in_range = λ op place a low high first second third s is. term_with-InRange (now_term p) entries op place a low high ∙ or_static _ s _ is;
+  attribute = λ prefix designator s is. term_with-Attribute present entries prefix designator ∙ or_static _ s _ is;
+  applied = λ function place a more s is. term_with-Applied present entries function place a ∙ or_static _ s _ is;
+  parenthesized = λ place a more s is. term_with-Parenthesized present entries place a ∙ more s (sym (literal-Parenthesized place a) ∙ is);
+  prefix = λ op place a more s is. term_with-Prefix present entries op place a ∙ or_static _ s _ is;
+  «infix» = λ op place a b first second s is. term_with-Infix present entries op place a b ∙ or_static _ s _ is;
+  in_type = λ op place a name more s is. term_with-InType present entries op place a name ∙ or_static _ s _ is;
+  in_range = λ op place a low high first second third s is. term_with-InRange present entries op place a low high ∙ or_static _ s _ is;
 })
 
 -- and no checks
@@ -82,45 +82,49 @@ mapped_is (Ok mapping) t = refl
 mapped_is (Err breach) t = refl
 
 -- ---- where no value is static
-module _ (p : Program) (entries : VarId → Term) (e : CoreExpr) where
+module _ (present entries : VarId → Term) (e : CoreExpr) where
   abbrev meant : CoreExpr → Term
-  meant = term_of p entries
+  meant = term_with present entries
 
   pub number_term : (n : ℤ) (place : Place) → e ≡ expr.Number n place → meant e ≡ Number n
-  number_term n place is = ap meant is ∙ term_with-Number (now_term p) entries n place
+  number_term n place is = ap meant is ∙ term_with-Number present entries n place
 
   pub entry_term : (name : CoreName) (allowed : Bool) → e ≡ expr.Entry name allowed → meant e ≡ named entries (variable_of name.entity)
-  entry_term name allowed is = ap meant is ∙ term_with-Entry (now_term p) entries name allowed
+  entry_term name allowed is = ap meant is ∙ term_with-Entry present entries name allowed
 
   pub parenthesized_term : (place : Place) (a : CoreExpr) → e ≡ expr.Parenthesized place a → meant e ≡ meant a
-  parenthesized_term place a is = ap meant is ∙ term_with-Parenthesized (now_term p) entries place a
+  parenthesized_term place a is = ap meant is ∙ term_with-Parenthesized present entries place a
 
   module _ (none : None ≡ literal e) where
     or_else : (d : CoreExpr) (t : Term) → e ≡ d → literal_or (literal d) t ≡ t
     or_else d t is = ap (λ o. literal_or o t) (sym (none ∙ ap literal is))
 
-    pub name_term : (name : CoreName) → e ≡ expr.Name name → meant e ≡ named (now_term p) (variable_of name.entity)
-    name_term name is = ap meant is ∙ term_with-Name (now_term p) entries name ∙ or_else (expr.Name name) _ is
+    pub name_term : (name : CoreName) → e ≡ expr.Name name → meant e ≡ named present (variable_of name.entity)
+    name_term name is = ap meant is ∙ term_with-Name present entries name ∙ or_else (expr.Name name) _ is
 
     pub attribute_term : (prefix : CoreName) (designator : Identifier) → e ≡ expr.Attribute prefix designator → meant e ≡ Number (pos 0)
-    attribute_term prefix designator is = ap meant is ∙ term_with-Attribute (now_term p) entries prefix designator ∙ or_else (expr.Attribute prefix designator) _ is
+    attribute_term prefix designator is = ap meant is ∙ term_with-Attribute present entries prefix designator ∙ or_else (expr.Attribute prefix designator) _ is
 
     pub applied_term : (function : CoreFunction) (place : Place) (a : CoreExpr) → e ≡ expr.Applied function place a → meant e ≡ moved_term (shift_in (application function)) (meant a)
-    applied_term function place a is = ap meant is ∙ term_with-Applied (now_term p) entries function place a ∙ or_else (expr.Applied function place a) _ is ∙ mapped_is (application function) (meant a)
+    applied_term function place a is = ap meant is ∙ term_with-Applied present entries function place a ∙ or_else (expr.Applied function place a) _ is ∙ mapped_is (application function) (meant a)
 
     pub prefix_term : (op : PrefixOp) (place : Place) (a : CoreExpr) → e ≡ expr.Prefix op place a → meant e ≡ signed_term op (meant a)
-    prefix_term op place a is = ap meant is ∙ term_with-Prefix (now_term p) entries op place a ∙ or_else (expr.Prefix op place a) _ is
+    prefix_term op place a is = ap meant is ∙ term_with-Prefix present entries op place a ∙ or_else (expr.Prefix op place a) _ is
 
     pub infix_term : (op : InfixOp) (place : Place) (a b : CoreExpr) → e ≡ expr.Infix op place a b → meant e ≡ Infix (term_op op) (meant a) (meant b)
-    infix_term op place a b is = ap meant is ∙ term_with-Infix (now_term p) entries op place a b ∙ or_else (expr.Infix op place a b) _ is
+    infix_term op place a b is = ap meant is ∙ term_with-Infix present entries op place a b ∙ or_else (expr.Infix op place a b) _ is
 
     pub in_type_term : (op : MemberOp) (place : Place) (a : CoreExpr) (name : Reference) → e ≡ expr.InType op place a name → meant e ≡ member_term op (meant a) (first_term name) (last_term name)
-    in_type_term op place a name is = ap meant is ∙ term_with-InType (now_term p) entries op place a name ∙ or_else (expr.InType op place a name) _ is
+    in_type_term op place a name is = ap meant is ∙ term_with-InType present entries op place a name ∙ or_else (expr.InType op place a name) _ is
 
     pub in_range_term : (op : MemberOp) (place : Place) (a low high : CoreExpr) → e ≡ expr.InRange op place a low high → meant e ≡ member_term op (meant a) (meant low) (meant high)
-    in_range_term op place a low high is = ap meant is ∙ term_with-InRange (now_term p) entries op place a low high ∙ or_else (expr.InRange op place a low high) _ is
+    in_range_term op place a low high is = ap meant is ∙ term_with-InRange present entries op place a low high ∙ or_else (expr.InRange op place a low high) _ is
 
-  -- ---- checks
+-- ---- checks
+module _ (p : Program) (entries : VarId → Term) (e : CoreExpr) where
+  abbrev term : CoreExpr → Term
+  term = term_of p entries
+
   module _ (lefts : List Term) where
     abbrev asked : CoreExpr → Tree → Tree
     asked = checks p entries lefts
@@ -144,19 +148,19 @@ module _ (p : Program) (entries : VarId → Term) (e : CoreExpr) where
       unless : (d : CoreExpr) (rest more : Tree) → e ≡ d → unless_static (literal d) rest more ≡ more
       unless d rest more is = ap (λ o. unless_static o rest more) (sym (none ∙ ap literal is))
 
-      pub applied_checks : (function : CoreFunction) (place : Place) (a : CoreExpr) → e ≡ expr.Applied function place a → (rest : Tree) → asked e rest ≡ asked a (mapping_check lefts (application function) (place_of a) (meant a) rest)
+      pub applied_checks : (function : CoreFunction) (place : Place) (a : CoreExpr) → e ≡ expr.Applied function place a → (rest : Tree) → asked e rest ≡ asked a (mapping_check lefts (application function) (place_of a) (term a) rest)
       applied_checks function place a is rest = ap (λ d. asked d rest) is ∙ checks-Applied p entries lefts function place a rest ∙ unless (expr.Applied function place a) rest _ is
 
-      pub prefix_checks : (op : PrefixOp) (place : Place) (a : CoreExpr) → e ≡ expr.Prefix op place a → (rest : Tree) → asked e rest ≡ asked a (sign_check lefts op (base_of e) place (meant e) rest)
+      pub prefix_checks : (op : PrefixOp) (place : Place) (a : CoreExpr) → e ≡ expr.Prefix op place a → (rest : Tree) → asked e rest ≡ asked a (sign_check lefts op (base_of e) place (term e) rest)
       prefix_checks op place a is rest =
           ap (λ d. asked d rest) is ∙ checks-Prefix p entries lefts op place a rest ∙ unless (expr.Prefix op place a) rest _ is
-          ∙ ap (λ d. asked a (sign_check lefts op (base_of d) place (meant d) rest)) (sym is)
+          ∙ ap (λ d. asked a (sign_check lefts op (base_of d) place (term d) rest)) (sym is)
 
       pub infix_checks : (op : InfixOp) (place : Place) (a b : CoreExpr) → e ≡ expr.Infix op place a b → (rest : Tree)
-          → asked e rest ≡ asked a (checks p entries (right_lefts op lefts (meant a)) b (operation_check lefts op (base_of e) place (place_of b) (meant b) (meant e) rest))
+          → asked e rest ≡ asked a (checks p entries (right_lefts op lefts (term a)) b (operation_check lefts op (base_of e) place (place_of b) (term b) (term e) rest))
       infix_checks op place a b is rest =
           ap (λ d. asked d rest) is ∙ checks-Infix p entries lefts op place a b rest ∙ unless (expr.Infix op place a b) rest _ is
-          ∙ ap (λ d. asked a (checks p entries (right_lefts op lefts (meant a)) b (operation_check lefts op (base_of d) place (place_of b) (meant b) (meant d) rest))) (sym is)
+          ∙ ap (λ d. asked a (checks p entries (right_lefts op lefts (term a)) b (operation_check lefts op (base_of d) place (place_of b) (term b) (term d) rest))) (sym is)
 
       pub in_type_checks : (op : MemberOp) (place : Place) (a : CoreExpr) (name : Reference) → e ≡ expr.InType op place a name → (rest : Tree) → asked e rest ≡ asked a rest
       in_type_checks op place a name is rest = ap (λ d. asked d rest) is ∙ checks-InType p entries lefts op place a name rest ∙ unless (expr.InType op place a name) rest _ is

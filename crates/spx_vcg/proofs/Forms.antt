@@ -2,6 +2,7 @@
 use Rattle.std.proofs.Common.{◌≡◌, List, map, Option, Some, None, refl, sym, ap, ◌∙◌}
 use denote.Bor.{Bor}
 use Rattle.spx_text.specs.declared.place.Place.{Place}
+use Rattle.spx_tree.specs.declared.statement.AssertionKind.{AssertionKind}
 use Rattle.spx_tree.specs.declared.statement.Closing.{Closing}
 use Rattle.spx_core.specs.declared.expression.CoreExpr.{CoreExpr}
 use Rattle.spx_core.specs.declared.name.Reference.{Reference}
@@ -9,8 +10,8 @@ use Rattle.spx_core.specs.declared.statement.CoreAlternative.{CoreAlternative, o
 use Rattle.spx_core.specs.declared.statement.CoreArm.{CoreArm, out-CoreArm, fold_out-CoreArm}
 use Rattle.spx_core.specs.declared.statement.CoreChoice.{CoreChoice}
 use Rattle.spx_core.specs.declared.statement.CoreStmt.{CoreStmt, CoreStmt-F, out-CoreStmt, map-CoreStmt, fold_out-CoreStmt}
-use Rattle.spx_core.specs.declared.statement.CoreStmt.TheVariants.{Null, Assignment, If, Case, Check as CheckStmt, outs-Null, outs-Assignment, outs-If, outs-Case, outs-Check}
-use Rattle.spx_core.specs.Commands.{Command, Skip, Set, Then, Choose, Check, alternative, alternative_step, arm_before, arm_step, arms_before, command, commands, select, stmt_step}
+use Rattle.spx_core.specs.declared.statement.CoreStmt.TheVariants.{Null, Assignment, If, Case, Assertion as AssertionStmt, outs-Null, outs-Assignment, outs-If, outs-Case, outs-Assertion}
+use Rattle.spx_core.specs.Commands.{Command, Skip, Set, Then, Choose, Assertion, alternative, alternative_step, arm_before, arm_step, arms_before, command, commands, select, stmt_step}
 use Rattle.spx_vcg.specs.declared.branches.Rest.{Rest, Rest-F, out-Rest, map-Rest, fold-Rest, fold_out-Rest}
 use Rattle.spx_vcg.specs.declared.branches.Rest.TheVariants.{End, After, outs-End, outs-After}
 use Rattle.spx_vcg.specs.Following.{after, after_step, done_otherwise}
@@ -29,8 +30,8 @@ null_is s place is = at_layer s (CoreStmt-F.Null place) (ap out-CoreStmt is ∙ 
 pub assignment_is : (s : CoreStmt) (target : Reference) (value : CoreExpr) → s ≡ Assignment target value → command s ≡ Set target value
 assignment_is s target value is = at_layer s (CoreStmt-F.Assignment target value) (ap out-CoreStmt is ∙ outs-Assignment target value)
 
-pub check_is : (s : CoreStmt) (place : Place) (condition : CoreExpr) → s ≡ CheckStmt place condition → command s ≡ Check place condition
-check_is s place condition is = at_layer s (CoreStmt-F.Check place condition) (ap out-CoreStmt is ∙ outs-Check place condition)
+pub assertion_is : (s : CoreStmt) (kind : AssertionKind) (place : Place) (condition : CoreExpr) {same : AssertionKind} → s ≡ AssertionStmt kind place condition → kind ≡ same → command s ≡ Assertion same place condition
+assertion_is s kind place condition is e = at_layer s (CoreStmt-F.Assertion kind place condition) (ap out-CoreStmt is ∙ outs-Assertion kind place condition) ∙ ap (λ k. Assertion k place condition) e
 
 if_at : (s : CoreStmt) (arms : List CoreArm) (otherwise : Option (List CoreStmt)) (closing : Closing) → s ≡ If arms otherwise closing
     → command s ≡ arms_before (commands (done_otherwise otherwise)) (map arm_before arms)

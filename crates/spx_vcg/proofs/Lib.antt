@@ -19,4 +19,5 @@ pub mod Sizes
 pub mod Subs
 pub mod BranchSteps
 pub mod Remaining
+pub mod CutSteps
 pub mod Forms

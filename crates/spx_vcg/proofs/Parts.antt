@@ -17,7 +17,6 @@ use Rattle.spx_core.specs.declared.expression.CoreExpr.TheVariants as expr
 use Rattle.spx_core.specs.declared.function.CoreFunction.{CoreFunction}
 use Rattle.spx_core.specs.declared.function.Shift.{Shift}
 use Rattle.spx_core.specs.declared.function.Shift.TheVariants as shift
-use Rattle.spx_core.specs.declared.program.Program.{Program}
 use Rattle.spx_core.specs.Judged.{application}
 use Rattle.spx_core.specs.Uses.{variable_of}
 use Rattle.spx_term.specs.declared.term.Name.{Name}
@@ -31,7 +30,7 @@ use Rattle.spx_term.specs.Conjuncts.{conjuncts, conjuncts-Infix, conjuncts-Numbe
 use Rattle.spx_term.specs.Folding.{term_of as static_term}
 use Rattle.spx_meaning.specs.Evaluation.{term_op}
 use Rattle.spx_meaning.specs.Literals.{literal}
-use Rattle.spx_paths.specs.Terms.{between, first_term, last_term, member_term, moved_term, named, now, signed_term, term_of}
+use Rattle.spx_paths.specs.Terms.{between, first_term, last_term, member_term, moved_term, named, signed_term, term_with}
 use Rattle.spx_vcg.specs.ConditionWalk.{State, applied}
 use Rattle.spx_vcg.specs.Functions.{shift_in}
 use Rattle.spx_vcg.specs.PathWalk.{HasParts}
@@ -86,9 +85,9 @@ one_operation op.Equivalent a b f g = conjuncts-Infix operator.Equivalent a b
 along : {t u : Term} → t ≡ u → IsOne u → IsOne t
 along e one = ap conjuncts e ∙ one ∙ ap (λ x. x ∷ []) (sym e)
 
-static_one : (p : Program) (entries : VarId → Term) (e : CoreExpr) (o : Option Value) → literal e ≡ o → is_some o ≡ true → IsOne (term_of p entries e)
-static_one p entries e (Some s) is some = along (static_is p entries e s is) (one_value s)
-static_one p entries e None is some = absurd (cc)
+static_one : (present entries : VarId → Term) (e : CoreExpr) (o : Option Value) → literal e ≡ o → is_some o ≡ true → IsOne (term_with present entries e)
+static_one present entries e (Some s) is some = along (static_is present entries e s is) (one_value s)
+static_one present entries e None is some = absurd (cc)
 
 pub none_static : (o : Option Value) → is_some o ≡ false → None ≡ o
 none_static None h = refl
@@ -122,46 +121,46 @@ is_and o (inl e) = ap term_op e
 is_and o (inr e) = ap term_op e
 
 -- ---- of conditions
-module _ (p : Program) (entries : VarId → Term) (e : CoreExpr) where
+module _ (present entries : VarId → Term) (e : CoreExpr) where
   abbrev meant : CoreExpr → Term
-  meant = term_of p entries
+  meant = term_with present entries
 
   pub static_part : is_some (literal e) ≡ true → IsOne (meant e)
-  static_part some = static_one p entries e (literal e) refl some
+  static_part some = static_one present entries e (literal e) refl some
 
   pub entry_part : (at : VarId → Name) (name : CoreName) (allowed : Bool) → e ≡ expr.Entry name allowed → entries ≡ (λ v. Variable (at v)) → IsOne (meant e)
-  entry_part at name allowed is names = along (entry_term p entries e name allowed is ∙ ap (λ (f : VarId → Term). named f (variable_of name.entity)) names) (one_named at (variable_of name.entity))
+  entry_part at name allowed is names = along (entry_term present entries e name allowed is ∙ ap (λ (f : VarId → Term). named f (variable_of name.entity)) names) (one_named at (variable_of name.entity))
 
   pub parenthesized_parts : (place : Place) (a : CoreExpr) → e ≡ expr.Parenthesized place a → conjuncts (meant e) ≡ conjuncts (meant a)
-  parenthesized_parts place a is = ap conjuncts (parenthesized_term p entries e place a is)
+  parenthesized_parts place a is = ap conjuncts (parenthesized_term present entries e place a is)
 
   module _ (none : None ≡ literal e) where
-    pub name_part : (name : CoreName) → e ≡ expr.Name name → IsOne (meant e)
-    name_part name is = along (name_term p entries e none name is) (one_named (now p) (variable_of name.entity))
+    pub name_part : (at : VarId → Name) (name : CoreName) → e ≡ expr.Name name → present ≡ (λ v. Variable (at v)) → IsOne (meant e)
+    name_part at name is names = along (name_term present entries e none name is ∙ ap (λ (f : VarId → Term). named f (variable_of name.entity)) names) (one_named at (variable_of name.entity))
 
     pub attribute_part : (prefix : CoreName) (designator : Identifier) → e ≡ expr.Attribute prefix designator → IsOne (meant e)
-    attribute_part prefix designator is = along (attribute_term p entries e none prefix designator is) (conjuncts-Number (pos 0))
+    attribute_part prefix designator is = along (attribute_term present entries e none prefix designator is) (conjuncts-Number (pos 0))
 
     pub same_parts : {h : Shift} (function : CoreFunction) (place : Place) (a : CoreExpr) → e ≡ expr.Applied function place a → h ≡ shift_in (application function) → h ≡ shift.Same → conjuncts (meant e) ≡ conjuncts (meant a)
-    same_parts function place a is at same = ap conjuncts (applied_term p entries e none function place a is ∙ ap (λ (x : Shift). moved_term x (meant a)) (sym at ∙ same))
+    same_parts function place a is at same = ap conjuncts (applied_term present entries e none function place a is ∙ ap (λ (x : Shift). moved_term x (meant a)) (sym at ∙ same))
 
     pub moved_part : {h : Shift} (function : CoreFunction) (place : Place) (a : CoreExpr) → e ≡ expr.Applied function place a → h ≡ shift_in (application function) → (h ≡ shift.Same → ⊥) → IsOne (meant e)
-    moved_part function place a is at not_same = along (applied_term p entries e none function place a is) (one_moved (shift_in (application function)) (meant a) (λ same. not_same (at ∙ same)))
+    moved_part function place a is at not_same = along (applied_term present entries e none function place a is) (one_moved (shift_in (application function)) (meant a) (λ same. not_same (at ∙ same)))
 
     pub plus_parts : (o : PrefixOp) (place : Place) (a : CoreExpr) → e ≡ expr.Prefix o place a → o ≡ prefix.Plus → conjuncts (meant e) ≡ conjuncts (meant a)
-    plus_parts o place a is plus = ap conjuncts (prefix_term p entries e none o place a is ∙ ap (λ x. signed_term x (meant a)) plus)
+    plus_parts o place a is plus = ap conjuncts (prefix_term present entries e none o place a is ∙ ap (λ x. signed_term x (meant a)) plus)
 
     pub prefix_part : (o : PrefixOp) (place : Place) (a : CoreExpr) → e ≡ expr.Prefix o place a → (o ≡ prefix.Plus → ⊥) → IsOne (meant e)
-    prefix_part o place a is not_plus = along (prefix_term p entries e none o place a is) (one_signed o (meant a) not_plus)
+    prefix_part o place a is not_plus = along (prefix_term present entries e none o place a is) (one_signed o (meant a) not_plus)
 
     pub infix_part : (o : InfixOp) (place : Place) (a b : CoreExpr) → e ≡ expr.Infix o place a b → (o ≡ op.And → ⊥) → (o ≡ op.AndThen → ⊥) → IsOne (meant e)
-    infix_part o place a b is f g = along (infix_term p entries e none o place a b is) (one_operation o (meant a) (meant b) f g)
+    infix_part o place a b is f g = along (infix_term present entries e none o place a b is) (one_operation o (meant a) (meant b) f g)
 
     pub and_parts : (o : InfixOp) (place : Place) (a b : CoreExpr) → e ≡ expr.Infix o place a b → term_op o ≡ operator.And → conjuncts (meant e) ≡ conjuncts (meant a) ++ conjuncts (meant b)
-    and_parts o place a b is conjunction = ap conjuncts (infix_term p entries e none o place a b is ∙ ap (λ x. Infix x (meant a) (meant b)) conjunction) ∙ two_parts (meant a) (meant b)
+    and_parts o place a b is conjunction = ap conjuncts (infix_term present entries e none o place a b is ∙ ap (λ x. Infix x (meant a) (meant b)) conjunction) ∙ two_parts (meant a) (meant b)
 
     pub in_type_parts : (s : State) (o : MemberOp) (place : Place) (a : CoreExpr) (name : Reference) → e ≡ expr.InType o place a name → HasParts s (meant e)
-    in_type_parts s o place a name is = has_parts s o (meant a) (first_term name) (last_term name) (in_type_term p entries e none o place a name is)
+    in_type_parts s o place a name is = has_parts s o (meant a) (first_term name) (last_term name) (in_type_term present entries e none o place a name is)
 
     pub in_range_parts : (s : State) (o : MemberOp) (place : Place) (a low high : CoreExpr) → e ≡ expr.InRange o place a low high → HasParts s (meant e)
-    in_range_parts s o place a low high is = has_parts s o (meant a) (meant low) (meant high) (in_range_term p entries e none o place a low high is)
+    in_range_parts s o place a low high is = has_parts s o (meant a) (meant low) (meant high) (in_range_term present entries e none o place a low high is)

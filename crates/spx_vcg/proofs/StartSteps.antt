@@ -1,5 +1,6 @@
 -- What the start of a body adds, and assignments; and all claims of a body.
 use Rattle.std.proofs.Common.{get_or, drop, drop-cons, add-one, zero, suc, flat_map, append-nil, ◌≡◌, ◌⊎◌, inl, inr, ℕ, ◌+◌, ◌<◌, true, Bool, List, [], ◌∷◌, ◌++◌, length, map, Option, Some, refl, sym, ap, ◌∙◌, subst, arith}
+use Rattle.std.proofs.lemmas.List.{map-append}
 use Rattle.spx_text.specs.declared.place.Place.{Place}
 use Rattle.spx_core.specs.declared.entity.Class.{Class}
 use Rattle.spx_core.specs.declared.entity.Class.TheVariants as class
@@ -8,7 +9,6 @@ use Rattle.spx_core.specs.declared.entity.VarId.{VarId}
 use Rattle.spx_core.specs.declared.expression.CoreExpr.{CoreExpr}
 use Rattle.spx_core.specs.declared.name.Reference.{Reference}
 use Rattle.spx_core.specs.declared.program.Program.{Program}
-use Rattle.spx_core.specs.declared.subprogram.CorePredicate.{CorePredicate}
 use Rattle.spx_core.specs.declared.subprogram.Sub.{Sub}
 use Rattle.spx_core.specs.Commands.{Set, Skip, Then, commands}
 use Rattle.spx_core.specs.Dependency.{exports}
@@ -27,8 +27,8 @@ use Rattle.spx_meaning.specs.Runs.{initial_value}
 use Rattle.spx_meaning.specs.Stores.{type_of}
 use Rattle.spx_paths.specs.Checks.{checked_under, checks, in_type}
 use Rattle.spx_paths.specs.Conditions.{body_claims}
-use Rattle.spx_paths.specs.Prefixes.{entered, known_of}
-use Rattle.spx_paths.specs.Terms.{now, entry, now_term, entry_term, term_of}
+use Rattle.spx_paths.specs.Prefixes.{entered}
+use Rattle.spx_paths.specs.Terms.{now, entry, now_term, term_of}
 use Rattle.spx_paths.specs.Walks.{assigned, checked_in, ending, entering, first_facts, import_facts, initializing, pre_facts, range_check, start_tree, starting_with, walk}
 use Rattle.spx_arena.specs.declared.terms.TermId.{TermId}
 use Rattle.spx_arena.specs.Claims.{AreIds, AreLists, AreClaims, trees_at, claims_at}
@@ -37,6 +37,7 @@ use Rattle.spx_vcg.specs.declared.walk.Walk.{Walk}
 use Rattle.spx_vcg.specs.ConditionWalk.{forward}
 use Rattle.spx_vcg.specs.States.{AreValues, given, state_in}
 use Rattle.spx_vcg.specs.WalkSteps.{Evaluates, Goes, Keeps, Makes, MeanAll, Means, Walks, Whole, claims_from}
+use Rattle.spx_vcg.specs.Cuts.{Leaves, claims_anew, cuts_in}
 use Rattle.spx_vcg.specs.PathWalk.{Ends, Passes}
 use Rattle.spx_vcg.proofs.ConditionForward.{forward_from_start}
 use Rattle.spx_vcg.proofs.SharedSteps.{goes_of, goes_twice, means_kept, walks_along, walks_not}
@@ -82,16 +83,14 @@ after_initialize {old} {mid} {new} {id} p v o s name k m set nm is =
     let done : Goes old new (Assign name (static_term s)) = goes_twice (goes_of k m.walks) (set (static_term s) m.means) in
     subst (λ (x : Option Value). Goes old new (starting_with (now p v) x)) (sym is) (subst (λ (n : Name). Goes old new (Assign n (static_term s))) nm done)
 
-pub after_import : {old mid new : Walk} {id : TermId} (p : Program) (v : VarId) (b : Bool) (subtype : Subtype) (name : Name) → Keeps old mid → Makes old mid (λ rest. rest) id (Variable name) → Keeps mid new
-    → ((t : Term) → Means mid id t → Walks mid new (assume_all (in_type subtype t))) → subtype ≡ type_of p v → name ≡ now p v → b ≡ true → Goes old new (assume_all (known_of p b v))
-after_import {old} {mid} {new} {id} p v b subtype name k m l facts st nm is =
-    let done : Goes old new (assume_all (in_type subtype (Variable name))) = goes_twice (goes_of k m.walks) (goes_of l (facts (Variable name) m.means)) in
-    subst (λ b. Goes old new (assume_all (known_of p b v))) (sym is)
-    (subst (λ (n : Name). Goes old new (assume_all (in_type (type_of p v) (Variable n)))) nm (subst (λ (s : Subtype). Goes old new (assume_all (in_type s (Variable name)))) st done))
+pub after_value : {old mid new : Walk} {id : TermId} (p : Program) (v : VarId) (subtype : Subtype) (name : Name) → Keeps old mid → Makes old mid (λ rest. rest) id (Variable name) → Keeps mid new
+    → ((t : Term) → Means mid id t → Walks mid new (assume_all (in_type subtype t))) → subtype ≡ type_of p v → Goes old new (assume_all (in_type (type_of p v) (Variable name)))
+after_value {old} {mid} {new} {id} p v subtype name k m l facts st =
+    subst (λ (s : Subtype). Goes old new (assume_all (in_type s (Variable name)))) st (goes_twice (goes_of k m.walks) (goes_of l (facts (Variable name) m.means)))
 
-pub after_pre : {old new : Walk} (p : Program) (sub : Sub) (pre : Option CorePredicate) (e : CoreExpr) (entries : VarId → Term) → Keeps old new → Walks old new (assume_parts (term_of p entries e))
-    → entries ≡ entry_term p sub → pre_facts p sub pre ≡ conjuncts (term_of p (entry_term p sub) e) → Goes old new (assume_all (pre_facts p sub pre))
-after_pre {old} {new} p sub pre e entries k walks at is = subst (λ ts. Goes old new (assume_all ts)) (sym is) (goes_of k (subst (λ es. Walks old new (assume_parts (term_of p es e))) at walks))
+-- the parts of what is known
+pub after_parts : {old new : Walk} (t : Term) (facts : List Term) → Keeps old new → Walks old new (assume_parts t) → facts ≡ conjuncts t → Goes old new (assume_all facts)
+after_parts {old} {new} t facts k walks is = subst (λ ts. Goes old new (assume_all ts)) (sym is) (goes_of k walks)
 
 pub assume_all-append : (ts us : List Term) (rest : Tree) → assume_all (ts ++ us) rest ≡ assume_all ts (assume_all us rest)
 assume_all-append [] us rest = refl
@@ -132,11 +131,18 @@ pub claims_end : (w : Walk) → claims_from w Cut ≡ claims_at w.terms w.facts.
 unfolding claims_from
 claims_end w = append-nil (claims_at w.terms w.facts.lists w.claims)
 
-pub all_claims : (a b i c d e : Walk) (p : Program) (sub : Sub) → Starts a
+tidied : (trees : List Tree) → claims_anew trees ≡ map tidy (flat_map claims_of trees)
+tidied [] = refl
+tidied (tree ∷ trees) = (λ i. forward_from_start tree i ++ tidied trees i) ∙ sym (map-append tidy (claims_of tree) (flat_map claims_of trees))
+
+pub all_claims : (a b i c d e f : Walk) (p : Program) (sub : Sub) → Starts a
     → Goes a b (entering p sub (formals sub)) → Goes b i (initializing p (locals sub)) → Goes i c (assume_all (flat_map (import_facts p sub) (formals sub))) → Goes c d (assume_all (pre_facts p sub sub.pre)) → Ends p sub d e (Then (commands sub.statements) Skip)
-    → claims_at e.terms e.facts.lists e.claims ≡ map tidy (body_claims p sub)
-all_claims a b i c d e p sub starts enter initialize import require body =
+    → Leaves e f (cuts_in p sub (commands sub.statements) Skip) []
+    → claims_at f.terms f.facts.lists f.claims ≡ map tidy (body_claims p sub)
+all_claims a b i c d e f p sub starts enter initialize import require body others =
     let rest = walk p sub (commands sub.statements) (ending p sub) (ending p sub) 0 in
+    let from_cuts = cuts_in p sub (commands sub.statements) Skip in
+    let from_start : claims_at e.terms e.facts.lists e.claims ≡ map tidy (claims_of (start_tree p sub)) =
     sym (claims_end e)
     ∙ sym (body.same 0)
     ∙ sym (require.same rest)
@@ -145,18 +151,28 @@ all_claims a b i c d e p sub starts enter initialize import require body =
     ∙ sym (initialize.same (assume_all (first_facts p sub) rest))
     ∙ sym (enter.same (initializing p (locals sub) (assume_all (first_facts p sub) rest)))
     ∙ claims_start a (start_tree p sub) starts
-    ∙ forward_from_start (start_tree p sub)
-    ∙ ap (map tidy) (sym (append-nil (claims_of (start_tree p sub))))
+    ∙ forward_from_start (start_tree p sub) in
+    sym (append-nil (claims_at f.terms f.facts.lists f.claims))
+    ∙ sym others.same
+    ∙ (λ k. from_start k ++ tidied from_cuts k)
+    ∙ sym (map-append tidy (claims_of (start_tree p sub)) (flat_map claims_of from_cuts))
 
-pub import_step : (a b c : Walk) (p : Program) (sub : Sub) (vs : List VarId) (i : ℕ) (v d : VarId) → i < length vs → v ≡ get_or vs i d
-    → ((rest : Tree) → claims_from a (assume_all (flat_map (import_facts p sub) vs) rest) ≡ claims_from b (assume_all (flat_map (import_facts p sub) (drop i vs)) rest))
-    → Goes b c (assume_all (import_facts p sub v))
-    → (rest : Tree) → claims_from a (assume_all (flat_map (import_facts p sub) vs) rest) ≡ claims_from c (assume_all (flat_map (import_facts p sub) (drop (i + 1) vs)) rest)
-import_step a b c p sub vs i v d within is before g rest =
+-- one list of facts after the other
+pub goes_along_both : {a b c : Walk} (ts us : List Term) → Goes a b (assume_all ts) → Goes b c (assume_all us) → Goes a c (assume_all (ts ++ us))
+goes_along_both {a} ts us first second =
+    let both = goes_twice first second in
+    record { whole = both.whole; adds = both.adds; same = λ rest. ap (claims_from a) (assume_all-append ts us rest) ∙ both.same rest }
+
+-- the facts on each variable, one after the other
+pub facts_step : (a b c : Walk) (facts : VarId → List Term) (vs : List VarId) (i : ℕ) (v d : VarId) → i < length vs → v ≡ get_or vs i d
+    → ((rest : Tree) → claims_from a (assume_all (flat_map facts vs) rest) ≡ claims_from b (assume_all (flat_map facts (drop i vs)) rest))
+    → Goes b c (assume_all (facts v))
+    → (rest : Tree) → claims_from a (assume_all (flat_map facts vs) rest) ≡ claims_from c (assume_all (flat_map facts (drop (i + 1) vs)) rest)
+facts_step a b c facts vs i v d within is before g rest =
     before rest
-    ∙ ap (λ us. claims_from b (assume_all (flat_map (import_facts p sub) us) rest)) (drop-cons vs i d within ∙ (λ k. sym is k ∷ drop (sym (add-one i) k) vs))
-    ∙ ap (claims_from b) (assume_all-append (import_facts p sub v) (flat_map (import_facts p sub) (drop (i + 1) vs)) rest)
-    ∙ g.same (assume_all (flat_map (import_facts p sub) (drop (i + 1) vs)) rest)
+    ∙ ap (λ us. claims_from b (assume_all (flat_map facts us) rest)) (drop-cons vs i d within ∙ (λ k. sym is k ∷ drop (sym (add-one i) k) vs))
+    ∙ ap (claims_from b) (assume_all-append (facts v) (flat_map facts (drop (i + 1) vs)) rest)
+    ∙ g.same (assume_all (flat_map facts (drop (i + 1) vs)) rest)
 
 pub enter_step : (a b c : Walk) (p : Program) (sub : Sub) (vs : List VarId) (i : ℕ) (v d : VarId) → i < length vs → v ≡ get_or vs i d
     → ((rest : Tree) → claims_from a (entering p sub vs rest) ≡ claims_from b (entering p sub (drop i vs) rest))

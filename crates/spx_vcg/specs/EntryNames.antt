@@ -1,6 +1,7 @@
--- What names of values on entry stand for.
+-- What names stand for, and names of values on entry.
 use Rattle.std.specs.Prelude.{◌≡◌, not, ◌&&◌, if◌then◌else◌}
 use Rattle.spx_core.specs.declared.entity.VarId.{VarId}
+use Rattle.spx_core.specs.declared.expression.CoreExpr.{CoreExpr}
 use Rattle.spx_core.specs.declared.program.Program.{Program}
 use Rattle.spx_core.specs.declared.subprogram.Sub.{Sub}
 use Rattle.spx_core.specs.Dependency.{exports, imports}
@@ -8,9 +9,9 @@ use Rattle.spx_core.specs.Mirror.VarSets.{holds}
 use Rattle.spx_term.specs.declared.term.Name.{Name}
 use Rattle.spx_term.specs.declared.term.Term.{Term}
 use Rattle.spx_term.specs.declared.term.Term.TheVariants.{Variable}
-use Rattle.spx_paths.specs.Terms.{entry, now}
+use Rattle.spx_paths.specs.Terms.{entry, now, term_with}
 use Rattle.spx_vcg.specs.declared.entered.Entered.{Entered}
-use Rattle.spx_vcg.specs.declared.entered.Entered.TheVariants.{Present, OnEntry}
+use Rattle.spx_vcg.specs.declared.entered.Entered.TheVariants.{Present, OnEntry, AtEntry}
 use Rattle.spx_vcg.specs.declared.entered.Interface.{Interface}
 
 -- the imports and exports of a subprogram
@@ -22,10 +23,25 @@ pub record IsInterfaceOf (sub : Sub) (interface : Interface) : Type 0 where
 abbrev pub entry_name : Interface → Program → VarId → Name
 entry_name interface p v = if holds interface.imports v && not (holds interface.exports v) then now p v else entry p v
 
+-- the name of the value that a variable stands for
+abbrev pub present_name : Program → Entered → VarId → Name
+present_name p Present v = now p v
+present_name p (OnEntry interface) v = now p v
+present_name p (AtEntry interface) v = entry_name interface.now p v
+
+-- and with `~` after it
 abbrev pub entered_name : Program → Entered → VarId → Name
 entered_name p Present v = now p v
 entered_name p (OnEntry interface) v = entry_name interface.now p v
+entered_name p (AtEntry interface) v = entry_name interface.now p v
 
--- the terms of the values on entry
+-- their terms
+abbrev pub present_term : Program → Entered → VarId → Term
+present_term p entered v = Variable (present_name p entered v)
+
 abbrev pub entered_term : Program → Entered → VarId → Term
 entered_term p entered v = Variable (entered_name p entered v)
+
+-- the term of an expression, where names stand for these
+abbrev pub meant : Program → Entered → CoreExpr → Term
+meant p entered e = term_with (present_term p entered) (entered_term p entered) e

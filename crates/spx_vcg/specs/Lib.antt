@@ -4,5 +4,6 @@ pub mod States
 pub mod WalkSteps
 pub mod PathWalk
 pub mod Following
+pub mod Cuts
 pub mod Largeness
 pub mod Functions

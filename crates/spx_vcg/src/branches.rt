@@ -16,6 +16,7 @@ use crate::values::Values;
 use crate::walk::Walk;
 use spx_arena::{FactsId, TermId};
 use spx_core::{CoreAlternative, CoreArm, CoreExpr, CoreStmt};
+use spx_tree::AssertionKind;
 use sqlite_items::Items;
 use std::alloc::{AllocError, Global};
 
@@ -39,7 +40,7 @@ pub enum Rest<'a> {
 impl<'a> Rest<'a> {
     /// These statements, and what follows them.
     #[tactic(auto, unfolding(crate::specs::Following::after))]
-    fn more(first: &'a [CoreStmt], rest: &'a Rest<'a>) -> Rest<'a>
+    pub fn more(first: &'a [CoreStmt], rest: &'a Rest<'a>) -> Rest<'a>
         ensures { after result ≡ Then (commands first.now) (after rest.now) }
     {
         Rest::After(first, rest)
@@ -216,7 +217,7 @@ impl Walk {
 
     /// What follows, to the end of each path.
     #[cycle(path)]
-    fn follow(&mut self, alloc: Global, body: &Body, rest: &Rest) -> Result<(), AllocError>
+    pub fn follow(&mut self, alloc: Global, body: &Body, rest: &Rest) -> Result<(), AllocError>
         requires { Whole self.old }
         ensures { OnOk result (Ends body.now.program.now body.now.sub.now self.old self.new (after rest.now)) }
     {
@@ -251,10 +252,16 @@ impl Walk {
                     self.assignment(alloc, body, target, value)?;
                     continue;
                 }
-                CoreStmt::Check(place, condition) => {
-                    self.checked(alloc, body, *place, condition)?;
-                    continue;
-                }
+                CoreStmt::Assertion(kind, place, condition) => match kind {
+                    AssertionKind::Check => {
+                        self.checked(alloc, body, *place, condition)?;
+                        continue;
+                    }
+                    AssertionKind::Assert => {
+                        self.asserted(alloc, body, *place, condition)?;
+                        return Ok(());
+                    }
+                },
                 CoreStmt::If(arms, otherwise, _) => {
                     let following = Rest::more(&stmts[at + 1..], &*rest);
                     let otherwise = done_otherwise(otherwise);

@@ -2,11 +2,10 @@
 ghost use Rattle.std.specs.Prelude.{◌≡◌, [], ◌∷◌, ◌++◌, length, map, OnOk};
 ghost use Rattle.spx_term.specs.Conjuncts.{conjuncts};
 ghost use Rattle.spx_term.specs.Steps.{assume_parts};
-ghost use Rattle.spx_paths.specs.Terms.{term_of};
 ghost use Rattle.spx_paths.specs.Walks.{asserted};
 ghost use Rattle.spx_arena.specs.Claims.{AreIds, trees_at};
 ghost use Rattle.spx_vcg.specs.ConditionWalk.{applied};
-ghost use Rattle.spx_vcg.specs.EntryNames.{entered_term};
+ghost use Rattle.spx_vcg.specs.EntryNames.{meant};
 ghost use Rattle.spx_vcg.specs.PathWalk.{HasParts};
 ghost use Rattle.spx_vcg.specs.States.{state_in, AddsAll, AddsParts, AreValues};
 ghost use Rattle.spx_vcg.specs.WalkSteps.{Keeps, Walks, Whole};
@@ -41,7 +40,7 @@ fn add_whole(
 ) -> Result<(), AllocError>
     requires values { AreValues (length terms.old) reading.now.values.now }
     requires parts { AreIds (length terms.old) parts.old }
-    ensures { OnOk result (AddsParts terms.old terms.new reading.now.values.now parts.old parts.new ((term_of reading.now.program.now (entered_term reading.now.program.now reading.now.entered.now) condition.now) ∷ [])) }
+    ensures { OnOk result (AddsParts terms.old terms.new reading.now.values.now parts.old parts.new (meant reading.now.program.now reading.now.entered.now condition.now ∷ [])) }
 {
     let part = term_id(
         reading.program,
@@ -64,7 +63,7 @@ fn add_split(
 ) -> Result<(), AllocError>
     requires values { AreValues (length terms.old) reading.now.values.now }
     requires parts { AreIds (length terms.old) parts.old }
-    ensures { OnOk result (HasParts (state_in terms.old reading.now.values.now) (term_of reading.now.program.now (entered_term reading.now.program.now reading.now.entered.now) condition.now) → AddsParts terms.old terms.new reading.now.values.now parts.old parts.new (conjuncts (term_of reading.now.program.now (entered_term reading.now.program.now reading.now.entered.now) condition.now))) }
+    ensures { OnOk result (HasParts (state_in terms.old reading.now.values.now) (meant reading.now.program.now reading.now.entered.now condition.now) → AddsParts terms.old terms.new reading.now.values.now parts.old parts.new (conjuncts (meant reading.now.program.now reading.now.entered.now condition.now))) }
 {
     let whole = term_id(
         reading.program,
@@ -89,7 +88,7 @@ fn add_parts(
 ) -> Result<(), AllocError>
     requires values { AreValues (length terms.old) reading.now.values.now }
     requires parts { AreIds (length terms.old) parts.old }
-    ensures { OnOk result (AddsParts terms.old terms.new reading.now.values.now parts.old parts.new (conjuncts (term_of reading.now.program.now (entered_term reading.now.program.now reading.now.entered.now) condition.now))) }
+    ensures { OnOk result (AddsParts terms.old terms.new reading.now.values.now parts.old parts.new (conjuncts (meant reading.now.program.now reading.now.entered.now condition.now))) }
 {
     if literal(condition).is_some() {
         return Ok(add_whole(reading, terms, condition, parts)?);
@@ -133,7 +132,7 @@ impl Walk {
     ) -> Result<(), AllocError>
         requires { Whole self.old }
         ensures keeps { OnOk result (Keeps self.old self.new) }
-        ensures walks { OnOk result (Walks self.old self.new (assume_parts (term_of program.now (entered_term program.now entered.now) condition.now))) }
+        ensures walks { OnOk result (Walks self.old self.new (assume_parts (meant program.now entered.now condition.now))) }
     {
         let mut parts = Items::new(alloc);
         let values = &self.values;
@@ -159,7 +158,7 @@ impl Walk {
     ) -> Result<(), AllocError>
         requires { Whole self.old }
         ensures keeps { OnOk result (Keeps self.old self.new) }
-        ensures walks { OnOk result (Walks self.old self.new (asserted kind place (term_of program.now (entered_term program.now entered.now) condition.now))) }
+        ensures walks { OnOk result (Walks self.old self.new (asserted kind place (meant program.now entered.now condition.now))) }
     {
         let mut parts = Items::new(alloc);
         let values = &self.values;

@@ -1,6 +1,6 @@
-// What names of values on entry stand for.
+// What names stand for, and names of values on entry.
 ghost use Rattle.std.specs.Prelude.{◌≡◌, IfOk};
-ghost use Rattle.spx_vcg.specs.EntryNames.{IsInterfaceOf, entered_name, entry_name};
+ghost use Rattle.spx_vcg.specs.EntryNames.{IsInterfaceOf, entered_name, entry_name, present_name};
 
 use crate::names::{entry, now};
 use spx_core::{Program, Sub, VarId, VarSet};
@@ -14,13 +14,15 @@ pub struct Interface {
     pub exports: VarSet,
 }
 
-/// What `X~` stands for.
+/// What `X` and `X~` stand for.
 #[derive(Clone, Copy)]
 pub enum Entered<'a> {
-    /// The present value. Code, where no value on entry is named, is read so.
+    /// Both for the present value. Code, where no value on entry is named, is read so.
     Present,
-    /// The value on entry, in an annotation of the subprogram that has this interface.
+    /// `X~` for the value on entry, in an annotation of the subprogram that has this interface.
     OnEntry(&'a Interface),
+    /// Both for the value on entry, in the precondition as it is known after a cut.
+    AtEntry(&'a Interface),
 }
 
 impl Interface {
@@ -44,12 +46,24 @@ impl Interface {
     }
 }
 
+/// The name of the value that `X` stands for.
+pub fn present_name(program: &Program, entered: &Entered, var: VarId) -> Name
+    ensures { result ≡ present_name program.now entered.now var }
+{
+    match entered {
+        Entered::Present | Entered::OnEntry(_) => now(program, var),
+        Entered::AtEntry(interface) => interface.entry_name(program, var),
+    }
+}
+
 /// The name of the value that `X~` stands for.
 pub fn entered_name(program: &Program, entered: &Entered, var: VarId) -> Name
     ensures { result ≡ entered_name program.now entered.now var }
 {
     match entered {
         Entered::Present => now(program, var),
-        Entered::OnEntry(interface) => interface.entry_name(program, var),
+        Entered::OnEntry(interface) | Entered::AtEntry(interface) => {
+            interface.entry_name(program, var)
+        }
     }
 }

@@ -7,15 +7,14 @@ ghost use Rattle.spx_term.specs.declared.term.Term.TheVariants as term;
 ghost use Rattle.spx_term.specs.declared.term.TermPrefix.TheVariants.{Not};
 ghost use Rattle.spx_term.specs.Folding.{term_of as static_term};
 ghost use Rattle.spx_meaning.specs.Evaluation.{term_op};
-ghost use Rattle.spx_paths.specs.Terms.{between, member_term, moved_term, named, now_term, signed_term, term_of};
+ghost use Rattle.spx_paths.specs.Terms.{between, member_term, moved_term, named, signed_term};
 ghost use Rattle.spx_arena.specs.Sharing.{tree_at, Adds};
 ghost use Rattle.spx_vcg.specs.ConditionWalk.{applied};
 ghost use Rattle.spx_vcg.specs.Functions.{shift_in};
-ghost use Rattle.spx_vcg.specs.EntryNames.{entered_term};
+ghost use Rattle.spx_vcg.specs.EntryNames.{entered_term, meant, present_term};
 ghost use Rattle.spx_vcg.specs.States.{state_in, AreValues};
 
-use crate::entered::{Entered, entered_name};
-use crate::names::now;
+use crate::entered::{Entered, entered_name, present_name};
 use crate::values::Values;
 use spx_arena::{Node, TermId, Terms};
 use spx_core::{CoreExpr, CoreFunction, Entity, Program, Shift, Subtype, UNIVERSAL, variable_of};
@@ -92,15 +91,16 @@ pub fn value_id(terms: &mut Terms, values: &Values, name: Name) -> Result<TermId
 #[tactic(auto, using(crate::proofs::SharedTerms::adds_laws, crate::proofs::ConditionTerms::applied_forms))]
 pub fn name_id(
     program: &Program,
+    entered: &Entered,
     terms: &mut Terms,
     values: &Values,
     entity: Option<Entity>,
 ) -> Result<TermId, AllocError>
     requires { AreValues (length terms.old) values.now }
-    ensures { IfOk result (λ id. Adds terms.old terms.new id (applied (state_in terms.old values.now) (named (now_term program.now) (variable_of entity)))) }
+    ensures { IfOk result (λ id. Adds terms.old terms.new id (applied (state_in terms.old values.now) (named (present_term program.now entered.now) (variable_of entity)))) }
 {
     match variable_of(entity) {
-        Some(var) => value_id(terms, values, now(program, var)),
+        Some(var) => value_id(terms, values, present_name(program, entered, var)),
         None => terms.make(Node::Number(0)),
     }
 }
@@ -223,7 +223,7 @@ pub fn member_id(
     }
 }
 
-/// The id of the term of an expression, where variables have these values and values on entry are named so. A static one
+/// The id of the term of an expression, where variables have these values and names stand so. A static one
 /// stands as its value.
 #[cycle(term_id)]
 pub fn term_id(
@@ -234,7 +234,7 @@ pub fn term_id(
     expr: &CoreExpr,
 ) -> Result<TermId, AllocError>
     requires { AreValues (length terms.old) values.now }
-    ensures { IfOk result (λ id. Adds terms.old terms.new id (applied (state_in terms.old values.now) (term_of program.now (entered_term program.now entered.now) expr.now))) }
+    ensures { IfOk result (λ id. Adds terms.old terms.new id (applied (state_in terms.old values.now) (meant program.now entered.now expr.now))) }
 {
     if let Some(value) = literal(expr) {
         let id = static_id(terms, value)?;
@@ -246,7 +246,7 @@ pub fn term_id(
             Ok(id)
         }
         CoreExpr::Name(name) => {
-            let id = name_id(program, terms, values, name.entity)?;
+            let id = name_id(program, entered, terms, values, name.entity)?;
             Ok(id)
         }
         CoreExpr::Entry(name, _) => {

@@ -2,8 +2,11 @@
 ghost use Rattle.std.specs.Prelude.{◌≡◌, flat_map, IfOk, OnOk};
 ghost use Rattle.spx_core.specs.Formals.{formals, locals};
 ghost use Rattle.spx_core.specs.Mirror.VarSets.{holds};
+ghost use Rattle.spx_term.specs.declared.term.Term.TheVariants.{Variable};
 ghost use Rattle.spx_term.specs.Steps.{assume_all};
 ghost use Rattle.spx_meaning.specs.Runs.{initial_value};
+ghost use Rattle.spx_meaning.specs.Stores.{type_of};
+ghost use Rattle.spx_paths.specs.Checks.{in_type};
 ghost use Rattle.spx_paths.specs.Prefixes.{entered, known_of};
 ghost use Rattle.spx_paths.specs.Terms.{now};
 ghost use Rattle.spx_paths.specs.Walks.{entering, import_facts, initializing, pre_facts, starting_with};
@@ -14,6 +17,7 @@ use crate::names::{entry, now};
 use crate::walk::Walk;
 use spx_core::{Program, Sub, VarId, VarSet};
 use spx_meaning::{initial_value, type_of};
+use spx_term::Name;
 use std::alloc::{AllocError, Global};
 
 impl Walk {
@@ -71,6 +75,22 @@ impl Walk {
         Ok(())
     }
 
+    /// What a name stands for lies in the type of a variable.
+    pub fn assume_value(
+        &mut self,
+        alloc: Global,
+        program: &Program,
+        var: VarId,
+        name: Name,
+    ) -> Result<(), AllocError>
+        requires { Whole self.old }
+        ensures { OnOk result (Goes self.old self.new (assume_all (in_type (type_of program.now var) (Variable name)))) }
+    {
+        let value = self.value_id(name)?;
+        self.assume_type(alloc, type_of(program, var), value)?;
+        Ok(())
+    }
+
     /// An import lies in its type.
     fn assume_import(
         &mut self,
@@ -83,8 +103,7 @@ impl Walk {
         ensures { OnOk result (Goes self.old self.new (assume_all (known_of program.now (holds imports.now var) var))) }
     {
         if imports.contains(var) {
-            let value = self.value_id(now(program, var))?;
-            self.assume_type(alloc, type_of(program, var), value)?;
+            self.assume_value(alloc, program, var, now(program, var))?;
             return Ok(());
         }
         Ok(())

@@ -1,6 +1,7 @@
 // Assignments and annotations.
 ghost use Rattle.std.specs.Prelude.{◌≡◌, ◌<◌, length, OnOk};
-ghost use Rattle.spx_core.specs.Commands.{Check, Set, Skip};
+ghost use Rattle.spx_core.specs.Commands.{Assertion, Set, Skip};
+ghost use Rattle.spx_tree.specs.declared.statement.AssertionKind.TheVariants.{Assert, Check};
 ghost use Rattle.spx_core.specs.Uses.{variable_of};
 ghost use Rattle.spx_term.specs.declared.term.Term.{Term};
 ghost use Rattle.spx_paths.specs.Terms.{entry_term, term_of};
@@ -108,7 +109,7 @@ impl Walk {
         Ok(())
     }
 
-    /// A `check` annotation.
+    /// A `check`, which is known from there on.
     pub fn checked(
         &mut self,
         alloc: Global,
@@ -117,9 +118,24 @@ impl Walk {
         condition: &CoreExpr,
     ) -> Result<(), AllocError>
         requires { Whole self.old }
-        ensures { OnOk result (Passes body.now.program.now body.now.sub.now self.old self.new (Check place condition.now)) }
+        ensures { OnOk result (Passes body.now.program.now body.now.sub.now self.old self.new (Assertion Check place condition.now)) }
     {
         self.show(alloc, body, CondKind::Check, place, condition)?;
+        Ok(())
+    }
+
+    /// An `assert`, where the path ends.
+    pub fn asserted(
+        &mut self,
+        alloc: Global,
+        body: &Body,
+        place: Place,
+        condition: &CoreExpr,
+    ) -> Result<(), AllocError>
+        requires { Whole self.old }
+        ensures { OnOk result (Ends body.now.program.now body.now.sub.now self.old self.new (Assertion Assert place condition.now)) }
+    {
+        self.show(alloc, body, CondKind::Assert, place, condition)?;
         Ok(())
     }
 

@@ -46,7 +46,9 @@ fn walked(alloc: Global, program: &Program, sub: &Sub) -> Result<SharedClaims, A
     walk.assume_imports(alloc, program, sub)?;
     walk.assume_pre(alloc, program, sub)?;
     let body = Body { program, sub };
-    walk.path(alloc, &body, sub.statements.as_slice(), &Rest::End)?;
+    let stmts = sub.statements.as_slice();
+    walk.path(alloc, &body, stmts, &Rest::End)?;
+    walk.cuts(alloc, &body, stmts, &Rest::End)?;
     let Walk {
         terms,
         values: _,

@@ -1,7 +1,8 @@
-use Rattle.std.proofs.Common.{List, refl, subst}
+use Rattle.std.proofs.Common.{[], List, refl, subst}
 use Rattle.spx_core.specs.declared.statement.CoreStmt.{CoreStmt}
 use Rattle.spx_core.specs.Commands.{Skip, Then, commands}
 use Rattle.spx_vcg.specs.declared.branches.Rest.TheVariants.{End}
+use Rattle.spx_vcg.specs.Cuts.{Leaves, cuts_in}
 use Rattle.spx_vcg.specs.PathWalk.{Ends}
 use Rattle.spx_vcg.proofs.Forms.{nothing_follows}
 use Rattle.spx_vcg.proofs.StartSteps.{all_claims}
@@ -10,9 +11,13 @@ use Rattle.spx_vcg.proofs.vcg.walked.Goals as goal
 pub returns-clause-claims : goal.returns-clause-claims
 returns-clause-claims c =
     let p = c.args.program.now in
+    let sub = c.args.sub.now in
     let before = c.assume_pre.new.self in
-    let last = c.path.new.self in
-    all_claims (record { terms = c.new.result; values = c.new-2.result; facts = record { present = c.new-3.result; lists = c.new-lists.result; at = c.none.result }; claims = c.new-4.result }) c.enter_all.new.self c.initialize_all.new.self c.assume_imports.new.self before last p c.args.sub.now
+    let first = c.path.new.self in
+    let last = c.cuts.new.self in
+    let end = nothing_follows End refl in
+    all_claims (record { terms = c.new.result; values = c.new-2.result; facts = record { present = c.new-3.result; lists = c.new-lists.result; at = c.none.result }; claims = c.new-4.result }) c.enter_all.new.self c.initialize_all.new.self c.assume_imports.new.self before first last p sub
     (record { values = c.new-2.ensures; keys = c.new-3.ensures.empty; lists = c.new-lists.ensures; at = c.none.ensures.first; claims = c.new-4.ensures })
     c.in_ok-enter_all.ensures c.in_ok-initialize_all.ensures c.in_ok-assume_imports.ensures c.in_ok-assume_pre.ensures
-    (subst (λ (ss : List CoreStmt). Ends p c.args.sub.now before last (Then (commands ss) Skip)) c.as_slice.ensures (subst (λ d. Ends p c.args.sub.now before last (Then (commands c.as_slice.result.now) d)) (nothing_follows End refl) c.in_ok-path.ensures))
+    (subst (λ (ss : List CoreStmt). Ends p sub before first (Then (commands ss) Skip)) c.as_slice-stmts.ensures (subst (λ d. Ends p sub before first (Then (commands c.as_slice-stmts.result.now) d)) end c.in_ok-path.ensures))
+    (subst (λ (ss : List CoreStmt). Leaves first last (cuts_in p sub (commands ss) Skip) []) c.as_slice-stmts.ensures (subst (λ d. Leaves first last (cuts_in p sub (commands c.as_slice-stmts.result.now) d) []) end c.in_ok-cuts.ensures))

@@ -9,10 +9,10 @@ use Rattle.spx_arena.proofs.Ids.{wider_ids}
 use Rattle.spx_arena.specs.Claims.{AreIds}
 use Rattle.spx_vcg.specs.ConditionWalk.{State, applied}
 use Rattle.spx_vcg.specs.PathWalk.{Ends, Takes}
-use Rattle.spx_vcg.proofs.BranchSteps.{after_arm, after_branch, after_check, after_null, after_set, after_taken, at_end, comes_ends, last_arm, next_arm}
+use Rattle.spx_vcg.proofs.BranchSteps.{after_arm, after_assert, after_branch, after_check, after_null, after_set, after_taken, at_end, comes_ends, last_arm, next_arm}
 use Rattle.spx_vcg.proofs.CheckSteps.{only_at}
 use Rattle.spx_vcg.proofs.ChoiceSteps.{after_case, after_under, here_alternative, next_alternative, no_case}
-use Rattle.spx_vcg.proofs.Forms.{arm_is, assignment_is, case_is, check_is, follows_is, if_is, nothing_follows, null_is}
+use Rattle.spx_vcg.proofs.Forms.{arm_is, assertion_is, assignment_is, case_is, follows_is, if_is, nothing_follows, null_is}
 use Rattle.spx_vcg.proofs.Remaining.{alternative_smaller, body_smaller, branch_smaller, follow_smaller, follows_smaller, left, otherwise_smaller, select_size, size, sizes}
 use Rattle.spx_vcg.proofs.SharedSteps.{adds_twice, only_keeps, state_same}
 use Rattle.spx_vcg.proofs.walk.Walk.+path.Goals as goal
@@ -61,7 +61,13 @@ path-loop-at-preserved-in-Assignment t c =
 
 pub path-loop-at-preserved : goal.path-loop-at-preserved
 path-loop-at-preserved t c =
-    after_check (Then (commands c.args.stmts.now) (after c.args.rest.now)) (after c.args.rest.now) c.args.stmts.now c.loop-at.at c.index-stmts-at.result c.loop-at-test.true c.index-stmts-at.is c.loop-at.invariant c.in-Check.place c.in-Check.condition (check_is _ c.in-Check.place c.in-Check.condition c.in-Check.is) c.in_ok-checked-in-Check.ensures
+    after_check (Then (commands c.args.stmts.now) (after c.args.rest.now)) (after c.args.rest.now) c.args.stmts.now c.loop-at.at c.index-stmts-at.result c.loop-at-test.true c.index-stmts-at.is c.loop-at.invariant c.in-Assertion.place c.in-Assertion.condition
+    (assertion_is _ c.in-Assertion.kind c.in-Assertion.place c.in-Assertion.condition c.in-Assertion.is c.in-Check.is) c.in_ok-checked-in-Check.ensures
+
+pub path-returns-in-Assert : goal.path-returns-in-Assert
+path-returns-in-Assert t c =
+    after_assert (Then (commands c.args.stmts.now) (after c.args.rest.now)) (after c.args.rest.now) c.args.stmts.now c.loop-at.at c.index-stmts-at.result c.loop-at-test.true c.index-stmts-at.is c.loop-at.invariant c.in-Assertion.place c.in-Assertion.condition
+    (assertion_is _ c.in-Assertion.kind c.in-Assertion.place c.in-Assertion.condition c.in-Assertion.is c.in-Assert.is) c.in_ok-asserted-in-Assert.ensures
 
 pub path-arms-requires : goal.path-arms-requires
 path-arms-requires t c =

@@ -7,7 +7,7 @@ use Rattle.spx_paths.specs.Walks.{import_facts}
 use Rattle.spx_paths.specs.Prefixes.{known_of}
 use Rattle.spx_vcg.specs.WalkSteps.{Goes, claims_from}
 use Rattle.spx_vcg.proofs.SharedSteps.{adds_twice}
-use Rattle.spx_vcg.proofs.StartSteps.{import_step}
+use Rattle.spx_vcg.proofs.StartSteps.{facts_step}
 use Rattle.spx_vcg.proofs.walk.Walk.assume_imports.Goals as goal
 
 pub loop-var-preserved : goal.loop-var-preserved
@@ -22,7 +22,7 @@ loop-var-preserved c =
     record {
       whole = c.in_ok-assume_import.ensures.whole;
       adds = adds_twice c.loop-var.invariant.adds c.in_ok-assume_import.ensures.adds;
-      same = import_step c.args.self.now c.loop-var.self c.assume_import.new.self c.args.program.now c.args.sub.now vars i var none within (ap (λ (vs : List VarId). get_or vs i none) c.formals-var-items.ensures) c.loop-var.invariant.same step;
+      same = facts_step c.args.self.now c.loop-var.self c.assume_import.new.self (import_facts c.args.program.now c.args.sub.now) vars i var none within (ap (λ (vs : List VarId). get_or vs i none) c.formals-var-items.ensures) c.loop-var.invariant.same step;
     }
 
 pub returns : goal.returns

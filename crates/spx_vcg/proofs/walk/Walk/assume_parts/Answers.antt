@@ -1,10 +1,9 @@
 use Rattle.std.proofs.Common.{List, ◌++◌, ap, map, subst, sym}
 use Rattle.spx_term.specs.Conjuncts.{conjuncts}
-use Rattle.spx_paths.specs.Terms.{term_of}
 use Rattle.spx_arena.specs.declared.terms.TermId.{TermId}
 use Rattle.spx_arena.specs.Claims.{AreIds, trees_at}
 use Rattle.spx_vcg.specs.ConditionWalk.{applied}
-use Rattle.spx_vcg.specs.EntryNames.{entered_term}
+use Rattle.spx_vcg.specs.EntryNames.{meant}
 use Rattle.spx_vcg.specs.WalkSteps.{state}
 use Rattle.spx_vcg.proofs.CheckSteps.{facts_made, only_at}
 use Rattle.spx_vcg.proofs.SharedSteps.{keeps_twice, only_keeps}
@@ -19,7 +18,7 @@ returns-clause-keeps c = keeps_twice (only_keeps c.requires (only_at c.args.self
 pub returns-clause-walks : goal.returns-clause-walks
 returns-clause-walks c =
     let w = c.args.self.now in
-    let ts = conjuncts (term_of c.args.program.now (entered_term c.args.program.now c.args.entered.now) c.args.condition.now) in
+    let ts = conjuncts (meant c.args.program.now c.args.entered.now c.args.condition.now) in
     facts_made w ts c.requires c.in_ok-add_parts.ensures c.as_slice.ensures (ap (λ (ids : List TermId). trees_at w.terms ids ++ map (applied (state w)) ts) c.new-parts.ensures) c.in_ok-assume_all.ensures.walks
 
 pub assume_all-requires-clause-within : goal.assume_all-requires-clause-within

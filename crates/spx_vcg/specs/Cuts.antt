@@ -1,0 +1,48 @@
+-- The trees from the cuts of a body, each walked from no values and no facts.
+use Rattle.std.specs.Prelude.{◌≡◌, if◌then◌else◌, Bool, List, [], ◌++◌, flat_map, Option}
+use Rattle.spx_core.specs.declared.entity.VarId.{VarId}
+use Rattle.spx_core.specs.declared.program.Program.{Program}
+use Rattle.spx_core.specs.declared.subprogram.Sub.{Sub}
+use Rattle.spx_core.specs.declared.statement.CoreChoice.{CoreChoice}
+use Rattle.spx_core.specs.Commands.{Command}
+use Rattle.spx_term.specs.declared.term.Term.{Term}
+use Rattle.spx_term.specs.declared.term.Term.TheVariants.{Variable}
+use Rattle.spx_term.specs.Steps.{Claim, Tree}
+use Rattle.spx_meaning.specs.Stores.{type_of}
+use Rattle.spx_paths.specs.Checks.{in_type}
+use Rattle.spx_paths.specs.Terms.{entry}
+use Rattle.spx_paths.specs.Walks.{cuts, ending, walk}
+use Rattle.spx_arena.specs.Claims.{claims_at}
+use Rattle.spx_vcg.specs.declared.walk.Walk.{Walk}
+use Rattle.spx_vcg.specs.ConditionWalk.{forward}
+use Rattle.spx_vcg.specs.WalkSteps.{Whole, claims_from}
+
+-- the claims of trees, where at the root of each no name has a value and nothing is known
+abbrev pub claims_anew : List Tree → List Claim
+claims_anew trees = flat_map (forward Variable []) trees
+
+-- the claims so far, and those of trees that are still to be walked
+abbrev pub claims_over : Walk → List Tree → List Claim
+claims_over w trees = claims_at w.terms w.facts.lists w.claims ++ claims_anew trees
+
+-- the second walk is at the root of a tree, after the claims of the first
+pub record BeginsAnew (old new : Walk) : Type 0 where
+  pub whole : Whole new
+  pub same : (tree : Tree) → claims_from new tree ≡ claims_at old.terms old.facts.lists old.claims ++ forward Variable [] tree
+
+-- the walk has come along the first trees, and the others are left
+pub record Leaves (old new : Walk) (all left : List Tree) : Type 0 where
+  pub whole : Whole new
+  pub same : claims_over old all ≡ claims_over new left
+
+-- the trees from the cuts in a command, each along what follows the command
+abbrev pub cuts_in : Program → Sub → Command → Command → List Tree
+cuts_in p sub c following = cuts p sub c (walk p sub following (ending p sub) (ending p sub)) (ending p sub)
+
+-- those in alternatives
+abbrev pub cuts_among : Program → Sub → List (Option (List CoreChoice) × Command) → Command → List Tree
+cuts_among p sub alternatives following = flat_map (λ a. cuts_in p sub a.1 following) alternatives
+
+-- the value on entry of an import that is exported too lies in its type
+abbrev pub entry_known : Program → Bool → VarId → List Term
+entry_known p is_both v = if is_both then in_type (type_of p v) (Variable (entry p v)) else []

@@ -1,0 +1,144 @@
+// The walk from each cut of a body to the next ones, or to the end of the body.
+ghost use Rattle.std.specs.Prelude.{[], map, OnOk};
+ghost use Rattle.spx_tree.specs.declared.statement.AssertionKind.TheVariants.{Assert};
+ghost use Rattle.spx_core.specs.Commands.{Command, alternative, arm_before, arms_before, command, commands};
+ghost use Rattle.spx_paths.specs.Walks.{ending, noted_cut, walk};
+ghost use Rattle.spx_vcg.specs.Cuts.{BeginsAnew, Leaves, cuts_among, cuts_in};
+ghost use Rattle.spx_vcg.specs.Following.{after};
+ghost use Rattle.spx_vcg.specs.WalkSteps.{Whole};
+
+use crate::branches::Rest;
+use crate::entered::{Entered, Interface};
+use crate::steps::Body;
+use crate::values::Values;
+use crate::walk::Walk;
+use spx_core::{CoreAlternative, CoreArm, CoreExpr, CoreStmt};
+use spx_tree::AssertionKind;
+use std::alloc::{AllocError, Global};
+
+impl Walk {
+    /// No name has a value, and nothing is known. Terms, lists of facts and claims stay.
+    fn begin_anew(&mut self, alloc: Global)
+        requires { Whole self.old }
+        ensures { BeginsAnew self.old self.new }
+    {
+        self.values = Values::new(alloc);
+        self.facts.present.truncate(0);
+        self.facts.at = self.facts.lists.none();
+    }
+
+    /// The paths from an `assert`, where it is known, along what follows it.
+    fn from_cut(
+        &mut self,
+        alloc: Global,
+        body: &Body,
+        condition: &CoreExpr,
+        rest: &Rest,
+    ) -> Result<(), AllocError>
+        requires { Whole self.old }
+        ensures { OnOk result (Leaves self.old self.new (noted_cut body.now.program.now body.now.sub.now Assert condition.now (walk body.now.program.now body.now.sub.now (after rest.now) (ending body.now.program.now body.now.sub.now) (ending body.now.program.now body.now.sub.now) 0)) []) }
+    {
+        let interface = Interface::of(alloc, body.sub)?;
+        self.begin_anew(alloc);
+        self.assume_known(alloc, body, &interface)?;
+        let entered = Entered::OnEntry(&interface);
+        self.assume_parts(alloc, body.program, &entered, condition)?;
+        self.follow(alloc, body, rest)?;
+        Ok(())
+    }
+
+    /// The paths from the cuts in arms, each along what follows.
+    #[cycle(cuts)]
+    fn cuts_in_arms(
+        &mut self,
+        alloc: Global,
+        body: &Body,
+        arms: &[CoreArm],
+        rest: &Rest,
+    ) -> Result<(), AllocError>
+        requires { Whole self.old }
+        ensures whole { OnOk result (Whole self.new) }
+        ensures leaves { OnOk result ((otherwise : Command) → Leaves self.old self.new (cuts_in body.now.program.now body.now.sub.now (arms_before otherwise (map arm_before arms.now)) (after rest.now)) (cuts_in body.now.program.now body.now.sub.now otherwise (after rest.now))) }
+    {
+        for arm in arms {
+            self.cuts(alloc, body, arm.body.as_slice(), rest)?;
+        }
+        Ok(())
+    }
+
+    /// The paths from the cuts in alternatives, each along what follows.
+    #[cycle(cuts)]
+    fn cuts_in_alternatives(
+        &mut self,
+        alloc: Global,
+        body: &Body,
+        alternatives: &[CoreAlternative],
+        rest: &Rest,
+    ) -> Result<(), AllocError>
+        requires { Whole self.old }
+        ensures { OnOk result (Leaves self.old self.new (cuts_among body.now.program.now body.now.sub.now (map alternative alternatives.now) (after rest.now)) []) }
+    {
+        for alternative in alternatives {
+            self.cuts(alloc, body, alternative.body.as_slice(), rest)?;
+        }
+        Ok(())
+    }
+
+    /// The paths from the cuts in a statement, each along what follows.
+    #[cycle(cuts)]
+    fn cuts_of(
+        &mut self,
+        alloc: Global,
+        body: &Body,
+        stmt: &CoreStmt,
+        rest: &Rest,
+    ) -> Result<(), AllocError>
+        requires { Whole self.old }
+        ensures { OnOk result (Leaves self.old self.new (cuts_in body.now.program.now body.now.sub.now (command stmt.now) (after rest.now)) []) }
+    {
+        match stmt {
+            CoreStmt::Null(_) => Ok(()),
+            CoreStmt::Assignment(_, _) => Ok(()),
+            CoreStmt::Assertion(kind, _, condition) => match kind {
+                AssertionKind::Check => Ok(()),
+                AssertionKind::Assert => {
+                    self.from_cut(alloc, body, condition, rest)?;
+                    Ok(())
+                }
+            },
+            CoreStmt::If(arms, otherwise, _) => {
+                self.cuts_in_arms(alloc, body, arms.as_slice(), rest)?;
+                match otherwise {
+                    None => Ok(()),
+                    Some(stmts) => {
+                        self.cuts(alloc, body, stmts.as_slice(), rest)?;
+                        Ok(())
+                    }
+                }
+            }
+            CoreStmt::Case(_, _, alternatives, _) => {
+                self.cuts_in_alternatives(alloc, body, alternatives.as_slice(), rest)?;
+                Ok(())
+            }
+        }
+    }
+
+    /// The paths from the cuts in statements, each along what follows.
+    #[cycle(cuts)]
+    pub fn cuts(
+        &mut self,
+        alloc: Global,
+        body: &Body,
+        stmts: &[CoreStmt],
+        rest: &Rest,
+    ) -> Result<(), AllocError>
+        requires { Whole self.old }
+        ensures { OnOk result (Leaves self.old self.new (cuts_in body.now.program.now body.now.sub.now (commands stmts.now) (after rest.now)) []) }
+    {
+        for (at, stmt) in stmts.iter().enumerate() {
+            let following = Rest::more(&stmts[at + 1..], &*rest);
+            self.cuts_of(alloc, body, stmt, &following)?;
+        }
+        Ok(())
+    }
+}
