@@ -5,11 +5,10 @@ use Rattle.spx_text.specs.declared.place.Place.{Place}
 use Rattle.spx_tree.specs.declared.statement.AssertionKind.TheVariants.{Assert}
 use Rattle.spx_core.specs.declared.expression.CoreExpr.{CoreExpr}
 use Rattle.spx_core.specs.declared.program.Program.{Program}
-use Rattle.spx_core.specs.declared.statement.CoreAlternative.{CoreAlternative, out-CoreAlternative}
 use Rattle.spx_core.specs.declared.statement.CoreArm.{CoreArm, out-CoreArm}
 use Rattle.spx_core.specs.declared.statement.CoreStmt.{CoreStmt}
 use Rattle.spx_core.specs.declared.subprogram.Sub.{Sub}
-use Rattle.spx_core.specs.Commands.{Command, Then, alternative, alternatives_of, arm_before, arms_before, command, commands, select}
+use Rattle.spx_core.specs.Commands.{Command, Then, alternatives_of, arm_before, arms_before, command, commands, select}
 use Rattle.spx_term.specs.declared.term.Name.{Name}
 use Rattle.spx_term.specs.declared.term.Term.{Term}
 use Rattle.spx_term.specs.declared.term.Term.TheVariants.{Variable}
@@ -27,7 +26,6 @@ use Rattle.spx_vcg.specs.States.{AreValues, given, state_in}
 use Rattle.spx_vcg.specs.WalkSteps.{Goes, Walks, Whole, claims_from}
 use Rattle.spx_vcg.specs.PathWalk.{Ends}
 use Rattle.spx_vcg.proofs.BranchSteps.{here_is}
-use Rattle.spx_vcg.proofs.ChoiceSteps.{here_alternative}
 use Rattle.spx_vcg.proofs.Forms.{Part, arm_is}
 use Rattle.spx_vcg.proofs.StartSteps.{assume_all-append}
 
@@ -115,13 +113,6 @@ module _ (p : Program) (sub : Sub) {a b c : Walk} {all : List Tree} (following :
       let next = arms_before otherwise (map arm_before (drop (i + 1) arms)) in
       leaves_next (cuts_in p sub (commands (out-CoreArm arm).body) following) (cuts_in p sub next following)
       (ap (λ xs. cuts_in p sub (arms_before otherwise (map arm_before xs)) following) (drop-cons arms i arm within ∙ (λ k. sym is k ∷ drop (sym (add-one i) k) arms)) ∙ ap (λ d. cuts_in p sub d following) (arm_is arm next)) before step
-
-  pub next_alternative : (alternatives : List CoreAlternative) (i : ℕ) (chosen : CoreAlternative) → i < length alternatives → chosen ≡ get_or alternatives i chosen
-      → Leaves a b all (cuts_among p sub (map alternative (drop i alternatives)) following)
-      → Leaves b c (cuts_in p sub (commands (out-CoreAlternative chosen).body) following) [] → Leaves a c all (cuts_among p sub (map alternative (drop (i + 1) alternatives)) following)
-  next_alternative alternatives i chosen within is before step =
-      leaves_next (cuts_in p sub (commands (out-CoreAlternative chosen).body) following) (cuts_among p sub (map alternative (drop (i + 1) alternatives)) following)
-      (ap (λ xs. cuts_among p sub xs following) (here_alternative alternatives i chosen within is)) before step
 
 -- those of a `case` are those in its alternatives
 among_is : (p : Program) (sub : Sub) (first : Part) (more : List Part) (following : Command) → cuts_for p sub (alternatives_of first more) (walk p sub following (ending p sub) (ending p sub)) (ending p sub) ≡ cuts_among p sub (first ∷ more) following

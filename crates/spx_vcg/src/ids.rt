@@ -223,8 +223,7 @@ pub fn member_id(
     }
 }
 
-/// The id of the term of an expression, where variables have these values and names stand so. A static one
-/// stands as its value.
+/// The id of the term of an expression, where its names stand so and have these values. A static one stands as its value.
 #[cycle(term_id)]
 pub fn term_id(
     program: &Program,

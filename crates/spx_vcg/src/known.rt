@@ -1,5 +1,5 @@
 // What is known after each cut of a body.
-ghost use Rattle.std.specs.Prelude.{◌≡◌, ◌&&◌, flat_map, OnOk};
+ghost use Rattle.std.specs.Prelude.{◌&&◌, flat_map, OnOk};
 ghost use Rattle.spx_core.specs.Formals.{formals};
 ghost use Rattle.spx_core.specs.Mirror.VarSets.{holds};
 ghost use Rattle.spx_term.specs.Steps.{assume_all};
@@ -12,7 +12,7 @@ use crate::entered::{Entered, Interface};
 use crate::names::{entry, now};
 use crate::steps::Body;
 use crate::walk::Walk;
-use spx_core::{Program, Sub, VarId};
+use spx_core::{Program, VarId};
 use std::alloc::{AllocError, Global};
 
 impl Walk {
