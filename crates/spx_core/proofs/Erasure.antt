@@ -17,6 +17,8 @@ use Rattle.spx_tree.specs.declared.statement.Stmt.TheVariants as stmt
 use Rattle.spx_tree.specs.declared.statement.Arm.{Arm, Arm-F, map-Arm, roll-Arm, fold-roll-Arm}
 use Rattle.spx_tree.specs.declared.statement.Alternative.{Alternative, Alternative-F, map-Alternative, roll-Alternative, fold-roll-Alternative}
 use Rattle.spx_tree.specs.declared.statement.Choice.{Choice}
+use Rattle.spx_tree.specs.declared.statement.Scheme.{Scheme}
+use Rattle.spx_tree.specs.declared.statement.Scheme.TheVariants as scheme
 use Rattle.spx_tree.specs.declared.annotation.Exports.{Exports}
 use Rattle.spx_tree.specs.declared.annotation.Exports.TheVariants as exported
 use Rattle.spx_tree.specs.declared.annotation.DerivesItem.{DerivesItem}
@@ -34,13 +36,13 @@ use Rattle.spx_core.specs.declared.statement.CoreAlternative.{CoreAlternative, f
 use Rattle.spx_core.specs.declared.dependency.CoreDerivesItem.{CoreDerivesItem}
 use Rattle.spx_core.specs.declared.program.Program.{Program}
 use Rattle.spx_core.specs.Regions.{Region, Regions, hidden}
-use Rattle.spx_core.specs.Erased.{Visible, erased, erased_alternative, erased_alternative_step, erased_arm, erased_arm_step, erased_choice, erased_decl, erased_range, erased_defining, erased_derives, erased_exports, erased_expr, erased_formal_part, erased_item, erased_param, erased_predicate, erased_reference, erased_step, erased_stmt, erased_stmt_step, erased_sub, unit_of}
+use Rattle.spx_core.specs.Erased.{Visible, erased, erased_alternative, erased_alternative_step, erased_arm, erased_arm_step, erased_choice, erased_decl, erased_range, erased_defining, erased_derives, erased_exports, erased_expr, erased_formal_part, erased_item, erased_param, erased_predicate, erased_reference, erased_scheme, erased_step, erased_stmt, erased_stmt_step, erased_sub, unit_of}
 use Rattle.spx_core.specs.Judged.{breach_in}
 use Rattle.spx_core.specs.Statements.{Typed, first_name_breach, judged_program}
 use Rattle.spx_core.proofs.Callers.Bodies.{all_are_units}
 use Rattle.spx_core.proofs.Judgements.{unbroken}
 use Rattle.spx_core.specs.Resolved as resolved
-use Rattle.spx_core.specs.Resolved.{after_formals, around_body, around_formals, around_names, at_start, counted, counted_sub, Counts, declared_by, declaring, declaring_all, defining, defining_all, exported_names, formal_names, is_changed_by, items_for, local_names, meant_at, place_of_null, resolved_alternative, resolved_arm, resolved_choice, resolved_decl, resolved_decls, resolved_derives, resolved_expr, resolved_formal_part, resolved_function, resolved_in, resolved_item, resolved_name, resolved_param, resolved_params, resolved_predicate, resolved_range, resolved_reference, resolved_stmt, resolved_sub, resolved_subs, resolved_type, unit_name}
+use Rattle.spx_core.specs.Resolved.{after_formals, around_body, around_formals, around_names, at_start, counted, counted_sub, Counts, declared_by, declaring, declaring_all, defining, defining_all, exported_names, formal_names, is_changed_by, items_for, local_names, meant_at, place_of_null, resolved_alternative, resolved_arm, resolved_choice, resolved_decl, resolved_decls, resolved_derives, resolved_expr, resolved_formal_part, resolved_function, resolved_in, resolved_item, resolved_name, resolved_param, resolved_params, resolved_predicate, resolved_range, resolved_reference, resolved_scheme, resolved_stmt, resolved_sub, resolved_subs, resolved_type, unit_name}
 
 -- ---- names and expressions
 
@@ -118,6 +120,9 @@ module _ (regions : Regions) where
   kept_choices : (choices : Option (List Choice)) → option_map (map erased_choice) (option_map (map (resolved_choice regions)) choices) ≡ choices
   kept_choices choices = kept_if_there (map erased_choice) (map (resolved_choice regions)) (kept_each erased_choice (resolved_choice regions) kept_choice) choices
 
+  kept_scheme : (written : Scheme) → erased_scheme (resolved_scheme regions written) ≡ written
+  kept_scheme (scheme.While place condition) = ap (scheme.While place) (kept_expr regions condition)
+
   kept_exports : (exports : Exports) → erased_exports (place_of_null exports) (map (resolved_reference regions) (exported_names exports)) ≡ exports
   kept_exports (exported.Names names) = ap exported.Names (kept_each erased_reference (resolved_reference regions) (kept_reference regions) names)
   kept_exports (exported.Null place) = refl
@@ -172,6 +177,9 @@ module _ (items : List CoreDerivesItem) (regions : Regions) where
   stmt_at_layer (Stmt-F.Case place selector alternatives closing) =
       erased_stmt_at (CoreStmt-F.Case place (resolved_expr regions selector) (map (resolved_alternative items regions) (map (λ a. a.0) alternatives)) closing)
       ∙ ap₂ (λ (e : Expr) (a : List Alternative). stmt.Case place e a closing) (kept_expr regions selector) (all_kept erased_alternative (resolved_alternative items regions) alternatives)
+  stmt_at_layer (Stmt-F.Loop scheme word body closing) =
+      erased_stmt_at (CoreStmt-F.Loop (resolved_scheme regions scheme) word (map (resolved_stmt items regions) (map (λ s. s.0) body)) closing)
+      ∙ ap₂ (λ (x : Scheme) (b : List Stmt). stmt.Loop x word b closing) (kept_scheme regions scheme) (all_kept erased_stmt (resolved_stmt items regions) body)
   stmt_at_layer (Stmt-F.Assertion kind place condition) =
       erased_stmt_at (CoreStmt-F.Assertion kind place (resolved_in items regions condition)) ∙ ap (stmt.Assertion kind place) (kept_in items regions condition)
 

@@ -13,6 +13,7 @@ use Rattle.spx_tree.specs.declared.expression.Expr.{Expr}
 use Rattle.spx_tree.specs.declared.statement.Stmt.{Stmt, Stmt-F, map-Stmt, roll-Stmt, ind-Stmt, fold-roll-Stmt}
 use Rattle.spx_tree.specs.declared.statement.Arm.{Arm, Arm-F, map-Arm, roll-Arm, fold-roll-Arm}
 use Rattle.spx_tree.specs.declared.statement.Alternative.{Alternative, Alternative-F, map-Alternative, roll-Alternative, fold-roll-Alternative}
+use Rattle.spx_tree.specs.declared.statement.Scheme.TheVariants as scheme
 use Rattle.spx_tree.specs.declared.annotation.DerivesItem.{DerivesItem}
 use Rattle.spx_tree.specs.declared.annotation.Derives.{Derives}
 use Rattle.spx_tree.specs.declared.annotation.Predicate.{Predicate}
@@ -49,7 +50,7 @@ use Rattle.spx_core.specs.Formals.{is_formal, is_local, mode_in, mode_of, stands
 use Rattle.spx_core.specs.Effects.{Read, effect, effect_among, is_read, reads, reads_of, sets}
 use Rattle.spx_core.specs.Obeyed.{mode_denoted}
 use Rattle.spx_core.specs.Regions.{Region, Regions}
-use Rattle.spx_core.specs.Resolved.{after_formals, around_body, at_start, counted_sub, Counts, declaring, declaring_all, exported_names, formal_names, items_for, local_names, local_variables, own_types, own_vars, resolved_alternative, resolved_arm, resolved_derives, resolved_expr, resolved_in, resolved_item, resolved_predicate, resolved_reference, resolved_stmt, resolved_sub, resolved_subs, standard_types, unit_name, var_of}
+use Rattle.spx_core.specs.Resolved.{after_formals, around_body, at_start, counted_sub, Counts, declaring, declaring_all, exported_names, formal_names, items_for, local_names, local_variables, own_types, own_vars, resolved_alternative, resolved_arm, resolved_derives, resolved_expr, resolved_in, resolved_item, resolved_predicate, resolved_reference, resolved_scheme, resolved_stmt, resolved_sub, resolved_subs, standard_types, unit_name, var_of}
 use Rattle.spx_core.specs.Resolved as resolved
 use Rattle.spx_core.specs.Erased.{Visible, erased}
 use Rattle.spx_core.specs.Scopes.{AllAreAsDeclared, AllHaveTheirModes, AreAsDeclared, HasItsMode, HaveTheirModes, IsAsDeclared, IsLocalKind, Scoped, TargetsHaveTheirModes, kind_of, object_declared, object_in}
@@ -163,6 +164,9 @@ module _ (items : List CoreDerivesItem) (regions : Regions) where
       (arms_resolve _ (chain_resolves stmts) arms)
   stmt_at_layer (Stmt-F.Case place selector alternatives closing) =
       subst (Resolves regions) (sym (command_at (CoreStmt-F.Case place (resolved_expr regions selector) (map (resolved_alternative items regions) (map (λ a. a.0) alternatives)) closing))) (select_resolves place selector alternatives)
+  stmt_at_layer (Stmt-F.Loop (scheme.While place condition) word body closing) =
+      subst (Resolves regions) (sym (command_at (CoreStmt-F.Loop (resolved_scheme regions (scheme.While place condition)) word (map (resolved_stmt items regions) (map (λ s. s.0) body)) closing)))
+      (([], condition, refl), chain_resolves body)
   stmt_at_layer (Stmt-F.Assertion kind place condition) =
       subst (Resolves regions) (sym (command_at (CoreStmt-F.Assertion kind place (resolved_in items regions condition)))) (items, condition, refl)
 

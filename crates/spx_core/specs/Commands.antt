@@ -1,4 +1,4 @@
--- What statements do, without lists: statements in a row are a chain, and `elsif` is an `if` in the `else` before it (Ada 95 RM 5.1 to 5.4).
+-- What statements do, without lists: statements in a row are a chain, and `elsif` is an `if` in the `else` before it (Ada 95 RM 5.1 to 5.5).
 use Rattle.std.specs.Prelude.{Bool, true, false, ◌||◌, ◌&&◌, is_none, is_some, List, [], ◌∷◌, ◌++◌, map, Option, Some, None}
 use Rattle.spx_text.specs.declared.place.Place.{Place}
 use Rattle.spx_tree.specs.declared.statement.AssertionKind.{AssertionKind}
@@ -9,6 +9,8 @@ use Rattle.spx_core.specs.declared.statement.CoreStmt.{CoreStmt, CoreStmt-F, fol
 use Rattle.spx_core.specs.declared.statement.CoreArm.{CoreArm, CoreArm-F, fold-CoreArm}
 use Rattle.spx_core.specs.declared.statement.CoreAlternative.{CoreAlternative, CoreAlternative-F, fold-CoreAlternative}
 use Rattle.spx_core.specs.declared.statement.CoreChoice.{CoreChoice}
+use Rattle.spx_core.specs.declared.statement.CoreScheme.{CoreScheme}
+use Rattle.spx_core.specs.declared.statement.CoreScheme.TheVariants as scheme
 use Rattle.spx_core.specs.declared.function.Span.{Span}
 
 mutual
@@ -66,11 +68,16 @@ abbrev pub select : Place → CoreExpr → List (Option (List CoreChoice) × Com
 select place selector [] = Skip
 select place selector (first ∷ rest) = Select place selector (alternatives_of first rest)
 
+-- a loop over its body
+abbrev pub loop_of : CoreScheme → Command → Command
+loop_of (scheme.While place condition) body = While place condition body
+
 abbrev pub stmt_step : CoreStmt-F Command (Option (List CoreChoice) × Command) (Command → Command) → Command
 stmt_step (CoreStmt-F.Null place) = Skip
 stmt_step (CoreStmt-F.Assignment target value) = Set target value
 stmt_step (CoreStmt-F.If arms otherwise closing) = arms_before (or_skip otherwise) arms
 stmt_step (CoreStmt-F.Case place selector alternatives closing) = select place selector alternatives
+stmt_step (CoreStmt-F.Loop scheme word body closing) = loop_of scheme (chain body)
 stmt_step (CoreStmt-F.Assertion kind place condition) = Assertion kind place condition
 
 abbrev pub command : CoreStmt → Command

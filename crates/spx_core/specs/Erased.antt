@@ -15,6 +15,8 @@ use Rattle.spx_tree.specs.declared.statement.Stmt.TheVariants as stmt
 use Rattle.spx_tree.specs.declared.statement.Arm.{Arm}
 use Rattle.spx_tree.specs.declared.statement.Alternative.{Alternative}
 use Rattle.spx_tree.specs.declared.statement.Choice.{Choice}
+use Rattle.spx_tree.specs.declared.statement.Scheme.{Scheme}
+use Rattle.spx_tree.specs.declared.statement.Scheme.TheVariants as scheme
 use Rattle.spx_tree.specs.declared.expression.Function.{Function}
 use Rattle.spx_text.specs.declared.place.Place.{Place}
 use Rattle.spx_tree.specs.declared.annotation.Exports.{Exports}
@@ -36,6 +38,8 @@ use Rattle.spx_core.specs.declared.statement.CoreStmt.{CoreStmt, CoreStmt-F, fol
 use Rattle.spx_core.specs.declared.statement.CoreArm.{CoreArm, CoreArm-F, fold-CoreArm}
 use Rattle.spx_core.specs.declared.statement.CoreAlternative.{CoreAlternative, CoreAlternative-F, fold-CoreAlternative}
 use Rattle.spx_core.specs.declared.statement.CoreChoice.{CoreChoice}
+use Rattle.spx_core.specs.declared.statement.CoreScheme.{CoreScheme}
+use Rattle.spx_core.specs.declared.statement.CoreScheme.TheVariants as core_scheme
 use Rattle.spx_core.specs.declared.function.CoreFunction.{CoreFunction}
 use Rattle.spx_core.specs.declared.statement.CoreDecl.{CoreDecl}
 use Rattle.spx_core.specs.declared.statement.CoreDecl.TheVariants as core_decl
@@ -89,6 +93,9 @@ erased_expr = fold-CoreExpr Expr erased_step
 abbrev pub erased_choice : CoreChoice → Choice
 erased_choice choice = record { low = erased_expr choice.low; high = option_map erased_expr choice.high }
 
+abbrev pub erased_scheme : CoreScheme → Scheme
+erased_scheme (core_scheme.While place condition) = scheme.While place (erased_expr condition)
+
 abbrev pub erased_alternative_step : CoreAlternative-F Stmt Alternative Arm → Alternative
 erased_alternative_step alternative = record { choices = option_map (map erased_choice) alternative.choices; body = alternative.body }
 
@@ -100,6 +107,7 @@ erased_stmt_step (CoreStmt-F.Null place) = stmt.Null place
 erased_stmt_step (CoreStmt-F.Assignment target value) = stmt.Assignment (erased_reference target) (erased_expr value)
 erased_stmt_step (CoreStmt-F.If arms otherwise closing) = stmt.If arms otherwise closing
 erased_stmt_step (CoreStmt-F.Case place selector alternatives closing) = stmt.Case place (erased_expr selector) alternatives closing
+erased_stmt_step (CoreStmt-F.Loop scheme word body closing) = stmt.Loop (erased_scheme scheme) word body closing
 erased_stmt_step (CoreStmt-F.Assertion kind place condition) = stmt.Assertion kind place (erased_expr condition)
 
 abbrev pub erased_stmt : CoreStmt → Stmt

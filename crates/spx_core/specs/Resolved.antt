@@ -15,6 +15,8 @@ use Rattle.spx_tree.specs.declared.statement.Stmt.{Stmt, Stmt-F, fold-Stmt}
 use Rattle.spx_tree.specs.declared.statement.Arm.{Arm, Arm-F, fold-Arm}
 use Rattle.spx_tree.specs.declared.statement.Alternative.{Alternative, Alternative-F, fold-Alternative}
 use Rattle.spx_tree.specs.declared.statement.Choice.{Choice}
+use Rattle.spx_tree.specs.declared.statement.Scheme.{Scheme}
+use Rattle.spx_tree.specs.declared.statement.Scheme.TheVariants as scheme
 use Rattle.spx_tree.specs.declared.expression.Function.{Function}
 use Rattle.spx_text.specs.declared.place.Place.{Place}
 use Rattle.spx_tree.specs.declared.annotation.Exports.{Exports}
@@ -55,6 +57,8 @@ use Rattle.spx_core.specs.declared.statement.CoreStmt.{CoreStmt}
 use Rattle.spx_core.specs.declared.statement.CoreArm.{CoreArm}
 use Rattle.spx_core.specs.declared.statement.CoreAlternative.{CoreAlternative}
 use Rattle.spx_core.specs.declared.statement.CoreChoice.{CoreChoice}
+use Rattle.spx_core.specs.declared.statement.CoreScheme.{CoreScheme}
+use Rattle.spx_core.specs.declared.statement.CoreScheme.TheVariants as core_scheme
 use Rattle.spx_core.specs.declared.function.CoreFunction.{CoreFunction}
 use Rattle.spx_core.specs.declared.function.Span.{Span}
 use Rattle.spx_core.specs.declared.statement.CoreStmt.TheVariants as stmt
@@ -158,6 +162,9 @@ choice_of low high = record { low = low; high = high; span = chosen_by low high 
 abbrev pub resolved_choice : Regions → Choice → CoreChoice
 resolved_choice regions choice = choice_of (resolved_expr regions choice.low) (option_map (resolved_expr regions) choice.high)
 
+abbrev pub resolved_scheme : Regions → Scheme → CoreScheme
+resolved_scheme regions (scheme.While place condition) = core_scheme.While place (resolved_expr regions condition)
+
 -- one level, whose parts are resolved
 abbrev pub alternative_step : Regions → Alternative-F CoreStmt CoreAlternative CoreArm → CoreAlternative
 alternative_step regions alternative = record { choices = option_map (map (resolved_choice regions)) alternative.choices; body = alternative.body }
@@ -170,6 +177,7 @@ stmt_step items regions (Stmt-F.Null place) = stmt.Null place
 stmt_step items regions (Stmt-F.Assignment target value) = stmt.Assignment (resolved_reference regions target) (resolved_expr regions value)
 stmt_step items regions (Stmt-F.If arms otherwise closing) = stmt.If arms otherwise closing
 stmt_step items regions (Stmt-F.Case place selector alternatives closing) = stmt.Case place (resolved_expr regions selector) alternatives closing
+stmt_step items regions (Stmt-F.Loop scheme word body closing) = stmt.Loop (resolved_scheme regions scheme) word body closing
 stmt_step items regions (Stmt-F.Assertion kind place condition) = stmt.Assertion kind place (resolved_in items regions condition)
 
 abbrev pub resolved_stmt : List CoreDerivesItem → Regions → Stmt → CoreStmt

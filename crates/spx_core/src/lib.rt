@@ -31,7 +31,7 @@ pub use name::{CoreName, Defining, Reference, Step};
 pub use program::{CoreUnit, Program, TypeRow, Var};
 pub use rule::{Breach, ExprType, RuleName, Typing};
 pub use statement::{
-    CoreAlternative, CoreArm, CoreChoice, CoreDecl, CoreRange, CoreStmt, CoreTypeDef,
+    CoreAlternative, CoreArm, CoreChoice, CoreDecl, CoreRange, CoreScheme, CoreStmt, CoreTypeDef,
 };
 pub use subprogram::{CoreFormalPart, CoreParam, CorePredicate, Sub};
 pub use vars::VarSet;

@@ -46,8 +46,17 @@ pub enum CoreStmt {
     If(Items<CoreArm>, Option<Items<CoreStmt>>, Closing),
     /// At the word `case`: the selector, the alternatives, one or more, and the closing words (Ada 95 RM 5.4).
     Case(Place, CoreExpr, Items<CoreAlternative>, Closing),
+    /// The scheme, the word `loop`, the statements, and the closing words (Ada 95 RM 5.5).
+    Loop(CoreScheme, Place, Items<CoreStmt>, Closing),
     /// At the word `assert` or `check`: what must be true there (Barnes).
     Assertion(AssertionKind, Place, CoreExpr),
+}
+
+/// How often the statements of a loop run (Ada 95 RM 5.5).
+#[derive(Debug, Drop)]
+pub enum CoreScheme {
+    /// At the word `while`: again and again as long as the condition is true.
+    While(Place, CoreExpr),
 }
 
 /// A condition and the statements after `then`, at the word `if` or `elsif`.

@@ -7,6 +7,8 @@ use Rattle.spx_tree.specs.declared.statement.Stmt.{Stmt, Stmt-F, out-Stmt}
 use Rattle.spx_tree.specs.declared.statement.Arm.{Arm, out-Arm}
 use Rattle.spx_tree.specs.declared.statement.Alternative.{Alternative, out-Alternative}
 use Rattle.spx_tree.specs.declared.statement.Choice.{Choice}
+use Rattle.spx_tree.specs.declared.statement.Scheme.{Scheme}
+use Rattle.spx_tree.specs.declared.statement.Scheme.TheVariants as scheme
 use Rattle.spx_tree.specs.declared.declaration.Decl.{Decl}
 use Rattle.spx_tree.specs.declared.declaration.Decl.TheVariants as decl
 use Rattle.spx_tree.specs.declared.declaration.Range.{Range}
@@ -15,7 +17,7 @@ use Rattle.spx_tree.specs.declared.declaration.TypeDef.TheVariants as definition
 use Rattle.spx_tree.specs.declared.annotation.Predicate.{Predicate}
 use Rattle.spx_tree.specs.declared.subprogram.Unit.{Unit}
 use Rattle.spx_tree.specs.declared.subprogram.Unit.TheVariants as unit
-use Rattle.spx_tree.specs.Grammar.{Each, OneOrMore, OfLayer, IsArm, IsChoice, IsAlternative, IsExpr, IsFormed, Within, IsStmt, IsStmts, IsPredicate, IfThere, IsDecl, IsDefinition, IsRange, IsUnit, IsFile}
+use Rattle.spx_tree.specs.Grammar.{Each, OneOrMore, OfLayer, IsArm, IsChoice, IsAlternative, IsScheme, IsExpr, IsFormed, Within, IsStmt, IsStmts, IsPredicate, IfThere, IsDecl, IsDefinition, IsRange, IsUnit, IsFile}
 
 each_more : {A : Type 0} (P Q : A → Type 0) → ((x : A) → P x → Q x) → (xs : List A) → Each P xs → Each Q xs
 each_more P Q h [] f = tt
@@ -31,6 +33,9 @@ there_more P Q h (Some x) f = h x f
 
 pub layer_more : (m n : ℕ) → m ≤ n → (layer : Layer) (e : Expr) → OfLayer layer m e → OfLayer layer n e
 layer_more m n le layer e f = record { low = let low = f.low in omega arith; layered = f.layered; of_layer = f.of_layer }
+
+scheme_more : (m n : ℕ) → m ≤ n → (x : Scheme) → IsScheme m x → IsScheme n x
+scheme_more m n le (scheme.While place condition) f = layer_more m n le _ condition f
 
 -- where the statements one level down are, so is one level
 module _ (m n : ℕ) (le : m ≤ n) (inner : (x : Stmt) → Within m x → Within n x) where
@@ -55,6 +60,9 @@ module _ (m n : ℕ) (le : m ≤ n) (inner : (x : Stmt) → Within m x → Withi
       (let some = f.0 in omega arith, one_more (λ a. IsArm m (Within m) (out-Arm a)) (λ a. IsArm n (Within n) (out-Arm a)) arm_more arms f.1, there_more (OneOrMore (Within m)) (OneOrMore (Within n)) (one_more (Within m) (Within n) inner) otherwise f.2)
   formed_more (Stmt-F.Case place selector alternatives closing) f =
       (let some = f.0 in omega arith, layer_more (m - 1) (n - 1) (omega arith) _ selector f.1, one_more (λ a. IsAlternative m (Within m) (out-Alternative a)) (λ a. IsAlternative n (Within n) (out-Alternative a)) alternative_more alternatives f.2)
+
+  formed_more (Stmt-F.Loop scheme word body closing) f =
+      (let some = f.0 in omega arith, scheme_more (m - 1) (n - 1) (omega arith) scheme f.1, one_more (Within m) (Within n) inner body f.2)
 
 within_more : (m n : ℕ) → m ≤ n → (x : Stmt) → Within m x → Within n x
 within_more zero n le x f = absurd f

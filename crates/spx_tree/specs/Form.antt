@@ -63,6 +63,8 @@ keeps k.End = ItsPlace
 keeps k.If = ItsPlace
 keeps k.Elsif = ItsPlace
 keeps k.Case = ItsPlace
+keeps k.While = ItsPlace
+keeps k.Loop = ItsPlace
 keeps _ = KindAlone
 
 -- the bytes of a token

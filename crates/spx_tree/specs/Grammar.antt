@@ -19,6 +19,8 @@ use Rattle.spx_tree.specs.declared.statement.Stmt.{Stmt, Stmt-F, out-Stmt}
 use Rattle.spx_tree.specs.declared.statement.Arm.{Arm, Arm-F, out-Arm}
 use Rattle.spx_tree.specs.declared.statement.Alternative.{Alternative, Alternative-F, out-Alternative}
 use Rattle.spx_tree.specs.declared.statement.Choice.{Choice}
+use Rattle.spx_tree.specs.declared.statement.Scheme.{Scheme}
+use Rattle.spx_tree.specs.declared.statement.Scheme.TheVariants as scheme
 use Rattle.spx_tree.specs.declared.annotation.Exports.{Exports}
 use Rattle.spx_tree.specs.declared.annotation.Exports.TheVariants as exported
 use Rattle.spx_tree.specs.declared.annotation.Imports.{Imports}
@@ -237,14 +239,19 @@ pub record IsChoice (levels : ℕ) (choice : Choice) : Type 0 where
 abbrev pub IsAlternative : ℕ → (Stmt → Type 0) → Alternative-F Stmt Alternative Arm → Type 0
 IsAlternative levels Inner alternative = IfThere (OneOrMore (IsChoice (levels - 1))) alternative.choices × OneOrMore Inner alternative.body
 
+-- "while" expression (Ada 95 RM 5.5)
+abbrev pub IsScheme : ℕ → Scheme → Type 0
+IsScheme levels (scheme.While place condition) = IsExpr levels condition
+
 -- one level: "null" ";" (Ada 95 RM 5.1) | name ":=" expression ";" (5.2) | "if" arm {"elsif" arm} ["else" statements] "end" "if" ";" (5.3)
--- | "case" expression "is" alternative {alternative} "end" "case" ";" (5.4) | ("assert" | "check") predicate ";" (Barnes)
+-- | "case" expression "is" alternative {alternative} "end" "case" ";" (5.4) | scheme "loop" statements "end" "loop" ";" (5.5) | ("assert" | "check") predicate ";" (Barnes)
 abbrev pub IsFormed : ℕ → (Stmt → Type 0) → Stmt-F Stmt Alternative Arm → Type 0
 IsFormed levels Inner (Stmt-F.Null place) = ⊤
 IsFormed levels Inner (Stmt-F.Assignment target value) = IsExpr levels value
 IsFormed levels Inner (Stmt-F.If arms otherwise closing) = (0 < levels) × OneOrMore (λ arm. IsArm levels Inner (out-Arm arm)) arms × IfThere (OneOrMore Inner) otherwise
 IsFormed levels Inner (Stmt-F.Case place selector alternatives closing) =
     (0 < levels) × IsExpr (levels - 1) selector × OneOrMore (λ alternative. IsAlternative levels Inner (out-Alternative alternative)) alternatives
+IsFormed levels Inner (Stmt-F.Loop scheme word body closing) = (0 < levels) × IsScheme (levels - 1) scheme × OneOrMore Inner body
 IsFormed levels Inner (Stmt-F.Assertion kind place condition) = IsCondition levels condition
 
 -- a statement one level below a place where so many levels are left
@@ -252,7 +259,7 @@ abbrev pub Within : ℕ → Stmt → Type 0
 Within zero x = ⊥
 Within (suc levels) x = IsFormed levels (Within levels) (out-Stmt x)
 
--- a statement within so many levels: an "if" and a "case" open one
+-- a statement within so many levels: an "if", a "case" and a loop open one
 abbrev pub IsStmt : ℕ → Stmt → Type 0
 IsStmt levels x = IsFormed levels (Within levels) (out-Stmt x)
 

@@ -27,6 +27,8 @@ use Rattle.spx_tree.specs.declared.statement.Stmt.{Stmt, Stmt-F, fold-Stmt}
 use Rattle.spx_tree.specs.declared.statement.Arm.{Arm, Arm-F, fold-Arm}
 use Rattle.spx_tree.specs.declared.statement.AssertionKind.{AssertionKind}
 use Rattle.spx_tree.specs.declared.statement.AssertionKind.TheVariants as assertion
+use Rattle.spx_tree.specs.declared.statement.Scheme.{Scheme}
+use Rattle.spx_tree.specs.declared.statement.Scheme.TheVariants as scheme
 use Rattle.spx_tree.specs.declared.statement.Alternative.{Alternative, Alternative-F, fold-Alternative}
 use Rattle.spx_tree.specs.declared.statement.Choice.{Choice}
 use Rattle.spx_tree.specs.declared.annotation.Exports.{Exports}
@@ -256,19 +258,25 @@ written_choices (Some choices) = separated (bare program k.Bar) written_choice c
 abbrev pub alternative_step : Alternative-F (List Form) (List Form) (Kind → List Form) → List Form
 alternative_step alternative = bare program k.When ∷ (written_choices alternative.choices ++ bare program k.Arrow ∷ joined alternative.body)
 
+-- "while" expression
+abbrev pub written_scheme : Scheme → List Form
+written_scheme (scheme.While place condition) = placed program k.While place ∷ written_expr program condition
+
 -- the word of an annotation among statements
 abbrev pub assertion_word : AssertionKind → Kind
 assertion_word assertion.Assert = k.Assert
 assertion_word assertion.Check = k.Check
 
 -- one level, whose parts are written: "null" ";" | name ":=" expression ";" | "if" arm {"elsif" arm} ["else" statements] "end" "if" ";"
--- | "case" expression "is" alternative {alternative} "end" "case" ";" | ("assert" | "check") predicate ";", in annotation text
+-- | "case" expression "is" alternative {alternative} "end" "case" ";" | scheme "loop" statements "end" "loop" ";" | ("assert" | "check") predicate ";", in annotation text
 abbrev pub stmt_step : Stmt-F (List Form) (List Form) (Kind → List Form) → List Form
 stmt_step (Stmt-F.Null place) = placed program k.Null place ∷ bare program k.Semicolon ∷ []
 stmt_step (Stmt-F.Assignment target value) = written_name program target ++ bare program k.Assignment ∷ (written_expr program value ++ bare program k.Semicolon ∷ [])
 stmt_step (Stmt-F.If arms otherwise closing) = all_arms arms ++ (else_part otherwise ++ placed program k.End closing.end ∷ placed program k.If closing.word ∷ bare program k.Semicolon ∷ [])
 stmt_step (Stmt-F.Case place selector alternatives closing) =
     placed program k.Case place ∷ (written_expr program selector ++ bare program k.Is ∷ (joined alternatives ++ placed program k.End closing.end ∷ placed program k.Case closing.word ∷ bare program k.Semicolon ∷ []))
+stmt_step (Stmt-F.Loop scheme word body closing) =
+    written_scheme scheme ++ placed program k.Loop word ∷ (joined body ++ placed program k.End closing.end ∷ placed program k.Loop closing.word ∷ bare program k.Semicolon ∷ [])
 stmt_step (Stmt-F.Assertion kind place condition) = written_at (assertion_word kind) place condition
 
 -- statement

@@ -18,8 +18,17 @@ pub enum Stmt {
     If(Items<Arm>, Option<Items<Stmt>>, Closing),
     /// At the word `case`: the selector, the alternatives, one or more, and the closing words (Ada 95 RM 5.4).
     Case(Place, Expr, Items<Alternative>, Closing),
+    /// The scheme, the word `loop`, the statements, and the closing words (Ada 95 RM 5.5).
+    Loop(Scheme, Place, Items<Stmt>, Closing),
     /// At the word `assert` or `check`, in annotation text: what must be true there (Barnes).
     Assertion(AssertionKind, Place, Expr),
+}
+
+/// How often the statements of a loop run (Ada 95 RM 5.5).
+#[derive(Debug, Drop)]
+pub enum Scheme {
+    /// At the word `while`: again and again as long as the condition is true.
+    While(Place, Expr),
 }
 
 /// What is known after an annotation among statements (Barnes).
@@ -88,9 +97,25 @@ impl Stmt {
                 let alternatives = copy_alternatives(alloc, alternatives.as_slice())?;
                 Ok(Stmt::Case(*place, selector, alternatives, *closing))
             }
+            Stmt::Loop(scheme, word, stmts, closing) => {
+                let scheme = scheme.copy(alloc)?;
+                let stmts = copy_statements(alloc, stmts.as_slice())?;
+                Ok(Stmt::Loop(scheme, *word, stmts, *closing))
+            }
             Stmt::Assertion(kind, place, condition) => {
                 Ok(Stmt::Assertion(*kind, *place, condition.copy(alloc)?))
             }
+        }
+    }
+}
+
+impl Scheme {
+    /// An equal scheme.
+    pub fn copy(&self, alloc: Global) -> Result<Scheme, AllocError>
+        ensures { IfOk result (λ scheme. scheme ≡ self.now) }
+    {
+        match self {
+            Scheme::While(place, condition) => Ok(Scheme::While(*place, condition.copy(alloc)?)),
         }
     }
 }

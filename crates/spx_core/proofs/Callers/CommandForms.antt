@@ -7,11 +7,13 @@ use Rattle.spx_core.specs.declared.name.Reference.{Reference}
 use Rattle.spx_core.specs.declared.expression.CoreExpr.{CoreExpr}
 use Rattle.spx_core.specs.declared.statement.CoreStmt.{CoreStmt, CoreStmt-F, out-CoreStmt, map-CoreStmt, fold_out-CoreStmt}
 use Rattle.spx_core.specs.declared.statement.CoreStmt.TheVariants as stmt
-use Rattle.spx_core.specs.declared.statement.CoreStmt.TheVariants.{Null, Assignment, If, Case, outs-Null, outs-Assignment, outs-If, outs-Case, outs-Assertion}
+use Rattle.spx_core.specs.declared.statement.CoreStmt.TheVariants.{Null, Assignment, If, Case, Loop, outs-Null, outs-Assignment, outs-If, outs-Case, outs-Loop, outs-Assertion}
 use Rattle.spx_core.specs.declared.statement.CoreArm.{CoreArm, out-CoreArm, fold_out-CoreArm}
 use Rattle.spx_core.specs.declared.statement.CoreAlternative.{CoreAlternative, out-CoreAlternative, fold_out-CoreAlternative}
 use Rattle.spx_core.specs.declared.statement.CoreChoice.{CoreChoice}
-use Rattle.spx_core.specs.Commands.{Command, Skip, Set, Choose, Assertion, alternative, alternative_step, arm_before, arm_step, arms_before, command, commands, select, stmt_step}
+use Rattle.spx_core.specs.declared.statement.CoreScheme.{CoreScheme}
+use Rattle.spx_core.specs.declared.statement.CoreScheme.TheVariants as scheme
+use Rattle.spx_core.specs.Commands.{Command, Skip, Set, Choose, Assertion, While, alternative, alternative_step, arm_before, arm_step, arms_before, command, commands, select, stmt_step}
 use Rattle.spx_core.specs.Effects.{choose, effect, effects, reads_of}
 
 -- choices, and what is done for them
@@ -38,6 +40,11 @@ command-If-else s arms o stmts closing is some = command_at s (CoreStmt-F.If arm
 
 pub command-Case : (s : CoreStmt) (place : Place) (selector : CoreExpr) (alternatives : List CoreAlternative) (closing : Closing) → s ≡ Case place selector alternatives closing → command s ≡ select place selector (map alternative alternatives)
 command-Case s place selector alternatives closing is = command_at s (CoreStmt-F.Case place selector alternatives closing) (ap out-CoreStmt is ∙ outs-Case place selector alternatives closing)
+
+pub command-While : (s : CoreStmt) (x : CoreScheme) (word : Place) (body : List CoreStmt) (closing : Closing) (place : Place) (condition : CoreExpr) → s ≡ Loop x word body closing → x ≡ scheme.While place condition
+    → command s ≡ While place condition (commands body)
+command-While s x word body closing place condition is while =
+    command_at s (CoreStmt-F.Loop (scheme.While place condition) word body closing) (ap out-CoreStmt (is ∙ ap (λ y. Loop y word body closing) while) ∙ outs-Loop (scheme.While place condition) word body closing)
 
 pub command-Assertion : (kind : AssertionKind) (place : Place) (condition : CoreExpr) → command (stmt.Assertion kind place condition) ≡ Assertion kind place condition
 command-Assertion kind place condition = command_at (stmt.Assertion kind place condition) (CoreStmt-F.Assertion kind place condition) (outs-Assertion kind place condition)
