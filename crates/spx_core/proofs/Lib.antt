@@ -15,3 +15,4 @@ mod StatementBreachLaws
 mod ProgramBreachLaws
 mod InitialValues
 mod TypeValues
+mod OwnCuts

@@ -1,4 +1,6 @@
 // Resolved declarations and statements (Ada 95 RM 3.3, 5).
+ghost use Rattle.std.specs.Prelude.{◌≡◌};
+ghost use Rattle.spx_core.specs.Commands.{command, commands, has_own_cut, is_assert, is_cut};
 
 use crate::{CoreExpr, Defining, Reference, Span};
 use spx_text::Place;
@@ -82,4 +84,40 @@ pub struct CoreChoice {
     pub low: CoreExpr,
     pub high: Option<CoreExpr>,
     pub span: Span,
+}
+
+/// Whether paths end and begin at the annotation.
+fn is_cut(kind: AssertionKind) -> bool
+    ensures { result ≡ is_cut kind }
+{
+    match kind {
+        AssertionKind::Assert => true,
+        AssertionKind::Check => false,
+    }
+}
+
+/// Whether the statement itself is an `assert`.
+fn is_assert(stmt: &CoreStmt) -> bool
+    ensures { result ≡ is_assert (command stmt.now) }
+{
+    match stmt {
+        CoreStmt::Null(_) => false,
+        CoreStmt::Assignment(_, _) => false,
+        CoreStmt::If(_, _, _) => false,
+        CoreStmt::Case(_, _, _, _) => false,
+        CoreStmt::Loop(_, _, _, _) => false,
+        CoreStmt::Assertion(kind, _, _) => is_cut(*kind),
+    }
+}
+
+/// Whether one of the statements is itself an `assert`. Then a loop over them has its own cut (Barnes).
+pub fn has_own_cut(stmts: &[CoreStmt]) -> bool
+    ensures { result ≡ has_own_cut (commands stmts.now) }
+{
+    for stmt in stmts {
+        if is_assert(stmt) {
+            return true;
+        }
+    }
+    false
 }
