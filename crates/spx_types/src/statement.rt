@@ -11,8 +11,8 @@ use crate::choices::{judge_choices, judge_selector};
 use crate::expression::{condition, judge, operand_of};
 use crate::names::{referred_object, referred_target};
 use spx_core::{
-    Breach, CoreAlternative, CoreArm, CoreDerivesItem, CoreExpr, CorePredicate, CoreStmt, ExprType,
-    Reference,
+    Breach, CoreAlternative, CoreArm, CoreDerivesItem, CoreExpr, CorePredicate, CoreScheme,
+    CoreStmt, ExprType, Reference,
 };
 
 fn judge_variable(reference: &Reference) -> Result<(), Breach>
@@ -126,6 +126,10 @@ fn judge_stmt(stmt: &CoreStmt) -> Result<(), Breach>
             let alternatives = alternatives.as_slice();
             let of = judge_selector(*place, selector, alternatives)?;
             judge_alternatives(of, alternatives)
+        }
+        CoreStmt::Loop(CoreScheme::While(_, condition), _, body, _) => {
+            test(condition)?;
+            judge_stmts(body.as_slice())
         }
         CoreStmt::Assertion(_, _, condition) => test(condition),
     }
