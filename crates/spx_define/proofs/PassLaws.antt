@@ -4,13 +4,13 @@ use Rattle.std.specs.Prelude.{◌⊎◌, ◌&&◌}
 use Rattle.std.proofs.lemmas.Bool.{or_parts}
 use Rattle.spx_text.specs.declared.place.Place.{Place}
 use Rattle.spx_core.specs.declared.entity.VarId.{VarId}
-use Rattle.spx_core.specs.Effects.{Effect, Read, nothing, assign, next, choose, observe}
+use Rattle.spx_core.specs.Effects.{Effect, Read, nothing, assign, next, choose, observe, repeat}
 use Rattle.spx_core.specs.Uses.{is_same}
 use Rattle.spx_core.specs.Mirror.VarSets.{holds}
-use Rattle.spx_core.specs.Ways.{Goes}
+use Rattle.spx_core.specs.Ways.{Goes, no_turn}
 use Rattle.spx_core.proofs.Callers.FlowLaws.{goes_free}
 use Rattle.spx_define.specs.Passes.{Finds, Passes}
-use Rattle.spx_define.proofs.WayLaws.{free_follow, goes_chosen, reads_at_once, reads_chosen, reads_next, reads_observed, target_unset}
+use Rattle.spx_define.proofs.WayLaws.{free_follow, goes_chosen, reads_at_once, reads_chosen, reads_next, reads_observed, reads_repeated, target_unset}
 
 -- where nothing is done, the set has the same variables
 pub passes_nothing : (old_set new_set : List ℕ) (found : List Read) → ((v : VarId) → holds new_set v ≡ holds old_set v) → Passes nothing old_set new_set found found
@@ -134,6 +134,25 @@ passes_once tests a at set ends old mid new f only = record {
         (λ k. ⊎_elim
         (λ here. (only.found place v).1 (inl ((f.exact place v).1 (inr (k.0, here)))))
         (λ arms. (only.found place v).1 (inr (k.0, ⊎_elim (λ one. one) (λ two. two) arms)))
+        (ways.0 k.1))
+        h,
+  );
+}
+
+-- the condition, then the body from a copy: no turn need be run, so that after the loop is set what was set before it
+pub passes_repeat : (tests : List Read) (body : Effect) (at : Place) (set end : List ℕ) (old mid new : List Read) → Finds set tests old mid → Passes body set end mid new → Passes (repeat tests body at) set set old new
+passes_repeat tests body at set end old mid new f turn = record {
+  set = λ v. (λ h. (h, ([], no_turn, refl)), λ h. h.0);
+  found = λ place v. let ways = reads_repeated place v tests body at in (
+    λ h. ⊎_elim
+        (λ m. ⊎_elim (λ o. inl o) (λ k. inr (k.0, ways.1 (inl k.1))) ((f.exact place v).0 m))
+        (λ k. inr (k.0, ways.1 (inr k.1)))
+        ((turn.found place v).0 h),
+    λ h. ⊎_elim
+        (λ o. (turn.found place v).1 (inl ((f.exact place v).1 (inl o))))
+        (λ k. ⊎_elim
+        (λ here. (turn.found place v).1 (inl ((f.exact place v).1 (inr (k.0, here)))))
+        (λ more. (turn.found place v).1 (inr (k.0, more)))
         (ways.0 k.1))
         h,
   );

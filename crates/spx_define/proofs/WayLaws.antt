@@ -8,8 +8,8 @@ use Rattle.spx_text.specs.declared.place.Place.{Place}
 use Rattle.spx_core.specs.declared.entity.VarId.{VarId}
 use Rattle.spx_core.specs.Formals.{stands_in}
 use Rattle.spx_core.specs.Uses.{is_same}
-use Rattle.spx_core.specs.Effects.{Effect, Read, assign, next, choose, observe}
-use Rattle.spx_core.specs.Ways.{Ways, Follow, Free, Goes, Reaches}
+use Rattle.spx_core.specs.Effects.{Effect, Read, assign, next, choose, observe, repeat}
+use Rattle.spx_core.specs.Ways.{Ways, Follow, Free, Goes, Reaches, Turns, no_turn}
 
 stands_in_both : (v : VarId) (front back : List VarId) → stands_in v (front ++ back) ≡ (stands_in v front || stands_in v back)
 stands_in_both v front back = list_any-append (λ (w : VarId). w.0 == v.0) front back
@@ -59,5 +59,15 @@ module _ (place : Place) (v : VarId) where
     λ h. ⊎_elim
         (λ here. ([], inl (here, refl), refl))
         (λ arms. ⊎_elim (λ one. (one.0, inr (inl one.1), one.2)) (λ two. (two.0, inr (inr two.1), two.2)) arms)
+        h,
+  )
+
+  -- what is reached after some turns that do not set v is reached in the first turn too
+  pub reads_repeated : (tests : List Read) (body : Effect) (at : Place) → Free (Reaches (repeat tests body at) place v) v ↔ (Contains tests (place, v) ⊎ Free (Reaches body place v) v)
+  reads_repeated tests body at = let turns = free_follow (Turns (Goes body)) (Reaches body place v) v in (
+    λ h. ⊎_elim (λ here. inl here.0) (λ later. inr (turns.0 (h.0, later, h.2)).1) h.1,
+    λ h. ⊎_elim
+        (λ here. ([], inl (here, no_turn), refl))
+        (λ more. let way = turns.1 (([], no_turn, refl), more) in (way.0, inr way.1, way.2))
         h,
   )

@@ -5,7 +5,7 @@ ghost use Rattle.std.specs.Option.{option_to_list};
 ghost use Rattle.spx_text.specs.declared.place.Place.{Place};
 ghost use Rattle.spx_core.specs.declared.entity.VarId.{VarId};
 ghost use Rattle.spx_core.specs.declared.subprogram.Sub.{Sub};
-ghost use Rattle.spx_core.specs.Commands.{Choose, alternative, arm_before, arms_before, command, commands, select};
+ghost use Rattle.spx_core.specs.Commands.{Choose, alternative, arm_before, arms_before, command, commands, loop_of, select};
 ghost use Rattle.spx_core.specs.Effects.{effect, effects, reads_of};
 ghost use Rattle.spx_core.specs.Formals.{initial_of};
 ghost use Rattle.spx_core.specs.Uses.{denotes};
@@ -16,8 +16,8 @@ ghost use Rattle.spx_define.specs.UnsetReads.{AreUnsetReads};
 use crate::assigned::Assigned;
 use indexmap::IndexSet;
 use spx_core::{
-    CoreAlternative, CoreArm, CoreDerivesItem, CoreExpr, CoreStmt, Entity, Program, Reference, Sub,
-    SubId, VarId, VarKind, VarSet, variable_of,
+    CoreAlternative, CoreArm, CoreDerivesItem, CoreExpr, CoreScheme, CoreStmt, Entity, Program,
+    Reference, Sub, SubId, VarId, VarKind, VarSet, variable_of,
 };
 use spx_text::Place;
 use std::alloc::{AllocError, Global};
@@ -119,8 +119,8 @@ fn set_target(set: &mut Assigned, target: &Reference) -> Result<(), AllocError>
     }
 }
 
-/// Goes over a statement. A variable is set only after the right side is read, and after an `if` or a `case` only where each
-/// of its arms or alternatives sets it.
+/// Goes over a statement. A variable is set only after the right side is read, after an `if` or a `case` only where each of
+/// its arms or alternatives sets it, and after a loop only where it was set before.
 #[cycle(go_over)]
 fn go_over(
     alloc: Global,
@@ -153,6 +153,9 @@ fn go_over(
         },
         CoreStmt::Case(_, selector, alternatives, _) => {
             go_over_case(alloc, alternatives.as_slice(), selector, set, found)
+        }
+        CoreStmt::Loop(scheme, _, body, _) => {
+            go_over_loop(alloc, body.as_slice(), scheme, set, found)
         }
         CoreStmt::Assertion(_, _, condition) => add_unset_names(set, condition, found),
     }
@@ -222,6 +225,28 @@ fn go_over_case(
     }
     *set = ends;
     Ok(())
+}
+
+/// Goes over a loop: its condition, and one turn of its body. The set stays as it was, since no turn need be run, and later
+/// turns find nothing that the first does not.
+#[cycle(go_over)]
+fn go_over_loop(
+    alloc: Global,
+    body: &[CoreStmt],
+    scheme: &CoreScheme,
+    set: &mut Assigned,
+    found: &mut Reads,
+) -> Result<(), AllocError>
+    ensures { OnOk result (Passes (effect (loop_of scheme.now (commands body.now))) set.old set.new found.old.keys found.new.keys) }
+{
+    match scheme {
+        CoreScheme::While(_, condition) => {
+            let mut turn = set.copy(alloc)?;
+            add_unset_names(set, condition, found)?;
+            go_over_all(alloc, body, &mut turn, found)?;
+            Ok(())
+        }
+    }
 }
 
 #[cycle(go_over)]

@@ -1,14 +1,18 @@
 use Rattle.std.proofs.Common.{◌≡◌, ◌+◌, ◌-◌, ◌<◌, arith, ap, drop, length, map, refl, rules, subst, sym, ◌∙◌}
 use Rattle.std.proofs.lemmas.List.{drop_all, length-drop}
 use Rattle.std.proofs.lemmas.Result.{on_ok_weaker}
+use Rattle.spx_text.specs.declared.place.Place.{Place}
+use Rattle.spx_core.specs.declared.expression.CoreExpr.{CoreExpr}
 use Rattle.spx_core.specs.declared.statement.CoreArm.{out-CoreArm}
 use Rattle.spx_core.specs.declared.statement.CoreAlternative.{out-CoreAlternative}
-use Rattle.spx_core.specs.Commands.{Choose, Skip, alternative, arm_before, arms_before, command, commands, select}
+use Rattle.spx_core.specs.declared.statement.CoreScheme.{CoreScheme}
+use Rattle.spx_core.specs.declared.statement.CoreScheme.TheVariants as scheme
+use Rattle.spx_core.specs.Commands.{Choose, Skip, alternative, arm_before, arms_before, command, commands, loop_of, select}
 use Rattle.spx_core.specs.Uses.{variable_of}
 use Rattle.spx_core.specs.Effects.{effect, effects, reads_of}
-use Rattle.spx_define.specs.Passes.{Passes, PassesBefore}
+use Rattle.spx_define.specs.Passes.{Finds, Passes, PassesBefore}
 use Rattle.spx_core.proofs.Callers.CommandForms.{command-Assignment, command-Assertion, command-If, command-If-else, command_arm, select_last, select_more}
-use Rattle.spx_define.proofs.PassLaws.{passes_assign, passes_choose, passes_copied, passes_next, passes_nothing, passes_observe, passes_once}
+use Rattle.spx_define.proofs.PassLaws.{passes_assign, passes_choose, passes_copied, passes_next, passes_nothing, passes_observe, passes_once, passes_repeat}
 use Rattle.spx_define.proofs.Elements.{left_before, left_last, left_of}
 use Rattle.spx_define.proofs.define.+go_over.Goals as goal
 
@@ -147,3 +151,20 @@ pub go_over_case-returns : goal.go_over_case-returns
 go_over_case-returns t c place =
     let last : c.loop-k.k ≡ 0 = omega arith in
     subst (λ n. Passes (effect (select place c.args.selector.now (map alternative (drop n c.args.alternatives.now)))) c.args.set.now c.loop-k.ends c.args.found.now.keys c.loop-k.found.keys) last (c.loop-k.invariant place)
+
+-- each scheme is a `while`
+is_while : (s : CoreScheme) → (place : Place) × (condition : CoreExpr) × (s ≡ scheme.While place condition)
+is_while (scheme.While place condition) = (place, condition, refl)
+
+pub go_over_loop-returns : goal.go_over_loop-returns
+go_over_loop-returns t c =
+    let set = c.args.set.now in
+    let body = effects c.args.body.now in
+    let old = c.args.found.now.keys in
+    let mid = c.add_unset_names.new.found.keys in
+    let new = c.go_over_all.new.found.keys in
+    let end = c.go_over_all.new.set in
+    let while = is_while c.args.scheme.now in
+    let finds : Finds set (reads_of while.1) old mid = rw while.2 at c.in_ok-add_unset_names.ensures in
+    let turn = passes_copied body set c.in_ok-turn.turn end mid new c.in_ok-turn.ensures c.in_ok-go_over_all.ensures in
+    subst (λ s. Passes (effect (loop_of s (commands c.args.body.now))) set set old new) (sym while.2) (passes_repeat (reads_of while.1) body while.0 set end old mid new finds turn)
