@@ -7,7 +7,7 @@ ones before it had nothing to report. Nothing here looks at the program.
 import re
 import sys
 from dataclasses import dataclass, replace
-from functools import cache
+from functools import cache, lru_cache
 from typing import Optional, Union
 
 INTEGER_FIRST = -2**31
@@ -530,6 +530,22 @@ class Case:
         return [alternative.statements for alternative in self.alternatives]
 
 
+@dataclass(frozen=True, eq=False)
+class While:
+    """`while condition loop statements end loop;`, which stands at its first word."""
+    place: Place
+    condition: Expression
+    statements: list
+
+    def branches(self):
+        """Its statements, which a turn runs."""
+        return [self.statements]
+
+    def has_own_cut(self):
+        """Whether one of its statements is itself an `assert`."""
+        return any(isinstance(statement, Asserted) and statement.is_cut() for statement in self.statements)
+
+
 @dataclass(frozen=True)
 class Param:
     """`names : mode type_mark`"""
@@ -822,21 +838,22 @@ class Parser:
     def statements(self, above):
         """statement {statement}, under so many levels"""
         statements = [self.statement(above)]
-        while any(self.next_is(kind, marked=True) for kind in ('assert', 'check')) or any(self.next_is(kind) for kind in ('null', 'identifier', 'if', 'case')):
+        while any(self.next_is(kind, marked=True) for kind in ('assert', 'check')) or any(self.next_is(kind) for kind in ('null', 'identifier', 'if', 'case', 'while')):
             statements.append(self.statement(above))
         return statements
 
     def statement(self, above):
-        """"null" ";" | name ":=" expression ";" | an `if` | a `case` | ("assert" | "check") predicate ";" in annotation text"""
+        """"null" ";" | name ":=" expression ";" | an `if` | a `case` | a loop | ("assert" | "check") predicate ";" in annotation text"""
         asserted = self.asserted('assert', above) or self.asserted('check', above)
         if asserted:
             return asserted
         if self.take_if('null'):
             self.take(';')
             return Null()
-        word = self.opening(('if', 'case'), False, above + 1)
+        word = self.opening(('if', 'case', 'while'), False, above + 1)
         if word:
-            return self.branching(word, above + 1) if word.kind == 'if' else self.selection(word, above + 1)
+            read = {'if': self.branching, 'case': self.selection, 'while': self.looping}[word.kind]
+            return read(word, above + 1)
         target = self.name()
         self.take(':=')
         value = self.expression(False, above)
@@ -864,6 +881,15 @@ class Parser:
         for kind in ('end', 'case', ';'):
             self.take(kind)
         return Case(word.place, selector, alternatives)
+
+    def looping(self, word, above):
+        """"while" expression "loop" statement {statement} "end" "loop" ";" after the first word"""
+        condition = self.expression(False, above)
+        self.take('loop')
+        statements = self.statements(above)
+        for kind in ('end', 'loop', ';'):
+            self.take(kind)
+        return While(word.place, condition, statements)
 
     def alternative(self, above):
         """"when" ("others" | choice {"|" choice}) "=>" statement {statement}"""
@@ -1456,7 +1482,7 @@ class Resolver:
         return Item(exports, item.star, imports)
 
     def condition(self, tree):
-        """N10: a precondition, and the condition of an `if`, is Boolean."""
+        """N10: a precondition, and the condition of an `if` or a `while`, is Boolean."""
         found = self.expression(tree)
         require('N10', found.place, found.kind is BOOLEAN)
         return found
@@ -1487,6 +1513,9 @@ class Resolver:
             return If([self.arm(arm) for arm in tree.arms], self.statements(tree.otherwise))
         if isinstance(tree, Case):
             return self.selection(tree)
+        if isinstance(tree, While):
+            condition = self.condition(tree.condition)
+            return While(tree.place, condition, self.statements(tree.statements))
         target, value = self.variable(tree.target, 'constant'), self.expression(tree.value)
         must_match(value, target.kind)
         return Assignment(target, value)
@@ -1644,12 +1673,12 @@ def resolved(trees):
 # ---------------------------------------------------------------- the walk of rules on variables
 
 def assignments(statements):
-    """All assignments in statements, also those in an `if` and a `case`, in the order of the text."""
+    """All assignments in statements, also those in an `if`, a `case` and a loop, in the order of the text."""
     found = []
     for statement in statements:
         if isinstance(statement, Assignment):
             found.append(statement)
-        elif isinstance(statement, (If, Case)):
+        elif isinstance(statement, (If, Case, While)):
             found += [inner for branch in statement.branches() for inner in assignments(branch)]
     return found
 
@@ -1759,10 +1788,13 @@ def are_read(words, expression):
 
 
 def tests_of(tree):
-    """What chooses among the branches of an `if` or a `case`: each with its place, and the targets that it chooses among."""
+    """What chooses among the branches of an `if` or a `case`, or whether there is one more turn of a loop: each with its place, and
+    the targets that it chooses among.
+    """
     if isinstance(tree, If):
         return [(arm.condition, arm.place, choice) for arm, choice in zip(tree.arms, choices(tree))]
-    return [(tree.selector, tree.place, {assignment.target.word for assignment in assignments([tree])})]
+    test = tree.condition if isinstance(tree, While) else tree.selector
+    return [(test, tree.place, {assignment.target.word for assignment in assignments([tree])})]
 
 
 def choices(tree):
@@ -1778,7 +1810,8 @@ def carried(statements, words):
     """The variables to which flows lead through statements from these ones.
 
     A target has what its right side reads, and nothing else. Of an `if` or a `case` each branch may be run; and what a
-    condition or a selector reads comes to all that it chooses among.
+    condition or a selector reads comes to all that it chooses among. A loop has any number of turns, and its condition chooses
+    among all targets in it, before each turn.
     """
     for statement in statements:
         if isinstance(statement, Assignment):
@@ -1788,7 +1821,18 @@ def carried(statements, words):
             branches = [carried(branch, words) for branch in statement.branches()]
             chosen = [choice for test, _, choice in tests_of(statement) if are_read(words, test)]
             words = set().union(*branches, *chosen)
+        elif isinstance(statement, While):
+            words = through_loop(statement, frozenset(words))
     return words
+
+
+@lru_cache(maxsize=4096)
+def through_loop(loop, words):
+    """The variables to which flows lead through a loop from these ones: any number of turns, and what the condition reads."""
+    more = words | carried(loop.statements, words)
+    if more != words:
+        return through_loop(loop, more)
+    return words.union(*[chosen for test, _, chosen in tests_of(loop) if are_read(words, test)])
 
 
 def f1_f2(procedure, relation):
@@ -1804,17 +1848,17 @@ def f1_f2(procedure, relation):
 def occurrences(statements, after):
     """Each right side, condition and selector: its place, the variables that it gives a value, and the statements after that.
 
-    The last are those of the same list, and then these others.
+    The last are those of the same list, and then these others; after a statement of a loop, the loop itself comes too.
     """
     for at, statement in enumerate(statements):
         rest = statements[at + 1:] + after
         if isinstance(statement, Assignment):
             yield statement.target.place, {statement.target.word}, rest
-        elif isinstance(statement, (If, Case)):
+        elif isinstance(statement, (If, Case, While)):
             for _, place, choice in tests_of(statement):
                 yield place, choice, rest
             for branch in statement.branches():
-                yield from occurrences(branch, rest)
+                yield from occurrences(branch, [statement] + rest if isinstance(statement, While) else rest)
 
 
 def f3(procedure, relation):
@@ -1837,7 +1881,7 @@ def f4(procedure, relation):
 def set_after(statements, is_set, unset_reads):
     """The variables that are set after statements, whatever way is taken; and reads of others are added to the list.
 
-    After an `if` or a `case` those are set that each of its branches leaves set.
+    After an `if` or a `case` those are set that each of its branches leaves set. A loop may have no turn.
     """
     for statement in statements:
         if isinstance(statement, Assignment):
@@ -1848,6 +1892,9 @@ def set_after(statements, is_set, unset_reads):
         elif isinstance(statement, (If, Case)):
             unset_reads += [name for test, _, _ in tests_of(statement) for name in reads(test) if name.word not in is_set]
             is_set = set.intersection(*[set_after(branch, is_set, unset_reads) for branch in statement.branches()])
+        elif isinstance(statement, While):
+            unset_reads += [name for name in reads(statement.condition) if name.word not in is_set]
+            set_after(statement.statements, is_set, unset_reads)
     return is_set
 
 
@@ -2139,8 +2186,8 @@ class Walk:
         A target stands for its term after its assignment.
         """
         for at, statement in enumerate(statements):
-            if isinstance(statement, (If, Case)):
-                part = self.part if isinstance(statement, If) else self.select
+            if isinstance(statement, (If, Case, While)):
+                part = {If: self.part, Case: self.select, While: self.turn}[type(statement)]
                 part(statement, statements[at + 1:], facts, values)
                 return
             if isinstance(statement, Assignment):
@@ -2159,11 +2206,28 @@ class Walk:
         for at, statement in enumerate(statements):
             rest = statements[at + 1:] + after
             if isinstance(statement, Asserted) and statement.is_cut():
-                values = cut_values(self.procedure)
-                self.go(rest, with_facts(cut_facts(self.procedure), facts_of(statement.condition, values)), values)
+                self.go_anew(rest, facts_of(statement.condition, cut_values(self.procedure)))
             elif isinstance(statement, (If, Case)):
                 for branch in statement.branches():
                     self.go_from_cuts(branch, rest)
+            elif isinstance(statement, While):
+                again = [statement] + rest
+                if not statement.has_own_cut():
+                    self.go_anew(statement.statements + again, (truth(True),))
+                self.go_from_cuts(statement.statements, again)
+
+    def go_anew(self, statements, known):
+        """From a cut, where this is known, along statements."""
+        self.go(statements, with_facts(cut_facts(self.procedure), known), cut_values(self.procedure))
+
+    def turn(self, loop, rest, facts, values):
+        """Where its condition holds, a turn of a loop as far as its own cut; a loop without one has a cut before its statements.
+        Where the condition does not hold, the rest.
+        """
+        facts = self.show(checks_of(loop.condition, values), facts)
+        if loop.has_own_cut():
+            self.go(loop.statements, with_facts(facts, facts_of(loop.condition, values)), values)
+        self.go(rest, with_facts(facts, (negation(term_of(loop.condition, values)),)), values)
 
     def part(self, tree, rest, facts, values):
         """Each branch, and after it the rest: an arm where its condition holds and those before it do not."""
@@ -2195,21 +2259,37 @@ def conditions_of(procedure):
     return walk.found
 
 
-def paths_of(statements, after):
-    """The number of ways from the first of the statements to a cut or on along what has so many after it; and that of those from cuts in them."""
-    from_cuts = 0
+def paths_before(statements, after):
+    """The number of ways from the first of the statements to a cut, or on along what has so many after it."""
     for statement in reversed(statements):
         if isinstance(statement, Asserted) and statement.is_cut():
-            from_cuts, after = from_cuts + after, 1
+            after = 1
         elif isinstance(statement, (If, Case)):
-            found = [paths_of(branch, after) for branch in statement.branches()]
-            from_cuts, after = from_cuts + sum(inside for _, inside in found), sum(before for before, _ in found)
-    return after, from_cuts
+            after = sum(paths_before(branch, after) for branch in statement.branches())
+        elif isinstance(statement, While):
+            after += paths_before(statement.statements, 1) if statement.has_own_cut() else 1
+    return after
+
+
+def paths_from_cuts(statements, after):
+    """The number of ways from the cuts in statements, each to the next cut, or on along what has so many after it."""
+    found = 0
+    for statement in reversed(statements):
+        before = paths_before([statement], after)
+        if isinstance(statement, Asserted) and statement.is_cut():
+            found += after
+        elif isinstance(statement, (If, Case)):
+            found += sum(paths_from_cuts(branch, after) for branch in statement.branches())
+        elif isinstance(statement, While):
+            found += paths_from_cuts(statement.statements, before)
+            found += 0 if statement.has_own_cut() else paths_before(statement.statements, before)
+        after = before
+    return found
 
 
 def require_few_paths(procedure):
     """No procedure has more paths than one may have."""
-    if sum(paths_of(procedure.statements, 1)) > MOST_PATHS:
+    if paths_before(procedure.statements, 1) + paths_from_cuts(procedure.statements, 1) > MOST_PATHS:
         raise TooManyPaths
 
 

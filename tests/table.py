@@ -444,7 +444,7 @@ SKIP_TOKENS = (
 # A text with an `if` that has all its parts.
 IF_TOKENS = (
     *plain('procedure Lim ( A : in Integer ; X : in out Integer ) \n--# derives X from X , A ; \n is \n begin \n'),
-    ('if', 'if', 'while'),
+    ('if', 'if', 'goto'),
     ('left_of_a_condition', 'A', 'null'),
     ('relation_of_a_condition', '<', ':='),
     ('right_of_a_condition', '0', 'or'),
@@ -522,7 +522,7 @@ DECLARED_TOKENS = (
 # A text with a `case` and a conversion.
 CASE_TOKENS = (
     *plain('procedure Cas ( A : in Integer ; X : out Integer ) \n--# derives X from A ; \n is \n begin \n'),
-    ('case', 'case', 'loop'),
+    ('case', 'case', 'goto'),
     ('selector', 'A', 'when'),
     ('is_of_a_case', 'is', ':='),
     *plain('\n'),
@@ -548,7 +548,25 @@ CASE_TOKENS = (
     *plain('\n end Cas ;'),
 )
 
-TOKEN_LISTS = (TOKENS, LOCAL_TOKENS, ATTRIBUTE_TOKENS, SKIP_TOKENS, IF_TOKENS, DECLARED_TOKENS, CASE_TOKENS)
+# A text with a `while`.
+LOOP_TOKENS = (
+    *plain('procedure Cnt ( X : in out Integer ) \n--# derives X from X ; \n is \n begin \n'),
+    ('while', 'while', 'when'),
+    ('left_of_a_loop_condition', 'X', 'loop'),
+    ('relation_of_a_loop_condition', '>', ':='),
+    ('right_of_a_loop_condition', '0', ';'),
+    ('loop', 'loop', 'then'),
+    ('target_in_a_loop', 'X', 'end'),
+    ('becomes_in_a_loop', ':=', '='),
+    ('value_in_a_loop', '0', 'loop'),
+    ('semicolon_in_a_loop', ';', ','),
+    ('end_of_a_loop', 'end', 'begin'),
+    ('loop_after_end', 'loop', 'while'),
+    ('semicolon_of_a_loop', ';', '.'),
+    *plain('\n end Cnt ;'),
+)
+
+TOKEN_LISTS = (TOKENS, LOCAL_TOKENS, ATTRIBUTE_TOKENS, SKIP_TOKENS, IF_TOKENS, DECLARED_TOKENS, CASE_TOKENS, LOOP_TOKENS)
 
 # What a text is without a token: which token after it is unexpected, if not the next one; or a finding, and the token
 # at which it stands; or that it is accepted.
@@ -565,6 +583,8 @@ MISSING = {'in': ('U8', 'import'), 'out': ('U8', 'export'), 'import': ('U8', 'ex
            'word_constant': lambda name, text: accepted(name, text, 1, named='Dcl'),
            # a target and `is`; a `case` and `;`
            'case': 2, 'end_of_a_case': 2,
+           # the condition begins as a target does
+           'while': 2,
            'type_of_a_constant': lambda name, text: accepted(name, text, 1, named='Dcl'),
            # see `missing_signs`
            'sign': None, 'sign_in_pre': None, 'first_held_operand': None}
@@ -5329,6 +5349,162 @@ def order_of_cuts():
                      longer('A : in Integer; X : in out Integer', 'X from X, A', *['if A > 0 then X := A; end if'] * 12, '--# assert True', 'if A > 0 then X := A; end if'))
 
 
+# ---------------------------------------------------------------- loops
+
+def looping(condition, *statements, asserted=None):
+    """A `while` with these statements, after an `assert` where there is one."""
+    first = '' if asserted is None else f'\n--# assert {asserted};\n'
+    return f'while {condition} loop {first}{"; ".join(statements)}; end loop'
+
+
+def nested_loops(count):
+    """A procedure with so many loops in one another."""
+    return longer(X, 'X from X', 'while True loop ' * count + 'X := X; ' + 'end loop; ' * (count - 1) + 'end loop')
+
+
+def syntax_of_loops():
+    """Where a `while` may stand, tokens with which none goes on, and the levels that it opens."""
+    yield accepted('loop_alone.adb', longer(X, 'X from X', looping('X > 0', 'X := 0')), 1)
+    yield accepted('loops_in_a_row.adb', longer(X, 'X from X', looping('X > 0', 'X := 0'), looping('X < 0', 'X := 1')), 2)
+    yield accepted('loop_in_an_arm.adb', longer(X, 'X from X', f'if X > 5 then {looping("X > 0", "X := 0")}; end if'), 1)
+    yield accepted('loop_in_an_alternative.adb',
+                   longer(A_AND_X, 'X from X, A', f'case A is when 1 => {looping("X > 0", "X := 0")}; when others => null; end case'), 1)
+    yield accepted('loop_in_a_loop.adb', longer(X, 'X from X', looping('X > 0', looping('X > 5', 'X := 5'), 'X := X')), 3)
+    yield accepted('loop_on_several_lines.adb', longer(X, 'X from X', 'WHILE\nX -- a condition\n> 0\nLoop\nX := 0;\nEND\nLOOP'), 1)
+    for name, statement in {
+            'no_condition': 'while @loop X := 0; end loop', 'no_statement': 'while X > 0 loop @end loop', 'assignment_for_a_condition': 'while X @:= 0 loop X := 0; end loop',
+            'two_conditions': 'while X > 0@, X < 5 loop X := 0; end loop', 'then': 'while X > 0 @then X := 0; end loop', 'do': 'while X > 0 @do X := 0; end loop',
+            'no_word_loop': 'while X > 0 @X := 0; end loop', 'end_while': 'while X > 0 loop X := 0; end @while', 'end_if': 'while X > 0 loop X := 0; end @if',
+            'end_alone': 'while X > 0 loop X := 0; end @', 'name_at_the_end': 'while X > 0 loop X := 0; end loop @X', 'else': 'while X > 0 loop X := 0; @else X := 1; end loop',
+            'elsif': 'while X > 0 loop X := 0; @elsif X > 1 then X := 1; end loop', 'exit': 'while X > 0 loop X := 0; @exit; end loop',
+            'exit_when': 'while X > 0 loop @exit when X > 5; X := 0; end loop', 'return': 'while X > 0 loop @return; end loop', 'begin': 'while X > 0 @begin X := 0; end loop',
+            'is': 'while X > 0 @is loop X := 0; end loop', 'semicolon_after_the_condition': 'while X > 0@; loop X := 0; end loop', 'label': 'L @: while X > 0 loop X := 0; end loop L',
+            'arrow': 'while X > 0 @=> X := 0; end loop', 'no_scheme': '@loop X := 0; end loop', 'for': '@for I in 1 .. 5 loop X := 0; end loop', 'until': 'while X > 0 loop X := 0; @until X = 0; end loop',
+            'condition_for_a_statement': 'while X > 0 loop X @> 0; end loop', 'implication': 'while X > 0 -@> X > 5 loop X := 0; end loop'}.items():
+        yield unexpected(f'while_with_{name}.adb', longer(X, 'X from X', statement))
+    for name, statement in {'a_marked_while': '--# @while X > 0 loop', 'a_marked_loop': 'while X > 0\n--# @loop\nX := 0; end loop',
+                            'a_marked_condition_of_a_loop': 'while\n--# @X > 0\nloop X := 0; end loop', 'a_marked_end_of_a_loop': 'while X > 0 loop X := 0;\n--# @end loop'}.items():
+        yield unexpected(f'{name}.adb', longer(X, 'X from X', statement))
+    yield bad_byte('value_on_entry_in_a_loop_condition.adb', longer(X, 'X from X', 'while X@~ > 0 loop X := 0; end loop'))
+    yield unexpected('loop_among_declarations.adb', longer(X, 'X from X', 'X := X', declared=['@while X > 0 loop X := 0; end loop']))
+    yield unexpected('loop_in_an_expression.adb', longer(X, 'X from X', 'X := @while X > 0 loop 0 end loop'))
+    yield accepted('loop_condition_of_200_levels.adb', longer(X, 'X from X', looping(nested(198, 'X > 0'), 'X := 0')), 1)
+    yield too_nested('loop_condition_of_201_levels.adb', longer(X, 'X from X', looping(nested(199, 'X > 0'), 'X := 0')))
+    yield too_nested('value_with_a_level_in_200_loops.adb', longer(X, 'X from X', 'while X > 0 loop ' * 200 + 'X := (0); ' + 'end loop; ' * 199 + 'end loop'))
+    yield too_nested('loops_and_cases_of_201_levels.adb',
+                     longer(A_TO_X, 'X from A', 'X := A', 'while True loop case A is when others => ' * 100 + 'while True loop null; end loop; ' + 'end case; end loop; ' * 99 + 'end case; end loop'))
+
+
+def rules_of_loops():
+    """The condition of a loop is Boolean, and it comes before the statements."""
+    yield refused('number_for_a_loop_condition.adb', longer(X, 'X from X', looping('@X', 'X := 0')), 'N10')
+    yield refused('sum_for_a_loop_condition.adb', longer(X, 'X from X', looping('X @+ 1', 'X := 0')), 'N10')
+    yield refused('undeclared_in_a_loop_condition.adb', longer(X, 'X from X', looping('@Y > 0', 'X := 0')), 'N1')
+    yield refused('type_in_a_loop_condition.adb', longer(X, 'X from X', looping('@Integer > 0', 'X := 0')), 'N3')
+    yield refused('static_fault_in_a_loop_condition.adb', longer(X, 'X from X', looping('X > 1 @/ 0', 'X := 0')), 'N12')
+    yield refused('loop_condition_before_its_statements.adb', longer(X, 'X from X', looping('@Y > 0', 'X := Z')), 'N1')
+    yield refused('statement_of_a_loop_that_fails.adb', longer(X, 'X from X', looping('X > 0', 'X := @Z')), 'N1')
+    yield refused('statement_after_a_loop_that_fails.adb', longer(X, 'X from X', looping('X > 0', 'X := 0'), 'X := @Z'), 'N1')
+    yield refused('truth_value_in_a_loop.adb', longer(X, 'X from X', looping('X > 0', 'X := @True')), 'N10')
+    yield refused('input_assigned_in_a_loop.adb', longer(A_TO_X, 'X from A', 'X := A', looping('X > 0', '@A := 0')), 'U2')
+    yield refused('constant_assigned_in_a_loop.adb', longer(X, 'X from X', looping('X > 0', '@C := 0'), declared=['C : constant Integer := 1']), 'U2')
+    yield refused('case_in_a_loop_that_misses_values.adb', longer(X, 'X from X', looping('X > 0', '@case X is when 1 => X := 0; end case')), 'N17')
+    yield refused('import_on_entry_in_a_loop.adb', longer(A_AND_X, 'X from X, A', looping('X > 0', 'X := A', asserted='@A~ = A')), 'N18')
+
+
+def flow_of_loops():
+    """A loop has any number of turns, and none too. What its condition reads comes to all that its statements set."""
+    A_XY, A_XYZ, AB_XY = 'A : in Integer; X, Y : in out Integer', 'A : in Integer; X, Y, Z : in out Integer', 'A, B : in Integer; X, Y : in out Integer'
+    three_turns = looping('A > 0', 'Z := Y', 'Y := X', 'X := A')
+    yield accepted('flow_through_three_turns.adb', longer(A_XYZ, 'X from X, A & Y from Y, X, A & Z from Z, Y, X, A', three_turns), 3)
+    yield accepted('flow_through_two_turns.adb', longer(A_XY, 'X from X, A & Y from Y, X, A', looping('A > 0', 'Y := X', 'X := A')), 2)
+    yield refused('missing_flow_through_two_turns.adb', longer(A_XYZ, 'X from X, A & Y from Y, X, A & @Z from Z, Y, A', three_turns), 'F1 missing: Z from X')
+    yield refused('missing_flow_of_a_loop_condition.adb', longer(A_AND_X, '@X from X & null from A', looping('A > 0', 'X := 0')), 'F1 missing: X from A')
+    yield accepted('flow_of_a_loop_condition_alone.adb',
+                   longer(A_XYZ, 'X from X, A & Y from Y, A & Z from Z', looping('A > 0', 'X := 0', 'Y := 1'), 'Z := Z'), 4)
+    yield refused('flow_of_a_loop_condition_past_its_targets.adb',
+                  longer(A_XY, 'X from X, A & @Y from Y, A', looping('A > 0', 'X := 0'), 'Y := Y'), 'F2 unused: Y from A')
+    yield accepted('loop_condition_over_what_the_loop_sets.adb', longer(A_XY, 'X from X, A & Y from Y, X, A', looping('X > 0', 'Y := 1', 'X := A')), 2)
+    yield accepted('condition_of_a_loop_inside.adb', longer(AB_XY, 'X from X, A, B & Y from Y, A', looping('A > 0', looping('B > 0', 'X := 0'), 'Y := 1')), 3)
+    yield refused('missing_flow_of_a_loop_condition_outside.adb',
+                  longer('A, B : in Integer; X : in out Integer', '@X from X, B & null from A', looping('A > 0', looping('B > 0', 'X := 0'))), 'F1 missing: X from A')
+    yield refused('missing_flow_round_both_loops.adb',
+                  longer(AB_XY, 'X from X, A, B, Y & @@Y from Y, B', looping('B > 0', looping('Y > 0', 'X := A'), 'Y := X')),
+                  'F1 missing: Y from A', 'F1 missing: Y from X')
+    yield accepted('exchange_in_a_loop.adb', longer(A_XY, 'X, Y from X, Y, A', looping('A > 0', 'T := X', 'X := Y', 'Y := T'), declared=T), 3)
+    yield refused('no_export_in_a_loop.adb', longer(A_AND_X, 'X from X & null from A', '@' + looping('A > 0', '@T := 1'), 'X := X', declared=T), 'F3', 'F3')
+    yield refused('loop_over_nothing.adb', longer(A_AND_X, 'X from X & null from A', '@' + looping('A > 0', 'null'), 'X := X'), 'F3')
+    yield refused('loop_over_what_is_overwritten.adb', longer(A_TO_X, 'X from A', '@X := A', '@' + looping('X > 0', '@X := 0'), 'X := A'), 'F3', 'F3', 'F3')
+    yield refused('loop_inside_over_what_is_overwritten.adb', longer(X, 'X from X', looping('X > 0', '@' + looping('X > 5', '@X := 5'), 'X := 0')), 'F3', 'F3')
+    yield accepted('value_for_the_next_turn.adb', longer(A_AND_X, 'X from X, A', 'T := A', looping('A > 0', 'X := T', 'T := 1'), declared=T), 3)
+    yield accepted('value_for_the_next_condition.adb', longer(X, 'X from X', 'T := 1', looping('T > 0', 'X := 5', 'T := 0'), declared=T), 3)
+    yield refused('value_for_no_turn.adb', longer(A_AND_X, 'X from X, A', looping('A > 0', '@T := 1', 'T := A', 'X := T'), declared=T), 'F3')
+    yield accepted('endless_loop.adb', longer(X, 'X from X', looping('True', 'X := 0')), 1)
+    yield accepted('loop_without_a_turn.adb', longer(X, 'X from X', looping('False', 'X := 0')), 1)
+
+
+def unset_in_loops():
+    """The first turn has what is set before the loop, and after the loop there may have been no turn."""
+    yield refused('set_in_a_loop_only.adb', longer(A_TO_X, 'X from A', looping('A > 0', 'T := A'), 'X := @T', declared=T), 'F4 unset: T')
+    yield refused('export_set_in_a_loop_only.adb', longer(A_TO_X, '@X from A', looping('A > 0', 'X := A')).replace('end Inc', '@end Inc'), 'F1 missing: X from X', 'F4 unset: X')
+    yield refused('set_in_an_endless_loop_only.adb', longer(A_TO_X, 'X from A', looping('True', 'T := A'), 'X := @T', declared=T), 'F4 unset: T')
+    yield refused('set_in_a_later_turn.adb', longer(A_AND_X, 'X from X, A', looping('A > 0', 'X := @T', 'T := A'), declared=T), 'F4 unset: T')
+    yield accepted('set_earlier_in_the_turn.adb', longer(A_AND_X, 'X from X, A', looping('A > 0', 'T := A', 'X := T'), declared=T), 2)
+    yield refused('loop_condition_that_is_unset.adb', longer(X, 'X from X', looping('@T > 0', 'T := X', 'X := 0'), declared=T), 'F4 unset: T')
+    yield refused('unset_in_an_inner_loop.adb', longer(A_AND_X, 'X from X, A', looping('A > 0', looping('X > 0', 'X := @T'), 'T := A'), declared=T), 'F4 unset: T')
+    yield accepted('set_for_an_inner_loop.adb', longer(A_AND_X, 'X from X, A', looping('A > 0', 'T := A', looping('X > 0', 'X := T')), declared=T), 2)
+    yield refused('unset_in_an_assertion_of_a_loop.adb', longer(A_AND_X, 'X from X, A', looping('A > 0', 'T := A', 'X := T', asserted='@T = A'), declared=T), 'F4 unset: T')
+    yield refused('unset_twice_in_a_loop.adb', longer(A_AND_X, 'X from X, A', looping('@T > A', 'X := @T', 'T := A'), declared=T), 'F4 unset: T', 'F4 unset: T')
+
+
+def conditions_of_loops():
+    """Before the statements of a loop without an `assert` of its own is a cut, after which not even its condition is known."""
+    yield left_at('loop_without_assertion.adb', longer(X, 'X from X', looping('X > 0', 'X := X <1o>- 1')), 2)
+    yield left_at('loop_with_its_condition_asserted.adb', longer(X, 'X from X', looping('X > 0', 'X := X - 1', asserted='X > 0')), 4)
+    yield left_at('loop_with_true_asserted.adb', longer(X, 'X from X', looping('X > 0', 'X := X <2o>- 1', asserted='True')), 4)
+    yield left_at('loop_over_a_type.adb', longer('X : in out Natural', 'X from X', looping('X > 0', 'X := X <2r>- 1')), 2)
+    yield left_at('loop_over_a_type_with_its_condition_asserted.adb', longer('X : in out Natural', 'X from X', looping('X > 0', 'X := X - 1', asserted='X > 0')), 4)
+    yield accepted('after_a_loop_its_condition_is_false.adb', longer(X, 'X from X', looping('X > 0', 'X := 0'), 'X := X + 1'), 5)
+    yield accepted('after_a_loop_with_an_assertion.adb', longer(X, 'X from X', looping('X > 0', 'X := 0', asserted='True'), '--# check X <= 0', 'X := X'), 7)
+    yield examined('after_a_loop_nothing_else_is_known.adb', longer(X, 'X from X', looping('X > 0', 'X := 0'), '--# @check X = 0', 'X := X'), ('Inc', 5, (1, 'check')))
+    yield examined('fact_before_a_loop.adb', longer(A_AND_X, 'X from X, A', looping('A > 0', 'X := 0'), '--# @check X > 5', 'X := X', pre='X > 5'), ('Inc', 5, (4, 'check')))
+    yield examined('checks_in_a_loop.adb', longer(X, 'X from X', looping('X > 0', 'X := 5', '\n--# check X = 5', '\n--# @check X = 1', '\nX := X - 5')), ('Inc', 5, (3, 'check')))
+    yield left_at('checks_of_a_loop_condition.adb', longer(X, 'X from X', looping('X <1o>- 1 > 0', 'X := 0', asserted='True')), 5)
+    yield left_at('checks_of_a_loop_condition_without_assertion.adb', longer(X, 'X from X', looping('X <1o>- 1 > 0', 'X := 0')), 3)
+    yield accepted('short_circuit_in_a_loop_condition.adb', longer(X, 'X from X', looping('X > 0 and then X - 1 > 0', 'X := 0')), 3)
+    yield accepted('parts_of_a_loop_condition.adb', longer(X, 'X from X', looping('X > 0 and X < 100', 'X := X + 1', asserted='X > 0 and X < 100')), 4)
+    yield accepted('assertion_in_the_middle_of_a_turn.adb', longer(X, 'X from X', looping('True', 'X := 5', '\n--# assert X = 5', '\nX := X + 1')), 6)
+    yield examined('assertion_that_is_lost.adb', longer(OUT_X, 'X from', 'X := 1', looping('True', 'X := 2', asserted='X = 1').replace('assert', '@assert')), ('Inc', 4, (4, 'assert')))
+    yield examined('assertion_that_is_not_true_at_first.adb', longer(X, 'X from X', looping('True', 'X := 1', asserted='X = 1').replace('assert', '@assert')), ('Inc', 3, (1, 'assert')))
+    yield examined('assertion_in_an_arm_of_a_loop.adb',
+                   longer(X, 'X from X', looping('X > 0', 'if X > 5 then\n--# assert X > 5;\nX := 0; else X := X @- 1; end if')), ('Inc', 4, 2))
+    inner = looping('X > 0', 'X := X - 1', asserted='X > 0')
+    yield accepted('assertion_of_a_loop_inside.adb', longer(A_AND_X, 'X from X, A', looping('A > 0', inner, 'X := X + 1')), 8)
+    yield accepted('assertions_of_both_loops.adb', longer(A_AND_X, 'X from X, A', looping('A > 0', inner, 'X := X + 1', asserted='A > 0')), 11)
+    yield accepted('loops_one_after_another.adb', longer(X, 'X from X', looping('X > 9', 'X := 9'), looping('X < 5', 'X := X + 1', asserted='X < 5')), 6)
+    yield accepted('postcondition_after_a_loop.adb', longer(X, 'X from X', looping('X > 0', 'X := 0'), post='X <= 0'), 3)
+    yield accepted('postcondition_past_a_loop.adb', longer(A_AND_X, 'X from X, A', looping('A > 0', 'X := 0'), pre='X = 0', post='X = 0'), 3)
+    yield accepted('value_on_entry_in_a_loop.adb', longer(A_AND_X, 'X from X, A', looping('A > 0', 'X := X', asserted='X = X~'), post='X = X~'), 5)
+    yield examined('value_on_entry_that_is_not_asserted.adb',
+                   longer(A_AND_X, 'X from X, A', looping('A > 0', 'X := X', asserted='True'), post='X = X~').replace('post', '@post'), ('Inc', 5, (5, 'post')))
+
+
+def paths_of_loops():
+    """Paths go to the cut in a loop, and past the loop; and from that cut on to where they come to it again, and past the loop."""
+    ifs = ['if A > 0 then X := A; end if']
+    yield accepted('ten_ifs_in_a_loop.adb', longer(A_AND_X, 'X from X, A', looping('A > 0', *ifs * 10)), 1023)
+    yield too_many_paths('eleven_ifs_in_a_loop.adb', longer(A_AND_X, 'X from X, A', looping('A > 0', *ifs * 11)))
+    yield too_many_paths('eleven_ifs_after_an_assertion.adb', longer(A_AND_X, 'X from X, A', looping('A > 0', *ifs * 11, asserted='True')))
+    yield too_many_paths('eleven_ifs_before_an_assertion.adb', longer(A_AND_X, 'X from X, A', looping('A > 0', *ifs * 11, '\n--# assert True', '\nnull')))
+    cases = [f'case A is {" ".join(f"when {at} => {target} := {at};" for at in range(1, many))} when others => {target} := 0; end case' for many, target in ((23, 'X'), (89, 'Y'))]
+    yield accepted('loop_with_4096_paths.adb',
+                   longer('A : in Integer; X, Y : in out Integer', 'X from X, A & Y from Y, A', looping('A > 0', *cases, asserted='True')), 1 + 23 + 23 * 89 + 23 * 89)
+    yield accepted('loops_of_88_levels.adb', nested_loops(88), 1)
+    yield too_many_paths('loops_of_89_levels.adb', nested_loops(89))
+    yield too_many_paths('loops_of_200_levels.adb', nested_loops(200))
+    yield too_nested('loops_of_201_levels.adb', nested_loops(201))
+
+
 # ---------------------------------------------------------------- the table
 
 GROUPS = (form, relations, simplifier, numbers, places, words, layout, comments, marks, other_bytes, tokens, grammar,
@@ -5348,7 +5524,8 @@ GROUPS = (form, relations, simplifier, numbers, places, words, layout, comments,
           breaches_of_declarations, functions_of_types, conditions_of_functions, flow_of_functions, syntax_of_functions,
           initial_values, values_of_choices, rules_of_choices, conditions_of_cases, flow_of_cases, syntax_of_cases,
           places_of_checks, syntax_of_checks, syntax_of_predicates, cut_and_spoiled, rules_of_predicates, flow_of_checks,
-          conditions_of_annotations, places_of_assertions, rules_of_assertions, facts_after_cuts, order_of_cuts)
+          conditions_of_annotations, places_of_assertions, rules_of_assertions, facts_after_cuts, order_of_cuts,
+          syntax_of_loops, rules_of_loops, flow_of_loops, unset_in_loops, conditions_of_loops, paths_of_loops)
 CASES = tuple(case for group in GROUPS for case in group())
 
 
