@@ -7,7 +7,8 @@ use crate::changed::Changed;
 use crate::choices::resolve_listed;
 use crate::expression::{resolve_expr, resolve_in, resolve_reference, resolve_references};
 use spx_core::{
-    CoreAlternative, CoreArm, CoreDerives, CoreDerivesItem, CorePredicate, CoreScheme, CoreStmt, Reference,
+    CoreAlternative, CoreArm, CoreDerives, CoreDerivesItem, CorePredicate, CoreScheme, CoreStmt,
+    Reference,
 };
 use spx_scope::Scope;
 use spx_text::Place;
