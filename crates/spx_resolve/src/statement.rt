@@ -1,17 +1,18 @@
 // Statements and annotations.
 ghost use Rattle.std.specs.Prelude.{◌≡◌, [], IfOk, map, option_map};
-ghost use Rattle.spx_core.specs.Resolved.{exported_names, place_of_null, resolved_alternative, resolved_arm, resolved_derives, resolved_item, resolved_predicate, resolved_reference, resolved_stmt};
+ghost use Rattle.spx_core.specs.Resolved.{exported_names, place_of_null, resolved_alternative, resolved_arm, resolved_derives, resolved_item, resolved_predicate, resolved_reference, resolved_scheme, resolved_stmt};
 ghost use Rattle.spx_scope.specs.Seen.{seen};
 
 use crate::changed::Changed;
 use crate::choices::resolve_listed;
 use crate::expression::{resolve_expr, resolve_in, resolve_reference, resolve_references};
 use spx_core::{
-    CoreAlternative, CoreArm, CoreDerives, CoreDerivesItem, CorePredicate, CoreStmt, Reference,
+    CoreAlternative, CoreArm, CoreDerives, CoreDerivesItem, CorePredicate, CoreScheme, CoreStmt,
+    Reference,
 };
 use spx_scope::Scope;
 use spx_text::Place;
-use spx_tree::{Alternative, Arm, Derives, DerivesItem, Exports, Predicate, Stmt};
+use spx_tree::{Alternative, Arm, Derives, DerivesItem, Exports, Predicate, Scheme, Stmt};
 use sqlite_items::Items;
 use std::alloc::{AllocError, Global};
 
@@ -73,6 +74,21 @@ fn resolve_alternatives(
     Ok(resolved)
 }
 
+fn resolve_scheme(
+    alloc: Global,
+    scheme: &Scheme,
+    scope: &Scope<'_>,
+) -> Result<CoreScheme, AllocError>
+    ensures { IfOk result (λ r. r ≡ resolved_scheme (seen scope.now) scheme.now) }
+{
+    match scheme {
+        Scheme::While(place, condition) => Ok(CoreScheme::While(
+            *place,
+            resolve_expr(alloc, condition, scope)?,
+        )),
+    }
+}
+
 #[cycle(resolve_stmt)]
 fn resolve_stmt(
     alloc: Global,
@@ -106,6 +122,11 @@ fn resolve_stmt(
                 scope,
             )?;
             Ok(CoreStmt::Case(*place, selector, alternatives, *closing))
+        }
+        Stmt::Loop(scheme, word, body, closing) => {
+            let scheme = resolve_scheme(alloc, scheme, scope)?;
+            let body = resolve_stmts(alloc, body.as_slice(), changed, scope)?;
+            Ok(CoreStmt::Loop(scheme, *word, body, *closing))
         }
         Stmt::Assertion(kind, place, condition) => {
             let condition = resolve_in(alloc, condition, changed, scope)?;

@@ -9,8 +9,8 @@ ghost use Rattle.spx_types.specs.Choices.{alternatives_in, done_in};
 
 use crate::tables::Tables;
 use spx_core::{
-    Breach, CoreAlternative, CoreArm, CoreDerivesItem, CoreName, CoreStmt, Entity, Mode, Reference,
-    RuleName, VarKind, variable_of,
+    Breach, CoreAlternative, CoreArm, CoreDerivesItem, CoreName, CoreScheme, CoreStmt, Entity,
+    Mode, Reference, RuleName, VarKind, variable_of,
 };
 use spx_types::keeps;
 
@@ -193,6 +193,7 @@ fn obey_stmt(stmt: &CoreStmt) -> Result<(), Breach>
             obey_stmts(stmts.as_slice())
         }
         CoreStmt::Case(_, _, alternatives, _) => obey_alternatives(alternatives.as_slice()),
+        CoreStmt::Loop(CoreScheme::While(_, _), _, body, _) => obey_stmts(body.as_slice()),
         CoreStmt::Assertion(_, _, _) => Ok(()),
     }
 }
