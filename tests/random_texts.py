@@ -50,7 +50,8 @@ PIECES = tuple(piece.encode('ascii') for piece in (
     '   C, D : constant := 2;\n', '   V : S;\n', 'C', 'Red', ' + C', ': constant', ':= 5', '(Red)', 'case', 'when', 'others', '=>', '|', 'end case',
     'end case;', 'case X is', 'when 1 =>', 'when others =>', 'when 1 .. 5 | 7 =>', '   case X is when 1 => X := 2; when others => X := 3; end case;\n',
     'Integer (', "Integer'(", "Hue'Succ (", "'Pos", "'Val (1)", ' := 5', '   V : Integer := 5;\n', '<->', ' -> X = X', ' <-> X = X', 'X~', '~',
-    'check', 'post', 'assert', '\n--# check X = X;\n', '\n--# assert X = X;\n', '\n--# post X = X;\n', '\n--# check X~ = X;\n', '(X = X -> X = X)'))
+    'check', 'post', 'assert', '\n--# check X = X;\n', '\n--# assert X = X;\n', '\n--# post X = X;\n', '\n--# check X~ = X;\n', '(X = X -> X = X)',
+    'while', 'loop', 'end loop', 'while X > 0 loop', 'end loop;', '   while X > 0 loop X := X - 1; end loop;\n'))
 # Bytes that are apt to end a lexeme, a line or a text.
 EDGES = b'\0\t\n\v\f\r -#0A_\x80\xa0\xff'
 
@@ -280,6 +281,11 @@ class Selection(Branch):
         return [self.selector]
 
 
+@dataclass
+class Loop(Branch):
+    """A `while`, as an arm with its condition and its statements."""
+
+
 # Around the condition of an `assert` or a `check`, which is on a line of its own in the end.
 ASSERT, CHECK, END_OF_CHECK = '\3', '\1', '\2'
 
@@ -313,7 +319,9 @@ def levels(statements):
 def sources_after(statements, sources):
     """The formals that the value of each variable comes from after statements, where these are those before."""
     for statement in statements:
-        if isinstance(statement, Branch):
+        if isinstance(statement, Loop):
+            sources = sources_after_loop(statement, sources)
+        elif isinstance(statement, Branch):
             conditions = set().union(*(sources_of(test, sources) for test in statement.tests()))
             changed = {target for target, _ in assignments([statement])}
             ends = [sources_after(body, sources) for body in statement.bodies()]
@@ -323,6 +331,17 @@ def sources_after(statements, sources):
             target, value = statement
             sources = sources | {target: sources_of(value, sources)}
     return sources
+
+
+def sources_after_loop(loop, sources):
+    """The same after some number of turns."""
+    (condition, body), = loop.arms
+    end = sources_after(body, sources)
+    more = {name: sources[name] | end[name] for name in sources}
+    if more != sources:
+        return sources_after_loop(loop, more)
+    changed, conditions = {target for target, _ in assignments(body)}, sources_of(condition, sources)
+    return {name: sources[name] | (conditions if name in changed else set()) for name in sources}
 
 
 def sources_of(value, sources):
@@ -536,8 +555,10 @@ class Writer:
         for _ in range(self.random.choice((1, 1, 1, 2, 2, 3))):
             at = self.random.randrange(len(found) + 1)
             after = min(len(found), at + self.random.choice((0, 1, 1, 2)))
-            made = self.branch(found[at:after], formals, locals_)
-            tried = found[:at] + [made] + found[after:]
+            if self.random.random() < 0.3:
+                tried = found[:after] + [self.loop(found[at:after], formals, locals_)] + found[after:]
+            else:
+                tried = found[:at] + [self.branch(found[at:after], formals, locals_)] + found[after:]
             if paths(tried) <= MOST_PATHS and levels(tried) <= MOST_NESTED:
                 found = tried
         return found
@@ -560,6 +581,15 @@ class Writer:
         bodies[self.random.randrange(len(bodies))] = list(statements) or self.some(formals, readable)
         arms = [(self.condition(readable), body) for body in bodies[:count]]
         return Branch(arms, bodies[count] if has_else else None)
+
+    def loop(self, statements, formals, locals_):
+        """A `while` in which what the statements before it set is set once more, or some formal."""
+        readable = formals + tuple(local for local in locals_ if self.random.random() < 0.2)
+        body = [self.other(statement, readable) for statement in statements]
+        if not body and self.random.random() < 0.95:
+            target = self.random.choice(formals)
+            body = [(target, self.right_side(readable, target, target))]
+        return Loop([(self.condition(readable), body)])
 
     def selection(self, statements, formals, readable):
         """A `case` with the statements in one of its alternatives, or with other values in each. It mostly has each value once."""
@@ -761,12 +791,23 @@ class Writer:
         gap = self.random.choice((' ', ' ', '\n      '))
         if isinstance(branch, Selection):
             return self.spelled_selection(branch, gap)
+        if isinstance(branch, Loop):
+            return self.spelled_loop(branch, gap)
         text = ''
         for word, (condition, body) in zip(['if'] + ['elsif'] * len(branch.arms), branch.arms):
             text += f'{word} {condition} then{gap}' + ''.join(f'{piece};{gap}' for piece in self.spelled(body))
         if branch.otherwise is not None:
             text += f'else{gap}' + ''.join(f'{piece};{gap}' for piece in self.spelled(branch.otherwise))
         return text + 'end if'
+
+    def spelled_loop(self, loop, gap):
+        """A `while`, often with an `assert` of its condition or of something else."""
+        (condition, body), = loop.arms
+        pieces = self.spelled(body)
+        if self.readable and self.random.random() < 0.5:
+            known = condition if self.random.random() < 0.6 else self.predicate(self.readable)
+            pieces.insert(0 if self.random.random() < 0.7 else self.random.randrange(len(pieces) + 1), f'{ASSERT}{known}{END_OF_CHECK}')
+        return f'while {condition} loop{gap}' + ''.join(f'{piece};{gap}' for piece in pieces) + 'end loop'
 
     def spelled_selection(self, branch, gap):
         """A `case`; `others` rarely is not the last choice."""
