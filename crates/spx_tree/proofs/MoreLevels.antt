@@ -60,7 +60,6 @@ module _ (m n : ℕ) (le : m ≤ n) (inner : (x : Stmt) → Within m x → Withi
       (let some = f.0 in omega arith, one_more (λ a. IsArm m (Within m) (out-Arm a)) (λ a. IsArm n (Within n) (out-Arm a)) arm_more arms f.1, there_more (OneOrMore (Within m)) (OneOrMore (Within n)) (one_more (Within m) (Within n) inner) otherwise f.2)
   formed_more (Stmt-F.Case place selector alternatives closing) f =
       (let some = f.0 in omega arith, layer_more (m - 1) (n - 1) (omega arith) _ selector f.1, one_more (λ a. IsAlternative m (Within m) (out-Alternative a)) (λ a. IsAlternative n (Within n) (out-Alternative a)) alternative_more alternatives f.2)
-
   formed_more (Stmt-F.Loop scheme word body closing) f =
       (let some = f.0 in omega arith, scheme_more (m - 1) (n - 1) (omega arith) scheme f.1, one_more (Within m) (Within n) inner body f.2)
 
