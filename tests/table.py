@@ -2335,6 +2335,7 @@ def documented():
     yield accepted('guard.adb', share, 1, named='Share')
     yield left_at('guard_by_and.adb', share.replace('and then Whole', 'and Whole <1d>').replace('<1d> ', '<1d>'), 1, named='Share')
     yield from worked_types()
+    yield from worked_loops()
     yield bad_number('inc_with_a_bad_number.adb', procedure('X + 1_', pre=BELOW), at=(6, 13))
     yield unexpected('inc_with_two_operators.adb', procedure('X + * 1', pre=BELOW), at=(6, 13))
     yield unexpected('inc_without_end.adb', INC.replace('end Inc;\n', ''), at=(7, 1))
@@ -2377,6 +2378,28 @@ def worked_types():
         assert guard in text, name
         yield accepted(f'{name}.adb', text, total, named=named)
         yield left_at(f'{name}_without_a_guard.adb', text.replace(guard, instead), left, named=named)
+
+
+def left_in(name, text, named, total, **left):
+    """So many conditions of one procedure. Those that are left are given by number and kind, each with what stands in the text from its place on."""
+    lines = []
+    for condition, piece in left.items():
+        kind, number = condition.split('_')
+        before = text[:text.index(piece)]
+        lines.append(f'{name}:{before.count(chr(10)) + 1}:{len(before) - before.rfind(chr(10))}: V1 unproved: {named}.{number} {kind}')
+    row = f'{named}: {total} conditions, {total - len(left)} simplified, 0 scripted, {len(left)} open'
+    return reported(name, text, *lines, row, f'refused: {len(left)}')
+
+
+def worked_loops():
+    """The worked examples of loops, and those that are accepted without their assertions."""
+    texts = {name: (TOP / 'examples' / f'{name}.adb').read_text(encoding='utf-8') for name in ('count_down', 'integer_root', 'divide')}
+    without = {name: re.sub('.*--# assert.*\n', '', text) for name, text in texts.items()}
+    yield accepted('count_down.adb', texts['count_down'], 6, named='Count_Down')
+    yield left_in('count_down_without_its_assertion.adb', without['count_down'], 'Count_Down', 4, range_3='- 1;')
+    yield accepted('integer_root.adb', texts['integer_root'], 13, named='Integer_Root')
+    yield left_in('integer_root_without_its_assertion.adb', without['integer_root'], 'Integer_Root', 11, overflow_6='+ 1;', post_11='post Root')
+    yield left_in('divide.adb', texts['divide'], 'Divide', 10, overflow_5='+ 1;', range_8='- Divisor;', assert_9='assert Dividend', post_10='post Dividend')
 
 
 def assigned(value, pre=None):
