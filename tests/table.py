@@ -5169,13 +5169,14 @@ def syntax_of_predicates():
 PIECES = ('procedure', 'Inc', '(', 'X', ':', 'in', 'out', 'Integer', ')', '\n--#', 'derives', 'X', 'from', 'X', ';', '\n--#', 'pre', 'X', '>', '5', '->', 'X', '>', '6', ';',
           '\n--#', 'post', '(', 'X', '=', 'X', '~', '<->', 'X', '=', 'X', ')', '->', 'True', ';', '\nis', 'begin', '\n--#', 'check', 'X', '~', '=', 'X', '->', 'True', ';',
           '\nX', ':=', 'X', ';', '\nif', 'X', '>', '0', 'then', 'X', ':=', 'X', ';', '\n--#', 'check', 'X', '=', '0', 'or', 'True', ';', '\nend', 'if', ';',
+          '\nwhile', 'X', '>', '0', 'loop', '\n--#', 'assert', 'X', '>', '0', ';', '\nX', ':=', 'X', ';', '\nend', 'loop', ';',
           '\n--#', 'assert', 'X', '=', 'X', 'or', 'True', ';', '\nend', ';', '\n')
 
 
 def cut_and_spoiled():
     """The text that is cut before each of its tokens ends too early. With `abort` before one it is stopped there."""
     whole = ' '.join(PIECES)
-    yield accepted('pieces.adb', whole, 7)
+    yield accepted('pieces.adb', whole, 12)
     for at, piece in enumerate(PIECES[:-1]):
         before = ' '.join(PIECES[:at])
         if piece != '\n--#':
