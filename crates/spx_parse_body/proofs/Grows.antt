@@ -47,27 +47,25 @@ taking_follows kept marked kind (f ∷ fs) = kept_follows (cond (same_mark f.mar
 pub grows_taking : {A : Type 0} (kept : Kept → Option A) (marked : Bool) (kind : Kind) (on : List Form → Type 0) → Grows on (taking kept marked kind) (taking kept marked kind)
 grows_taking kept marked kind on = record { follows = λ fs s here. taking_follows kept marked kind fs }
 
+-- what goes on from there leaves no more
+pub under_bind : {A B : Type 0} (q : A → Reader B) → ((x : A) → Scans Any (q x)) → (n : ℕ) (o : Outcome A) → Under n o → Under n (and_then o q)
+under_bind q scans n (Ok x) h = at_most_under (length x.1) n (q x.0 x.1) h ((scans x.0).within x.1 tt)
+under_bind q scans n (Err (Expected m)) h = h
+under_bind q scans n (Err (TooDeep m)) h = h
+
 module _ {A B : Type 0} (spell : A → List Form) (fits : A → Type 0) (before : List Form) (on : List Form → Type 0) (p p' : Reader A) (q q' : A → Reader B)
     (law : Lawful spell fits before on p) (grows_p : Grows on p p') (grows_q : (x : A) → fits x → Grows Any (q x) (q' x)) (scans_q : (x : A) → Scans Any (q' x)) where
-  bind_under : (n : ℕ) (o : Outcome A) → Under n o → Under n (and_then o q')
-  bind_under n (Ok x) h = at_most_under (length x.1) n (q' x.0 x.1) h ((scans_q x.0).within x.1 tt)
-  bind_under n (Err (Expected m)) h = h
-  bind_under n (Err (TooDeep m)) h = h
-
   bind_follows : (o o' : Outcome A) → ((x : A) (r : List Form) → o ≡ Ok (x, r) → fits x × AreShaped r) → Follows o o' → Follows (and_then o q) (and_then o' q')
   bind_follows (Ok x) o' h e = let f = h x.0 x.1 refl in subst (λ (r : Outcome B). Follows (q x.0 x.1) r) (sym (ap (λ (r : Outcome A). and_then r q') e)) ((grows_q x.0 f.0).follows x.1 f.1 tt)
   bind_follows (Err (Expected n)) o' h e = ap (λ (r : Outcome A). and_then r q') e
-  bind_follows (Err (TooDeep n)) o' h e = bind_under n o' e
+  bind_follows (Err (TooDeep n)) o' h e = under_bind q' scans_q n o' e
 
   pub grows_bind : Grows on (p >>= q) (p' >>= q')
   grows_bind = record { follows = λ fs s here. bind_follows (p fs) (p' fs) (λ x r e. let f = law.found fs r x here e in (f.fit, shaped_rest fs f.taken r f.parts s)) (grows_p.follows fs s here) }
 
--- a reader that takes a form first leaves less
-pub under_taking : {A B : Type 0} (kept : Kept → Option A) (marked : Bool) (kind : Kind) (q : A → Reader B) → IsKept kept kind → ((x : A) → Scans Any (q x)) → (fs : List Form) → AreShaped fs → peek marked fs ≡ Some kind
-    → Under (length fs) ((taking kept marked kind >>= q) fs)
-under_taking {A} kept marked kind q is scans fs s here =
-    let v = taking_seen kept marked kind is fs s here in
-    subst (λ (o : Outcome A). Under (length fs) (and_then o q)) (sym v.2) (at_most_under (length v.1) (length fs) (q v.0 v.1) v.3 ((scans v.0).within v.1 tt))
+-- where a form is taken less is left
+pub under_taking : {A : Type 0} (kept : Kept → Option A) (marked : Bool) (kind : Kind) → IsKept kept kind → (fs : List Form) → AreShaped fs → peek marked fs ≡ Some kind → Under (length fs) (taking kept marked kind fs)
+under_taking {A} kept marked kind is fs s here = let v = taking_seen kept marked kind is fs s here in subst (λ (o : Outcome A). Under (length fs) o) (sym v.2) v.3
 
 deep_follows : {A : Type 0} (levels used : ℕ) (b b' : Bool) (p p' : Reader A) (fs : List Form) → leb levels used ≡ b → leb (suc levels) used ≡ b' → used ≤ levels
     → (levels ≡ used → Under (length fs) (p' fs)) → (used < levels → Follows (p fs) (p' fs)) → Follows (cond b (Err (TooDeep (length fs))) (p fs)) (cond b' (Err (TooDeep (length fs))) (p' fs))

@@ -9,8 +9,10 @@ use Rattle.spx_tree.specs.declared.statement.Choice.{Choice}
 use Rattle.spx_tree.specs.declared.statement.Alternative.{Alternative}
 use Rattle.spx_tree.specs.declared.statement.AssertionKind.{AssertionKind}
 use Rattle.spx_tree.specs.declared.statement.AssertionKind.TheVariants as assertion
+use Rattle.spx_tree.specs.declared.statement.Scheme.{Scheme}
+use Rattle.spx_tree.specs.declared.statement.Scheme.TheVariants.{While}
 use Rattle.spx_tree.specs.declared.statement.Stmt.{Stmt}
-use Rattle.spx_tree.specs.declared.statement.Stmt.TheVariants.{Null, Assignment, If, Case, Assertion}
+use Rattle.spx_tree.specs.declared.statement.Stmt.TheVariants.{Null, Assignment, If, Case, Loop, Assertion}
 use Rattle.spx_tree.specs.Form.{Form}
 use Rattle.spx_tree.specs.Written.{program, annotation, assertion_word}
 use Rattle.spx_parse_body.specs.declared.statements.StmtKind.{StmtKind}
@@ -43,6 +45,7 @@ stmt_of (Some k.Null) noted = Some kinds.Null
 stmt_of (Some k.Identifier) noted = Some kinds.Assignment
 stmt_of (Some k.If) noted = Some kinds.If
 stmt_of (Some k.Case) noted = Some kinds.Case
+stmt_of (Some k.While) noted = Some kinds.While
 stmt_of _ noted = noted_stmt noted
 
 -- the statement that comes next
@@ -81,6 +84,15 @@ choices_by levels None = some_choices levels >>= λ choices. pure (Some choices)
 -- "others" | choice {"|" choice}
 unfoldable pub choices : ℕ → Reader (Option (List Choice))
 choices levels = if_seen program k.Others (expect program k.Others) >>= choices_by levels
+
+-- ---- the scheme of a loop (Ada 95 RM 5.5), one level down
+
+-- "while" expression
+unfoldable pub while_scheme : ℕ → Reader Scheme
+while_scheme levels = do
+  place ← expect_place program k.While
+  condition ← expression_below program levels
+  pure (While place condition)
 
 -- What reads statements one level down is a parameter, and so is the number of levels that are left.
 module _ (inner : Reader (List Stmt)) (levels : ℕ) where
@@ -153,15 +165,27 @@ module _ (inner : Reader (List Stmt)) (levels : ℕ) where
     expect program k.Semicolon
     pure (Case place selector alternatives (record { end = end; word = word })))
 
+  -- scheme "loop" statements "end" "loop" ";"
+  unfoldable pub loop_statement : Reader Stmt
+  loop_statement = deeper levels 0 (do
+    scheme ← while_scheme levels
+    word ← expect_place program k.Loop
+    body ← inner
+    end ← expect_place program k.End
+    last ← expect_place program k.Loop
+    expect program k.Semicolon
+    pure (Loop scheme word body (record { end = end; word = last })))
+
   abbrev pub stmt_by : Option StmtKind → Reader Stmt
   stmt_by (Some kinds.Null) = null_statement
   stmt_by (Some kinds.Assignment) = assignment
   stmt_by (Some kinds.If) = if_statement
   stmt_by (Some kinds.Case) = case_statement
+  stmt_by (Some kinds.While) = loop_statement
   stmt_by (Some (kinds.Assertion kind)) = assertion_statement kind levels
   stmt_by None = refuse
 
-  -- null statement | assignment | if statement | case statement | assertion statement
+  -- null statement | assignment | if statement | case statement | loop statement | assertion statement
   unfoldable pub stmt : Reader Stmt
   stmt = λ fs. stmt_by (next_stmt fs) fs
 

@@ -11,7 +11,7 @@ ghost use Rattle.spx_parse_body.specs.Answers.{Reads};
 use crate::cursor::{ANNOTATION, Cursor, PROGRAM, Stop};
 use crate::expressions::{expression, name, predicate_after, simple_expression};
 use spx_text::Place;
-use spx_tree::{Alternative, Arm, AssertionKind, Choice, Closing, Expr, Kind, Stmt};
+use spx_tree::{Alternative, Arm, AssertionKind, Choice, Closing, Expr, Kind, Scheme, Stmt};
 use sqlite_items::Items;
 use std::alloc::Global;
 
@@ -22,6 +22,7 @@ pub enum StmtKind {
     Assignment,
     If,
     Case,
+    While,
     /// In annotation text.
     Assertion(AssertionKind),
 }
@@ -261,6 +262,35 @@ fn case_statement(alloc: Global, cursor: &mut Cursor<'_>, levels: u32) -> Result
     Ok(Stmt::Case(place, selector, alternatives, closing))
 }
 
+// while_scheme = "while" expression
+#[tactic(auto, using(crate::proofs::Levels::expression_below_is), unfolding(crate::specs::Statements::while_scheme))]
+fn while_scheme(alloc: Global, cursor: &mut Cursor<'_>, levels: u32) -> Result<Scheme, Stop>
+    requires { 0 < levels }
+    ensures { Reads (read.while_scheme levels cursor.old) result cursor.new }
+{
+    let place = cursor.expect_place(PROGRAM, Kind::While)?;
+    let condition = expression(alloc, cursor, levels - 1, PROGRAM)?;
+    Ok(Scheme::While(place, condition))
+}
+
+// loop_statement = while_scheme "loop" stmts "end" "loop" ";"
+#[cycle(stmts)]
+#[tactic(auto, using(crate::proofs::Levels::stmts_below_is), unfolding(crate::specs::Statements::loop_statement))]
+fn loop_statement(alloc: Global, cursor: &mut Cursor<'_>, levels: u32) -> Result<Stmt, Stop>
+    ensures { Reads (read.loop_statement (read.stmts_below levels) levels cursor.old) result cursor.new }
+{
+    if levels == 0 {
+        return Err(cursor.too_deep());
+    }
+    let scheme = while_scheme(alloc, cursor, levels)?;
+    let word = cursor.expect_place(PROGRAM, Kind::Loop)?;
+    let stmts = stmts(alloc, cursor, levels - 1)?;
+    let end = cursor.expect_place(PROGRAM, Kind::End)?;
+    let last = cursor.expect_place(PROGRAM, Kind::Loop)?;
+    cursor.expect(PROGRAM, Kind::Semicolon)?;
+    Ok(Stmt::Loop(scheme, word, stmts, Closing { end, word: last }))
+}
+
 /// The word of an annotation among statements.
 fn assertion_word(kind: AssertionKind) -> Kind
     ensures word { result ≡ written.assertion_word kind }
@@ -306,11 +336,12 @@ fn next_stmt(cursor: &Cursor<'_>) -> Option<StmtKind>
         Some(Kind::Identifier) => Some(StmtKind::Assignment),
         Some(Kind::If) => Some(StmtKind::If),
         Some(Kind::Case) => Some(StmtKind::Case),
+        Some(Kind::While) => Some(StmtKind::While),
         _ => noted_stmt(cursor.peek(ANNOTATION)),
     }
 }
 
-// stmt = null_statement | assignment | if_statement | case_statement | assertion_statement
+// stmt = null_statement | assignment | if_statement | case_statement | loop_statement | assertion_statement
 #[cycle(stmts)]
 #[tactic(auto, unfolding(crate::specs::Statements::stmt))]
 fn stmt(alloc: Global, cursor: &mut Cursor<'_>, levels: u32) -> Result<Stmt, Stop>
@@ -321,6 +352,7 @@ fn stmt(alloc: Global, cursor: &mut Cursor<'_>, levels: u32) -> Result<Stmt, Sto
         Some(StmtKind::Assignment) => assignment(alloc, cursor, levels),
         Some(StmtKind::If) => if_statement(alloc, cursor, levels),
         Some(StmtKind::Case) => case_statement(alloc, cursor, levels),
+        Some(StmtKind::While) => loop_statement(alloc, cursor, levels),
         Some(StmtKind::Assertion(kind)) => assertion_statement(alloc, cursor, levels, kind),
         None => Err(cursor.expected()),
     }

@@ -7,11 +7,11 @@ use Rattle.spx_text.specs.declared.place.Place.{Place}
 use Rattle.spx_tree.specs.Form.{Form, Kept, KindAlone, ItsPlace, keeps, bare, placed, named, literal}
 use Rattle.spx_tree.specs.Goes.{Expected}
 use Rattle.spx_parse_body.specs.Reading.{Outcome, Reader, ◌>>=◌, pure, refuse, peek, taking, nothing_in, place_in, name_in, value_in, expect, expect_place, identifier, number, deeper, turn, turns, loop, item_step, more_items}
-use Rattle.spx_parse_body.proofs.Callers.Shaped.{IsSpelling, IsKept, bare_spelling, placed_spelling, named_spelling, literal_spelling, bare_kept, place_kept, name_kept, value_kept}
+use Rattle.spx_parse_body.proofs.Callers.Shaped.{AreShaped, IsSpelling, IsKept, bare_spelling, placed_spelling, named_spelling, literal_spelling, bare_kept, place_kept, name_kept, value_kept}
 use Rattle.spx_parse_body.proofs.Callers.Loops.{Shortens, Shrinks, same_turns, loop_is}
 use Rattle.spx_parse_body.proofs.Callers.Lawful.{Lawful, Ends, Any, Sees, Always, single, just, at_place, ends_here, lawful_before, lawful_pure, lawful_refuse, lawful_deeper, lawful_choose, lawful_then, lawful_bind, lawful_as, lawful_weaken, lawful_fewer, lawful_taking}
 use Rattle.spx_parse_body.proofs.Scans.{Scans, Fewer, Takes, Extends, AtFirst, scans_pure, scans_refuse, scans_bind, scans_deeper, scans_choose, scans_taking, scans_fewer, takes_bind, takes_deeper, takes_taking, sees_some}
-use Rattle.spx_parse_body.proofs.Grows.{Grows, grows_pure, grows_refuse, grows_bind, grows_deeper, grows_choose, grows_taking, grows_fewer, under_taking}
+use Rattle.spx_parse_body.proofs.Grows.{Under, Grows, grows_pure, grows_refuse, grows_bind, grows_deeper, grows_choose, grows_taking, grows_fewer, under_bind, under_taking}
 
 -- p at a level and p' at the next. L says that there is a level below, and P what was read before.
 pub record Good (L P : Type 0) {A : Type 0} (spell : A → List Form) (fits : A → Type 0) (before : List Form) (on : List Form → Type 0) (p p' : Reader A) : Type 0 where
@@ -25,6 +25,12 @@ pub record Starts (L P : Type 0) {A : Type 0} (spell : A → List Form) (fits : 
   pub good : Good L P spell fits before on p p'
   pub takes : L → (fs : List Form) → on fs → Takes fs (p fs)
   pub takes' : (fs : List Form) → on fs → Takes fs (p' fs)
+
+-- and it may open a level: where that is one too many, more is taken at the next
+pub record Opens (L P : Type 0) {A : Type 0} (spell : A → List Form) (fits : A → Type 0) (before : List Form) (on : List Form → Type 0) (p p' : Reader A) : Type 0 where
+  pub starts : Starts L P spell fits before on p p'
+  pub some : (fs : List Form) → on fs → 0 < length fs
+  pub under : (fs : List Form) → AreShaped fs → on fs → Under (length fs) (p' fs)
 
 -- where no level is left
 pub no_level : {P A : Type 0} {spell : A → List Form} {fits : A → Type 0} {before : List Form} {on : List Form → Type 0} {p : Reader A} → Good (0 < 0) P spell fits before on p refuse
@@ -56,6 +62,9 @@ module _ {L P A B : Type 0} {spell1 : A → List Form} {fits1 : A → Type 0} {s
     takes = λ l fs here. takes_bind on p q (s.good.scans l) (λ x. (h x).scans l) fs (s.takes l fs here);
     takes' = λ fs here. takes_bind on p' q' s.good.scans' (λ x. (h x).scans') fs (s.takes' fs here);
   }
+
+  pub opens_bind : Opens L P spell1 fits1 [] on p p' → ((x : A) → Good L (P × fits1 x) spell fits (before ++ spell1 x) Any (q x) (q' x)) → Opens L P spell fits before on (p >>= q) (p' >>= q')
+  opens_bind o h = record { starts = starts_bind o.starts h; some = o.some; under = λ fs sh here. under_bind q' (λ x. (h x).scans') (length fs) (p' fs) (o.under fs sh here) }
 
 module _ {L P A : Type 0} {spell : A → List Form} {fits : A → Type 0} {before : List Form} {on : List Form → Type 0} where
   pub good_pure : (x : A) → (L → P → before ≡ spell x) → (L → P → fits x) → Good L P spell fits before on (pure x) (pure x)
@@ -104,25 +113,28 @@ module _ {L P A : Type 0} (kept : Kept → Option A) (marked : Bool) (kind : Kin
     pub starts_taking : Starts L P (single spell) Always [] on (taking kept marked kind) (taking kept marked kind)
     starts_taking = record { good = good_taking; takes = λ l fs here. takes_taking kept marked kind is fs (seen fs here); takes' = λ fs here. takes_taking kept marked kind is fs (seen fs here) }
 
--- a form that opens a level, where one is left
+    pub opens_taking : Opens L P (single spell) Always [] on (taking kept marked kind) (taking kept marked kind)
+    opens_taking = record { starts = starts_taking; some = λ fs here. sees_some marked kind fs (seen fs here); under = λ fs sh here. under_taking kept marked kind is fs sh (seen fs here) }
+
+-- what opens a level, where one is left
+pub starts_deeper : {L P A : Type 0} {spell : A → List Form} {fits : A → Type 0} {before : List Form} {on : List Form → Type 0} {p p' : Reader A} (levels used : ℕ) → (P → used ≤ levels) → (P → Ends spell fits before)
+    → Opens (used < levels) P spell fits before on p p' → Starts L P spell fits before on (deeper levels used p) (deeper (suc levels) used p')
+starts_deeper {spell = spell} {fits = fits} {before = before} {on = on} {p = p} {p' = p'} levels used le ends o = record {
+  good = record {
+    law = λ l w. lawful_deeper spell fits before on levels used p (ends w) (λ lt. o.starts.good.law lt w);
+    scans = λ l. scans_deeper on levels used p o.some o.starts.good.scans;
+    scans' = scans_deeper on (suc levels) used p' o.some (λ lt. o.starts.good.scans');
+    grows = λ l w. grows_deeper on levels used p p' (le w) o.under (λ lt. o.starts.good.grows lt w);
+  };
+  takes = λ l fs here. takes_deeper levels used p fs (o.some fs here) (λ lt. o.starts.takes lt fs here);
+  takes' = λ fs here. takes_deeper (suc levels) used p' fs (o.some fs here) (λ lt. o.starts.takes' fs here);
+}
+
+-- a form that opens a level
 module _ {L P A : Type 0} (kept : Kept → Option A) (marked : Bool) (kind : Kind) {form : A → Form} (s : IsSpelling kept marked kind form) {on : List Form → Type 0} (seen : (fs : List Form) → on fs → peek marked fs ≡ Some kind) (is : IsKept kept kind) where
   pub starts_open_taking : {B : Type 0} {spell : B → List Form} {fits : B → Type 0} {before : List Form} {q q' : A → Reader B} (levels used : ℕ) → (P → used ≤ levels) → (P → Ends spell fits before)
       → ((x : A) → Good (used < levels) (P × Always x) spell fits (before ++ form x ∷ []) Any (q x) (q' x)) → Starts L P spell fits before on (deeper levels used (taking kept marked kind >>= q)) (deeper (suc levels) used (taking kept marked kind >>= q'))
-  starts_open_taking {B} {spell} {fits} {before} {q} {q'} levels used le ends h =
-      let p = taking kept marked kind >>= q in
-      let p' = taking kept marked kind >>= q' in
-      let some : (fs : List Form) → on fs → 0 < length fs = λ fs here. sees_some marked kind fs (seen fs here) in
-      let t : Starts (used < levels) P spell fits before on p p' = starts_bind (starts_taking kept marked kind s seen is) h in
-      record {
-        good = record {
-          law = λ l w. lawful_deeper spell fits before on levels used p (ends w) (λ lt. t.good.law lt w);
-          scans = λ l. scans_deeper on levels used p some t.good.scans;
-          scans' = scans_deeper on (suc levels) used p' some (λ lt. t.good.scans');
-          grows = λ l w. grows_deeper on levels used p p' (le w) (λ fs sh here. under_taking kept marked kind q' is (λ x. (h x).scans') fs sh (seen fs here)) (λ lt. t.good.grows lt w);
-        };
-        takes = λ l fs here. takes_deeper levels used p fs (some fs here) (λ lt. t.takes lt fs here);
-        takes' = λ fs here. takes_deeper (suc levels) used p' fs (some fs here) (λ lt. t.takes' fs here);
-      }
+  starts_open_taking levels used le ends h = starts_deeper levels used le ends (opens_bind (opens_taking kept marked kind s seen is) h)
 
 module _ {L P : Type 0} {on : List Form → Type 0} (marked : Bool) where
   pub good_expect : (kind : Kind) → Good L P (just marked kind) Always [] on (expect marked kind) (expect marked kind)
@@ -142,6 +154,9 @@ module _ {L P : Type 0} {on : List Form → Type 0} (marked : Bool) where
 
   pub starts_place : (kind : Kind) → ((fs : List Form) → on fs → peek marked fs ≡ Some kind) → keeps kind ≡ ItsPlace → Starts L P (at_place marked kind) Always [] on (expect_place marked kind) (expect_place marked kind)
   starts_place kind seen c = starts_taking place_in marked kind (placed_spelling marked kind) seen (place_kept kind c)
+
+  pub opens_place : (kind : Kind) → ((fs : List Form) → on fs → peek marked fs ≡ Some kind) → keeps kind ≡ ItsPlace → Opens L P (at_place marked kind) Always [] on (expect_place marked kind) (expect_place marked kind)
+  opens_place kind seen c = opens_taking place_in marked kind (placed_spelling marked kind) seen (place_kept kind c)
 
   pub starts_identifier : ((fs : List Form) → on fs → peek marked fs ≡ Some k.Identifier) → Starts L P (single (named marked)) Always [] on (identifier marked) (identifier marked)
   starts_identifier seen = starts_taking name_in marked k.Identifier (named_spelling marked) seen name_kept

@@ -13,20 +13,22 @@ use Rattle.spx_tree.specs.declared.statement.Alternative.{Alternative, out-Alter
 use Rattle.spx_tree.specs.declared.statement.Arm.{Arm, out-Arm}
 use Rattle.spx_tree.specs.declared.statement.AssertionKind.{AssertionKind}
 use Rattle.spx_tree.specs.declared.statement.AssertionKind.TheVariants as assertion
+use Rattle.spx_tree.specs.declared.statement.Scheme.{Scheme}
+use Rattle.spx_tree.specs.declared.statement.Scheme.TheVariants.{While}
 use Rattle.spx_tree.specs.declared.statement.Stmt.{Stmt, Stmt-F, out-Stmt}
-use Rattle.spx_tree.specs.declared.statement.Stmt.TheVariants.{Null, Assignment, If, Case, Assertion, outs-Null, outs-Assignment, outs-If, outs-Case, outs-Assertion}
+use Rattle.spx_tree.specs.declared.statement.Stmt.TheVariants.{Null, Assignment, If, Case, Loop, Assertion, outs-Null, outs-Assignment, outs-If, outs-Case, outs-Loop, outs-Assertion}
 use Rattle.spx_tree.specs.Form.{Form, ItsPlace, bare, placed, keeps}
-use Rattle.spx_tree.specs.Written.{program, annotation, assertion_word, joined, optional, elsif_arms, all_arms, written_upper, written_choice, written_choices, written_expr, written_stmt, written_arm, written_alternative, written_stmts, separated}
-use Rattle.spx_tree.specs.Grammar.{OneOrMore, IfThere, OfLayer, IsArm, IsChoice, IsAlternative, IsFormed, Within, IsStmt}
+use Rattle.spx_tree.specs.Written.{program, annotation, assertion_word, joined, optional, elsif_arms, all_arms, written_upper, written_choice, written_choices, written_scheme, written_expr, written_stmt, written_arm, written_alternative, written_stmts, separated}
+use Rattle.spx_tree.specs.Grammar.{OneOrMore, IfThere, OfLayer, IsArm, IsChoice, IsAlternative, IsScheme, IsFormed, Within, IsStmt}
 use Rattle.spx_tree.proofs.WrittenLevels.{written_level, spelled_stmt, spelled_arm, spelled_alternative, elsif_joined}
 use Rattle.spx_parse_body.specs.Reading.{Reader, ◌>>=◌, ◌>>◌, pure, peek, sees, refuse, expect, item_step}
 use Rattle.spx_parse_body.specs.declared.statements.StmtKind.{StmtKind}
 use Rattle.spx_parse_body.specs.declared.statements.StmtKind.TheVariants as kinds
 use Rattle.spx_parse_body.specs.Statements as read
-use Rattle.spx_parse_body.specs.Statements.{null_statement, assignment, upper, choice, more_choices, some_choices, choices_by, choices, arm, elsif_arm, if_statement, alternative, more_alternatives, alternatives, case_statement, assertion_statement, noted_stmt, stmt_of, next_stmt, stmt_by, stmt, sees_stmt, more_stmts, some_stmts, stmts_below, stmts}
+use Rattle.spx_parse_body.specs.Statements.{null_statement, assignment, upper, choice, more_choices, some_choices, choices_by, choices, arm, elsif_arm, if_statement, alternative, more_alternatives, alternatives, case_statement, while_scheme, loop_statement, assertion_statement, noted_stmt, stmt_of, next_stmt, stmt_by, stmt, sees_stmt, more_stmts, some_stmts, stmts_below, stmts}
 use Rattle.spx_parse_body.proofs.Callers.Loops.{Shrinks}
 use Rattle.spx_parse_body.proofs.Callers.Lawful.{Ends, Any, Sees, Always, just}
-use Rattle.spx_parse_body.proofs.Callers.Good.{Good, Starts, Adds, no_level, good_bind, good_then, good_as, good_before, good_given, good_more, good_pure, good_refuse, good_expect, good_expect_place, good_choose, list_shrinks, starts_bind, starts_choose, starts_expect, starts_open, starts_place}
+use Rattle.spx_parse_body.proofs.Callers.Good.{Good, Starts, Opens, Adds, no_level, good_bind, good_then, good_as, good_before, good_given, good_more, good_pure, good_refuse, good_expect, good_expect_place, good_choose, list_shrinks, opens_bind, opens_place, starts_bind, starts_choose, starts_deeper, starts_expect, starts_open, starts_place}
 use Rattle.spx_parse_body.proofs.Callers.Separated.{all_added, good_if_seen, good_separated, good_some_items, items_shrinks, joined_added, sees_kind, separated_shrinks}
 use Rattle.spx_parse_body.proofs.Callers.ExpressionsGood.{name_starts, expression_good, predicate_after_starts, expression_below_good, simple_expression_below_good}
 
@@ -98,6 +100,7 @@ StartsAs kind noted kinds.Null = kind ≡ Some k.Null
 StartsAs kind noted kinds.Assignment = kind ≡ Some k.Identifier
 StartsAs kind noted kinds.If = kind ≡ Some k.If
 StartsAs kind noted kinds.Case = kind ≡ Some k.Case
+StartsAs kind noted kinds.While = kind ≡ Some k.While
 StartsAs kind noted (kinds.Assertion asserted) = noted ≡ Some (assertion_word asserted)
 
 starts_as : (kind noted : Option Kind) (found x : StmtKind) → StartsAs kind noted found → Some found ≡ Some x → StartsAs kind noted x
@@ -116,6 +119,7 @@ stmt_is (Some k.Null) noted x e = starts_as (Some k.Null) noted kinds.Null x ref
 stmt_is (Some k.Identifier) noted x e = starts_as (Some k.Identifier) noted kinds.Assignment x refl e
 stmt_is (Some k.If) noted x e = starts_as (Some k.If) noted kinds.If x refl e
 stmt_is (Some k.Case) noted x e = starts_as (Some k.Case) noted kinds.Case x refl e
+stmt_is (Some k.While) noted x e = starts_as (Some k.While) noted kinds.While x refl e
 stmt_is _ noted x e = noted_is _ noted x e
 
 -- what is seen where this statement comes next
@@ -167,6 +171,15 @@ made_alternative choices body = record { choices = choices; body = body }
 
 abbrev pub written_alternatives : List Alternative → List Form
 written_alternatives xs = joined (map written_alternative xs)
+
+-- ---- the scheme of a loop
+
+while_opens : {P : Type 0} {on : List Form → Type 0} (levels : ℕ) → ((fs : List Form) → on fs → peek program fs ≡ Some k.While) → Opens (0 < levels) P written_scheme (IsScheme (levels - 1)) [] on (while_scheme levels) (while_scheme (suc levels))
+unfolding while_scheme
+while_opens levels here =
+    opens_bind (opens_place program k.While here refl) (λ place.
+    good_bind (expression_below_good program levels) (λ condition.
+    good_pure (While place condition) (λ l w. refl) (λ l w. w.1)))
 
 -- ---- statements
 
@@ -268,11 +281,28 @@ module _ (inner inner' : Reader (List Stmt)) (levels : ℕ) (good : Good (0 < le
       good_pure (Case place selector xs (record { end = end; word = word })) (λ l w. case_text place selector xs (record { end = end; word = word }))
       (λ l w. fits_as levels (Case place selector xs (record { end = end; word = word })) _ (outs-Case place selector xs (record { end = end; word = word })) (l, w.0.0.0.0.0.1, w.0.0.0.1)))))))))
 
+  loop_text : (scheme : Scheme) (word : Place) (body : List Stmt) (closing : Closing)
+      → ((((written_scheme scheme ++ placed program k.Loop word ∷ []) ++ written_stmts body) ++ placed program k.End closing.end ∷ []) ++ placed program k.Loop closing.word ∷ []) ++ bare program k.Semicolon ∷ [] ≡ written_stmt (Loop scheme word body closing)
+  loop_text scheme word body closing = let e = spelled_as (Loop scheme word body closing) _ (outs-Loop scheme word body closing) in simp (append_assoc, e)
+
+  loop_starts : {L P : Type 0} {on : List Form → Type 0} → ((fs : List Form) → on fs → peek program fs ≡ Some k.While) → Starts L P written_stmt (IsStmt levels) [] on (loop_statement inner levels) (loop_statement inner' (suc levels))
+  unfolding loop_statement
+  loop_starts here =
+      starts_deeper levels 0 (λ w. omega arith) (λ w. stmt_ends levels) (opens_bind (while_opens levels here) (λ scheme.
+      good_bind (good_expect_place program k.Loop) (λ word.
+      good_bind (good_given (λ l. l) (λ l w. tt) good) (λ body.
+      good_bind (good_expect_place program k.End) (λ end.
+      good_bind (good_expect_place program k.Loop) (λ last.
+      good_bind (good_expect program k.Semicolon) (λ u.
+      good_pure (Loop scheme word body (record { end = end; word = last })) (λ l w. loop_text scheme word body (record { end = end; word = last }))
+      (λ l w. fits_as levels (Loop scheme word body (record { end = end; word = last })) _ (outs-Loop scheme word body (record { end = end; word = last })) (l, w.0.0.0.0.0.1, w.0.0.0.1)))))))))
+
   begun_case : {L P : Type 0} (x : StmtKind) → Starts L P written_stmt (IsStmt levels) [] (Sees next_stmt (Some x)) (stmt_by inner levels (Some x)) (stmt_by inner' (suc levels) (Some x))
   begun_case kinds.Null = null_starts levels (next_is kinds.Null)
   begun_case kinds.Assignment = assignment_starts (next_is kinds.Assignment)
   begun_case kinds.If = if_starts (next_is kinds.If)
   begun_case kinds.Case = case_starts (next_is kinds.Case)
+  begun_case kinds.While = loop_starts (next_is kinds.While)
   begun_case (kinds.Assertion kind) = assertion_starts kind levels (next_is (kinds.Assertion kind))
 
   stmt_case : {L P : Type 0} (x : Option StmtKind) → Good L P written_stmt (IsStmt levels) [] (Sees next_stmt x) (stmt_by inner levels x) (stmt_by inner' (suc levels) x)

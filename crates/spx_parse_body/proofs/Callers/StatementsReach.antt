@@ -13,17 +13,18 @@ use Rattle.spx_tree.specs.declared.statement.Alternative.{Alternative, out-Alter
 use Rattle.spx_tree.specs.declared.statement.Arm.{Arm, Arm-F, out-Arm, roll-out-Arm}
 use Rattle.spx_tree.specs.declared.statement.AssertionKind.{AssertionKind}
 use Rattle.spx_tree.specs.declared.statement.AssertionKind.TheVariants as assertion
+use Rattle.spx_tree.specs.declared.statement.Scheme.TheVariants.{While}
 use Rattle.spx_tree.specs.declared.statement.Stmt.{Stmt, Stmt-F, out-Stmt, roll-Stmt, roll-out-Stmt}
-use Rattle.spx_tree.specs.declared.statement.Stmt.TheVariants.{Null, Assignment, If, Case, Assertion, outs-Null, outs-Assignment, outs-If, outs-Case, outs-Assertion}
+use Rattle.spx_tree.specs.declared.statement.Stmt.TheVariants.{Null, Assignment, If, Case, Loop, Assertion, outs-Null, outs-Assignment, outs-If, outs-Case, outs-Loop, outs-Assertion}
 use Rattle.spx_tree.specs.Form.{Form, bare, placed}
-use Rattle.spx_tree.specs.Written.{program, assertion_word, optional, separated, following, written_name, written_expr, written_upper, written_choice, written_choices, elsif_arms, written_stmt, written_arm, written_alternative, written_stmts}
+use Rattle.spx_tree.specs.Written.{program, assertion_word, optional, separated, following, written_name, written_expr, written_upper, written_choice, written_choices, written_scheme, elsif_arms, written_stmt, written_arm, written_alternative, written_stmts}
 use Rattle.spx_tree.specs.Grammar.{Each, OneOrMore, IfThere, OfLayer, IsExpr, IsFormed, Within, IsStmt}
 use Rattle.spx_tree.proofs.WrittenLevels.{written_level, spelled_stmt, spelled_arm, spelled_alternative, elsif_joined}
 use Rattle.spx_parse_body.specs.Reading.{Reader, ◌>>◌, peek, sees, expect, optional_by, if_seen, item_step}
 use Rattle.spx_parse_body.proofs.Callers.Shaped.{kind_self}
 use Rattle.spx_parse_body.specs.declared.statements.StmtKind.TheVariants as kinds
 use Rattle.spx_parse_body.specs.Statements as read
-use Rattle.spx_parse_body.specs.Statements.{assignment, upper, choice, more_choices, some_choices, choices_by, choices, arm, elsif_arm, if_statement, alternative, more_alternatives, alternatives, case_statement, null_statement, assertion_statement, next_stmt, stmt_by, stmt, sees_stmt, more_stmts, some_stmts, stmts_below, stmts}
+use Rattle.spx_parse_body.specs.Statements.{assignment, upper, choice, more_choices, some_choices, choices_by, choices, arm, elsif_arm, if_statement, alternative, more_alternatives, alternatives, case_statement, while_scheme, loop_statement, null_statement, assertion_statement, next_stmt, stmt_by, stmt, sees_stmt, more_stmts, some_stmts, stmts_below, stmts}
 use Rattle.spx_parse_body.proofs.Callers.Loops.{Shrinks}
 use Rattle.spx_parse_body.proofs.Callers.Separated.{not_seen, sees_front, reaches_separated, reaches_some_items}
 use Rattle.spx_parse_body.proofs.Callers.Reaches.{Reaches, reaches_bind, reaches_pure, reaches_choose, reaches_deeper, reaches_expect, reaches_expect_place, reaches_is, reaches_items_before, peek_front}
@@ -52,6 +53,7 @@ level_seen : (levels : ℕ) (y : Stmt-F Stmt Alternative Arm) (ws : List Form) �
 level_seen levels (Stmt-F.Null place) ws f = refl
 level_seen levels (Stmt-F.Assignment target value) ws f = ap is_some (target_first target _ ws)
 level_seen levels (Stmt-F.Case place selector xs closing) ws f = refl
+level_seen levels (Stmt-F.Loop (While place condition) word body closing) ws f = refl
 level_seen levels (Stmt-F.Assertion kind place condition) ws f = ap is_some (asserted_first kind place condition ws)
 level_seen levels (Stmt-F.If arms otherwise closing) ws f = ap sees_stmt (append_assoc (written_arms arms) _ ws) ∙ ap is_some (arms_first levels arms _ f.1)
 
@@ -143,6 +145,29 @@ from_end_case closing zs = placed program k.End closing.end ∷ placed program k
 case_flat : (place : Place) (selector : Expr) (xs : List Alternative) (closing : Closing) (zs : List Form)
     → written_level (Stmt-F.Case place selector xs closing) ++ zs ≡ placed program k.Case place ∷ (written_expr program selector ++ bare program k.Is ∷ (written_alternatives xs ++ from_end_case closing zs))
 case_flat place selector xs closing zs = simp append_assoc
+
+-- no condition goes on with the word "loop"
+loop_free : (word : Place) (zs : List Form) → Free layer.Expression (peek program (placed program k.Loop word ∷ zs))
+loop_free word zs = omega arith
+
+-- the last words of a loop
+abbrev from_end_loop : Closing → List Form → List Form
+from_end_loop closing zs = placed program k.End closing.end ∷ placed program k.Loop closing.word ∷ bare program k.Semicolon ∷ zs
+
+-- a loop after its scheme
+abbrev from_loop : Place → List Stmt → Closing → List Form → List Form
+from_loop word body closing zs = placed program k.Loop word ∷ (written_stmts body ++ from_end_loop closing zs)
+
+while_flat : (place : Place) (condition : Expr) (word : Place) (body : List Stmt) (closing : Closing) (zs : List Form)
+    → written_level (Stmt-F.Loop (While place condition) word body closing) ++ zs ≡ written_scheme (While place condition) ++ from_loop word body closing zs
+while_flat place condition word body closing zs = simp append_assoc
+
+while_again : (levels : ℕ) → 0 < levels → (place : Place) (condition : Expr) (fs zs : List Form) → IsExpr (levels - 1) condition → Free layer.Expression (peek program zs) → fs ≡ written_scheme (While place condition) ++ zs
+    → Reaches (while_scheme levels) fs (While place condition) zs
+unfolding while_scheme
+while_again levels some place condition fs zs f free h =
+    reaches_bind _ (reaches_expect_place program k.While h) (λ us a.
+    reaches_bind _ (expression_below_again program levels some condition us zs f free a) (λ vs b. reaches_pure b))
 
 -- What reads statements one level down reads them before what begins none.
 module _ (inner : Reader (List Stmt)) (levels : ℕ) (stmt_shrinks : Shrinks sees_stmt (item_step (stmt inner levels))) (arm_shrinks : 0 < levels → Shrinks (sees program k.Elsif) (item_step (elsif_arm inner levels)))
@@ -261,6 +286,19 @@ module _ (inner : Reader (List Stmt)) (levels : ℕ) (stmt_shrinks : Shrinks see
         reaches_bind _ (reaches_expect_place program k.Case a5) (λ t6 a6.
         reaches_bind _ (reaches_expect program k.Semicolon a6) (λ t7 a7. reaches_pure a7))))))))
 
+    loop_again : (place : Place) (condition : Expr) (word : Place) (body : List Stmt) (closing : Closing) (fs zs : List Form) → IsExpr (levels - 1) condition → IsInner levels body
+        → fs ≡ written_level (Stmt-F.Loop (While place condition) word body closing) ++ zs → Reaches (loop_statement inner levels) fs (Loop (While place condition) word body closing) zs
+    unfolding loop_statement
+    loop_again place condition word body closing fs zs f g h =
+        let ending : List Form = from_end_loop closing zs in
+        reaches_deeper some
+        (reaches_bind _ (while_again levels some place condition fs (from_loop word body closing zs) f (loop_free word (written_stmts body ++ ending)) (h ∙ while_flat place condition word body closing zs)) (λ t1 a1.
+        reaches_bind _ (reaches_expect_place program k.Loop a1) (λ t2 a2.
+        reaches_bind _ (again some body t2 ending g refl a2) (λ t3 a3.
+        reaches_bind _ (reaches_expect_place program k.End a3) (λ t4 a4.
+        reaches_bind _ (reaches_expect_place program k.Loop a4) (λ t5 a5.
+        reaches_bind _ (reaches_expect program k.Semicolon a5) (λ t6 a6. reaches_pure a6)))))))
+
   -- by the last level of the statement
   level_again : (x : Stmt) (y : Stmt-F Stmt Alternative Arm) (fs zs : List Form) → out-Stmt x ≡ y → IsFormed levels (Within levels) y → fs ≡ written_level y ++ zs → Reaches (stmt inner levels) fs x zs
   unfolding stmt null_statement assertion_statement
@@ -278,6 +316,9 @@ module _ (inner : Reader (List Stmt)) (levels : ℕ) (stmt_shrinks : Shrinks see
   level_again x (Stmt-F.Case place selector xs closing) fs zs out f h =
       reaches_is (same_out x (Case place selector xs closing) _ out (outs-Case place selector xs closing))
       (reaches_choose next_stmt (stmt_by inner levels) (Some kinds.Case) (ap next_stmt h) (case_again f.0 place selector xs closing fs zs f.1 f.2 h))
+  level_again x (Stmt-F.Loop (While place condition) word body closing) fs zs out f h =
+      reaches_is (same_out x (Loop (While place condition) word body closing) _ out (outs-Loop (While place condition) word body closing))
+      (reaches_choose next_stmt (stmt_by inner levels) (Some kinds.While) (ap next_stmt h) (loop_again f.0 place condition word body closing fs zs f.1 f.2 h))
   level_again x (Stmt-F.Assertion kind place condition) fs zs out f h =
       reaches_is (same_out x (Assertion kind place condition) _ out (outs-Assertion kind place condition))
       (reaches_choose next_stmt (stmt_by inner levels) (Some (kinds.Assertion kind)) (ap next_stmt h ∙ asserted_first kind place condition zs)

@@ -14,6 +14,9 @@ decreases-if_statement l = 6 * l.levels + 3
 abbrev pub decreases-case_statement : goal.decreases-case_statement
 decreases-case_statement l = 6 * l.levels + 3
 
+abbrev pub decreases-loop_statement : goal.decreases-loop_statement
+decreases-loop_statement l = 6 * l.levels + 3
+
 abbrev pub decreases-alternatives : goal.decreases-alternatives
 decreases-alternatives l = 6 * l.levels + 2
 
