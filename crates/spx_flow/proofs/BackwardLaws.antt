@@ -1,5 +1,5 @@
 -- The backward pass.
-use Rattle.std.proofs.Common.{◌≡◌, ◌≢◌, ◌↔◌, ◌⊎◌, ℕ, ◌<◌, Bool, true, false, List, [], ◌∷◌, ◌++◌, length, Option, Some, None, All, refl, sym, ap, ◌∙◌, subst, inl, inr, ⊎_elim}
+use Rattle.std.proofs.Common.{◌≡◌, ◌≢◌, ◌↔◌, ◌⊎◌, ℕ, ◌<◌, Bool, true, false, List, [], ◌∷◌, ◌++◌, length, Option, Some, None, refl, sym, ap, ◌∙◌, subst, inl, inr, ⊎_elim}
 use Rattle.std.specs.Prelude.{◌==◌, ◌||◌, Contains, IsTrue}
 use Rattle.std.specs.List.{IsDistinct}
 use Rattle.std.specs.Option.{option_and_then}
@@ -11,15 +11,16 @@ use Rattle.spx_core.specs.declared.entity.VarId.{VarId}
 use Rattle.spx_core.specs.Effects.{Effect, Read, nothing, assign, next, choose, observe, repeat, is_read, sets}
 use Rattle.spx_core.specs.Flow.{MayFlow}
 use Rattle.spx_core.specs.Marks.{Mu, Occurs}
-use Rattle.spx_core.specs.Mirror.VarSets.{place_in_set}
-use Rattle.spx_rows.specs.Relations.{Matrix, Has, Holds, Of}
+use Rattle.spx_core.specs.Mirror.VarSets.{holds, place_in_set}
+use Rattle.spx_rows.specs.Relations.{Matrix, Has, Holds}
 use Rattle.spx_flow.specs.declared.flow.Occurrence.{Occurrence}
+use Rattle.spx_flow.specs.Branches.{Spreads, Tests}
 use Rattle.spx_flow.specs.Positions.{Covers, Leads, Stands}
 use Rattle.spx_flow.specs.Flows.{AreRows, Relates}
 use Rattle.spx_flow.specs.BackwardSteps.{LeadOn, StepsBack}
 use Rattle.spx_core.proofs.Callers.FlowLaws.{keeps}
 use Rattle.spx_core.proofs.Callers.Variables.{same_itself}
-use Rattle.spx_flow.proofs.BranchLaws.{leads_same, rows_led}
+use Rattle.spx_flow.proofs.BranchLaws.{leads_same}
 use Rattle.spx_flow.proofs.Occurrences.{lists_push, none_listed, none_related, relates_push}
 use Rattle.spx_flow.proofs.PositionLaws.{differ_at, held_stands, led_stands, one_place, one_var, other_at, place_stands, target_at, target_placed}
 
@@ -132,14 +133,10 @@ steps_again set e rho new before after step = record {
 
 -- ---- the condition of an arm
 
--- `rest` is what is done where the condition is false; the condition reads the variables at `from`, and the arms set those at `to`
-module _ (set : List ℕ) (tests : List Read) (a b : Effect) (place : Place) (rho starts begin joined new : Matrix) (start mid after : List Occurrence) (from to : List ℕ) (o : Occurrence) (rest : StepsBack set b rho starts start mid)
-    (first : StepsBack set a rho begin mid after) (union : (p q : ℕ) → Holds joined p q ↔ (Holds starts p q ⊎ Holds begin p q)) (added : (p q : ℕ) → Holds new p q ↔ (Holds joined p q ⊎ (Contains from p × Of to rho q)))
-    (exact : (j : ℕ) (x : VarId) → Stands set j x → Contains from j ↔ IsTrue (is_read x tests)) (within : All (λ j. j < length set) to)
-    (targets : (j : ℕ) (x : VarId) → Stands set j x → Contains to j ↔ IsTrue (sets x a || sets x b)) (here : o.place ≡ place) (row : (q : ℕ) → Has o.vars q ↔ Of to rho q) where
-  rows_set : (q : ℕ) → Of to rho q ↔ Leads set (λ w. IsTrue (sets w a || sets w b)) rho q
-  rows_set = rows_led set (λ w. IsTrue (sets w a || sets w b)) to within targets rho
-
+-- `rest` is what is done where the condition is false; the arms together set the variables of `numbers`
+module _ (set : List ℕ) (tests : List Read) (a b : Effect) (place : Place) (rho starts begin joined new : Matrix) (start mid before after : List Occurrence) (numbers : List ℕ) (known : (v : VarId) → holds numbers v ≡ (sets v a || sets v b))
+    (rest : StepsBack set b rho starts start mid) (first : StepsBack set a rho begin mid before) (union : (p q : ℕ) → Holds joined p q ↔ (Holds starts p q ⊎ Holds begin p q))
+    (test : Spreads set (λ w. holds numbers w) (λ x. is_read x tests) place rho joined new before after) where
   rho_chosen : (p q : ℕ) (x : VarId) → Stands set p x → Holds new p q ↔ Leads set (MayFlow (choose tests a b place) x) rho q
   rho_chosen p q x at = (
     λ h. ⊎_elim
@@ -147,30 +144,30 @@ module _ (set : List ℕ) (tests : List Read) (a b : Effect) (place : Place) (rh
         (λ two. let k = (rest.rho p q x at).0 two in (k.0, k.1, k.2, inr (inl k.3), k.4))
         (λ one. let k = (first.rho p q x at).0 one in (k.0, k.1, k.2, inl k.3, k.4))
         ((union p q).0 arms))
-        (λ tested. let k = (rows_set q).0 tested.1 in (k.0, k.1, k.2, inr (inr (k.3, (exact p x at).0 tested.0)), k.4))
-        ((added p q).0 h),
-    λ h. (added p q).1 (⊎_elim
+        (λ tested. let k = tested.1 in (k.0, k.1, k.2, inr (inr (sym (known k.1) ∙ k.3, tested.0)), k.4))
+        ((test.pairs p q x at).0 h),
+    λ h. (test.pairs p q x at).1 (⊎_elim
         (λ one. inl ((union p q).1 (inr ((first.rho p q x at).1 (h.0, h.1, h.2, one, h.4)))))
         (λ more. ⊎_elim
         (λ two. inl ((union p q).1 (inl ((rest.rho p q x at).1 (h.0, h.1, h.2, two, h.4)))))
-        (λ tested. inr ((exact p x at).1 tested.1, (rows_set q).1 (h.0, h.1, h.2, tested.0, h.4)))
+        (λ tested. inr (tested.1, (h.0, h.1, h.2, known h.1 ∙ tested.0, h.4)))
         more)
         h.3),
   )
 
-  mu_chosen : (p : Place) (q : ℕ) → Relates (after ++ o ∷ []) p q ↔ (Relates start p q ⊎ Leads set (Mu (choose tests a b place) p) rho q)
+  mu_chosen : (p : Place) (q : ℕ) → Relates after p q ↔ (Relates start p q ⊎ Leads set (Mu (choose tests a b place) p) rho q)
   mu_chosen p q = (
     λ h. ⊎_elim
         (λ arms. ⊎_elim
         (λ others. ⊎_elim (λ old. inl old) (λ k. inr (k.0, k.1, k.2, inr (inr k.3), k.4)) ((rest.mu p q).0 others))
         (λ k. inr (k.0, k.1, k.2, inr (inl k.3), k.4))
         ((first.mu p q).0 arms))
-        (λ tested. let k = (rows_set q).0 ((row q).0 tested.1) in inr (k.0, k.1, k.2, inl (sym here ∙ tested.0, k.3), k.4))
-        ((relates_push after o p q).0 h),
-    λ h. (relates_push after o p q).1 (⊎_elim
+        (λ tested. let k = tested.1 in inr (k.0, k.1, k.2, inl (tested.0, sym (known k.1) ∙ k.3), k.4))
+        ((test.related p q).0 h),
+    λ h. (test.related p q).1 (⊎_elim
         (λ old. inl ((first.mu p q).1 (inl ((rest.mu p q).1 (inl old)))))
         (λ k. ⊎_elim
-        (λ tested. inr (here ∙ tested.0, (row q).1 ((rows_set q).1 (k.0, k.1, k.2, tested.1, k.4))))
+        (λ tested. inr (tested.0, (k.0, k.1, k.2, known k.1 ∙ tested.1, k.4)))
         (λ arms. ⊎_elim
         (λ one. inl ((first.mu p q).1 (inr (k.0, k.1, k.2, one, k.4))))
         (λ two. inl ((first.mu p q).1 (inl ((rest.mu p q).1 (inr (k.0, k.1, k.2, two, k.4))))))
@@ -179,26 +176,35 @@ module _ (set : List ℕ) (tests : List Read) (a b : Effect) (place : Place) (rh
         h),
   )
 
-  pub steps_choose : length new ≡ length rho → length o.vars ≡ length set → StepsBack set (choose tests a b place) rho new start (after ++ o ∷ [])
-  steps_choose size long = record {
+  steps_choose : length new ≡ length rho → StepsBack set (choose tests a b place) rho new start after
+  steps_choose size = record {
     size = size;
     rho = rho_chosen;
-    mu_rows = All-push (λ (q : Occurrence). length q.vars ≡ length set) after o first.mu_rows long;
+    mu_rows = test.rows;
     mu = mu_chosen;
     occurrences = λ p. (
       λ h. ⊎_elim
           (λ arms. ⊎_elim (λ others. ⊎_elim (λ old. inl old) (λ two. inr (inr (inr two))) ((rest.occurrences p).0 others)) (λ one. inr (inr (inl one))) ((first.occurrences p).0 arms))
-          (λ tested. inr (inl (sym here ∙ tested)))
-          ((lists_push after o p).0 h),
-      λ h. (lists_push after o p).1 (⊎_elim
+          (λ tested. inr (inl tested))
+          ((test.listed p).0 h),
+      λ h. (test.listed p).1 (⊎_elim
           (λ old. inl ((first.occurrences p).1 (inl ((rest.occurrences p).1 (inl old)))))
           (λ k. ⊎_elim
-          (λ tested. inr (here ∙ tested))
+          (λ tested. inr tested)
           (λ arms. ⊎_elim (λ one. inl ((first.occurrences p).1 (inr one))) (λ two. inl ((first.occurrences p).1 (inl ((rest.occurrences p).1 (inr two))))) arms)
           k)
           h),
     );
   }
+
+-- so what a test spreads makes a choice
+pub test_chosen : (set : List ℕ) (tests : List Read) (place : Place) (rho joined new : Matrix) (numbers : List ℕ) (before after : List Occurrence) → length joined ≡ length rho →
+    Spreads set (λ w. holds numbers w) (λ x. is_read x tests) place rho joined new before after → Tests (λ e. StepsBack set e rho) set tests place joined new numbers before after
+test_chosen set tests place rho joined new numbers before after size test = record {
+  size = test.size;
+  rows = test.rows;
+  steps = λ a b starts begin start mid known rest first union. steps_choose set tests a b place rho starts begin joined new start mid before after numbers known rest first union test (test.size ∙ size);
+}
 
 -- ---- statements one after another
 
@@ -213,7 +219,7 @@ still_set e v w set flow true is = is
 still_set e v w set flow false none = ap (λ x. sets x e) (sym ((keeps e v w none).0 flow)) ∙ set
 
 -- an occurrence gives its value to a variable that is set
-mu_sets : (e : Effect) (p : Place) (w : VarId) → Mu e p w → sets w e ≡ true
+pub mu_sets : (e : Effect) (p : Place) (w : VarId) → Mu e p w → sets w e ≡ true
 mu_sets nothing p w h = absurd h
 mu_sets (assign target values place) p w h = h.1
 mu_sets (next a b) p w h =

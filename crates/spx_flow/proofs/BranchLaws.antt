@@ -1,20 +1,21 @@
 -- Passes over arms and alternatives, and matrices by what leads to their rows.
-use Rattle.std.proofs.Common.{◌≡◌, ◌↔◌, ℕ, ◌+◌, ◌-◌, ◌<◌, List, [], ◌∷◌, drop, get_or, length, All, arith, ap, refl, subst, sym, ◌∙◌, inl, ⊎_elim}
+use Rattle.std.proofs.Common.{◌≡◌, ◌↔◌, ℕ, ◌+◌, ◌-◌, ◌<◌, Bool, List, [], ◌∷◌, ◌++◌, drop, get_or, length, All, arith, ap, refl, subst, sym, ◌∙◌, inl, inr, ⊎_elim}
 use Rattle.std.specs.Prelude.{◌==◌, ◌||◌, Contains, IsTrue}
 use Rattle.std.specs.List.{IsDistinct}
 use Rattle.std.proofs.lemmas.List.{drop_all, drop_more}
-use Rattle.std.proofs.lemmas.List.Elements.{All-contains}
+use Rattle.std.proofs.lemmas.List.Elements.{All-contains, All-push}
 use Rattle.spx_text.specs.declared.place.Place.{Place}
 use Rattle.spx_core.specs.declared.entity.VarId.{VarId}
 use Rattle.spx_core.specs.Commands.{Command}
 use Rattle.spx_core.specs.Effects.{Effect, Read, choose, effect, sets}
 use Rattle.spx_core.specs.Mirror.VarSets.{holds}
-use Rattle.spx_rows.specs.Relations.{Matrix, Holds, Of}
+use Rattle.spx_rows.specs.Relations.{Matrix, Gains, Has, Holds, Of}
 use Rattle.spx_flow.specs.declared.flow.Occurrence.{Occurrence}
-use Rattle.spx_flow.specs.Branches.{Arms, Done, Joins, Tests}
+use Rattle.spx_flow.specs.Branches.{Arms, Done, Joins, Spreads, Tests}
 use Rattle.spx_flow.specs.Flows.{AreRows}
 use Rattle.spx_flow.specs.Positions.{Leads, Stands}
 use Rattle.spx_flow.specs.Targets.{positions_in}
+use Rattle.spx_flow.proofs.Occurrences.{lists_push, relates_push}
 use Rattle.spx_flow.proofs.PositionLaws.{numbers_at, stands_within}
 use Rattle.spx_flow.proofs.TargetLaws.{or_same}
 
@@ -90,6 +91,30 @@ left_of xs k x some within is =
     left_from xs (k - 1) x within is ∙ ap (λ n. x ∷ drop n xs) e
 
 -- the positions of targets
-pub targets_placed : (set : List ℕ) (numbers to : List ℕ) (a b : Effect) → IsDistinct ◌==◌ set → to ≡ positions_in set numbers → ((v : VarId) → holds numbers v ≡ (sets v a || sets v b)) → (j : ℕ) (x : VarId) → Stands set j x → Contains to j ↔ IsTrue (sets x a || sets x b)
-targets_placed set numbers to a b once is known j x at =
-    subst (λ l. Contains l j ↔ IsTrue (sets x a || sets x b)) (sym is) (subst (λ t. Contains (positions_in set numbers) j ↔ IsTrue t) (known x) (numbers_at set once j x at numbers))
+pub targets_placed : (set : List ℕ) (numbers to : List ℕ) → IsDistinct ◌==◌ set → to ≡ positions_in set numbers → (j : ℕ) (x : VarId) → Stands set j x → Contains to j ↔ IsTrue (holds numbers x)
+targets_placed set numbers to once is j x at = subst (λ l. Contains l j ↔ IsTrue (holds numbers x)) (sym is) (numbers_at set once j x at numbers)
+
+-- rows at some positions are added to those at others, and an occurrence is listed with their union
+pub spreads : (set : List ℕ) (from to : VarId → Bool) (place : Place) (m old new : Matrix) (before : List Occurrence) (froms tos : List ℕ) (o : Occurrence) → All (λ j. j < length set) froms →
+    ((j : ℕ) (x : VarId) → Stands set j x → Contains froms j ↔ IsTrue (from x)) → ((j : ℕ) (x : VarId) → Stands set j x → Contains tos j ↔ IsTrue (to x)) →
+    length new ≡ length old → Gains old new (λ p q. Contains tos p × Of froms m q) → AreRows (length set) before → length o.vars ≡ length set → ((q : ℕ) → Has o.vars q ↔ Of froms m q) → o.place ≡ place →
+    Spreads set from to place m old new before (before ++ o ∷ [])
+spreads set from to place m old new before froms tos o within exact_from exact_to size added rows long row here = record {
+  size = size;
+  rows = All-push (λ (q : Occurrence). length q.vars ≡ length set) before o rows long;
+  pairs = λ p q x at. (
+    λ h. ⊎_elim (λ old. inl old) (λ k. inr ((exact_to p x at).0 k.0, (union q).0 k.1)) ((added p q).0 h),
+    λ h. (added p q).1 (⊎_elim (λ old. inl old) (λ k. inr ((exact_to p x at).1 k.0, (union q).1 k.1)) h),
+  );
+  related = λ p q. (
+    λ h. ⊎_elim (λ old. inl old) (λ k. inr (sym here ∙ k.0, (union q).0 ((row q).0 k.1))) ((relates_push before o p q).0 h),
+    λ h. (relates_push before o p q).1 (⊎_elim (λ old. inl old) (λ k. inr (here ∙ k.0, (row q).1 ((union q).1 k.1))) h),
+  );
+  listed = λ p. (
+    λ h. ⊎_elim (λ old. inl old) (λ is. inr (sym here ∙ is)) ((lists_push before o p).0 h),
+    λ h. (lists_push before o p).1 (⊎_elim (λ old. inl old) (λ is. inr (here ∙ is)) h),
+  );
+}
+  where
+    union : (q : ℕ) → Of froms m q ↔ Leads set (λ z. IsTrue (from z)) m q
+    union = rows_led set (λ z. IsTrue (from z)) froms within exact_from m

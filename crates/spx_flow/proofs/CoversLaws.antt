@@ -11,7 +11,7 @@ use Rattle.spx_core.specs.declared.statement.CoreArm.{CoreArm, out-CoreArm}
 use Rattle.spx_core.specs.declared.statement.CoreAlternative.{CoreAlternative, out-CoreAlternative}
 use Rattle.spx_core.specs.declared.expression.CoreExpr.{CoreExpr}
 use Rattle.spx_core.specs.Commands.{Command, Skip, alternative, arm_before, arms_before, command, commands, select}
-use Rattle.spx_core.specs.Effects.{Effect, Read, choose, effect, effects, is_read, nothing, reads, reads_of, sets}
+use Rattle.spx_core.specs.Effects.{Effect, Read, choose, effect, effects, is_read, nothing, reads, reads_of, repeat, sets}
 use Rattle.spx_flow.specs.Positions.{Covers}
 use Rattle.spx_core.proofs.Callers.CommandForms.{command-If-else, command_arm, select_last, select_more}
 
@@ -62,6 +62,10 @@ module _ (set : List ℕ) where
   pub if_else_covered : (s : CoreStmt) (arms : List CoreArm) (o : Option (List CoreStmt)) (stmts : List CoreStmt) (closing : Closing) → s ≡ If arms o closing → o ≡ Some stmts → Covers set (effect (command s)) →
       All (λ (arm : CoreArm). Covers set (effect (arm_before arm Skip))) arms × Covers set (effects stmts)
   if_else_covered s arms o stmts closing is some covers = arms_covered (commands stmts) arms (subst (λ k. Covers set (effect k)) (command-If-else s arms o stmts closing is some) covers)
+
+  -- the body of a loop
+  pub turn_covered : (tests : List Read) (body : Effect) (place : Place) → Covers set (repeat tests body place) → Covers set body
+  turn_covered tests body place covers = record { once = covers.once; targets = covers.targets; read = λ v h. covers.read v (or_right (is_read v tests) (reads v body) h) }
 
   -- the statements of each alternative of a `case`
   pub alternatives_covered : (place : Place) (selector : CoreExpr) (alternatives : List CoreAlternative) → Covers set (effect (select place selector (map alternative alternatives))) →

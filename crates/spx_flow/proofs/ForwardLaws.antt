@@ -9,12 +9,13 @@ use Rattle.spx_text.specs.declared.place.Place.{Place}
 use Rattle.spx_core.specs.declared.entity.VarId.{VarId}
 use Rattle.spx_core.specs.Effects.{Effect, Read, nothing, assign, next, choose, observe, is_read, sets}
 use Rattle.spx_core.specs.Flow.{MayFlow}
-use Rattle.spx_core.specs.Mirror.VarSets.{place_in_set}
+use Rattle.spx_core.specs.Mirror.VarSets.{holds, place_in_set}
 use Rattle.spx_core.specs.Marks.{Lambda}
 use Rattle.spx_core.proofs.Callers.FlowLaws.{keeps}
 use Rattle.spx_core.proofs.Callers.Variables.{same_itself}
 use Rattle.spx_rows.specs.Relations.{Matrix, Has, Holds, Of}
 use Rattle.spx_flow.specs.declared.flow.Occurrence.{Occurrence}
+use Rattle.spx_flow.specs.Branches.{Spreads, Tests}
 use Rattle.spx_flow.specs.Positions.{Covers, Leads, Stands}
 use Rattle.spx_flow.specs.Flows.{AreRows, Relates}
 use Rattle.spx_flow.specs.ForwardSteps.{StepsForward}
@@ -134,14 +135,10 @@ steps_again set e state new before after step = record {
 
 -- ---- the condition of an arm
 
--- `rest` is what is done where the condition is false; the condition reads the rows at `from`, and the arms set the variables at `to`
-module _ (set : List ℕ) (tests : List Read) (a b : Effect) (place : Place) (state ends end joined new : Matrix) (start mid after : List Occurrence) (from to : List ℕ) (o : Occurrence) (rest : StepsForward set b state ends start mid)
-    (first : StepsForward set a state end mid after) (union : (p q : ℕ) → Holds joined p q ↔ (Holds ends p q ⊎ Holds end p q)) (added : (p q : ℕ) → Holds new p q ↔ (Holds joined p q ⊎ (Contains to p × Of from state q)))
-    (within : All (λ j. j < length set) from) (exact : (j : ℕ) (x : VarId) → Stands set j x → Contains from j ↔ IsTrue (is_read x tests))
-    (targets : (j : ℕ) (x : VarId) → Stands set j x → Contains to j ↔ IsTrue (sets x a || sets x b)) (here : o.place ≡ place) (row : (q : ℕ) → Has o.vars q ↔ Of from state q) where
-  rows_tested : (q : ℕ) → Of from state q ↔ Leads set (λ z. IsTrue (is_read z tests)) state q
-  rows_tested = rows_led set (λ z. IsTrue (is_read z tests)) from within exact state
-
+-- `rest` is what is done where the condition is false; the arms together set the variables of `numbers`
+module _ (set : List ℕ) (tests : List Read) (a b : Effect) (place : Place) (state ends end joined new : Matrix) (start mid before after : List Occurrence) (numbers : List ℕ) (known : (v : VarId) → holds numbers v ≡ (sets v a || sets v b))
+    (rest : StepsForward set b state ends start mid) (first : StepsForward set a state end mid before) (union : (p q : ℕ) → Holds joined p q ↔ (Holds ends p q ⊎ Holds end p q))
+    (test : Spreads set (λ z. is_read z tests) (λ y. holds numbers y) place state joined new before after) where
   state_chosen : (p q : ℕ) (y : VarId) → Stands set p y → Holds new p q ↔ Leads set (λ z. MayFlow (choose tests a b place) z y) state q
   state_chosen p q y at = (
     λ h. ⊎_elim
@@ -149,30 +146,30 @@ module _ (set : List ℕ) (tests : List Read) (a b : Effect) (place : Place) (st
         (λ two. let k = (rest.state p q y at).0 two in (k.0, k.1, k.2, inr (inl k.3), k.4))
         (λ one. let k = (first.state p q y at).0 one in (k.0, k.1, k.2, inl k.3, k.4))
         ((union p q).0 arms))
-        (λ tested. let k = (rows_tested q).0 tested.1 in (k.0, k.1, k.2, inr (inr ((targets p y at).0 tested.0, k.3)), k.4))
-        ((added p q).0 h),
-    λ h. (added p q).1 (⊎_elim
+        (λ tested. let k = tested.1 in (k.0, k.1, k.2, inr (inr (sym (known y) ∙ tested.0, k.3)), k.4))
+        ((test.pairs p q y at).0 h),
+    λ h. (test.pairs p q y at).1 (⊎_elim
         (λ one. inl ((union p q).1 (inr ((first.state p q y at).1 (h.0, h.1, h.2, one, h.4)))))
         (λ more. ⊎_elim
         (λ two. inl ((union p q).1 (inl ((rest.state p q y at).1 (h.0, h.1, h.2, two, h.4)))))
-        (λ tested. inr ((targets p y at).1 tested.0, (rows_tested q).1 (h.0, h.1, h.2, tested.1, h.4)))
+        (λ tested. inr (known y ∙ tested.0, (h.0, h.1, h.2, tested.1, h.4)))
         more)
         h.3),
   )
 
-  listed_chosen : (p : Place) (q : ℕ) → Relates (after ++ o ∷ []) p q ↔ (Relates start p q ⊎ Leads set (λ z. Lambda (choose tests a b place) z p) state q)
+  listed_chosen : (p : Place) (q : ℕ) → Relates after p q ↔ (Relates start p q ⊎ Leads set (λ z. Lambda (choose tests a b place) z p) state q)
   listed_chosen p q = (
     λ h. ⊎_elim
         (λ arms. ⊎_elim
         (λ others. ⊎_elim (λ old. inl old) (λ k. inr (k.0, k.1, k.2, inr (inr k.3), k.4)) ((rest.lambda p q).0 others))
         (λ k. inr (k.0, k.1, k.2, inr (inl k.3), k.4))
         ((first.lambda p q).0 arms))
-        (λ tested. let k = (rows_tested q).0 ((row q).0 tested.1) in inr (k.0, k.1, k.2, inl (sym here ∙ tested.0, k.3), k.4))
-        ((relates_push after o p q).0 h),
-    λ h. (relates_push after o p q).1 (⊎_elim
+        (λ tested. let k = tested.1 in inr (k.0, k.1, k.2, inl (tested.0, k.3), k.4))
+        ((test.related p q).0 h),
+    λ h. (test.related p q).1 (⊎_elim
         (λ old. inl ((first.lambda p q).1 (inl ((rest.lambda p q).1 (inl old)))))
         (λ k. ⊎_elim
-        (λ tested. inr (here ∙ tested.0, (row q).1 ((rows_tested q).1 (k.0, k.1, k.2, tested.1, k.4))))
+        (λ tested. inr (tested.0, (k.0, k.1, k.2, tested.1, k.4)))
         (λ arms. ⊎_elim
         (λ one. inl ((first.lambda p q).1 (inr (k.0, k.1, k.2, one, k.4))))
         (λ two. inl ((first.lambda p q).1 (inl ((rest.lambda p q).1 (inr (k.0, k.1, k.2, two, k.4))))))
@@ -181,13 +178,17 @@ module _ (set : List ℕ) (tests : List Read) (a b : Effect) (place : Place) (st
         h),
   )
 
-  pub steps_choose : length new ≡ length state → length o.vars ≡ length set → StepsForward set (choose tests a b place) state new start (after ++ o ∷ [])
-  steps_choose size long = record {
-    size = size;
-    state = state_chosen;
-    lambda_rows = All-push (λ (q : Occurrence). length q.vars ≡ length set) after o first.lambda_rows long;
-    lambda = listed_chosen;
-  }
+  steps_choose : length new ≡ length state → StepsForward set (choose tests a b place) state new start after
+  steps_choose size = record { size = size; state = state_chosen; lambda_rows = test.rows; lambda = listed_chosen }
+
+-- so what a test spreads makes a choice
+pub test_chosen : (set : List ℕ) (tests : List Read) (place : Place) (state joined new : Matrix) (numbers : List ℕ) (before after : List Occurrence) → length joined ≡ length state →
+    Spreads set (λ z. is_read z tests) (λ y. holds numbers y) place state joined new before after → Tests (λ e. StepsForward set e state) set tests place joined new numbers before after
+test_chosen set tests place state joined new numbers before after size test = record {
+  size = test.size;
+  rows = test.rows;
+  steps = λ a b ends end start mid known rest first union. steps_choose set tests a b place state ends end joined new start mid before after numbers known rest first union test (test.size ∙ size);
+}
 
 -- ---- statements one after another
 

@@ -5,4 +5,5 @@ mod BranchLaws
 mod Occurrences
 mod BackwardLaws
 mod ForwardLaws
+mod LoopLaws
 mod FlowLaws

@@ -4,3 +4,4 @@ pub mod BackwardSteps
 pub mod ForwardSteps
 pub mod Targets
 pub mod Branches
+pub mod Turns

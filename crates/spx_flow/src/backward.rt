@@ -3,18 +3,20 @@
 ghost use Rattle.std.specs.Prelude.{◌≡◌, ◌==◌, ◌≤◌, All, length, map, IfOk, OnOk};
 ghost use Rattle.std.specs.List.{IsDistinct};
 ghost use Rattle.spx_core.specs.declared.statement.CoreArm.{CoreArm};
-ghost use Rattle.spx_core.specs.Commands.{Set, Skip, alternative, arm_before, arms_before, command, select};
-ghost use Rattle.spx_core.specs.Effects.{effect, effects, reads_of};
-ghost use Rattle.spx_flow.specs.Branches.{Arms, Joins, Tests};
+ghost use Rattle.spx_core.specs.Commands.{Set, Skip, While, alternative, arm_before, arms_before, command, commands, loop_of, select};
+ghost use Rattle.spx_core.specs.Effects.{effect, effects, is_read, reads_of};
+ghost use Rattle.spx_core.specs.Mirror.VarSets.{holds};
+ghost use Rattle.spx_flow.specs.Branches.{Arms, Joins, Spreads};
 ghost use Rattle.spx_flow.specs.Positions.{Covers};
 ghost use Rattle.spx_flow.specs.Flows.{AreRows};
 ghost use Rattle.spx_flow.specs.BackwardSteps.{LeadOn, StepsBack};
 
 use crate::flow::Occurrence;
 use crate::positions::{position_named, positions_read};
-use crate::targets::{Targets, add_all_targets, target_positions};
+use crate::targets::{Targets, add_all_targets, all_targets, target_positions};
+use crate::turns::{carry, close_turns, composed};
 use indexmap::IndexSet;
-use spx_core::{CoreAlternative, CoreArm, CoreExpr, CoreStmt, Reference, VarSet};
+use spx_core::{CoreAlternative, CoreArm, CoreExpr, CoreScheme, CoreStmt, Reference, VarSet};
 use spx_rows::Relation;
 use spx_text::Place;
 use sqlite_items::Items;
@@ -105,6 +107,10 @@ fn before(
             before_case(alloc, vars, alternatives, *place, selector, rho, mu)?;
             Ok(())
         }
+        CoreStmt::Loop(scheme, _, body, _) => {
+            before_loop(alloc, vars, body.as_slice(), scheme, rho, mu)?;
+            Ok(())
+        }
         CoreStmt::Assertion(_, _, _) => Ok(()),
     }
 }
@@ -125,7 +131,7 @@ fn before_test(
     requires size { length rho.now ≡ length vars.now }
     requires starts { length starts.old ≡ length vars.now }
     requires rows { AreRows (length vars.now) mu.old }
-    ensures { OnOk result (Tests (λ e. StepsBack vars.now e rho.now) vars.now (reads_of test.now) place starts.old starts.new targets.now.keys mu.old mu.new) }
+    ensures { OnOk result (Spreads vars.now (λ w. holds targets.now.keys w) (λ x. is_read x (reads_of test.now)) place rho.now starts.old starts.new mu.old mu.new) }
 {
     let from = positions_read(alloc, vars, test)?;
     let to = target_positions(alloc, vars, targets)?;
@@ -218,6 +224,59 @@ fn before_case(
     }
     *rho = starts;
     Ok(())
+}
+
+/// Goes backward over a `while` loop, and once over its body. From the head, any number of turns leads on to a last reading
+/// of the condition; what leads on from an occurrence in the body to the end of a turn leads on from the head again.
+#[cycle(before)]
+fn before_while(
+    alloc: Global,
+    vars: &VarSet,
+    body: &[CoreStmt],
+    place: Place,
+    condition: &CoreExpr,
+    rho: &mut Relation,
+    mu: &mut Items<Occurrence>,
+) -> Result<(), AllocError>
+    requires covers { Covers vars.now (effect (While place condition.now (commands body.now))) }
+    requires size { length rho.old ≡ length vars.now }
+    requires rows { AreRows (length vars.now) mu.old }
+    ensures { OnOk result (StepsBack vars.now (effect (While place condition.now (commands body.now))) rho.old rho.new mu.old mu.new) }
+{
+    let mut turns = Relation::identity(alloc, rho.size())?;
+    let mut inner = Items::new(alloc);
+    before_all(alloc, vars, body, &mut turns, &mut inner)?;
+    close_turns(&mut turns);
+    let targets = all_targets(alloc, body)?;
+    let mut last = rho.copy(alloc)?;
+    before_test(alloc, vars, place, condition, rho, &mut last, &targets, mu)?;
+    let head = composed(alloc, &turns, &last)?;
+    carry(alloc, inner.as_slice(), &head, mu)?;
+    *rho = head;
+    Ok(())
+}
+
+/// Goes backward over a loop.
+#[cycle(before)]
+fn before_loop(
+    alloc: Global,
+    vars: &VarSet,
+    body: &[CoreStmt],
+    scheme: &CoreScheme,
+    rho: &mut Relation,
+    mu: &mut Items<Occurrence>,
+) -> Result<(), AllocError>
+    requires covers { Covers vars.now (effect (loop_of scheme.now (commands body.now))) }
+    requires size { length rho.old ≡ length vars.now }
+    requires rows { AreRows (length vars.now) mu.old }
+    ensures { OnOk result (StepsBack vars.now (effect (loop_of scheme.now (commands body.now))) rho.old rho.new mu.old mu.new) }
+{
+    match scheme {
+        CoreScheme::While(place, condition) => {
+            before_while(alloc, vars, body, *place, condition, rho, mu)?;
+            Ok(())
+        }
+    }
 }
 
 /// Goes backward over arms, from the last to the first.

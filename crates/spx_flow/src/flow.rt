@@ -13,8 +13,7 @@ ghost use Rattle.spx_flow.specs.Flows.{IsFaultOf, IsFlow};
 use crate::backward::backward;
 use crate::fault::{FlowFault, MOST_VARIABLES};
 use crate::forward::forward;
-use crate::targets::add_all_targets;
-use indexmap::IndexSet;
+use crate::targets::all_targets;
 use spx_core::laws::names_are_scoped;
 use spx_core::{CoreStmt, Program, Sub, SubId, VarId, VarSet};
 use spx_rows::{Relation, Row};
@@ -47,8 +46,7 @@ pub struct Flow {
 fn defined(alloc: Global, stmts: &[CoreStmt]) -> Result<VarSet, AllocError>
     ensures { IfOk result (λ set. (v : VarId) → holds set v ≡ defines v stmts.now) }
 {
-    let mut targets = IndexSet::new(alloc);
-    add_all_targets(stmts, &mut targets)?;
+    let targets = all_targets(alloc, stmts)?;
     let mut set = VarSet::new(alloc);
     for number in targets.as_slice() {
         set.insert(VarId(*number))?;

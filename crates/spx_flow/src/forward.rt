@@ -4,19 +4,21 @@ ghost use Rattle.spx_text.specs.declared.place.Place.{Place};
 ghost use Rattle.spx_core.specs.declared.entity.VarId.{VarId};
 ghost use Rattle.std.specs.List.{IsDistinct};
 ghost use Rattle.spx_core.specs.declared.statement.CoreArm.{CoreArm};
-ghost use Rattle.spx_core.specs.Commands.{Set, Skip, alternative, arm_before, arms_before, command, select};
-ghost use Rattle.spx_core.specs.Effects.{effect, effects, reads_of};
+ghost use Rattle.spx_core.specs.Commands.{Set, Skip, While, alternative, arm_before, arms_before, command, commands, loop_of, select};
+ghost use Rattle.spx_core.specs.Effects.{effect, effects, is_read, reads_of};
 ghost use Rattle.spx_core.specs.Marks.{Lambda};
-ghost use Rattle.spx_flow.specs.Branches.{Arms, Joins, Tests};
+ghost use Rattle.spx_core.specs.Mirror.VarSets.{holds};
+ghost use Rattle.spx_flow.specs.Branches.{Arms, Joins, Spreads};
 ghost use Rattle.spx_flow.specs.Positions.{Covers, Stands};
 ghost use Rattle.spx_flow.specs.Flows.{AreRows, Relates};
 ghost use Rattle.spx_flow.specs.ForwardSteps.{StepsForward};
 
 use crate::flow::Occurrence;
 use crate::positions::{position_named, positions_read};
-use crate::targets::{Targets, add_all_targets, target_positions};
+use crate::targets::{Targets, add_all_targets, all_targets, target_positions};
+use crate::turns::{carry, close_turns, composed};
 use indexmap::IndexSet;
-use spx_core::{CoreAlternative, CoreArm, CoreExpr, CoreStmt, Reference, VarSet};
+use spx_core::{CoreAlternative, CoreArm, CoreExpr, CoreScheme, CoreStmt, Reference, VarSet};
 use spx_rows::Relation;
 use spx_text::Place;
 use sqlite_items::Items;
@@ -99,6 +101,10 @@ fn after(
             after_case(alloc, vars, alternatives, *place, selector, state, lambda)?;
             Ok(())
         }
+        CoreStmt::Loop(scheme, _, body, _) => {
+            after_loop(alloc, vars, body.as_slice(), scheme, state, lambda)?;
+            Ok(())
+        }
         CoreStmt::Assertion(_, _, _) => Ok(()),
     }
 }
@@ -119,7 +125,7 @@ fn after_test(
     requires size { length state.now ≡ length vars.now }
     requires ends { length ends.old ≡ length vars.now }
     requires rows { AreRows (length vars.now) lambda.old }
-    ensures { OnOk result (Tests (λ e. StepsForward vars.now e state.now) vars.now (reads_of test.now) place ends.old ends.new targets.now.keys lambda.old lambda.new) }
+    ensures { OnOk result (Spreads vars.now (λ z. is_read z (reads_of test.now)) (λ y. holds targets.now.keys y) place state.now ends.old ends.new lambda.old lambda.new) }
 {
     let from = positions_read(alloc, vars, test)?;
     let to = target_positions(alloc, vars, targets)?;
@@ -215,6 +221,61 @@ fn after_case(
     }
     *state = ends;
     Ok(())
+}
+
+/// Goes forward over a `while` loop, and once over its body. Any number of turns leads to the head, where the condition is
+/// read; what leads from there to an occurrence in the body leads to it from the start.
+#[cycle(after)]
+fn after_while(
+    alloc: Global,
+    vars: &VarSet,
+    body: &[CoreStmt],
+    place: Place,
+    condition: &CoreExpr,
+    state: &mut Relation,
+    lambda: &mut Items<Occurrence>,
+) -> Result<(), AllocError>
+    requires covers { Covers vars.now (effect (While place condition.now (commands body.now))) }
+    requires size { length state.old ≡ length vars.now }
+    requires rows { AreRows (length vars.now) lambda.old }
+    ensures { OnOk result (StepsForward vars.now (effect (While place condition.now (commands body.now))) state.old state.new lambda.old lambda.new) }
+{
+    let mut turns = Relation::identity(alloc, state.size())?;
+    let mut inner = Items::new(alloc);
+    after_all(alloc, vars, body, &mut turns, &mut inner)?;
+    close_turns(&mut turns);
+    let targets = all_targets(alloc, body)?;
+    let head = composed(alloc, &turns, state)?;
+    let mut ends = head.copy(alloc)?;
+    after_test(
+        alloc, vars, place, condition, &head, &mut ends, &targets, lambda,
+    )?;
+    carry(alloc, inner.as_slice(), &head, lambda)?;
+    *state = ends;
+    Ok(())
+}
+
+/// Goes forward over a loop.
+#[cycle(after)]
+fn after_loop(
+    alloc: Global,
+    vars: &VarSet,
+    body: &[CoreStmt],
+    scheme: &CoreScheme,
+    state: &mut Relation,
+    lambda: &mut Items<Occurrence>,
+) -> Result<(), AllocError>
+    requires covers { Covers vars.now (effect (loop_of scheme.now (commands body.now))) }
+    requires size { length state.old ≡ length vars.now }
+    requires rows { AreRows (length vars.now) lambda.old }
+    ensures { OnOk result (StepsForward vars.now (effect (loop_of scheme.now (commands body.now))) state.old state.new lambda.old lambda.new) }
+{
+    match scheme {
+        CoreScheme::While(place, condition) => {
+            after_while(alloc, vars, body, *place, condition, state, lambda)?;
+            Ok(())
+        }
+    }
 }
 
 /// Goes forward over arms, from the last to the first.

@@ -3,7 +3,9 @@
 //! A layer above may rely on this: `flow_of` answers the flow of a body exactly as `spx_core` defines it (`IsFlow`), with
 //! variables by their position in the subprogram's list and occurrences by their place, in two passes over the body. An
 //! assignment costs a union of rows for each variable that it reads. An arm costs a copy and a union of relations, and a
-//! union of rows for each pair of a variable that its condition reads and one that it or an arm after it sets. It refuses a
+//! union of rows for each pair of a variable that its condition reads and one that it or an arm after it sets. A loop costs
+//! a closure and a composition of relations, unions of rows for its condition as for an arm, and one for each variable that
+//! an occurrence in its body is listed with; a pass goes over a body once, however many loops it is in. It refuses a
 //! subprogram exactly where that has more than `MOST_VARIABLES` variables, or where memory runs out.
 #![tactic(auto)]
 
@@ -13,6 +15,7 @@ mod flow;
 mod forward;
 mod positions;
 mod targets;
+mod turns;
 
 pub use fault::{FlowFault, MOST_VARIABLES};
 pub use flow::{Flow, Occurrence, flow_of};

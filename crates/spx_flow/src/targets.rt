@@ -8,7 +8,9 @@ ghost use Rattle.spx_core.specs.Mirror.VarSets.{holds};
 ghost use Rattle.spx_flow.specs.Targets.{alternatives_set, arms_set, positions_in};
 
 use indexmap::IndexSet;
-use spx_core::{CoreAlternative, CoreArm, CoreStmt, Reference, VarId, VarSet, variable_of};
+use spx_core::{
+    CoreAlternative, CoreArm, CoreScheme, CoreStmt, Reference, VarId, VarSet, variable_of,
+};
 use std::alloc::{AllocError, Global};
 
 /// Variables, each once, by their position in the program's list.
@@ -53,6 +55,12 @@ fn add_targets(stmt: &CoreStmt, found: &mut Targets) -> Result<(), AllocError>
             add_targets_of_alternatives(alternatives.as_slice(), found)?;
             Ok(())
         }
+        CoreStmt::Loop(scheme, _, body, _) => match scheme {
+            CoreScheme::While(_, _) => {
+                add_all_targets(body.as_slice(), found)?;
+                Ok(())
+            }
+        },
         CoreStmt::Assertion(_, _, _) => Ok(()),
     }
 }
@@ -91,6 +99,15 @@ pub(crate) fn add_all_targets(stmts: &[CoreStmt], found: &mut Targets) -> Result
         add_targets(stmt, found)?;
     }
     Ok(())
+}
+
+/// The variables that the statements set.
+pub(crate) fn all_targets(alloc: Global, stmts: &[CoreStmt]) -> Result<Targets, AllocError>
+    ensures { IfOk result (λ found. (v : VarId) → holds found.keys v ≡ sets v (effects stmts.now)) }
+{
+    let mut found = IndexSet::new(alloc);
+    add_all_targets(stmts, &mut found)?;
+    Ok(found)
 }
 
 /// Adds the position of the variable, if it is in the set.

@@ -90,3 +90,8 @@ unites_all from m row i past within g w = (
   λ h. let q = (g.here w).0 h in let lt : q.0 < length from = omega (arith, q.1) in (get_or from q.0 0, Contains-get_or from q.0 0 lt, q.2),
   λ h. (g.here w).1 (h.1.0, omega (arith, h.1.1), subst (λ y. Holds m y w) (sym h.1.2 ∙ get_or_default from h.1.0 h.0 0 h.1.1) h.2),
 )
+
+-- a loop adds to a row of so many numbers at each k those of Q k
+pub record Collected (many : ℕ) (row : List Bool) (i : ℕ) (Q : ℕ → ℕ → Type 0) : Type 0 where
+  pub size : length row ≡ many
+  pub numbers : (w : ℕ) → Has row w ↔ ((k : ℕ) × (k < i) × Q k w)

@@ -123,6 +123,20 @@ impl Relation {
         Ok(row)
     }
 
+    /// The union of the rows of the numbers in a set, as a set of its own.
+    pub fn union_through(&self, alloc: Global, from: &Row) -> Result<Row, AllocError>
+        requires { length from.now ≡ length self.now }
+        ensures { IfOk result (λ row. (length row ≡ length self.now) × ((w : ℕ) → Has row w ↔ ((x : ℕ) × Has from.now x × Holds self.now x w))) }
+    {
+        let mut row = Row::with_size(alloc, self.size())?;
+        for x in 0..self.size() {
+            if from.has(x) {
+                self.add_row_to(x, &mut row);
+            }
+        }
+        Ok(row)
+    }
+
     /// Adds a pair.
     pub fn add(&mut self, u: usize, w: usize)
         requires u { u < length self.old }

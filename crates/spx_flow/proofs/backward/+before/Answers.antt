@@ -11,12 +11,14 @@ use Rattle.spx_core.specs.Mirror.VarSets.{holds}
 use Rattle.spx_flow.specs.Branches.{Arms, Done, Joins}
 use Rattle.spx_flow.specs.Positions.{Covers}
 use Rattle.spx_flow.specs.BackwardSteps.{StepsBack}
+use Rattle.spx_flow.specs.Turns.{Carries}
 use Rattle.spx_core.proofs.Callers.CommandForms.{command-Null, command-Assignment, command-Case, command-Assertion, command-If, command-If-else, command_arm, select_last, select_more}
 use Rattle.spx_flow.proofs.CoversLaws.{alternatives_covered, arms_covered, body_covered, if_else_covered}
 use Rattle.spx_flow.proofs.PositionLaws.{covers_one}
 use Rattle.spx_flow.proofs.TargetLaws.{or_nothing}
 use Rattle.spx_flow.proofs.BranchLaws.{arm_done, arms_more, choice_done, left_last, left_of, only_done}
-use Rattle.spx_flow.proofs.BackwardLaws.{idle_null, idle_observed, steps_again, steps_copied, steps_next}
+use Rattle.spx_flow.proofs.BackwardLaws.{idle_null, idle_observed, steps_again, steps_copied, steps_next, test_chosen}
+use Rattle.spx_flow.proofs.LoopLaws.{back_repeated}
 use Rattle.spx_flow.proofs.backward.+before.Goals as goal
 
 pub before-before_all-requires : goal.before-before_all-requires
@@ -179,8 +181,9 @@ before_arms-loop-k-preserved t c =
     let new = c.before_test.new in
     let others = c.loop-k in
     let joined = subst (λ ss. Joins (λ e. StepsBack vars e rho) vars (effects ss) others.starts way.starts others.targets.keys way.targets.keys others.mu way.mu) c.as_slice.ensures c.in_ok-before_branch.ensures in
+    let test = test_chosen vars (reads_of a.condition) a.place rho way.starts new.starts way.targets.keys way.mu new.mu (joined.size ∙ others.invariant.size ∙ c.requires.starts ∙ sym c.requires.size) c.in_ok-before_test.ensures in
     let first = arm_done (λ e. StepsBack vars e rho) vars (arm_before arm) (reads_of a.condition) (effects a.body) a.place (λ otherwise. ap effect (command_arm arm otherwise)) others.starts way.starts new.starts others.targets.keys way.targets.keys
-    others.mu way.mu new.mu joined c.in_ok-before_test.ensures in
+    others.mu way.mu new.mu joined test in
     subst (λ xs. Arms (λ e. StepsBack vars e rho) vars (λ otherwise. arms_before otherwise (map arm_before xs)) c.args.starts.now new.starts c.args.targets.now.keys way.targets.keys c.args.mu.now new.mu)
     (sym (left_of arms k arm c.loop-k-test.true within c.index-arms-k.is))
     (arms_more (λ e. StepsBack vars e rho) vars (arm_before arm) (λ otherwise. arms_before otherwise (map arm_before (drop k arms))) c.args.starts.now others.starts new.starts c.args.targets.now.keys others.targets.keys way.targets.keys
@@ -257,7 +260,8 @@ before_case-loop-k-init t c =
     let targets = λ (v : VarId). c.in_ok-add_all_targets.ensures v ∙ ap₂ (λ ss keys. sets v (effects ss) || holds keys v) body c.new-targets.ensures.empty ∙ or_nothing (sets v (effects stmts)) in
     subst (λ left. Done (λ e. StepsBack vars e rho) (effect (select place selector (map alternative left))) new.starts all start new.mu) (sym (left_last alternatives (length alternatives - 1) a last c.index-alternatives-last.is))
     (only_done (λ e. StepsBack vars e rho) vars (effect (select place selector (map alternative (a ∷ [])))) (reads_of selector) (effects stmts) place (select_last place selector a) mid.rho new.starts all start mid.mu new.mu
-    (record { targets = targets; steps = steps }) (steps_again vars (effects stmts) rho mid.rho start mid.mu steps) c.in_ok-before_test.ensures)
+    (record { targets = targets; steps = steps }) (steps_again vars (effects stmts) rho mid.rho start mid.mu steps)
+    (test_chosen vars (reads_of selector) place rho mid.rho new.starts all mid.mu new.mu steps.size c.in_ok-before_test.ensures))
 
 pub before_case-loop-k-preserved : goal.before_case-loop-k-preserved
 before_case-loop-k-preserved t c =
@@ -280,7 +284,8 @@ before_case-loop-k-preserved t c =
     let joined = subst (λ ss. Joins (λ e. StepsBack vars e rho) vars (effects ss) old.starts way.starts old.targets.keys way.targets.keys old.mu way.mu) body c.in_ok-before_branch.ensures in
     subst (λ left. Done (λ e. StepsBack vars e rho) (effect (select place selector (map alternative left))) new.starts way.targets.keys c.args.mu.now new.mu) (sym (left_of alternatives k a c.loop-k-test.true within c.index-alternatives-k.is))
     (choice_done (λ e. StepsBack vars e rho) vars (effect (select place selector (map alternative (a ∷ rest)))) (reads_of selector) (effects stmts) (effect (select place selector (map alternative rest))) place (select_more place selector a rest some)
-    old.starts way.starts new.starts old.targets.keys way.targets.keys c.args.mu.now old.mu way.mu new.mu old.invariant joined c.in_ok-before_test-2.ensures)
+    old.starts way.starts new.starts old.targets.keys way.targets.keys c.args.mu.now old.mu way.mu new.mu old.invariant joined
+    (test_chosen vars (reads_of selector) place rho way.starts new.starts way.targets.keys way.mu new.mu (joined.size ∙ old.invariant.steps.size) c.in_ok-before_test-2.ensures))
 
 pub before_case-returns : goal.before_case-returns
 before_case-returns t c =
@@ -288,3 +293,25 @@ before_case-returns t c =
     let old = c.loop-k in
     let done = subst (λ n. Done (λ e. StepsBack c.args.vars.now e c.args.rho.now) (effect (select c.args.place c.args.selector.now (map alternative (drop n c.args.alternatives.now)))) old.starts old.targets.keys c.args.mu.now old.mu) last old.invariant in
     done.steps
+
+-- ---- a loop
+
+pub before_while-returns : goal.before_while-returns
+before_while-returns t c =
+    let vars = c.args.vars.now in
+    let rho = c.args.rho.now in
+    let mu = c.args.mu.now in
+    let body = effects c.args.body.now in
+    let start = c.in_ok-turns in
+    let turn = c.before_all.new.rho in
+    let inner = c.before_all.new.mu in
+    let copy = c.in_ok-last in
+    let test = c.before_test.new in
+    let head = c.in_ok-head in
+    let itself = rw (c.size.ensures.size, c.requires.size) at start.ensures.1 in
+    let pass = subst (λ before. StepsBack vars body start.turns turn before inner) c.new-inner.ensures c.in_ok-before_all.ensures in
+    let size = c.in_ok-before_all.ensures.size ∙ start.ensures.0 ∙ c.size.ensures.size ∙ c.requires.size in
+    let long = head.ensures.0 ∙ c.in_ok-before_test.ensures.size ∙ copy.ensures.0 in
+    let carried = subst (λ n. Carries n head.head inner test.mu c.carry.new.list) (long ∙ c.requires.size) (subst (λ list. Carries (length head.head) head.head list test.mu c.carry.new.list) c.as_slice.ensures c.in_ok-carry.ensures) in
+    back_repeated vars (reads_of c.args.condition.now) body c.args.place c.requires.covers c.in_ok-targets.targets.keys c.in_ok-targets.ensures start.turns turn c.close_turns.new.turn inner mu test.mu c.carry.new.list itself size c.close_turns.ensures.pairs
+    rho copy.last test.starts head.head pass copy.ensures.1 c.in_ok-before_test.ensures head.ensures.1 carried long

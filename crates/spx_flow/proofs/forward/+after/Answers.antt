@@ -11,12 +11,14 @@ use Rattle.spx_core.specs.Mirror.VarSets.{holds}
 use Rattle.spx_flow.specs.Branches.{Arms, Done, Joins}
 use Rattle.spx_flow.specs.Positions.{Covers}
 use Rattle.spx_flow.specs.ForwardSteps.{StepsForward}
+use Rattle.spx_flow.specs.Turns.{Carries}
 use Rattle.spx_core.proofs.Callers.CommandForms.{command-Null, command-Assignment, command-Case, command-Assertion, command-If, command-If-else, command_arm, select_last, select_more}
 use Rattle.spx_flow.proofs.CoversLaws.{alternatives_covered, arms_covered, body_covered, if_else_covered}
 use Rattle.spx_flow.proofs.PositionLaws.{covers_one}
 use Rattle.spx_flow.proofs.TargetLaws.{or_nothing}
 use Rattle.spx_flow.proofs.BranchLaws.{arm_done, arms_more, choice_done, left_from, left_last, left_of, only_done}
-use Rattle.spx_flow.proofs.ForwardLaws.{Led, idle_null, idle_observed, led_end, led_next, led_start, steps_again, steps_copied}
+use Rattle.spx_flow.proofs.ForwardLaws.{Led, idle_null, idle_observed, led_end, led_next, led_start, steps_again, steps_copied, test_chosen}
+use Rattle.spx_flow.proofs.LoopLaws.{forward_repeated}
 use Rattle.spx_flow.proofs.forward.+after.Goals as goal
 
 pub after-after_all-requires : goal.after-after_all-requires
@@ -181,8 +183,9 @@ after_arms-loop-k-preserved t c =
     let new = c.after_test.new in
     let others = c.loop-k in
     let joined = subst (λ ss. Joins (λ e. StepsForward vars e state) vars (effects ss) others.ends way.ends others.targets.keys way.targets.keys others.lambda way.lambda) c.as_slice.ensures c.in_ok-after_branch.ensures in
+    let test = test_chosen vars (reads_of a.condition) a.place state way.ends new.ends way.targets.keys way.lambda new.lambda (joined.size ∙ others.invariant.size ∙ c.requires.ends ∙ sym c.requires.size) c.in_ok-after_test.ensures in
     let first = arm_done (λ e. StepsForward vars e state) vars (arm_before arm) (reads_of a.condition) (effects a.body) a.place (λ otherwise. ap effect (command_arm arm otherwise)) others.ends way.ends new.ends others.targets.keys way.targets.keys
-    others.lambda way.lambda new.lambda joined c.in_ok-after_test.ensures in
+    others.lambda way.lambda new.lambda joined test in
     subst (λ xs. Arms (λ e. StepsForward vars e state) vars (λ otherwise. arms_before otherwise (map arm_before xs)) c.args.ends.now new.ends c.args.targets.now.keys way.targets.keys c.args.lambda.now new.lambda)
     (sym (left_of arms k arm c.loop-k-test.true within c.index-arms-k.is))
     (arms_more (λ e. StepsForward vars e state) vars (arm_before arm) (λ otherwise. arms_before otherwise (map arm_before (drop k arms))) c.args.ends.now others.ends new.ends c.args.targets.now.keys others.targets.keys way.targets.keys
@@ -259,7 +262,8 @@ after_case-loop-k-init t c =
     let targets = λ (v : VarId). c.in_ok-add_all_targets.ensures v ∙ ap₂ (λ ss keys. sets v (effects ss) || holds keys v) body c.new-targets.ensures.empty ∙ or_nothing (sets v (effects stmts)) in
     subst (λ left. Done (λ e. StepsForward vars e state) (effect (select place selector (map alternative left))) new.ends all start new.lambda) (sym (left_last alternatives (length alternatives - 1) a last c.index-alternatives-last.is))
     (only_done (λ e. StepsForward vars e state) vars (effect (select place selector (map alternative (a ∷ [])))) (reads_of selector) (effects stmts) place (select_last place selector a) mid.state new.ends all start mid.lambda new.lambda
-    (record { targets = targets; steps = steps }) (steps_again vars (effects stmts) state mid.state start mid.lambda steps) c.in_ok-after_test.ensures)
+    (record { targets = targets; steps = steps }) (steps_again vars (effects stmts) state mid.state start mid.lambda steps)
+    (test_chosen vars (reads_of selector) place state mid.state new.ends all mid.lambda new.lambda steps.size c.in_ok-after_test.ensures))
 
 pub after_case-loop-k-preserved : goal.after_case-loop-k-preserved
 after_case-loop-k-preserved t c =
@@ -282,7 +286,8 @@ after_case-loop-k-preserved t c =
     let joined = subst (λ ss. Joins (λ e. StepsForward vars e state) vars (effects ss) old.ends way.ends old.targets.keys way.targets.keys old.lambda way.lambda) body c.in_ok-after_branch.ensures in
     subst (λ left. Done (λ e. StepsForward vars e state) (effect (select place selector (map alternative left))) new.ends way.targets.keys c.args.lambda.now new.lambda) (sym (left_of alternatives k a c.loop-k-test.true within c.index-alternatives-k.is))
     (choice_done (λ e. StepsForward vars e state) vars (effect (select place selector (map alternative (a ∷ rest)))) (reads_of selector) (effects stmts) (effect (select place selector (map alternative rest))) place (select_more place selector a rest some)
-    old.ends way.ends new.ends old.targets.keys way.targets.keys c.args.lambda.now old.lambda way.lambda new.lambda old.invariant joined c.in_ok-after_test-2.ensures)
+    old.ends way.ends new.ends old.targets.keys way.targets.keys c.args.lambda.now old.lambda way.lambda new.lambda old.invariant joined
+    (test_chosen vars (reads_of selector) place state way.ends new.ends way.targets.keys way.lambda new.lambda (joined.size ∙ old.invariant.steps.size) c.in_ok-after_test-2.ensures))
 
 pub after_case-returns : goal.after_case-returns
 after_case-returns t c =
@@ -290,3 +295,24 @@ after_case-returns t c =
     let old = c.loop-k in
     let done = subst (λ n. Done (λ e. StepsForward c.args.vars.now e c.args.state.now) (effect (select c.args.place c.args.selector.now (map alternative (drop n c.args.alternatives.now)))) old.ends old.targets.keys c.args.lambda.now old.lambda) last old.invariant in
     done.steps
+
+-- ---- a loop
+
+pub after_while-returns : goal.after_while-returns
+after_while-returns t c =
+    let vars = c.args.vars.now in
+    let state = c.args.state.now in
+    let lambda = c.args.lambda.now in
+    let body = effects c.args.body.now in
+    let start = c.in_ok-turns in
+    let turn = c.after_all.new.state in
+    let inner = c.after_all.new.lambda in
+    let head = c.in_ok-head in
+    let copy = c.in_ok-ends in
+    let test = c.after_test.new in
+    let itself = rw (c.size.ensures.size, c.requires.size) at start.ensures.1 in
+    let pass = subst (λ before. StepsForward vars body start.turns turn before inner) c.new-inner.ensures c.in_ok-after_all.ensures in
+    let size = c.in_ok-after_all.ensures.size ∙ start.ensures.0 ∙ c.size.ensures.size ∙ c.requires.size in
+    let carried = subst (λ n. Carries n head.head inner test.lambda c.carry.new.list) (head.ensures.0 ∙ c.requires.size) (subst (λ list. Carries (length head.head) head.head list test.lambda c.carry.new.list) c.as_slice.ensures c.in_ok-carry.ensures) in
+    forward_repeated vars (reads_of c.args.condition.now) body c.args.place c.requires.covers c.in_ok-targets.targets.keys c.in_ok-targets.ensures start.turns turn c.close_turns.new.turn inner lambda test.lambda c.carry.new.list itself size
+    c.close_turns.ensures.pairs state head.head copy.ends test.ends pass head.ensures.1 copy.ensures.1 c.in_ok-after_test.ensures carried (c.in_ok-after_test.ensures.size ∙ copy.ensures.0 ∙ head.ensures.0)

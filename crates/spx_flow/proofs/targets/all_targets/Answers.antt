@@ -1,0 +1,10 @@
+use Rattle.std.proofs.Common.{◌||◌, ap, ◌∙◌}
+use Rattle.spx_core.specs.Effects.{effects, sets}
+use Rattle.spx_core.specs.Mirror.VarSets.{holds}
+use Rattle.spx_flow.proofs.TargetLaws.{or_nothing}
+use Rattle.spx_flow.proofs.targets.all_targets.Goals as goal
+
+pub returns : goal.returns
+returns c v =
+    let own = sets v (effects c.args.stmts.now) in
+    c.in_ok-add_all_targets.ensures v ∙ ap (λ keys. own || holds keys v) c.new-found.ensures.empty ∙ or_nothing own
