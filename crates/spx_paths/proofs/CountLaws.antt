@@ -31,7 +31,6 @@ use Rattle.spx_tree.specs.declared.expression.InfixOp.{InfixOp}
 use Rattle.spx_tree.specs.declared.expression.InfixOp.TheVariants as op
 use Rattle.spx_tree.specs.declared.expression.PrefixOp.{PrefixOp}
 use Rattle.spx_tree.specs.declared.expression.PrefixOp.TheVariants as prefix
-use Rattle.spx_tree.specs.declared.statement.AssertionKind.{AssertionKind}
 use Rattle.spx_tree.specs.declared.statement.AssertionKind.TheVariants as assertion
 use Rattle.spx_term.specs.declared.condition.CondKind.{CondKind}
 use Rattle.spx_term.specs.declared.condition.CondKind.TheVariants as kind
@@ -53,7 +52,7 @@ use Rattle.spx_term.specs.Folding.{term_of as static_term}
 use Rattle.spx_paths.specs.Terms.{entry, entry_term, moved_term, now, now_term, term_of}
 use Rattle.spx_paths.specs.Checks.{base_check, bounds_check, check_forms, checked_under, checks, divisor_check, guarded, in_range, in_type, mapping_check, operation_check, right_lefts, sign_check, unless_static}
 use Rattle.spx_paths.specs.Conditions.{PathsAreCounted}
-use Rattle.spx_paths.specs.Walks.{alternative_facts, and_these, arrivals, arrivals_for, as_far_as_cut, asserted, assigned, checked_in, cut_arrivals, cut_arrivals_for, cut_facts, cuts, cuts_for, ending, ending_with, entering, first_facts, from_cut, initializing, loop_cut, noted_cut, start_tree, starting_with, tested, walk, walk_for}
+use Rattle.spx_paths.specs.Walks.{alternative_facts, and_these, arrivals, arrivals_for, as_far_as_cut, asserted, assigned, checked_in, cut_arrivals, cut_arrivals_for, cut_facts, cuts, cuts_for, ending, ending_with, entering, first_facts, from_cut, initializing, loop_cut, start_tree, starting_with, tested, walk, walk_for}
 
 -- how many paths a tree has
 abbrev count : Tree → ℕ

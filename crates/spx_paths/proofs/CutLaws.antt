@@ -1,5 +1,5 @@
 -- Paths from the cuts in statements.
-use Rattle.std.proofs.Common.{◌≡◌, ◌+◌, ◌<◌, ℕ, List, [], ◌∷◌, ◌++◌, map, length, get_or, drop, refl, sym, subst, ap, ap₂, ◌∙◌}
+use Rattle.std.proofs.Common.{◌≡◌, ◌+◌, ◌<◌, ℕ, List, [], ◌∷◌, ◌++◌, map, length, get_or, drop, sym, subst, ap, ap₂, ◌∙◌}
 use Rattle.std.proofs.lemmas.Grind.{flat_map-append}
 use Rattle.std.proofs.lemmas.List.{append-nil, append_assoc}
 use Rattle.std.specs.Prelude.{Option}
@@ -19,13 +19,13 @@ use Rattle.spx_term.specs.Paths.{branches}
 use Rattle.spx_term.specs.Steps.{Tree}
 use Rattle.spx_paths.specs.declared.beginning.Beginning.{Beginning}
 use Rattle.spx_paths.specs.declared.beginning.Beginning.TheVariants.{GoesOn}
-use Rattle.spx_paths.specs.Prefixes.{ArriveEach, BeginAlternatives, BeginBefore, BeginIn, Walked, after, after_each, all_branches, cut_alternatives, with_arms}
+use Rattle.spx_paths.specs.Prefixes.{ArriveEach, BeginAlternatives, BeginBefore, BeginIn, Walked, after_each, all_branches, cut_alternatives, with_arms}
 use Rattle.spx_paths.specs.Terms.{entry_term, term_of}
 use Rattle.spx_paths.specs.Walks.{cuts, cuts_for, from_cut, walk}
 use Rattle.spx_paths.proofs.ArriveLaws.{all_paths, alternative_is, from_one}
 use Rattle.spx_paths.proofs.PrefixLaws.{each_more, each_none, each_one}
 
-both : (trees more : List Tree) → all_branches (trees ++ more) ≡ all_branches trees ++ all_branches more
+pub both : (trees more : List Tree) → all_branches (trees ++ more) ≡ all_branches trees ++ all_branches more
 both trees more = flat_map-append branches trees more
 
 -- two parts of the paths, and what is left

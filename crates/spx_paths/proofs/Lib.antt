@@ -4,3 +4,4 @@ pub mod PrefixLaws
 pub mod CheckLaws
 pub mod ArriveLaws
 pub mod CutLaws
+pub mod LoopLaws

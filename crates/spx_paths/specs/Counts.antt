@@ -1,7 +1,8 @@
 -- Counts of paths that stop at a number.
-use Rattle.std.specs.Prelude.{◌≡◌, ℕ, ◌+◌, min, List, [], ◌∷◌, Option}
+use Rattle.std.specs.Prelude.{◌≡◌, ◌≤◌, ℕ, ◌+◌, true, false, min, List, [], ◌∷◌, length, drop, Option, Some, None}
 use Rattle.spx_core.specs.declared.statement.CoreChoice.{CoreChoice}
-use Rattle.spx_core.specs.Commands.{Command, arms_before}
+use Rattle.spx_core.specs.declared.statement.CoreStmt.{CoreStmt}
+use Rattle.spx_core.specs.Commands.{Command, arms_before, commands, has_own_cut}
 use Rattle.spx_paths.specs.declared.count.Counts.{Counts}
 use Rattle.spx_paths.specs.declared.fault.TheConstants.{MOST_PATHS}
 use Rattle.spx_paths.specs.Walks.{arrivals, cut_arrivals}
@@ -38,3 +39,16 @@ cut_arrivals_in (first ∷ others) rest leave = cut_arrivals first.1 rest leave 
 -- the same for alternatives
 abbrev pub CountsAlternatives : List (Option (List CoreChoice) × Command) → (after : ℕ) → Counts → Type 0
 CountsAlternatives alternatives after counts = (rest leave : ℕ) → after ≡ capped rest → AreCounts counts (arrivals_in alternatives rest leave) (cut_arrivals_in alternatives rest leave)
+
+-- ---- loops
+
+-- one of the statements is itself an `assert`, and paths end at this position
+pub record CutAt (stmts : List CoreStmt) (i : ℕ) : Type 0 where
+  pub within : i ≤ length stmts
+  pub own : has_own_cut (commands stmts) ≡ true
+  pub ends : (rest leave : ℕ) → arrivals (commands (drop i stmts)) rest leave ≡ 1
+
+-- where paths end at one of the statements, if there is such a one
+abbrev pub OwnCut : List CoreStmt → Option ℕ → Type 0
+OwnCut stmts None = has_own_cut (commands stmts) ≡ false
+OwnCut stmts (Some i) = CutAt stmts i

@@ -8,7 +8,7 @@ use Rattle.spx_core.specs.declared.statement.CoreAlternative.{CoreAlternative}
 use Rattle.spx_core.specs.declared.statement.CoreArm.{CoreArm}
 use Rattle.spx_core.specs.declared.statement.CoreChoice.{CoreChoice}
 use Rattle.spx_core.specs.Formals.{formals, locals}
-use Rattle.spx_core.specs.Commands.{Command, alternative, arm_before, arms_before}
+use Rattle.spx_core.specs.Commands.{Command, alternative, arm_before, arms_before, has_own_cut}
 use Rattle.spx_term.specs.declared.path.PathStep.{PathStep}
 use Rattle.spx_term.specs.Paths.{branches}
 use Rattle.spx_term.specs.declared.term.TermOp.{TermOp}
@@ -16,13 +16,13 @@ use Rattle.spx_term.specs.declared.term.TermOp.TheVariants as operator
 use Rattle.spx_term.specs.declared.term.TermPrefix.TheVariants.{Not}
 use Rattle.spx_term.specs.declared.term.Term.{Term}
 use Rattle.spx_term.specs.declared.term.Term.TheVariants as term
-use Rattle.spx_term.specs.Steps.{Tree, Assign, Assume, Split, assume_all, assume_parts}
+use Rattle.spx_term.specs.Steps.{Tree, Cut, Assign, Assume, Split, assume_all, assume_parts}
 use Rattle.spx_paths.specs.declared.beginning.Beginning.{Beginning}
 use Rattle.spx_paths.specs.declared.beginning.Beginning.TheVariants.{GoesOn, Ended}
 use Rattle.spx_meaning.specs.Stores.{type_of}
 use Rattle.spx_paths.specs.Checks.{checks, in_type}
 use Rattle.spx_paths.specs.Terms.{entry, now, now_term, term_of}
-use Rattle.spx_paths.specs.Walks.{alternative_facts, and_these, cuts, entering, first_facts, initializing, walk}
+use Rattle.spx_paths.specs.Walks.{alternative_facts, and_these, as_far_as_cut, cuts, entering, first_facts, initializing, loop_cut, walk}
 
 -- the paths of a tree, each after these steps
 unfoldable pub after : List PathStep → Tree → List (List PathStep)
@@ -96,6 +96,10 @@ abbrev pub ArriveAlternatives : Program → Sub → Term → List CoreAlternativ
 ArriveAlternatives p sub t alternatives steps found =
     (rest leave : ℕ → Tree) (made : ℕ) → after_alternatives p sub t [] (map alternative alternatives) steps rest leave made ≡ after_each found (rest made)
 
+-- the body of a loop was walked as far as its cut: each of these paths has ended
+abbrev pub ArriveAtCut : Program → Sub → Command → List PathStep → List Beginning → Type 0
+ArriveAtCut p sub body steps found = (rest : ℕ → Tree) (made : ℕ) → after steps (as_far_as_cut (has_own_cut body) (walk p sub body (λ m. Cut) rest) made) ≡ after_each found (rest made)
+
 -- ---- from cuts
 
 -- the paths of several trees
@@ -121,6 +125,14 @@ cut_alternatives p sub (first ∷ others) rest leave = all_branches (cuts p sub 
 
 abbrev pub BeginAlternatives : Program → Sub → List (Option (List CoreChoice) × Command) → List Beginning → Type 0
 BeginAlternatives p sub alternatives found = (rest leave : ℕ → Tree) → cut_alternatives p sub alternatives rest leave ≡ after_each found (rest 0)
+
+-- these are the paths from the cut before the body of a loop, where it has none of its own, as far as the end of the body
+abbrev pub BeginBody : Program → Sub → Command → List Beginning → Type 0
+BeginBody p sub body found = (rest leave : ℕ → Tree) → all_branches (loop_cut p sub (has_own_cut body) (walk p sub body rest leave 0)) ≡ after_each found (rest 0)
+
+-- these are the paths from all cuts in a loop as far as the end of its body
+abbrev pub BeginLoop : Program → Sub → Command → List Beginning → Type 0
+BeginLoop p sub body found = (rest leave : ℕ → Tree) → all_branches (loop_cut p sub (has_own_cut body) (walk p sub body rest leave 0) ++ cuts p sub body rest leave) ≡ after_each found (rest 0)
 
 -- the operator of a conjunction
 abbrev pub is_and : TermOp → Bool

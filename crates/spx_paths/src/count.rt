@@ -4,13 +4,14 @@ ghost use Rattle.spx_core.specs.declared.statement.CoreAlternative.{out-CoreAlte
 ghost use Rattle.spx_core.specs.declared.statement.CoreArm.{out-CoreArm};
 ghost use Rattle.spx_text.specs.declared.place.Place.{Place};
 ghost use Rattle.spx_core.specs.declared.expression.CoreExpr.{CoreExpr};
-ghost use Rattle.spx_core.specs.Commands.{Assertion, alternative, arm_before, command, commands};
-ghost use Rattle.spx_paths.specs.Counts.{capped, AreCounts, CountsAlternatives, CountsArms, CountsBack};
+ghost use Rattle.spx_core.specs.Commands.{Assertion, While, alternative, arm_before, command, commands, is_assert};
+ghost use Rattle.spx_paths.specs.Counts.{capped, AreCounts, CountsAlternatives, CountsArms, CountsBack, OwnCut};
 ghost use Rattle.spx_paths.specs.Limits.{has_many_paths};
 
 use crate::MOST_PATHS;
-use spx_core::{CoreAlternative, CoreArm, CoreStmt, Sub};
+use spx_core::{CoreAlternative, CoreArm, CoreScheme, CoreStmt, Sub, has_own_cut};
 use spx_tree::AssertionKind;
+use std::array;
 
 /// The counts of statements.
 #[derive(Clone, Copy)]
@@ -36,6 +37,25 @@ fn sums(left: Counts, right: Counts) -> Counts
         before: capped_sum(left.before, right.before),
         from_cuts: capped_sum(left.from_cuts, right.from_cuts),
     }
+}
+
+/// Whether the statement itself is an `assert`.
+fn is_assert(stmt: &CoreStmt) -> bool
+    ensures { result ≡ is_assert (command stmt.now) }
+{
+    has_own_cut(array::from_ref(stmt))
+}
+
+/// The position of the first of the statements that is itself an `assert`.
+fn own_cut(stmts: &[CoreStmt]) -> Option<usize>
+    ensures { OwnCut stmts.now result }
+{
+    for (i, stmt) in stmts.iter().enumerate() {
+        if is_assert(stmt) {
+            return Some(i);
+        }
+    }
+    None
 }
 
 /// The counts of statements, from how many paths there are after them.
@@ -117,6 +137,35 @@ fn count_assertion(kind: AssertionKind, after: u32) -> Counts
     }
 }
 
+/// The counts of a loop over these statements, from how many paths there are after it.
+#[cycle(count)]
+fn count_while(body: &[CoreStmt], after: u32) -> Counts
+    ensures { (place : Place) (condition : CoreExpr) → CountsBack (While place condition (commands body.now)) after result }
+{
+    match own_cut(body) {
+        None => {
+            // The paths to the body end at the cut before it.
+            let before = capped_sum(1, after);
+            let turn = count_stmts(body, before);
+            Counts {
+                before,
+                from_cuts: capped_sum(turn.before, turn.from_cuts),
+            }
+        }
+        Some(cut) => {
+            // They end at the own cut, so that only what stands from there on comes to the head again.
+            let (first, others) = body.split_at(cut);
+            let entered = count_stmts(first, 1);
+            let before = capped_sum(entered.before, after);
+            let turn = count_stmts(others, before);
+            Counts {
+                before,
+                from_cuts: capped_sum(entered.from_cuts, turn.from_cuts),
+            }
+        }
+    }
+}
+
 #[cycle(count)]
 fn count_stmt(stmt: &CoreStmt, after: u32) -> Counts
     ensures { CountsBack (command stmt.now) after result }
@@ -137,6 +186,9 @@ fn count_stmt(stmt: &CoreStmt, after: u32) -> Counts
         CoreStmt::Case(_, _, alternatives, _) => match alternatives.as_slice() {
             [] => without_cuts,
             alternatives => count_alternatives(alternatives, after),
+        },
+        CoreStmt::Loop(scheme, _, body, _) => match scheme {
+            CoreScheme::While(_, _) => count_while(body.as_slice(), after),
         },
     }
 }

@@ -4,12 +4,14 @@ ghost use Rattle.spx_text.specs.declared.place.Place.{Place};
 ghost use Rattle.spx_core.specs.declared.statement.CoreAlternative.{out-CoreAlternative};
 ghost use Rattle.spx_core.specs.declared.statement.CoreArm.{out-CoreArm};
 ghost use Rattle.spx_core.specs.Commands.{Assertion, alternative, command, commands, select};
-ghost use Rattle.spx_paths.specs.Prefixes.{BeginAlternatives, BeginArms, BeginIn};
+ghost use Rattle.spx_paths.specs.Prefixes.{BeginAlternatives, BeginArms, BeginBody, BeginIn, BeginLoop};
 
 use crate::beginning::Beginning;
-use crate::known::from_cut;
-use crate::walk::walk_from_each;
-use spx_core::{CoreAlternative, CoreArm, CoreExpr, CoreStmt, Program, Sub};
+use crate::known::{from_assert, from_loop_cut};
+use crate::walk::{walk_from_each, walk_stmts};
+use spx_core::{
+    CoreAlternative, CoreArm, CoreExpr, CoreScheme, CoreStmt, Program, Sub, has_own_cut,
+};
 use spx_tree::AssertionKind;
 use std::alloc::{AllocError, Global};
 
@@ -26,12 +28,29 @@ fn from_assertion(
     let mut found = Vec::new(alloc);
     match kind {
         AssertionKind::Assert => {
-            let steps = from_cut(alloc, program, sub, condition)?;
+            let steps = from_assert(alloc, program, sub, condition)?;
             found.push(Beginning::GoesOn(steps))?;
             Ok(found)
         }
         AssertionKind::Check => Ok(found),
     }
+}
+
+/// The path from the cut before the body of a loop that has none of its own, as far as the end of the body.
+fn from_body(
+    alloc: Global,
+    program: &Program,
+    sub: &Sub,
+    body: &[CoreStmt],
+) -> Result<Vec<Beginning>, AllocError>
+    ensures { IfOk result (λ found. BeginBody program.now sub.now (commands body.now) found.items) }
+{
+    if has_own_cut(body) {
+        return Ok(Vec::new(alloc));
+    }
+    let steps = from_loop_cut(alloc, program, sub)?;
+    let found = walk_stmts(alloc, program, sub, body, steps)?;
+    Ok(found)
 }
 
 /// The paths from the cuts in statements, as far as the end of the statements.
@@ -80,7 +99,28 @@ fn from_stmt(
         CoreStmt::Case(_, _, alternatives, _) => {
             from_alternatives(alloc, program, sub, alternatives.as_slice())
         }
+        CoreStmt::Loop(scheme, _, body, _) => {
+            let found = from_loop(alloc, program, sub, body.as_slice())?;
+            match scheme {
+                CoreScheme::While(_, _) => walk_from_each(alloc, program, sub, stmt, found),
+            }
+        }
     }
+}
+
+/// The paths from the cuts in a loop, as far as the end of its body.
+#[cycle(cuts)]
+fn from_loop(
+    alloc: Global,
+    program: &Program,
+    sub: &Sub,
+    body: &[CoreStmt],
+) -> Result<Vec<Beginning>, AllocError>
+    ensures { IfOk result (λ found. BeginLoop program.now sub.now (commands body.now) found.items) }
+{
+    let mut found = from_body(alloc, program, sub, body)?;
+    found.append(&mut paths_from_cuts(alloc, program, sub, body)?)?;
+    Ok(found)
 }
 
 /// The paths from the cuts in arms.

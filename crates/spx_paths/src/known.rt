@@ -1,6 +1,7 @@
 // What is known after a cut.
-ghost use Rattle.std.specs.Prelude.{[], flat_map, IfOk, OnOk};
+ghost use Rattle.std.specs.Prelude.{true, [], ◌∷◌, flat_map, IfOk, OnOk};
 ghost use Rattle.spx_core.specs.Formals.{formals};
+ghost use Rattle.spx_term.specs.declared.term.Term.TheVariants as term;
 ghost use Rattle.spx_term.specs.Conjuncts.{conjuncts};
 ghost use Rattle.spx_term.specs.Steps.{assume_all};
 ghost use Rattle.spx_paths.specs.Terms.{entry_term, term_of};
@@ -108,9 +109,24 @@ fn assume_known(
     Ok(())
 }
 
-/// The first steps after an `assert` of the condition.
+/// The first steps after a cut where this is true too.
 #[tactic(auto, using(crate::proofs::PrefixLaws::facts_more))]
-pub(crate) fn from_cut(
+fn from_cut(
+    alloc: Global,
+    program: &Program,
+    sub: &Sub,
+    fact: &Term,
+) -> Result<Items<PathStep>, AllocError>
+    ensures { IfOk result (λ steps. Walked [] steps (from_cut program.now sub.now (conjuncts fact.now))) }
+{
+    let mut steps = Items::new(alloc);
+    assume_known(alloc, program, &mut steps, sub)?;
+    assume_parts(alloc, &mut steps, fact)?;
+    Ok(steps)
+}
+
+/// The first steps after an `assert` of the condition.
+pub(crate) fn from_assert(
     alloc: Global,
     program: &Program,
     sub: &Sub,
@@ -118,9 +134,18 @@ pub(crate) fn from_cut(
 ) -> Result<Items<PathStep>, AllocError>
     ensures { IfOk result (λ steps. Walked [] steps (from_cut program.now sub.now (conjuncts (term_of program.now (entry_term program.now sub.now) condition.now)))) }
 {
-    let mut steps = Items::new(alloc);
-    assume_known(alloc, program, &mut steps, sub)?;
     let fact = term_of(alloc, program, &Entered::OnEntry(sub), condition)?;
-    assume_parts(alloc, &mut steps, &fact)?;
-    Ok(steps)
+    from_cut(alloc, program, sub, &fact)
+}
+
+/// The first steps after the cut before the body of a loop. Nothing more is known there.
+#[tactic(auto, using(crate::proofs::PrefixLaws::part_laws))]
+pub(crate) fn from_loop_cut(
+    alloc: Global,
+    program: &Program,
+    sub: &Sub,
+) -> Result<Items<PathStep>, AllocError>
+    ensures { IfOk result (λ steps. Walked [] steps (from_cut program.now sub.now (term.Truth true ∷ []))) }
+{
+    from_cut(alloc, program, sub, &Term::Truth(true))
 }

@@ -4,8 +4,8 @@ ghost use Rattle.spx_text.specs.declared.place.Place.{Place};
 ghost use Rattle.spx_core.specs.declared.statement.CoreAlternative.{out-CoreAlternative};
 ghost use Rattle.spx_core.specs.declared.program.Program.{Program};
 ghost use Rattle.spx_core.specs.declared.subprogram.Sub.{Sub};
-ghost use Rattle.spx_core.specs.Commands.{Assertion, Set, Skip, alternative, command, commands, select};
-ghost use Rattle.spx_paths.specs.Prefixes.{after, after_each, Arrive, ArriveAlternatives, ArriveArm, ArriveArms, ArriveEach, ArriveFrom, Passes, Splits, Walked};
+ghost use Rattle.spx_core.specs.Commands.{Assertion, Set, Skip, alternative, command, commands, loop_of, select};
+ghost use Rattle.spx_paths.specs.Prefixes.{after, after_beginning, after_each, Arrive, ArriveAlternatives, ArriveArm, ArriveArms, ArriveAtCut, ArriveEach, ArriveFrom, Passes, Splits, Walked};
 ghost use Rattle.spx_paths.specs.Terms.{entry_term, term_of};
 ghost use Rattle.spx_paths.specs.Walks.{alternative_facts, asserted};
 ghost use Rattle.spx_term.specs.Steps.{Cut, Tree, assume_all};
@@ -16,7 +16,9 @@ use crate::choices::{add_choices, assume_chosen};
 use crate::entered::Entered;
 use crate::steps::{assert_parts, assign, assume, assume_parts, copy_steps};
 use crate::terms::term_of;
-use spx_core::{CoreAlternative, CoreArm, CoreExpr, CoreStmt, Program, Reference, Sub};
+use spx_core::{
+    CoreAlternative, CoreArm, CoreExpr, CoreScheme, CoreStmt, Program, Reference, Sub, has_own_cut,
+};
 use spx_term::{CondKind, PathStep, Term, TermPrefix};
 use spx_text::Place;
 use spx_tree::AssertionKind;
@@ -41,6 +43,27 @@ fn one_ended(alloc: Global, steps: Items<PathStep>) -> Result<Vec<Beginning>, Al
     let mut found = Vec::new(alloc);
     found.push(Beginning::Ended(steps))?;
     Ok(found)
+}
+
+/// The path ends where it would go on.
+fn end(beginning: Beginning) -> Beginning
+    ensures { (rest : Tree) → after_beginning beginning Cut ≡ after_beginning result rest }
+{
+    match beginning {
+        Beginning::GoesOn(steps) => Beginning::Ended(steps),
+        Beginning::Ended(steps) => Beginning::Ended(steps),
+    }
+}
+
+/// Each of the paths ends where it would go on.
+fn end_each(alloc: Global, found: Vec<Beginning>) -> Result<Vec<Beginning>, AllocError>
+    ensures { IfOk result (λ ended. (rest : Tree) → after_each found.items Cut ≡ after_each ended.items rest) }
+{
+    let mut ended = Vec::new(alloc);
+    for beginning in found {
+        ended.push(end(beginning))?;
+    }
+    Ok(ended)
 }
 
 /// Adds the steps of an assignment: the value is checked, and the target then stands for it.
@@ -276,6 +299,9 @@ fn walk_stmt(
                 steps,
             )
         }
+        CoreStmt::Loop(scheme, _, body, _) => {
+            walk_loop(alloc, program, sub, body.as_slice(), scheme, steps)
+        }
     }
 }
 
@@ -335,6 +361,48 @@ fn walk_alternative(
     ensures { IfOk result (λ found. Arrive program.now sub.now (commands (out-CoreAlternative chosen.now).body) steps found.items) }
 {
     walk_stmts(alloc, program, sub, chosen.body.as_slice(), steps)
+}
+
+/// Walks a loop. The path goes on where its condition is false.
+#[cycle(walk)]
+fn walk_loop(
+    alloc: Global,
+    program: &Program,
+    sub: &Sub,
+    body: &[CoreStmt],
+    scheme: &CoreScheme,
+    steps: Items<PathStep>,
+) -> Result<Vec<Beginning>, AllocError>
+    ensures { IfOk result (λ found. Arrive program.now sub.now (loop_of scheme.now (commands body.now)) steps found.items) }
+{
+    match scheme {
+        CoreScheme::While(_, condition) => {
+            let mut steps = steps;
+            let taken = split(alloc, program, &mut steps, condition)?;
+            let mut found = walk_to_cut(alloc, program, sub, body, taken)?;
+            found.append(&mut one(alloc, steps)?)?;
+            Ok(found)
+        }
+    }
+}
+
+/// Walks the body of a loop as far as its own cut. With none of its own, there is a cut before it.
+#[cycle(walk)]
+fn walk_to_cut(
+    alloc: Global,
+    program: &Program,
+    sub: &Sub,
+    body: &[CoreStmt],
+    steps: Items<PathStep>,
+) -> Result<Vec<Beginning>, AllocError>
+    ensures { IfOk result (λ found. ArriveAtCut program.now sub.now (commands body.now) steps found.items) }
+{
+    if !has_own_cut(body) {
+        return one_ended(alloc, steps);
+    }
+    let found = walk_stmts(alloc, program, sub, body, steps)?;
+    let ended = end_each(alloc, found)?;
+    Ok(ended)
 }
 
 /// Walks arms. The path goes on where no condition is true.

@@ -1,4 +1,4 @@
-use Rattle.std.proofs.Common.{◌≡◌, ◌+◌, ℕ, drop, map, reverse}
+use Rattle.std.proofs.Common.{◌≡◌, ℕ, drop, map, reverse}
 use Rattle.spx_core.specs.Commands.{Command, alternative, arm_before, arms_before, commands}
 use Rattle.spx_paths.specs.Walks.{arrivals, cut_arrivals}
 use Rattle.spx_paths.specs.Counts.{arrivals_in, capped, cut_arrivals_in, CountsBack}

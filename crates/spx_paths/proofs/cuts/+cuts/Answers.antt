@@ -1,4 +1,4 @@
-use Rattle.std.proofs.Common.{◌≡◌, List, drop, map, refl, subst, sym, ap, ap₂, ◌∙◌}
+use Rattle.std.proofs.Common.{◌≡◌, List, map, refl, subst, sym, ap, ap₂, ◌∙◌}
 use Rattle.std.proofs.lemmas.Result.{IfOk-weaker}
 use Rattle.std.specs.Prelude.{IfOk}
 use Rattle.spx_core.specs.declared.statement.CoreAlternative.{CoreAlternative}
@@ -6,10 +6,11 @@ use Rattle.spx_core.specs.declared.statement.CoreArm.{CoreArm}
 use Rattle.spx_core.specs.declared.statement.CoreStmt.{CoreStmt}
 use Rattle.spx_core.specs.declared.statement.CoreStmt.TheVariants as stmt
 use Rattle.spx_core.specs.Commands.{Command, Assertion, Set, Skip, alternative, command, commands, select}
-use Rattle.spx_paths.specs.Prefixes.{BeginIn, with_arms}
+use Rattle.spx_paths.specs.Prefixes.{BeginIn, BeginLoop, with_arms}
 use Rattle.spx_paths.proofs.PrefixLaws.{each_none}
-use Rattle.spx_paths.proofs.ArriveLaws.{assertion_is, assignment_is, case_is, if_alone_is, if_else_is, null_is}
+use Rattle.spx_paths.proofs.ArriveLaws.{assertion_is, assignment_is, case_is, if_else_is, null_is}
 use Rattle.spx_paths.proofs.CutLaws.{alternatives_more, arms_more, if_begins, none_begin, select_begins, stmts_more}
+use Rattle.spx_paths.proofs.LoopLaws.{loop_begins, loop_stmt_begins}
 use Rattle.spx_paths.proofs.cuts.+cuts.Goals as goal
 
 pub paths_from_cuts-loop-stmt-init : goal.paths_from_cuts-loop-stmt-init
@@ -74,3 +75,17 @@ from_stmt-returns-in-Case t c =
     = ap command at.is ∙ case_is at.field-0 at.field-1 at.alternatives at.field-3 ∙ ap (λ (xs : List CoreAlternative). select at.field-0 at.field-1 (map alternative xs)) (sym c.as_slice-in-Case.ensures) in
     subst (λ (cmd : Command). IfOk c.from_alternatives.result (λ found. BeginIn c.args.program.now c.args.sub.now cmd found.items)) (sym is)
     (IfOk-weaker c.from_alternatives.result _ (λ found. BeginIn c.args.program.now c.args.sub.now (select at.field-0 at.field-1 parts) found.items) (λ found. select_begins c.args.program.now c.args.sub.now at.field-0 at.field-1 parts found.items) c.from_alternatives.ensures)
+
+pub from_loop-returns : goal.from_loop-returns
+from_loop-returns t c =
+    loop_begins c.args.program.now c.args.sub.now (commands c.args.body.now) c.in_ok-found.found.items c.in_ok-paths_from_cuts.field-0.items _ c.in_ok-found.ensures c.in_ok-paths_from_cuts.ensures c.in_ok-append.ensures.items
+
+pub from_stmt-returns-in_ok-found-in-Loop : goal.from_stmt-returns-in_ok-found-in-Loop
+from_stmt-returns-in_ok-found-in-Loop t c =
+    let p = c.args.program.now in
+    let sub = c.args.sub.now in
+    let s = c.args.stmt.now in
+    let at = c.in-Loop in
+    let found = c.in_ok-found-in-Loop.found.items in
+    let begins = subst (λ (xs : List CoreStmt). BeginLoop p sub (commands xs) found) c.as_slice-in-Loop.ensures c.in_ok-found-in-Loop.ensures in
+    IfOk-weaker c.walk_from_each.result _ (λ all. BeginIn p sub (command s) all.items) (λ all. loop_stmt_begins p sub s at.scheme at.field-1 at.body at.field-3 found all.items at.is begins) c.walk_from_each.ensures
