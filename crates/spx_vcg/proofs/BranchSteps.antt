@@ -17,7 +17,7 @@ use Rattle.spx_term.specs.declared.term.Term.TheVariants.{Prefix}
 use Rattle.spx_term.specs.declared.term.TermPrefix.TheVariants.{Not}
 use Rattle.spx_term.specs.Steps.{Tree, Assume, Split, assume_parts}
 use Rattle.spx_paths.specs.Terms.{now_term, term_of}
-use Rattle.spx_paths.specs.Walks.{ending, walk}
+use Rattle.spx_paths.specs.Walks.{ending, tested, walk}
 use Rattle.spx_arena.specs.declared.facts.FactsId.{FactsId}
 use Rattle.spx_arena.specs.declared.terms.TermId.{TermId}
 use Rattle.spx_arena.specs.Claims.{AreIds, AreLists, AreClaims, trees_at, claims_at}
@@ -29,7 +29,7 @@ use Rattle.spx_vcg.specs.declared.walk.Walk.{Walk}
 use Rattle.spx_vcg.specs.ConditionWalk.{State, applied, forward}
 use Rattle.spx_vcg.specs.States.{AreValues, state_in}
 use Rattle.spx_vcg.specs.WalkSteps.{state, Longer, OnlyAdds, OnlyTerms, Keeps, Walks, Means, Whole, claims_from, Evaluates}
-use Rattle.spx_vcg.specs.PathWalk.{Passes, Comes, Ends, PassesArm, Takes, negated, Marks, IsBack}
+use Rattle.spx_vcg.specs.PathWalk.{Passes, Comes, Ends, PassesArm, Takes, negated, Marks, IsBack, to_end}
 use Rattle.spx_vcg.proofs.ConditionTerms.{applied-Prefix}
 use Rattle.spx_vcg.proofs.SharedIds.{state_kept}
 use Rattle.spx_vcg.proofs.SharedSteps.{adds_twice, longer_not, only_means, only_walks, walks_twice, wider_values}
@@ -105,7 +105,7 @@ module _ {old last new : Walk} (m : Mark) (whole : Whole old) (later : Whole las
   }
 
 pub after_taken : {p : Program} {sub : Sub} {old mid last new : Walk} (condition : CoreExpr) (c : Command) (m : Mark) → Whole old → Marks old m → Keeps old mid → Walks old mid (assume_parts (term_of p (now_term p) condition))
-    → Ends p sub mid last c → IsBack last new m → Takes p sub old new condition c
+    → Ends p sub mid last c → IsBack last new m → Takes p old new condition (to_end p sub c)
 after_taken {p} {sub} {old} {mid} {last} {new} condition c m whole marks keeps walks ends back =
     let adds = adds_twice keeps.adds ends.adds in
     record {
@@ -118,9 +118,8 @@ after_taken {p} {sub} {old} {mid} {last} {new} condition c m whole marks keeps w
           (walks.same tree ∙ ends.same made ∙ claims_end last);
     }
 
--- ---- arms
-module _ {p : Program} {sub : Sub} {w x y z : Walk} {id : TermId} (e : CoreExpr) (c following : Command) (checked : Keeps w x) (within : id.0 < length x.terms) (v : Evaluates p [] w x e id) (k : Takes p sub x y e (Then c following))
-    (last : Keeps y z) (n : (t : Term) → Means y id t → Walks y z (negated t)) where
+-- ---- conditions
+module _ {p : Program} {w x y z : Walk} {id : TermId} (e : CoreExpr) {way : ℕ → Tree} (checked : Keeps w x) (within : id.0 < length x.terms) (v : Evaluates p [] w x e id) (k : Takes p x y e way) (last : Keeps y z) (n : (t : Term) → Means y id t → Walks y z (negated t)) where
   abbrev t : Term
   t = term_of p (now_term p) e
 
@@ -129,19 +128,26 @@ module _ {p : Program} {sub : Sub} {w x y z : Walk} {id : TermId} (e : CoreExpr)
       let m = v.makes [] (no_lefts w) in
       record { tree = k.adds.grown.kept id within ∙ m.means.tree ∙ ap (λ (u : State). applied u t) (sym k.kept) }
 
-  pub after_arm : (arm : Command → Command) (place : Place) → ((otherwise : Command) → arm otherwise ≡ Choose place e c otherwise) → PassesArm p sub w z arm following
-  after_arm arm place is otherwise =
-      record {
-        whole = last.whole;
-        adds = adds_twice checked.adds (adds_twice k.adds last.adds);
-        same = λ made.
-            let first = walk p sub (Then c following) (ending p sub) (ending p sub) made in
-            let second = walk p sub (Then otherwise following) (ending p sub) (ending p sub) made in
-            ap (λ d. claims_from w (walk p sub (Then d following) (ending p sub) (ending p sub) made)) (is otherwise)
-            ∙ (v.makes [] (no_lefts w)).walks.same (Split (assume_parts t first) (negated t second))
-            ∙ (k.goes made).same (negated t second)
-            ∙ (n t condition_stays).same second;
-      }
+  pub test_adds : OnlyAdds w z
+  test_adds = adds_twice checked.adds (adds_twice k.adds last.adds)
+
+  -- the claims where it is true are made, and those where it is false are left
+  pub after_test : (fails : ℕ → Tree) (made : ℕ) → claims_from w (tested p e way fails made) ≡ claims_from z (fails made)
+  after_test fails made =
+      (v.makes [] (no_lefts w)).walks.same (Split (assume_parts t (way made)) (negated t (fails made)))
+      ∙ (k.goes made).same (negated t (fails made))
+      ∙ (n t condition_stays).same (fails made)
+
+-- ---- arms
+pub after_arm : {p : Program} {sub : Sub} {w x y z : Walk} {id : TermId} (e : CoreExpr) (c following : Command) → Keeps w x → id.0 < length x.terms → Evaluates p [] w x e id → Takes p x y e (to_end p sub (Then c following)) → Keeps y z
+    → ((t : Term) → Means y id t → Walks y z (negated t)) → (arm : Command → Command) (place : Place) → ((otherwise : Command) → arm otherwise ≡ Choose place e c otherwise) → PassesArm p sub w z arm following
+after_arm {p} {sub} {w} e c following checked within v k last n arm place is otherwise = record {
+  whole = last.whole;
+  adds = test_adds e checked within v k last n;
+  same = λ made.
+      ap (λ d. claims_from w (to_end p sub (Then d following) made)) (is otherwise)
+      ∙ after_test e checked within v k last n (to_end p sub (Then otherwise following)) made;
+}
 
 -- the walk is at these commands
 along : {p : Program} {sub : Sub} {a b : Walk} {e f g : Command} → f ≡ g → Comes p sub a b e f → Comes p sub a b e g

@@ -1,21 +1,18 @@
 -- What the cuts of a body add.
-use Rattle.std.proofs.Common.{◌≡◌, ℕ, ◌+◌, ◌<◌, List, [], ◌∷◌, ◌++◌, length, drop, get_or, map, Some, refl, sym, ap, ◌∙◌, subst, add-one, append-nil, append_assoc, drop-cons}
+use Rattle.std.proofs.Common.{◌≡◌, true, false, ℕ, ◌+◌, ◌<◌, List, [], ◌∷◌, ◌++◌, length, drop, get_or, map, Some, refl, sym, ap, ◌∙◌, subst, add-one, append-nil, append_assoc, drop-cons}
 use Rattle.std.proofs.lemmas.Grind.{flat_map-append}
 use Rattle.spx_text.specs.declared.place.Place.{Place}
-use Rattle.spx_tree.specs.declared.statement.AssertionKind.TheVariants.{Assert}
 use Rattle.spx_core.specs.declared.expression.CoreExpr.{CoreExpr}
 use Rattle.spx_core.specs.declared.program.Program.{Program}
 use Rattle.spx_core.specs.declared.statement.CoreArm.{CoreArm, out-CoreArm}
 use Rattle.spx_core.specs.declared.statement.CoreStmt.{CoreStmt}
 use Rattle.spx_core.specs.declared.subprogram.Sub.{Sub}
-use Rattle.spx_core.specs.Commands.{Command, Then, alternatives_of, arm_before, arms_before, command, commands, select}
+use Rattle.spx_core.specs.Commands.{Command, Then, alternatives_of, arm_before, arms_before, command, commands, has_own_cut, select}
 use Rattle.spx_term.specs.declared.term.Name.{Name}
 use Rattle.spx_term.specs.declared.term.Term.{Term}
-use Rattle.spx_term.specs.declared.term.Term.TheVariants.{Variable}
-use Rattle.spx_term.specs.Conjuncts.{conjuncts}
-use Rattle.spx_term.specs.Steps.{Claim, Tree, Cut, assume_all, assume_parts}
-use Rattle.spx_paths.specs.Terms.{entry_term, term_of}
-use Rattle.spx_paths.specs.Walks.{cut_facts, cuts_for, ending, noted_cut, walk}
+use Rattle.spx_term.specs.declared.term.Term.TheVariants.{Truth, Variable}
+use Rattle.spx_term.specs.Steps.{Claim, Tree, Cut, assume_all}
+use Rattle.spx_paths.specs.Walks.{cut_facts, cuts_for, ending, from_cut, loop_cut}
 use Rattle.spx_arena.specs.declared.terms.TermId.{TermId}
 use Rattle.spx_arena.specs.Claims.{AreClaims, AreIds, AreLists, claims_at, trees_at}
 use Rattle.spx_arena.specs.Facts.{facts_at}
@@ -24,7 +21,7 @@ use Rattle.spx_vcg.specs.ConditionWalk.{forward}
 use Rattle.spx_vcg.specs.Cuts.{BeginsAnew, Leaves, claims_anew, claims_over, cuts_among, cuts_in}
 use Rattle.spx_vcg.specs.States.{AreValues, given, state_in}
 use Rattle.spx_vcg.specs.WalkSteps.{Goes, Walks, Whole, claims_from}
-use Rattle.spx_vcg.specs.PathWalk.{Ends}
+use Rattle.spx_vcg.specs.PathWalk.{Ends, to_end}
 use Rattle.spx_vcg.proofs.BranchSteps.{here_is}
 use Rattle.spx_vcg.proofs.Forms.{Part, arm_is}
 use Rattle.spx_vcg.proofs.StartSteps.{assume_all-append}
@@ -54,7 +51,7 @@ leaves_next {a} {b} {c} {all} first more is before step = leaves_twice (subst (L
 
 -- ---- the root of a tree
 pub begins_anew : (old new : Walk) → Whole old → new.terms ≡ old.terms → new.facts.lists ≡ old.facts.lists → new.claims ≡ old.claims → new.values ≡ [] → new.facts.present.keys ≡ [] → new.facts.at.0 < length new.facts.lists
-    → facts_at new.facts.lists new.facts.at ≡ [] → BeginsAnew old new
+    → facts_at new.facts.lists new.facts.at ≡ [] → BeginsAnew old new (λ tree. tree)
 unfolding claims_from
 begins_anew old new whole terms lists claims values keys within none = record {
   whole = record {
@@ -78,24 +75,33 @@ ends_over : (w : Walk) → claims_from w Cut ≡ claims_over w []
 unfolding claims_from
 ends_over w = refl
 
--- the paths from an `assert`
-pub after_cut : {a b c d e : Walk} (p : Program) (sub : Sub) (condition : CoreExpr) (following : Command) → BeginsAnew a b → Goes b c (assume_all (cut_facts p sub)) → Walks c d (assume_parts (term_of p (entry_term p sub) condition)) → Ends p sub d e following
-    → Leaves a e (noted_cut p sub Assert condition (walk p sub following (ending p sub) (ending p sub) 0)) []
-after_cut {a} {b} {c} {d} {e} p sub condition following begins known assertion ends =
-    let rest = walk p sub following (ending p sub) (ending p sub) 0 in
-    let parts = conjuncts (term_of p (entry_term p sub) condition) in
-    let tree = assume_all (cut_facts p sub ++ parts) rest in
+pub begins_along : {a b c : Walk} {f g : Tree → Tree} → BeginsAnew a b f → Goes b c g → BeginsAnew a c (λ rest. f (g rest))
+begins_along {a} {b} {c} {f} {g} begins goes = record { whole = goes.whole; same = λ rest. sym (goes.same rest) ∙ begins.same (g rest) }
+
+-- ---- the paths from a cut
+pub after_cut : {a b c d : Walk} (p : Program) (sub : Sub) (known : List Term) (following : Command) → BeginsAnew a b (assume_all (cut_facts p sub)) → Walks b c (assume_all known) → Ends p sub c d following
+    → Leaves a d (from_cut p sub known (to_end p sub following 0) ∷ []) []
+after_cut {a} {b} {c} {d} p sub known following begins walks ends =
+    let rest = to_end p sub following 0 in
     record {
       whole = ends.whole;
       same =
-          ap (λ cs. so_far a ++ cs) (append-nil (forward Variable [] tree))
-          ∙ sym (begins.same tree)
-          ∙ ap (claims_from b) (assume_all-append (cut_facts p sub) parts rest)
-          ∙ known.same (assume_all parts rest)
-          ∙ assertion.same rest
+          ap (λ cs. so_far a ++ cs) (append-nil (forward Variable [] (from_cut p sub known rest)) ∙ ap (forward Variable []) (assume_all-append (cut_facts p sub) known rest))
+          ∙ sym (begins.same (assume_all known rest))
+          ∙ walks.same rest
           ∙ ends.same 0
-          ∙ ends_over e;
+          ∙ ends_over d;
     }
+
+-- that before the body of a loop
+pub after_loop_cut : {a b c d : Walk} (p : Program) (sub : Sub) (body again : Command) → has_own_cut body ≡ false → BeginsAnew a b (assume_all (cut_facts p sub)) → Walks b c (assume_all (Truth true ∷ [])) → Ends p sub c d (Then body again)
+    → Leaves a d (loop_cut p sub (has_own_cut body) (to_end p sub (Then body again) 0)) []
+after_loop_cut {a} {b} {c} {d} p sub body again none begins walks ends =
+    subst (λ own. Leaves a d (loop_cut p sub own (to_end p sub (Then body again) 0)) []) (sym none) (after_cut p sub (Truth true ∷ []) (Then body again) begins walks ends)
+
+-- there is none, where the body has its own
+pub no_loop_cut : {w : Walk} (p : Program) (sub : Sub) (body : Command) (rest : Tree) → has_own_cut body ≡ true → Whole w → Leaves w w (loop_cut p sub (has_own_cut body) rest) []
+no_loop_cut {w} p sub body rest own whole = subst (λ b. Leaves w w (loop_cut p sub b rest) []) (sym own) (record { whole = whole; same = refl })
 
 -- ---- statements
 module _ (p : Program) (sub : Sub) {a b c : Walk} {all : List Tree} (following : Command) where
@@ -115,7 +121,7 @@ module _ (p : Program) (sub : Sub) {a b c : Walk} {all : List Tree} (following :
       (ap (λ xs. cuts_in p sub (arms_before otherwise (map arm_before xs)) following) (drop-cons arms i arm within ∙ (λ k. sym is k ∷ drop (sym (add-one i) k) arms)) ∙ ap (λ d. cuts_in p sub d following) (arm_is arm next)) before step
 
 -- those of a `case` are those in its alternatives
-among_is : (p : Program) (sub : Sub) (first : Part) (more : List Part) (following : Command) → cuts_for p sub (alternatives_of first more) (walk p sub following (ending p sub) (ending p sub)) (ending p sub) ≡ cuts_among p sub (first ∷ more) following
+among_is : (p : Program) (sub : Sub) (first : Part) (more : List Part) (following : Command) → cuts_for p sub (alternatives_of first more) (to_end p sub following) (ending p sub) ≡ cuts_among p sub (first ∷ more) following
 among_is p sub first [] following = sym (append-nil (cuts_in p sub first.1 following))
 among_is p sub first (second ∷ more) following = ap (λ ts. cuts_in p sub first.1 following ++ ts) (among_is p sub second more following)
 

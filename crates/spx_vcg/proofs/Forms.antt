@@ -9,9 +9,11 @@ use Rattle.spx_core.specs.declared.name.Reference.{Reference}
 use Rattle.spx_core.specs.declared.statement.CoreAlternative.{CoreAlternative, out-CoreAlternative, fold_out-CoreAlternative}
 use Rattle.spx_core.specs.declared.statement.CoreArm.{CoreArm, out-CoreArm, fold_out-CoreArm}
 use Rattle.spx_core.specs.declared.statement.CoreChoice.{CoreChoice}
+use Rattle.spx_core.specs.declared.statement.CoreScheme.{CoreScheme}
+use Rattle.spx_core.specs.declared.statement.CoreScheme.TheVariants as scheme
 use Rattle.spx_core.specs.declared.statement.CoreStmt.{CoreStmt, CoreStmt-F, out-CoreStmt, map-CoreStmt, fold_out-CoreStmt}
-use Rattle.spx_core.specs.declared.statement.CoreStmt.TheVariants.{Null, Assignment, If, Case, Assertion as AssertionStmt, outs-Null, outs-Assignment, outs-If, outs-Case, outs-Assertion}
-use Rattle.spx_core.specs.Commands.{Command, Skip, Set, Then, Choose, Assertion, alternative, alternative_step, arm_before, arm_step, arms_before, command, commands, select, stmt_step}
+use Rattle.spx_core.specs.declared.statement.CoreStmt.TheVariants.{Null, Assignment, If, Case, Loop, Assertion as AssertionStmt, outs-Null, outs-Assignment, outs-If, outs-Case, outs-Loop, outs-Assertion}
+use Rattle.spx_core.specs.Commands.{Command, Skip, Set, Then, Choose, Assertion, alternative, alternative_step, arm_before, arm_step, arms_before, command, commands, loop_of, select, stmt_step}
 use Rattle.spx_vcg.specs.declared.branches.Rest.{Rest, Rest-F, out-Rest, map-Rest, fold-Rest, fold_out-Rest}
 use Rattle.spx_vcg.specs.declared.branches.Rest.TheVariants.{End, After, outs-End, outs-After}
 use Rattle.spx_vcg.specs.Following.{after, after_step, done_otherwise}
@@ -46,6 +48,15 @@ pub case_is : (s : CoreStmt) (place : Place) (selector : CoreExpr) (alternatives
     → (xs : List CoreAlternative) → xs ≡ alternatives → command s ≡ select place selector (map alternative xs)
 case_is s place selector alternatives closing is xs e =
     at_layer s (CoreStmt-F.Case place selector alternatives closing) (ap out-CoreStmt is ∙ outs-Case place selector alternatives closing) ∙ ap (λ ys. select place selector (map alternative ys)) (sym e)
+
+pub loop_is : (s : CoreStmt) (scheme : CoreScheme) (word : Place) (body : List CoreStmt) (closing : Closing) → s ≡ Loop scheme word body closing
+    → (ss : List CoreStmt) → ss ≡ body → command s ≡ loop_of scheme (commands ss)
+loop_is s scheme word body closing is ss e =
+    at_layer s (CoreStmt-F.Loop scheme word body closing) (ap out-CoreStmt is ∙ outs-Loop scheme word body closing) ∙ ap (λ xs. loop_of scheme (commands xs)) (sym e)
+
+-- each scheme is a `while`
+pub scheme_is : (s : CoreScheme) → (place : Place) × (condition : CoreExpr) × (s ≡ scheme.While place condition)
+scheme_is (scheme.While place condition) = (place, condition, refl)
 
 pub alternative_is : (a : CoreAlternative) → alternative a ≡ ((out-CoreAlternative a).choices, commands (out-CoreAlternative a).body)
 alternative_is a = rw (fold_out-CoreAlternative) refl

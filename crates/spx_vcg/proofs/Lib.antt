@@ -18,6 +18,8 @@ pub mod StartSteps
 pub mod Sizes
 pub mod Subs
 pub mod BranchSteps
+pub mod LoopLaws
+pub mod LoopSteps
 pub mod Remaining
 pub mod CutSteps
 pub mod Forms

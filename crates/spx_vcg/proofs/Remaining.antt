@@ -4,8 +4,10 @@ use Rattle.spx_text.specs.declared.place.Place.{Place}
 use Rattle.spx_core.specs.declared.expression.CoreExpr.{CoreExpr}
 use Rattle.spx_core.specs.declared.statement.CoreAlternative.{CoreAlternative, out-CoreAlternative}
 use Rattle.spx_core.specs.declared.statement.CoreArm.{CoreArm, out-CoreArm}
+use Rattle.spx_core.specs.declared.statement.CoreScheme.{CoreScheme}
+use Rattle.spx_core.specs.declared.statement.CoreScheme.TheVariants as scheme
 use Rattle.spx_core.specs.declared.statement.CoreStmt.{CoreStmt}
-use Rattle.spx_core.specs.Commands.{Command, Skip, Set, Then, Choose, Select, Assertion, While, Alternatives, Last, When, alternative, alternatives_of, arm_before, arms_before, command, commands, select}
+use Rattle.spx_core.specs.Commands.{Command, Skip, Set, Then, Choose, Select, Assertion, While, Alternatives, Last, When, alternative, alternatives_of, arm_before, arms_before, command, commands, loop_of, select}
 use Rattle.spx_vcg.proofs.BranchSteps.{here_is}
 use Rattle.spx_vcg.proofs.Forms.{Part, alternative_is, arm_is}
 
@@ -70,6 +72,9 @@ sizes_are first (second ∷ more) = let w = sizes_are second more in omega arith
 pub select_size : (place : Place) (selector : CoreExpr) (alternatives : List Part) → size (select place selector alternatives) ≡ 1 + sizes alternatives
 select_size place selector [] = refl
 select_size place selector (first ∷ more) = ap (λ n. 1 + n) (sizes_are first more)
+
+pub loop_size : (s : CoreScheme) (body : Command) → size (loop_of s body) ≡ 1 + size body
+loop_size (scheme.While place condition) body = refl
 
 -- what is done in an alternative
 pub alternative_smaller : (alternatives : List CoreAlternative) (i : ℕ) (d : CoreAlternative) → i < length alternatives → size (commands (out-CoreAlternative (get_or alternatives i d)).body) ≤ sizes (map alternative alternatives)

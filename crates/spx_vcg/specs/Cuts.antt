@@ -11,10 +11,11 @@ use Rattle.spx_term.specs.Steps.{Claim, Tree}
 use Rattle.spx_meaning.specs.Stores.{type_of}
 use Rattle.spx_paths.specs.Checks.{in_type}
 use Rattle.spx_paths.specs.Terms.{entry}
-use Rattle.spx_paths.specs.Walks.{cuts, ending, walk}
+use Rattle.spx_paths.specs.Walks.{cuts, ending}
 use Rattle.spx_arena.specs.Claims.{claims_at}
 use Rattle.spx_vcg.specs.declared.walk.Walk.{Walk}
 use Rattle.spx_vcg.specs.ConditionWalk.{forward}
+use Rattle.spx_vcg.specs.PathWalk.{to_end}
 use Rattle.spx_vcg.specs.WalkSteps.{Whole, claims_from}
 
 -- the claims of trees, where at the root of each no name has a value and nothing is known
@@ -25,10 +26,10 @@ claims_anew trees = flat_map (forward Variable []) trees
 abbrev pub claims_over : Walk → List Tree → List Claim
 claims_over w trees = claims_at w.terms w.facts.lists w.claims ++ claims_anew trees
 
--- the second walk is at the root of a tree, after the claims of the first
-pub record BeginsAnew (old new : Walk) : Type 0 where
+-- the second walk has come along these steps from the root of a tree, after the claims of the first
+pub record BeginsAnew (old new : Walk) (steps : Tree → Tree) : Type 0 where
   pub whole : Whole new
-  pub same : (tree : Tree) → claims_from new tree ≡ claims_at old.terms old.facts.lists old.claims ++ forward Variable [] tree
+  pub same : (rest : Tree) → claims_from new rest ≡ claims_at old.terms old.facts.lists old.claims ++ forward Variable [] (steps rest)
 
 -- the walk has come along the first trees, and the others are left
 pub record Leaves (old new : Walk) (all left : List Tree) : Type 0 where
@@ -37,7 +38,7 @@ pub record Leaves (old new : Walk) (all left : List Tree) : Type 0 where
 
 -- the trees from the cuts in a command, each along what follows the command
 abbrev pub cuts_in : Program → Sub → Command → Command → List Tree
-cuts_in p sub c following = cuts p sub c (walk p sub following (ending p sub) (ending p sub)) (ending p sub)
+cuts_in p sub c following = cuts p sub c (to_end p sub following) (ending p sub)
 
 -- those in alternatives
 abbrev pub cuts_among : Program → Sub → List (Option (List CoreChoice) × Command) → Command → List Tree

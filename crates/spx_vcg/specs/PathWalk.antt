@@ -4,19 +4,27 @@ use Rattle.spx_core.specs.declared.expression.CoreExpr.{CoreExpr}
 use Rattle.spx_core.specs.declared.program.Program.{Program}
 use Rattle.spx_core.specs.declared.subprogram.Sub.{Sub}
 use Rattle.spx_core.specs.declared.statement.CoreChoice.{CoreChoice}
-use Rattle.spx_core.specs.Commands.{Command, Then, alternatives_of}
+use Rattle.spx_core.specs.Commands.{Command, Then, alternatives_of, has_own_cut}
 use Rattle.spx_term.specs.declared.term.Term.{Term}
 use Rattle.spx_term.specs.declared.term.Term.TheVariants.{Prefix}
 use Rattle.spx_term.specs.declared.term.TermPrefix.TheVariants.{Not}
 use Rattle.spx_term.specs.Conjuncts.{conjuncts}
 use Rattle.spx_term.specs.Steps.{Tree, Assume, Cut, Split, assume_all, assume_parts}
 use Rattle.spx_paths.specs.Terms.{now_term, term_of}
-use Rattle.spx_paths.specs.Walks.{ending, walk, walk_for}
+use Rattle.spx_paths.specs.Walks.{as_far_as_cut, ending, walk, walk_for}
 use Rattle.spx_arena.specs.declared.terms.TermId.{TermId}
 use Rattle.spx_vcg.specs.declared.branches.Mark.{Mark}
 use Rattle.spx_vcg.specs.declared.walk.Walk.{Walk}
 use Rattle.spx_vcg.specs.ConditionWalk.{State, applied}
 use Rattle.spx_vcg.specs.WalkSteps.{state, Whole, OnlyAdds, claims_from, Goes, MeanAll, Means, Walks}
+
+-- the steps through a command and then to the end of the body
+abbrev pub to_end : Program → Sub → Command → ℕ → Tree
+to_end p sub c = walk p sub c (ending p sub) (ending p sub)
+
+-- the steps of a turn of a loop as far as its own cut, where this follows the loop
+abbrev pub turn_to_cut : Program → Sub → (body following : Command) → ℕ → Tree
+turn_to_cut p sub body following = as_far_as_cut (has_own_cut body) (walk p sub body (λ m. Cut) (to_end p sub following))
 
 -- the walk of this subprogram has come along a command that goes on
 pub record Passes (p : Program) (sub : Sub) (old new : Walk) (c : Command) : Type 0 where
@@ -28,36 +36,36 @@ pub record Passes (p : Program) (sub : Sub) (old new : Walk) (c : Command) : Typ
 pub record Comes (p : Program) (sub : Sub) (old new : Walk) (from to : Command) : Type 0 where
   pub whole : Whole new
   pub adds : OnlyAdds old new
-  pub same : (made : ℕ) → claims_from old (walk p sub from (ending p sub) (ending p sub) made) ≡ claims_from new (walk p sub to (ending p sub) (ending p sub) made)
+  pub same : (made : ℕ) → claims_from old (to_end p sub from made) ≡ claims_from new (to_end p sub to made)
 
 -- the claims from the first walk and command on, up to the end of each path, are those of the second walk
 pub record Ends (p : Program) (sub : Sub) (old new : Walk) (from : Command) : Type 0 where
   pub whole : Whole new
   pub adds : OnlyAdds old new
-  pub same : (made : ℕ) → claims_from old (walk p sub from (ending p sub) (ending p sub) made) ≡ claims_from new Cut
+  pub same : (made : ℕ) → claims_from old (to_end p sub from made) ≡ claims_from new Cut
 
 -- the walk has come from an arm to what is done where it is not taken
 abbrev pub PassesArm : Program → Sub → Walk → Walk → (Command → Command) → Command → Type 0
 PassesArm p sub old new arm following = (otherwise : Command) → Comes p sub old new (Then (arm otherwise) following) (Then otherwise following)
 
--- the claims under a condition are made, and values and facts are as they were
-pub record Takes (p : Program) (sub : Sub) (old new : Walk) (condition : CoreExpr) (c : Command) : Type 0 where
+-- the claims under a condition along a way are made, and values and facts are as they were
+pub record Takes (p : Program) (old new : Walk) (condition : CoreExpr) (way : ℕ → Tree) : Type 0 where
   pub whole : Whole new
   pub adds : OnlyAdds old new
   pub kept : state new ≡ state old
-  pub goes : (made : ℕ) → Walks old new (Split (assume_parts (term_of p (now_term p) condition) (walk p sub c (ending p sub) (ending p sub) made)))
+  pub goes : (made : ℕ) → Walks old new (Split (assume_parts (term_of p (now_term p) condition) (way made)))
 
 -- the claims under these facts are made, and values and facts are as they were
 pub record TakesUnder (p : Program) (sub : Sub) (old new : Walk) (facts : List TermId) (c : Command) : Type 0 where
   pub whole : Whole new
   pub adds : OnlyAdds old new
   pub kept : state new ≡ state old
-  pub goes : (ts : List Term) → MeanAll old facts ts → (made : ℕ) → Walks old new (Split (assume_all ts (walk p sub c (ending p sub) (ending p sub) made)))
+  pub goes : (ts : List Term) → MeanAll old facts ts → (made : ℕ) → Walks old new (Split (assume_all ts (to_end p sub c made)))
 
 -- the alternatives that are left for a value after earlier choices, each with what follows it; where none is left, nothing
 abbrev pub left_for : Program → Sub → Term → List Term → List (Option (List CoreChoice) × Command) → Command → ℕ → Tree
 left_for p sub t earlier [] following made = Cut
-left_for p sub t earlier (first ∷ more) following made = walk_for p sub t earlier (alternatives_of first more) (walk p sub following (ending p sub) (ending p sub)) (ending p sub) made
+left_for p sub t earlier (first ∷ more) following made = walk_for p sub t earlier (alternatives_of first more) (to_end p sub following) (ending p sub) made
 
 -- the claims of these alternatives are made, for what this id stands for
 pub record TakesEach (p : Program) (sub : Sub) (old new : Walk) (value : TermId) (alternatives : List (Option (List CoreChoice) × Command)) (following : Command) : Type 0 where

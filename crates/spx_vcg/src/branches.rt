@@ -1,12 +1,12 @@
 // The walk through statements to the end of each path. What paths have in common is walked once.
 ghost use Rattle.std.specs.Prelude.{◌≡◌, ◌<◌, length, map, IfOk, OnOk};
 ghost use Rattle.spx_text.specs.declared.place.Place.{Place};
-ghost use Rattle.spx_core.specs.Commands.{Then, alternative, arm_before, arms_before, commands, select};
+ghost use Rattle.spx_core.specs.Commands.{Then, alternative, arm_before, arms_before, commands, loop_of, select};
 ghost use Rattle.spx_term.specs.declared.term.Term.{Term};
 ghost use Rattle.spx_vcg.specs.Following.{after, done_otherwise};
 ghost use Rattle.spx_vcg.specs.WalkSteps.{Keeps, Means, Walks, Whole};
 ghost use Rattle.spx_arena.specs.Claims.{AreIds};
-ghost use Rattle.spx_vcg.specs.PathWalk.{Ends, Marks, IsBack, Takes, TakesEach, TakesUnder, negated, PassesArm};
+ghost use Rattle.spx_vcg.specs.PathWalk.{Ends, Marks, IsBack, Takes, TakesEach, TakesUnder, negated, PassesArm, to_end, turn_to_cut};
 
 use crate::choices::alternative_facts;
 use crate::entered::Entered;
@@ -15,7 +15,7 @@ use crate::steps::Body;
 use crate::values::Values;
 use crate::walk::Walk;
 use spx_arena::{FactsId, TermId};
-use spx_core::{CoreAlternative, CoreArm, CoreExpr, CoreStmt};
+use spx_core::{CoreAlternative, CoreArm, CoreExpr, CoreScheme, CoreStmt, has_own_cut};
 use spx_tree::AssertionKind;
 use sqlite_items::Items;
 use std::alloc::{AllocError, Global};
@@ -89,7 +89,7 @@ impl Walk {
         rest: &Rest,
     ) -> Result<(), AllocError>
         requires { Whole self.old }
-        ensures { OnOk result (Takes body.now.program.now body.now.sub.now self.old self.new condition.now (Then (commands stmts.now) (after rest.now))) }
+        ensures { OnOk result (Takes body.now.program.now self.old self.new condition.now (to_end body.now.program.now body.now.sub.now (Then (commands stmts.now) (after rest.now)))) }
     {
         let mark = self.mark()?;
         self.assume_parts(alloc, body.program, &Entered::Present, condition)?;
@@ -215,6 +215,51 @@ impl Walk {
         Ok(())
     }
 
+    /// A turn of a loop as far as the own cut of its body, where the condition is true. A body without one has a cut before it,
+    /// and no claim is made on the way there.
+    #[cycle(path)]
+    fn turn(
+        &mut self,
+        alloc: Global,
+        body: &Body,
+        condition: &CoreExpr,
+        stmts: &[CoreStmt],
+        rest: &Rest,
+    ) -> Result<(), AllocError>
+        requires { Whole self.old }
+        ensures { OnOk result (Takes body.now.program.now self.old self.new condition.now (turn_to_cut body.now.program.now body.now.sub.now (commands stmts.now) (after rest.now))) }
+    {
+        if has_own_cut(stmts) {
+            self.taken(alloc, body, condition, stmts, rest)?;
+            return Ok(());
+        }
+        Ok(())
+    }
+
+    /// The head of a loop: a turn where its condition is true, and what follows the loop where it is not.
+    #[cycle(path)]
+    fn head(
+        &mut self,
+        alloc: Global,
+        body: &Body,
+        scheme: &CoreScheme,
+        stmts: &[CoreStmt],
+        rest: &Rest,
+    ) -> Result<(), AllocError>
+        requires { Whole self.old }
+        ensures { OnOk result (Ends body.now.program.now body.now.sub.now self.old self.new (Then (loop_of scheme.now (commands stmts.now)) (after rest.now))) }
+    {
+        match scheme {
+            CoreScheme::While(_, condition) => {
+                let value = self.checked_id(alloc, body.program, &[], condition)?;
+                self.turn(alloc, body, condition, stmts, rest)?;
+                self.not_taken(value)?;
+                self.follow(alloc, body, rest)?;
+                Ok(())
+            }
+        }
+    }
+
     /// What follows, to the end of each path.
     #[cycle(path)]
     pub fn follow(&mut self, alloc: Global, body: &Body, rest: &Rest) -> Result<(), AllocError>
@@ -272,6 +317,12 @@ impl Walk {
                     let following = Rest::more(&stmts[at + 1..], &*rest);
                     let alternatives = alternatives.as_slice();
                     self.case(alloc, body, selector, alternatives, &following)?;
+                    return Ok(());
+                }
+                CoreStmt::Loop(scheme, _, repeated, _) => {
+                    let following = Rest::more(&stmts[at + 1..], &*rest);
+                    let repeated = repeated.as_slice();
+                    self.head(alloc, body, scheme, repeated, &following)?;
                     return Ok(());
                 }
             }

@@ -1,10 +1,13 @@
 // The walk from each cut of a body to the next ones, or to the end of the body.
-ghost use Rattle.std.specs.Prelude.{[], map, OnOk};
+ghost use Rattle.std.specs.Prelude.{[], ◌++◌, map, OnOk};
 ghost use Rattle.spx_tree.specs.declared.statement.AssertionKind.TheVariants.{Assert};
-ghost use Rattle.spx_core.specs.Commands.{Command, alternative, arm_before, arms_before, command, commands};
-ghost use Rattle.spx_paths.specs.Walks.{ending, noted_cut, walk};
+ghost use Rattle.spx_core.specs.Commands.{Command, Then, alternative, arm_before, arms_before, command, commands, has_own_cut};
+ghost use Rattle.spx_term.specs.Steps.{assume_all};
+ghost use Rattle.spx_paths.specs.Walks.{cut_facts, loop_cut, noted_cut};
 ghost use Rattle.spx_vcg.specs.Cuts.{BeginsAnew, Leaves, cuts_among, cuts_in};
+ghost use Rattle.spx_vcg.specs.EntryNames.{IsInterfaceOf};
 ghost use Rattle.spx_vcg.specs.Following.{after};
+ghost use Rattle.spx_vcg.specs.PathWalk.{to_end};
 ghost use Rattle.spx_vcg.specs.WalkSteps.{Whole};
 
 use crate::branches::Rest;
@@ -12,19 +15,37 @@ use crate::entered::{Entered, Interface};
 use crate::steps::Body;
 use crate::values::Values;
 use crate::walk::Walk;
-use spx_core::{CoreAlternative, CoreArm, CoreExpr, CoreStmt};
+use spx_core::{CoreAlternative, CoreArm, CoreExpr, CoreScheme, CoreStmt, has_own_cut};
+use spx_term::Value;
 use spx_tree::AssertionKind;
 use std::alloc::{AllocError, Global};
+use std::slice;
 
 impl Walk {
     /// No name has a value, and nothing is known. Terms, lists of facts and claims stay.
     fn begin_anew(&mut self, alloc: Global)
         requires { Whole self.old }
-        ensures { BeginsAnew self.old self.new }
+        ensures { BeginsAnew self.old self.new (λ tree. tree) }
     {
         self.values = Values::new(alloc);
         self.facts.present.truncate(0);
         self.facts.at = self.facts.lists.none();
+    }
+
+    /// After a cut no name has a value, and what is known after each cut is known.
+    fn after_cut(
+        &mut self,
+        alloc: Global,
+        body: &Body,
+        interface: &Interface,
+    ) -> Result<(), AllocError>
+        requires whole { Whole self.old }
+        requires interface { IsInterfaceOf body.now.sub.now interface.now }
+        ensures { OnOk result (BeginsAnew self.old self.new (assume_all (cut_facts body.now.program.now body.now.sub.now))) }
+    {
+        self.begin_anew(alloc);
+        self.assume_known(alloc, body, interface)?;
+        Ok(())
     }
 
     /// The paths from an `assert`, where it is known, along what follows it.
@@ -36,14 +57,36 @@ impl Walk {
         rest: &Rest,
     ) -> Result<(), AllocError>
         requires { Whole self.old }
-        ensures { OnOk result (Leaves self.old self.new (noted_cut body.now.program.now body.now.sub.now Assert condition.now (walk body.now.program.now body.now.sub.now (after rest.now) (ending body.now.program.now body.now.sub.now) (ending body.now.program.now body.now.sub.now) 0)) []) }
+        ensures { OnOk result (Leaves self.old self.new (noted_cut body.now.program.now body.now.sub.now Assert condition.now (to_end body.now.program.now body.now.sub.now (after rest.now) 0)) []) }
     {
         let interface = Interface::of(alloc, body.sub)?;
-        self.begin_anew(alloc);
-        self.assume_known(alloc, body, &interface)?;
+        self.after_cut(alloc, body, &interface)?;
         let entered = Entered::OnEntry(&interface);
         self.assume_parts(alloc, body.program, &entered, condition)?;
         self.follow(alloc, body, rest)?;
+        Ok(())
+    }
+
+    /// The paths from the cut before the body of a loop, along the body and then from the head of the loop on. A body with its
+    /// own cut has none before it.
+    fn from_loop_cut(
+        &mut self,
+        alloc: Global,
+        body: &Body,
+        stmts: &[CoreStmt],
+        again: &Rest,
+    ) -> Result<(), AllocError>
+        requires { Whole self.old }
+        ensures { OnOk result (Leaves self.old self.new (loop_cut body.now.program.now body.now.sub.now (has_own_cut (commands stmts.now)) (to_end body.now.program.now body.now.sub.now (Then (commands stmts.now) (after again.now)) 0)) []) }
+    {
+        if has_own_cut(stmts) {
+            return Ok(());
+        }
+        let interface = Interface::of(alloc, body.sub)?;
+        self.after_cut(alloc, body, &interface)?;
+        let truth = self.static_id(Value::Truth(true))?;
+        self.assume(truth)?;
+        self.path(alloc, body, stmts, again)?;
         Ok(())
     }
 
@@ -84,6 +127,23 @@ impl Walk {
         Ok(())
     }
 
+    /// The paths from the cuts in a loop, each along the body and then from the head of the loop on.
+    #[cycle(cuts)]
+    fn cuts_in_loop(
+        &mut self,
+        alloc: Global,
+        body: &Body,
+        stmts: &[CoreStmt],
+        again: &Rest,
+    ) -> Result<(), AllocError>
+        requires { Whole self.old }
+        ensures { OnOk result (Leaves self.old self.new (loop_cut body.now.program.now body.now.sub.now (has_own_cut (commands stmts.now)) (to_end body.now.program.now body.now.sub.now (Then (commands stmts.now) (after again.now)) 0) ++ cuts_in body.now.program.now body.now.sub.now (commands stmts.now) (after again.now)) []) }
+    {
+        self.from_loop_cut(alloc, body, stmts, again)?;
+        self.cuts(alloc, body, stmts, again)?;
+        Ok(())
+    }
+
     /// The paths from the cuts in a statement, each along what follows.
     #[cycle(cuts)]
     fn cuts_of(
@@ -120,6 +180,13 @@ impl Walk {
                 self.cuts_in_alternatives(alloc, body, alternatives.as_slice(), rest)?;
                 Ok(())
             }
+            CoreStmt::Loop(scheme, _, repeated, _) => match scheme {
+                CoreScheme::While(_, _) => {
+                    let again = Rest::more(slice::from_ref(stmt), &*rest);
+                    self.cuts_in_loop(alloc, body, repeated.as_slice(), &again)?;
+                    Ok(())
+                }
+            },
         }
     }
 

@@ -1,19 +1,21 @@
-use Rattle.std.proofs.Common.{◌+◌, ◌*◌, ◌<◌, ◌≤◌, List, ◌∷◌, drop, map, arith, rules, subst, sym, ap, ◌∙◌}
+use Rattle.std.proofs.Common.{◌+◌, ◌*◌, ◌<◌, ◌≤◌, List, [], ◌∷◌, drop, map, arith, rules, subst, sym, ap, ◌∙◌}
 use Rattle.std.proofs.lemmas.List.{take_rest}
 use Rattle.spx_core.specs.declared.statement.CoreAlternative.{CoreAlternative, out-CoreAlternative}
 use Rattle.spx_core.specs.declared.statement.CoreArm.{CoreArm, out-CoreArm}
 use Rattle.spx_core.specs.declared.statement.CoreStmt.{CoreStmt}
-use Rattle.spx_core.specs.Commands.{Then, alternative, arm_before, arms_before, commands, select}
+use Rattle.spx_core.specs.Commands.{Then, alternative, arm_before, arms_before, commands, loop_of, select}
 use Rattle.spx_vcg.specs.Following.{after}
 use Rattle.spx_arena.proofs.Ids.{wider_ids}
 use Rattle.spx_arena.specs.Claims.{AreIds}
 use Rattle.spx_vcg.specs.ConditionWalk.{State, applied}
-use Rattle.spx_vcg.specs.PathWalk.{Ends, Takes}
+use Rattle.spx_vcg.specs.PathWalk.{Ends, Takes, to_end, turn_to_cut}
+use Rattle.spx_vcg.specs.WalkSteps.{Evaluates}
 use Rattle.spx_vcg.proofs.BranchSteps.{after_arm, after_assert, after_branch, after_check, after_null, after_set, after_taken, at_end, comes_ends, last_arm, next_arm}
 use Rattle.spx_vcg.proofs.CheckSteps.{only_at}
 use Rattle.spx_vcg.proofs.ChoiceSteps.{after_case, after_under, here_alternative, next_alternative, no_case}
-use Rattle.spx_vcg.proofs.Forms.{arm_is, assertion_is, assignment_is, case_is, follows_is, if_is, nothing_follows, null_is}
-use Rattle.spx_vcg.proofs.Remaining.{alternative_smaller, body_smaller, branch_smaller, follow_smaller, follows_smaller, left, otherwise_smaller, select_size, size, sizes}
+use Rattle.spx_vcg.proofs.Forms.{arm_is, assertion_is, assignment_is, case_is, follows_is, if_is, loop_is, nothing_follows, null_is, scheme_is}
+use Rattle.spx_vcg.proofs.LoopSteps.{after_head, after_turn, no_turn}
+use Rattle.spx_vcg.proofs.Remaining.{alternative_smaller, body_smaller, branch_smaller, follow_smaller, follows_smaller, left, loop_size, otherwise_smaller, select_size, size, sizes}
 use Rattle.spx_vcg.proofs.SharedSteps.{adds_twice, only_keeps, state_same}
 use Rattle.spx_vcg.proofs.walk.Walk.+path.Goals as goal
 
@@ -25,7 +27,7 @@ pub arm-returns : goal.arm-returns
 arm-returns t c =
     let arm = out-CoreArm c.args.arm.now in
     after_arm arm.condition (commands arm.body) (after c.args.rest.now) c.in_ok-condition.ensures.keeps c.in_ok-condition.ensures.within c.in_ok-condition.ensures.makes
-    (subst (λ (ss : List CoreStmt). Takes c.args.body.now.program.now c.args.body.now.sub.now c.checked_id.new.self c.taken.new.self arm.condition (Then (commands ss) (after c.args.rest.now))) c.as_slice.ensures c.in_ok-taken.ensures)
+    (subst (λ (ss : List CoreStmt). Takes c.args.body.now.program.now c.checked_id.new.self c.taken.new.self arm.condition (to_end c.args.body.now.program.now c.args.body.now.sub.now (Then (commands ss) (after c.args.rest.now)))) c.as_slice.ensures c.in_ok-taken.ensures)
     c.in_ok-not_taken.ensures.keeps c.in_ok-not_taken.ensures.walks (arm_before c.args.arm.now) arm.place (arm_is c.args.arm.now)
 
 pub arms-arm-requires : goal.arms-arm-requires
@@ -106,6 +108,26 @@ path-returns-in-Case t c =
     (case_is _ c.in-Case.field-0 c.in-Case.selector c.in-Case.alternatives c.in-Case.field-3 c.in-Case.is _ c.as_slice-alternatives.ensures)
     (c.more-following-in-Case.ensures ∙ ap (λ (ss : List CoreStmt). Then (commands ss) (after c.args.rest.now)) (take_rest c.args.stmts.now (c.loop-at.at + 1))) (c.in_ok-case-in-Case.ensures c.in-Case.field-0)
 
+pub path-head-requires : goal.path-head-requires
+path-head-requires t c =
+    let ss = c.as_slice-repeated.result.now in
+    let d = loop_of c.in-Loop.scheme (commands ss) in
+    let more = after c.more-following-in-Loop.result in
+    let below : 4 * (size d + left more) + 3 < 4 * (size (commands c.args.stmts.now) + left (after c.args.rest.now)) =
+    branch_smaller c.args.stmts.now c.loop-at.at c.index-stmts-at.result c.loop-at-test.true c.index-stmts-at.is d (after c.args.rest.now) more
+    (loop_is _ c.in-Loop.scheme c.in-Loop.field-1 c.in-Loop.repeated c.in-Loop.field-3 c.in-Loop.is ss c.as_slice-repeated.ensures)
+    (c.more-following-in-Loop.ensures ∙ ap (λ (ss : List CoreStmt). Then (commands ss) (after c.args.rest.now)) (take_rest c.args.stmts.now (c.loop-at.at + 1))) in
+    let e = loop_size c.in-Loop.scheme (commands ss) in
+    let falls : 4 * (1 + size (commands ss) + left more) + 3 < 4 * (size (commands c.args.stmts.now) + left (after c.args.rest.now)) = omega arith in
+    (search rules, c.loop-at.invariant.whole)
+
+pub path-returns-in-Loop : goal.path-returns-in-Loop
+path-returns-in-Loop t c =
+    after_branch (Then (commands c.args.stmts.now) (after c.args.rest.now)) (after c.args.rest.now) c.args.stmts.now c.loop-at.at c.index-stmts-at.result c.loop-at-test.true c.index-stmts-at.is c.loop-at.invariant
+    (loop_of c.in-Loop.scheme (commands c.as_slice-repeated.result.now)) (after c.more-following-in-Loop.result)
+    (loop_is _ c.in-Loop.scheme c.in-Loop.field-1 c.in-Loop.repeated c.in-Loop.field-3 c.in-Loop.is _ c.as_slice-repeated.ensures)
+    (c.more-following-in-Loop.ensures ∙ ap (λ (ss : List CoreStmt). Then (commands ss) (after c.args.rest.now)) (take_rest c.args.stmts.now (c.loop-at.at + 1))) c.in_ok-head-in-Loop.ensures
+
 pub path-follow-requires : goal.path-follow-requires
 path-follow-requires t c =
     let falls : 4 * left (after c.args.rest.now) + 1 < 4 * (size (commands c.args.stmts.now) + left (after c.args.rest.now)) = follow_smaller (commands c.args.stmts.now) (after c.args.rest.now) in
@@ -133,6 +155,23 @@ case-returns-then-is_empty t c = no_case c.args.selector.now c.args.alternatives
 pub case-returns : goal.case-returns
 case-returns t c =
     after_case c.args.selector.now c.args.alternatives.now (after c.args.rest.now) (sym c.is_empty.ensures ∙ c.if-is_empty.false) c.in_ok-value.ensures.keeps c.in_ok-value.ensures.makes c.in_ok-alternatives.ensures
+
+pub turn-returns-then-has_own_cut : goal.turn-returns-then-has_own_cut
+turn-returns-then-has_own_cut t c = after_turn c.args.body.now.sub.now (commands c.args.stmts.now) (after c.args.rest.now) (sym c.has_own_cut.ensures ∙ c.if-has_own_cut.true) c.in_ok-taken.ensures
+
+pub turn-returns : goal.turn-returns
+turn-returns t c = no_turn c.args.body.now.sub.now c.args.condition.now (commands c.args.stmts.now) (after c.args.rest.now) (sym c.has_own_cut.ensures ∙ c.if-has_own_cut.false) c.requires
+
+pub head-returns : goal.head-returns
+head-returns t c =
+    let p = c.args.body.now.program.now in
+    let sub = c.args.body.now.sub.now in
+    let turns = commands c.args.stmts.now in
+    let following = after c.args.rest.now in
+    let while = scheme_is c.args.scheme.now in
+    let makes : Evaluates p [] c.args.self.now c.checked_id.new.self while.1 c.in_ok-value.value = rw while.2 at c.in_ok-value.ensures.makes in
+    let turn : Takes p c.checked_id.new.self c.turn.new.self while.1 (turn_to_cut p sub turns following) = rw while.2 at c.in_ok-turn.ensures in
+    after_head while.1 turns following c.in_ok-value.ensures.keeps c.in_ok-value.ensures.within makes turn c.in_ok-not_taken.ensures.keeps c.in_ok-not_taken.ensures.walks c.in_ok-follow.ensures c.args.scheme.now while.0 while.2
 
 pub alternative-returns : goal.alternative-returns
 alternative-returns t c =

@@ -31,6 +31,12 @@ decreases-alternatives l = 4 * (sizes (map alternative l.alternatives.now) + lef
 abbrev pub decreases-case : goal.decreases-case
 decreases-case l = 4 * (1 + sizes (map alternative l.alternatives.now) + left (after l.rest.now)) + 3
 
+abbrev pub decreases-turn : goal.decreases-turn
+decreases-turn l = 4 * (size (commands l.stmts.now) + left (after l.rest.now)) + 2
+
+abbrev pub decreases-head : goal.decreases-head
+decreases-head l = 4 * (1 + size (commands l.stmts.now) + left (after l.rest.now)) + 3
+
 abbrev pub decreases-follow : goal.decreases-follow
 decreases-follow l = 4 * left (after l.rest.now) + 1
 

@@ -1,6 +1,7 @@
 use Rattle.std.proofs.Common.{subst}
+use Rattle.spx_term.specs.Conjuncts.{conjuncts}
 use Rattle.spx_term.specs.Steps.{assume_parts}
-use Rattle.spx_paths.specs.Terms.{term_of}
+use Rattle.spx_paths.specs.Terms.{entry_term, term_of}
 use Rattle.spx_vcg.specs.Following.{after}
 use Rattle.spx_vcg.specs.WalkSteps.{Walks}
 use Rattle.spx_vcg.proofs.CutSteps.{after_cut}
@@ -13,5 +14,5 @@ returns c =
     let sub = c.args.body.now.sub.now in
     let e = c.args.condition.now in
     let at = entry_terms p sub c.in_ok-interface.interface c.in_ok-interface.ensures in
-    let shown = subst (λ entries. Walks c.assume_known.new.self c.assume_parts.new.self (assume_parts (term_of p entries e))) at c.in_ok-assume_parts.ensures.walks in
-    after_cut p sub e (after c.args.rest.now) c.begin_anew.ensures c.in_ok-assume_known.ensures shown c.in_ok-follow.ensures
+    let shown = subst (λ entries. Walks c.after_cut.new.self c.assume_parts.new.self (assume_parts (term_of p entries e))) at c.in_ok-assume_parts.ensures.walks in
+    after_cut p sub (conjuncts (term_of p (entry_term p sub) e)) (after c.args.rest.now) c.in_ok-after_cut.ensures shown c.in_ok-follow.ensures
