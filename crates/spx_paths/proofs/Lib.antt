@@ -5,3 +5,4 @@ pub mod CheckLaws
 pub mod ArriveLaws
 pub mod CutLaws
 pub mod LoopLaws
+pub mod CutOff

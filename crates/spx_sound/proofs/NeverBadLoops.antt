@@ -1,8 +1,7 @@
 -- Annotations among statements, and loops: where the tree from each cut is safe at every valuation, a path that ends at a cut goes on from there.
-use Rattle.std.proofs.Common.{◌≡◌, ℕ, zero, suc, ℤ, Bool, true, false, not, ◌&&◌, if◌then◌else◌, List, [], ◌∷◌, ◌++◌, Option, Some, None, Ok, refl, sym, ◌∙◌, subst, inl, inr, int_le, arith}
+use Rattle.std.proofs.Common.{◌≡◌, ℕ, zero, suc, ℤ, Bool, true, false, not, ◌&&◌, if◌then◌else◌, List, [], ◌∷◌, ◌++◌, Option, Some, None, Ok, refl, sym, ◌∙◌, subst, int_le, arith}
 use Rattle.std.specs.Prelude.{All, slice_get}
 use Rattle.std.specs.List.{AllByRecursion, flat_map}
-use Rattle.std.proofs.lemmas.Bool.{or_cases}
 use Rattle.std.proofs.lemmas.Int.{ints}
 use Rattle.std.proofs.lemmas.List.Elements.{recursion_from_All}
 use Rattle.spx_text.specs.declared.place.Place.{Place}
@@ -12,7 +11,6 @@ use Rattle.spx_core.specs.declared.entity.Class.{Class}
 use Rattle.spx_core.specs.declared.entity.Class.TheVariants as class
 use Rattle.spx_core.specs.declared.entity.VarId.{VarId}
 use Rattle.spx_core.specs.declared.program.Program.{Program}
-use Rattle.spx_core.specs.declared.subprogram.Sub.{Sub}
 use Rattle.spx_core.specs.declared.expression.CoreExpr.{CoreExpr}
 use Rattle.spx_core.specs.Dependency.{exports, imports}
 use Rattle.spx_core.specs.Effects.{effect}
@@ -20,7 +18,7 @@ use Rattle.spx_core.specs.Reads.{names_read}
 use Rattle.spx_core.specs.declared.program.TypeRow.{TypeRow}
 use Rattle.spx_core.specs.declared.program.Var.{Var}
 use Rattle.spx_core.specs.declared.subprogram.CorePredicate.{CorePredicate}
-use Rattle.spx_core.specs.Commands.{Command, Skip, Set, Then, Choose, Select, Assertion, While, has_own_cut, is_assert}
+use Rattle.spx_core.specs.Commands.{Command, Assertion, While, has_own_cut}
 use Rattle.spx_core.specs.Formals.{formals, locals}
 use Rattle.spx_core.specs.Scopes.{AreAsDeclared, IsAsDeclared, TypesHaveValues}
 use Rattle.spx_core.specs.Statements.{test}
@@ -43,6 +41,7 @@ use Rattle.spx_meaning.specs.Runs.{Outcome, Ended, Later, after_turn, demand, pr
 use Rattle.spx_paths.specs.Terms.{now_term, entry, entry_term, term_of}
 use Rattle.spx_paths.specs.Checks.{in_type}
 use Rattle.spx_paths.specs.Walks.{as_far_as_cut, cut_facts, cuts, entry_facts, from_cut, loop_cut, pre_facts_on_entry, tested, var_facts, walk}
+use Rattle.spx_paths.proofs.CutOff.{cut_off}
 use Rattle.spx_sound.proofs.Typings.{IsTyped, loop_typed, test_typed}
 use Rattle.spx_sound.proofs.NeverBadTrees.{AllHold, AllSafe, assumed, each_flat_map, Safe}
 use Rattle.spx_sound.proofs.NeverBadRuns.{IsUnset, Good, good_after, good_use, good_if}
@@ -167,32 +166,6 @@ tested_good f n e holds fails made s v first second P L typed declared fits safe
     (λ is. other (more.1 (fold-Prefix (value_step v) Not t ∙ false_holds w is))))
 
 -- ---- loops
-
-module _ (p : Program) (sub : Sub) where
-  -- a path ends at an `assert`, whatever comes after it
-  assert_ends : (c : Command) → is_assert c ≡ true → (rest other leave : ℕ → Tree) (made : ℕ) → walk p sub c rest leave made ≡ walk p sub c other leave made
-  assert_ends Skip is rest other leave made = absurd (cc)
-  assert_ends (Set target e) is rest other leave made = absurd (cc)
-  assert_ends (Then a b) is rest other leave made = absurd (cc)
-  assert_ends (Choose place e a b) is rest other leave made = absurd (cc)
-  assert_ends (Select place selector alternatives) is rest other leave made = absurd (cc)
-  assert_ends (Assertion assertion.Assert place e) is rest other leave made = refl
-  assert_ends (Assertion assertion.Check place e) is rest other leave made = absurd (cc)
-  assert_ends (While place e body) is rest other leave made = absurd (cc)
-
-  -- so does one that comes to the own cut of a body
-  cut_off : (c : Command) → has_own_cut c ≡ true → (rest other leave : ℕ → Tree) (made : ℕ) → walk p sub c rest leave made ≡ walk p sub c other leave made
-  cut_off Skip own rest other leave made = absurd (cc)
-  cut_off (Set target e) own rest other leave made = absurd (cc)
-  cut_off (Then a b) own rest other leave made =
-      elim (or_cases (is_assert a) (has_own_cut b) own) [
-        | inl first ↦ assert_ends a first (walk p sub b rest leave) (walk p sub b other leave) leave made
-        | inr later ↦ λ i. walk p sub a (λ m. cut_off b later rest other leave m i) leave made
-      ]
-  cut_off (Choose place e a b) own rest other leave made = absurd (cc)
-  cut_off (Select place selector alternatives) own rest other leave made = absurd (cc)
-  cut_off (Assertion kind place e) own rest other leave made = absurd (cc)
-  cut_off (While place e body) own rest other leave made = absurd (cc)
 
 module _ (f : Frame) (began : Began f) (place : Place) (e : CoreExpr) (body : Command) (rest leave : ℕ → Tree) where
   abbrev loop : Command

@@ -1,46 +1,20 @@
--- After the own cut of a body nothing matters, and no command leaves the loop around it.
-use Rattle.std.proofs.Common.{◌≡◌, ℕ, true, List, [], ◌++◌, refl, sym, ap, ◌∙◌, inl, inr}
-use Rattle.std.proofs.lemmas.Bool.{or_cases}
-use Rattle.spx_tree.specs.declared.statement.AssertionKind.TheVariants as assertion
+-- What follows a loop does not matter to a turn that comes to its own cut, and no command leaves the loop around it.
+use Rattle.std.proofs.Common.{◌≡◌, ℕ, true, List, [], ◌++◌, refl, sym, ap, ◌∙◌}
 use Rattle.spx_core.specs.declared.program.Program.{Program}
 use Rattle.spx_core.specs.declared.statement.CoreScheme.{CoreScheme}
 use Rattle.spx_core.specs.declared.statement.CoreScheme.TheVariants as scheme
 use Rattle.spx_core.specs.declared.subprogram.Sub.{Sub}
-use Rattle.spx_core.specs.Commands.{Command, Skip, Set, Then, Choose, Select, Assertion, While, Alternatives, Last, When, has_own_cut, is_assert, loop_of}
+use Rattle.spx_core.specs.Commands.{Command, Skip, Set, Then, Choose, Select, Assertion, While, Alternatives, Last, When, has_own_cut, loop_of}
 use Rattle.spx_term.specs.declared.term.Term.{Term}
 use Rattle.spx_term.specs.Steps.{Tree, Cut, Split, assume_all}
 use Rattle.spx_paths.specs.Checks.{checks}
 use Rattle.spx_paths.specs.Terms.{now_term, term_of}
 use Rattle.spx_paths.specs.Walks.{alternative_facts, and_these, as_far_as_cut, cuts, cuts_for, ending, loop_cut, tested, walk, walk_for}
+use Rattle.spx_paths.proofs.CutOff.{cut_off}
 use Rattle.spx_vcg.specs.Cuts.{cuts_in}
 use Rattle.spx_vcg.specs.PathWalk.{to_end, turn_to_cut}
 
 module _ (p : Program) (sub : Sub) where
-  -- a path ends at an `assert`, whatever comes after it
-  assert_ends : (c : Command) → is_assert c ≡ true → (rest other leave : ℕ → Tree) (made : ℕ) → walk p sub c rest leave made ≡ walk p sub c other leave made
-  assert_ends Skip is rest other leave made = absurd (cc)
-  assert_ends (Set target e) is rest other leave made = absurd (cc)
-  assert_ends (Then a b) is rest other leave made = absurd (cc)
-  assert_ends (Choose place e a b) is rest other leave made = absurd (cc)
-  assert_ends (Select place selector alternatives) is rest other leave made = absurd (cc)
-  assert_ends (Assertion assertion.Assert place e) is rest other leave made = refl
-  assert_ends (Assertion assertion.Check place e) is rest other leave made = absurd (cc)
-  assert_ends (While place e body) is rest other leave made = absurd (cc)
-
-  -- so does one that comes to the own cut of a body
-  cut_off : (c : Command) → has_own_cut c ≡ true → (rest other leave : ℕ → Tree) (made : ℕ) → walk p sub c rest leave made ≡ walk p sub c other leave made
-  cut_off Skip own rest other leave made = absurd (cc)
-  cut_off (Set target e) own rest other leave made = absurd (cc)
-  cut_off (Then a b) own rest other leave made =
-      elim (or_cases (is_assert a) (has_own_cut b) own) [
-        | inl first ↦ assert_ends a first (walk p sub b rest leave) (walk p sub b other leave) leave made
-        | inr later ↦ λ i. walk p sub a (λ m. cut_off b later rest other leave m i) leave made
-      ]
-  cut_off (Choose place e a b) own rest other leave made = absurd (cc)
-  cut_off (Select place selector alternatives) own rest other leave made = absurd (cc)
-  cut_off (Assertion kind place e) own rest other leave made = absurd (cc)
-  cut_off (While place e body) own rest other leave made = absurd (cc)
-
   -- what follows the loop around a command does not matter
   mutual
     leaves_not : (c : Command) (rest leave other : ℕ → Tree) → walk p sub c rest leave ≡ walk p sub c rest other
@@ -77,7 +51,7 @@ module _ (p : Program) (sub : Sub) where
   -- the tree of a turn that comes to its own cut
   pub own_turn : (body following : Command) → has_own_cut body ≡ true → to_end p sub (Then body following) ≡ turn_to_cut p sub body following
   own_turn body following own =
-      (λ i made. cut_off body own (to_end p sub following) (λ m. Cut) (ending p sub) made i)
+      (λ i made. cut_off p sub body own (to_end p sub following) (λ m. Cut) (ending p sub) made i)
       ∙ leaves_not body (λ m. Cut) (ending p sub) (to_end p sub following)
       ∙ ap (λ b. as_far_as_cut b (walk p sub body (λ m. Cut) (to_end p sub following))) (sym own)
 
