@@ -9,7 +9,7 @@ use Rattle.spx_tree.specs.declared.expression.Expr.TheVariants as written_expr
 use Rattle.spx_tree.specs.declared.statement.AssertionKind.{AssertionKind}
 use Rattle.spx_tree.specs.declared.statement.AssertionKind.TheVariants as assertion
 use Rattle.spx_tree.specs.declared.statement.Stmt.{Stmt-F, out-Stmt}
-use Rattle.spx_tree.specs.declared.statement.Stmt.TheVariants.{outs-Assignment, outs-Assertion}
+use Rattle.spx_tree.specs.declared.statement.Stmt.TheVariants.{outs-Assertion}
 use Rattle.spx_tree.specs.Lexemes.{unreserved, kind_of_word, code_delimiters, annotation_delimiters, delimiters}
 use Rattle.spx_tree.specs.Places.{place_after_bytes}
 use Rattle.spx_tree.specs.Spells.{Spells}
@@ -29,38 +29,31 @@ use Rattle.spx_examples.specs.Assertions.{is_next, is_positive, post_on, program
 use Rattle.spx_examples.specs.AssertionText.{assert_bytes, assert_tokens, assert_units, asserted_bytes, asserted_tokens, asserted_units, next_written, noted_sub, noted_written, positive_written, tokens_with, units_with}
 use Rattle.spx_examples.specs.Increment.{place, word, x_written, successor_written, step_written, relation, x_at}
 use Rattle.spx_examples.proofs.IncrementNames.{regions, x_denotes}
+use Rattle.spx_examples.proofs.IncrementText.{heading, derives, opening, step, ending, step_is, step_written_as}
 use Rattle.spx_examples.proofs.Resolving.{resolved_assertion, resolved_step, resolved_x}
 use Rattle.spx_examples.proofs.Spelling.{Piece, Word, Digits, Delimiter, Space, Head, LineEnd, spelled_by}
 
 -- ---- its tokens
 
--- `procedure Inc (X : in out Integer)`
-abbrev heading : List Piece
-heading = Word (codes "procedure") ∷ Space ∷ Word (codes "Inc") ∷ Space ∷ Delimiter (codes "(") ∷ Word (codes "X") ∷ Space ∷ Delimiter (codes ":") ∷ Space ∷ Word (codes "in") ∷ Space ∷ Word (codes "out") ∷ Space ∷ Word (codes "Integer") ∷ Delimiter (codes ")") ∷ LineEnd ∷ []
-
--- `--# derives X from X;`
-abbrev derives : List Piece
-derives = Head ∷ Space ∷ Word (codes "derives") ∷ Space ∷ Word (codes "X") ∷ Space ∷ Word (codes "from") ∷ Space ∷ Word (codes "X") ∷ Delimiter (codes ";") ∷ LineEnd ∷ []
-
 -- `--# post X = X~ + 1;`
 abbrev post : List Piece
 post = Head ∷ Space ∷ Word (codes "post") ∷ Space ∷ Word (codes "X") ∷ Space ∷ Delimiter (codes "=") ∷ Space ∷ Word (codes "X") ∷ Delimiter (codes "~") ∷ Space ∷ Delimiter (codes "+") ∷ Space ∷ Digits (codes "1") ∷ Delimiter (codes ";") ∷ LineEnd ∷ []
 
--- the body
-abbrev body : List Piece
-body = Word (codes "is") ∷ LineEnd ∷ Word (codes "begin") ∷ LineEnd ∷ Space ∷ Space ∷ Space ∷ Word (codes "X") ∷ Space ∷ Delimiter (codes ":=") ∷ Space ∷ Word (codes "X") ∷ Space ∷ Delimiter (codes "+") ∷ Space ∷ Digits (codes "1") ∷ Delimiter (codes ";") ∷ LineEnd ∷ []
+-- this word and `X > 0;`
+abbrev noted : List ℕ → List Piece
+noted word = Space ∷ Space ∷ Space ∷ Head ∷ Space ∷ Word word ∷ Space ∷ Word (codes "X") ∷ Space ∷ Delimiter (codes ">") ∷ Space ∷ Digits (codes "0") ∷ Delimiter (codes ";") ∷ LineEnd ∷ []
 
--- this word, `X > 0;` and the end
-abbrev last : List ℕ → List Piece
-last word = Space ∷ Space ∷ Space ∷ Head ∷ Space ∷ Word word ∷ Space ∷ Word (codes "X") ∷ Space ∷ Delimiter (codes ">") ∷ Space ∷ Digits (codes "0") ∷ Delimiter (codes ";") ∷ LineEnd ∷ Word (codes "end") ∷ Space ∷ Word (codes "Inc") ∷ Delimiter (codes ";") ∷ LineEnd ∷ []
+-- the whole text
+abbrev pieces_with : List ℕ → List Piece
+pieces_with word = heading ++ derives ++ post ++ opening ++ step ++ noted word ++ ending
 
 pub spelled : Spells 0 asserted_bytes asserted_tokens
 unfolding unreserved kind_of_word delimiters code_delimiters annotation_delimiters place_after_bytes
-spelled = spelled_by (heading ++ derives ++ post ++ body ++ last (codes "check")) refl refl refl
+spelled = spelled_by (pieces_with (codes "check")) refl refl refl
 
 pub assert_spelled : Spells 0 assert_bytes (tokens_with assert_tokens)
 unfolding unreserved kind_of_word delimiters code_delimiters annotation_delimiters place_after_bytes
-assert_spelled = spelled_by (heading ++ derives ++ post ++ body ++ last (codes "assert")) refl refl refl
+assert_spelled = spelled_by (pieces_with (codes "assert")) refl refl refl
 
 -- ---- its tree
 
@@ -76,14 +69,8 @@ sum : IsExpr 2 (successor_written 6 9)
 unfolding hidden-the_row-Expr-0 hidden
 sum = record { low = omega arith; layered = (tt, tt, omega arith, omega arith); of_layer = omega arith }
 
-step_is : out-Stmt step_written ≡ Stmt-F.Assignment (x_written 6 4) (successor_written 6 9)
-step_is = outs-Assignment (x_written 6 4) (successor_written 6 9)
-
 step_stmt : IsStmt 2 step_written
-step_stmt = subst (IsFormed 2 (Within 2)) (sym step_is) sum
-
-step_written_as : written_stmt step_written ≡ written_level (Stmt-F.Assignment (x_written 6 4) (successor_written 6 9))
-step_written_as = spelled_stmt step_written ∙ ap written_level step_is
+step_stmt = subst (IsFormed 2 (Within 2)) (sym (step_is 6 4 9)) sum
 
 module _ (kind : AssertionKind) (column : ℕ) where
   noted_is : out-Stmt (noted_written kind column) ≡ Stmt-F.Assertion kind (place 7 8) (positive_written column)
@@ -100,11 +87,11 @@ module _ (kind : AssertionKind) (column : ℕ) where
 
 pub as_written : written asserted_units ≡ forms_of asserted_bytes asserted_tokens
 unfolding hidden-the_row-Expr-0 hidden
-as_written = rw step_written_as (rw (noted_written_as assertion.Check 14) refl)
+as_written = rw (step_written_as 6 4 9) (rw (noted_written_as assertion.Check 14) refl)
 
 pub assert_as_written : written assert_units ≡ forms_of assert_bytes (tokens_with assert_tokens)
 unfolding hidden-the_row-Expr-0 hidden
-assert_as_written = rw step_written_as (rw (noted_written_as assertion.Assert 15) refl)
+assert_as_written = rw (step_written_as 6 4 9) (rw (noted_written_as assertion.Assert 15) refl)
 
 -- ---- its program
 

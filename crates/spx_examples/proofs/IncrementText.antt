@@ -4,7 +4,7 @@ use Rattle.std.specs.Prelude.{codes}
 use denote.Hole.Carrier.{hidden}
 use Rattle.spx_tree.specs.declared.expression.Expr.TheBlock.{hidden-the_row-Expr-0}
 use Rattle.spx_tree.specs.declared.statement.Stmt.{Stmt-F, out-Stmt}
-use Rattle.spx_tree.specs.declared.statement.Stmt.TheVariants.{outs-Assignment}
+use Rattle.spx_tree.specs.declared.statement.Stmt.TheVariants.{Assignment, outs-Assignment}
 use Rattle.spx_tree.specs.Lexemes.{unreserved, kind_of_word, code_delimiters, annotation_delimiters, delimiters}
 use Rattle.spx_tree.specs.Places.{place_after_bytes}
 use Rattle.spx_tree.specs.Spells.{Spells}
@@ -19,13 +19,13 @@ use Rattle.spx_examples.proofs.Spelling.{Piece, Word, Digits, Delimiter, Space, 
 -- ---- its tokens
 
 -- `procedure Inc (X : in out Integer)`
-abbrev heading : List Piece
+abbrev pub heading : List Piece
 heading =
     Word (codes "procedure") ∷ Space ∷ Word (codes "Inc") ∷ Space ∷ Delimiter (codes "(") ∷ Word (codes "X") ∷ Space ∷ Delimiter (codes ":") ∷ Space
     ∷ Word (codes "in") ∷ Space ∷ Word (codes "out") ∷ Space ∷ Word (codes "Integer") ∷ Delimiter (codes ")") ∷ LineEnd ∷ []
 
 -- `--# derives X from X;`
-abbrev derives : List Piece
+abbrev pub derives : List Piece
 derives = Head ∷ Space ∷ Word (codes "derives") ∷ Space ∷ Word (codes "X") ∷ Space ∷ Word (codes "from") ∷ Space ∷ Word (codes "X") ∷ Delimiter (codes ";") ∷ LineEnd ∷ []
 
 -- `--# pre X < Integer'Last;`
@@ -34,17 +34,21 @@ pre =
     Head ∷ Space ∷ Word (codes "pre") ∷ Space ∷ Word (codes "X") ∷ Space ∷ Delimiter (codes "<") ∷ Space
     ∷ Word (codes "Integer") ∷ Delimiter (codes "'") ∷ Word (codes "Last") ∷ Delimiter (codes ";") ∷ LineEnd ∷ []
 
--- the body
-abbrev body : List Piece
-body =
-    Word (codes "is") ∷ LineEnd
-    ∷ Word (codes "begin") ∷ LineEnd
-    ∷ Space ∷ Space ∷ Space ∷ Word (codes "X") ∷ Space ∷ Delimiter (codes ":=") ∷ Space ∷ Word (codes "X") ∷ Space ∷ Delimiter (codes "+") ∷ Space ∷ Digits (codes "1") ∷ Delimiter (codes ";") ∷ LineEnd
-    ∷ Word (codes "end") ∷ Space ∷ Word (codes "Inc") ∷ Delimiter (codes ";") ∷ LineEnd ∷ []
+-- `is` and `begin`, and the spaces before what comes next
+abbrev pub opening : List Piece
+opening = Word (codes "is") ∷ LineEnd ∷ Word (codes "begin") ∷ LineEnd ∷ Space ∷ Space ∷ Space ∷ []
+
+-- `X := X + 1;`
+abbrev pub step : List Piece
+step = Word (codes "X") ∷ Space ∷ Delimiter (codes ":=") ∷ Space ∷ Word (codes "X") ∷ Space ∷ Delimiter (codes "+") ∷ Space ∷ Digits (codes "1") ∷ Delimiter (codes ";") ∷ LineEnd ∷ []
+
+-- `end Inc;`
+abbrev pub ending : List Piece
+ending = Word (codes "end") ∷ Space ∷ Word (codes "Inc") ∷ Delimiter (codes ";") ∷ LineEnd ∷ []
 
 pub spelled : Spells 0 inc_bytes inc_tokens
 unfolding unreserved kind_of_word delimiters code_delimiters annotation_delimiters place_after_bytes
-spelled = spelled_by (heading ++ derives ++ pre ++ body) refl refl refl
+spelled = spelled_by (heading ++ derives ++ pre ++ opening ++ step ++ ending) refl refl refl
 
 -- ---- its tree
 
@@ -56,11 +60,16 @@ pub sum_expr : (line column : ℕ) → IsExpr 1 (successor_written line column)
 unfolding hidden-the_row-Expr-0 hidden
 sum_expr line column = record { low = omega arith; layered = (tt, tt, omega arith, omega arith); of_layer = omega arith }
 
-step_is : out-Stmt step_written ≡ Stmt-F.Assignment (x_written 6 4) (successor_written 6 9)
-step_is = outs-Assignment (x_written 6 4) (successor_written 6 9)
+-- `X := X + 1`, at these columns of a line
+module _ (line target value : ℕ) where
+  pub step_is : out-Stmt (Assignment (x_written line target) (successor_written line value)) ≡ Stmt-F.Assignment (x_written line target) (successor_written line value)
+  step_is = outs-Assignment (x_written line target) (successor_written line value)
+
+  pub step_written_as : written_stmt (Assignment (x_written line target) (successor_written line value)) ≡ written_level (Stmt-F.Assignment (x_written line target) (successor_written line value))
+  step_written_as = spelled_stmt (Assignment (x_written line target) (successor_written line value)) ∙ ap written_level step_is
 
 step_stmt : IsStmt 1 step_written
-step_stmt = subst (IsFormed 1 (Within 1)) (sym step_is) (sum_expr 6 9)
+step_stmt = subst (IsFormed 1 (Within 1)) (sym (step_is 6 4 9)) (sum_expr 6 9)
 
 pub grammatical : IsFile 1 inc_units
 grammatical = (record { formal_part = ((tt, tt), tt); derives = ((tt, tt), tt); pre = below_expr; post = tt; declarations = tt; statements = (step_stmt, tt) }, tt)
@@ -70,9 +79,6 @@ pub no_fewer_levels : IsFile 0 inc_units → ⊥
 unfolding hidden-the_row-Expr-0 hidden
 no_fewer_levels h = omega (arith, h.0.pre.low)
 
-step_written_as : written_stmt step_written ≡ written_level (Stmt-F.Assignment (x_written 6 4) (successor_written 6 9))
-step_written_as = spelled_stmt step_written ∙ ap written_level step_is
-
 pub as_written : written inc_units ≡ forms_of inc_bytes inc_tokens
 unfolding hidden-the_row-Expr-0 hidden
-as_written = rw step_written_as refl
+as_written = rw (step_written_as 6 4 9) refl

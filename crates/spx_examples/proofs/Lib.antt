@@ -54,3 +54,4 @@ mod AssertedText
 mod Loops
 mod LoopFlows
 mod LoopCuts
+mod LoopText

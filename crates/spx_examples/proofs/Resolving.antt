@@ -12,6 +12,7 @@ use Rattle.spx_tree.specs.declared.statement.Closing.{Closing}
 use Rattle.spx_tree.specs.declared.statement.Stmt.{Stmt, Stmt-F, roll-Stmt, fold-roll-Stmt}
 use Rattle.spx_tree.specs.declared.statement.Stmt.TheVariants as written_stmt
 use Rattle.spx_tree.specs.declared.statement.Arm.{Arm, fold-roll-Arm}
+use Rattle.spx_tree.specs.declared.statement.Scheme.TheVariants as written_scheme
 use Rattle.spx_core.specs.declared.dependency.CoreDerivesItem.{CoreDerivesItem}
 use Rattle.spx_core.specs.declared.entity.Entity.TheVariants as entity
 use Rattle.spx_core.specs.declared.expression.CoreExpr.{CoreExpr}
@@ -20,10 +21,12 @@ use Rattle.spx_core.specs.declared.statement.CoreStmt.{CoreStmt}
 use Rattle.spx_core.specs.declared.statement.CoreStmt.TheVariants as stmt
 use Rattle.spx_core.specs.declared.statement.CoreAlternative.{CoreAlternative}
 use Rattle.spx_core.specs.declared.statement.CoreArm.{CoreArm}
+use Rattle.spx_core.specs.declared.statement.CoreScheme.TheVariants as scheme
 use Rattle.spx_core.specs.Regions.{Regions, denoted}
 use Rattle.spx_core.specs.Resolved.{alternative_step, arm_step, expr_step, stmt_step, resolved_expr, resolved_in, resolved_reference, resolved_stmt}
 use Rattle.spx_examples.specs.Increment.{place, word, x_written, successor_written, x, object, x_at, x_named, successor}
 use Rattle.spx_examples.specs.Branches.{arm}
+use Rattle.spx_examples.specs.Next.{below_hundred_at, below_written}
 
 -- X denotes the variable
 abbrev XDenotes : Regions → Type 0
@@ -48,6 +51,12 @@ module _ (items : List CoreDerivesItem) (around : Regions) where
       fold-roll-Stmt CoreStmt CoreAlternative CoreArm (stmt_step items around) (alternative_step around) (arm_step around) (Stmt-F.If (written_arm at condition body ∷ []) None closing)
       ∙ ap (λ (a : CoreArm). stmt.If (a ∷ []) None closing) (fold-roll-Arm CoreStmt CoreAlternative CoreArm (stmt_step items around) (alternative_step around) (arm_step around) (record { place = at; condition = condition; body = body }))
 
+  pub resolved_while : (at : Place) (condition : Expr) (loop_word : Place) (body : List Stmt) (closing : Closing)
+      → resolved_stmt items around (written_stmt.Loop (written_scheme.While at condition) loop_word body closing) ≡ stmt.Loop (scheme.While at (resolved_expr around condition)) loop_word (map (resolved_stmt items around) body) closing
+  unfolding roll-Stmt roll
+  resolved_while at condition loop_word body closing =
+      fold-roll-Stmt CoreStmt CoreAlternative CoreArm (stmt_step items around) (alternative_step around) (arm_step around) (Stmt-F.Loop (written_scheme.While at condition) loop_word body closing)
+
   pub resolved_assertion : (kind : AssertionKind) (at : Place) (condition : Expr) → resolved_stmt items around (written_stmt.Assertion kind at condition) ≡ stmt.Assertion kind at (resolved_in items around condition)
   unfolding roll-Stmt roll
   resolved_assertion kind at condition = fold-roll-Stmt CoreStmt CoreAlternative CoreArm (stmt_step items around) (alternative_step around) (arm_step around) (Stmt-F.Assertion kind at condition)
@@ -59,6 +68,13 @@ module _ (items : List CoreDerivesItem) (around : Regions) where
     resolved_successor line column =
         fold-roll-Expr CoreExpr (expr_step [] around) (Expr-F.Infix op.Add (place line (column + 2)) (written_expr.Name (x_written line column)) (written_expr.Number (pos 1) (place line (column + 4))))
         ∙ ap₂ (expr.Infix op.Add (place line (column + 2))) (resolved_x [] around is line column) (fold-roll-Expr CoreExpr (expr_step [] around) (Expr-F.Number (pos 1) (place line (column + 4))))
+
+    -- `X < 100`
+    pub resolved_below : (line column : ℕ) → resolved_expr around (below_written line column) ≡ below_hundred_at line column
+    unfolding roll-Expr roll
+    resolved_below line column =
+        fold-roll-Expr CoreExpr (expr_step [] around) (Expr-F.Infix op.Less (place line (column + 2)) (written_expr.Name (x_written line column)) (written_expr.Number (pos 100) (place line (column + 4))))
+        ∙ ap₂ (expr.Infix op.Less (place line (column + 2))) (resolved_x [] around is line column) (fold-roll-Expr CoreExpr (expr_step [] around) (Expr-F.Number (pos 100) (place line (column + 4))))
 
     -- `X := X + 1`
     pub resolved_step : (line target value : ℕ) → resolved_stmt items around (written_stmt.Assignment (x_written line target) (successor_written line value)) ≡ stmt.Assignment (x_named line target) (successor line value)

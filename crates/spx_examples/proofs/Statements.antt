@@ -1,5 +1,5 @@
 -- What the examples share: statements as commands, and parts of judgements and of runs.
-use Rattle.std.proofs.Common.{◌≡◌, List, [], ◌∷◌, Option, None, Some, ap, ap₂, ◌∙◌, Ok}
+use Rattle.std.proofs.Common.{◌≡◌, List, [], ◌∷◌, Option, None, Some, refl, ap, ap₂, ◌∙◌, Ok}
 use Rattle.std.specs.Prelude.{⊤}
 use denote.Hole.Carrier.{roll}
 use Rattle.spx_text.specs.declared.place.Place.{Place}
@@ -12,11 +12,12 @@ use Rattle.spx_core.specs.declared.statement.CoreStmt.{CoreStmt, CoreStmt-F, rol
 use Rattle.spx_core.specs.declared.statement.CoreStmt.TheVariants as stmt
 use Rattle.spx_core.specs.declared.statement.CoreArm.{fold-roll-CoreArm}
 use Rattle.spx_core.specs.declared.statement.CoreChoice.{CoreChoice}
+use Rattle.spx_core.specs.declared.statement.CoreScheme.TheVariants as scheme
 use Rattle.spx_core.specs.declared.rule.Typing.{Typing}
 use Rattle.spx_core.specs.declared.subprogram.Sub.{Sub}
 use Rattle.spx_core.specs.Judged.{Judged, ◌>>=◌, operation}
-use Rattle.spx_core.specs.Commands.{Command, Skip, Set, Then, Choose, Assertion, alternative_step, arm_step, stmt_step, commands}
-use Rattle.spx_core.proofs.Callers.CommandForms.{command-Assertion, command-Assignment, command-Null}
+use Rattle.spx_core.specs.Commands.{Command, Skip, Set, Then, Choose, Assertion, While, alternative_step, arm_step, stmt_step, commands}
+use Rattle.spx_core.proofs.Callers.CommandForms.{command-Assertion, command-Assignment, command-Null, command-While}
 use Rattle.spx_meaning.specs.declared.bad.BadKind.TheVariants.{Unset}
 use Rattle.spx_meaning.specs.Runs.{Outcome, Ended, then_do, demand, exports_set}
 use Rattle.spx_examples.specs.Branches.{arm}
@@ -29,6 +30,11 @@ assertion_is kind at condition = ap (λ c. Then c Skip) (command-Assertion kind 
 
 pub assignment_is : (target : Reference) (value : CoreExpr) → commands (stmt.Assignment target value ∷ []) ≡ Then (Set target value) Skip
 assignment_is target value = ap (λ c. Then c Skip) (command-Assignment target value)
+
+pub while_is : (at : Place) (condition : CoreExpr) (loop_word : Place) (body : List CoreStmt) (closing : Closing)
+    → commands (stmt.Loop (scheme.While at condition) loop_word body closing ∷ []) ≡ Then (While at condition (commands body)) Skip
+while_is at condition loop_word body closing =
+    ap (λ c. Then c Skip) (command-While (stmt.Loop (scheme.While at condition) loop_word body closing) (scheme.While at condition) loop_word body closing at condition refl refl)
 
 -- an `if` of one arm and no `else` chooses between the arm and nothing
 pub if_is : (at : Place) (condition : CoreExpr) (body : List CoreStmt) (closing : Closing) → commands (stmt.If (arm at condition body ∷ []) None closing ∷ []) ≡ Then (Choose at condition (commands body) Skip) Skip

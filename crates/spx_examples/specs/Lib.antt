@@ -19,3 +19,4 @@ pub mod Selections
 pub mod Assertions
 pub mod AssertionText
 pub mod Loops
+pub mod LoopText

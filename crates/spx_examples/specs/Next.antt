@@ -8,7 +8,7 @@
 --           X := X + 1;
 --        end if;
 --     end Next;
-use Rattle.std.specs.Prelude.{pos, false, List, [], ◌∷◌, ◌++◌, map, Some, None, codes}
+use Rattle.std.specs.Prelude.{ℕ, ◌+◌, pos, false, List, [], ◌∷◌, ◌++◌, map, Some, None, codes}
 use Rattle.spx_tree.specs.declared.annotation.DerivesItem.{DerivesItem}
 use Rattle.spx_tree.specs.declared.annotation.Exports.TheVariants as exports
 use Rattle.spx_tree.specs.declared.expression.InfixOp.TheVariants as op
@@ -58,9 +58,9 @@ formal_written = record { names = word (codes "X") 1 17 ∷ []; mode = written.I
 abbrev pub relation_written : DerivesItem
 relation_written = record { exports = exports.Names (x_written 2 13 ∷ []); imports = record { itself = None; names = x_written 2 20 ∷ [] } }
 
--- `X < 100`
-abbrev pub below_written : Expr
-below_written = written_expr.Infix op.Less (place 5 9) (written_expr.Name (x_written 5 7)) (written_expr.Number (pos 100) (place 5 11))
+-- `X < 100`, whose X is at this line and column
+abbrev pub below_written : ℕ → ℕ → Expr
+below_written line column = written_expr.Infix op.Less (place line (column + 2)) (written_expr.Name (x_written line column)) (written_expr.Number (pos 100) (place line (column + 4)))
 
 -- `X := X + 1`
 abbrev pub step_written : Stmt
@@ -68,7 +68,7 @@ step_written = written_stmt.Assignment (x_written 6 7) (successor_written 6 12)
 
 -- `if X < 100 then` and the statement
 abbrev pub arm_written : Arm
-arm_written = record { place = place 5 4; condition = below_written; body = step_written ∷ [] }
+arm_written = record { place = place 5 4; condition = below_written 5 7; body = step_written ∷ [] }
 
 -- `end if`
 abbrev pub closing : Closing
@@ -111,9 +111,13 @@ formal = record { names = x_declared ∷ []; mode = written.InOut (place 1 21); 
 abbrev pub relation : CoreDerivesItem
 relation = record { null = None; exports = x_named 2 13 ∷ []; itself = None; imports = x_named 2 20 ∷ [] }
 
+-- `X < 100`, whose X is at this line and column
+abbrev pub below_hundred_at : ℕ → ℕ → CoreExpr
+below_hundred_at line column = expr.Infix op.Less (place line (column + 2)) (expr.Name (x_at line column)) (expr.Number (pos 100) (place line (column + 4)))
+
 -- `X < 100`
 abbrev pub below_hundred : CoreExpr
-below_hundred = expr.Infix op.Less (place 5 9) (expr.Name (x_at 5 7)) (expr.Number (pos 100) (place 5 11))
+below_hundred = below_hundred_at 5 7
 
 -- `X := X + 1`
 abbrev pub step : CoreStmt

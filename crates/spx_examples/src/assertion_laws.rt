@@ -122,8 +122,8 @@ pub fn an_entry_value_is_of_a_variable()
     ensures local { first_name_breach (alone (ensuring one_local (entry_written (codes "Y") 3 10))) ≡ breach N1 3 10 }
 {}
 
-/// An entry value is of the type of its variable, and never static. Where it may not be named is told after what its name is: that of a constant breaks N3
-/// in both cases.
+/// An entry value is of the type of its variable, and never static. What its name denotes is looked at first, and only then whether it may stand there:
+/// that of a constant breaks N3 in both cases.
 pub fn an_entry_value_is_of_the_type_of_its_variable()
     ensures allowed { judged (entry_at 3 10) ≡ Ok (typing (Of INTEGER.base) None (place 3 10)) }
     ensures not_allowed { judged (expr.Entry (x_at 3 10) false) ≡ Err (record { rule = N18; place = place 3 10 }) }

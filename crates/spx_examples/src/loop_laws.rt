@@ -1,9 +1,15 @@
-// What `while` loops do, flow and ask for, as commands: no text has them yet. Each law is the contract of a function that does nothing.
+// What `while` loops do, flow and ask for, mostly as commands. Each law is the contract of a function that does nothing.
 ghost use Rattle.std.specs.Prelude.{◌≡◌, ◌↔◌, ◌⊎◌, ℕ, pos, [], ◌∷◌, length};
+ghost use Rattle.spx_tree.specs.Form.{forms_of};
+ghost use Rattle.spx_tree.specs.Grammar.{IsFile};
+ghost use Rattle.spx_tree.specs.Spells.{Spells};
+ghost use Rattle.spx_tree.specs.Written.{written};
 ghost use Rattle.spx_core.specs.declared.entity.VarId.{VarId};
+ghost use Rattle.spx_core.specs.Commands.{commands};
 ghost use Rattle.spx_core.specs.Effects.{effect};
 ghost use Rattle.spx_core.specs.Flow.{MayFlow};
 ghost use Rattle.spx_core.specs.Marks.{marked};
+ghost use Rattle.spx_core.specs.Resolved.{resolved};
 ghost use Rattle.spx_core.specs.Ways.{Free, Goes, Reaches};
 ghost use Rattle.spx_term.specs.Steps.{Tree};
 ghost use Rattle.spx_meaning.specs.Frames.{Frame};
@@ -12,7 +18,8 @@ ghost use Rattle.spx_meaning.specs.Stores.{Store};
 ghost use Rattle.spx_paths.specs.Walks.{arrivals, cut_arrivals, cuts};
 ghost use Rattle.spx_examples.specs.Flag.{y};
 ghost use Rattle.spx_examples.specs.Increment.{place, x};
-ghost use Rattle.spx_examples.specs.Loops.{asserting, asserting_from_cut, asserting_in_arm, branching, branching_and_asserting, copying_after, copying_in, counting, counting_again, counting_from_cut, deciding, endless, m, passing_on, passing_turn_by_turn, runs_from};
+ghost use Rattle.spx_examples.specs.Loops.{asserting, asserting_from_cut, asserting_in_arm, branching, branching_and_asserting, copying_after, copying_in, counting, counting_again, counting_from_cut, deciding, endless, m, only, passing_on, passing_turn_by_turn, runs_from};
+ghost use Rattle.spx_examples.specs.LoopText.{loop_bytes, loop_command, loop_program, loop_sub, loop_tokens, loop_units};
 ghost use Rattle.spx_examples.specs.Refused.{inc_without_pre, increment_without_pre};
 ghost use Rattle.spx_examples.specs.VariableRules.{z};
 ghost use Rattle.spx_examples.specs.Variants.{number};
@@ -66,4 +73,14 @@ pub fn paths_of_loops_are_counted()
     ensures from_cut { cut_arrivals branching 1 1 ≡ 4 }
     ensures own { arrivals branching_and_asserting 1 1 ≡ 3 }
     ensures from_own { cut_arrivals branching_and_asserting 1 1 ≡ 3 }
+{}
+
+/// The text of a procedure with a loop: it is these tokens, units of two levels are written with these tokens, those units are resolved to the program, and
+/// the body of the program is this loop as a command.
+pub fn a_loop_is_read()
+    ensures spelled { Spells 0 loop_bytes loop_tokens }
+    ensures grammatical { IsFile 2 loop_units }
+    ensures as_written { written loop_units ≡ forms_of loop_bytes loop_tokens }
+    ensures made { resolved loop_units ≡ loop_program }
+    ensures command { commands loop_sub.statements ≡ only loop_command }
 {}

@@ -1,0 +1,95 @@
+-- The text of a procedure with a loop, cut into its parts, its units in the grammar, the program that they are resolved to, and its body as a command.
+use Rattle.std.proofs.Common.{◌≡◌, List, [], ◌∷◌, ◌++◌, refl, sym, ap, ap₂, subst, ◌∙◌, arith}
+use Rattle.std.specs.Prelude.{codes}
+use denote.Hole.Carrier.{hidden}
+use Rattle.spx_tree.specs.declared.expression.Expr.TheBlock.{hidden-the_row-Expr-0}
+use Rattle.spx_tree.specs.declared.statement.Scheme.TheVariants as written_scheme
+use Rattle.spx_tree.specs.declared.statement.Stmt.{Stmt-F, out-Stmt}
+use Rattle.spx_tree.specs.declared.statement.Stmt.TheVariants.{outs-Loop}
+use Rattle.spx_tree.specs.Lexemes.{unreserved, kind_of_word, code_delimiters, annotation_delimiters, delimiters}
+use Rattle.spx_tree.specs.Places.{place_after_bytes}
+use Rattle.spx_tree.specs.Spells.{Spells}
+use Rattle.spx_tree.specs.Grammar.{IsExpr, IsFormed, Within, IsStmt, IsFile}
+use Rattle.spx_tree.specs.Form.{Form, forms_of}
+use Rattle.spx_tree.specs.Written.{stmt_step, written, written_stmt}
+use Rattle.spx_tree.proofs.WrittenLevels.{written_level, spelled_stmt}
+use Rattle.spx_core.specs.declared.statement.CoreScheme.TheVariants as scheme
+use Rattle.spx_core.specs.declared.statement.CoreStmt.{CoreStmt}
+use Rattle.spx_core.specs.declared.statement.CoreStmt.TheVariants as stmt
+use Rattle.spx_core.specs.Commands.{Command, While, commands}
+use Rattle.spx_core.specs.Regions.{standard}
+use Rattle.spx_core.specs.Resolved.{resolved, resolved_stmt}
+use Rattle.spx_examples.specs.Assertions.{doing, program_of}
+use Rattle.spx_examples.specs.Increment.{place, x_written, successor_written, relation, x_named, successor}
+use Rattle.spx_examples.specs.Loops.{only}
+use Rattle.spx_examples.specs.LoopText.{closing, loop_bytes, loop_command, loop_program, loop_resolved, loop_sub, loop_tokens, loop_units, loop_written}
+use Rattle.spx_examples.specs.Next.{below_hundred_at, below_written, step as step_resolved, step_written}
+use Rattle.spx_examples.proofs.IncrementNames.{regions, x_denotes}
+use Rattle.spx_examples.proofs.IncrementText.{heading, derives, opening, step, ending, step_is, step_written_as, sum_expr}
+use Rattle.spx_examples.proofs.Resolving.{resolved_below, resolved_step, resolved_while}
+use Rattle.spx_examples.proofs.Spelling.{Piece, Word, Digits, Delimiter, Space, LineEnd, spelled_by}
+use Rattle.spx_examples.proofs.Statements.{assignment_is, while_is}
+
+-- ---- its tokens
+
+-- `while X < 100 loop`, and the spaces before what comes next
+abbrev test : List Piece
+test =
+    Word (codes "while") ∷ Space ∷ Word (codes "X") ∷ Space ∷ Delimiter (codes "<") ∷ Space ∷ Digits (codes "100") ∷ Space ∷ Word (codes "loop") ∷ LineEnd
+    ∷ Space ∷ Space ∷ Space ∷ Space ∷ Space ∷ Space ∷ []
+
+-- `end loop;`
+abbrev loop_ending : List Piece
+loop_ending = Space ∷ Space ∷ Space ∷ Word (codes "end") ∷ Space ∷ Word (codes "loop") ∷ Delimiter (codes ";") ∷ LineEnd ∷ []
+
+pub spelled : Spells 0 loop_bytes loop_tokens
+unfolding unreserved kind_of_word delimiters code_delimiters annotation_delimiters place_after_bytes
+spelled = spelled_by (heading ++ derives ++ opening ++ test ++ step ++ loop_ending ++ ending) refl refl refl
+
+-- ---- its tree
+
+below_expr : IsExpr 1 (below_written 5 10)
+unfolding hidden-the_row-Expr-0 hidden
+below_expr = record { low = omega arith; layered = (tt, tt, omega arith, omega arith); of_layer = omega arith }
+
+loop_is : out-Stmt loop_written ≡ Stmt-F.Loop (written_scheme.While (place 5 4) (below_written 5 10)) (place 5 18) (step_written ∷ []) closing
+loop_is = outs-Loop (written_scheme.While (place 5 4) (below_written 5 10)) (place 5 18) (step_written ∷ []) closing
+
+-- one level below the loop
+step_within : Within 2 step_written
+step_within = subst (IsFormed 1 (Within 1)) (sym (step_is 6 7 12)) (sum_expr 6 12)
+
+loop_stmt : IsStmt 2 loop_written
+loop_stmt = subst (IsFormed 2 (Within 2)) (sym loop_is) (omega arith, below_expr, (step_within, tt))
+
+pub grammatical : IsFile 2 loop_units
+grammatical = (record { formal_part = ((tt, tt), tt); derives = ((tt, tt), tt); pre = tt; post = tt; declarations = tt; statements = (loop_stmt, tt) }, tt)
+
+-- the loop, where its statement is written so
+abbrev around_step : List Form → List Form
+around_step written_step = stmt_step (Stmt-F.Loop (written_scheme.While (place 5 4) (below_written 5 10)) (place 5 18) (written_step ∷ []) closing)
+
+loop_written_as : written_stmt loop_written ≡ around_step (written_level (Stmt-F.Assignment (x_written 6 7) (successor_written 6 12)))
+loop_written_as = spelled_stmt loop_written ∙ ap written_level loop_is ∙ ap around_step (step_written_as 6 7 12)
+
+pub as_written : written loop_units ≡ forms_of loop_bytes loop_tokens
+unfolding hidden-the_row-Expr-0 hidden
+as_written = rw loop_written_as refl
+
+-- ---- its program
+
+resolved_loop : resolved_stmt (relation ∷ []) regions loop_written ≡ loop_resolved
+resolved_loop =
+    resolved_while (relation ∷ []) regions (place 5 4) (below_written 5 10) (place 5 18) (step_written ∷ []) closing
+    ∙ ap₂ (λ condition statement. stmt.Loop (scheme.While (place 5 4) condition) (place 5 18) (statement ∷ []) closing) (resolved_below (relation ∷ []) regions x_denotes 5 10) (resolved_step (relation ∷ []) regions x_denotes 6 7 12)
+
+pub made : resolved loop_units ≡ loop_program
+unfolding standard
+made = ap (λ (statement : CoreStmt). program_of (doing (statement ∷ []) 8)) resolved_loop
+
+-- ---- its command
+
+pub command_is : commands loop_sub.statements ≡ only loop_command
+command_is =
+    while_is (place 5 4) (below_hundred_at 5 10) (place 5 18) (step_resolved ∷ []) closing
+    ∙ ap (λ (body : Command). only (While (place 5 4) (below_hundred_at 5 10) body)) (assignment_is (x_named 6 7) (successor 6 12))
