@@ -2392,7 +2392,7 @@ def left_in(name, text, named, total, **left):
 
 
 def worked_loops():
-    """The worked examples of loops, and those that are accepted without their assertions."""
+    """The worked examples of loops, and each without its assertion."""
     texts = {name: (TOP / 'examples' / f'{name}.adb').read_text(encoding='utf-8') for name in ('count_down', 'integer_root', 'divide')}
     without = {name: re.sub('.*--# assert.*\n', '', text) for name, text in texts.items()}
     yield accepted('count_down.adb', texts['count_down'], 6, named='Count_Down')
@@ -2400,6 +2400,7 @@ def worked_loops():
     yield accepted('integer_root.adb', texts['integer_root'], 13, named='Integer_Root')
     yield left_in('integer_root_without_its_assertion.adb', without['integer_root'], 'Integer_Root', 11, overflow_6='+ 1;', post_11='post Root')
     yield left_in('divide.adb', texts['divide'], 'Divide', 10, overflow_5='+ 1;', range_8='- Divisor;', assert_9='assert Dividend', post_10='post Dividend')
+    yield left_in('divide_without_its_assertion.adb', without['divide'], 'Divide', 8, overflow_4='+ 1;', range_7='- Divisor;', post_8='post Dividend')
 
 
 def assigned(value, pre=None):
