@@ -40,7 +40,7 @@ use Rattle.spx_core.specs.declared.program.Var.{Var}
 use Rattle.spx_core.specs.declared.program.Program.{Program}
 use Rattle.spx_core.specs.declared.subprogram.CorePredicate.{CorePredicate}
 use Rattle.spx_core.specs.declared.subprogram.Sub.{Sub}
-use Rattle.spx_core.specs.Commands.{Command, Skip, Set, Then, Choose, Select, Assertion, While, Alternatives, Last, When, alternative, alternatives_of, arm_before, arms_before, chain, command, commands, select}
+use Rattle.spx_core.specs.Commands.{Command, Skip, Set, Then, Choose, Select, Assertion, Repeat, Tested, Alternatives, Last, When, alternative, alternatives_of, arm_before, arms_before, chain, command, commands, select}
 use Rattle.spx_core.specs.Commands as commands_of
 use Rattle.spx_core.specs.Reads.{names_read}
 use Rattle.spx_core.specs.Uses.{denotes, mentions, uses}
@@ -98,7 +98,7 @@ abbrev mutual
   Resolves regions (Choose place condition a b) = IsValueIn regions condition × Resolves regions a × Resolves regions b
   Resolves regions (Select place selector alternatives) = IsValueIn regions selector × AllResolve regions alternatives
   Resolves regions (Assertion kind place condition) = IsValueIn regions condition
-  Resolves regions (While place condition body) = IsValueIn regions condition × Resolves regions body
+  Resolves regions (Repeat (Tested place condition) body) = IsValueIn regions condition × Resolves regions body
 
   AllResolve : Regions → Alternatives → Type 0
   AllResolve regions (Last choices a) = Resolves regions a
@@ -218,7 +218,7 @@ module _ (T : Subtype → Type 0) (P : VarId → Object → Type 0) (regions : R
     assigned_variable (Choose place condition a b) written h = ⊎_elim (assigned_variable a written.1) (assigned_variable b written.2) (or_cases (sets v (effect a)) (sets v (effect b)) h)
     assigned_variable (Select place selector alternatives) written h = assigned_among (reads_of selector) place alternatives written.1 h
     assigned_variable (Assertion kind place condition) written h = absurd cc
-    assigned_variable (While place condition body) written h = assigned_variable body written.1 h
+    assigned_variable (Repeat (Tested place condition) body) written h = assigned_variable body written.1 h
 
     assigned_among : (tests : List Read) (place : Place) (alternatives : Alternatives) → AllResolve regions alternatives → sets v (effect_among tests place alternatives) ≡ true → (object : Object) × P v object
     assigned_among tests place (Last choices a) written h = ⊎_elim (assigned_variable a written) (assigned_variable a written) (or_cases (sets v (effect a)) (sets v (effect a)) h)
@@ -236,7 +236,7 @@ module _ (T : Subtype → Type 0) (P : VarId → Object → Type 0) (regions : R
         (or_cases (is_read v (reads_of condition)) (reads v (effect a) || reads v (effect b)) h)
     read_variable (Select place selector alternatives) written h = read_among (reads_of selector) place (value_variable selector written.0) alternatives written.1 h
     read_variable (Assertion kind place condition) written h = value_variable condition written h
-    read_variable (While place condition body) written h =
+    read_variable (Repeat (Tested place condition) body) written h =
         ⊎_elim (value_variable condition written.0) (read_variable body written.1) (or_cases (is_read v (reads_of condition)) (reads v (effect body)) h)
 
     -- the tests read such a variable
@@ -271,7 +271,7 @@ module _ (p : Program) (T : Subtype → Type 0) (P : VarId → Object → Type 0
     targets_have_modes (Choose place condition a b) written = (targets_have_modes a written.1, targets_have_modes b written.2)
     targets_have_modes (Select place selector alternatives) written = all_have_modes alternatives written.1
     targets_have_modes (Assertion kind place condition) written = tt
-    targets_have_modes (While place condition body) written = targets_have_modes body written.1
+    targets_have_modes (Repeat (Tested place condition) body) written = targets_have_modes body written.1
 
     all_have_modes : (alternatives : Alternatives) → AllResolve regions alternatives → AllHaveTheirModes p alternatives
     all_have_modes (Last choices a) written = targets_have_modes a written
@@ -302,7 +302,7 @@ module _ (p : Program) (T : Subtype → Type 0) (P : VarId → Object → Type 0
     command_as_declared (Choose place condition a b) written = (read_as_declared condition written.0, (command_as_declared a written.1, command_as_declared b written.2))
     command_as_declared (Select place selector alternatives) written = (read_as_declared selector written.0, alternatives_as_declared alternatives written.1)
     command_as_declared (Assertion kind place condition) written = read_as_declared condition written
-    command_as_declared (While place condition body) written = (read_as_declared condition written.0, command_as_declared body written.1)
+    command_as_declared (Repeat (Tested place condition) body) written = (read_as_declared condition written.0, command_as_declared body written.1)
 
     alternatives_as_declared : (alternatives : Alternatives) → AllResolve regions alternatives → AllAreAsDeclared p alternatives
     alternatives_as_declared (Last choices a) written = command_as_declared a written

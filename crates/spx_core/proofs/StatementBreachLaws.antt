@@ -15,7 +15,7 @@ use Rattle.spx_core.specs.declared.rule.RuleName.TheVariants.{N10, N12, N17}
 use Rattle.spx_core.specs.declared.rule.ExprType.{ExprType}
 use Rattle.spx_core.specs.declared.rule.ExprType.TheVariants.{Of}
 use Rattle.spx_core.specs.declared.rule.Typing.{Typing}
-use Rattle.spx_core.specs.Commands.{Command, Skip, Set, Then, Choose, Select, Assertion, While, Alternatives, Last, When, bodies_in, choices_in, has_others, has_others_last, listed, spans_of}
+use Rattle.spx_core.specs.Commands.{Command, Skip, Set, Then, Choose, Select, Assertion, Repeat, Tested, Alternatives, Last, When, bodies_in, choices_in, has_others, has_others_last, listed, spans_of}
 use Rattle.spx_core.specs.HasType.{HasType}
 use Rattle.spx_core.specs.Extents.{extent}
 use Rattle.spx_core.specs.Judged.{Judged, ◌>>=◌, if_there, judged, keeps, named_target, operand_of, referred_target}
@@ -150,7 +150,7 @@ mutual
       (λ k. by_test (BreaksCommand (Select at selector alternatives)) N17 at _ b k (λ wrong. broken.bad_choices at selector alternatives (wrong_choices selector alternatives wrong))) (λ _ _ h.
       by_part (selected selector) _ b h (selected_found at selector alternatives b) (λ of is e. alternatives_at at selector alternatives b of is (alternatives_found alternatives of b e)))
   command_found (Assertion kind at e) b h = broken.asserted kind at e b.rule b.place (condition_found e b h)
-  command_found (While at e body) b h =
+  command_found (Repeat (Tested at e) body) b h =
       by_part (test e) (λ _. judged_command body) b h (λ is. broken.turned at e body b.rule b.place (condition_found e b is)) (λ _ _ is. broken.body at e body b.rule b.place (command_found body b is))
 
   alternatives_found : (alternatives : Alternatives) (of : ExprType) (b : Breach) → judged_alternatives of alternatives ≡ Err b → BreaksAlternatives of alternatives b

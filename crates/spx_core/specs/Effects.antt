@@ -1,12 +1,13 @@
 -- What commands do to variables, as flow sees it: an expression is what it reads.
-use Rattle.std.specs.Prelude.{Bool, false, ◌||◌, ◌==◌, List, Option, option_map}
+use Rattle.std.specs.Prelude.{Bool, false, ◌||◌, ◌==◌, List, [], ◌++◌, Option, Some, None, option_map}
 use Rattle.std.specs.List.{filter_map, list_any}
 use Rattle.spx_text.specs.declared.place.Place.{Place}
 use Rattle.spx_core.specs.declared.entity.VarId.{VarId}
 use Rattle.spx_core.specs.declared.name.CoreName.{CoreName}
 use Rattle.spx_core.specs.declared.expression.CoreExpr.{CoreExpr}
+use Rattle.spx_core.specs.declared.statement.CoreRange.{CoreRange}
 use Rattle.spx_core.specs.declared.statement.CoreStmt.{CoreStmt}
-use Rattle.spx_core.specs.Commands.{Command, Skip, Set, Then, Choose, Select, Assertion, While, Alternatives, Last, When, commands}
+use Rattle.spx_core.specs.Commands.{Command, Skip, Set, Then, Choose, Select, Assertion, Repeat, Tested, Counted, Alternatives, Last, When, commands}
 use Rattle.spx_core.specs.Uses.{is_same, variable_of}
 use Rattle.spx_core.specs.Reads.{names_read}
 
@@ -26,6 +27,15 @@ reads_of e = filter_map read_of (names_read e)
 abbrev pub is_read : VarId → List Read → Bool
 is_read v reads = list_any (λ (r : Read). r.1.0 == v.0) reads
 
+-- what the bounds of a loop read, where they are written
+abbrev pub reads_of_range : CoreRange → List Read
+reads_of_range range = reads_of range.low ++ reads_of range.high
+
+-- bounds that are not written read nothing
+abbrev pub reads_in : Option (List Read) → List Read
+reads_in None = []
+reads_in (Some reads) = reads
+
 -- ---- effects
 
 pub data Effect : Type 0 where
@@ -39,6 +49,8 @@ pub data Effect : Type 0 where
   observe : List Read → Effect
   -- what the condition reads before each turn, the body, and the place at which a finding on the condition stands
   repeat : List Read → Effect → Place → Effect
+  -- the parameter of a loop, what its bounds read, where they are written, the body, and the place at which a finding on the bounds stands
+  count : VarId → Option (List Read) → Effect → Place → Effect
 
 abbrev mutual
   pub effect : Command → Effect
@@ -48,7 +60,8 @@ abbrev mutual
   effect (Choose place condition a b) = choose (reads_of condition) (effect a) (effect b) place
   effect (Select place selector alternatives) = effect_among (reads_of selector) place alternatives
   effect (Assertion kind place condition) = observe (reads_of condition)
-  effect (While place condition body) = repeat (reads_of condition) (effect body) place
+  effect (Repeat (Tested place condition) body) = repeat (reads_of condition) (effect body) place
+  effect (Repeat (Counted c) body) = count c.parameter (option_map reads_of_range c.bounds) (effect body) c.place
 
   -- the selector chooses each alternative before the next; the last one is both arms of a choice, so that the selector is read also where there is no other
   pub effect_among : List Read → Place → Alternatives → Effect
@@ -67,6 +80,7 @@ sets v (next a b) = sets v a || sets v b
 sets v (choose tests a b place) = sets v a || sets v b
 sets v (observe values) = false
 sets v (repeat tests body place) = sets v body
+sets v (count parameter bounds body place) = is_same v (Some parameter) || sets v body
 
 abbrev pub reads : VarId → Effect → Bool
 reads v nothing = false
@@ -75,6 +89,27 @@ reads v (next a b) = reads v a || reads v b
 reads v (choose tests a b place) = is_read v tests || (reads v a || reads v b)
 reads v (observe values) = is_read v values
 reads v (repeat tests body place) = is_read v tests || reads v body
+reads v (count parameter bounds body place) = is_read v (reads_in bounds) || reads v body
+
+-- one of the statements assigns to the variable
+abbrev pub assigns : VarId → Effect → Bool
+assigns v nothing = false
+assigns v (assign target reads place) = is_same v target
+assigns v (next a b) = assigns v a || assigns v b
+assigns v (choose tests a b place) = assigns v a || assigns v b
+assigns v (observe values) = false
+assigns v (repeat tests body place) = assigns v body
+assigns v (count parameter bounds body place) = assigns v body
+
+-- one of the loops has the variable as its parameter
+abbrev pub counts : VarId → Effect → Bool
+counts v nothing = false
+counts v (assign target reads place) = false
+counts v (next a b) = counts v a || counts v b
+counts v (choose tests a b place) = counts v a || counts v b
+counts v (observe values) = false
+counts v (repeat tests body place) = counts v body
+counts v (count parameter bounds body place) = is_same v (Some parameter) || counts v body
 
 -- one of the statements sets the variable
 abbrev pub defines : VarId → List CoreStmt → Bool

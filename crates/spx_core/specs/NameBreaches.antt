@@ -40,7 +40,7 @@ use Rattle.spx_core.specs.declared.rule.RuleName.TheVariants.{N1, N2, N3, N5, N1
 use Rattle.spx_core.specs.declared.rule.ExprType.{ExprType}
 use Rattle.spx_core.specs.declared.rule.ExprType.TheVariants.{Of}
 use Rattle.spx_core.specs.declared.rule.Typing.{Typing}
-use Rattle.spx_core.specs.Commands.{Command, Set, Then, Choose, Select, Assertion, While, Alternatives, bodies_in, choices_in, commands, has_others, has_others_last, spans_of}
+use Rattle.spx_core.specs.Commands.{Command, Count, Head, Set, Then, Choose, Select, Assertion, Repeat, Tested, Counted, Alternatives, bodies_in, choices_in, commands, has_others, has_others_last, spans_of}
 use Rattle.spx_core.specs.Dependency.{relation}
 use Rattle.spx_core.specs.Extents.{extent}
 use Rattle.spx_core.specs.HasType.{HasType}
@@ -171,6 +171,19 @@ pub data HasBadChoices (selector : CoreExpr) (alternatives : Alternatives) : Typ
       → is_chosen n (spans_of (choices_in alternatives)) ≡ false → HasBadChoices selector alternatives
   twice : (n : ℤ) → judged_heads selector alternatives ≡ Ok tt → IsTwiceIn (spans_of (choices_in alternatives)) n → HasBadChoices selector alternatives
 
+-- a bound where a value of this type is needed
+pub data BreaksBound (subtype : Subtype) (e : CoreExpr) : RuleName → Place → Type 0 where
+  itself : (rule : RuleName) (place : Place) → BreaksExpr e rule place → BreaksBound subtype e rule place
+  of_another_type : (t : Typing) → HasType e t → is_of subtype.base t.of ≡ false → BreaksBound subtype e N10 t.place
+  out_of_type : (t : Typing) → HasType e t → lies_in (Of subtype.base) t.value ≡ false → BreaksBound subtype e N12 t.place
+
+-- what a loop counts over: a type that has an order, between bounds of it
+pub data BreaksCount (c : Count) : RuleName → Place → Type 0 where
+  type_name : (rule : RuleName) (place : Place) → BreaksReference IsType c.type_name rule place → BreaksCount c rule place
+  no_order : (subtype : Subtype) → c.type_name.root.entity ≡ Some (entity.TypeName subtype) → has_numbers subtype.base.class ≡ false → BreaksCount c N10 c.type_name.root.name.place
+  low : (range : CoreRange) (subtype : Subtype) (rule : RuleName) (place : Place) → c.bounds ≡ Some range → c.type_name.root.entity ≡ Some (entity.TypeName subtype) → BreaksBound subtype range.low rule place → BreaksCount c rule place
+  high : (range : CoreRange) (subtype : Subtype) (rule : RuleName) (place : Place) → c.bounds ≡ Some range → c.type_name.root.entity ≡ Some (entity.TypeName subtype) → BreaksBound subtype range.high rule place → BreaksCount c rule place
+
 pub data BreaksCommand : Command → RuleName → Place → Type 0 where
   target : (target : Reference) (value : CoreExpr) (rule : RuleName) (place : Place) → BreaksReference IsTarget target rule place → BreaksCommand (Set target value) rule place
   value : (target : Reference) (value : CoreExpr) (rule : RuleName) (place : Place) → BreaksExpr value rule place → BreaksCommand (Set target value) rule place
@@ -193,8 +206,9 @@ pub data BreaksCommand : Command → RuleName → Place → Type 0 where
       → BreaksChoice t.of e rule place → BreaksCommand (Select at selector alternatives) rule place
   alternative : (at : Place) (selector : CoreExpr) (alternatives : Alternatives) (a : Command) (rule : RuleName) (place : Place) → Contains (bodies_in alternatives) a → BreaksCommand a rule place → BreaksCommand (Select at selector alternatives) rule place
   asserted : (kind : AssertionKind) (at : Place) (c : CoreExpr) (rule : RuleName) (place : Place) → BreaksCondition c rule place → BreaksCommand (Assertion kind at c) rule place
-  turned : (at : Place) (c : CoreExpr) (a : Command) (rule : RuleName) (place : Place) → BreaksCondition c rule place → BreaksCommand (While at c a) rule place
-  body : (at : Place) (c : CoreExpr) (a : Command) (rule : RuleName) (place : Place) → BreaksCommand a rule place → BreaksCommand (While at c a) rule place
+  turned : (at : Place) (c : CoreExpr) (a : Command) (rule : RuleName) (place : Place) → BreaksCondition c rule place → BreaksCommand (Repeat (Tested at c) a) rule place
+  counted : (c : Count) (a : Command) (rule : RuleName) (place : Place) → BreaksCount c rule place → BreaksCommand (Repeat (Counted c) a) rule place
+  body : (head : Head) (a : Command) (rule : RuleName) (place : Place) → BreaksCommand a rule place → BreaksCommand (Repeat head a) rule place
 
 -- ---- declarations
 

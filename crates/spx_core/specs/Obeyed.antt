@@ -16,7 +16,7 @@ use Rattle.spx_core.specs.declared.subprogram.Sub.{Sub}
 use Rattle.spx_core.specs.declared.program.Program.{Program}
 use Rattle.spx_core.specs.declared.rule.RuleName.TheVariants.{U2, U7, U8, U11}
 use Rattle.spx_core.specs.declared.rule.Breach.{Breach}
-use Rattle.spx_core.specs.Commands.{Command, Skip, Set, Then, Choose, Select, Assertion, While, Alternatives, Last, When, commands}
+use Rattle.spx_core.specs.Commands.{Command, Skip, Set, Then, Choose, Select, Assertion, Repeat, Tested, Alternatives, Last, When, commands}
 use Rattle.spx_core.specs.Reads.{names_read}
 use Rattle.spx_core.specs.Uses.{mentions, variable_of, variable_is}
 use Rattle.spx_core.specs.Dependency.{relation, exports, imports}
@@ -161,7 +161,7 @@ abbrev mutual
   obeyed_command (Choose place condition a b) = obeyed_command a >>= λ _. obeyed_command b
   obeyed_command (Select place selector alternatives) = obeyed_alternatives alternatives
   obeyed_command (Assertion kind place condition) = Ok tt
-  obeyed_command (While place condition body) = obeyed_command body
+  obeyed_command (Repeat head body) = obeyed_command body
 
   pub obeyed_alternatives : Alternatives → Judged ⊤
   obeyed_alternatives (Last choices a) = obeyed_command a

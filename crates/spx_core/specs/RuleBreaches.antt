@@ -14,7 +14,7 @@ use Rattle.spx_core.specs.declared.subprogram.Sub.{Sub}
 use Rattle.spx_core.specs.declared.program.Program.{Program}
 use Rattle.spx_core.specs.declared.rule.RuleName.{RuleName}
 use Rattle.spx_core.specs.declared.rule.RuleName.TheVariants.{U2, U7, U8, U11}
-use Rattle.spx_core.specs.Commands.{Command, Skip, Set, Then, Choose, Select, Assertion, While, Alternatives, Last, When, commands}
+use Rattle.spx_core.specs.Commands.{Command, Skip, Set, Then, Choose, Select, Assertion, Repeat, Tested, Alternatives, Last, When, commands}
 use Rattle.spx_core.specs.Reads.{names_read}
 use Rattle.spx_core.specs.Uses.{variable_of}
 use Rattle.spx_core.specs.Dependency.{exports, imports, relation, variables}
@@ -68,7 +68,7 @@ abbrev mutual
   Assigns (Choose place condition a b) target = Assigns a target ⊎ Assigns b target
   Assigns (Select place selector alternatives) target = OneAssigns alternatives target
   Assigns (Assertion kind place condition) target = ⊥
-  Assigns (While place condition body) target = Assigns body target
+  Assigns (Repeat head body) target = Assigns body target
 
   pub OneAssigns : Alternatives → Reference → Type 0
   OneAssigns (Last choices a) target = Assigns a target

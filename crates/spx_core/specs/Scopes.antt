@@ -1,6 +1,6 @@
 -- Where the variables of a subprogram are seen: the names of its body denote its formals and locals, those of its relation its formals, each
 -- with the facts that are declared of it.
-use Rattle.std.specs.Prelude.{◌≡◌, ⊤, ℤ, int_le, true, false, ◌||◌, ◌==◌, All, Option, Some, option_and_then, option_map, slice_get}
+use Rattle.std.specs.Prelude.{◌≡◌, ⊤, ℤ, int_le, true, false, ◌||◌, ◌==◌, ◌++◌, All, List, [], Option, Some, None, option_and_then, option_map, slice_get}
 use Rattle.std.specs.List.{IsDistinct}
 use Rattle.spx_core.specs.declared.entity.VarId.{VarId}
 use Rattle.spx_core.specs.declared.entity.VarKind.{VarKind}
@@ -10,18 +10,19 @@ use Rattle.spx_core.specs.declared.entity.Object.{Object}
 use Rattle.spx_core.specs.declared.entity.Entity.TheVariants as entity
 use Rattle.spx_core.specs.declared.name.CoreName.{CoreName}
 use Rattle.spx_core.specs.declared.name.Reference.{Reference}
+use Rattle.spx_core.specs.declared.statement.CoreRange.{CoreRange}
 use Rattle.spx_core.specs.declared.subprogram.CorePredicate.{CorePredicate}
 use Rattle.spx_core.specs.declared.dependency.CoreDerivesItem.{CoreDerivesItem}
 use Rattle.spx_core.specs.declared.program.TypeRow.{TypeRow}
 use Rattle.spx_core.specs.declared.program.Var.{Var}
 use Rattle.spx_core.specs.declared.program.Program.{Program}
 use Rattle.spx_core.specs.declared.subprogram.Sub.{Sub}
-use Rattle.spx_core.specs.Commands.{Command, Skip, Set, Then, Choose, Select, Assertion, While, Alternatives, Last, When, commands}
+use Rattle.spx_core.specs.Commands.{Command, Skip, Set, Then, Choose, Select, Count, Head, Assertion, Repeat, Tested, Counted, Alternatives, Last, When, commands}
 use Rattle.spx_core.specs.Reads.{names_read}
 use Rattle.spx_core.specs.Uses.{denotes}
 use Rattle.spx_core.specs.Dependency.{exports, imports, relation}
-use Rattle.spx_core.specs.Formals.{is_formal, is_local, mode_of}
-use Rattle.spx_core.specs.Effects.{defines, effects, reads}
+use Rattle.spx_core.specs.Formals.{initial_of, is_formal, is_local, mode_of}
+use Rattle.spx_core.specs.Effects.{Effect, nothing, assign, next, choose, observe, repeat, count, assigns, counts, defines, effects, reads, sets}
 use Rattle.spx_core.specs.Obeyed.{mode_named}
 use Rattle.spx_core.specs.Types.{is_between}
 
@@ -45,7 +46,7 @@ abbrev mutual
   TargetsHaveTheirModes p (Choose place condition a b) = TargetsHaveTheirModes p a × TargetsHaveTheirModes p b
   TargetsHaveTheirModes p (Select place selector alternatives) = AllHaveTheirModes p alternatives
   TargetsHaveTheirModes p (Assertion kind place condition) = ⊤
-  TargetsHaveTheirModes p (While place condition body) = TargetsHaveTheirModes p body
+  TargetsHaveTheirModes p (Repeat head body) = TargetsHaveTheirModes p body
 
   pub AllHaveTheirModes : Program → Alternatives → Type 0
   AllHaveTheirModes p (Last choices a) = TargetsHaveTheirModes p a
@@ -68,6 +69,18 @@ object_declared p v = option_and_then (object_in p) (slice_get p.vars v.0)
 abbrev pub IsAsDeclared : Program → CoreName → Type 0
 IsAsDeclared p name = (v : VarId) (object : Object) → name.entity ≡ Some (entity.Variable v object) → object_declared p v ≡ Some object
 
+-- what the bounds of a loop name
+abbrev pub names_in_bounds : Option CoreRange → List CoreName
+names_in_bounds None = []
+names_in_bounds (Some range) = names_read range.low ++ names_read range.high
+
+-- so do the names in the head of a loop; its parameter is declared with the type that is named there
+abbrev pub HeadIsAsDeclared : Program → Head → Type 0
+HeadIsAsDeclared p (Tested place condition) = All (IsAsDeclared p) (names_read condition)
+HeadIsAsDeclared p (Counted c) =
+    All (IsAsDeclared p) (names_in_bounds c.bounds)
+    × ((object : Object) × (object_declared p c.parameter ≡ Some object) × (c.type_name.root.entity ≡ Some (entity.TypeName object.subtype)))
+
 -- so does each name of a command that is evaluated or assigned to; choices are static
 abbrev mutual
   pub AreAsDeclared : Program → Command → Type 0
@@ -77,11 +90,21 @@ abbrev mutual
   AreAsDeclared p (Choose place condition a b) = All (IsAsDeclared p) (names_read condition) × (AreAsDeclared p a × AreAsDeclared p b)
   AreAsDeclared p (Select place selector alternatives) = All (IsAsDeclared p) (names_read selector) × AllAreAsDeclared p alternatives
   AreAsDeclared p (Assertion kind place condition) = All (IsAsDeclared p) (names_read condition)
-  AreAsDeclared p (While place condition body) = All (IsAsDeclared p) (names_read condition) × AreAsDeclared p body
+  AreAsDeclared p (Repeat head body) = HeadIsAsDeclared p head × AreAsDeclared p body
 
   pub AllAreAsDeclared : Program → Alternatives → Type 0
   AllAreAsDeclared p (Last choices a) = AreAsDeclared p a
   AllAreAsDeclared p (When choices a rest) = AreAsDeclared p a × AllAreAsDeclared p rest
+
+-- no loop sets its parameter in its body, nor has it a loop over the same one there
+abbrev pub KeepsParameters : Effect → Type 0
+KeepsParameters nothing = ⊤
+KeepsParameters (assign target reads place) = ⊤
+KeepsParameters (next a b) = KeepsParameters a × KeepsParameters b
+KeepsParameters (choose tests a b place) = KeepsParameters a × KeepsParameters b
+KeepsParameters (observe values) = ⊤
+KeepsParameters (repeat tests body place) = KeepsParameters body
+KeepsParameters (count parameter bounds body place) = (sets parameter body ≡ false) × KeepsParameters body
 
 pub record Scoped (p : Program) (sub : Sub) : Type 0 where
   pub targets : (v : VarId) → defines v sub.statements ≡ true → (is_formal v sub || is_local v sub) ≡ true
@@ -96,6 +119,9 @@ pub record Scoped (p : Program) (sub : Sub) : Type 0 where
   pub relation_modes : All (HaveTheirModes p) (relation sub)
   pub target_modes : TargetsHaveTheirModes p (commands sub.statements)
   pub body_names : AreAsDeclared p (commands sub.statements)
+  -- a loop's parameter is the loop's own: it is no formal, is declared without a value, and is assigned to nowhere
+  pub parameters : (v : VarId) → counts v (effects sub.statements) ≡ true → (is_formal v sub ≡ false) × (initial_of v p ≡ None) × (assigns v (effects sub.statements) ≡ false)
+  pub parameters_kept : KeepsParameters (effects sub.statements)
   pub pre_names : (pre : CorePredicate) → sub.pre ≡ Some pre → All (IsAsDeclared p) (names_read pre.condition)
   pub post_names : (post : CorePredicate) → sub.post ≡ Some post → All (IsAsDeclared p) (names_read post.condition)
 

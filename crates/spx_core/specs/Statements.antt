@@ -25,7 +25,7 @@ use Rattle.spx_core.specs.declared.statement.CoreChoice.{CoreChoice}
 use Rattle.spx_core.specs.declared.function.Span.{Span}
 use Rattle.spx_core.specs.declared.rule.ExprType.{ExprType}
 use Rattle.spx_core.specs.declared.rule.Typing.{Typing}
-use Rattle.spx_core.specs.Commands.{Command, Skip, Set, Then, Choose, Select, Assertion, While, Alternatives, Last, When, choices_in, commands, has_others, has_others_last, listed, spans_of}
+use Rattle.spx_core.specs.Commands.{Command, Skip, Set, Then, Choose, Select, Count, Assertion, Repeat, Tested, Counted, Alternatives, Last, When, choices_in, commands, has_others, has_others_last, listed, spans_of}
 use Rattle.spx_core.specs.Dependency.{relation}
 use Rattle.spx_core.specs.Judged.{Judged, ◌>>=◌, breach_in, condition, each, if_there, judged, keeps, operand_of, referred_object, referred_target, referred_type}
 use Rattle.spx_core.specs.Extents.{extent}
@@ -166,6 +166,20 @@ are_given_once values alternatives =
 abbrev pub has_right_choices : CoreExpr → Alternatives → Bool
 has_right_choices selector alternatives = has_others_last alternatives && (not (is_ok (judged_heads selector alternatives)) || are_given_once (extent selector) alternatives)
 
+-- a loop counts over a type that has an order, between bounds of it (Ada 95 RM 3.6.1, 5.5)
+abbrev pub judged_bounds : Subtype → CoreRange → Judged ⊤
+judged_bounds subtype range = do
+  low ← judged range.low
+  _ ← operand_of subtype low
+  high ← judged range.high
+  operand_of subtype high
+
+abbrev pub judged_count : Count → Judged ⊤
+judged_count c = do
+  subtype ← referred_type c.type_name
+  _ ← keeps N10 c.type_name.root.name.place (has_numbers subtype.base.class)
+  if_there (judged_bounds subtype) c.bounds
+
 abbrev mutual
   pub judged_command : Command → Judged ⊤
   judged_command Skip = Ok tt
@@ -180,7 +194,8 @@ abbrev mutual
     of ← selected selector
     judged_alternatives of alternatives
   judged_command (Assertion kind place condition) = test condition
-  judged_command (While place condition body) = test condition >>= λ _. judged_command body
+  judged_command (Repeat (Tested place condition) body) = test condition >>= λ _. judged_command body
+  judged_command (Repeat (Counted c) body) = judged_count c >>= λ _. judged_command body
 
   pub judged_alternatives : ExprType → Alternatives → Judged ⊤
   judged_alternatives of (Last choices a) = judged_choices of choices >>= λ _. judged_command a

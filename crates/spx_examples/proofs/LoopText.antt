@@ -16,7 +16,7 @@ use Rattle.spx_tree.proofs.WrittenLevels.{written_level, spelled_stmt}
 use Rattle.spx_core.specs.declared.statement.CoreScheme.TheVariants as scheme
 use Rattle.spx_core.specs.declared.statement.CoreStmt.{CoreStmt}
 use Rattle.spx_core.specs.declared.statement.CoreStmt.TheVariants as stmt
-use Rattle.spx_core.specs.Commands.{Command, While, commands}
+use Rattle.spx_core.specs.Commands.{Command, Repeat, Tested, commands}
 use Rattle.spx_core.specs.Regions.{standard}
 use Rattle.spx_core.specs.Resolved.{resolved, resolved_stmt}
 use Rattle.spx_examples.specs.Assertions.{doing, program_of}
@@ -92,4 +92,4 @@ made = ap (λ (statement : CoreStmt). program_of (doing (statement ∷ []) 8)) r
 pub command_is : commands loop_sub.statements ≡ only loop_command
 command_is =
     while_is (place 5 4) (below_hundred_at 5 10) (place 5 18) (step_resolved ∷ []) closing
-    ∙ ap (λ (body : Command). only (While (place 5 4) (below_hundred_at 5 10) body)) (assignment_is (x_named 6 7) (successor 6 12))
+    ∙ ap (λ (body : Command). only (Repeat (Tested (place 5 4) (below_hundred_at 5 10)) body)) (assignment_is (x_named 6 7) (successor 6 12))

@@ -16,7 +16,7 @@ use Rattle.spx_core.specs.declared.statement.CoreScheme.TheVariants as scheme
 use Rattle.spx_core.specs.declared.rule.Typing.{Typing}
 use Rattle.spx_core.specs.declared.subprogram.Sub.{Sub}
 use Rattle.spx_core.specs.Judged.{Judged, ◌>>=◌, operation}
-use Rattle.spx_core.specs.Commands.{Command, Skip, Set, Then, Choose, Assertion, While, alternative_step, arm_step, stmt_step, commands}
+use Rattle.spx_core.specs.Commands.{Command, Skip, Set, Then, Choose, Assertion, Repeat, Tested, alternative_step, arm_step, stmt_step, commands}
 use Rattle.spx_core.proofs.Callers.CommandForms.{command-Assertion, command-Assignment, command-Null, command-While}
 use Rattle.spx_meaning.specs.declared.bad.BadKind.TheVariants.{Unset}
 use Rattle.spx_meaning.specs.Runs.{Outcome, Ended, then_do, demand, exports_set}
@@ -32,7 +32,7 @@ pub assignment_is : (target : Reference) (value : CoreExpr) → commands (stmt.A
 assignment_is target value = ap (λ c. Then c Skip) (command-Assignment target value)
 
 pub while_is : (at : Place) (condition : CoreExpr) (loop_word : Place) (body : List CoreStmt) (closing : Closing)
-    → commands (stmt.Loop (scheme.While at condition) loop_word body closing ∷ []) ≡ Then (While at condition (commands body)) Skip
+    → commands (stmt.Loop (scheme.While at condition) loop_word body closing ∷ []) ≡ Then (Repeat (Tested at condition) (commands body)) Skip
 while_is at condition loop_word body closing =
     ap (λ c. Then c Skip) (command-While (stmt.Loop (scheme.While at condition) loop_word body closing) (scheme.While at condition) loop_word body closing at condition refl refl)
 

@@ -22,7 +22,7 @@ use Rattle.spx_core.specs.declared.statement.CoreScheme.TheVariants as scheme
 use Rattle.spx_core.specs.declared.statement.CoreStmt.{CoreStmt}
 use Rattle.spx_core.specs.declared.statement.CoreStmt.TheVariants as stmt
 use Rattle.spx_core.specs.declared.subprogram.Sub.{Sub}
-use Rattle.spx_core.specs.Commands.{Command, While}
+use Rattle.spx_core.specs.Commands.{Command, Repeat, Tested}
 use Rattle.spx_examples.specs.Assertions.{doing, program_of}
 use Rattle.spx_examples.specs.Example.{in_code}
 use Rattle.spx_examples.specs.Increment.{place, word, inc_written}
@@ -101,4 +101,4 @@ loop_program = program_of loop_sub
 
 -- the loop as a command
 abbrev pub loop_command : Command
-loop_command = While (place 5 4) (below_hundred_at 5 10) (only (step_in 6))
+loop_command = Repeat (Tested (place 5 4) (below_hundred_at 5 10)) (only (step_in 6))

@@ -7,7 +7,7 @@ use Rattle.spx_core.specs.declared.entity.VarId.{VarId}
 use Rattle.spx_core.specs.declared.expression.CoreExpr.{CoreExpr}
 use Rattle.spx_core.specs.declared.expression.CoreExpr.TheVariants as expr
 use Rattle.spx_core.specs.declared.name.CoreName.{CoreName}
-use Rattle.spx_core.specs.Commands.{Command, Skip, Set, Then, Choose, Assertion, While}
+use Rattle.spx_core.specs.Commands.{Command, Skip, Set, Then, Choose, Assertion, Repeat, Tested}
 use Rattle.spx_term.specs.declared.condition.CondKind.TheVariants as kind
 use Rattle.spx_term.specs.declared.term.Term.{Term}
 use Rattle.spx_term.specs.declared.term.Term.TheVariants as term
@@ -36,7 +36,7 @@ step_in line = Set (x_named line 7) (successor line 12)
 
 -- `while X < 100 loop X := X + 1; end loop`
 abbrev pub counting : Command
-counting = While (place 5 4) below_hundred (only (step_in 6))
+counting = Repeat (Tested (place 5 4) below_hundred) (only (step_in 6))
 
 -- the same, `X := 98`, and the same again
 abbrev pub counting_again : Command
@@ -44,7 +44,7 @@ counting_again = Then counting (Then (Set (x_named 8 4) (expr.Number (pos 98) (p
 
 -- `while True loop null; end loop`
 abbrev pub endless : Command
-endless = While (place 5 4) (expr.Name (true_at 5 10)) (only Skip)
+endless = Repeat (Tested (place 5 4) (expr.Name (true_at 5 10))) (only Skip)
 
 -- what becomes of it at this bound, from this value of X
 abbrev pub runs_from : ℕ → ℤ → Command → Outcome
@@ -66,7 +66,7 @@ set_x = Set (x_named 6 7) (expr.Number (pos 1) (place 6 12))
 
 -- `while Y > 0 loop X := 1; end loop`
 abbrev pub deciding : Command
-deciding = While (place 5 4) y_is_positive (only set_x)
+deciding = Repeat (Tested (place 5 4) y_is_positive) (only set_x)
 
 -- the same, and then `Y := X`
 abbrev pub copying_after : Command
@@ -74,7 +74,7 @@ copying_after = Then deciding (only (Set (named (y_at 8 4)) (expr.Name (x_at 8 9
 
 -- the same with `Y := X` as the second statement of the body
 abbrev pub copying_in : Command
-copying_in = While (place 5 4) y_is_positive (Then set_x (only (Set (named (y_at 7 7)) (expr.Name (x_at 7 12)))))
+copying_in = Repeat (Tested (place 5 4) y_is_positive) (Then set_x (only (Set (named (y_at 7 7)) (expr.Name (x_at 7 12)))))
 
 -- `X := Y; Y := Z`
 abbrev pub passing_on : Command
@@ -82,7 +82,7 @@ passing_on = Then (Set (x_named 6 7) (expr.Name (y_at 6 12))) (only (Set (named 
 
 -- `while True loop X := Y; Y := Z; end loop`
 abbrev pub passing_turn_by_turn : Command
-passing_turn_by_turn = While (place 5 4) (expr.Name (true_at 5 10)) passing_on
+passing_turn_by_turn = Repeat (Tested (place 5 4) (expr.Name (true_at 5 10))) passing_on
 
 -- a variable that is none of these
 abbrev pub m : VarId
@@ -96,7 +96,7 @@ assert_in line = Assertion assertion.Assert (place line 11) (is_positive line 18
 
 -- `while X < 100 loop assert X > 0; X := X + 1; end loop`
 abbrev pub asserting : Command
-asserting = While (place 5 4) below_hundred (Then (assert_in 6) (only (step_in 7)))
+asserting = Repeat (Tested (place 5 4) below_hundred) (Then (assert_in 6) (only (step_in 7)))
 
 -- `if X < 100 then` this `end if`
 abbrev pub where_below : Command → Command
@@ -104,15 +104,15 @@ where_below c = Choose (place 6 7) below_hundred (only c) Skip
 
 -- `while X < 100 loop if X < 100 then assert X > 0; end if; end loop`
 abbrev pub asserting_in_arm : Command
-asserting_in_arm = While (place 5 4) below_hundred (only (where_below (assert_in 7)))
+asserting_in_arm = Repeat (Tested (place 5 4) below_hundred) (only (where_below (assert_in 7)))
 
 -- `while X < 100 loop if X < 100 then X := X + 1; end if; end loop`
 abbrev pub branching : Command
-branching = While (place 5 4) below_hundred (only (where_below (step_in 7)))
+branching = Repeat (Tested (place 5 4) below_hundred) (only (where_below (step_in 7)))
 
 -- the same with `assert X > 0` after the `if`
 abbrev pub branching_and_asserting : Command
-branching_and_asserting = While (place 5 4) below_hundred (Then (where_below (step_in 7)) (only (assert_in 9)))
+branching_and_asserting = Repeat (Tested (place 5 4) below_hundred) (Then (where_below (step_in 7)) (only (assert_in 9)))
 
 -- X and X~ lie in their type, and this is known too
 abbrev pub from_cut_with : Term → Tree → Tree

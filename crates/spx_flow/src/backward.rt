@@ -3,7 +3,7 @@
 ghost use Rattle.std.specs.Prelude.{◌≡◌, ◌==◌, ◌≤◌, All, length, map, IfOk, OnOk};
 ghost use Rattle.std.specs.List.{IsDistinct};
 ghost use Rattle.spx_core.specs.declared.statement.CoreArm.{CoreArm};
-ghost use Rattle.spx_core.specs.Commands.{Set, Skip, While, alternative, arm_before, arms_before, command, commands, loop_of, select};
+ghost use Rattle.spx_core.specs.Commands.{Set, Skip, Repeat, Tested, alternative, arm_before, arms_before, command, commands, loop_of, select};
 ghost use Rattle.spx_core.specs.Effects.{effect, effects, is_read, reads_of};
 ghost use Rattle.spx_core.specs.Mirror.VarSets.{holds};
 ghost use Rattle.spx_flow.specs.Branches.{Arms, Joins, Spreads};
@@ -238,10 +238,10 @@ fn before_while(
     rho: &mut Relation,
     mu: &mut Items<Occurrence>,
 ) -> Result<(), AllocError>
-    requires covers { Covers vars.now (effect (While place condition.now (commands body.now))) }
+    requires covers { Covers vars.now (effect (Repeat (Tested place condition.now) (commands body.now))) }
     requires size { length rho.old ≡ length vars.now }
     requires rows { AreRows (length vars.now) mu.old }
-    ensures { OnOk result (StepsBack vars.now (effect (While place condition.now (commands body.now))) rho.old rho.new mu.old mu.new) }
+    ensures { OnOk result (StepsBack vars.now (effect (Repeat (Tested place condition.now) (commands body.now))) rho.old rho.new mu.old mu.new) }
 {
     let mut turns = Relation::identity(alloc, rho.size())?;
     let mut inner = Items::new(alloc);

@@ -4,7 +4,7 @@ ghost use Rattle.spx_text.specs.declared.place.Place.{Place};
 ghost use Rattle.spx_core.specs.declared.entity.VarId.{VarId};
 ghost use Rattle.std.specs.List.{IsDistinct};
 ghost use Rattle.spx_core.specs.declared.statement.CoreArm.{CoreArm};
-ghost use Rattle.spx_core.specs.Commands.{Set, Skip, While, alternative, arm_before, arms_before, command, commands, loop_of, select};
+ghost use Rattle.spx_core.specs.Commands.{Set, Skip, Repeat, Tested, alternative, arm_before, arms_before, command, commands, loop_of, select};
 ghost use Rattle.spx_core.specs.Effects.{effect, effects, is_read, reads_of};
 ghost use Rattle.spx_core.specs.Marks.{Lambda};
 ghost use Rattle.spx_core.specs.Mirror.VarSets.{holds};
@@ -235,10 +235,10 @@ fn after_while(
     state: &mut Relation,
     lambda: &mut Items<Occurrence>,
 ) -> Result<(), AllocError>
-    requires covers { Covers vars.now (effect (While place condition.now (commands body.now))) }
+    requires covers { Covers vars.now (effect (Repeat (Tested place condition.now) (commands body.now))) }
     requires size { length state.old ≡ length vars.now }
     requires rows { AreRows (length vars.now) lambda.old }
-    ensures { OnOk result (StepsForward vars.now (effect (While place condition.now (commands body.now))) state.old state.new lambda.old lambda.new) }
+    ensures { OnOk result (StepsForward vars.now (effect (Repeat (Tested place condition.now) (commands body.now))) state.old state.new lambda.old lambda.new) }
 {
     let mut turns = Relation::identity(alloc, state.size())?;
     let mut inner = Items::new(alloc);

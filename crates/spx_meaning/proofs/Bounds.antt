@@ -2,7 +2,7 @@
 use Rattle.std.proofs.Common.{◌≡◌, ◌≢◌, ℕ, zero, suc, ◌≤◌, Bool, true, false, refl, sym, ap, ◌∙◌, arith}
 use Rattle.std.specs.Prelude.{if◌then◌else◌}
 use Rattle.spx_core.specs.declared.expression.CoreExpr.{CoreExpr}
-use Rattle.spx_core.specs.Commands.{Command, Skip, Set, Then, Choose, Select, Assertion, While, Alternatives, Last, When, commands}
+use Rattle.spx_core.specs.Commands.{Command, Skip, Set, Then, Choose, Select, Assertion, Repeat, Tested, Alternatives, Last, When, commands}
 use Rattle.spx_core.specs.Places.{place_of}
 use Rattle.spx_core.specs.Uses.{variable_of}
 use Rattle.spx_term.specs.declared.value.Value.{Value}
@@ -74,7 +74,7 @@ mutual
       kept_use_at (eval f n s selector) (eval f m s selector) (λ x. run_for x f n s alternatives) (λ x. run_for x f m s alternatives) (eval_at f n m s selector)
       (λ x. one_kept x f n m less s alternatives)
   runs_kept f n m less s (Assertion kind place condition) = λ there. refl
-  runs_kept f n m less s (While place condition body) =
+  runs_kept f n m less s (Repeat (Tested place condition) body) =
       turns_kept (λ k t. eval f k t condition) (λ k t. run f k t body) (λ k j t. eval_at f k j t condition) (λ k j less t. runs_kept f k j less t body) n m less s
 
   one_kept : (x : Value) (f : Frame) (n m : ℕ) → n ≤ m → (s : Store) (alternatives : Alternatives) → Kept (run_for x f n s alternatives) (run_for x f m s alternatives)

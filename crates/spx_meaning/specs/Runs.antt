@@ -1,5 +1,5 @@
 -- What statements and calls do to a store, within a bound (Ada 95 RM 3.3.1, 5.2 to 5.5, 6.4).
-use Rattle.std.specs.Prelude.{ℕ, zero, suc, ℤ, Bool, true, false, not, ◌||◌, if◌then◌else◌, List, [], ◌∷◌, is_some, Option, Some, None, option_map}
+use Rattle.std.specs.Prelude.{ℕ, zero, suc, ℤ, pos, Bool, true, false, not, ◌||◌, ◌&&◌, if◌then◌else◌, int_eq, int_le, ◌+ℤ◌, ◌-ℤ◌, List, [], ◌∷◌, is_some, Option, Some, None, option_map}
 use Rattle.std.specs.List.{list_all}
 use Rattle.spx_text.specs.declared.place.Place.{Place}
 use Rattle.spx_core.specs.declared.entity.VarId.{VarId}
@@ -12,16 +12,18 @@ use Rattle.spx_core.specs.declared.subprogram.CorePredicate.{CorePredicate}
 use Rattle.spx_core.specs.declared.subprogram.Sub.{Sub}
 use Rattle.spx_tree.specs.declared.statement.AssertionKind.{AssertionKind}
 use Rattle.spx_tree.specs.declared.statement.AssertionKind.TheVariants as assertion
-use Rattle.spx_core.specs.Commands.{Command, Skip, Set, Then, Choose, Select, Assertion, While, Alternatives, Last, When, commands, spans_of}
+use Rattle.spx_core.specs.Commands.{Command, Skip, Set, Then, Choose, Select, Count, Assertion, Repeat, Tested, Counted, Alternatives, Last, When, commands, spans_of}
 use Rattle.spx_core.specs.declared.entity.Subtype.{Subtype}
 use Rattle.spx_core.specs.declared.rule.ExprType.TheVariants.{Of}
 use Rattle.spx_core.specs.declared.statement.CoreChoice.{CoreChoice}
+use Rattle.spx_core.specs.declared.statement.CoreRange.{CoreRange}
 use Rattle.spx_core.specs.Formals.{formals, initial_of}
 use Rattle.spx_core.specs.Places.{place_of}
 use Rattle.spx_core.specs.Types.{is_chosen}
 use Rattle.spx_core.specs.Uses.{variable_of}
 use Rattle.spx_core.specs.Dependency.{exports}
 use Rattle.spx_term.specs.declared.value.Value.{Value}
+use Rattle.spx_term.specs.declared.value.Value.TheVariants.{Number}
 use Rattle.spx_meaning.specs.declared.bad.BadKind.{BadKind}
 use Rattle.spx_meaning.specs.declared.bad.BadKind.TheVariants as bad
 use Rattle.spx_meaning.specs.Stores.{Store, look, put, declared, type_of, is_in}
@@ -83,6 +85,41 @@ abbrev pub turns : (test : ℕ → Store → Answer) → (body : ℕ → Store �
 turns test body zero s = use_value (test zero s) (λ x. if as_truth x then Later else Ended s)
 turns test body (suc n) s = use_value (test (suc n) s) (λ x. if as_truth x then after_turn (body n s) (turns test body n) else Ended s)
 
+-- ---- loops that count (Ada 95 RM 5.5)
+
+-- The values of the bounds, each of which is evaluated once; where none are written, the ends of the type. Where there is a value between them, both lie in
+-- the type.
+abbrev pub in_bounds : Subtype → Place → (low high : ℤ) → Store → Outcome
+in_bounds subtype place low high s = demand (not (int_le low high) || (is_in subtype (Number low) && is_in subtype (Number high))) bad.Range place s
+
+abbrev pub with_bounds : Frame → ℕ → Store → Subtype → Option CoreRange → ((low high : ℤ) → Store → Outcome) → Outcome
+with_bounds f n s subtype None go = go subtype.first subtype.last s
+with_bounds f n s subtype (Some range) go =
+    use_value (eval f n s range.low) (λ low.
+    use_value (eval f n s range.high) (λ high.
+    then_do (in_bounds subtype (place_of range.low) (as_number low) (as_number high) s) (go (as_number low) (as_number high))))
+
+-- where a loop begins and where it ends, and the value after this one
+abbrev pub start_of : Count → (low high : ℤ) → ℤ
+start_of c low high = if c.is_reverse then high else low
+
+abbrev pub end_of : Count → (low high : ℤ) → ℤ
+end_of c low high = if c.is_reverse then low else high
+
+abbrev pub value_after : Count → ℤ → ℤ
+value_after c k = if c.is_reverse then k -ℤ pos 1 else k +ℤ pos 1
+
+-- The turns from this value of the parameter to the last one. A turn and the rest of the loop have one less of the bound; at 0 there is none.
+abbrev pub counted : Count → (body : ℕ → Store → Outcome) → (last : ℤ) → ℕ → ℤ → Store → Outcome
+counted c body last zero k s = Later
+counted c body last (suc n) k s =
+    after_turn (body n (put s c.parameter (Some (Number k)))) (λ t. if int_eq k last then Ended t else counted c body last n (value_after c k) t)
+
+-- a turn for each value between these, if there is one; then the parameter is unset
+abbrev pub over_range : Count → (body : ℕ → Store → Outcome) → ℕ → (low high : ℤ) → Store → Outcome
+over_range c body n low high s =
+    then_do (if int_le low high then counted c body (end_of c low high) n (start_of c low high) s else Ended s) (λ t. Ended (put t c.parameter None))
+
 -- A command; the bound is handed down to each part.
 abbrev mutual
   pub run : Frame → ℕ → Store → Command → Outcome
@@ -92,7 +129,8 @@ abbrev mutual
   run f n s (Choose place condition a b) = use_value (eval f n s condition) (λ x. if as_truth x then run f n s a else run f n s b)
   run f n s (Select place selector alternatives) = use_value (eval f n s selector) (λ x. run_for x f n s alternatives)
   run f n s (Assertion kind place condition) = demand (truth f s condition) (untrue kind) place s
-  run f n s (While place condition body) = turns (λ k t. eval f k t condition) (λ k t. run f k t body) n s
+  run f n s (Repeat (Tested place condition) body) = turns (λ k t. eval f k t condition) (λ k t. run f k t body) n s
+  run f n s (Repeat (Counted c) body) = with_bounds f n s (type_of f.program c.parameter) c.bounds (over_range c (λ k t. run f k t body) n)
 
   -- the alternative for this value: that with the last choices has all values that are left
   pub run_for : Value → Frame → ℕ → Store → Alternatives → Outcome

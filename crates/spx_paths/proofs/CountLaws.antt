@@ -20,7 +20,7 @@ use Rattle.spx_paths.specs.declared.count.Counts.{Counts}
 use Rattle.spx_paths.specs.Counts.{arrivals_in, capped, cut_arrivals_in, AreCounts}
 use Rattle.spx_core.specs.declared.subprogram.CorePredicate.{CorePredicate}
 use Rattle.spx_core.specs.declared.subprogram.Sub.{Sub}
-use Rattle.spx_core.specs.Commands.{Command, Skip, Set, Then, Choose, Select, Assertion, While, Alternatives, Last, When, alternative, alternatives_of, commands, has_own_cut, select}
+use Rattle.spx_core.specs.Commands.{Command, Skip, Set, Then, Choose, Select, Assertion, Repeat, Tested, Alternatives, Last, When, alternative, alternatives_of, commands, has_own_cut, select}
 use Rattle.spx_core.specs.Dependency.{exports}
 use Rattle.spx_core.specs.Formals.{formals, locals}
 use Rattle.spx_core.specs.Judged.{Judged, application}
@@ -178,7 +178,7 @@ mutual
       (count_checks p (now_term p) selector [] _).same ∙ count_for p sub alternatives (term_of p (now_term p) selector) [] rest leave r l goes leaves made
   count_walk p sub (Assertion assertion.Assert place condition) rest leave r l goes leaves made = (asserts kind.Assert place (term_of p (entry_term p sub) condition) Cut).same
   count_walk p sub (Assertion assertion.Check place condition) rest leave r l goes leaves made = (asserts kind.Check place (term_of p (entry_term p sub) condition) (rest made)).same ∙ goes made
-  count_walk p sub (While place condition body) rest leave r l goes leaves made =
+  count_walk p sub (Repeat (Tested place condition) body) rest leave r l goes leaves made =
       let turn = walk p sub body (λ m. Cut) rest in
       count_tested p condition (as_far_as_cut (has_own_cut body) turn) rest made
       ∙ ap₂ (λ (m n : ℕ). m + n) (count_as_far (has_own_cut body) turn made (arrivals body 1 r) (count_walk p sub body (λ m. Cut) rest 1 r (λ m. refl) goes made)) (goes made)
@@ -220,10 +220,10 @@ mutual
   count_cuts p sub (Select place selector alternatives) rest leave r l goes leaves = count_cuts_for p sub alternatives rest leave r l goes leaves
   count_cuts p sub (Assertion assertion.Assert place condition) rest leave r l goes leaves = count_from_cut p sub (conjuncts (term_of p (entry_term p sub) condition)) (rest 0) ∙ goes 0
   count_cuts p sub (Assertion assertion.Check place condition) rest leave r l goes leaves = refl
-  count_cuts p sub (While place condition body) rest leave r l goes leaves =
-      let again = walk p sub (While place condition body) rest leave in
-      let n = arrivals (While place condition body) r l in
-      let goes_again = count_walk p sub (While place condition body) rest leave r l goes leaves in
+  count_cuts p sub (Repeat (Tested place condition) body) rest leave r l goes leaves =
+      let again = walk p sub (Repeat (Tested place condition) body) rest leave in
+      let n = arrivals (Repeat (Tested place condition) body) r l in
+      let goes_again = count_walk p sub (Repeat (Tested place condition) body) rest leave r l goes leaves in
       let turn = walk p sub body again rest in
       count_both (loop_cut p sub (has_own_cut body) (turn 0)) _
       ∙ ap₂ (λ (m n : ℕ). m + n) (count_loop_cut p sub (has_own_cut body) (turn 0) (arrivals body n r) (count_walk p sub body again rest n r goes_again goes 0)) (count_cuts p sub body again rest n r goes_again goes)

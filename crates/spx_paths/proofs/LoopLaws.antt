@@ -10,7 +10,7 @@ use Rattle.spx_core.specs.declared.statement.CoreScheme.TheVariants as scheme
 use Rattle.spx_core.specs.declared.statement.CoreStmt.{CoreStmt}
 use Rattle.spx_core.specs.declared.statement.CoreStmt.TheVariants as stmt
 use Rattle.spx_core.specs.declared.subprogram.Sub.{Sub}
-use Rattle.spx_core.specs.Commands.{Command, Skip, While, command, commands, has_own_cut, loop_of}
+use Rattle.spx_core.specs.Commands.{Command, Skip, Repeat, Tested, command, commands, has_own_cut, loop_of}
 use Rattle.spx_core.proofs.Callers.CommandForms.{command-While}
 use Rattle.spx_term.specs.declared.path.PathStep.{PathStep}
 use Rattle.spx_term.specs.declared.term.Term.TheVariants as term
@@ -45,7 +45,7 @@ one_more_ends before beginning end ended all rest so_far ends is =
 
 -- the body as far as its cut, and the path that goes on where the condition is false
 pub while_arrives : (p : Program) (sub : Sub) (place : Place) (condition : CoreExpr) (body : Command) (old new taken : List PathStep) (found more all : List Beginning) → Splits p condition old new taken → ArriveAtCut p sub body taken found → Arrive p sub Skip new more → all ≡ found ++ more
-    → Arrive p sub (While place condition body) old all
+    → Arrive p sub (Repeat (Tested place condition) body) old all
 while_arrives p sub place condition body old new taken found more all splits arrives goes is = λ rest leave made.
     splits (as_far_as_cut (has_own_cut body) (walk p sub body (λ m. Cut) rest) made) (rest made)
     ∙ ap₂ (λ (x y : List (List PathStep)). x ++ y) (arrives rest made) (goes rest leave made)
@@ -77,8 +77,8 @@ loop_begins p sub body found more all one two is = λ rest leave.
     ∙ ap (λ paths. after_each paths (rest 0)) (sym is)
 
 -- at the end of the body its paths come to the head again
-pub while_begins : (p : Program) (sub : Sub) (place : Place) (condition : CoreExpr) (body : Command) (found all : List Beginning) → BeginLoop p sub body found → ArriveEach p sub (While place condition body) found all → BeginIn p sub (While place condition body) all
-while_begins p sub place condition body found all begins arrives = λ rest leave. begins (walk p sub (While place condition body) rest leave) rest ∙ arrives rest leave 0
+pub while_begins : (p : Program) (sub : Sub) (place : Place) (condition : CoreExpr) (body : Command) (found all : List Beginning) → BeginLoop p sub body found → ArriveEach p sub (Repeat (Tested place condition) body) found all → BeginIn p sub (Repeat (Tested place condition) body) all
+while_begins p sub place condition body found all begins arrives = λ rest leave. begins (walk p sub (Repeat (Tested place condition) body) rest leave) rest ∙ arrives rest leave 0
 
 -- ---- counts
 
@@ -97,7 +97,7 @@ cut_arrivals_both (stmt ∷ stmts) others rest leave =
 
 module _ (place : Place) (condition : CoreExpr) (stmts : List CoreStmt) (after before from_cuts : ℕ) where
   abbrev loop : Command
-  loop = While place condition (commands stmts)
+  loop = Repeat (Tested place condition) (commands stmts)
 
   -- the body as far as its own cut, and from there on
   pub counts_own_cut : (i : ℕ) (first others : List CoreStmt) (entered turn : Counts) → CutAt stmts i → first ≡ take i stmts → others ≡ drop i stmts → CountsBack (commands first) 1 entered → before ≡ capped (entered.before + after) → CountsBack (commands others) before turn
@@ -123,7 +123,7 @@ module _ (place : Place) (condition : CoreExpr) (stmts : List CoreStmt) (after b
 
 -- ---- statements
 
-pub loop_counts : (s : CoreStmt) (x : CoreScheme) (word : Place) (body : List CoreStmt) (closing : Closing) (after : ℕ) (counts : Counts) → s ≡ stmt.Loop x word body closing → ((place : Place) (condition : CoreExpr) → CountsBack (While place condition (commands body)) after counts)
+pub loop_counts : (s : CoreStmt) (x : CoreScheme) (word : Place) (body : List CoreStmt) (closing : Closing) (after : ℕ) (counts : Counts) → s ≡ stmt.Loop x word body closing → ((place : Place) (condition : CoreExpr) → CountsBack (Repeat (Tested place condition) (commands body)) after counts)
     → CountsBack (command s) after counts
 loop_counts s (scheme.While place condition) word body closing after counts is counted =
     subst (λ (c : Command). CountsBack c after counts) (sym (command_loop s (scheme.While place condition) word body closing is)) (counted place condition)

@@ -108,12 +108,12 @@ all_branches = flat_map branches
 
 -- these are the paths from the cuts in a command as far as what stands after it
 abbrev pub BeginIn : Program → Sub → Command → List Beginning → Type 0
-BeginIn p sub c found = (rest leave : ℕ → Tree) → all_branches (cuts p sub c rest leave) ≡ after_each found (rest 0)
+BeginIn p sub c found = (rest leave : ℕ → Tree) → all_branches (cuts p sub [] c rest leave) ≡ after_each found (rest 0)
 
 -- these are the paths from the cuts in arms as far as a part of them, if what stands last is given
 abbrev pub BeginBefore : Program → Sub → (whole part : Command → Command) → List Beginning → Type 0
 BeginBefore p sub whole part found =
-    (last : Command) (rest leave : ℕ → Tree) → all_branches (cuts p sub (whole last) rest leave) ≡ after_each found (rest 0) ++ all_branches (cuts p sub (part last) rest leave)
+    (last : Command) (rest leave : ℕ → Tree) → all_branches (cuts p sub [] (whole last) rest leave) ≡ after_each found (rest 0) ++ all_branches (cuts p sub [] (part last) rest leave)
 
 abbrev pub BeginArms : Program → Sub → List CoreArm → List Beginning → Type 0
 BeginArms p sub arms found = BeginBefore p sub (with_arms arms) (λ last. last) found
@@ -121,18 +121,18 @@ BeginArms p sub arms found = BeginBefore p sub (with_arms arms) (λ last. last) 
 -- the paths from the cuts in alternatives, one after the other
 abbrev pub cut_alternatives : Program → Sub → List (Option (List CoreChoice) × Command) → (rest leave : ℕ → Tree) → List (List PathStep)
 cut_alternatives p sub [] rest leave = []
-cut_alternatives p sub (first ∷ others) rest leave = all_branches (cuts p sub first.1 rest leave) ++ cut_alternatives p sub others rest leave
+cut_alternatives p sub (first ∷ others) rest leave = all_branches (cuts p sub [] first.1 rest leave) ++ cut_alternatives p sub others rest leave
 
 abbrev pub BeginAlternatives : Program → Sub → List (Option (List CoreChoice) × Command) → List Beginning → Type 0
 BeginAlternatives p sub alternatives found = (rest leave : ℕ → Tree) → cut_alternatives p sub alternatives rest leave ≡ after_each found (rest 0)
 
 -- these are the paths from the cut before the body of a loop, where it has none of its own, as far as the end of the body
 abbrev pub BeginBody : Program → Sub → Command → List Beginning → Type 0
-BeginBody p sub body found = (rest leave : ℕ → Tree) → all_branches (loop_cut p sub (has_own_cut body) (walk p sub body rest leave 0)) ≡ after_each found (rest 0)
+BeginBody p sub body found = (rest leave : ℕ → Tree) → all_branches (loop_cut p sub [] (has_own_cut body) (walk p sub body rest leave 0)) ≡ after_each found (rest 0)
 
 -- these are the paths from all cuts in a loop as far as the end of its body
 abbrev pub BeginLoop : Program → Sub → Command → List Beginning → Type 0
-BeginLoop p sub body found = (rest leave : ℕ → Tree) → all_branches (loop_cut p sub (has_own_cut body) (walk p sub body rest leave 0) ++ cuts p sub body rest leave) ≡ after_each found (rest 0)
+BeginLoop p sub body found = (rest leave : ℕ → Tree) → all_branches (loop_cut p sub [] (has_own_cut body) (walk p sub body rest leave 0) ++ cuts p sub [] body rest leave) ≡ after_each found (rest 0)
 
 -- the operator of a conjunction
 abbrev pub is_and : TermOp → Bool

@@ -1,20 +1,23 @@
 -- The trees of steps through a body.
-use Rattle.std.specs.Prelude.{ℕ, ◌+◌, Bool, true, false, ◌&&◌, if◌then◌else◌, List, [], ◌∷◌, ◌++◌, flat_map, map, Option, Some, None}
+use Rattle.std.specs.Prelude.{ℕ, ◌+◌, pos, Bool, true, false, not, ◌&&◌, if◌then◌else◌, List, [], ◌∷◌, ◌++◌, flat_map, map, is_some, Option, Some, None}
+use Rattle.std.specs.List.{list_all}
 use Rattle.spx_core.specs.declared.entity.VarId.{VarId}
 use Rattle.spx_core.specs.declared.program.Program.{Program}
 use Rattle.spx_core.specs.declared.subprogram.CorePredicate.{CorePredicate}
 use Rattle.spx_core.specs.declared.subprogram.Sub.{Sub}
 use Rattle.spx_tree.specs.declared.statement.AssertionKind.{AssertionKind}
 use Rattle.spx_tree.specs.declared.statement.AssertionKind.TheVariants as assertion
-use Rattle.spx_core.specs.Commands.{Command, Skip, Set, Then, Choose, Select, Assertion, While, Alternatives, Last, When, commands, has_own_cut, is_cut}
+use Rattle.spx_core.specs.Commands.{Command, Skip, Set, Then, Choose, Select, Count, Head, Assertion, Repeat, Tested, Counted, Alternatives, Last, When, commands, has_own_cut, is_cut}
 use Rattle.spx_text.specs.declared.place.Place.{Place}
 use Rattle.spx_core.specs.Places.{place_of}
 use Rattle.spx_core.specs.Dependency.{exports, imports}
 use Rattle.spx_core.specs.Formals.{formals, locals}
+use Rattle.spx_core.specs.Effects.{Read, reads_of}
 use Rattle.spx_core.specs.Uses.{variable_of}
 use Rattle.spx_core.specs.declared.expression.CoreExpr.{CoreExpr}
 use Rattle.spx_core.specs.declared.function.Span.{Span}
 use Rattle.spx_core.specs.declared.statement.CoreChoice.{CoreChoice}
+use Rattle.spx_core.specs.declared.statement.CoreRange.{CoreRange}
 use Rattle.spx_term.specs.declared.condition.CondKind.{CondKind}
 use Rattle.spx_term.specs.declared.condition.CondKind.TheVariants as kind
 use Rattle.spx_term.specs.declared.term.TermPrefix.TheVariants.{Not}
@@ -28,7 +31,7 @@ use Rattle.spx_term.specs.Conjuncts.{conjuncts}
 use Rattle.spx_term.specs.Steps.{Tree, Cut, Assume, Assign, Split, assume_all, assume_parts, check}
 use Rattle.spx_meaning.specs.Runs.{initial_value}
 use Rattle.spx_meaning.specs.Stores.{type_of}
-use Rattle.spx_paths.specs.Terms.{between, now, entry, now_term, entry_term, term_of, term_with}
+use Rattle.spx_paths.specs.Terms.{between, now, entry, first_name, last_name, now_term, entry_term, term_of, term_with}
 use Rattle.spx_paths.specs.Checks.{checks, in_type}
 use Rattle.spx_core.specs.declared.entity.Class.{Class}
 use Rattle.spx_core.specs.declared.entity.Class.TheVariants as class
@@ -69,6 +72,96 @@ tested p condition holds fails made =
 abbrev pub as_far_as_cut : Bool → (ℕ → Tree) → ℕ → Tree
 as_far_as_cut true body made = body made
 as_far_as_cut false body made = Cut
+
+-- ---- loops that count (Ada 95 RM 5.5)
+
+-- an import that is no export has one value all along
+abbrev pub keeps_value : Sub → VarId → Bool
+keeps_value sub v = imports v sub && not (exports v sub)
+
+-- a bound stands for itself where all that it reads has one value all along
+abbrev pub is_fixed : Sub → CoreExpr → Bool
+is_fixed sub e = list_all (λ (r : Read). keeps_value sub r.1) (reads_of e)
+
+-- a bound that does not has a name for its value
+abbrev pub bound_term : Program → Sub → Name → CoreExpr → Term
+bound_term p sub name e = if is_fixed sub e then term_of p (now_term p) e else term.Variable name
+
+abbrev pub low_term : Program → Sub → Count → Term
+low_term p sub c = low_in c.bounds
+  where
+    low_in : Option CoreRange → Term
+    low_in None = term.Number (type_of p c.parameter).first
+    low_in (Some range) = bound_term p sub (first_name c.parameter) range.low
+
+abbrev pub high_term : Program → Sub → Count → Term
+high_term p sub c = high_in c.bounds
+  where
+    high_in : Option CoreRange → Term
+    high_in None = term.Number (type_of p c.parameter).last
+    high_in (Some range) = bound_term p sub (last_name c.parameter) range.high
+
+-- the name of a bound takes its value where the loop begins
+abbrev pub naming : Program → Sub → Name → CoreExpr → Tree → Tree
+naming p sub name e rest = if is_fixed sub e then rest else Assign name (term_of p (now_term p) e) rest
+
+-- where a loop begins and where it ends
+abbrev pub start_term : Program → Sub → Count → Term
+start_term p sub c = if c.is_reverse then high_term p sub c else low_term p sub c
+
+abbrev pub end_term : Program → Sub → Count → Term
+end_term p sub c = if c.is_reverse then low_term p sub c else high_term p sub c
+
+-- the parameter has not come to the end, and its next value
+abbrev pub before_end : Program → Sub → Count → Term
+before_end p sub c = term.Infix (if c.is_reverse then operator.Greater else operator.Less) (now_term p c.parameter) (end_term p sub c)
+
+abbrev pub next_term : Program → Count → Term
+next_term p c = term.Infix (if c.is_reverse then operator.Subtract else operator.Add) (now_term p c.parameter) (term.Number (pos 1))
+
+-- both bounds lie in the type where there is a value between them
+abbrev pub range_goal : Subtype → (low high : Term) → Term
+range_goal subtype low high =
+    term.Infix operator.Implies (term.Infix operator.LessOrEqual low high)
+    (term.Infix operator.And (term.Infix operator.GreaterOrEqual low (term.Number subtype.first)) (term.Infix operator.LessOrEqual high (term.Number subtype.last)))
+
+-- after the loop the parameter is unset, and counts as the first value of its type
+abbrev pub past_loop : Program → Count → (ℕ → Tree) → ℕ → Tree
+past_loop p c rest made = Assign (now p c.parameter) (term.Number (type_of p c.parameter).first) (rest made)
+
+abbrev pub enter_range : Program → Sub → Count → Option CoreRange → (into out : ℕ → Tree) → ℕ → Tree
+enter_range p sub c None into out made = Assign (now p c.parameter) (start_term p sub c) (into made)
+enter_range p sub c (Some range) into out made =
+    let low = low_term p sub c in
+    let high = high_term p sub c in
+    checks p (now_term p) [] range.low (
+    checks p (now_term p) [] range.high (
+    naming p sub (first_name c.parameter) range.low (
+    naming p sub (last_name c.parameter) range.high (
+    check kind.Range (place_of range.low) (range_goal (type_of p c.parameter) low high ∷ []) (
+    Split
+    (Assume (term.Infix operator.LessOrEqual low high) (Assign (now p c.parameter) (start_term p sub c) (into made)))
+    (Assume (term.Infix operator.Greater low high) (out made)))))))
+
+-- ---- loops
+
+-- the steps where a loop is left
+abbrev pub leaving : Program → Head → (ℕ → Tree) → ℕ → Tree
+leaving p (Tested place condition) rest = rest
+leaving p (Counted c) rest = past_loop p c rest
+
+-- the steps from the head of a loop into its body, or out of it
+abbrev pub entering_loop : Program → Sub → Head → (into out : ℕ → Tree) → ℕ → Tree
+entering_loop p sub (Tested place condition) into out made = tested p condition into out made
+entering_loop p sub (Counted c) into out made = enter_range p sub c c.bounds into out made
+
+-- the steps from the end of the body into it again, or out of the loop
+abbrev pub again : Program → Sub → Head → (into out : ℕ → Tree) → ℕ → Tree
+again p sub (Tested place condition) into out made = tested p condition into out made
+again p sub (Counted c) into out made =
+    Split
+    (Assume (before_end p sub c) (Assign (now p c.parameter) (next_term p c) (into made)))
+    (Assume (term.Infix operator.Equal (now_term p c.parameter) (end_term p sub c)) (out made))
 
 -- ---- alternatives (Ada 95 RM 5.4)
 
@@ -111,13 +204,22 @@ abbrev mutual
   walk p sub (Select place selector alternatives) rest leave made =
       checks p (now_term p) [] selector (walk_for p sub (term_of p (now_term p) selector) [] alternatives rest leave made)
   walk p sub (Assertion kind place condition) rest leave made = noted kind place (term_of p (entry_term p sub) condition) (rest made)
-  walk p sub (While place condition body) rest leave made = tested p condition (as_far_as_cut (has_own_cut body) (walk p sub body (λ m. Cut) rest)) rest made
+  walk p sub (Repeat head body) rest leave made = entering_loop p sub head (as_far_as_cut (has_own_cut body) (walk p sub body (λ m. Cut) (leaving p head rest))) (leaving p head rest) made
 
   -- the alternatives for the value of the selector, after earlier choices
   pub walk_for : Program → Sub → Term → List Term → Alternatives → (rest leave : ℕ → Tree) → ℕ → Tree
   walk_for p sub t earlier (Last choices a) rest leave made = assume_all (alternative_facts t earlier choices) (walk p sub a rest leave made)
   walk_for p sub t earlier (When choices a more) rest leave made =
       Split (assume_all (alternative_facts t earlier choices) (walk p sub a rest leave made)) (walk_for p sub t (and_these t earlier choices) more rest leave made)
+
+-- the steps from the end of the body of a loop on
+abbrev pub end_of_turn : Program → Sub → Head → Command → (rest : ℕ → Tree) → ℕ → Tree
+end_of_turn p sub head body rest = again p sub head (as_far_as_cut (has_own_cut body) (walk p sub body (λ m. Cut) (leaving p head rest))) (leaving p head rest)
+
+-- a loop over a whole type has a turn at least
+abbrev pub may_be_passed : Head → Bool
+may_be_passed (Tested place condition) = true
+may_be_passed (Counted c) = is_some c.bounds
 
 -- How many paths there are through a command and then along the rest, where there are so many from where it goes on and from where it leaves.
 abbrev mutual
@@ -128,11 +230,15 @@ abbrev mutual
   arrivals (Choose place condition a b) rest leave = arrivals a rest leave + arrivals b rest leave
   arrivals (Select place selector alternatives) rest leave = arrivals_for alternatives rest leave
   arrivals (Assertion kind place condition) rest leave = if is_cut kind then 1 else rest
-  arrivals (While place condition body) rest leave = (if has_own_cut body then arrivals body 1 rest else 1) + rest
+  arrivals (Repeat head body) rest leave = (if has_own_cut body then arrivals body 1 rest else 1) + (if may_be_passed head then rest else 0)
 
   pub arrivals_for : Alternatives → (rest leave : ℕ) → ℕ
   arrivals_for (Last choices a) rest leave = arrivals a rest leave
   arrivals_for (When choices a more) rest leave = arrivals a rest leave + arrivals_for more rest leave
+
+-- how many there are from the end of the body of a loop
+abbrev pub turn_arrivals : Command → (rest : ℕ) → ℕ
+turn_arrivals body rest = (if has_own_cut body then arrivals body 1 rest else 1) + rest
 
 -- ---- bodies
 
@@ -189,39 +295,53 @@ abbrev pub pre_facts_on_entry : Program → Sub → Option CorePredicate → Lis
 pre_facts_on_entry p sub None = []
 pre_facts_on_entry p sub (Some pre) = conjuncts (term_with (entry_term p sub) (entry_term p sub) pre.condition)
 
--- what is known after each cut
-abbrev pub cut_facts : Program → Sub → List Term
-cut_facts p sub = flat_map (var_facts p) (formals sub) ++ (flat_map (var_facts p) (locals sub) ++ (flat_map (entry_facts p sub) (formals sub) ++ pre_facts_on_entry p sub sub.pre))
+-- the parameter of a loop lies in its type and between its bounds
+abbrev pub count_facts : Program → Sub → Count → List Term
+count_facts p sub c =
+    in_type (type_of p c.parameter) (now_term p c.parameter)
+    ++ term.Infix operator.GreaterOrEqual (now_term p c.parameter) (low_term p sub c) ∷ term.Infix operator.LessOrEqual (now_term p c.parameter) (high_term p sub c) ∷ []
+
+-- what is known after each cut inside these loops, the outermost first
+abbrev pub cut_facts : Program → Sub → List Count → List Term
+cut_facts p sub within =
+    flat_map (var_facts p) (formals sub)
+    ++ (flat_map (var_facts p) (locals sub) ++ (flat_map (entry_facts p sub) (formals sub) ++ (flat_map (count_facts p sub) within ++ pre_facts_on_entry p sub sub.pre)))
 
 -- the steps from a cut on, where this is known too
-abbrev pub from_cut : Program → Sub → List Term → Tree → Tree
-from_cut p sub known rest = assume_all (cut_facts p sub ++ known) rest
+abbrev pub from_cut : Program → Sub → List Count → List Term → Tree → Tree
+from_cut p sub within known rest = assume_all (cut_facts p sub within ++ known) rest
 
 -- the cut before the body of a loop that has none of its own: nothing more is known there
-abbrev pub loop_cut : Program → Sub → Bool → Tree → List Tree
-loop_cut p sub true rest = []
-loop_cut p sub false rest = from_cut p sub (term.Truth true ∷ []) rest ∷ []
+abbrev pub loop_cut : Program → Sub → List Count → Bool → Tree → List Tree
+loop_cut p sub within true rest = []
+loop_cut p sub within false rest = from_cut p sub within (term.Truth true ∷ []) rest ∷ []
 
 -- a tree from an `assert`, where it is known
-abbrev pub noted_cut : Program → Sub → AssertionKind → CoreExpr → Tree → List Tree
-noted_cut p sub assertion.Assert condition rest = from_cut p sub (conjuncts (term_of p (entry_term p sub) condition)) rest ∷ []
-noted_cut p sub assertion.Check condition rest = []
+abbrev pub noted_cut : Program → Sub → List Count → AssertionKind → CoreExpr → Tree → List Tree
+noted_cut p sub within assertion.Assert condition rest = from_cut p sub within (conjuncts (term_of p (entry_term p sub) condition)) rest ∷ []
+noted_cut p sub within assertion.Check condition rest = []
 
--- A tree from each cut in a command, in the order of the text, along what follows it.
+-- the loops that count around the body of a loop
+abbrev pub inside : List Count → Head → List Count
+inside within (Tested place condition) = within
+inside within (Counted c) = within ++ c ∷ []
+
+-- A tree from each cut in a command, in the order of the text, along what follows it. It stands inside these loops that count.
 abbrev mutual
-  pub cuts : Program → Sub → Command → (rest leave : ℕ → Tree) → List Tree
-  cuts p sub Skip rest leave = []
-  cuts p sub (Set target e) rest leave = []
-  cuts p sub (Then a b) rest leave = cuts p sub a (walk p sub b rest leave) leave ++ cuts p sub b rest leave
-  cuts p sub (Choose place condition a b) rest leave = cuts p sub a rest leave ++ cuts p sub b rest leave
-  cuts p sub (Select place selector alternatives) rest leave = cuts_for p sub alternatives rest leave
-  cuts p sub (Assertion kind place condition) rest leave = noted_cut p sub kind condition (rest 0)
-  cuts p sub (While place condition body) rest leave =
-      loop_cut p sub (has_own_cut body) (walk p sub body (walk p sub (While place condition body) rest leave) rest 0) ++ cuts p sub body (walk p sub (While place condition body) rest leave) rest
+  pub cuts : Program → Sub → List Count → Command → (rest leave : ℕ → Tree) → List Tree
+  cuts p sub within Skip rest leave = []
+  cuts p sub within (Set target e) rest leave = []
+  cuts p sub within (Then a b) rest leave = cuts p sub within a (walk p sub b rest leave) leave ++ cuts p sub within b rest leave
+  cuts p sub within (Choose place condition a b) rest leave = cuts p sub within a rest leave ++ cuts p sub within b rest leave
+  cuts p sub within (Select place selector alternatives) rest leave = cuts_for p sub within alternatives rest leave
+  cuts p sub within (Assertion kind place condition) rest leave = noted_cut p sub within kind condition (rest 0)
+  cuts p sub within (Repeat head body) rest leave =
+      loop_cut p sub (inside within head) (has_own_cut body) (walk p sub body (end_of_turn p sub head body rest) (leaving p head rest) 0)
+      ++ cuts p sub (inside within head) body (end_of_turn p sub head body rest) (leaving p head rest)
 
-  pub cuts_for : Program → Sub → Alternatives → (rest leave : ℕ → Tree) → List Tree
-  cuts_for p sub (Last choices a) rest leave = cuts p sub a rest leave
-  cuts_for p sub (When choices a more) rest leave = cuts p sub a rest leave ++ cuts_for p sub more rest leave
+  pub cuts_for : Program → Sub → List Count → Alternatives → (rest leave : ℕ → Tree) → List Tree
+  cuts_for p sub within (Last choices a) rest leave = cuts p sub within a rest leave
+  cuts_for p sub within (When choices a more) rest leave = cuts p sub within a rest leave ++ cuts_for p sub within more rest leave
 
 -- how many paths there are from the cuts in a command
 abbrev mutual
@@ -232,8 +352,7 @@ abbrev mutual
   cut_arrivals (Choose place condition a b) rest leave = cut_arrivals a rest leave + cut_arrivals b rest leave
   cut_arrivals (Select place selector alternatives) rest leave = cut_arrivals_for alternatives rest leave
   cut_arrivals (Assertion kind place condition) rest leave = if is_cut kind then rest else 0
-  cut_arrivals (While place condition body) rest leave =
-      (if has_own_cut body then 0 else arrivals body (arrivals (While place condition body) rest leave) rest) + cut_arrivals body (arrivals (While place condition body) rest leave) rest
+  cut_arrivals (Repeat head body) rest leave = (if has_own_cut body then 0 else arrivals body (turn_arrivals body rest) rest) + cut_arrivals body (turn_arrivals body rest) rest
 
   pub cut_arrivals_for : Alternatives → (rest leave : ℕ) → ℕ
   cut_arrivals_for (Last choices a) rest leave = cut_arrivals a rest leave
@@ -243,7 +362,7 @@ abbrev mutual
 
 -- a tree from each cut: from the start of the body, then from those in it
 abbrev pub trees_of : Program → Sub → List Tree
-trees_of p sub = start_tree p sub ∷ cuts p sub (commands sub.statements) (ending p sub) (ending p sub)
+trees_of p sub = start_tree p sub ∷ cuts p sub [] (commands sub.statements) (ending p sub) (ending p sub)
 
 -- how many paths there are from the cuts of a body
 abbrev pub path_count : Sub → ℕ

@@ -4,7 +4,7 @@ ghost use Rattle.spx_core.specs.declared.statement.CoreAlternative.{out-CoreAlte
 ghost use Rattle.spx_core.specs.declared.statement.CoreArm.{out-CoreArm};
 ghost use Rattle.spx_text.specs.declared.place.Place.{Place};
 ghost use Rattle.spx_core.specs.declared.expression.CoreExpr.{CoreExpr};
-ghost use Rattle.spx_core.specs.Commands.{Assertion, While, alternative, arm_before, command, commands, is_assert};
+ghost use Rattle.spx_core.specs.Commands.{Assertion, Repeat, Tested, alternative, arm_before, command, commands, is_assert};
 ghost use Rattle.spx_paths.specs.Counts.{capped, AreCounts, CountsAlternatives, CountsArms, CountsBack, OwnCut};
 ghost use Rattle.spx_paths.specs.Limits.{has_many_paths};
 
@@ -140,7 +140,7 @@ fn count_assertion(kind: AssertionKind, after: u32) -> Counts
 /// The counts of a loop over these statements, from how many paths there are after it.
 #[cycle(count)]
 fn count_while(body: &[CoreStmt], after: u32) -> Counts
-    ensures { (place : Place) (condition : CoreExpr) → CountsBack (While place condition (commands body.now)) after result }
+    ensures { (place : Place) (condition : CoreExpr) → CountsBack (Repeat (Tested place condition) (commands body.now)) after result }
 {
     match own_cut(body) {
         None => {

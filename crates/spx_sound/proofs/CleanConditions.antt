@@ -13,7 +13,7 @@ use Rattle.spx_core.specs.declared.name.Reference.{Reference}
 use Rattle.spx_core.specs.declared.expression.CoreExpr.{CoreExpr}
 use Rattle.spx_core.specs.declared.rule.ExprType.{ExprType}
 use Rattle.spx_core.specs.declared.rule.ExprType.TheVariants.{Of}
-use Rattle.spx_core.specs.Commands.{has_own_cut, Command, Skip, Set, Then, Choose, commands, Select, Assertion, While, Alternatives, Last, When}
+use Rattle.spx_core.specs.Commands.{has_own_cut, Command, Skip, Set, Then, Choose, commands, Select, Assertion, Repeat, Tested, Alternatives, Last, When}
 use Rattle.spx_core.specs.Places.{place_of}
 use Rattle.spx_core.specs.Dependency.{exports, imports}
 use Rattle.spx_core.specs.Formals.{formals, initial_of, locals}
@@ -90,7 +90,7 @@ module _ (p : Program) (sub : Sub) where
         (walk_for_sorted t (whole.sorted ∙ ap Some (ordered_sort select.typing.of select.ordered)) [] tt select.typing.of alternatives rest leave select.parts declared.1 k l made)
     walk_sorted (Assertion assertion.Assert place e) rest leave typed declared k l made = asserted_sorted p sub AssertCondition place e Cut typed declared tt
     walk_sorted (Assertion assertion.Check place e) rest leave typed declared k l made = asserted_sorted p sub CheckCondition place e (rest made) typed declared (k made)
-    walk_sorted (While place e body) rest leave typed declared k l made =
+    walk_sorted (Repeat (Tested place e) body) rest leave typed declared k l made =
         let parts = loop_typed place e body typed in
         let ends : ℕ → Tree = λ m. Cut in
         let first = walk p sub body ends rest in
@@ -146,10 +146,10 @@ module _ (p : Program) (sub : Sub) (known_sorted : AreFormulas (cut_facts p sub)
         let select = select_typed place selector alternatives typed in
         cuts_for_sorted select.typing.of alternatives rest leave select.parts declared.1 k l
     cuts_sorted (Assertion kind place e) rest leave typed declared k l = noted_cut_sorted kind e (rest 0) typed declared (k 0)
-    cuts_sorted (While place e body) rest leave typed declared k l =
+    cuts_sorted (Repeat (Tested place e) body) rest leave typed declared k l =
         let parts = loop_typed place e body typed in
-        let head = walk p sub (While place e body) rest leave in
-        let again : AreSortedTrees head = walk_sorted p sub (While place e body) rest leave typed declared k l in
+        let head = walk p sub (Repeat (Tested place e) body) rest leave in
+        let again : AreSortedTrees head = walk_sorted p sub (Repeat (Tested place e) body) rest leave typed declared k l in
         let turn = walk p sub body head rest 0 in
         both_sorted (loop_cut p sub (has_own_cut body) turn) (cuts p sub body head rest) (loop_cut_sorted (has_own_cut body) turn (walk_sorted p sub body head rest parts.1 declared.1 again k 0))
         (cuts_sorted body head rest parts.1 declared.1 again k)

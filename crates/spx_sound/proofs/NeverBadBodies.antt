@@ -9,7 +9,7 @@ use Rattle.spx_core.specs.declared.name.Reference.{Reference}
 use Rattle.spx_core.specs.declared.expression.CoreExpr.{CoreExpr}
 use Rattle.spx_core.specs.declared.rule.ExprType.{ExprType}
 use Rattle.spx_core.specs.declared.statement.CoreChoice.{CoreChoice}
-use Rattle.spx_core.specs.Commands.{Command, Skip, Set, Then, Choose, Select, Assertion, While, Alternatives, Last, When, has_others_last}
+use Rattle.spx_core.specs.Commands.{Command, Skip, Set, Then, Choose, Select, Assertion, Repeat, Tested, Alternatives, Last, When, has_others_last}
 use Rattle.spx_core.specs.Effects.{Read, effect, effect_among, reads_of, sets}
 use Rattle.spx_core.specs.Extents.{extent}
 use Rattle.spx_core.specs.Places.{place_of}
@@ -138,7 +138,7 @@ module _ (f : Frame) (began : Began f) where
     walk_good (Select place selector alternatives) n rest leave made s v typed declared spares from_cuts fits safe =
         select_good place selector alternatives n (walk_for_good alternatives n) rest leave made s v typed declared spares from_cuts fits safe
     walk_good (Assertion kind place e) n rest leave made s v typed declared spares from_cuts fits safe = assertion_good f began kind place e n rest leave made s v typed declared spares from_cuts fits safe
-    walk_good (While place e body) n rest leave made s v typed declared spares from_cuts fits safe = while_good f began place e body (walk_good body) n rest leave made s v typed declared spares from_cuts fits safe
+    walk_good (Repeat (Tested place e) body) n rest leave made s v typed declared spares from_cuts fits safe = while_good f began place e body (walk_good body) n rest leave made s v typed declared spares from_cuts fits safe
 
     walk_for_good : (alternatives : Alternatives) (n : ℕ) → GoOn alternatives n
     walk_for_good (Last choices a) n = last_good choices a n (walk_good a n)

@@ -18,7 +18,7 @@ use Rattle.spx_core.specs.Reads.{names_read}
 use Rattle.spx_core.specs.declared.program.TypeRow.{TypeRow}
 use Rattle.spx_core.specs.declared.program.Var.{Var}
 use Rattle.spx_core.specs.declared.subprogram.CorePredicate.{CorePredicate}
-use Rattle.spx_core.specs.Commands.{Command, Assertion, While, has_own_cut}
+use Rattle.spx_core.specs.Commands.{Command, Assertion, Repeat, Tested, has_own_cut}
 use Rattle.spx_core.specs.Formals.{formals, locals}
 use Rattle.spx_core.specs.Scopes.{AreAsDeclared, IsAsDeclared, TypesHaveValues}
 use Rattle.spx_core.specs.Statements.{test}
@@ -169,7 +169,7 @@ tested_good f n e holds fails made s v first second P L typed declared fits safe
 
 module _ (f : Frame) (began : Began f) (place : Place) (e : CoreExpr) (body : Command) (rest leave : ℕ → Tree) where
   abbrev loop : Command
-  loop = While place e body
+  loop = Repeat (Tested place e) body
 
   -- the steps from the head of the loop on
   abbrev head : ℕ → Tree
@@ -205,5 +205,5 @@ module _ (f : Frame) (began : Began f) (place : Place) (e : CoreExpr) (body : Co
       (λ t there. loop_good go typed declared spares from_cuts n there.made t there.valuation there.fits there.safe))
       (λ more. record { valuation = v; made = made; fits = fits; safe = more })
 
-pub while_good : (f : Frame) → Began f → (place : Place) (e : CoreExpr) (body : Command) → ((n : ℕ) → GoesOn f body n) → (n : ℕ) → GoesOn f (While place e body) n
+pub while_good : (f : Frame) → Began f → (place : Place) (e : CoreExpr) (body : Command) → ((n : ℕ) → GoesOn f body n) → (n : ℕ) → GoesOn f (Repeat (Tested place e) body) n
 while_good f began place e body go n rest leave made s v typed declared spares from_cuts fits safe = loop_good f began place e body rest leave go typed declared spares from_cuts n made s v fits safe

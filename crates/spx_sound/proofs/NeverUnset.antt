@@ -17,7 +17,7 @@ use Rattle.spx_core.specs.declared.expression.CoreExpr.{CoreExpr}
 use Rattle.spx_core.specs.declared.expression.CoreExpr.TheVariants.{Name, Attribute, Applied, Prefix, Infix, InType, InRange}
 use Rattle.spx_core.specs.declared.function.Mapping.{Mapping}
 use Rattle.spx_core.specs.declared.function.Span.{Span}
-use Rattle.spx_core.specs.Commands.{Command, Skip, Set, Then, Choose, Select, Assertion, While, Alternatives, Last, When}
+use Rattle.spx_core.specs.Commands.{Command, Skip, Set, Then, Choose, Select, Assertion, Repeat, Tested, Alternatives, Last, When}
 use Rattle.spx_core.specs.Effects.{Effect, Read, assign as assigns, effect, reads_of, choose, effect_among, nothing, next, observe, repeat, is_read, reads}
 use Rattle.spx_core.specs.Formals.{stands_in}
 use Rattle.spx_core.specs.Places.{place_of}
@@ -292,15 +292,15 @@ module _ (f : Frame) where
       (eval_kind f n s selector (λ v used unset. let r = read_place v selector used in clear r.0 v unset ([], reads_tests (reads_of selector) place alternatives r.0 v r.1, refl))) (each clear)
 
   -- a turn and the rest of the loop have one less of the bound
-  repeat_sets : (place : Place) (e : CoreExpr) (body : Command) → ((n : ℕ) (s : Store) → Sets n s body) → (n : ℕ) (s : Store) → Sets n s (While place e body)
+  repeat_sets : (place : Place) (e : CoreExpr) (body : Command) → ((n : ℕ) (s : Store) → Sets n s body) → (n : ℕ) (s : Store) → Sets n s (Repeat (Tested place e) body)
   repeat_sets place e body each zero s clear =
-      kind_use IsOther (eval f 0 s e) (λ x. if as_truth x then Later else Ended s) (Passes (effect (While place e body)) s) Nowhere
+      kind_use IsOther (eval f 0 s e) (λ x. if as_truth x then Later else Ended s) (Passes (effect (Repeat (Tested place e) body)) s) Nowhere
       (eval_kind f 0 s e (λ v used unset. let r = read_place v e used in clear r.0 v unset ([], inl (r.1, no_turn), refl)))
-      (λ x. good_if IsOther (as_truth x) Later (Ended s) (Passes (effect (While place e body)) s) Nowhere (λ is. tt) (λ is v unset. (unset, ([], no_turn, refl))))
+      (λ x. good_if IsOther (as_truth x) Later (Ended s) (Passes (effect (Repeat (Tested place e) body)) s) Nowhere (λ is. tt) (λ is v unset. (unset, ([], no_turn, refl))))
   repeat_sets place e body each (suc n) s clear =
       let tests = reads_of e in
-      let whole = effect (While place e body) in
-      let more : Store → Outcome = λ t. run f n t (While place e body) in
+      let whole = effect (Repeat (Tested place e) body) in
+      let more : Store → Outcome = λ t. run f n t (Repeat (Tested place e) body) in
       kind_use IsOther (eval f (suc n) s e) (λ x. if as_truth x then after_turn (run f n s body) more else Ended s) (Passes whole s) Nowhere
       (eval_kind f (suc n) s e (λ v used unset. let r = read_place v e used in clear r.0 v unset ([], inl (r.1, no_turn), refl)))
       (λ x.
@@ -323,7 +323,7 @@ module _ (f : Frame) where
     never_unset (Select place selector alternatives) n s clear = select_sets n s place selector alternatives (λ c x. never_unset_for alternatives n s x (reads_of selector) place c) clear
     never_unset (Assertion kind place condition) n s clear =
         good_demand IsOther (truth f s condition) (untrue kind) place s (Passes (effect (Assertion kind place condition)) s) Nowhere (λ v unset. (unset, ([], refl, refl))) (λ is. untrue_other kind)
-    never_unset (While place e body) n s clear = repeat_sets place e body (never_unset body) n s clear
+    never_unset (Repeat (Tested place e) body) n s clear = repeat_sets place e body (never_unset body) n s clear
 
     never_unset_for : (alternatives : Alternatives) (n : ℕ) (s : Store) (x : Value) (tests : List Read) (place : Place) → IsClear (effect_among tests place alternatives) s
         → Good IsOther (run_for x f n s alternatives) (Passes (effect_among tests place alternatives) s) Nowhere

@@ -38,7 +38,7 @@ use Rattle.spx_core.specs.declared.function.OperandType.TheVariants.{ValueOf}
 use Rattle.spx_core.specs.declared.function.Shift.TheVariants as shift
 use Rattle.spx_core.specs.Judged.{Judged, ◌>>=◌, keeps, named_object, named_target, object_at, each, if_there, typing, attribute_of, is_attribute, named_type, named_value, value_at, ordered_type, member_of_range, member_of_type, operand_of, referred_target, referred_type, target_at, type_at, whole, condition, sign, operation, expr_step, judged, application, applied_form, attribute_function, bounds_in, conversion, function_at, has_attribute, is_function, is_word, mapped, qualification}
 use Rattle.spx_core.specs.Extents.{extent}
-use Rattle.spx_core.specs.Commands.{Command, Set, Then, Choose, commands, Select, While, Alternatives, Last, When, choices_in, has_others_last, listed}
+use Rattle.spx_core.specs.Commands.{Command, Set, Then, Choose, commands, Select, Repeat, Tested, Alternatives, Last, When, choices_in, has_others_last, listed}
 use Rattle.spx_core.specs.Dependency.{relation}
 use Rattle.spx_core.specs.Resolved.{params_of}
 use Rattle.spx_core.specs.Statements.{judged_param, judged_item, judged_predicate, judged_decl, judged_command, judged_name, judged_sub, test, Typed, are_given_once, has_right_choices, judged_alternatives, judged_choice, judged_choices, judged_heads, selected}
@@ -396,7 +396,7 @@ arms_typed place e a b h =
     let arms = both_typed a b first.2 in
     (first.1, arms.0, arms.1)
 
-pub loop_typed : (place : Place) (e : CoreExpr) (body : Command) → IsTyped (While place e body) → (test e ≡ Ok tt) × IsTyped body
+pub loop_typed : (place : Place) (e : CoreExpr) (body : Command) → IsTyped (Repeat (Tested place e) body) → (test e ≡ Ok tt) × IsTyped body
 loop_typed place e body h = let first = bound (test e) (λ _. judged_command body) tt h in (first.1, first.2)
 
 -- so are the alternatives for a selector of a type

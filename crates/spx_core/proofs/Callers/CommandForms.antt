@@ -13,7 +13,7 @@ use Rattle.spx_core.specs.declared.statement.CoreAlternative.{CoreAlternative, o
 use Rattle.spx_core.specs.declared.statement.CoreChoice.{CoreChoice}
 use Rattle.spx_core.specs.declared.statement.CoreScheme.{CoreScheme}
 use Rattle.spx_core.specs.declared.statement.CoreScheme.TheVariants as scheme
-use Rattle.spx_core.specs.Commands.{Command, Skip, Set, Choose, Assertion, While, alternative, alternative_step, arm_before, arm_step, arms_before, command, commands, select, stmt_step}
+use Rattle.spx_core.specs.Commands.{Command, Skip, Set, Choose, Assertion, Repeat, Tested, alternative, alternative_step, arm_before, arm_step, arms_before, command, commands, select, stmt_step}
 use Rattle.spx_core.specs.Effects.{choose, effect, effects, reads_of}
 
 -- choices, and what is done for them
@@ -42,7 +42,7 @@ pub command-Case : (s : CoreStmt) (place : Place) (selector : CoreExpr) (alterna
 command-Case s place selector alternatives closing is = command_at s (CoreStmt-F.Case place selector alternatives closing) (ap out-CoreStmt is ∙ outs-Case place selector alternatives closing)
 
 pub command-While : (s : CoreStmt) (x : CoreScheme) (word : Place) (body : List CoreStmt) (closing : Closing) (place : Place) (condition : CoreExpr) → s ≡ Loop x word body closing → x ≡ scheme.While place condition
-    → command s ≡ While place condition (commands body)
+    → command s ≡ Repeat (Tested place condition) (commands body)
 command-While s x word body closing place condition is while =
     command_at s (CoreStmt-F.Loop (scheme.While place condition) word body closing) (ap out-CoreStmt (is ∙ ap (λ y. Loop y word body closing) while) ∙ outs-Loop (scheme.While place condition) word body closing)
 

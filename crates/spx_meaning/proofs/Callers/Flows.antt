@@ -6,7 +6,7 @@ use Rattle.spx_text.specs.declared.place.Place.{Place}
 use Rattle.spx_core.specs.declared.entity.VarId.{VarId}
 use Rattle.spx_core.specs.declared.name.Reference.{Reference}
 use Rattle.spx_core.specs.declared.expression.CoreExpr.{CoreExpr}
-use Rattle.spx_core.specs.Commands.{Command, Skip, Set, Then, Choose, Select, Assertion, While, Alternatives, Last, When}
+use Rattle.spx_core.specs.Commands.{Command, Skip, Set, Then, Choose, Select, Assertion, Repeat, Tested, Alternatives, Last, When}
 use Rattle.spx_core.specs.Uses.{denotes}
 use Rattle.spx_core.specs.Effects.{Effect, Read, choose, repeat, effect, effect_among, is_read, reads_of, sets}
 use Rattle.spx_core.specs.Flow.{MayFlow, stay, advance}
@@ -52,7 +52,7 @@ mutual
       let used = use_ended (eval f n s selector) (λ x. run_for x f n s alternatives) s' ended in
       kept_among f n s s' used.0 (reads_of selector) place alternatives v used.2 h
   kept f n s s' (Assertion kind place condition) v ended h = ap (λ x. look x v) (sym (demand_ended (truth f s condition) (untrue kind) place s s' ended).1)
-  kept f n s s' (While place condition body) v ended h =
+  kept f n s s' (Repeat (Tested place condition) body) v ended h =
       kept_in_turns (λ k t. eval f k t condition) (λ k t. run f k t body) v (λ k t t' turn. kept f k t t' body v turn h) n s s' (went f n s s' place condition body ended)
 
   kept_among : (f : Frame) (n : ℕ) (s s' : Store) (x : Value) (tests : List Read) (place : Place) (alternatives : Alternatives) (v : VarId) → run_for x f n s alternatives ≡ Ended s' → sets v (effect_among tests place alternatives) ≡ false → look s' v ≡ look s v
@@ -195,7 +195,7 @@ turn_before tests e place u v w turn flow = ⊎_elim (λ steps. inl (advance tur
 
 module _ (f g : Frame) (place : Place) (condition : CoreExpr) (body : Command) (each : (n m : ℕ) (s t : Store) → Pair (MayFlow (effect body)) s t (run f n s body) (run g m t body)) where
   abbrev loop : Command
-  loop = While place condition body
+  loop = Repeat (Tested place condition) body
 
   abbrev AgreeBefore : VarId → Store → Store → Type 0
   AgreeBefore w s t = Agree (λ u. MayFlow (effect loop) u w) s t
@@ -235,7 +235,7 @@ module _ (f g : Frame) where
         let here = demand_ended (truth f s condition) (untrue kind) place s s' ended in
         let there = demand_ended (truth g t condition) (untrue kind) place t t' ended' in
         ap (λ x. look x w) (sym here.1) ∙ agree w refl ∙ ap (λ x. look x w) there.1)
-    pairs n m s t (While place condition body) = pair_while f g place condition body (λ k j a b. pairs k j a b body) n m s t
+    pairs n m s t (Repeat (Tested place condition) body) = pair_while f g place condition body (λ k j a b. pairs k j a b body) n m s t
 
     pairs_among : (n m : ℕ) (s t : Store) (x : Value) (tests : List Read) (place : Place) (alternatives : Alternatives) → Pair (MayFlow (effect_among tests place alternatives)) s t (run_for x f n s alternatives) (run_for x g m t alternatives)
     pairs_among n m s t x tests place (Last choices a) = pair_wider (MayFlow (effect a)) _ s t (run f n s a) (run g m t a) (λ u w flow. inl flow) (pairs n m s t a)

@@ -5,7 +5,7 @@ use Rattle.spx_text.specs.declared.place.Place.{Place}
 use Rattle.spx_core.specs.declared.entity.VarId.{VarId}
 use Rattle.spx_core.specs.declared.program.Program.{Program}
 use Rattle.spx_core.specs.declared.expression.CoreExpr.{CoreExpr}
-use Rattle.spx_core.specs.Commands.{Command, Skip, Set, Then, Choose, Select, Assertion, While, Alternatives, Last, When}
+use Rattle.spx_core.specs.Commands.{Command, Skip, Set, Then, Choose, Select, Assertion, Repeat, Tested, Alternatives, Last, When}
 use Rattle.spx_core.specs.Places.{place_of}
 use Rattle.spx_core.specs.Uses.{variable_of}
 use Rattle.spx_term.specs.declared.value.Value.{Value}
@@ -69,7 +69,7 @@ mutual
   run_stays f n s (Choose place condition a b) = stays_use (eval f n s condition) _ (λ x. stays_arm (as_truth x) (run f n s a) (run f n s b) (run_stays f n s a) (run_stays f n s b))
   run_stays f n s (Select place selector alternatives) = stays_use (eval f n s selector) _ (λ x. one_stays x f n s alternatives)
   run_stays f n s (Assertion kind place condition) = stays_demand (truth f s condition) (untrue kind) place s
-  run_stays f n s (While place condition body) = stays_turns (λ k t. eval f k t condition) (λ k t. run f k t body) n s
+  run_stays f n s (Repeat (Tested place condition) body) = stays_turns (λ k t. eval f k t condition) (λ k t. run f k t body) n s
 
   one_stays : (x : Value) (f : Frame) (n : ℕ) (s : Store) (alternatives : Alternatives) → Stays (run_for x f n s alternatives)
   one_stays x f n s (Last choices a) = run_stays f n s a
@@ -116,5 +116,5 @@ module _ (test : ℕ → Store → Answer) (body : ℕ → Store → Outcome) (s
 abbrev pub LoopWent : Frame → CoreExpr → Command → ℕ → Store → Store → Type 0
 LoopWent f condition body = Went (λ k t. eval f k t condition) (λ k t. run f k t body)
 
-pub went : (f : Frame) (n : ℕ) (s s' : Store) (place : Place) (condition : CoreExpr) (body : Command) → run f n s (While place condition body) ≡ Ended s' → LoopWent f condition body n s s'
+pub went : (f : Frame) (n : ℕ) (s s' : Store) (place : Place) (condition : CoreExpr) (body : Command) → run f n s (Repeat (Tested place condition) body) ≡ Ended s' → LoopWent f condition body n s s'
 went f n s s' place condition body ended = loop_went (λ k t. eval f k t condition) (λ k t. run f k t body) (λ k t. run_stays f k t body) n s s' ended

@@ -4,7 +4,7 @@ use Rattle.spx_core.specs.declared.expression.CoreExpr.{CoreExpr}
 use Rattle.spx_core.specs.declared.statement.CoreAlternative.{CoreAlternative, out-CoreAlternative}
 use Rattle.spx_core.specs.declared.statement.CoreStmt.{CoreStmt}
 use Rattle.spx_core.specs.declared.statement.CoreArm.{CoreArm, out-CoreArm, fold_out-CoreArm}
-use Rattle.spx_core.specs.Commands.{Command, Assertion, Skip, While, alternative, arm_before, arms_before, command, commands, select}
+use Rattle.spx_core.specs.Commands.{Command, Assertion, Skip, Repeat, Tested, alternative, arm_before, arms_before, command, commands, select}
 use Rattle.spx_paths.specs.Walks.{arrivals, cut_arrivals}
 use Rattle.spx_paths.specs.Counts.{arrivals_in, cut_arrivals_in, CountsBack}
 use Rattle.spx_paths.proofs.ArriveLaws.{alternative_is, assertion_is, case_is, from_one, none_left_is}
@@ -82,4 +82,4 @@ count_stmt-returns-in-Loop t c =
     let at = c.in-Loop in
     let counts = c.count_while.result in
     loop_counts c.args.stmt.now at.scheme at.field-1 at.body at.field-3 c.args.after counts at.is
-    (subst (λ (xs : List CoreStmt). (place : Place) (condition : CoreExpr) → CountsBack (While place condition (commands xs)) c.args.after counts) c.as_slice-in-Loop.ensures c.count_while.ensures)
+    (subst (λ (xs : List CoreStmt). (place : Place) (condition : CoreExpr) → CountsBack (Repeat (Tested place condition) (commands xs)) c.args.after counts) c.as_slice-in-Loop.ensures c.count_while.ensures)
