@@ -20,7 +20,7 @@ use Rattle.spx_core.specs.declared.program.Program.{Program}
 use Rattle.spx_core.specs.declared.rule.Breach.{Breach}
 use Rattle.spx_core.specs.declared.rule.RuleName.{RuleName}
 use Rattle.spx_core.specs.declared.rule.RuleName.TheVariants.{U2, U7, U8, U11}
-use Rattle.spx_core.specs.Commands.{Command, Skip, Set, Then, Choose, Select, Assertion, Repeat, Tested, Alternatives, Last, When, commands}
+use Rattle.spx_core.specs.Commands.{Command, Skip, Set, Then, Choose, Select, Assertion, Repeat, Alternatives, Last, When, commands}
 use Rattle.spx_core.specs.Reads.{names_read}
 use Rattle.spx_core.specs.Uses.{denotes, is_same, mentions, variable_of, variable_is}
 use Rattle.spx_core.specs.Dependency.{exports, imports, relation, variables}
@@ -372,7 +372,7 @@ mutual
       (broken_in (obeyed_command first) (λ _. obeyed_command second) b e)
   assigned_input (Select place selector alternatives) b e = assigned_among alternatives b e
   assigned_input (Assertion kind place condition) b e = absurd (cc)
-  assigned_input (Repeat (Tested place condition) body) b e = assigned_input body b e
+  assigned_input (Repeat head body) b e = assigned_input body b e
 
   assigned_among : (alternatives : Alternatives) (b : Breach) → obeyed_alternatives alternatives ≡ Err b → (target : Reference) × OneAssigns alternatives target × IsRefused target b
   assigned_among (Last choices a) b e = assigned_input a b e
@@ -391,7 +391,7 @@ mutual
       ⊎_elim (λ l. no_input a target l parts.1 is) (λ r. no_input b target r parts.2 is) assigns
   no_input (Select place selector alternatives) target assigns ok is = no_input_among alternatives target assigns ok is
   no_input (Assertion kind place condition) target assigns ok is = assigns
-  no_input (Repeat (Tested place condition) body) target assigns ok is = no_input body target assigns ok is
+  no_input (Repeat head body) target assigns ok is = no_input body target assigns ok is
 
   no_input_among : (alternatives : Alternatives) (target : Reference) → OneAssigns alternatives target → obeyed_alternatives alternatives ≡ Ok tt → IsInput target → ⊥
   no_input_among (Last choices a) target assigns ok is = no_input a target assigns ok is

@@ -1,5 +1,5 @@
 -- What a program that breaks no rule on variables is.
-use Rattle.std.proofs.Common.{◌≡◌, ◌≢◌, ◌⊎◌, Bool, true, false, ◌||◌, List, Some, Ok, is_some, refl, sym, ap, ap₂, subst, ◌∙◌, inl, inr, ⊎_elim, not}
+use Rattle.std.proofs.Common.{◌≡◌, ◌≢◌, ◌⊎◌, Bool, true, false, ◌||◌, List, Option, Some, None, Ok, is_some, refl, sym, ap, ap₂, subst, ◌∙◌, inl, inr, ⊎_elim, not}
 use Rattle.std.specs.Prelude.{All, ◌&&◌, ◌==◌}
 use Rattle.std.specs.List.{list_all, list_any}
 use Rattle.std.proofs.lemmas.Bool.{and_parts, eqb-true, or_cases}
@@ -19,8 +19,8 @@ use Rattle.spx_core.specs.Reads.{names_read}
 use Rattle.spx_core.specs.Uses.{denotes, mentions, uses, variable_of, variable_is}
 use Rattle.spx_core.specs.Dependency.{exports, imports, relation}
 use Rattle.spx_core.specs.Mirror.DerivesItems.{has_export, has_import}
-use Rattle.spx_core.specs.Commands.{Command, Skip, Set, Then, Choose, Select, Assertion, Repeat, Tested, Alternatives, Last, When, commands}
-use Rattle.spx_core.specs.Effects.{Read, effect, effect_among, reads_of, sets}
+use Rattle.spx_core.specs.Commands.{Command, Skip, Set, Then, Choose, Select, Assertion, Repeat, Alternatives, Last, When, commands}
+use Rattle.spx_core.specs.Effects.{Read, assigns, effect, effects, effect_among, reads_of}
 use Rattle.spx_core.specs.Formals.{formals, is_formal, mode_of}
 use Rattle.spx_core.specs.Judged.{each, if_there, keeps}
 use Rattle.spx_core.specs.Obeyed.{Obeys, export_agrees, exports_once, import_agrees, is_imported, is_exported, is_constant, is_listed, is_right_relation, may_be_assigned, mode_named, names_formals, names_once, obeyed_export, obeyed_import, obeyed_item, obeyed_post, obeyed_pre, obeyed_relation, obeyed_alternatives, obeyed_command, obeyed_sub, pairs_once, place_or, unused_imports, variable_passes}
@@ -28,6 +28,7 @@ use Rattle.spx_core.specs.Rules.{ObeysRules, agrees}
 use Rattle.spx_core.specs.Scopes.{AllHaveTheirModes, HasItsMode, HaveTheirModes, Scoped, TargetsHaveTheirModes}
 use Rattle.spx_core.specs.Erased.{Visible}
 use Rattle.spx_core.proofs.Judgements.{bound, each_passes, kept, passes_at}
+use Rattle.spx_core.proofs.Callers.FlowLaws.{sets_by}
 use Rattle.spx_core.proofs.Callers.ListTests.{all_pass, found, passes}
 use Rattle.spx_core.proofs.Callers.Pairs.{exports_are, imports_are}
 use Rattle.spx_core.proofs.Scopes.{all_scoped}
@@ -36,27 +37,27 @@ use Rattle.spx_core.proofs.Callers.Variables.{same_is, same_var}
 -- ---- U2
 
 mutual
-  no_input : (p : Program) (v : VarId) (c : Command) → TargetsHaveTheirModes p c → obeyed_command c ≡ Ok tt → sets v (effect c) ≡ true → mode_of v p ≢ Some In
+  no_input : (p : Program) (v : VarId) (c : Command) → TargetsHaveTheirModes p c → obeyed_command c ≡ Ok tt → assigns v (effect c) ≡ true → mode_of v p ≢ Some In
   no_input p v Skip its h set is = absurd (cc)
   no_input p v (Then a b) its h set is =
       let parts = bound (obeyed_command a) (λ _. obeyed_command b) tt h in
-      ⊎_elim (λ first. no_input p v a its.0 parts.1 first is) (λ second. no_input p v b its.1 parts.2 second is) (or_cases (sets v (effect a)) (sets v (effect b)) set)
+      ⊎_elim (λ first. no_input p v a its.0 parts.1 first is) (λ second. no_input p v b its.1 parts.2 second is) (or_cases (assigns v (effect a)) (assigns v (effect b)) set)
   no_input p v (Choose place condition a b) its h set is =
       let parts = bound (obeyed_command a) (λ _. obeyed_command b) tt h in
-      ⊎_elim (λ first. no_input p v a its.0 parts.1 first is) (λ second. no_input p v b its.1 parts.2 second is) (or_cases (sets v (effect a)) (sets v (effect b)) set)
+      ⊎_elim (λ first. no_input p v a its.0 parts.1 first is) (λ second. no_input p v b its.1 parts.2 second is) (or_cases (assigns v (effect a)) (assigns v (effect b)) set)
   no_input p v (Set target value) its h set is =
       let e = sym (and_parts (may_be_assigned (mode_named target.root)) (not (is_constant target.root.entity)) (kept U2 target.root.name.place _ h)).0 ∙ ap may_be_assigned (its v set ∙ is) in
       absurd (cc)
   no_input p v (Select place selector alternatives) its h set is = no_input_among p v (reads_of selector) place alternatives its h set is
   no_input p v (Assertion kind place condition) its h set is = absurd (cc)
-  no_input p v (Repeat (Tested place condition) body) its h set is = no_input p v body its h set is
+  no_input p v (Repeat head body) its h set is = no_input p v body its h set is
 
-  no_input_among : (p : Program) (v : VarId) (tests : List Read) (place : Place) (alternatives : Alternatives) → AllHaveTheirModes p alternatives → obeyed_alternatives alternatives ≡ Ok tt → sets v (effect_among tests place alternatives) ≡ true
+  no_input_among : (p : Program) (v : VarId) (tests : List Read) (place : Place) (alternatives : Alternatives) → AllHaveTheirModes p alternatives → obeyed_alternatives alternatives ≡ Ok tt → assigns v (effect_among tests place alternatives) ≡ true
       → mode_of v p ≢ Some In
-  no_input_among p v tests place (Last choices a) its h set is = ⊎_elim (λ first. no_input p v a its h first is) (λ second. no_input p v a its h second is) (or_cases (sets v (effect a)) (sets v (effect a)) set)
+  no_input_among p v tests place (Last choices a) its h set is = ⊎_elim (λ first. no_input p v a its h first is) (λ second. no_input p v a its h second is) (or_cases (assigns v (effect a)) (assigns v (effect a)) set)
   no_input_among p v tests place (When choices a rest) its h set is =
       let parts = bound (obeyed_command a) (λ _. obeyed_alternatives rest) tt h in
-      ⊎_elim (λ first. no_input p v a its.0 parts.1 first is) (λ later. no_input_among p v tests place rest its.1 parts.2 later is) (or_cases (sets v (effect a)) (sets v (effect_among tests place rest)) set)
+      ⊎_elim (λ first. no_input p v a its.0 parts.1 first is) (λ later. no_input_among p v tests place rest its.1 parts.2 later is) (or_cases (assigns v (effect a)) (assigns v (effect_among tests place rest)) set)
 
 -- ---- U8
 
@@ -149,7 +150,9 @@ rules_of p sub scoped ok =
     let unused = and_parts (names_once (unused_imports (relation sub))) _ pairs.1 in
     let rest = and_parts (list_all (is_listed sub) (formals sub)) (list_all (names_formals sub) (relation sub)) unused.1 in
     record {
-      targets = λ v set is. no_input p v (commands sub.statements) scoped.target_modes d.2 set is;
+      targets = λ v set is.
+          ⊎_elim (λ assigned. no_input p v (commands sub.statements) scoped.target_modes d.2 assigned is)
+          (λ counted. let none = (scoped.parameters v counted).1 in let e : None ≡ Some In = sym none ∙ is in absurd cc) (sets_by v (effects sub.statements) set);
       exports_are_named_once = once.0;
       pairs_are_named_once = pairs.0;
       unused_are_named_once = unused.0;

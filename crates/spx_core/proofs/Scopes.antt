@@ -40,20 +40,20 @@ use Rattle.spx_core.specs.declared.program.Var.{Var}
 use Rattle.spx_core.specs.declared.program.Program.{Program}
 use Rattle.spx_core.specs.declared.subprogram.CorePredicate.{CorePredicate}
 use Rattle.spx_core.specs.declared.subprogram.Sub.{Sub}
-use Rattle.spx_core.specs.Commands.{Command, Skip, Set, Then, Choose, Select, Assertion, Repeat, Tested, Alternatives, Last, When, alternative, alternatives_of, arm_before, arms_before, chain, command, commands, select}
+use Rattle.spx_core.specs.Commands.{Command, Skip, Set, Then, Choose, Select, Assertion, Repeat, Tested, Counted, Alternatives, Last, When, alternative, alternatives_of, arm_before, arms_before, chain, command, commands, select}
 use Rattle.spx_core.specs.Commands as commands_of
 use Rattle.spx_core.specs.Reads.{names_read}
 use Rattle.spx_core.specs.Uses.{denotes, mentions, uses}
 use Rattle.spx_core.specs.Dependency.{items_of}
 use Rattle.spx_core.specs.Mirror.DerivesItems.{has_export, has_import}
 use Rattle.spx_core.specs.Formals.{is_formal, is_local, mode_in, mode_of, stands_in}
-use Rattle.spx_core.specs.Effects.{Read, effect, effect_among, is_read, reads, reads_of, sets}
+use Rattle.spx_core.specs.Effects.{Read, counts, effect, effect_among, is_read, reads, reads_of, sets}
 use Rattle.spx_core.specs.Obeyed.{mode_denoted}
 use Rattle.spx_core.specs.Regions.{Region, Regions}
 use Rattle.spx_core.specs.Resolved.{after_formals, around_body, at_start, counted_sub, Counts, declaring, declaring_all, exported_names, formal_names, items_for, local_names, local_variables, own_types, own_vars, resolved_alternative, resolved_arm, resolved_derives, resolved_expr, resolved_in, resolved_item, resolved_predicate, resolved_reference, resolved_scheme, resolved_stmt, resolved_sub, resolved_subs, standard_types, unit_name, var_of}
 use Rattle.spx_core.specs.Resolved as resolved
 use Rattle.spx_core.specs.Erased.{Visible, erased}
-use Rattle.spx_core.specs.Scopes.{AllAreAsDeclared, AllHaveTheirModes, AreAsDeclared, HasItsMode, HaveTheirModes, IsAsDeclared, IsLocalKind, Scoped, TargetsHaveTheirModes, kind_of, object_declared, object_in}
+use Rattle.spx_core.specs.Scopes.{AllAreAsDeclared, AllHaveTheirModes, AreAsDeclared, HasItsMode, HaveTheirModes, IsAsDeclared, IsLocalKind, KeepsParameters, Scoped, TargetsHaveTheirModes, kind_of, object_declared, object_in}
 use Rattle.spx_core.proofs.Callers.Pairs.{exports_are, imports_are}
 use Rattle.spx_core.proofs.Callers.ListTests.{each_append, some_mapped}
 use Rattle.spx_core.proofs.Callers.FlowLaws.{reads_uses}
@@ -99,6 +99,8 @@ abbrev mutual
   Resolves regions (Select place selector alternatives) = IsValueIn regions selector × AllResolve regions alternatives
   Resolves regions (Assertion kind place condition) = IsValueIn regions condition
   Resolves regions (Repeat (Tested place condition) body) = IsValueIn regions condition × Resolves regions body
+  -- no statement is such a loop
+  Resolves regions (Repeat (Counted c) body) = ⊥
 
   AllResolve : Regions → Alternatives → Type 0
   AllResolve regions (Last choices a) = Resolves regions a
@@ -219,6 +221,7 @@ module _ (T : Subtype → Type 0) (P : VarId → Object → Type 0) (regions : R
     assigned_variable (Select place selector alternatives) written h = assigned_among (reads_of selector) place alternatives written.1 h
     assigned_variable (Assertion kind place condition) written h = absurd cc
     assigned_variable (Repeat (Tested place condition) body) written h = assigned_variable body written.1 h
+    assigned_variable (Repeat (Counted c) body) written h = absurd written
 
     assigned_among : (tests : List Read) (place : Place) (alternatives : Alternatives) → AllResolve regions alternatives → sets v (effect_among tests place alternatives) ≡ true → (object : Object) × P v object
     assigned_among tests place (Last choices a) written h = ⊎_elim (assigned_variable a written) (assigned_variable a written) (or_cases (sets v (effect a)) (sets v (effect a)) h)
@@ -238,6 +241,7 @@ module _ (T : Subtype → Type 0) (P : VarId → Object → Type 0) (regions : R
     read_variable (Assertion kind place condition) written h = value_variable condition written h
     read_variable (Repeat (Tested place condition) body) written h =
         ⊎_elim (value_variable condition written.0) (read_variable body written.1) (or_cases (is_read v (reads_of condition)) (reads v (effect body)) h)
+    read_variable (Repeat (Counted c) body) written h = absurd written
 
     -- the tests read such a variable
     read_among : (tests : List Read) (place : Place) → (is_read v tests ≡ true → (object : Object) × P v object) → (alternatives : Alternatives) → AllResolve regions alternatives → reads v (effect_among tests place alternatives) ≡ true
@@ -272,6 +276,7 @@ module _ (p : Program) (T : Subtype → Type 0) (P : VarId → Object → Type 0
     targets_have_modes (Select place selector alternatives) written = all_have_modes alternatives written.1
     targets_have_modes (Assertion kind place condition) written = tt
     targets_have_modes (Repeat (Tested place condition) body) written = targets_have_modes body written.1
+    targets_have_modes (Repeat (Counted c) body) written = absurd written
 
     all_have_modes : (alternatives : Alternatives) → AllResolve regions alternatives → AllHaveTheirModes p alternatives
     all_have_modes (Last choices a) written = targets_have_modes a written
@@ -303,10 +308,43 @@ module _ (p : Program) (T : Subtype → Type 0) (P : VarId → Object → Type 0
     command_as_declared (Select place selector alternatives) written = (read_as_declared selector written.0, alternatives_as_declared alternatives written.1)
     command_as_declared (Assertion kind place condition) written = read_as_declared condition written
     command_as_declared (Repeat (Tested place condition) body) written = (read_as_declared condition written.0, command_as_declared body written.1)
+    command_as_declared (Repeat (Counted c) body) written = absurd written
 
     alternatives_as_declared : (alternatives : Alternatives) → AllResolve regions alternatives → AllAreAsDeclared p alternatives
     alternatives_as_declared (Last choices a) written = command_as_declared a written
     alternatives_as_declared (When choices a rest) written = (command_as_declared a written.0, alternatives_as_declared rest written.1)
+
+  -- ---- loops that count
+
+  mutual
+    none_counts : (v : VarId) (c : Command) → Resolves regions c → counts v (effect c) ≡ true → ⊥
+    none_counts v Skip written h = absurd cc
+    none_counts v (Set target value) written h = absurd cc
+    none_counts v (Then a b) written h = ⊎_elim (none_counts v a written.0) (none_counts v b written.1) (or_cases (counts v (effect a)) (counts v (effect b)) h)
+    none_counts v (Choose place condition a b) written h = ⊎_elim (none_counts v a written.1) (none_counts v b written.2) (or_cases (counts v (effect a)) (counts v (effect b)) h)
+    none_counts v (Select place selector alternatives) written h = none_counts_among v (reads_of selector) place alternatives written.1 h
+    none_counts v (Assertion kind place condition) written h = absurd cc
+    none_counts v (Repeat (Tested place condition) body) written h = none_counts v body written.1 h
+    none_counts v (Repeat (Counted c) body) written h = absurd written
+
+    none_counts_among : (v : VarId) (tests : List Read) (place : Place) (alternatives : Alternatives) → AllResolve regions alternatives → counts v (effect_among tests place alternatives) ≡ true → ⊥
+    none_counts_among v tests place (Last choices a) written h = ⊎_elim (none_counts v a written) (none_counts v a written) (or_cases (counts v (effect a)) (counts v (effect a)) h)
+    none_counts_among v tests place (When choices a rest) written h = ⊎_elim (none_counts v a written.0) (none_counts_among v tests place rest written.1) (or_cases (counts v (effect a)) (counts v (effect_among tests place rest)) h)
+
+  mutual
+    keeps_parameters : (c : Command) → Resolves regions c → KeepsParameters (effect c)
+    keeps_parameters Skip written = tt
+    keeps_parameters (Set target value) written = tt
+    keeps_parameters (Then a b) written = (keeps_parameters a written.0, keeps_parameters b written.1)
+    keeps_parameters (Choose place condition a b) written = (keeps_parameters a written.1, keeps_parameters b written.2)
+    keeps_parameters (Select place selector alternatives) written = keeps_parameters_among (reads_of selector) place alternatives written.1
+    keeps_parameters (Assertion kind place condition) written = tt
+    keeps_parameters (Repeat (Tested place condition) body) written = keeps_parameters body written.1
+    keeps_parameters (Repeat (Counted c) body) written = absurd written
+
+    keeps_parameters_among : (tests : List Read) (place : Place) (alternatives : Alternatives) → AllResolve regions alternatives → KeepsParameters (effect_among tests place alternatives)
+    keeps_parameters_among tests place (Last choices a) written = (keeps_parameters a written, keeps_parameters a written)
+    keeps_parameters_among tests place (When choices a rest) written = (keeps_parameters a written.0, keeps_parameters_among tests place rest written.1)
 
   predicate_as_declared : (items : List CoreDerivesItem) (written : Option Predicate) (predicate : CorePredicate) → option_map (resolved_predicate items regions) written ≡ Some predicate
       → All (IsAsDeclared p) (names_read predicate.condition)
@@ -432,6 +470,8 @@ module _ (p : Program) (more : List TypeRow) (types : p.types ≡ standard_types
         relation_modes = relation_has_modes p (HasRow more) FormalRow (λ v object h. h.1) annotations in_annotations s.derives;
         target_modes = targets_have_modes p (HasRow more) Own (λ v object h. h.1) body in_body (commands sub.statements) its_commands;
         body_names = command_as_declared p (HasRow more) Own (λ v object h. h.1) body in_body (commands sub.statements) its_commands;
+        parameters = λ v h. absurd (none_counts p (HasRow more) Own (λ v object h. h.1) body in_body v (commands sub.statements) its_commands h);
+        parameters_kept = keeps_parameters p (HasRow more) Own (λ v object h. h.1) body in_body (commands sub.statements) its_commands;
         pre_names = predicate_as_declared p (HasRow more) FormalRow (λ v object h. h.1) annotations in_annotations [] s.pre;
         post_names = predicate_as_declared p (HasRow more) FormalRow (λ v object h. h.1) annotations in_annotations its_items s.post;
       }

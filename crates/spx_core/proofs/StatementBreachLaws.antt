@@ -151,7 +151,7 @@ mutual
       by_part (selected selector) _ b h (selected_found at selector alternatives b) (λ of is e. alternatives_at at selector alternatives b of is (alternatives_found alternatives of b e)))
   command_found (Assertion kind at e) b h = broken.asserted kind at e b.rule b.place (condition_found e b h)
   command_found (Repeat (Tested at e) body) b h =
-      by_part (test e) (λ _. judged_command body) b h (λ is. broken.turned at e body b.rule b.place (condition_found e b is)) (λ _ _ is. broken.body at e body b.rule b.place (command_found body b is))
+      by_part (test e) (λ _. judged_command body) b h (λ is. broken.turned at e body b.rule b.place (condition_found e b is)) (λ _ _ is. broken.body (Tested at e) body b.rule b.place (command_found body b is))
 
   alternatives_found : (alternatives : Alternatives) (of : ExprType) (b : Breach) → judged_alternatives of alternatives ≡ Err b → BreaksAlternatives of alternatives b
   alternatives_found (Last choices a) of b h = by_part (judged_choices of choices) (λ _. judged_command a) b h (λ e. inl (choices_found of choices b e)) (λ _ _ e. inr (a, in_first a [], command_found a b e))
@@ -262,4 +262,5 @@ no_command _ _ _ (broken.alternative at selector alternatives a rule place withi
     no_command a rule place h (bodies_pass s.typing.of alternatives s.rest a within)
 no_command _ _ _ (broken.asserted kind at e rule place h) ok = no_condition e rule place h ok
 no_command _ _ _ (broken.turned at e body rule place h) ok = no_condition e rule place h (bound (test e) (λ _. judged_command body) tt ok).1
-no_command _ _ _ (broken.body at e body rule place h) ok = no_command body rule place h (bound (test e) (λ _. judged_command body) tt ok).2
+no_command _ _ _ (broken.body (Tested at e) body rule place h) ok = no_command body rule place h (bound (test e) (λ _. judged_command body) tt ok).2
+no_command _ _ _ (broken.body (Counted c) body rule place h) ok = no_command body rule place h (bound (judged_count c) (λ _. judged_command body) tt ok).2

@@ -120,7 +120,7 @@ pub record Scoped (p : Program) (sub : Sub) : Type 0 where
   pub target_modes : TargetsHaveTheirModes p (commands sub.statements)
   pub body_names : AreAsDeclared p (commands sub.statements)
   -- a loop's parameter is the loop's own: it is no formal, is declared without a value, and is assigned to nowhere
-  pub parameters : (v : VarId) → counts v (effects sub.statements) ≡ true → (is_formal v sub ≡ false) × (initial_of v p ≡ None) × (assigns v (effects sub.statements) ≡ false)
+  pub parameters : (v : VarId) → counts v (effects sub.statements) ≡ true → (is_formal v sub ≡ false) × (mode_of v p ≡ None) × (initial_of v p ≡ None) × (assigns v (effects sub.statements) ≡ false)
   pub parameters_kept : KeepsParameters (effects sub.statements)
   pub pre_names : (pre : CorePredicate) → sub.pre ≡ Some pre → All (IsAsDeclared p) (names_read pre.condition)
   pub post_names : (post : CorePredicate) → sub.post ≡ Some post → All (IsAsDeclared p) (names_read post.condition)

@@ -1,6 +1,7 @@
 -- What statements and calls do to a store, within a bound (Ada 95 RM 3.3.1, 5.2 to 5.5, 6.4).
-use Rattle.std.specs.Prelude.{ℕ, zero, suc, ℤ, pos, Bool, true, false, not, ◌||◌, ◌&&◌, if◌then◌else◌, int_eq, int_le, ◌+ℤ◌, ◌-ℤ◌, List, [], ◌∷◌, is_some, Option, Some, None, option_map}
+use Rattle.std.specs.Prelude.{ℕ, zero, suc, ℤ, pos, Bool, true, false, not, ◌||◌, ◌&&◌, if◌then◌else◌, int_le, ◌+ℤ◌, ◌-ℤ◌, List, [], ◌∷◌, is_some, Option, Some, None, option_map}
 use Rattle.std.specs.List.{list_all}
+use Rattle.std.specs.Ordering.{int_eq}
 use Rattle.spx_text.specs.declared.place.Place.{Place}
 use Rattle.spx_core.specs.declared.entity.VarId.{VarId}
 use Rattle.spx_core.specs.declared.entity.VarKind.{VarKind}

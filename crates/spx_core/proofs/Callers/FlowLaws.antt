@@ -1,9 +1,10 @@
 -- Laws of flow.
-use Rattle.std.proofs.Common.{◌≡◌, Bool, true, false, ◌||◌, List, [], ◌∷◌, ◌++◌, Option, Some, None, option_map, refl, sym, ap, ap₂, ◌∙◌, subst, inl, inr, ⊎_elim}
-use Rattle.std.specs.Prelude.{◌==◌}
+use Rattle.std.proofs.Common.{◌≡◌, Bool, true, false, not, ◌||◌, List, [], ◌∷◌, ◌++◌, Option, Some, None, option_map, refl, sym, ap, ap₂, ◌∙◌, subst, inl, inr, ⊎_elim}
+use Rattle.std.specs.Prelude.{◌==◌, ◌⊎◌}
 use Rattle.std.specs.List.{cons_option, filter_map, list_any}
 use Rattle.std.specs.Option.{option_to_list}
-use Rattle.std.proofs.lemmas.Bool.{or_parts, both_ways}
+use Rattle.std.proofs.Math.Bool.{cond}
+use Rattle.std.proofs.lemmas.Bool.{or_cases, or_left, or_parts, or_right, both_ways}
 use Rattle.std.proofs.lemmas.List.Folds.{list_any-append}
 use Rattle.spx_text.specs.declared.place.Place.{Place}
 use Rattle.spx_core.specs.declared.entity.VarId.{VarId}
@@ -15,9 +16,9 @@ use Rattle.spx_core.specs.Uses.{denotes, is_same, uses, variable_of}
 use Rattle.spx_core.specs.Reads.{names_read}
 use Rattle.spx_core.specs.Formals.{stands_in}
 use Rattle.spx_core.specs.Dependency.{imports}
-use Rattle.spx_core.specs.Effects.{Effect, Read, nothing, assign, next, choose, observe, repeat, effect, effects, sets, reads, is_read, read_of, reads_of, defines}
-use Rattle.spx_core.specs.Flow.{MayFlow, Steps, stay, advance, FlowsCompose, FlowsKeep}
-use Rattle.spx_core.specs.Ways.{Free, Goes, no_turn}
+use Rattle.spx_core.specs.Effects.{Effect, Read, nothing, assign, next, choose, observe, repeat, count, effect, effects, assigns, counts, sets, reads, is_read, reads_in, read_of, reads_of, defines}
+use Rattle.spx_core.specs.Flow.{MayFlow, Steps, stay, advance, Keeping, Turned, FlowsCompose, FlowsKeep}
+use Rattle.spx_core.specs.Ways.{Ways, Free, Goes, TurnsWithin, forgetting, no_turn}
 use Rattle.spx_core.specs.FlowRules.{left, ExportsAreSet}
 
 -- ---- reads
@@ -74,6 +75,25 @@ steps_from R u only w steps = from steps refl
     from stay here = here
     from (advance {v = x} r rest) here = from rest (only x (subst (λ v. R v x) (sym here) r))
 
+-- ---- loops that count
+
+-- turns that lead to a variable from no other start there
+turned_to : (bounds : Option (List Read)) (R : VarId → VarId → Type 0) (w : VarId) → ((v : VarId) → R v w → v ≡ w) → (u : VarId) → Turned bounds R u w → u ≡ w
+turned_to (Some reads) R w only u turns = steps_to R w only u turns
+turned_to None R w only u turns = only u (subst (R u) (steps_to R w only turns.0 turns.2) turns.1)
+
+-- turns that lead from a variable to no other end there
+turned_from : (bounds : Option (List Read)) (R : VarId → VarId → Type 0) (u : VarId) → ((v : VarId) → R u v → u ≡ v) → (w : VarId) → Turned bounds R u w → u ≡ w
+turned_from (Some reads) R u only w turns = steps_from R u only w turns
+turned_from None R u only w turns = steps_from R u only w (subst (λ v. Steps R v w) (sym (only turns.0 turns.1)) turns.2)
+
+-- where a turn leads from a variable to itself, so do turns
+turned_here : (bounds : Option (List Read)) (R : VarId → VarId → Type 0) (w : VarId) → R w w → Turned bounds R w w
+turned_here (Some reads) R w here = stay
+turned_here None R w here = (w, here, stay)
+
+-- ---- what is kept
+
 pub keeps : FlowsKeep
 keeps nothing u w none = (λ h. h, λ h. h)
 keeps (assign target values place) u w none = (
@@ -96,6 +116,17 @@ keeps (repeat tests body place) u w none = (
   λ e. inl (subst (Steps (MayFlow body) u) e stay),
 )
 
+keeps (count parameter bounds body place) u w none =
+    let parts = or_parts (is_same w (Some parameter)) (sets w body) none in
+    let only : (v : VarId) → Keeping parameter (MayFlow body) v w → v ≡ w = λ v turn. ⊎_elim (λ same. same.1) (λ other. (keeps body v w parts.1).0 other.1) turn in (
+      λ h. ⊎_elim
+      (λ turns.
+      let here : turns.0 ≡ w = turned_to bounds (Keeping parameter (MayFlow body)) w only turns.0 turns.2 in
+      ⊎_elim (λ given. absurd (both_ways (is_same w (Some parameter)) parts.0 (ap (λ x. is_same x (Some parameter)) (sym here) ∙ given.0))) (λ kept. kept.1 ∙ here) turns.1)
+      (λ tested. absurd (both_ways (sets w body) parts.1 tested.0)) h.1,
+      λ e. (parts.0, inl (w, inr (parts.0, e), turned_here bounds (Keeping parameter (MayFlow body)) w (inr (parts.0, (keeps body w w parts.1).1 refl)))),
+    )
+
 -- what is not read flows to itself only
 pub unread : (e : Effect) (u w : VarId) → reads u e ≡ false → MayFlow e u w → u ≡ w
 unread nothing u w none flow = flow
@@ -117,6 +148,34 @@ unread (repeat tests body place) u w none flow =
     let here : u ≡ tested.1 = steps_from (MayFlow body) u only tested.1 tested.2 in
     absurd (both_ways (is_read u tests) parts.0 (ap (λ v. is_read v tests) here ∙ tested.3)))
     flow
+unread (count parameter bounds body place) u w none flow =
+    let parts = or_parts (is_read u (reads_in bounds)) (reads u body) none in
+    let only : (v : VarId) → Keeping parameter (MayFlow body) u v → u ≡ v = λ v turn. ⊎_elim (λ same. same.1) (λ other. unread body u v parts.1 other.1) turn in
+    ⊎_elim
+    (λ turns.
+    let here : u ≡ turns.0 = ⊎_elim (λ given. absurd (both_ways (is_read u (reads_in bounds)) parts.0 given.1)) (λ kept. kept.1) turns.1 in
+    turned_from bounds (Keeping parameter (MayFlow body)) u only w (subst (λ v. Turned bounds (Keeping parameter (MayFlow body)) v w) (sym here) turns.2))
+    (λ tested. absurd (both_ways (is_read u (reads_in bounds)) parts.0 tested.1)) flow.1
+
+
+one_of_two : (a b c d : Bool) → ((a ≡ true) ⊎ (b ≡ true)) ⊎ ((c ≡ true) ⊎ (d ≡ true)) → ((a || b) ≡ true) ⊎ ((c || d) ≡ true)
+one_of_two a b c d h = ⊎_elim (λ x. inl (⊎_elim (or_left a b) (or_right a b) x)) (λ x. inr (⊎_elim (or_left c d) (or_right c d) x)) h
+
+-- what is set is assigned to, or is the parameter of a loop
+pub sets_by : (v : VarId) (e : Effect) → sets v e ≡ true → (assigns v e ≡ true) ⊎ (counts v e ≡ true)
+sets_by v nothing h = absurd cc
+sets_by v (assign target values place) h = inl h
+sets_by v (next a b) h =
+    ⊎_elim (λ first. one_of_two (assigns v a) (assigns v b) (counts v a) (counts v b) (⊎_elim (λ x. inl (inl x)) (λ x. inr (inl x)) (sets_by v a first)))
+    (λ second. one_of_two (assigns v a) (assigns v b) (counts v a) (counts v b) (⊎_elim (λ x. inl (inr x)) (λ x. inr (inr x)) (sets_by v b second))) (or_cases (sets v a) (sets v b) h)
+sets_by v (choose tests a b place) h =
+    ⊎_elim (λ first. one_of_two (assigns v a) (assigns v b) (counts v a) (counts v b) (⊎_elim (λ x. inl (inl x)) (λ x. inr (inl x)) (sets_by v a first)))
+    (λ second. one_of_two (assigns v a) (assigns v b) (counts v a) (counts v b) (⊎_elim (λ x. inl (inr x)) (λ x. inr (inr x)) (sets_by v b second))) (or_cases (sets v a) (sets v b) h)
+sets_by v (observe values) h = absurd cc
+sets_by v (repeat tests body place) h = sets_by v body h
+sets_by v (count parameter bounds body place) h =
+    ⊎_elim (λ same. inr (or_left (is_same v (Some parameter)) (counts v body) same))
+    (λ later. ⊎_elim (λ one. inl one) (λ two. inr (or_right (is_same v (Some parameter)) (counts v body) two)) (sets_by v body later)) (or_cases (is_same v (Some parameter)) (sets v body) h)
 
 -- ---- ways
 
@@ -127,6 +186,20 @@ without v front back f b = list_any-append (λ (w : VarId). w.0 == v.0) front ba
 without_target : (v : VarId) (target : Option VarId) → is_same v target ≡ false → stands_in v (option_to_list target) ≡ false
 without_target v (Some w) none = ap (λ b. b || false) none
 without_target v None none = refl
+
+-- nothing is set by what is left of a way where it was not set
+pub forgotten : (parameter v : VarId) (way : List VarId) → stands_in v way ≡ false → stands_in v (forgetting parameter way) ≡ false
+forgotten parameter v [] none = refl
+forgotten parameter v (w ∷ way) none = by_test (not (is_same w (Some parameter)))
+  where
+    by_test : (b : Bool) → stands_in v (cond b (w ∷ forgetting parameter way) (forgetting parameter way)) ≡ false
+    by_test true = ap₂ ◌||◌ (or_parts (w.0 == v.0) (stands_in v way) none).0 (forgotten parameter v way (or_parts (w.0 == v.0) (stands_in v way) none).1)
+    by_test false = forgotten parameter v way (or_parts (w.0 == v.0) (stands_in v way) none).1
+
+-- turns without the variable, where a turn is
+turns_free : {A : Ways} (bounds : Option (List Read)) (v : VarId) → Free A v → Free (TurnsWithin bounds A) v
+turns_free (Some reads) v one = ([], no_turn, refl)
+turns_free None v one = (one.0 ++ [], (one.0, [], refl, one.1, no_turn), without v one.0 [] one.2 refl)
 
 -- some way goes on without a variable that is not set
 pub goes_free : (e : Effect) (v : VarId) → sets v e ≡ false → Free (Goes e) v
@@ -142,6 +215,8 @@ goes_free (choose tests a b place) v none =
     (first.0, inl first.1, first.2)
 goes_free (observe values) v none = ([], refl, refl)
 goes_free (repeat tests body place) v none = ([], no_turn, refl)
+
+goes_free (count parameter bounds body place) v none = let inner = turns_free bounds v (goes_free body v (or_parts (is_same v (Some parameter)) (sets v body) none).1) in (forgetting parameter inner.0, (inner.0, inner.1, refl), forgotten parameter v inner.0 inner.2)
 
 -- ---- what is set
 
