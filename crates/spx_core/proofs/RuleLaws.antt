@@ -19,7 +19,7 @@ use Rattle.spx_core.specs.Reads.{names_read}
 use Rattle.spx_core.specs.Uses.{denotes, mentions, uses, variable_of, variable_is}
 use Rattle.spx_core.specs.Dependency.{exports, imports, relation}
 use Rattle.spx_core.specs.Mirror.DerivesItems.{has_export, has_import}
-use Rattle.spx_core.specs.Commands.{Command, Skip, Set, Then, Choose, Select, Assertion, Repeat, Alternatives, Last, When, commands}
+use Rattle.spx_core.specs.Commands.{Command, Skip, Set, Then, Choose, Select, Assertion, Repeat, Tested, Counted, Alternatives, Last, When, commands}
 use Rattle.spx_core.specs.Effects.{Read, assigns, effect, effects, effect_among, reads_of}
 use Rattle.spx_core.specs.Formals.{formals, is_formal, mode_of}
 use Rattle.spx_core.specs.Judged.{each, if_there, keeps}
@@ -50,7 +50,8 @@ mutual
       absurd (cc)
   no_input p v (Select place selector alternatives) its h set is = no_input_among p v (reads_of selector) place alternatives its h set is
   no_input p v (Assertion kind place condition) its h set is = absurd (cc)
-  no_input p v (Repeat head body) its h set is = no_input p v body its h set is
+  no_input p v (Repeat (Tested place condition) body) its h set is = no_input p v body its h set is
+  no_input p v (Repeat (Counted c) body) its h set is = no_input p v body its h set is
 
   no_input_among : (p : Program) (v : VarId) (tests : List Read) (place : Place) (alternatives : Alternatives) → AllHaveTheirModes p alternatives → obeyed_alternatives alternatives ≡ Ok tt → assigns v (effect_among tests place alternatives) ≡ true
       → mode_of v p ≢ Some In

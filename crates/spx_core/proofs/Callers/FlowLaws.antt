@@ -190,11 +190,14 @@ without_target v None none = refl
 -- nothing is set by what is left of a way where it was not set
 pub forgotten : (parameter v : VarId) (way : List VarId) → stands_in v way ≡ false → stands_in v (forgetting parameter way) ≡ false
 forgotten parameter v [] none = refl
-forgotten parameter v (w ∷ way) none = by_test (not (is_same w (Some parameter)))
+forgotten parameter v (w ∷ way) none =
+    let parts = or_parts (w.0 == v.0) (stands_in v way) none in
+    let rest = forgotten parameter v way parts.1 in
+    if_kept (not (is_same w (Some parameter))) (ap₂ ◌||◌ parts.0 rest) rest
   where
-    by_test : (b : Bool) → stands_in v (cond b (w ∷ forgetting parameter way) (forgetting parameter way)) ≡ false
-    by_test true = ap₂ ◌||◌ (or_parts (w.0 == v.0) (stands_in v way) none).0 (forgotten parameter v way (or_parts (w.0 == v.0) (stands_in v way) none).1)
-    by_test false = forgotten parameter v way (or_parts (w.0 == v.0) (stands_in v way) none).1
+    if_kept : (b : Bool) → stands_in v (w ∷ forgetting parameter way) ≡ false → stands_in v (forgetting parameter way) ≡ false → stands_in v (cond b (w ∷ forgetting parameter way) (forgetting parameter way)) ≡ false
+    if_kept true kept left = kept
+    if_kept false kept left = left
 
 -- turns without the variable, where a turn is
 turns_free : {A : Ways} (bounds : Option (List Read)) (v : VarId) → Free A v → Free (TurnsWithin bounds A) v
