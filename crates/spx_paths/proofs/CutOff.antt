@@ -4,7 +4,7 @@ use Rattle.std.proofs.lemmas.Bool.{or_cases}
 use Rattle.spx_tree.specs.declared.statement.AssertionKind.TheVariants as assertion
 use Rattle.spx_core.specs.declared.program.Program.{Program}
 use Rattle.spx_core.specs.declared.subprogram.Sub.{Sub}
-use Rattle.spx_core.specs.Commands.{Command, Skip, Set, Then, Choose, Select, Assertion, Repeat, Tested, has_own_cut, is_assert}
+use Rattle.spx_core.specs.Commands.{Command, Skip, Set, Then, Choose, Select, Assertion, Repeat, has_own_cut, is_assert}
 use Rattle.spx_term.specs.Steps.{Tree}
 use Rattle.spx_paths.specs.Walks.{walk}
 
@@ -18,7 +18,7 @@ module _ (p : Program) (sub : Sub) where
   assert_ends (Select place selector alternatives) is rest other leave made = absurd (cc)
   assert_ends (Assertion assertion.Assert place e) is rest other leave made = refl
   assert_ends (Assertion assertion.Check place e) is rest other leave made = absurd (cc)
-  assert_ends (Repeat (Tested place e) body) is rest other leave made = absurd (cc)
+  assert_ends (Repeat head body) is rest other leave made = absurd (cc)
 
   -- so does one that comes to the own cut of a body
   pub cut_off : (c : Command) → has_own_cut c ≡ true → (rest other leave : ℕ → Tree) (made : ℕ) → walk p sub c rest leave made ≡ walk p sub c other leave made
@@ -32,4 +32,4 @@ module _ (p : Program) (sub : Sub) where
   cut_off (Choose place e a b) own rest other leave made = absurd (cc)
   cut_off (Select place selector alternatives) own rest other leave made = absurd (cc)
   cut_off (Assertion kind place e) own rest other leave made = absurd (cc)
-  cut_off (Repeat (Tested place e) body) own rest other leave made = absurd (cc)
+  cut_off (Repeat head body) own rest other leave made = absurd (cc)
