@@ -100,7 +100,7 @@ fn assume_known(
     steps: &mut Items<PathStep>,
     sub: &Sub,
 ) -> Result<(), AllocError>
-    ensures { OnOk result (Walked steps.old steps.new (assume_all (cut_facts program.now sub.now))) }
+    ensures { OnOk result (Walked steps.old steps.new (assume_all (cut_facts program.now sub.now []))) }
 {
     assume_vars(alloc, program, steps, sub.formals())?;
     assume_vars(alloc, program, steps, sub.locals())?;
@@ -117,7 +117,7 @@ fn from_cut(
     sub: &Sub,
     fact: &Term,
 ) -> Result<Items<PathStep>, AllocError>
-    ensures { IfOk result (λ steps. Walked [] steps (from_cut program.now sub.now (conjuncts fact.now))) }
+    ensures { IfOk result (λ steps. Walked [] steps (from_cut program.now sub.now [] (conjuncts fact.now))) }
 {
     let mut steps = Items::new(alloc);
     assume_known(alloc, program, &mut steps, sub)?;
@@ -132,7 +132,7 @@ pub(crate) fn from_assert(
     sub: &Sub,
     condition: &CoreExpr,
 ) -> Result<Items<PathStep>, AllocError>
-    ensures { IfOk result (λ steps. Walked [] steps (from_cut program.now sub.now (conjuncts (term_of program.now (entry_term program.now sub.now) condition.now)))) }
+    ensures { IfOk result (λ steps. Walked [] steps (from_cut program.now sub.now [] (conjuncts (term_of program.now (entry_term program.now sub.now) condition.now)))) }
 {
     let fact = term_of(alloc, program, &Entered::OnEntry(sub), condition)?;
     from_cut(alloc, program, sub, &fact)
@@ -145,7 +145,7 @@ pub(crate) fn from_loop_cut(
     program: &Program,
     sub: &Sub,
 ) -> Result<Items<PathStep>, AllocError>
-    ensures { IfOk result (λ steps. Walked [] steps (from_cut program.now sub.now (term.Truth true ∷ []))) }
+    ensures { IfOk result (λ steps. Walked [] steps (from_cut program.now sub.now [] (term.Truth true ∷ []))) }
 {
     from_cut(alloc, program, sub, &Term::Truth(true))
 }

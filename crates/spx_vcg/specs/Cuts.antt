@@ -38,7 +38,7 @@ pub record Leaves (old new : Walk) (all left : List Tree) : Type 0 where
 
 -- the trees from the cuts in a command, each along what follows the command
 abbrev pub cuts_in : Program → Sub → Command → Command → List Tree
-cuts_in p sub c following = cuts p sub c (to_end p sub following) (ending p sub)
+cuts_in p sub c following = cuts p sub [] c (to_end p sub following) (ending p sub)
 
 -- those in alternatives
 abbrev pub cuts_among : Program → Sub → List (Option (List CoreChoice) × Command) → Command → List Tree

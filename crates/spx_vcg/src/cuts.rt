@@ -41,7 +41,7 @@ impl Walk {
     ) -> Result<(), AllocError>
         requires whole { Whole self.old }
         requires interface { IsInterfaceOf body.now.sub.now interface.now }
-        ensures { OnOk result (BeginsAnew self.old self.new (assume_all (cut_facts body.now.program.now body.now.sub.now))) }
+        ensures { OnOk result (BeginsAnew self.old self.new (assume_all (cut_facts body.now.program.now body.now.sub.now []))) }
     {
         self.begin_anew(alloc);
         self.assume_known(alloc, body, interface)?;
@@ -57,7 +57,7 @@ impl Walk {
         rest: &Rest,
     ) -> Result<(), AllocError>
         requires { Whole self.old }
-        ensures { OnOk result (Leaves self.old self.new (noted_cut body.now.program.now body.now.sub.now Assert condition.now (to_end body.now.program.now body.now.sub.now (after rest.now) 0)) []) }
+        ensures { OnOk result (Leaves self.old self.new (noted_cut body.now.program.now body.now.sub.now [] Assert condition.now (to_end body.now.program.now body.now.sub.now (after rest.now) 0)) []) }
     {
         let interface = Interface::of(alloc, body.sub)?;
         self.after_cut(alloc, body, &interface)?;
@@ -77,7 +77,7 @@ impl Walk {
         again: &Rest,
     ) -> Result<(), AllocError>
         requires { Whole self.old }
-        ensures { OnOk result (Leaves self.old self.new (loop_cut body.now.program.now body.now.sub.now (has_own_cut (commands stmts.now)) (to_end body.now.program.now body.now.sub.now (Then (commands stmts.now) (after again.now)) 0)) []) }
+        ensures { OnOk result (Leaves self.old self.new (loop_cut body.now.program.now body.now.sub.now [] (has_own_cut (commands stmts.now)) (to_end body.now.program.now body.now.sub.now (Then (commands stmts.now) (after again.now)) 0)) []) }
     {
         if has_own_cut(stmts) {
             return Ok(());
@@ -137,7 +137,7 @@ impl Walk {
         again: &Rest,
     ) -> Result<(), AllocError>
         requires { Whole self.old }
-        ensures { OnOk result (Leaves self.old self.new (loop_cut body.now.program.now body.now.sub.now (has_own_cut (commands stmts.now)) (to_end body.now.program.now body.now.sub.now (Then (commands stmts.now) (after again.now)) 0) ++ cuts_in body.now.program.now body.now.sub.now (commands stmts.now) (after again.now)) []) }
+        ensures { OnOk result (Leaves self.old self.new (loop_cut body.now.program.now body.now.sub.now [] (has_own_cut (commands stmts.now)) (to_end body.now.program.now body.now.sub.now (Then (commands stmts.now) (after again.now)) 0) ++ cuts_in body.now.program.now body.now.sub.now (commands stmts.now) (after again.now)) []) }
     {
         self.from_loop_cut(alloc, body, stmts, again)?;
         self.cuts(alloc, body, stmts, again)?;

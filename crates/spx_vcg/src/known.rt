@@ -95,7 +95,7 @@ impl Walk {
     ) -> Result<(), AllocError>
         requires whole { Whole self.old }
         requires interface { IsInterfaceOf body.now.sub.now interface.now }
-        ensures { OnOk result (Goes self.old self.new (assume_all (cut_facts body.now.program.now body.now.sub.now))) }
+        ensures { OnOk result (Goes self.old self.new (assume_all (cut_facts body.now.program.now body.now.sub.now []))) }
     {
         self.assume_values(alloc, body.program, body.sub.formals())?;
         self.assume_values(alloc, body.program, body.sub.locals())?;
