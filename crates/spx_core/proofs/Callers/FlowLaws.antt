@@ -196,8 +196,8 @@ forgotten parameter v (w ∷ way) none =
     if_kept (not (is_same w (Some parameter))) (ap₂ ◌||◌ parts.0 rest) rest
   where
     if_kept : (b : Bool) → stands_in v (w ∷ forgetting parameter way) ≡ false → stands_in v (forgetting parameter way) ≡ false → stands_in v (cond b (w ∷ forgetting parameter way) (forgetting parameter way)) ≡ false
-    if_kept true kept left = kept
-    if_kept false kept left = left
+    if_kept true with_it without_it = with_it
+    if_kept false with_it without_it = without_it
 
 -- turns without the variable, where a turn is
 turns_free : {A : Ways} (bounds : Option (List Read)) (v : VarId) → Free A v → Free (TurnsWithin bounds A) v
