@@ -24,6 +24,7 @@ has_loop (next a b) = has_loop a || has_loop b
 has_loop (choose tests a b place) = has_loop a || has_loop b
 has_loop (observe values) = false
 has_loop (repeat tests body place) = true
+has_loop (count parameter bounds body place) = true
 
 -- a mark makes no loop
 pub marked_loops : (at : Place) (m : VarId) (e : Effect) → has_loop (marked at m e) ≡ has_loop e
@@ -33,6 +34,7 @@ marked_loops at m (next a b) = ap₂ ◌||◌ (marked_loops at m a) (marked_loop
 marked_loops at m (choose tests a b place) = ap₂ ◌||◌ (marked_loops at m a) (marked_loops at m b)
 marked_loops at m (observe values) = refl
 marked_loops at m (repeat tests body place) = refl
+marked_loops at m (count parameter bounds body place) = refl
 
 -- ---- flow
 
@@ -51,6 +53,7 @@ sources (next a b) w = flat_map (sources a) (sources b w)
 sources (choose tests a b place) w = sources a w ++ (sources b w ++ only (sets w a || sets w b) (vars_of tests))
 sources (observe values) w = w ∷ []
 sources (repeat tests body place) w = []
+sources (count parameter bounds body place) w = []
 
 -- what is read comes there where a test holds
 comes_if : (b : Bool) (reads : List Read) (u : VarId) → Among (only b (vars_of reads)) u ↔ (IsTrue b × IsTrue (is_read u reads))
@@ -75,6 +78,7 @@ sources_are (choose tests a b place) none u w =
     (either (sources_are a parts.0 u w) (chain (of_both (sources b w) chosen u) (either (sources_are b parts.1 u w) (comes_if (sets w a || sets w b) tests u))))
 sources_are (observe values) none u w = chain (of_single w u) (flipped w u)
 sources_are (repeat tests body place) none u w = absurd (cc)
+sources_are (count parameter bounds body place) none u w = absurd (cc)
 
 -- ---- occurrences
 
@@ -87,6 +91,8 @@ occurrences (next a b) = occurrences a ++ occurrences b
 occurrences (choose tests a b place) = place ∷ (occurrences a ++ occurrences b)
 occurrences (observe values) = []
 occurrences (repeat tests body place) = place ∷ occurrences body
+occurrences (count parameter None body place) = occurrences body
+occurrences (count parameter (Some bounds) body place) = place ∷ occurrences body
 
 pub occurrences_are : (e : Effect) (at : Place) → Among (occurrences e) at ↔ Occurs e at
 occurrences_are nothing at = same
@@ -96,6 +102,8 @@ occurrences_are (next a b) at = chain (of_both (occurrences a) (occurrences b) a
 occurrences_are (choose tests a b place) at = either same (chain (of_both (occurrences a) (occurrences b) at) (either (occurrences_are a at) (occurrences_are b at)))
 occurrences_are (observe values) at = same
 occurrences_are (repeat tests body place) at = either same (occurrences_are body at)
+occurrences_are (count parameter None body place) at = (λ h. inr ((occurrences_are body at).0 h), λ h. ⊎_elim (λ none. absurd (let e = none.0 in cc)) (λ inner. (occurrences_are body at).1 inner) h)
+occurrences_are (count parameter (Some bounds) body place) at = either (λ e. (refl, e), λ h. h.1) (occurrences_are body at)
 
 -- ---- ways that do not set v
 

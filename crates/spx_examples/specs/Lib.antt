@@ -20,3 +20,4 @@ pub mod Assertions
 pub mod AssertionText
 pub mod Loops
 pub mod LoopText
+pub mod CountedLoops

@@ -6,6 +6,7 @@
 pub mod assertion_laws;
 pub mod branch_laws;
 pub mod call_laws;
+pub mod count_laws;
 pub mod declaration_laws;
 pub mod flow_laws;
 pub mod laws;

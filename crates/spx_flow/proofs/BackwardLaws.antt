@@ -8,8 +8,8 @@ use Rattle.std.proofs.lemmas.List.Elements.{All-push}
 use Rattle.std.proofs.lemmas.Option.{slice_get_within}
 use Rattle.spx_text.specs.declared.place.Place.{Place}
 use Rattle.spx_core.specs.declared.entity.VarId.{VarId}
-use Rattle.spx_core.specs.Effects.{Effect, Read, nothing, assign, next, choose, observe, repeat, is_read, sets}
-use Rattle.spx_core.specs.Flow.{MayFlow}
+use Rattle.spx_core.specs.Effects.{Effect, Read, nothing, assign, next, choose, observe, repeat, count, is_read, sets}
+use Rattle.spx_core.specs.Flow.{MayFlow, Steps, stay, advance, Keeping}
 use Rattle.spx_core.specs.Marks.{Mu, Occurs}
 use Rattle.spx_core.specs.Mirror.VarSets.{holds, place_in_set}
 use Rattle.spx_rows.specs.Relations.{Matrix, Has, Holds}
@@ -218,6 +218,13 @@ still_set : (e : Effect) (v w : VarId) → sets v e ≡ true → MayFlow e v w �
 still_set e v w set flow true is = is
 still_set e v w set flow false none = ap (λ x. sets x e) (sym ((keeps e v w none).0 flow)) ∙ set
 
+-- and so it is through turns of a loop that counts
+still_turning : (parameter : VarId) (body : Effect) (v w : VarId) → sets v body ≡ true → Steps (Keeping parameter (MayFlow body)) v w → sets w body ≡ true
+still_turning parameter body v w set stay = set
+still_turning parameter body v w set (advance {v = x} turn rest) =
+    still_turning parameter body x w
+    (⊎_elim (λ kept. subst (λ y. sets y body ≡ true) kept.1 set) (λ flow. still_set body v x set flow.1 (sets x body) refl) turn) rest
+
 -- an occurrence gives its value to a variable that is set
 pub mu_sets : (e : Effect) (p : Place) (w : VarId) → Mu e p w → sets w e ≡ true
 mu_sets nothing p w h = absurd h
@@ -230,6 +237,10 @@ mu_sets (observe values) p w h = absurd h
 mu_sets (repeat tests body place) p w h =
     let all = repeat tests body place in
     ⊎_elim (λ tested. tested.1) (λ (q : (v : VarId) × Mu body p v × MayFlow all v w). still_set all q.0 w (mu_sets body p q.0 q.1) q.2 (sets w body) refl) h
+
+mu_sets (count parameter bounds body place) p w h =
+    ⊎_elim (λ given. or_right (is_same w (Some parameter)) (sets w body) given.2)
+    (λ turned. or_right (is_same w (Some parameter)) (sets w body) (still_turning parameter body turned.0 w (mu_sets body p turned.0 turned.1) turned.3)) h.1
 
 -- one statement more is before the others
 pub steps_next : (set : List ℕ) (e d : Effect) (old mid new : Matrix) (start before after : List Occurrence) → Covers set e → StepsBack set d old mid start before → StepsBack set e mid new before after → StepsBack set (next e d) old new start after
