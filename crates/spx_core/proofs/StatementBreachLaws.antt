@@ -5,28 +5,30 @@ use Rattle.std.proofs.lemmas.Bool.{and_cases, and_parts, both_ways, not-false, o
 use Rattle.std.proofs.lemmas.List.Elements.{Contains-append_left, Contains-append_right}
 use Rattle.spx_text.specs.declared.place.Place.{Place}
 use Rattle.spx_core.specs.declared.entity.Entity.{Entity}
+use Rattle.spx_core.specs.declared.entity.Entity.TheVariants as entity
 use Rattle.spx_core.specs.declared.entity.Subtype.{Subtype}
 use Rattle.spx_core.specs.declared.name.Reference.{Reference}
 use Rattle.spx_core.specs.declared.expression.CoreExpr.{CoreExpr}
 use Rattle.spx_core.specs.declared.statement.CoreChoice.{CoreChoice}
+use Rattle.spx_core.specs.declared.statement.CoreRange.{CoreRange}
 use Rattle.spx_core.specs.declared.rule.Breach.{Breach}
 use Rattle.spx_core.specs.declared.rule.RuleName.{RuleName}
 use Rattle.spx_core.specs.declared.rule.RuleName.TheVariants.{N10, N12, N17}
 use Rattle.spx_core.specs.declared.rule.ExprType.{ExprType}
 use Rattle.spx_core.specs.declared.rule.ExprType.TheVariants.{Of}
 use Rattle.spx_core.specs.declared.rule.Typing.{Typing}
-use Rattle.spx_core.specs.Commands.{Command, Skip, Set, Then, Choose, Select, Assertion, Repeat, Tested, Counted, Alternatives, Last, When, bodies_in, choices_in, has_others, has_others_last, listed, spans_of}
+use Rattle.spx_core.specs.Commands.{Command, Count, Skip, Set, Then, Choose, Select, Assertion, Repeat, Tested, Counted, Alternatives, Last, When, bodies_in, choices_in, has_others, has_others_last, listed, spans_of}
 use Rattle.spx_core.specs.HasType.{HasType}
 use Rattle.spx_core.specs.Extents.{extent}
-use Rattle.spx_core.specs.Judged.{Judged, ◌>>=◌, if_there, judged, keeps, named_target, operand_of, referred_target}
+use Rattle.spx_core.specs.Judged.{Judged, ◌>>=◌, if_there, judged, keeps, named_target, operand_of, referred_target, referred_type}
 use Rattle.spx_core.specs.NameBreaches as broken
-use Rattle.spx_core.specs.NameBreaches.{BreaksChoice, BreaksCommand, HasBadChoices, IsBoundOf, IsTarget, assigned_type}
-use Rattle.spx_core.specs.Statements.{are_given_once, assignment, chosen, has_right_choices, judged_alternatives, judged_choice, judged_choices, judged_command, judged_heads, selected, static_at, test}
-use Rattle.spx_core.specs.Types.{are_apart, cover, is_of, is_ordered, is_same_type, lies_in}
+use Rattle.spx_core.specs.NameBreaches.{BreaksBound, BreaksChoice, BreaksCommand, BreaksCount, HasBadChoices, IsBoundOf, IsTarget, assigned_type}
+use Rattle.spx_core.specs.Statements.{are_given_once, assignment, chosen, has_right_choices, judged_alternatives, judged_bounds, judged_choice, judged_choices, judged_command, judged_count, judged_heads, selected, static_at, test}
+use Rattle.spx_core.specs.Types.{are_apart, cover, has_numbers, is_of, is_ordered, is_same_type, lies_in}
 use Rattle.spx_core.proofs.Elements.{in_cases, in_first, in_none, in_rest}
 use Rattle.spx_core.proofs.Judgements.{bound, by_part, by_test, each_broken, joined, kept, ok_is, passes_at, some_is}
 use Rattle.spx_core.proofs.TypedLaws.{complete, sound}
-use Rattle.spx_core.proofs.NameBreachLaws.{At, condition_found, expr_found, no_condition, no_expr, no_target_reference, reference_is, target_is, target_reference_found}
+use Rattle.spx_core.proofs.NameBreachLaws.{At, condition_found, expr_found, no_condition, no_expr, no_target_reference, no_type_reference, reference_is, referred_is, same_type_named, target_is, target_reference_found, type_reference_found}
 use Rattle.spx_core.proofs.DeclarationBreachLaws.{one_typing, static_is, unstatic}
 use Rattle.spx_core.proofs.Callers.Choices.{covered, given_twice, none_twice, uncovered}
 use Rattle.spx_core.proofs.Callers.Alternatives.{choices_judged, once_given}
@@ -119,6 +121,33 @@ selected_is selector of h =
     let k = bound (keeps N10 s.0.place (is_ordered s.0.of)) _ of s.2 in
     (s.0, s.1, kept N10 s.0.place _ k.1, ok_is k.2)
 
+-- ---- loops that count
+
+-- a bound
+operand_found : (subtype : Subtype) (e : CoreExpr) (t : Typing) (b : Breach) → HasType e t → operand_of subtype t ≡ Err b → At (BreaksBound subtype e) b
+operand_found subtype e t b d h =
+    let Breaks = BreaksBound subtype e in
+    by_part (keeps N10 t.place (is_of subtype.base t.of)) _ b h (λ k. by_test Breaks N10 t.place (is_of subtype.base t.of) b k (broken.of_another_type t d)) (λ _ _ k.
+    by_test Breaks N12 t.place (lies_in (Of subtype.base) t.value) b k (broken.out_of_type t d))
+
+bounds_found : (c : Count) (subtype : Subtype) (range : CoreRange) (b : Breach) → c.bounds ≡ Some range → c.type_name.root.entity ≡ Some (entity.TypeName subtype) → judged_bounds subtype range ≡ Err b → At (BreaksCount c) b
+bounds_found c subtype range b written is h =
+    by_part (judged range.low) _ b h (λ e. broken.low range subtype b.rule b.place written is (broken.itself b.rule b.place (expr_found range.low b e))) (λ l low h.
+    by_part (operand_of subtype l) _ b h (λ e. broken.low range subtype b.rule b.place written is (operand_found subtype range.low l b (sound range.low l low) e)) (λ _ _ h.
+    by_part (judged range.high) _ b h (λ e. broken.high range subtype b.rule b.place written is (broken.itself b.rule b.place (expr_found range.high b e))) (λ u high e.
+    broken.high range subtype b.rule b.place written is (operand_found subtype range.high u b (sound range.high u high) e))))
+
+count_found : (c : Count) (b : Breach) → judged_count c ≡ Err b → At (BreaksCount c) b
+count_found c b h =
+    let place = c.type_name.root.name.place in
+    by_part (referred_type c.type_name) _ b h (λ e. broken.type_name b.rule b.place (type_reference_found c.type_name b e)) (λ subtype named h.
+    let is = referred_is c.type_name subtype named in
+    by_part (keeps N10 place (has_numbers subtype.base.class)) _ b h (λ k. by_test (BreaksCount c) N10 place _ b k (broken.no_order subtype is)) (λ _ _ e. in_bounds subtype is c.bounds refl e))
+  where
+    in_bounds : (subtype : Subtype) → c.type_name.root.entity ≡ Some (entity.TypeName subtype) → (o : Option CoreRange) → c.bounds ≡ o → if_there (judged_bounds subtype) o ≡ Err b → At (BreaksCount c) b
+    in_bounds subtype is None written e = absurd cc
+    in_bounds subtype is (Some range) written e = bounds_found c subtype range b written is e
+
 -- what is broken in alternatives: a choice, or what is done
 abbrev BreaksAlternatives : ExprType → Alternatives → Breach → Type 0
 BreaksAlternatives of alternatives b = BreaksOneOf of (choices_in alternatives) b ⊎ ((a : Command) × Contains (bodies_in alternatives) a × At (BreaksCommand a) b)
@@ -152,6 +181,8 @@ mutual
   command_found (Assertion kind at e) b h = broken.asserted kind at e b.rule b.place (condition_found e b h)
   command_found (Repeat (Tested at e) body) b h =
       by_part (test e) (λ _. judged_command body) b h (λ is. broken.turned at e body b.rule b.place (condition_found e b is)) (λ _ _ is. broken.body (Tested at e) body b.rule b.place (command_found body b is))
+  command_found (Repeat (Counted c) body) b h =
+      by_part (judged_count c) (λ _. judged_command body) b h (λ e. broken.counted c body b.rule b.place (count_found c b e)) (λ _ _ e. broken.body (Counted c) body b.rule b.place (command_found body b e))
 
   alternatives_found : (alternatives : Alternatives) (of : ExprType) (b : Breach) → judged_alternatives of alternatives ≡ Err b → BreaksAlternatives of alternatives b
   alternatives_found (Last choices a) of b h = by_part (judged_choices of choices) (λ _. judged_command a) b h (λ e. inl (choices_found of choices b e)) (λ _ _ e. inr (a, in_first a [], command_found a b e))
@@ -159,6 +190,12 @@ mutual
       by_part (judged_choices of choices) _ b h
       (λ e. let w = choices_found of choices b e in inl (w.0, Contains-append_left (listed choices) (choices_in rest) w.0 w.1, w.2, w.3, w.4)) (λ _ _ h.
       by_part (judged_command a) (λ _. judged_alternatives of rest) b h (λ e. inr (a, in_first a (bodies_in rest), command_found a b e)) (λ _ _ e. later choices a rest of b (alternatives_found rest of b e)))
+
+-- what a value of a type passes that breaks no rule
+operand_passes : (subtype : Subtype) (e : CoreExpr) (t : Typing) → HasType e t → (judged e >>= operand_of subtype) ≡ Ok tt → (is_of subtype.base t.of ≡ true) × (lies_in (Of subtype.base) t.value ≡ true)
+operand_passes subtype e t d ok =
+    let k = bound (keeps N10 t.place (is_of subtype.base t.of)) _ tt (sym (joined (operand_of subtype) (complete e t d)) ∙ ok) in
+    (kept N10 t.place _ k.1, kept N12 t.place _ k.2)
 
 -- what the value of an assignment passes that breaks no rule
 assigned_passes : (target : Reference) (value : CoreExpr) (e : Entity) (subtype : Subtype) (t : Typing) → target.root.entity ≡ Some e → assigned_type e ≡ Some subtype → HasType value t → assignment target value ≡ Ok tt
@@ -168,9 +205,7 @@ assigned_passes target value e subtype t is its d ok =
     let x = target_is target.root.name.place target.root.entity o.0 (reference_is IsTarget (named_target target.root) target o.0 o.1).0 in
     let one : x.0 ≡ e = some_is (sym x.1 ∙ is) in
     let same : o.0 ≡ subtype = some_is (sym x.2 ∙ ap assigned_type one ∙ its) in
-    let h : operand_of subtype t ≡ Ok tt = subst (λ (x : Subtype). operand_of x t ≡ Ok tt) same (sym (joined (operand_of o.0) (complete value t d)) ∙ o.2) in
-    let k = bound (keeps N10 t.place (is_of subtype.base t.of)) _ tt h in
-    (kept N10 t.place _ k.1, kept N12 t.place _ k.2)
+    operand_passes subtype value t d (subst (λ (x : Subtype). (judged value >>= operand_of x) ≡ Ok tt) same o.2)
 
 -- what a bound of a choice passes that breaks no rule
 record PassesChoice (of : ExprType) (t : Typing) : Type 0 where
@@ -197,6 +232,33 @@ bound_passes : (of : ExprType) (choice : CoreChoice) (e : CoreExpr) → IsBoundO
 bound_passes of choice e is ok =
     let parts = bound (chosen of choice.low) (λ _. if_there (chosen of) choice.high) tt ok in
     ⊎_elim (λ low. ap (chosen of) low ∙ parts.1) (λ high. ap (if_there (chosen of)) (sym high) ∙ parts.2) is
+
+-- what a loop that counts passes, where its type is known to be this one
+count_passes : (c : Count) (subtype : Subtype) → c.type_name.root.entity ≡ Some (entity.TypeName subtype) → judged_count c ≡ Ok tt → (has_numbers subtype.base.class ≡ true) × (if_there (judged_bounds subtype) c.bounds ≡ Ok tt)
+count_passes c subtype is ok =
+    let s = bound (referred_type c.type_name) _ tt ok in
+    let place = c.type_name.root.name.place in
+    let h = subst (λ (x : Subtype). (keeps N10 place (has_numbers x.base.class) >>= λ _. if_there (judged_bounds x) c.bounds) ≡ Ok tt) (same_type_named c.type_name s.0 subtype s.1 is) s.2 in
+    let k = bound (keeps N10 place (has_numbers subtype.base.class)) _ tt h in
+    (kept N10 place _ k.1, k.2)
+
+bounds_pass : (c : Count) (range : CoreRange) (subtype : Subtype) → c.bounds ≡ Some range → c.type_name.root.entity ≡ Some (entity.TypeName subtype) → judged_count c ≡ Ok tt
+    → ((judged range.low >>= operand_of subtype) ≡ Ok tt) × ((judged range.high >>= operand_of subtype) ≡ Ok tt)
+bounds_pass c range subtype written is ok =
+    let l = bound (judged range.low) _ tt (ap (if_there (judged_bounds subtype)) (sym written) ∙ (count_passes c subtype is ok).1) in
+    let k = bound (operand_of subtype l.0) _ tt l.2 in
+    (joined (operand_of subtype) l.1 ∙ k.1, k.2)
+
+no_bound : (subtype : Subtype) (e : CoreExpr) (rule : RuleName) (place : Place) → BreaksBound subtype e rule place → (judged e >>= operand_of subtype) ≡ Ok tt → ⊥
+no_bound subtype e _ _ (broken.itself rule place h) ok = let t = bound (judged e) _ tt ok in no_expr e rule place h t.0 t.1
+no_bound subtype e _ _ (broken.of_another_type t d fails) ok = both_ways _ fails (operand_passes subtype e t d ok).0
+no_bound subtype e _ _ (broken.out_of_type t d fails) ok = both_ways _ fails (operand_passes subtype e t d ok).1
+
+no_count : (c : Count) (rule : RuleName) (place : Place) → BreaksCount c rule place → judged_count c ≡ Ok tt → ⊥
+no_count c _ _ (broken.type_name rule place h) ok = let s = bound (referred_type c.type_name) _ tt ok in no_type_reference c.type_name s.0 s.1 rule place h
+no_count c _ _ (broken.no_order subtype is without) ok = both_ways _ without (count_passes c subtype is ok).0
+no_count c _ _ (broken.low range subtype rule place written is h) ok = no_bound subtype range.low rule place h (bounds_pass c range subtype written is ok).0
+no_count c _ _ (broken.high range subtype rule place written is h) ok = no_bound subtype range.high rule place h (bounds_pass c range subtype written is ok).1
 
 -- one of these, of which the first breaks no rule
 one_body : (body : Command) (rest : List Command) (a : Command) → judged_command body ≡ Ok tt → (Contains rest a → judged_command a ≡ Ok tt) → Contains (body ∷ rest) a → judged_command a ≡ Ok tt
@@ -262,5 +324,6 @@ no_command _ _ _ (broken.alternative at selector alternatives a rule place withi
     no_command a rule place h (bodies_pass s.typing.of alternatives s.rest a within)
 no_command _ _ _ (broken.asserted kind at e rule place h) ok = no_condition e rule place h ok
 no_command _ _ _ (broken.turned at e body rule place h) ok = no_condition e rule place h (bound (test e) (λ _. judged_command body) tt ok).1
+no_command _ _ _ (broken.counted c body rule place h) ok = no_count c rule place h (bound (judged_count c) (λ _. judged_command body) tt ok).1
 no_command _ _ _ (broken.body (Tested at e) body rule place h) ok = no_command body rule place h (bound (test e) (λ _. judged_command body) tt ok).2
 no_command _ _ _ (broken.body (Counted c) body rule place h) ok = no_command body rule place h (bound (judged_count c) (λ _. judged_command body) tt ok).2

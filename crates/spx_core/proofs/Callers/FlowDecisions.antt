@@ -1,25 +1,26 @@
 -- What the flow rules find in a subprogram can be listed, from the definitions alone.
-use Rattle.std.proofs.Common.{◌≡◌, ◌↔◌, ◌⊎◌, Bool, true, false, ◌||◌, List, [], ◌∷◌, ◌++◌, Option, Some, None, refl, sym, ap, ◌∙◌, subst, inl, inr, ⊎_elim}
-use Rattle.std.specs.Prelude.{◌==◌, Contains}
+use Rattle.std.proofs.Common.{◌≡◌, ◌↔◌, ◌⊎◌, Bool, true, false, not, ◌&&◌, ◌||◌, List, [], ◌∷◌, ◌++◌, Option, Some, None, refl, sym, ap, ◌∙◌, subst, inl, inr, ⊎_elim}
+use Rattle.std.specs.Prelude.{◌==◌, Contains, IsSome}
 use Rattle.std.specs.Option.{option_to_list}
 use Rattle.std.proofs.lemmas.Bool.{and_parts, eqb-true, eq-eqb, or_cases, or_left, or_parts, or_right}
 use Rattle.std.proofs.lemmas.List.Folds.{list_any-append}
+use Rattle.std.proofs.lemmas.Map.Views.{any-filter_same}
 use Rattle.spx_text.specs.declared.place.Place.{Place}
 use Rattle.spx_core.specs.declared.entity.VarId.{VarId}
 use Rattle.spx_core.specs.declared.subprogram.Sub.{Sub}
 use Rattle.spx_core.specs.Uses.{is_same}
 use Rattle.spx_core.specs.Dependency.{Pair, declared_pairs, derives, exports, imports}
 use Rattle.spx_core.specs.Formals.{formals, is_formal, stands_in}
-use Rattle.spx_core.specs.Effects.{Effect, Read, nothing, assign, next, choose, observe, repeat, sets, is_read}
-use Rattle.spx_core.specs.Flow.{MayFlow, Steps, stay, advance}
+use Rattle.spx_core.specs.Effects.{Effect, Read, nothing, assign, next, choose, observe, repeat, count, sets, is_read, reads_in}
+use Rattle.spx_core.specs.Flow.{MayFlow, Steps, stay, advance, Given, Keeping, Turned}
 use Rattle.spx_core.specs.Marks.{Occurs, marked}
-use Rattle.spx_core.specs.Ways.{Ways, Follow, Free, Goes, Reaches, Turns, no_turn}
+use Rattle.spx_core.specs.Ways.{Ways, Follow, Free, Goes, Reaches, Turns, TurnsWithin, JustSet, forgetting, no_turn}
 use Rattle.spx_core.specs.declared.program.Program.{Program}
 use Rattle.spx_core.specs.FlowRules.{Missing, Unused, Ineffective, MayBeUnset, body_effect, mark, read, left, starts_set}
 use Rattle.spx_core.proofs.Elements.{in_cases, in_none}
 use Rattle.spx_core.proofs.Callers.ListTests.{covers, found, passes}
 use Rattle.spx_core.proofs.Callers.Variables.{same_var}
-use Rattle.spx_core.proofs.Callers.FlowLaws.{keeps, steps_on, without}
+use Rattle.spx_core.proofs.Callers.FlowLaws.{forgotten, keeps, steps_on, turns_free, without}
 use Rattle.spx_core.proofs.Callers.Listings.{Decided, Listing, after, both, decided_as, elements, every, is_false, is_true, joined, listed_or_not, listing_as, mapped, neither, no_listing, one_listing, one_of, pairs, those}
 
 -- ---- variables
@@ -47,6 +48,7 @@ targets (next a b) = listing_as (joined (targets a) (targets b)) (λ v. either_t
 targets (choose tests a b place) = listing_as (joined (targets a) (targets b)) (λ v. either_test (sets v a) (sets v b))
 targets (observe values) = no_listing (λ v h. absurd cc)
 targets (repeat tests body place) = targets body
+targets (count parameter bounds body place) = listing_as (joined (variable (Some parameter)) (targets body)) (λ v. either_test (is_same v (Some parameter)) (sets v body))
 
 -- ---- turns
 
@@ -101,6 +103,11 @@ module _ (R : VarId → VarId → Type 0) (one_step : (u : VarId) → Listing (R
     steps_listed : (u : VarId) → Listing (Steps R u)
     steps_listed u = listing_as (via_from xs u) (λ w. (via_steps xs u w, steps_via u w))
 
+    -- so can what turns lead to
+    turned_listed : (bounds : Option (List Read)) (u : VarId) → Listing (Turned bounds R u)
+    turned_listed (Some reads) u = steps_listed u
+    turned_listed None u = after (one_step u) steps_listed
+
 -- ---- flows
 
 -- a flow leads to a target, or stays
@@ -111,11 +118,23 @@ leads_to_target e u w flow = by_target (sets w e) refl
     by_target true set = inl (((targets e).exact w).1 set)
     by_target false none = inr ((keeps e u w none).0 flow)
 
+-- those that pass, with the test first
+passing : {P Q : VarId → Type 0} → Listing P → ((w : VarId) → Decided (Q w)) → Listing (λ w. Q w × P w)
+passing l d = listing_as (those l d) (λ w. (λ h. (h.1, h.0), λ h. (h.1, h.0)))
+
+given_from : (u : VarId) (target : Option VarId) (reads : List Read) → Listing (Given target reads u)
+given_from u target reads = joined (those (variable target) (λ w. is_true (is_read u reads))) (passing (one_listing u) (λ w. is_false (is_same w target)))
+
+-- a turn leads to what a step leads to, or stays
+keeping_from : (parameter : VarId) (R : VarId → VarId → Type 0) (u : VarId) → Listing (R u) → Listing (Keeping parameter R u)
+keeping_from parameter R u step = joined (passing (one_listing u) (λ w. is_true (is_same w (Some parameter)))) (passing step (λ w. is_false (is_same w (Some parameter))))
+
+turn_to_target : (parameter : VarId) (e : Effect) (u w : VarId) → Keeping parameter (MayFlow e) u w → Contains (targets e).list w ⊎ (u ≡ w)
+turn_to_target parameter e u w turn = ⊎_elim (λ same. inr same.1) (λ other. leads_to_target e u w other.1) turn
+
 flows_from : (u : VarId) (e : Effect) → Listing (λ w. MayFlow e u w)
 flows_from u nothing = one_listing u
-flows_from u (assign target reads place) =
-    joined (those (variable target) (λ w. is_true (is_read u reads)))
-    (listing_as (those (one_listing u) (λ w. is_false (is_same w target))) (λ w. (λ h. (h.1, h.0), λ h. (h.1, h.0))))
+flows_from u (assign target reads place) = given_from u target reads
 flows_from u (next a b) = after (flows_from u a) (λ v. flows_from v b)
 flows_from u (choose tests a b place) =
     joined (flows_from u a) (joined (flows_from u b) (those (targets (next a b)) (λ w. is_true (is_read u tests))))
@@ -123,6 +142,10 @@ flows_from u (observe values) = one_listing u
 flows_from u (repeat tests body place) =
     let turns : Listing (Steps (MayFlow body) u) = steps_listed (MayFlow body) (λ v. flows_from v body) (targets body).list (leads_to_target body) u in
     joined turns (listing_as (after (those turns (λ x. is_true (is_read x tests))) (λ x. targets body)) (λ w. (λ h. (h.2, h.0, h.1.0, h.1.1), λ h. (h.1, (h.2, h.3), h.0))))
+flows_from u (count parameter bounds body place) =
+    let one_turn : (v : VarId) → Listing (Keeping parameter (MayFlow body) v) = λ v. keeping_from parameter (MayFlow body) v (flows_from v body) in
+    let turns : (x : VarId) → Listing (Turned bounds (Keeping parameter (MayFlow body)) x) = turned_listed (Keeping parameter (MayFlow body)) one_turn (targets body).list (turn_to_target parameter body) bounds in
+    passing (joined (after (given_from u (Some parameter) (reads_in bounds)) turns) (those (targets body) (λ w. is_true (is_read u (reads_in bounds))))) (λ w. is_false (is_same w (Some parameter)))
 
 flows_or_not : (e : Effect) (u w : VarId) → Decided (MayFlow e u w)
 flows_or_not e u w = listed_or_not same_or_not (flows_from u e) w
@@ -151,6 +174,52 @@ free_either A B v = (
 free_at_once : (P : Type 0) (v : VarId) → P ↔ Free (λ way. P × (way ≡ [])) v
 free_at_once P v = (λ is. ([], (is, refl), refl), λ h. h.1.0)
 
+free_just : (parameter v : VarId) → (is_same v (Some parameter) ≡ false) ↔ Free (JustSet parameter) v
+free_just parameter v = (
+  λ none. (parameter ∷ [], refl, ap (λ b. b || false) none),
+  λ h. (or_parts (is_same v (Some parameter)) false (subst (λ way. stands_in v way ≡ false) h.1 h.2)).0,
+)
+
+-- what is left of a way sets the variable where the way does, if it is not forgotten
+stands_after : (parameter v : VarId) (way : List VarId) → stands_in v (forgetting parameter way) ≡ (not (is_same v (Some parameter)) && stands_in v way)
+stands_after parameter v way =
+    any-filter_same (λ (w : VarId). w.0 == v.0) (λ w. not (is_same w (Some parameter))) (not (is_same v (Some parameter))) (λ w same. ap (λ n. not (parameter.0 == n)) (eqb-true w.0 v.0 same)) way
+
+-- turns, where there is a way
+some_turns : {A : Ways} (bounds : Option (List Read)) → (way : List VarId) × A way → (way : List VarId) × TurnsWithin bounds A way
+some_turns (Some reads) one = ([], no_turn)
+some_turns None one = (one.0 ++ [], (one.0, [], refl, one.1, no_turn))
+
+-- there is a way
+some_way : (e : Effect) → (way : List VarId) × Goes e way
+some_way nothing = ([], refl)
+some_way (assign target reads place) = (option_to_list target, refl)
+some_way (next a b) =
+    let first = some_way a in
+    let second = some_way b in
+    (first.0 ++ second.0, (first.0, second.0, refl, first.1, second.1))
+some_way (choose tests a b place) = let first = some_way a in (first.0, inl first.1)
+some_way (observe values) = ([], refl)
+some_way (repeat tests body place) = ([], no_turn)
+some_way (count parameter bounds body place) = let inner = some_turns bounds (some_way body) in (forgetting parameter inner.0, (inner.0, inner.1, refl))
+
+-- turns without the variable, or none
+turns_or_not : (bounds : Option (List Read)) (A : Ways) (v : VarId) → Decided (Free A v) → Decided (Free (TurnsWithin bounds A) v)
+turns_or_not (Some reads) A v d = inl ([], no_turn, refl)
+turns_or_not None A v d = decided_as d (turns_free None v, λ h. ((free_follow A (Turns A) v).1 h).0)
+
+-- what is left of ways, without the variable or not: where it is forgotten, or a way does not set it
+left_or_not : (parameter v : VarId) (A : Ways) → (way : List VarId) × A way → Decided (Free A v) → Decided (Free (λ way. (inside : List VarId) × A inside × (way ≡ forgetting parameter inside)) v)
+left_or_not parameter v A one d = by_same (is_same v (Some parameter)) refl
+  where
+    by_same : (b : Bool) → is_same v (Some parameter) ≡ b → Decided (Free (λ way. (inside : List VarId) × A inside × (way ≡ forgetting parameter inside)) v)
+    by_same true same = inl (forgetting parameter one.0, (one.0, one.1, refl), stands_after parameter v one.0 ∙ ap (λ b. not b && stands_in v one.0) same)
+    by_same false other =
+        decided_as d (
+          λ h. (forgetting parameter h.0, (h.0, h.1, refl), forgotten parameter v h.0 h.2),
+          λ h. (h.1.0, h.1.1, sym (stands_after parameter v h.1.0 ∙ ap (λ b. not b && stands_in v h.1.0) other) ∙ subst (λ way. stands_in v way ≡ false) h.1.2 h.2),
+        )
+
 goes_or_not : (v : VarId) (e : Effect) → Decided (Free (Goes e) v)
 goes_or_not v nothing = inl ([], refl, refl)
 goes_or_not v (assign target reads place) =
@@ -160,6 +229,7 @@ goes_or_not v (next a b) = decided_as (both (goes_or_not v a) (goes_or_not v b))
 goes_or_not v (choose tests a b place) = decided_as (one_of (goes_or_not v a) (goes_or_not v b)) (free_either (Goes a) (Goes b) v)
 goes_or_not v (observe values) = inl ([], refl, refl)
 goes_or_not v (repeat tests body place) = inl ([], no_turn, refl)
+goes_or_not v (count parameter bounds body place) = left_or_not parameter v (TurnsWithin bounds (Goes body)) (some_turns bounds (some_way body)) (turns_or_not bounds (Goes body) v (goes_or_not v body))
 
 -- reads of variables before they are set
 abbrev EarlyIn : Effect → Read → Type 0
@@ -188,17 +258,32 @@ early_reads (repeat tests body place) = listing_as (joined (elements tests) (ear
       λ h. all.0 (⊎_elim (λ here. inl ([], (here, no_turn), refl)) (λ more. inr (later.0 (([], no_turn, refl), more))) h),
       λ h. ⊎_elim (λ here. inl here.1.0) (λ more. inr (later.1 more).1) (all.1 h),
     ))
+early_reads (count parameter bounds body place) = listing_as (joined (elements (reads_in bounds)) (those (early_reads body) (λ r. is_false (is_same r.1 (Some parameter))))) (λ r.
+    let Inside : Ways = Follow (Turns (Goes body)) (Reaches body r.0 r.1) in
+    let here = free_at_once (Contains (reads_in bounds) r) r.1 in
+    let just = free_just parameter r.1 in
+    let inside = free_follow (Turns (Goes body)) (Reaches body r.0 r.1) r.1 in
+    let later = free_follow (JustSet parameter) Inside r.1 in
+    let all = free_either (λ way. Contains (reads_in bounds) r × (way ≡ [])) (Follow (JustSet parameter) Inside) r.1 in (
+      λ h. all.0 (⊎_elim (λ one. inl (here.0 one)) (λ more. inr (later.0 (just.0 more.1, inside.0 (([], no_turn, refl), more.0)))) h),
+      λ h. ⊎_elim (λ one. inl (here.1 one)) (λ more. let parts = later.1 more in inr ((inside.1 parts.1).1, just.1 parts.0)) (all.1 h),
+    ))
 
 -- ---- occurrences
 
+-- the place, where there is something
+at_some : {X : Type 0} (o : Option X) (place : Place) → Listing (λ p. IsSome o × (place ≡ p))
+at_some (Some x) place = listing_as (one_listing place) (λ p. (λ e. (refl, e), λ h. h.1))
+at_some None place = no_listing (λ p h. absurd cc)
+
 occurrences : (e : Effect) → Listing (Occurs e)
 occurrences nothing = no_listing (λ p h. h)
-occurrences (assign (Some v) reads place) = listing_as (one_listing place) (λ p. (λ e. (refl, e), λ h. h.1))
-occurrences (assign None reads place) = no_listing (λ p h. absurd cc)
+occurrences (assign target reads place) = at_some target place
 occurrences (next a b) = joined (occurrences a) (occurrences b)
 occurrences (choose tests a b place) = joined (one_listing place) (joined (occurrences a) (occurrences b))
 occurrences (observe values) = no_listing (λ p h. h)
 occurrences (repeat tests body place) = joined (one_listing place) (occurrences body)
+occurrences (count parameter bounds body place) = joined (at_some bounds place) (occurrences body)
 
 -- ---- subprograms
 

@@ -115,15 +115,14 @@ keeps (repeat tests body place) u w none = (
   λ h. ⊎_elim (λ turns. steps_to (MayFlow body) w (λ v flow. (keeps body v w none).0 flow) u turns) (λ tested. absurd (both_ways (sets w body) none tested.0)) h,
   λ e. inl (subst (Steps (MayFlow body) u) e stay),
 )
-
 keeps (count parameter bounds body place) u w none =
     let parts = or_parts (is_same w (Some parameter)) (sets w body) none in
     let only : (v : VarId) → Keeping parameter (MayFlow body) v w → v ≡ w = λ v turn. ⊎_elim (λ same. same.1) (λ other. (keeps body v w parts.1).0 other.1) turn in (
       λ h. ⊎_elim
-      (λ turns.
-      let here : turns.0 ≡ w = turned_to bounds (Keeping parameter (MayFlow body)) w only turns.0 turns.2 in
-      ⊎_elim (λ given. absurd (both_ways (is_same w (Some parameter)) parts.0 (ap (λ x. is_same x (Some parameter)) (sym here) ∙ given.0))) (λ kept. kept.1 ∙ here) turns.1)
-      (λ tested. absurd (both_ways (sets w body) parts.1 tested.0)) h.1,
+          (λ turns.
+          let here : turns.0 ≡ w = turned_to bounds (Keeping parameter (MayFlow body)) w only turns.0 turns.2 in
+          ⊎_elim (λ given. absurd (both_ways (is_same w (Some parameter)) parts.0 (ap (λ x. is_same x (Some parameter)) (sym here) ∙ given.0))) (λ kept. kept.1 ∙ here) turns.1)
+          (λ tested. absurd (both_ways (sets w body) parts.1 tested.0)) h.1,
       λ e. (parts.0, inl (w, inr (parts.0, e), turned_here bounds (Keeping parameter (MayFlow body)) w (inr (parts.0, (keeps body w w parts.1).1 refl)))),
     )
 
@@ -156,7 +155,6 @@ unread (count parameter bounds body place) u w none flow =
     let here : u ≡ turns.0 = ⊎_elim (λ given. absurd (both_ways (is_read u (reads_in bounds)) parts.0 given.1)) (λ kept. kept.1) turns.1 in
     turned_from bounds (Keeping parameter (MayFlow body)) u only w (subst (λ v. Turned bounds (Keeping parameter (MayFlow body)) v w) (sym here) turns.2))
     (λ tested. absurd (both_ways (is_read u (reads_in bounds)) parts.0 tested.1)) flow.1
-
 
 one_of_two : (a b c d : Bool) → ((a ≡ true) ⊎ (b ≡ true)) ⊎ ((c ≡ true) ⊎ (d ≡ true)) → ((a || b) ≡ true) ⊎ ((c || d) ≡ true)
 one_of_two a b c d h = ⊎_elim (λ x. inl (⊎_elim (or_left a b) (or_right a b) x)) (λ x. inr (⊎_elim (or_left c d) (or_right c d) x)) h
@@ -200,7 +198,7 @@ forgotten parameter v (w ∷ way) none =
     if_kept false with_it without_it = without_it
 
 -- turns without the variable, where a turn is
-turns_free : {A : Ways} (bounds : Option (List Read)) (v : VarId) → Free A v → Free (TurnsWithin bounds A) v
+pub turns_free : {A : Ways} (bounds : Option (List Read)) (v : VarId) → Free A v → Free (TurnsWithin bounds A) v
 turns_free (Some reads) v one = ([], no_turn, refl)
 turns_free None v one = (one.0 ++ [], (one.0, [], refl, one.1, no_turn), without v one.0 [] one.2 refl)
 
@@ -218,7 +216,6 @@ goes_free (choose tests a b place) v none =
     (first.0, inl first.1, first.2)
 goes_free (observe values) v none = ([], refl, refl)
 goes_free (repeat tests body place) v none = ([], no_turn, refl)
-
 goes_free (count parameter bounds body place) v none = let inner = turns_free bounds v (goes_free body v (or_parts (is_same v (Some parameter)) (sets v body) none).1) in (forgetting parameter inner.0, (inner.0, inner.1, refl), forgotten parameter v inner.0 inner.2)
 
 -- ---- what is set
