@@ -8,6 +8,7 @@ use Rattle.std.proofs.lemmas.List.Elements.{All-push}
 use Rattle.std.proofs.lemmas.Option.{slice_get_within}
 use Rattle.spx_text.specs.declared.place.Place.{Place}
 use Rattle.spx_core.specs.declared.entity.VarId.{VarId}
+use Rattle.spx_core.specs.Uses.{is_same}
 use Rattle.spx_core.specs.Effects.{Effect, Read, nothing, assign, next, choose, observe, repeat, count, is_read, sets}
 use Rattle.spx_core.specs.Flow.{MayFlow, Steps, stay, advance, Keeping}
 use Rattle.spx_core.specs.Marks.{Mu, Occurs}
