@@ -238,7 +238,6 @@ mu_sets (observe values) p w h = absurd h
 mu_sets (repeat tests body place) p w h =
     let all = repeat tests body place in
     ⊎_elim (λ tested. tested.1) (λ (q : (v : VarId) × Mu body p v × MayFlow all v w). still_set all q.0 w (mu_sets body p q.0 q.1) q.2 (sets w body) refl) h
-
 mu_sets (count parameter bounds body place) p w h =
     ⊎_elim (λ given. or_right (is_same w (Some parameter)) (sets w body) given.2)
     (λ turned. or_right (is_same w (Some parameter)) (sets w body) (still_turning parameter body turned.0 w (mu_sets body p turned.0 turned.1) turned.3)) h.1
