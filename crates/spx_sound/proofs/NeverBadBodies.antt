@@ -17,12 +17,11 @@ use Rattle.spx_core.specs.Reads.{names_read}
 use Rattle.spx_core.specs.Scopes.{AreAsDeclared, IsAsDeclared, AllAreAsDeclared, KeepsParameters}
 use Rattle.spx_core.specs.Uses.{is_same, variable_of}
 use Rattle.spx_term.specs.declared.term.Term.{Term}
-use Rattle.spx_term.specs.declared.value.Value.{Value}
 use Rattle.spx_term.specs.declared.value.Value.TheVariants as value
 use Rattle.spx_term.specs.Meaning.{HasSort, Valuation, value_of}
 use Rattle.spx_term.specs.Steps.{Tree, Assign}
 use Rattle.spx_meaning.specs.declared.bad.BadKind.TheVariants.{Range}
-use Rattle.spx_meaning.specs.Stores.{Store, is_in, put, type_of}
+use Rattle.spx_meaning.specs.Stores.{Store, put, type_of}
 use Rattle.spx_meaning.specs.Frames.{Frame}
 use Rattle.spx_meaning.specs.Evaluation.{eval}
 use Rattle.spx_meaning.specs.Runs.{demand, assign, run, has_value, run_for}
@@ -35,9 +34,8 @@ use Rattle.spx_sound.proofs.NeverBadRuns.{IsUnset, Good, good_then, good_use, go
 use Rattle.spx_sound.proofs.NeverBadExpressions.{eval_good}
 use Rattle.spx_sound.proofs.Extents.{lies_in_extent}
 use Rattle.spx_sound.proofs.Selections.{AllFail, HaveValue, each_has_one, facts_hold, and_these_fail, last_has, one_of_rest}
-use Rattle.spx_sound.proofs.NeverBadStores.{Counting, Fits, Reaches, Spares, is_held, past_range, put_fits, within}
+use Rattle.spx_sound.proofs.NeverBadStores.{Counting, Fits, Reaches, Spares, is_held, past_range, put_value_fits, within}
 use Rattle.spx_sound.proofs.NeverBadLoops.{AlwaysSafe, Began, GoesOn, always_parts, assertion_good, tested_good, while_good}
-
 use Rattle.spx_sound.proofs.NeverBadCounts.{count_good}
 
 -- ---- commands
@@ -46,9 +44,6 @@ module _ (f : Frame) (began : Began f) where
   abbrev the_term : CoreExpr → Term
   the_term e = term_of f.program (now_term f.program) e
 
-  given_value : (w u : Value) → Some w ≡ Some u → w ≡ u
-  given_value w u is = cc
-
   -- where the target is no variable, nothing is done
   assign_good : (at : List Counting) (place : Place) (o : Option VarId) (t : Term) (rest leave : ℕ → Tree) (made : ℕ) (s : Store) (v : Valuation) → Fits f at s v → ((x : VarId) → o ≡ Some x → is_held f.sub at x ≡ false) → ((x : VarId) → o ≡ Some x → HasSort (sort_of_var f.program x) (value_of v t))
       → Safe (assigned f.program place o t (rest made)) v → Good IsUnset (assign f.program place o s (value_of v t)) (Reaches f at rest) (Reaches f at leave)
@@ -56,7 +51,7 @@ module _ (f : Frame) (began : Began f) where
       let w = value_of v t in
       let past = past_range v (type_of f.program x) place t (Assign (now f.program x) t (rest made)) (sorted x refl) safe in
       subst (λ b. Good IsUnset (demand b Range place (put s x (Some w))) (Reaches f at rest) (Reaches f at leave)) (sym past.0)
-      (record { valuation = changed v (now f.program x) w; made = made; fits = put_fits f at s x (Some w) w v refl (free x refl) (sorted x refl) (λ u is. subst (λ z. is_in (type_of f.program x) z ≡ true) (given_value w u is) past.0) fits; safe = past.1 })
+      (record { valuation = changed v (now f.program x) w; made = made; fits = put_value_fits f at s x w v (free x refl) (sorted x refl) past.0 fits; safe = past.1 })
   assign_good at place None t rest leave made s v fits free sorted safe = record { valuation = v; made = made; fits = fits; safe = safe }
 
   -- the right side has the sort of the target

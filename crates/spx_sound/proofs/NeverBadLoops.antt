@@ -73,13 +73,16 @@ first_within class.Integer first last h = grind (arith, ints)
 first_within class.Boolean first last h = refl
 first_within class.Enumeration first last h = grind (arith, ints)
 
+pub type_has_value : (p : Program) → TypesHaveValues p → (x : VarId) → int_le (type_of p x).first (type_of p x).last ≡ true
+type_has_value p types x = by_var (declared p x)
+  where
+    by_var : (o : Option Var) → int_le (type_in p.types o).first (type_in p.types o).last ≡ true
+    by_var (Some var) = row_has_value p.types (recursion_from_All HasValue p.types types) var.type_id.0
+    by_var None = refl
+
 -- the first value of a type is one
 first_value_in : (p : Program) → TypesHaveValues p → (x : VarId) → is_in (type_of p x) (first_value (type_of p x)) ≡ true
-first_value_in p types x = by_var (declared p x)
-  where
-    by_var : (o : Option Var) → is_in (type_in p.types o) (first_value (type_in p.types o)) ≡ true
-    by_var (Some var) = let of = subtype_in (slice_get p.types var.type_id.0) in first_within of.base.class of.first of.last (row_has_value p.types (recursion_from_All HasValue p.types types) var.type_id.0)
-    by_var None = refl
+first_value_in p types x = let of = type_of p x in first_within of.base.class of.first of.last (type_has_value p types x)
 
 -- what a variable counts as is a value of its type
 reading_in : (p : Program) → TypesHaveValues p → (s : Store) → AreInTypes p s → (x : VarId) → is_in (type_of p x) (reading p s x) ≡ true

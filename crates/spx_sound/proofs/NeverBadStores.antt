@@ -1,7 +1,7 @@
 -- Valuations that stand for stores, values that are checked, and annotations that are shown.
 use Rattle.std.proofs.Common.{◌≡◌, ℕ, ℤ, Bool, true, false, not, ◌&&◌, ◌||◌, ◌==◌, if◌then◌else◌, List, [], ◌∷◌, map, Option, Some, None, refl, sym, ap, ap₂, ◌∙◌, subst, int_le, inl, inr, ⊎_elim, Decides}
 use Rattle.std.specs.List.{AllByRecursion, list_all, list_any}
-use Rattle.std.proofs.lemmas.Bool.{and_parts, both_ways, eq-eqb, eqb-true, false_from_ne_true, or_cases, or_left, or_parts, or_right}
+use Rattle.std.proofs.lemmas.Bool.{and_parts, both_ways, eq-eqb, eqb-true, false_from_ne_true, or_cases, or_left, or_right}
 use Rattle.std.proofs.lemmas.Bool.Decides.{eqb_tells}
 use Rattle.spx_text.specs.declared.place.Place.{Place}
 use Rattle.spx_core.specs.declared.entity.Class.{Class}
@@ -143,7 +143,7 @@ module _ (f : Frame) (s t : Store) (v u : Valuation) (before : AgreesWith f.prog
   AreKept = (x : VarId) → stays f.sub x ≡ true → look s x ≡ look t x
 
   -- so has a bound that is fixed, and the name of one that is not
-  bound_kept : AreKept → (name : Symbolic) → v name ≡ u name → (e : CoreExpr) → value_of v (bound_term f.program f.sub name e) ≡ value_of u (bound_term f.program f.sub name e)
+  pub bound_kept : AreKept → (name : Symbolic) → v name ≡ u name → (e : CoreExpr) → value_of v (bound_term f.program f.sub name e) ≡ value_of u (bound_term f.program f.sub name e)
   bound_kept kept name same e = by_fixed (is_fixed f.sub e) refl
     where
       by_fixed : (b : Bool) → is_fixed f.sub e ≡ b → value_of v (if b then term_of f.program (now_term f.program) e else term.Variable name) ≡ value_of u (if b then term_of f.program (now_term f.program) e else term.Variable name)
@@ -215,6 +215,10 @@ unchanged_at v x w y differ = ap (λ b. if b then w else v y) (sym (apart x y di
 pub changed_at : (v : Valuation) (x : Symbolic) (w : Value) → changed v x w x ≡ w
 changed_at v x w = ap (λ b. if b then w else v x) ((same_name-Decides x x).1 refl)
 
+-- what is held is another variable than what is put and not held
+pub put_kept : (f : Frame) (at : List Counting) (s : Store) (x : VarId) (o : Option Value) → is_held f.sub at x ≡ false → (y : VarId) → is_held f.sub at y ≡ true → look s y ≡ look (put s x o) y
+put_kept f at s x o free y held = sym (look-put_other s x y o (other_held f.sub at x y free held))
+
 -- a variable that is not held is put, and its name takes what it counts as
 pub put_fits : (f : Frame) (at : List Counting) (s : Store) (x : VarId) (o : Option Value) (w : Value) (v : Valuation) → w ≡ seen (type_of f.program x) o → is_held f.sub at x ≡ false → HasSort (sort_of_var f.program x) w
     → ((u : Value) → o ≡ Some u → is_in (type_of f.program x) u ≡ true) → Fits f at s v → Fits f at (put s x o) (changed v (now f.program x) w)
@@ -229,9 +233,8 @@ put_fits f at s x o w v counts free sorted typed fits =
     p : Program
     p = f.program
 
-    -- what is held is another one
     other : (y : VarId) → is_held f.sub at y ≡ true → look s y ≡ look (put s x o) y
-    other y held = sym (look-put_other s x y o (other_held f.sub at x y free held))
+    other = put_kept f at s x o free
 
     agrees : (y : VarId) → changed v (now p x) w (now p y) ≡ reading p (put s x o) y
     agrees y =
@@ -247,13 +250,42 @@ put_fits f at s x o w v counts free sorted typed fits =
           | inr h ↦ fits.in_types y u (sym h.1 ∙ is)
         ]
 
--- so does the name of a bound of a loop that is not under way
-pub named_fits : (f : Frame) (at : List Counting) (s : Store) (v : Valuation) (name : Symbolic) (w : Value) → ((y : VarId) → name.symbol ≡ symbol.Now y.0 → ⊥) → ((y : VarId) → name.symbol ≡ symbol.Entry y.0 → ⊥)
-    → ((y : VarId) → is_parameter at y ≡ true → (name.symbol ≡ symbol.First y.0 → ⊥) × (name.symbol ≡ symbol.Last y.0 → ⊥)) → HasSort name.sort w → Fits f at s v → Fits f at s (changed v name w)
-named_fits f at s v name w no_now no_entry no_bound sorted fits =
-    fits_kept f s s v (changed v name w) fits.agrees (λ y. sym (unchanged_at v name w (now f.program y) (no_now y)) ∙ fits.agrees y) (respects_changed v name w sorted fits.respects) fits.in_types (λ y is. refl)
-    (λ y. unchanged_at v name w (entry f.program y) (no_entry y)) at
-    (λ y is. record { present = refl; first = unchanged_at v name w (first_name y) (no_bound y is).0; last = unchanged_at v name w (last_name y) (no_bound y is).1 }) fits
+pub put_value_fits : (f : Frame) (at : List Counting) (s : Store) (x : VarId) (w : Value) (v : Valuation) → is_held f.sub at x ≡ false → HasSort (sort_of_var f.program x) w → is_in (type_of f.program x) w ≡ true → Fits f at s v
+    → Fits f at (put s x (Some w)) (changed v (now f.program x) w)
+put_value_fits f at s x w v free sorted typed = put_fits f at s x (Some w) w v refl free sorted (λ u is. subst (λ z. is_in (type_of f.program x) z ≡ true) (let one : w ≡ u = cc in one) typed)
+
+-- the name is one of no variable, and of no bound of these loops
+pub record IsFresh (at : List Counting) (name : Symbolic) : Type 0 where
+  pub no_now : (y : VarId) → name.symbol ≡ symbol.Now y.0 → ⊥
+  pub no_entry : (y : VarId) → name.symbol ≡ symbol.Entry y.0 → ⊥
+  pub no_first : (y : VarId) → is_parameter at y ≡ true → name.symbol ≡ symbol.First y.0 → ⊥
+  pub no_last : (y : VarId) → is_parameter at y ≡ true → name.symbol ≡ symbol.Last y.0 → ⊥
+
+other_parameter : (at : List Counting) (x y : VarId) → is_parameter at x ≡ false → is_parameter at y ≡ true → x.0 ≡ y.0 → ⊥
+other_parameter at x y free held same = both_ways (is_parameter at y) (ap (λ k. is_parameter at (record { 0 = k })) (sym same) ∙ free) held
+
+pub first_is_fresh : (at : List Counting) (x : VarId) → is_parameter at x ≡ false → IsFresh at (first_name x)
+first_is_fresh at x free = record {
+  no_now = λ y e. absurd (cc);
+  no_entry = λ y e. absurd (cc);
+  no_first = λ y held e. other_parameter at x y free held (let one : x.0 ≡ y.0 = cc in one);
+  no_last = λ y held e. absurd (cc);
+}
+
+pub last_is_fresh : (at : List Counting) (x : VarId) → is_parameter at x ≡ false → IsFresh at (last_name x)
+last_is_fresh at x free = record {
+  no_now = λ y e. absurd (cc);
+  no_entry = λ y e. absurd (cc);
+  no_first = λ y held e. absurd (cc);
+  no_last = λ y held e. other_parameter at x y free held (let one : x.0 ≡ y.0 = cc in one);
+}
+
+-- such a name takes a value
+pub named_fits : (f : Frame) (at : List Counting) (s : Store) (v : Valuation) (name : Symbolic) (w : Value) → IsFresh at name → HasSort name.sort w → Fits f at s v → Fits f at s (changed v name w)
+named_fits f at s v name w fresh sorted fits =
+    fits_kept f s s v (changed v name w) fits.agrees (λ y. sym (unchanged_at v name w (now f.program y) (fresh.no_now y)) ∙ fits.agrees y) (respects_changed v name w sorted fits.respects) fits.in_types (λ y is. refl)
+    (λ y. unchanged_at v name w (entry f.program y) (fresh.no_entry y)) at
+    (λ y is. record { present = refl; first = unchanged_at v name w (first_name y) (fresh.no_first y is); last = unchanged_at v name w (last_name y) (fresh.no_last y is) }) fits
 
 -- a valuation that stands for the store, from which the steps that go on are safe
 pub record Reaches (f : Frame) (at : List Counting) (rest : ℕ → Tree) (s : Store) : Type 0 where
