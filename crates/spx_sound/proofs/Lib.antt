@@ -9,6 +9,7 @@ pub mod Extents
 pub mod Selections
 pub mod NeverBadStores
 pub mod NeverBadLoops
+pub mod NeverBadCounts
 pub mod NeverBadBodies
 pub mod NeverUnset
 pub mod NeverBad

@@ -1,6 +1,7 @@
 -- No call of a program that is fit is bad.
-use Rattle.std.proofs.Common.{◌≡◌, ℕ, Bool, true, false, not, ◌&&◌, ◌||◌, if◌then◌else◌, List, [], ◌∷◌, get_or, Option, Some, None, refl, sym, ap, ap₂, ◌∙◌, subst, ℤ, ◌==◌, inl, inr}
+use Rattle.std.proofs.Common.{◌≡◌, ℕ, pos, Bool, true, false, not, ◌&&◌, ◌||◌, if◌then◌else◌, List, [], ◌∷◌, get_or, Option, Some, None, refl, sym, ap, ap₂, ◌∙◌, subst, ℤ, ◌==◌, inl, inr}
 use Rattle.std.proofs.lemmas.Bool.{and_parts, both_ways, false_from_ne_true, or_parts, or_left, or_right, eq-eqb}
+use Rattle.std.proofs.Math.Bool.{or-false}
 use Rattle.std.specs.Prelude.{⊤, All, IsSome, IfSome, is_some, IsTrue, ◌⊎◌, option_and_then, option_map, slice_get}
 use Rattle.std.specs.List.{flat_map, list_all}
 use Rattle.spx_core.specs.declared.entity.Class.{Class}
@@ -29,7 +30,7 @@ use Rattle.spx_term.specs.declared.condition.CondKind.TheVariants.{Post as PostC
 use Rattle.spx_term.specs.declared.term.Sort.{Sort}
 use Rattle.spx_term.specs.declared.term.Sort.TheVariants.{Integer, Boolean}
 use Rattle.spx_term.specs.declared.term.Symbol.{Symbol}
-use Rattle.spx_term.specs.declared.term.Symbol.TheVariants.{Now, Entry}
+use Rattle.spx_term.specs.declared.term.Symbol.TheVariants.{Now, Entry, First, Last}
 use Rattle.spx_term.specs.declared.term.Name.{Name}
 use Rattle.spx_term.specs.declared.term.Term.TheVariants.{Variable}
 use Rattle.spx_term.specs.declared.value.Value.{Value}
@@ -70,6 +71,8 @@ use Rattle.spx_sound.proofs.NeverUnset.{IsClear, Passes, never_unset, reaches_re
 abbrev symbol_value : Program → Store → Symbol → Value
 symbol_value p s (Now k) = reading p s (record { 0 = k })
 symbol_value p s (Entry k) = reading p s (record { 0 = k })
+symbol_value p s (First k) = value.Number (pos 0)
+symbol_value p s (Last k) = value.Number (pos 0)
 
 abbrev of_sort : Sort → Value → Value
 of_sort Integer w = value.Number (as_number w)
@@ -213,9 +216,9 @@ module _ (p : Program) (sub : Sub) (scoped : Scoped p sub) (initial : StartsInTy
       by_mode mode.InOut is = refl
 
   -- an import that is no export is set by no statement
-  import_is_spared : Spares sub (effect (commands sub.statements))
-  import_is_spared x import_only =
-      let parts = and_parts (imports x sub) (not (exports x sub)) import_only in
+  import_is_spared : Spares sub [] (effect (commands sub.statements))
+  import_is_spared x held =
+      let parts = and_parts (imports x sub) (not (exports x sub)) (sym (or-false (stays sub x)) ∙ held) in
       let formal = scoped.imported x parts.0 in
       let kind = scoped.formal_kinds x formal in
       by_mode kind.0 (mode_is p x (Formal kind.0) kind.1) formal parts.0 parts.1
@@ -296,8 +299,8 @@ module _ (p : Program) (sub : Sub) (scoped : Scoped p sub) (initial : StartsInTy
         by_import true = fold-Variable (value_step first_valuation) (now p x) ∙ first_agrees x
         by_import false = fold-Variable (value_step first_valuation) (entry p x) ∙ first_agrees x
 
-    first_fits : Fits frame first first_valuation
-    first_fits = record { agrees = first_agrees; respects = valuation_respects p first; in_types = first_in_types; anchored = first_anchored }
+    first_fits : Fits frame [] first first_valuation
+    first_fits = record { agrees = first_agrees; respects = valuation_respects p first; in_types = first_in_types; anchored = first_anchored; inside = tt }
 
     pre_first : (pre : Option CorePredicate) → sub.pre ≡ pre → pre_holds (around p sub s) pre s ≡ true → pre_holds frame pre first ≡ true
     pre_first None is h = refl
@@ -386,12 +389,12 @@ module _ (p : Program) (sub : Sub) (scoped : Scoped p sub) (initial : StartsInTy
 
     -- at the end
     abbrev IsDone : Store → Type 0
-    IsDone t = Reaches frame (ending p sub) t × Passes (body_effect sub) first t
+    IsDone t = Reaches frame [] (ending p sub) t × Passes (body_effect sub) first t
 
     body_good : HasNoFinding p sub → TypedSub sub → HasValidConditions p sub → (n : ℕ) → Good Never (body_run n) IsDone Nowhere
     body_good flows typed valid n =
-        joined (body_run n) (Reaches frame (ending p sub)) (Passes (body_effect sub) first) (Reaches frame (ending p sub)) Nowhere
-        (walk_good frame first_began (commands sub.statements) n (ending p sub) (ending p sub) 0 first first_valuation typed.statements scoped.body_names import_is_spared (λ v respects. (safe_sub p sub valid v respects).1) first_fits (body_safe valid))
+        joined (body_run n) (Reaches frame [] (ending p sub)) (Passes (body_effect sub) first) (Reaches frame [] (ending p sub)) Nowhere
+        (walk_good frame first_began (commands sub.statements) [] n (ending p sub) (ending p sub) 0 first first_valuation typed.statements scoped.body_names import_is_spared scoped.parameters_kept (λ v respects. (safe_sub p sub valid v respects).1) first_fits (body_safe valid))
         (never_unset frame (commands sub.statements) n first (first_clear flows))
 
     pre_good : (pre : Option CorePredicate) → pre_holds frame pre first ≡ true → demand_pre frame pre first ≡ Ended first
@@ -399,11 +402,11 @@ module _ (p : Program) (sub : Sub) (scoped : Scoped p sub) (initial : StartsInTy
     pre_good (Some pre) h = ap (λ b. demand b Pre pre.place first) h
 
     -- there the postcondition is true
-    post_good : (post : Option CorePredicate) (t : Store) (v : Valuation) → Fits frame t v → Safe (ending_with p sub post) v → Good Never (demand_post frame post t) (λ t. ⊤) Nowhere
+    post_good : (post : Option CorePredicate) (t : Store) (v : Valuation) → Fits frame [] t v → Safe (ending_with p sub post) v → Good Never (demand_post frame post t) (λ t. ⊤) Nowhere
     post_good None t v fits safe = tt
     post_good (Some post) t v fits safe =
         good_demand Never (truth frame t post.condition) Post post.place t (λ t. ⊤) Nowhere tt
-        (λ untrue. both_ways (truth frame t post.condition) untrue (asserted_good frame PostCondition post.place post.condition Cut t v fits safe).0)
+        (λ untrue. both_ways (truth frame t post.condition) untrue (asserted_good frame [] PostCondition post.place post.condition Cut t v fits safe).0)
 
     call_good : HasNoFinding p sub → TypedSub sub → HasValidConditions p sub → (n : ℕ) → Good Never (call p n sub s) (λ t. ⊤) Nowhere
     call_good flows typed valid n =

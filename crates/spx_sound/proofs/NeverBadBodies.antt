@@ -9,12 +9,12 @@ use Rattle.spx_core.specs.declared.name.Reference.{Reference}
 use Rattle.spx_core.specs.declared.expression.CoreExpr.{CoreExpr}
 use Rattle.spx_core.specs.declared.rule.ExprType.{ExprType}
 use Rattle.spx_core.specs.declared.statement.CoreChoice.{CoreChoice}
-use Rattle.spx_core.specs.Commands.{Command, Skip, Set, Then, Choose, Select, Assertion, Repeat, Tested, Alternatives, Last, When, has_others_last}
+use Rattle.spx_core.specs.Commands.{Command, Skip, Set, Then, Choose, Select, Assertion, Repeat, Tested, Counted, Alternatives, Last, When, has_others_last}
 use Rattle.spx_core.specs.Effects.{Read, effect, effect_among, reads_of, sets}
 use Rattle.spx_core.specs.Extents.{extent}
 use Rattle.spx_core.specs.Places.{place_of}
 use Rattle.spx_core.specs.Reads.{names_read}
-use Rattle.spx_core.specs.Scopes.{AreAsDeclared, IsAsDeclared, AllAreAsDeclared}
+use Rattle.spx_core.specs.Scopes.{AreAsDeclared, IsAsDeclared, AllAreAsDeclared, KeepsParameters}
 use Rattle.spx_core.specs.Uses.{is_same, variable_of}
 use Rattle.spx_term.specs.declared.term.Term.{Term}
 use Rattle.spx_term.specs.declared.value.Value.TheVariants as value
@@ -34,8 +34,9 @@ use Rattle.spx_sound.proofs.NeverBadRuns.{IsUnset, Good, good_then, good_use, go
 use Rattle.spx_sound.proofs.NeverBadExpressions.{eval_good}
 use Rattle.spx_sound.proofs.Extents.{lies_in_extent}
 use Rattle.spx_sound.proofs.Selections.{AllFail, HaveValue, each_has_one, facts_hold, and_these_fail, last_has, one_of_rest}
-use Rattle.spx_sound.proofs.NeverBadStores.{Fits, Reaches, Spares, past_range, put_fits, stays}
+use Rattle.spx_sound.proofs.NeverBadStores.{Counting, Fits, Reaches, Spares, is_held, past_range, put_value_fits, within}
 use Rattle.spx_sound.proofs.NeverBadLoops.{AlwaysSafe, Began, GoesOn, always_parts, assertion_good, tested_good, while_good}
+use Rattle.spx_sound.proofs.NeverBadCounts.{count_good}
 
 -- ---- commands
 
@@ -44,14 +45,14 @@ module _ (f : Frame) (began : Began f) where
   the_term e = term_of f.program (now_term f.program) e
 
   -- where the target is no variable, nothing is done
-  assign_good : (place : Place) (o : Option VarId) (t : Term) (rest leave : ℕ → Tree) (made : ℕ) (s : Store) (v : Valuation) → Fits f s v → ((x : VarId) → o ≡ Some x → stays f.sub x ≡ false) → ((x : VarId) → o ≡ Some x → HasSort (sort_of_var f.program x) (value_of v t))
-      → Safe (assigned f.program place o t (rest made)) v → Good IsUnset (assign f.program place o s (value_of v t)) (Reaches f rest) (Reaches f leave)
-  assign_good place (Some x) t rest leave made s v fits free sorted safe =
+  assign_good : (at : List Counting) (place : Place) (o : Option VarId) (t : Term) (rest leave : ℕ → Tree) (made : ℕ) (s : Store) (v : Valuation) → Fits f at s v → ((x : VarId) → o ≡ Some x → is_held f.sub at x ≡ false) → ((x : VarId) → o ≡ Some x → HasSort (sort_of_var f.program x) (value_of v t))
+      → Safe (assigned f.program place o t (rest made)) v → Good IsUnset (assign f.program place o s (value_of v t)) (Reaches f at rest) (Reaches f at leave)
+  assign_good at place (Some x) t rest leave made s v fits free sorted safe =
       let w = value_of v t in
       let past = past_range v (type_of f.program x) place t (Assign (now f.program x) t (rest made)) (sorted x refl) safe in
-      subst (λ b. Good IsUnset (demand b Range place (put s x (Some w))) (Reaches f rest) (Reaches f leave)) (sym past.0)
-      (record { valuation = changed v (now f.program x) w; made = made; fits = put_fits f s x w v (free x refl) (sorted x refl) past.0 fits; safe = past.1 })
-  assign_good place None t rest leave made s v fits free sorted safe = record { valuation = v; made = made; fits = fits; safe = safe }
+      subst (λ b. Good IsUnset (demand b Range place (put s x (Some w))) (Reaches f at rest) (Reaches f at leave)) (sym past.0)
+      (record { valuation = changed v (now f.program x) w; made = made; fits = put_value_fits f at s x w v (free x refl) (sorted x refl) past.0 fits; safe = past.1 })
+  assign_good at place None t rest leave made s v fits free sorted safe = record { valuation = v; made = made; fits = fits; safe = safe }
 
   -- the right side has the sort of the target
   right_sorted : (target : Reference) (e : CoreExpr) → AreAsDeclared f.program (Set target e) → RightSide target e → (x : VarId) → variable_of target.root.entity ≡ Some x → HasSortOf (sort_of_var f.program x) (the_term e)
@@ -60,86 +61,91 @@ module _ (f : Frame) (began : Began f) where
       ∙ ap Some (right_sort f.program target e declared.0 right x is)
 
   -- the target is none of those that keep their values
-  target_free : (target : Reference) (e : CoreExpr) → Spares f.sub (effect (Set target e)) → (x : VarId) → variable_of target.root.entity ≡ Some x → stays f.sub x ≡ false
-  target_free target e spares x is =
-      false_from_ne_true (stays f.sub x) (λ h. both_ways (x.0 == x.0) (ap (λ o. is_same x o) (sym is) ∙ spares x h) (eq-eqb x.0 x.0 refl))
+  target_free : (at : List Counting) (target : Reference) (e : CoreExpr) → Spares f.sub at (effect (Set target e)) → (x : VarId) → variable_of target.root.entity ≡ Some x → is_held f.sub at x ≡ false
+  target_free at target e spares x is =
+      false_from_ne_true (is_held f.sub at x) (λ h. both_ways (x.0 == x.0) (ap (λ o. is_same x o) (sym is) ∙ spares x h) (eq-eqb x.0 x.0 refl))
 
-  set_good : (target : Reference) (e : CoreExpr) (n : ℕ) → GoesOn f (Set target e) n
-  set_good target e n rest leave made s v typed declared spares from_cuts fits safe =
+  set_good : (at : List Counting) (target : Reference) (e : CoreExpr) (n : ℕ) → GoesOn f at (Set target e) n
+  set_good at target e n rest leave made s v typed declared spares kept from_cuts fits safe =
       let t = the_term e in
       let o = variable_of target.root.entity in
       let after = assigned f.program (place_of e) o t (rest made) in
       let side = right_side target e typed in
       let right = right_sorted target e declared side in
-      good_use IsUnset (eval f n s e) (assign f.program (place_of e) o s) (value_of v t) (Safe after v) (Reaches f rest) (Reaches f leave)
+      good_use IsUnset (eval f n s e) (assign f.program (place_of e) o s) (value_of v t) (Safe after v) (Reaches f at rest) (Reaches f at leave)
       (eval_good f n s v fits.agrees fits.respects e side.typing side.typed (recursion_from_All (IsAsDeclared f.program) (names_read e) declared.1) [] tt after safe)
-      (assign_good (place_of e) o t rest leave made s v fits (target_free target e spares) (λ x is. value_sorted v fits.respects t (sort_of_var f.program x) (right x is)))
+      (assign_good at (place_of e) o t rest leave made s v fits (target_free at target e spares) (λ x is. value_sorted v fits.respects t (sort_of_var f.program x) (right x is)))
 
-  choose_good : (place : Place) (e : CoreExpr) (a b : Command) (n : ℕ) → GoesOn f a n → GoesOn f b n → GoesOn f (Choose place e a b) n
-  choose_good place e a b n first second rest leave made s v typed declared spares from_cuts fits safe =
+  choose_good : (at : List Counting) (place : Place) (e : CoreExpr) (a b : Command) (n : ℕ) → GoesOn f at a n → GoesOn f at b n → GoesOn f at (Choose place e a b) n
+  choose_good at place e a b n first second rest leave made s v typed declared spares kept from_cuts fits safe =
       let parts = arms_typed place e a b typed in
-      let apart : (x : VarId) → stays f.sub x ≡ true → (sets x (effect a) ≡ false) × (sets x (effect b) ≡ false) = λ x h. or_parts (sets x (effect a)) (sets x (effect b)) (spares x h) in
-      let trees = always_parts (cuts f.program f.sub a rest leave) (cuts f.program f.sub b rest leave) from_cuts in
-      tested_good f n e (walk f.program f.sub a rest leave) (walk f.program f.sub b rest leave) made s v (run f n s a) (run f n s b) (Reaches f rest) (Reaches f leave) parts.0 declared.0 fits safe
-      (λ more. first rest leave made s v parts.1 declared.1.0 (λ x h. (apart x h).0) trees.0 fits more)
-      (λ more. second rest leave made s v parts.2 declared.1.1 (λ x h. (apart x h).1) trees.1 fits more)
+      let apart : (x : VarId) → is_held f.sub at x ≡ true → (sets x (effect a) ≡ false) × (sets x (effect b) ≡ false) = λ x h. or_parts (sets x (effect a)) (sets x (effect b)) (spares x h) in
+      let trees = always_parts (cuts f.program f.sub (within at) a rest leave) (cuts f.program f.sub (within at) b rest leave) from_cuts in
+      tested_good f at n e (walk f.program f.sub a rest leave) (walk f.program f.sub b rest leave) made s v (run f n s a) (run f n s b) (Reaches f at rest) (Reaches f at leave) parts.0 declared.0 fits safe
+      (λ more. first rest leave made s v parts.1 declared.1.0 (λ x h. (apart x h).0) kept.0 trees.0 fits more)
+      (λ more. second rest leave made s v parts.2 declared.1.1 (λ x h. (apart x h).1) kept.1 trees.1 fits more)
 
   -- so do alternatives for a number, after choices that have it not
-  abbrev GoOn : Alternatives → ℕ → Type 0
-  GoOn alternatives n =
+  abbrev GoOn : List Counting → Alternatives → ℕ → Type 0
+  GoOn at alternatives n =
       (tests : List Read) (place : Place) (t : Term) (earlier : List Term) (of : ExprType) (k : ℤ) (rest leave : ℕ → Tree) (made : ℕ) (s : Store) (v : Valuation) → AreTyped of alternatives → has_others_last alternatives ≡ true → AllAreAsDeclared f.program alternatives
-      → Spares f.sub (effect_among tests place alternatives) → AlwaysSafe (cuts_for f.program f.sub alternatives rest leave) → Fits f s v → (is : value_of v t ≡ value.Number k) → AllFail v t k is earlier → HaveValue alternatives k → Safe (walk_for f.program f.sub t earlier alternatives rest leave made) v
-      → Good IsUnset (run_for (value.Number k) f n s alternatives) (Reaches f rest) (Reaches f leave)
+      → Spares f.sub at (effect_among tests place alternatives) → KeepsParameters (effect_among tests place alternatives) → AlwaysSafe (cuts_for f.program f.sub (within at) alternatives rest leave) → Fits f at s v → (is : value_of v t ≡ value.Number k) → AllFail v t k is earlier → HaveValue alternatives k → Safe (walk_for f.program f.sub t earlier alternatives rest leave made) v
+      → Good IsUnset (run_for (value.Number k) f n s alternatives) (Reaches f at rest) (Reaches f at leave)
 
-  last_good : (choices : Option (List CoreChoice)) (a : Command) (n : ℕ) → GoesOn f a n → GoOn (Last choices a) n
-  last_good choices a n go tests place t earlier of k rest leave made s v typed others declared spares from_cuts fits is fail have safe =
-      go rest leave made s v (last_typed of choices a typed).1 declared (λ x h. (or_parts (sets x (effect a)) (sets x (effect a)) (spares x h)).0) from_cuts fits
+  last_good : (at : List Counting) (choices : Option (List CoreChoice)) (a : Command) (n : ℕ) → GoesOn f at a n → GoOn at (Last choices a) n
+  last_good at choices a n go tests place t earlier of k rest leave made s v typed others declared spares kept from_cuts fits is fail have safe =
+      go rest leave made s v (last_typed of choices a typed).1 declared (λ x h. (or_parts (sets x (effect a)) (sets x (effect a)) (spares x h)).0) kept.0 from_cuts fits
       (assumed (alternative_facts t earlier choices) (walk f.program f.sub a rest leave made) v (facts_hold v t k is earlier choices fail (last_has choices a k have)) safe)
 
-  when_good : (choices : Option (List CoreChoice)) (a : Command) (more : Alternatives) (n : ℕ) → GoesOn f a n → GoOn more n → GoOn (When choices a more) n
-  when_good choices a more n go further tests place t earlier of k rest leave made s v typed others declared spares from_cuts fits is fail have safe =
-      let apart : (x : VarId) → stays f.sub x ≡ true → (sets x (effect a) ≡ false) × (sets x (effect_among tests place more) ≡ false) = λ x h. or_parts (sets x (effect a)) (sets x (effect_among tests place more)) (spares x h) in
+  when_good : (at : List Counting) (choices : Option (List CoreChoice)) (a : Command) (more : Alternatives) (n : ℕ) → GoesOn f at a n → GoOn at more n → GoOn at (When choices a more) n
+  when_good at choices a more n go further tests place t earlier of k rest leave made s v typed others declared spares kept from_cuts fits is fail have safe =
+      let apart : (x : VarId) → is_held f.sub at x ≡ true → (sets x (effect a) ≡ false) × (sets x (effect_among tests place more) ≡ false) = λ x h. or_parts (sets x (effect a)) (sets x (effect_among tests place more)) (spares x h) in
       let parts = when_typed of choices a more typed in
-      let trees = always_parts (cuts f.program f.sub a rest leave) (cuts_for f.program f.sub more rest leave) from_cuts in
+      let trees = always_parts (cuts f.program f.sub (within at) a rest leave) (cuts_for f.program f.sub (within at) more rest leave) from_cuts in
       let some = and_parts (is_some choices) (has_others_last more) others in
-      good_if IsUnset (has_value choices (value.Number k)) (run f n s a) (run_for (value.Number k) f n s more) (Reaches f rest) (Reaches f leave)
+      good_if IsUnset (has_value choices (value.Number k)) (run f n s a) (run_for (value.Number k) f n s more) (Reaches f at rest) (Reaches f at leave)
       (λ has.
-      go rest leave made s v parts.1 declared.0 (λ x h. (apart x h).0) trees.0 fits
+      go rest leave made s v parts.1 declared.0 (λ x h. (apart x h).0) kept.0 trees.0 fits
       (assumed (alternative_facts t earlier choices) (walk f.program f.sub a rest leave made) v (facts_hold v t k is earlier choices fail has) safe.0))
       (λ fails.
-      further tests place t (and_these t earlier choices) of k rest leave made s v parts.2 some.1 declared.1 (λ x h. (apart x h).1) trees.1 fits is (and_these_fail v t k is earlier choices fail fails) (one_of_rest choices a more k some.0 fails have) safe.1)
+      further tests place t (and_these t earlier choices) of k rest leave made s v parts.2 some.1 declared.1 (λ x h. (apart x h).1) kept.1 trees.1 fits is (and_these_fail v t k is earlier choices fail fails) (one_of_rest choices a more k some.0 fails have) safe.1)
 
-  select_good : (place : Place) (selector : CoreExpr) (alternatives : Alternatives) (n : ℕ) → GoOn alternatives n → GoesOn f (Select place selector alternatives) n
-  select_good place selector alternatives n go rest leave made s v typed declared spares from_cuts fits safe =
+  select_good : (at : List Counting) (place : Place) (selector : CoreExpr) (alternatives : Alternatives) (n : ℕ) → GoOn at alternatives n → GoesOn f at (Select place selector alternatives) n
+  select_good at place selector alternatives n go rest leave made s v typed declared spares kept from_cuts fits safe =
       let t = the_term selector in
       let whole = select_typed place selector alternatives typed in
       let names = recursion_from_All (IsAsDeclared f.program) (names_read selector) declared.0 in
       let tree = walk_for f.program f.sub t [] alternatives rest leave made in
-      good_given IsUnset (eval f n s selector) (λ x. run_for x f n s alternatives) (value_of v t) (Safe tree v) (Reaches f rest) (Reaches f leave)
+      good_given IsUnset (eval f n s selector) (λ x. run_for x f n s alternatives) (value_of v t) (Safe tree v) (Reaches f at rest) (Reaches f at leave)
       (eval_good f n s v fits.agrees fits.respects selector whole.typing whole.typed names [] tt tree safe)
       (λ gives more.
       let number = lies_in_extent f n s fits.in_types selector whole.typing whole.typed names whole.ordered (value_of v t) gives in
-      subst (λ x. Good IsUnset (run_for x f n s alternatives) (Reaches f rest) (Reaches f leave)) (sym number.1)
-      (go (reads_of selector) place t [] whole.typing.of number.0 rest leave made s v whole.parts whole.others_last declared.1 spares from_cuts fits number.1 tt (each_has_one (extent selector) alternatives whole.once number.0 number.2) more))
+      subst (λ x. Good IsUnset (run_for x f n s alternatives) (Reaches f at rest) (Reaches f at leave)) (sym number.1)
+      (go (reads_of selector) place t [] whole.typing.of number.0 rest leave made s v whole.parts whole.others_last declared.1 spares kept from_cuts fits number.1 tt (each_has_one (extent selector) alternatives whole.once number.0 number.2) more))
 
   mutual
-    pub walk_good : (c : Command) (n : ℕ) → GoesOn f c n
-    walk_good Skip n rest leave made s v typed declared spares from_cuts fits safe = record { valuation = v; made = made; fits = fits; safe = safe }
-    walk_good (Set target e) n rest leave made s v typed declared spares from_cuts fits safe = set_good target e n rest leave made s v typed declared spares from_cuts fits safe
-    walk_good (Then a b) n rest leave made s v typed declared spares from_cuts fits safe =
+    pub walk_good : (c : Command) (at : List Counting) (n : ℕ) → GoesOn f at c n
+    walk_good Skip at n rest leave made s v typed declared spares kept from_cuts fits safe = record { valuation = v; made = made; fits = fits; safe = safe }
+    walk_good (Set target e) at n rest leave made s v typed declared spares kept from_cuts fits safe = set_good at target e n rest leave made s v typed declared spares kept from_cuts fits safe
+    walk_good (Then a b) at n rest leave made s v typed declared spares kept from_cuts fits safe =
         let parts = both_typed a b typed in
-        let apart : (x : VarId) → stays f.sub x ≡ true → (sets x (effect a) ≡ false) × (sets x (effect b) ≡ false) = λ x h. or_parts (sets x (effect a)) (sets x (effect b)) (spares x h) in
+        let apart : (x : VarId) → is_held f.sub at x ≡ true → (sets x (effect a) ≡ false) × (sets x (effect b) ≡ false) = λ x h. or_parts (sets x (effect a)) (sets x (effect b)) (spares x h) in
         let back = walk f.program f.sub b rest leave in
-        let trees = always_parts (cuts f.program f.sub a back leave) (cuts f.program f.sub b rest leave) from_cuts in
-        good_then IsUnset (run f n s a) (λ t. run f n t b) (Reaches f back) (Reaches f rest) (Reaches f leave)
-        (walk_good a n back leave made s v parts.0 declared.0 (λ x h. (apart x h).0) trees.0 fits safe)
-        (λ t there. walk_good b n rest leave there.made t there.valuation parts.1 declared.1 (λ x h. (apart x h).1) trees.1 there.fits there.safe)
-    walk_good (Choose place e a b) n rest leave made s v typed declared spares from_cuts fits safe = choose_good place e a b n (walk_good a n) (walk_good b n) rest leave made s v typed declared spares from_cuts fits safe
-    walk_good (Select place selector alternatives) n rest leave made s v typed declared spares from_cuts fits safe =
-        select_good place selector alternatives n (walk_for_good alternatives n) rest leave made s v typed declared spares from_cuts fits safe
-    walk_good (Assertion kind place e) n rest leave made s v typed declared spares from_cuts fits safe = assertion_good f began kind place e n rest leave made s v typed declared spares from_cuts fits safe
-    walk_good (Repeat (Tested place e) body) n rest leave made s v typed declared spares from_cuts fits safe = while_good f began place e body (walk_good body) n rest leave made s v typed declared spares from_cuts fits safe
+        let trees = always_parts (cuts f.program f.sub (within at) a back leave) (cuts f.program f.sub (within at) b rest leave) from_cuts in
+        good_then IsUnset (run f n s a) (λ t. run f n t b) (Reaches f at back) (Reaches f at rest) (Reaches f at leave)
+        (walk_good a at n back leave made s v parts.0 declared.0 (λ x h. (apart x h).0) kept.0 trees.0 fits safe)
+        (λ t there. walk_good b at n rest leave there.made t there.valuation parts.1 declared.1 (λ x h. (apart x h).1) kept.1 trees.1 there.fits there.safe)
+    walk_good (Choose place e a b) at n rest leave made s v typed declared spares kept from_cuts fits safe =
+        choose_good at place e a b n (walk_good a at n) (walk_good b at n) rest leave made s v typed declared spares kept from_cuts fits safe
+    walk_good (Select place selector alternatives) at n rest leave made s v typed declared spares kept from_cuts fits safe =
+        select_good at place selector alternatives n (walk_for_good alternatives at n) rest leave made s v typed declared spares kept from_cuts fits safe
+    walk_good (Assertion kind place e) at n rest leave made s v typed declared spares kept from_cuts fits safe =
+        assertion_good f began at kind place e n rest leave made s v typed declared spares kept from_cuts fits safe
+    walk_good (Repeat (Tested place e) body) at n rest leave made s v typed declared spares kept from_cuts fits safe =
+        while_good f began at place e body (walk_good body at) n rest leave made s v typed declared spares kept from_cuts fits safe
+    walk_good (Repeat (Counted c) body) at n rest leave made s v typed declared spares kept from_cuts fits safe =
+        count_good f began at c body (walk_good body) n rest leave made s v typed declared spares kept from_cuts fits safe
 
-    walk_for_good : (alternatives : Alternatives) (n : ℕ) → GoOn alternatives n
-    walk_for_good (Last choices a) n = last_good choices a n (walk_good a n)
-    walk_for_good (When choices a more) n = when_good choices a more n (walk_good a n) (walk_for_good more n)
+    walk_for_good : (alternatives : Alternatives) (at : List Counting) (n : ℕ) → GoOn at alternatives n
+    walk_for_good (Last choices a) at n = last_good at choices a n (walk_good a at n)
+    walk_for_good (When choices a more) at n = when_good at choices a more n (walk_good a at n) (walk_for_good more at n)
