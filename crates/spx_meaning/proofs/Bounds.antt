@@ -1,16 +1,20 @@
 -- A result other than Later is the same at every greater bound.
-use Rattle.std.proofs.Common.{◌≡◌, ◌≢◌, ℕ, zero, suc, ◌≤◌, Bool, true, false, refl, sym, ap, ◌∙◌, arith}
-use Rattle.std.specs.Prelude.{if◌then◌else◌}
+use Rattle.std.proofs.Common.{◌≡◌, ◌≢◌, ℕ, zero, suc, ◌≤◌, ℤ, Bool, true, false, Option, Some, None, refl, sym, ap, ◌∙◌, arith}
+use Rattle.std.specs.Prelude.{if◌then◌else◌, int_le}
+use Rattle.std.specs.Ordering.{int_eq}
+use Rattle.spx_core.specs.declared.entity.Subtype.{Subtype}
 use Rattle.spx_core.specs.declared.expression.CoreExpr.{CoreExpr}
-use Rattle.spx_core.specs.Commands.{Command, Skip, Set, Then, Choose, Select, Assertion, Repeat, Tested, Alternatives, Last, When, commands}
+use Rattle.spx_core.specs.declared.statement.CoreRange.{CoreRange}
+use Rattle.spx_core.specs.Commands.{Command, Skip, Set, Then, Choose, Select, Count, Assertion, Repeat, Tested, Counted, Alternatives, Last, When, commands}
 use Rattle.spx_core.specs.Places.{place_of}
 use Rattle.spx_core.specs.Uses.{variable_of}
 use Rattle.spx_term.specs.declared.value.Value.{Value}
-use Rattle.spx_term.specs.Meaning.{as_truth}
-use Rattle.spx_meaning.specs.Stores.{Store}
+use Rattle.spx_term.specs.declared.value.Value.TheVariants.{Number}
+use Rattle.spx_term.specs.Meaning.{as_number, as_truth}
+use Rattle.spx_meaning.specs.Stores.{Store, put, type_of}
 use Rattle.spx_meaning.specs.Frames.{Frame, around}
 use Rattle.spx_meaning.specs.Evaluation.{Answer, Gives, Fails, Waits, eval}
-use Rattle.spx_meaning.specs.Runs.{Outcome, Ended, Left, Bad, Later, then_do, use_value, after_turn, assign, demand_pre, entry_of, has_value, turns, run, run_for, run_body}
+use Rattle.spx_meaning.specs.Runs.{Outcome, Ended, Left, Bad, Later, then_do, use_value, after_turn, assign, demand_pre, entry_of, has_value, turns, in_bounds, with_bounds, start_of, end_of, value_after, counted, over_range, run, run_for, run_body}
 use Rattle.spx_meaning.specs.Laws.{CallsAreSettled, RunsAreSettled}
 use Rattle.spx_meaning.proofs.Callers.Evaluation.{eval_same}
 
@@ -61,6 +65,31 @@ module _ (test : ℕ → Store → Answer) (body : ℕ → Store → Outcome) (t
       kept_use_at (test (suc n) s) (test (suc m) s) _ _ (test_at (suc n) (suc m) s)
       (λ x. kept_arm (as_truth x) _ (Ended s) _ (Ended s) (kept_turn (body n s) (body m s) (turns test body n) (turns test body m) (body_kept n m (omega arith) s) (λ t. turns_kept n m (omega arith) t)) (same (Ended s)))
 
+-- the bounds of a loop are evaluated the same at every bound
+bounds_kept : (f : Frame) (n m : ℕ) (s : Store) (subtype : Subtype) (bounds : Option CoreRange) (go go' : (low high : ℤ) → Store → Outcome) → ((low high : ℤ) (t : Store) → Kept (go low high t) (go' low high t))
+    → Kept (with_bounds f n s subtype bounds go) (with_bounds f m s subtype bounds go')
+bounds_kept f n m s subtype None go go' more = more subtype.first subtype.last s
+bounds_kept f n m s subtype (Some range) go go' more =
+    kept_use_at (eval f n s range.low) (eval f m s range.low) _ _ (eval_at f n m s range.low)
+    (λ low. kept_use_at (eval f n s range.high) (eval f m s range.high) _ _ (eval_at f n m s range.high)
+    (λ high.
+    let checked = in_bounds subtype (place_of range.low) (as_number low) (as_number high) s in
+    kept_then checked checked (go (as_number low) (as_number high)) (go' (as_number low) (as_number high)) (same checked) (more (as_number low) (as_number high))))
+
+module _ (c : Count) (body : ℕ → Store → Outcome) (body_kept : (n m : ℕ) → n ≤ m → (s : Store) → Kept (body n s) (body m s)) where
+  counted_kept : (last : ℤ) (n m : ℕ) → n ≤ m → (k : ℤ) (s : Store) → Kept (counted c body last n k s) (counted c body last m k s)
+  counted_kept last zero m less k s = nothing_yet _
+  counted_kept last (suc n) zero less k s = absurd (omega arith)
+  counted_kept last (suc n) (suc m) less k s =
+      let from = put s c.parameter (Some (Number k)) in
+      kept_turn (body n from) (body m from) _ _ (body_kept n m (omega arith) from)
+      (λ t. kept_arm (int_eq k last) (Ended t) _ (Ended t) _ (same (Ended t)) (counted_kept last n m (omega arith) (value_after c k) t))
+
+  range_kept : (n m : ℕ) → n ≤ m → (low high : ℤ) (s : Store) → Kept (over_range c body n low high s) (over_range c body m low high s)
+  range_kept n m less low high s =
+      kept_then _ _ (λ t. Ended (put t c.parameter None)) (λ t. Ended (put t c.parameter None))
+      (kept_arm (int_le low high) _ (Ended s) _ (Ended s) (counted_kept (end_of c low high) n m less (start_of c low high) s) (same (Ended s))) (λ t. same _)
+
 mutual
   pub runs_kept : (f : Frame) (n m : ℕ) → n ≤ m → (s : Store) (c : Command) → Kept (run f n s c) (run f m s c)
   runs_kept f n m less s Skip = λ there. refl
@@ -76,6 +105,9 @@ mutual
   runs_kept f n m less s (Assertion kind place condition) = λ there. refl
   runs_kept f n m less s (Repeat (Tested place condition) body) =
       turns_kept (λ k t. eval f k t condition) (λ k t. run f k t body) (λ k j t. eval_at f k j t condition) (λ k j less t. runs_kept f k j less t body) n m less s
+  runs_kept f n m less s (Repeat (Counted c) body) =
+      bounds_kept f n m s (type_of f.program c.parameter) c.bounds (over_range c (λ k t. run f k t body) n) (over_range c (λ k t. run f k t body) m)
+      (range_kept c (λ k t. run f k t body) (λ k j less t. runs_kept f k j less t body) n m less)
 
   one_kept : (x : Value) (f : Frame) (n m : ℕ) → n ≤ m → (s : Store) (alternatives : Alternatives) → Kept (run_for x f n s alternatives) (run_for x f m s alternatives)
   one_kept x f n m less s (Last choices a) = runs_kept f n m less s a

@@ -69,11 +69,11 @@ pub record Assigns (f : Frame) (n : ℕ) (target : Reference) (e : CoreExpr) (s 
   pub given : (w : VarId) → denotes w target.root ≡ true → look t w ≡ Some value
   pub kept : (w : VarId) → denotes w target.root ≡ false → look t w ≡ look s w
 
-put_given : (s : Store) (v w : VarId) (x : Value) → is_same w (Some v) ≡ true → look (put s v (Some x)) w ≡ Some x
-put_given s v w x h = ap (λ k. look (put s v (Some x)) (record { 0 = k })) (sym (eqb-true v.0 w.0 h)) ∙ look-put_same s v (Some x)
+pub put_given : (s : Store) (v w : VarId) (x : Option Value) → is_same w (Some v) ≡ true → look (put s v x) w ≡ x
+put_given s v w x h = ap (λ k. look (put s v x) (record { 0 = k })) (sym (eqb-true v.0 w.0 h)) ∙ look-put_same s v x
 
-put_kept : (s : Store) (v w : VarId) (x : Value) → is_same w (Some v) ≡ false → look (put s v (Some x)) w ≡ look s w
-put_kept s v w x h = look-put_other s v w (Some x) (eqb-false v.0 w.0 h)
+pub put_kept : (s : Store) (v w : VarId) (x : Option Value) → is_same w (Some v) ≡ false → look (put s v x) w ≡ look s w
+put_kept s v w x h = look-put_other s v w x (eqb-false v.0 w.0 h)
 
 pub assignment : (f : Frame) (n : ℕ) (s t : Store) (target : Reference) (e : CoreExpr) → run f n s (Set target e) ≡ Ended t → Assigns f n target e s t
 assignment f n s t target e h =
@@ -81,9 +81,9 @@ assignment f n s t target e h =
     record { value = used.0; gives = used.1; given = given (variable_of target.root.entity) used.0 used.2; kept = kept (variable_of target.root.entity) used.0 used.2 }
   where
     given : (o : Option VarId) (x : Value) → assign f.program (place_of e) o s x ≡ Ended t → (w : VarId) → is_same w o ≡ true → look t w ≡ Some x
-    given (Some v) x is w h = ap (λ u. look u w) (sym (demand_ended _ _ _ (put s v (Some x)) t is).1) ∙ put_given s v w x h
+    given (Some v) x is w h = ap (λ u. look u w) (sym (demand_ended _ _ _ (put s v (Some x)) t is).1) ∙ put_given s v w (Some x) h
     given None x is w h = absurd (cc)
 
     kept : (o : Option VarId) (x : Value) → assign f.program (place_of e) o s x ≡ Ended t → (w : VarId) → is_same w o ≡ false → look t w ≡ look s w
-    kept (Some v) x is w h = ap (λ u. look u w) (sym (demand_ended _ _ _ (put s v (Some x)) t is).1) ∙ put_kept s v w x h
+    kept (Some v) x is w h = ap (λ u. look u w) (sym (demand_ended _ _ _ (put s v (Some x)) t is).1) ∙ put_kept s v w (Some x) h
     kept None x is w h = ap (λ u. look u w) (sym (same_store s t is))
