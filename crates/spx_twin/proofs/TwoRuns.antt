@@ -21,7 +21,7 @@ use Rattle.spx_meaning.specs.Stores.{Store, look}
 use Rattle.spx_meaning.specs.Frames.{around}
 use Rattle.spx_meaning.specs.Runs.{entry_of}
 use Rattle.spx_meaning.specs.Laws.{AreDerived, OthersAreKept, TwoRuns}
-use Rattle.spx_core.specs.Scopes.{Scoped}
+use Rattle.spx_core.specs.Scopes.{Scoped, TypesHaveValues}
 use Rattle.spx_core.proofs.Callers.FlowLaws.{unread}
 use Rattle.spx_meaning.proofs.Callers.Scopes.{local_starts, mode_is}
 use Rattle.spx_meaning.proofs.Callers.Entries.{cleared_agree}
@@ -33,7 +33,7 @@ the_formal : (formal local : Bool) → (formal || local) ≡ true → local ≡ 
 the_formal true local own no_local = refl
 the_formal false local own no_local = absurd (cc)
 
-module _ (p : Program) (sub : Sub) (scoped : Scoped p sub) where
+module _ (p : Program) (sub : Sub) (scoped : Scoped p sub) (types : TypesHaveValues p) where
   -- every flow to an export that does not come from a local is declared
   declared_flow : HasNoFinding p sub → (u y : VarId) → exports y sub ≡ true → MayFlow (body_effect sub) u y → is_local u sub ≡ false → derives u y sub ≡ true
   declared_flow fits u y export flow no_local = by_derives (derives u y sub) refl
@@ -56,7 +56,7 @@ module _ (p : Program) (sub : Sub) (scoped : Scoped p sub) where
 
   pub are_derived : HasNoFinding p sub → AreDerived p sub
   are_derived fits n m s t s' t' start start' ended ended' y export agree =
-      determined (around p sub (entry_of p sub s)) (around p sub (entry_of p sub t)) n m (entry_of p sub s) (entry_of p sub t) s' t' (commands sub.statements) (call_ended p n sub s s' ended) (call_ended p m sub t t' ended') y
+      determined (around p sub (entry_of p sub s)) (around p sub (entry_of p sub t)) refl types n m (entry_of p sub s) (entry_of p sub t) s' t' (commands sub.statements) (call_ended p n sub s s' ended) (call_ended p m sub t t' ended') y
       (λ u flow. begin_alike s t u (λ no_local. agree u (declared_flow fits u y export flow no_local)))
 
   -- what is neither an export nor a local is not set
@@ -90,8 +90,8 @@ all_by {A} P Q R S each xs p q r =
     by_recursion [] p q r = tt
     by_recursion (x ∷ xs) p q r = (each x p.0 q.0 r.0, by_recursion xs p.1 q.1 r.1)
 
-pub two_runs : (p : Program) → All (Scoped p) p.subs → All (ObeysRules p) p.subs → HasNoFlowFinding p → TwoRuns p
-two_runs p scoped obeys flows = record {
-  derived = all_by (Scoped p) (HasNoFinding p) (ObeysRules p) (AreDerived p) (λ sub scoped fits obeys. are_derived p sub scoped fits) p.subs scoped flows obeys;
-  kept = all_by (Scoped p) (HasNoFinding p) (ObeysRules p) (OthersAreKept p) (λ sub scoped fits obeys. others_are_kept p sub scoped obeys) p.subs scoped flows obeys;
+pub two_runs : (p : Program) → All (Scoped p) p.subs → TypesHaveValues p → All (ObeysRules p) p.subs → HasNoFlowFinding p → TwoRuns p
+two_runs p scoped types obeys flows = record {
+  derived = all_by (Scoped p) (HasNoFinding p) (ObeysRules p) (AreDerived p) (λ sub scoped fits obeys. are_derived p sub scoped types fits) p.subs scoped flows obeys;
+  kept = all_by (Scoped p) (HasNoFinding p) (ObeysRules p) (OthersAreKept p) (λ sub scoped fits obeys. others_are_kept p sub scoped types obeys) p.subs scoped flows obeys;
 }
