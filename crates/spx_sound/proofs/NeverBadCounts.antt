@@ -1,5 +1,5 @@
 -- Loops that count: where the bounds are of the type each turn begins with a value of it, and the last turn, or no turn at all, leaves the loop.
-use Rattle.std.proofs.Common.{◌≡◌, ℕ, zero, suc, ℤ, pos, ◌+ℤ◌, ◌-ℤ◌, Bool, true, false, not, ◌&&◌, ◌||◌, ◌==◌, if◌then◌else◌, List, [], ◌∷◌, ◌++◌, Option, Some, None, Ok, refl, sym, ap, ap₂, ◌∙◌, subst, int_le, int_lt, arith, ⊎_elim}
+use Rattle.std.proofs.Common.{◌≡◌, ℕ, zero, suc, ℤ, pos, ◌+ℤ◌, ◌-ℤ◌, Bool, true, false, not, ◌&&◌, ◌||◌, ◌==◌, List, [], ◌∷◌, ◌++◌, Option, Some, None, Ok, refl, sym, ap, ap₂, ◌∙◌, subst, int_le, int_lt, arith, ⊎_elim}
 use Rattle.std.specs.Ordering.{int_eq}
 use Rattle.std.specs.List.{AllByRecursion}
 use Rattle.std.proofs.lemmas.Bool.{and_from, and_parts, both_ways, eq-eqb, eqb-true, false_from_ne_true, or_cases, or_left, or_parts, or_right}
@@ -42,6 +42,7 @@ use Rattle.spx_meaning.specs.Evaluation.{eval}
 use Rattle.spx_meaning.specs.Runs.{Outcome, Ended, counted, demand, end_of, in_bounds, over_range, run, start_of, then_do, use_value, value_after, with_bounds}
 use Rattle.spx_meaning.proofs.Callers.Stores.{look-put_same}
 use Rattle.spx_meaning.proofs.Callers.Types.{type_is}
+use Rattle.spx_meaning.proofs.Callers.Types.{type_has_value}
 use Rattle.spx_paths.specs.Terms.{first_name, last_name, now, now_term, sort_of_var, term_of}
 use Rattle.spx_paths.specs.Checks.{checks}
 use Rattle.spx_paths.specs.Walks.{before_end, bound_term, cuts, end_of_turn, end_term, enter_range, high_term, is_fixed, leaving, loop_cut, low_term, naming, next_term, range_goal, start_term}
@@ -52,7 +53,7 @@ use Rattle.spx_sound.proofs.NeverBadRuns.{Good, GoodValue, IsUnset, good_after, 
 use Rattle.spx_sound.proofs.NeverBadExpressions.{eval_good, past_check, truth_is}
 use Rattle.spx_sound.proofs.NeverBadAnnotations.{now_terms}
 use Rattle.spx_sound.proofs.NeverBadStores.{Counting, Fits, IsFresh, IsInside, Reaches, Spares, bound_kept, changed_at, first_is_fresh, is_held, is_parameter, last_is_fresh, low_kept, high_kept, named_fits, put_fits, put_kept, put_value_fits, stays, term_kept, unchanged_at, within}
-use Rattle.spx_sound.proofs.NeverBadLoops.{AlwaysSafe, Began, GoesOn, always_parts, first_part, turn_safe, turn_tree, type_has_value}
+use Rattle.spx_sound.proofs.NeverBadLoops.{AlwaysSafe, Began, GoesOn, always_parts, first_part, turn_safe, turn_tree}
 
 -- ---- numbers
 

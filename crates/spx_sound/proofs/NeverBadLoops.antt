@@ -1,6 +1,6 @@
 -- Annotations among statements, and loops: where the tree from each cut is safe at every valuation, a path that ends at a cut goes on from there.
-use Rattle.std.proofs.Common.{◌≡◌, ℕ, zero, suc, ℤ, Bool, true, false, not, ◌&&◌, if◌then◌else◌, List, [], ◌∷◌, ◌++◌, Option, Some, None, Ok, refl, sym, ap, ap₂, ◌∙◌, subst, int_le, arith}
-use Rattle.std.specs.Prelude.{All, slice_get}
+use Rattle.std.proofs.Common.{◌≡◌, ℕ, zero, suc, ℤ, Bool, true, false, not, ◌&&◌, List, [], ◌∷◌, ◌++◌, Option, Some, None, Ok, refl, sym, ap, ap₂, ◌∙◌, subst, int_le, arith}
+use Rattle.std.specs.Prelude.{All}
 use Rattle.std.specs.List.{AllByRecursion, flat_map}
 use Rattle.std.proofs.lemmas.Int.{ints}
 use Rattle.std.proofs.lemmas.List.Elements.{recursion_from_All}
@@ -15,8 +15,6 @@ use Rattle.spx_core.specs.declared.expression.CoreExpr.{CoreExpr}
 use Rattle.spx_core.specs.Dependency.{exports, imports}
 use Rattle.spx_core.specs.Effects.{effect}
 use Rattle.spx_core.specs.Reads.{names_read}
-use Rattle.spx_core.specs.declared.program.TypeRow.{TypeRow}
-use Rattle.spx_core.specs.declared.program.Var.{Var}
 use Rattle.spx_core.specs.declared.subprogram.CorePredicate.{CorePredicate}
 use Rattle.spx_core.specs.Commands.{Command, Head, Assertion, Repeat, Tested, has_own_cut}
 use Rattle.spx_core.specs.Formals.{formals, locals}
@@ -38,8 +36,9 @@ use Rattle.spx_term.proofs.Terms.{fold-Infix, fold-Prefix, fold-Truth}
 use Rattle.spx_meaning.specs.Frames.{Frame}
 use Rattle.spx_meaning.specs.Evaluation.{eval}
 use Rattle.spx_meaning.specs.declared.bad.BadKind.TheVariants.{Assert as AssertBad, Check as CheckBad}
-use Rattle.spx_meaning.specs.Stores.{Store, declared, first_of_class, first_value, is_in, is_within, look, reading, seen, subtype_in, type_in, type_of}
+use Rattle.spx_meaning.specs.Stores.{Store, declared, first_of_class, first_value, is_in, is_within, look, reading, seen, type_of}
 use Rattle.spx_meaning.specs.Runs.{Outcome, Ended, Later, after_turn, demand, pre_holds, run, turns, use_value}
+use Rattle.spx_meaning.proofs.Callers.Types.{type_has_value}
 use Rattle.spx_paths.specs.Terms.{now_term, entry, entry_term, term_of}
 use Rattle.spx_paths.specs.Checks.{in_type}
 use Rattle.spx_paths.specs.Walks.{as_far_as_cut, count_facts, cut_facts, cuts, end_of_turn, entry_facts, from_cut, high_term, leaving, loop_cut, low_term, pre_facts_on_entry, tested, var_facts, walk}
@@ -60,25 +59,10 @@ pub record Began (f : Frame) : Type 0 where
   pub in_types : AreInTypes f.program f.entry
   pub precondition : pre_holds f f.sub.pre f.entry ≡ true
 
-abbrev HasValue : TypeRow → Type 0
-HasValue row = int_le row.subtype.first row.subtype.last ≡ true
-
-row_has_value : (types : List TypeRow) → AllByRecursion HasValue types → (k : ℕ) → int_le (subtype_in (slice_get types k)).first (subtype_in (slice_get types k)).last ≡ true
-row_has_value [] all k = refl
-row_has_value (row ∷ types) all zero = all.0
-row_has_value (row ∷ types) all (suc k) = row_has_value types all.1 k
-
 first_within : (c : Class) (first last : ℤ) → int_le first last ≡ true → is_within c first last (first_of_class c first) ≡ true
 first_within class.Integer first last h = grind (arith, ints)
 first_within class.Boolean first last h = refl
 first_within class.Enumeration first last h = grind (arith, ints)
-
-pub type_has_value : (p : Program) → TypesHaveValues p → (x : VarId) → int_le (type_of p x).first (type_of p x).last ≡ true
-type_has_value p types x = by_var (declared p x)
-  where
-    by_var : (o : Option Var) → int_le (type_in p.types o).first (type_in p.types o).last ≡ true
-    by_var (Some var) = row_has_value p.types (recursion_from_All HasValue p.types types) var.type_id.0
-    by_var None = refl
 
 -- the first value of a type is one
 first_value_in : (p : Program) → TypesHaveValues p → (x : VarId) → is_in (type_of p x) (first_value (type_of p x)) ≡ true
