@@ -1,6 +1,6 @@
 -- The paths of a body are as many as are counted.
 use Rattle.std.specs.Prelude.{pos}
-use Rattle.std.proofs.Common.{◌≡◌, ◌≤◌, ℕ, ◌+◌, Bool, true, false, List, [], ◌∷◌, ◌++◌, length, map, add-zero, if◌then◌else◌, Option, Some, None, Ok, Err, refl, sym, ap, ap₂, ◌∙◌, arith}
+use Rattle.std.proofs.Common.{◌≡◌, ◌≤◌, ℕ, ◌+◌, Bool, true, false, List, [], ◌∷◌, ◌++◌, length, map, add-zero, if◌then◌else◌, Option, Some, None, is_some, Ok, Err, refl, sym, ap, ap₂, ◌∙◌, arith}
 use Rattle.std.proofs.lemmas.Grind.{flat_map-append}
 use Rattle.std.proofs.lemmas.List.{length-append, length-map}
 use Rattle.std.specs.List.{flat_map}
@@ -20,7 +20,8 @@ use Rattle.spx_paths.specs.declared.count.Counts.{Counts}
 use Rattle.spx_paths.specs.Counts.{arrivals_in, capped, cut_arrivals_in, AreCounts}
 use Rattle.spx_core.specs.declared.subprogram.CorePredicate.{CorePredicate}
 use Rattle.spx_core.specs.declared.subprogram.Sub.{Sub}
-use Rattle.spx_core.specs.Commands.{Command, Skip, Set, Then, Choose, Select, Assertion, Repeat, Tested, Alternatives, Last, When, alternative, alternatives_of, commands, has_own_cut, select}
+use Rattle.spx_core.specs.declared.statement.CoreRange.{CoreRange}
+use Rattle.spx_core.specs.Commands.{Command, Skip, Set, Then, Choose, Select, Assertion, Count, Head, Repeat, Tested, Counted, Alternatives, Last, When, alternative, alternatives_of, commands, has_own_cut, select}
 use Rattle.spx_core.specs.Dependency.{exports}
 use Rattle.spx_core.specs.Formals.{formals, locals}
 use Rattle.spx_core.specs.Judged.{Judged, application}
@@ -43,16 +44,16 @@ use Rattle.spx_term.specs.declared.term.Term.{Term}
 use Rattle.spx_term.specs.declared.term.Term.TheVariants as term
 use Rattle.spx_term.specs.declared.value.Value.{Value}
 use Rattle.spx_term.specs.Paths.{branches}
-use Rattle.spx_term.specs.Steps.{Tree, Cut, Assign, assume_all, assume_parts, check}
+use Rattle.spx_term.specs.Steps.{Tree, Cut, Assign, Assume, Split, assume_all, assume_parts, check}
 use Rattle.spx_term.specs.Conjuncts.{conjuncts}
 use Rattle.spx_meaning.specs.Literals.{literal}
 use Rattle.spx_meaning.specs.Runs.{initial_value}
 use Rattle.spx_meaning.specs.Stores.{type_of}
 use Rattle.spx_term.specs.Folding.{term_of as static_term}
-use Rattle.spx_paths.specs.Terms.{entry, entry_term, moved_term, now, now_term, term_of}
+use Rattle.spx_paths.specs.Terms.{entry, entry_term, first_name, last_name, moved_term, now, now_term, term_of}
 use Rattle.spx_paths.specs.Checks.{base_check, bounds_check, check_forms, checked_under, checks, divisor_check, guarded, in_range, in_type, mapping_check, operation_check, right_lefts, sign_check, unless_static}
 use Rattle.spx_paths.specs.Conditions.{PathsAreCounted}
-use Rattle.spx_paths.specs.Walks.{alternative_facts, and_these, arrivals, arrivals_for, as_far_as_cut, asserted, assigned, checked_in, cut_arrivals, cut_arrivals_for, cut_facts, cuts, cuts_for, ending, ending_with, entering, first_facts, from_cut, initializing, loop_cut, start_tree, starting_with, tested, walk, walk_for}
+use Rattle.spx_paths.specs.Walks.{again, alternative_facts, and_these, arrivals, arrivals_for, as_far_as_cut, asserted, assigned, before_end, checked_in, cut_arrivals, cut_arrivals_for, cut_facts, cuts, cuts_for, end_of_turn, end_term, ending, ending_with, enter_range, entering, entering_loop, first_facts, from_cut, high_term, initializing, inside, is_fixed, leaving, loop_cut, low_term, may_be_passed, naming, next_term, range_goal, start_term, start_tree, starting_with, tested, turn_arrivals, walk, walk_for}
 
 -- how many paths a tree has
 abbrev count : Tree → ℕ
@@ -130,12 +131,12 @@ module _ (lefts : List Term) where
   operated _ base place at right whole rest = itself
 
 module _ (p : Program) (entered : VarId → Term) where
-  abbrev Counted : CoreExpr → Type 0
-  Counted e = (lefts : List Term) (rest : Tree) → AsMany (checks p entered lefts e rest) rest
+  abbrev KeepsCount : CoreExpr → Type 0
+  KeepsCount e = (lefts : List Term) (rest : Tree) → AsMany (checks p entered lefts e rest) rest
 
   -- checks end no path and begin none
-  count_checks : (e : CoreExpr) → Counted e
-  count_checks = induct Counted (record {
+  count_checks : (e : CoreExpr) → KeepsCount e
+  count_checks = induct KeepsCount (record {
     number = λ n place lefts rest. simp check_forms itself;
     name = λ name lefts rest. simp check_forms itself;
     entry = λ name allowed lefts rest. simp check_forms itself;
@@ -159,6 +160,56 @@ count_tested p condition holds fails made =
     ∙ length-append (branches (assume_parts t (holds made))) _
     ∙ ap₂ (λ (m n : ℕ). m + n) (count_facts (conjuncts t) (holds made)) (one_step _ (branches (fails made)))
 
+-- ---- loops
+
+count_split : (first second : Tree) → count (Split first second) ≡ count first + count second
+count_split first second = length-append (branches first) (branches second)
+
+-- a condition and a new value
+count_given : (t : Term) (x : Name) (value : Term) (rest : Tree) → count (Assume t (Assign x value rest)) ≡ count rest
+count_given t x value rest = one_step (step.Assume t) (branches (Assign x value rest)) ∙ one_step (step.Assign x value) (branches rest)
+
+unless_fixed : (b : Bool) (x : Name) (t : Term) (rest : Tree) → count (if b then rest else Assign x t rest) ≡ count rest
+unless_fixed true x t rest = refl
+unless_fixed false x t rest = one_step (step.Assign x t) (branches rest)
+
+count_naming : (p : Program) (sub : Sub) (name : Name) (e : CoreExpr) (rest : Tree) → count (naming p sub name e rest) ≡ count rest
+count_naming p sub name e rest = unless_fixed (is_fixed sub e) name (term_of p (now_term p) e) rest
+
+-- a range without bounds is not passed by
+count_enter : (p : Program) (sub : Sub) (c : Count) (bounds : Option CoreRange) (into out : ℕ → Tree) (made : ℕ) → count (enter_range p sub c bounds into out made) ≡ count (into made) + (if is_some bounds then count (out made) else 0)
+count_enter p sub c None into out made = one_step (step.Assign (now p c.parameter) (start_term p sub c)) (branches (into made)) ∙ sym (add-zero _)
+count_enter p sub c (Some range) into out made =
+    let low = low_term p sub c in
+    let high = high_term p sub c in
+    let enters = term.Infix operator.LessOrEqual low high in
+    let passes = term.Infix operator.Greater low high in
+    let turns = Assume enters (Assign (now p c.parameter) (start_term p sub c) (into made)) in
+    (count_checks p (now_term p) range.low [] _).same
+    ∙ (count_checks p (now_term p) range.high [] _).same
+    ∙ count_naming p sub (first_name c.parameter) range.low _
+    ∙ count_naming p sub (last_name c.parameter) range.high _
+    ∙ count_check kind.Range (place_of range.low) (range_goal (type_of p c.parameter) low high ∷ []) (Split turns (Assume passes (out made)))
+    ∙ count_split turns (Assume passes (out made))
+    ∙ ap₂ (λ (m n : ℕ). m + n) (count_given enters (now p c.parameter) (start_term p sub c) (into made)) (one_step (step.Assume passes) (branches (out made)))
+
+count_entering_loop : (p : Program) (sub : Sub) (head : Head) (into out : ℕ → Tree) (made m n : ℕ) → count (into made) ≡ m → count (out made) ≡ n → count (entering_loop p sub head into out made) ≡ m + (if may_be_passed head then n else 0)
+count_entering_loop p sub (Tested place condition) into out made m n enters leaves = count_tested p condition into out made ∙ ap₂ (λ (m n : ℕ). m + n) enters leaves
+count_entering_loop p sub (Counted c) into out made m n enters leaves = count_enter p sub c c.bounds into out made ∙ ap₂ (λ (m n : ℕ). m + (if is_some c.bounds then n else 0)) enters leaves
+
+count_again : (p : Program) (sub : Sub) (head : Head) (into out : ℕ → Tree) (made m n : ℕ) → count (into made) ≡ m → count (out made) ≡ n → count (again p sub head into out made) ≡ m + n
+count_again p sub (Tested place condition) into out made m n enters leaves = count_tested p condition into out made ∙ ap₂ (λ (m n : ℕ). m + n) enters leaves
+count_again p sub (Counted c) into out made m n enters leaves =
+    let more = Assume (before_end p sub c) (Assign (now p c.parameter) (next_term p c) (into made)) in
+    let last = term.Infix operator.Equal (now_term p c.parameter) (end_term p sub c) in
+    count_split more (Assume last (out made))
+    ∙ ap₂ (λ (m n : ℕ). m + n) (count_given (before_end p sub c) (now p c.parameter) (next_term p c) (into made) ∙ enters) (one_step (step.Assume last) (branches (out made)) ∙ leaves)
+
+-- the loop is left on as many paths as lead on after it
+count_leaving : (p : Program) (head : Head) (rest : ℕ → Tree) (r : ℕ) → ((m : ℕ) → count (rest m) ≡ r) → (made : ℕ) → count (leaving p head rest made) ≡ r
+count_leaving p (Tested place condition) rest r goes made = goes made
+count_leaving p (Counted c) rest r goes made = one_step (step.Assign (now p c.parameter) (term.Number (type_of p c.parameter).first)) (branches (rest made)) ∙ goes made
+
 count_as_far : (b : Bool) (body : ℕ → Tree) (made n : ℕ) → count (body made) ≡ n → count (as_far_as_cut b body made) ≡ (if b then n else 1)
 count_as_far true body made n is = is
 count_as_far false body made n is = refl
@@ -178,10 +229,12 @@ mutual
       (count_checks p (now_term p) selector [] _).same ∙ count_for p sub alternatives (term_of p (now_term p) selector) [] rest leave r l goes leaves made
   count_walk p sub (Assertion assertion.Assert place condition) rest leave r l goes leaves made = (asserts kind.Assert place (term_of p (entry_term p sub) condition) Cut).same
   count_walk p sub (Assertion assertion.Check place condition) rest leave r l goes leaves made = (asserts kind.Check place (term_of p (entry_term p sub) condition) (rest made)).same ∙ goes made
-  count_walk p sub (Repeat (Tested place condition) body) rest leave r l goes leaves made =
-      let turn = walk p sub body (λ m. Cut) rest in
-      count_tested p condition (as_far_as_cut (has_own_cut body) turn) rest made
-      ∙ ap₂ (λ (m n : ℕ). m + n) (count_as_far (has_own_cut body) turn made (arrivals body 1 r) (count_walk p sub body (λ m. Cut) rest 1 r (λ m. refl) goes made)) (goes made)
+  count_walk p sub (Repeat head body) rest leave r l goes leaves made =
+      let out = leaving p head rest in
+      let turn = walk p sub body (λ m. Cut) out in
+      let goes_out = count_leaving p head rest r goes in
+      count_entering_loop p sub head (as_far_as_cut (has_own_cut body) turn) out made (if has_own_cut body then arrivals body 1 r else 1) r
+      (count_as_far (has_own_cut body) turn made (arrivals body 1 r) (count_walk p sub body (λ m. Cut) out 1 r (λ m. refl) goes_out made)) (goes_out made)
 
   count_for : (p : Program) (sub : Sub) (alternatives : Alternatives) (t : Term) (earlier : List Term) (rest leave : ℕ → Tree) (r l : ℕ) → ((m : ℕ) → count (rest m) ≡ r)
       → ((m : ℕ) → count (leave m) ≡ l) → (made : ℕ) → count (walk_for p sub t earlier alternatives rest leave made) ≡ arrivals_for alternatives r l
@@ -193,6 +246,15 @@ mutual
       ∙ ap₂ (λ (m n : ℕ). m + n) (count_facts (alternative_facts t earlier choices) taken ∙ count_walk p sub a rest leave r l goes leaves made)
       (count_for p sub more t (and_these t earlier choices) rest leave r l goes leaves made)
 
+-- and from the end of the body of a loop
+count_end_of_turn : (p : Program) (sub : Sub) (head : Head) (body : Command) (rest : ℕ → Tree) (r : ℕ) → ((m : ℕ) → count (rest m) ≡ r) → (made : ℕ) → count (end_of_turn p sub head body rest made) ≡ turn_arrivals body r
+count_end_of_turn p sub head body rest r goes made =
+    let out = leaving p head rest in
+    let turn = walk p sub body (λ m. Cut) out in
+    let goes_out = count_leaving p head rest r goes in
+    count_again p sub head (as_far_as_cut (has_own_cut body) turn) out made (if has_own_cut body then arrivals body 1 r else 1) r
+    (count_as_far (has_own_cut body) turn made (arrivals body 1 r) (count_walk p sub body (λ m. Cut) out 1 r (λ m. refl) goes_out made)) (goes_out made)
+
 -- how many paths several trees have
 abbrev count_all : List Tree → ℕ
 count_all trees = length (flat_map branches trees)
@@ -200,38 +262,41 @@ count_all trees = length (flat_map branches trees)
 count_both : (trees more : List Tree) → count_all (trees ++ more) ≡ count_all trees + count_all more
 count_both trees more = ap length (flat_map-append branches trees more) ∙ length-append (flat_map branches trees) (flat_map branches more)
 
-count_from_cut : (p : Program) (sub : Sub) (known : List Term) (rest : Tree) → count_all (from_cut p sub known rest ∷ []) ≡ count rest
-count_from_cut p sub known rest = length-append (branches (from_cut p sub known rest)) [] ∙ add-zero _ ∙ count_facts (cut_facts p sub ++ known) rest
+count_from_cut : (p : Program) (sub : Sub) (within : List Count) (known : List Term) (rest : Tree) → count_all (from_cut p sub within known rest ∷ []) ≡ count rest
+count_from_cut p sub within known rest = length-append (branches (from_cut p sub within known rest)) [] ∙ add-zero _ ∙ count_facts (cut_facts p sub within ++ known) rest
 
-count_loop_cut : (p : Program) (sub : Sub) (b : Bool) (rest : Tree) (n : ℕ) → count rest ≡ n → count_all (loop_cut p sub b rest) ≡ (if b then 0 else n)
-count_loop_cut p sub true rest n is = refl
-count_loop_cut p sub false rest n is = count_from_cut p sub (term.Truth true ∷ []) rest ∙ is
+count_loop_cut : (p : Program) (sub : Sub) (within : List Count) (b : Bool) (rest : Tree) (n : ℕ) → count rest ≡ n → count_all (loop_cut p sub within b rest) ≡ (if b then 0 else n)
+count_loop_cut p sub within true rest n is = refl
+count_loop_cut p sub within false rest n is = count_from_cut p sub within (term.Truth true ∷ []) rest ∙ is
 
 -- as many paths lead from the cuts in a command as are counted
 mutual
-  count_cuts : (p : Program) (sub : Sub) (c : Command) (rest leave : ℕ → Tree) (r l : ℕ) → ((m : ℕ) → count (rest m) ≡ r) → ((m : ℕ) → count (leave m) ≡ l) → count_all (cuts p sub c rest leave) ≡ cut_arrivals c r l
-  count_cuts p sub Skip rest leave r l goes leaves = refl
-  count_cuts p sub (Set target e) rest leave r l goes leaves = refl
-  count_cuts p sub (Then a b) rest leave r l goes leaves =
-      count_both (cuts p sub a (walk p sub b rest leave) leave) _
-      ∙ ap₂ (λ (m n : ℕ). m + n) (count_cuts p sub a (walk p sub b rest leave) leave (arrivals b r l) l (count_walk p sub b rest leave r l goes leaves) leaves) (count_cuts p sub b rest leave r l goes leaves)
-  count_cuts p sub (Choose place condition a b) rest leave r l goes leaves =
-      count_both (cuts p sub a rest leave) _ ∙ ap₂ (λ (m n : ℕ). m + n) (count_cuts p sub a rest leave r l goes leaves) (count_cuts p sub b rest leave r l goes leaves)
-  count_cuts p sub (Select place selector alternatives) rest leave r l goes leaves = count_cuts_for p sub alternatives rest leave r l goes leaves
-  count_cuts p sub (Assertion assertion.Assert place condition) rest leave r l goes leaves = count_from_cut p sub (conjuncts (term_of p (entry_term p sub) condition)) (rest 0) ∙ goes 0
-  count_cuts p sub (Assertion assertion.Check place condition) rest leave r l goes leaves = refl
-  count_cuts p sub (Repeat (Tested place condition) body) rest leave r l goes leaves =
-      let again = walk p sub (Repeat (Tested place condition) body) rest leave in
-      let n = arrivals (Repeat (Tested place condition) body) r l in
-      let goes_again = count_walk p sub (Repeat (Tested place condition) body) rest leave r l goes leaves in
-      let turn = walk p sub body again rest in
-      count_both (loop_cut p sub (has_own_cut body) (turn 0)) _
-      ∙ ap₂ (λ (m n : ℕ). m + n) (count_loop_cut p sub (has_own_cut body) (turn 0) (arrivals body n r) (count_walk p sub body again rest n r goes_again goes 0)) (count_cuts p sub body again rest n r goes_again goes)
+  count_cuts : (p : Program) (sub : Sub) (within : List Count) (c : Command) (rest leave : ℕ → Tree) (r l : ℕ) → ((m : ℕ) → count (rest m) ≡ r) → ((m : ℕ) → count (leave m) ≡ l) → count_all (cuts p sub within c rest leave) ≡ cut_arrivals c r l
+  count_cuts p sub within Skip rest leave r l goes leaves = refl
+  count_cuts p sub within (Set target e) rest leave r l goes leaves = refl
+  count_cuts p sub within (Then a b) rest leave r l goes leaves =
+      count_both (cuts p sub within a (walk p sub b rest leave) leave) _
+      ∙ ap₂ (λ (m n : ℕ). m + n) (count_cuts p sub within a (walk p sub b rest leave) leave (arrivals b r l) l (count_walk p sub b rest leave r l goes leaves) leaves) (count_cuts p sub within b rest leave r l goes leaves)
+  count_cuts p sub within (Choose place condition a b) rest leave r l goes leaves =
+      count_both (cuts p sub within a rest leave) _ ∙ ap₂ (λ (m n : ℕ). m + n) (count_cuts p sub within a rest leave r l goes leaves) (count_cuts p sub within b rest leave r l goes leaves)
+  count_cuts p sub within (Select place selector alternatives) rest leave r l goes leaves = count_cuts_for p sub within alternatives rest leave r l goes leaves
+  count_cuts p sub within (Assertion assertion.Assert place condition) rest leave r l goes leaves = count_from_cut p sub within (conjuncts (term_of p (entry_term p sub) condition)) (rest 0) ∙ goes 0
+  count_cuts p sub within (Assertion assertion.Check place condition) rest leave r l goes leaves = refl
+  count_cuts p sub within (Repeat head body) rest leave r l goes leaves =
+      let n = turn_arrivals body r in
+      let next = end_of_turn p sub head body rest in
+      let out = leaving p head rest in
+      let turn = walk p sub body next out 0 in
+      let goes_again = count_end_of_turn p sub head body rest r goes in
+      let goes_out = count_leaving p head rest r goes in
+      count_both (loop_cut p sub (inside within head) (has_own_cut body) turn) _
+      ∙ ap₂ (λ (m n : ℕ). m + n) (count_loop_cut p sub (inside within head) (has_own_cut body) turn (arrivals body n r) (count_walk p sub body next out n r goes_again goes_out 0))
+      (count_cuts p sub (inside within head) body next out n r goes_again goes_out)
 
-  count_cuts_for : (p : Program) (sub : Sub) (alternatives : Alternatives) (rest leave : ℕ → Tree) (r l : ℕ) → ((m : ℕ) → count (rest m) ≡ r) → ((m : ℕ) → count (leave m) ≡ l) → count_all (cuts_for p sub alternatives rest leave) ≡ cut_arrivals_for alternatives r l
-  count_cuts_for p sub (Last choices a) rest leave r l goes leaves = count_cuts p sub a rest leave r l goes leaves
-  count_cuts_for p sub (When choices a more) rest leave r l goes leaves =
-      count_both (cuts p sub a rest leave) _ ∙ ap₂ (λ (m n : ℕ). m + n) (count_cuts p sub a rest leave r l goes leaves) (count_cuts_for p sub more rest leave r l goes leaves)
+  count_cuts_for : (p : Program) (sub : Sub) (within : List Count) (alternatives : Alternatives) (rest leave : ℕ → Tree) (r l : ℕ) → ((m : ℕ) → count (rest m) ≡ r) → ((m : ℕ) → count (leave m) ≡ l) → count_all (cuts_for p sub within alternatives rest leave) ≡ cut_arrivals_for alternatives r l
+  count_cuts_for p sub within (Last choices a) rest leave r l goes leaves = count_cuts p sub within a rest leave r l goes leaves
+  count_cuts_for p sub within (When choices a more) rest leave r l goes leaves =
+      count_both (cuts p sub within a rest leave) _ ∙ ap₂ (λ (m n : ℕ). m + n) (count_cuts p sub within a rest leave r l goes leaves) (count_cuts_for p sub within more rest leave r l goes leaves)
 
 perhaps : (b : Bool) (x : Name) (t : Term) (rest : Tree) → count (if b then Assign x t rest else rest) ≡ count rest
 perhaps true x t rest = one_step (step.Assign x t) (branches rest)
@@ -280,7 +345,7 @@ count_first p sub =
 pub paths_are_counted : PathsAreCounted
 paths_are_counted p sub =
     length-append (branches (start_tree p sub)) _
-    ∙ ap₂ (λ (m n : ℕ). m + n) (count_first p sub) (count_cuts p sub (commands sub.statements) (ending p sub) (ending p sub) 1 1 (λ m. count_ending p sub sub.post) (λ m. count_ending p sub sub.post))
+    ∙ ap₂ (λ (m n : ℕ). m + n) (count_first p sub) (count_cuts p sub [] (commands sub.statements) (ending p sub) (ending p sub) 1 1 (λ m. count_ending p sub sub.post) (λ m. count_ending p sub sub.post))
 
 -- ---- counts that stop
 

@@ -56,22 +56,22 @@ while_arrives p sub place condition body old new taken found more all splits arr
 
 -- a body that has its own cut
 pub own_cut_begins : (p : Program) (sub : Sub) (body : Command) (found : List Beginning) → has_own_cut body ≡ true → found ≡ [] → BeginBody p sub body found
-own_cut_begins p sub body found own is = λ rest leave. ap (λ b. all_branches (loop_cut p sub b (walk p sub body rest leave 0))) own ∙ sym (ap (λ xs. after_each xs (rest 0)) is ∙ each_none (rest 0))
+own_cut_begins p sub body found own is = λ rest leave. ap (λ b. all_branches (loop_cut p sub [] b (walk p sub body rest leave 0))) own ∙ sym (ap (λ xs. after_each xs (rest 0)) is ∙ each_none (rest 0))
 
 -- one that has none
-pub no_cut_begins : (p : Program) (sub : Sub) (body : Command) (steps : List PathStep) (found : List Beginning) → has_own_cut body ≡ false → Walked [] steps (from_cut p sub (term.Truth true ∷ [])) → Arrive p sub body steps found → BeginBody p sub body found
+pub no_cut_begins : (p : Program) (sub : Sub) (body : Command) (steps : List PathStep) (found : List Beginning) → has_own_cut body ≡ false → Walked [] steps (from_cut p sub [] (term.Truth true ∷ [])) → Arrive p sub body steps found → BeginBody p sub body found
 no_cut_begins p sub body steps found none walked arrives = λ rest leave.
     let tree = walk p sub body rest leave 0 in
-    ap (λ b. all_branches (loop_cut p sub b tree)) none
-    ∙ append-nil (branches (from_cut p sub (term.Truth true ∷ []) tree))
-    ∙ sym (all_paths (from_cut p sub (term.Truth true ∷ []) tree))
+    ap (λ b. all_branches (loop_cut p sub [] b tree)) none
+    ∙ append-nil (branches (from_cut p sub [] (term.Truth true ∷ []) tree))
+    ∙ sym (all_paths (from_cut p sub [] (term.Truth true ∷ []) tree))
     ∙ walked tree
     ∙ arrives rest leave 0
 
 -- the cut before the body, and those in it
 pub loop_begins : (p : Program) (sub : Sub) (body : Command) (found more all : List Beginning) → BeginBody p sub body found → BeginIn p sub body more → all ≡ found ++ more → BeginLoop p sub body all
 loop_begins p sub body found more all one two is = λ rest leave.
-    both (loop_cut p sub (has_own_cut body) (walk p sub body rest leave 0)) (cuts p sub body rest leave)
+    both (loop_cut p sub [] (has_own_cut body) (walk p sub body rest leave 0)) (cuts p sub [] body rest leave)
     ∙ ap₂ (λ (x y : List (List PathStep)). x ++ y) (one rest leave) (two rest leave)
     ∙ sym (each_more found more (rest 0))
     ∙ ap (λ paths. after_each paths (rest 0)) (sym is)
