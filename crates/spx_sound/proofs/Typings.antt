@@ -26,6 +26,7 @@ use Rattle.spx_core.specs.declared.expression.CoreExpr.{CoreExpr}
 use Rattle.spx_core.specs.declared.expression.CoreExpr.TheVariants.{Number, Name, Entry, Attribute, Applied, Parenthesized, Prefix, Infix, InType, InRange}
 use Rattle.spx_core.specs.declared.subprogram.Sub.{Sub}
 use Rattle.spx_core.specs.declared.statement.CoreChoice.{CoreChoice}
+use Rattle.spx_core.specs.declared.statement.CoreRange.{CoreRange}
 use Rattle.spx_core.specs.declared.program.Program.{Program}
 use Rattle.spx_core.specs.declared.rule.ExprType.TheVariants.{Universal, Of}
 use Rattle.spx_core.specs.declared.rule.ExprType.{ExprType}
@@ -38,10 +39,10 @@ use Rattle.spx_core.specs.declared.function.OperandType.TheVariants.{ValueOf}
 use Rattle.spx_core.specs.declared.function.Shift.TheVariants as shift
 use Rattle.spx_core.specs.Judged.{Judged, ◌>>=◌, keeps, named_object, named_target, object_at, each, if_there, typing, attribute_of, is_attribute, named_type, named_value, value_at, ordered_type, member_of_range, member_of_type, operand_of, referred_target, referred_type, target_at, type_at, whole, condition, sign, operation, expr_step, judged, application, applied_form, attribute_function, bounds_in, conversion, function_at, has_attribute, is_function, is_word, mapped, qualification}
 use Rattle.spx_core.specs.Extents.{extent}
-use Rattle.spx_core.specs.Commands.{Command, Set, Then, Choose, commands, Select, Repeat, Tested, Alternatives, Last, When, choices_in, has_others_last, listed}
+use Rattle.spx_core.specs.Commands.{Command, Set, Then, Choose, commands, Select, Count, Repeat, Tested, Counted, Alternatives, Last, When, choices_in, has_others_last, listed}
 use Rattle.spx_core.specs.Dependency.{relation}
 use Rattle.spx_core.specs.Resolved.{params_of}
-use Rattle.spx_core.specs.Statements.{judged_param, judged_item, judged_predicate, judged_decl, judged_command, judged_name, judged_sub, test, Typed, are_given_once, has_right_choices, judged_alternatives, judged_choice, judged_choices, judged_heads, selected}
+use Rattle.spx_core.specs.Statements.{judged_param, judged_item, judged_predicate, judged_decl, judged_command, judged_name, judged_sub, test, Typed, are_given_once, has_right_choices, judged_alternatives, judged_bounds, judged_choice, judged_choices, judged_count, judged_heads, selected}
 use Rattle.spx_core.specs.Types.{both_held, has_numbers, is_held, is_of, is_boolean, left_type, lies_in, member_value, met, operand_fits, operands_fit, position_in, result_of, result_type, right_type, signed_result, three_fit, has_literals, has_truths, is_numeric, is_ordered, is_taken, lies_in_operand, lies_within, shifted_value, span_of}
 use Rattle.spx_core.specs.Uses.{variable_of}
 use Rattle.spx_core.proofs.Callers.Expressions as every
@@ -398,6 +399,36 @@ arms_typed place e a b h =
 
 pub loop_typed : (place : Place) (e : CoreExpr) (body : Command) → IsTyped (Repeat (Tested place e) body) → (test e ≡ Ok tt) × IsTyped body
 loop_typed place e body h = let first = bound (test e) (λ _. judged_command body) tt h in (first.1, first.2)
+
+-- a loop that counts has a type with an order
+pub record TypedCount (c : Count) (body : Command) : Type 0 where
+  pub subtype : Subtype
+  pub named : c.type_name.root.entity ≡ Some (entity.TypeName subtype)
+  pub ordered : has_numbers subtype.base.class ≡ true
+  pub bounds : if_there (judged_bounds subtype) c.bounds ≡ Ok tt
+  pub turn : IsTyped body
+
+pub count_typed : (c : Count) (body : Command) → IsTyped (Repeat (Counted c) body) → TypedCount c body
+count_typed c body h =
+    let first = bound (judged_count c) (λ _. judged_command body) tt h in
+    let named = bound (referred_type c.type_name) (λ subtype. keeps N10 c.type_name.root.name.place (has_numbers subtype.base.class) >>= λ _. if_there (judged_bounds subtype) c.bounds) tt first.1 in
+    let ordered = kept N10 c.type_name.root.name.place (has_numbers named.0.base.class) (λ _. if_there (judged_bounds named.0) c.bounds) tt named.2 in
+    record { subtype = named.0; named = type_referred c.type_name named.0 named.1; ordered = ordered.0; bounds = ordered.1; turn = first.2 }
+
+-- a bound is a value of it
+pub record TypedBound (subtype : Subtype) (e : CoreExpr) : Type 0 where
+  pub typing : Typing
+  pub typed : judged e ≡ Ok typing
+  pub fits : is_of subtype.base typing.of ≡ true
+
+pub bounds_typed : (subtype : Subtype) (range : CoreRange) → judged_bounds subtype range ≡ Ok tt → TypedBound subtype range.low × TypedBound subtype range.high
+bounds_typed subtype range h =
+    let low = bound (judged range.low) (λ l. operand_of subtype l >>= λ _. judged range.high >>= operand_of subtype) tt h in
+    let after = bound (operand_of subtype low.0) (λ _. judged range.high >>= operand_of subtype) tt low.2 in
+    let high = bound (judged range.high) (operand_of subtype) tt after.2 in (
+      record { typing = low.0; typed = low.1; fits = (kept _ low.0.place (is_of subtype.base low.0.of) _ tt after.1).0 },
+      record { typing = high.0; typed = high.1; fits = (kept _ high.0.place (is_of subtype.base high.0.of) _ tt high.2).0 },
+    )
 
 -- so are the alternatives for a selector of a type
 abbrev pub AreTyped : ExprType → Alternatives → Type 0
