@@ -13,7 +13,7 @@ use Rattle.spx_core.specs.declared.name.Reference.{Reference}
 use Rattle.spx_core.specs.declared.expression.CoreExpr.{CoreExpr}
 use Rattle.spx_core.specs.declared.rule.ExprType.{ExprType}
 use Rattle.spx_core.specs.declared.rule.ExprType.TheVariants.{Of}
-use Rattle.spx_core.specs.Commands.{has_own_cut, Command, Skip, Set, Then, Choose, commands, Select, Assertion, Repeat, Tested, Alternatives, Last, When}
+use Rattle.spx_core.specs.Commands.{has_own_cut, Command, Skip, Set, Then, Choose, commands, Select, Count, Head, Assertion, Repeat, Tested, Counted, Alternatives, Last, When}
 use Rattle.spx_core.specs.Places.{place_of}
 use Rattle.spx_core.specs.Dependency.{exports, imports}
 use Rattle.spx_core.specs.Formals.{formals, initial_of, locals}
@@ -41,15 +41,15 @@ use Rattle.spx_meaning.specs.Stores.{type_of}
 use Rattle.spx_meaning.specs.Runs.{initial_value, value_in_type}
 use Rattle.spx_paths.specs.Terms.{now, now_term, entry, entry_term, term_of, term_with}
 use Rattle.spx_paths.specs.Checks.{in_type, checks}
-use Rattle.spx_paths.specs.Walks.{as_far_as_cut, cut_facts, cuts, cuts_for, entry_facts, from_cut, loop_cut, noted_cut, pre_facts_on_entry, var_facts, assigned, walk, entering, import_facts, pre_facts, first_facts, ending, ending_with, start_tree, trees_of, alternative_facts, and_these, initializing, starting_with, walk_for}
+use Rattle.spx_paths.specs.Walks.{as_far_as_cut, count_facts, cut_facts, cuts, cuts_for, end_of_turn, entry_facts, inside, leaving, from_cut, loop_cut, noted_cut, pre_facts_on_entry, var_facts, assigned, walk, entering, import_facts, pre_facts, first_facts, ending, ending_with, start_tree, trees_of, alternative_facts, and_these, initializing, starting_with, walk_for}
 use Rattle.spx_paths.specs.Conditions.{body_claims, numbered, conditions_of, ArePlain}
 use Rattle.spx_paths.specs.Fit.{IsValid, HasValidConditions, Fit, Clean}
 use Rattle.spx_core.proofs.Callers.ListTests.{each_append}
-use Rattle.spx_sound.proofs.Typings.{loop_typed, test_typed, right_side, IsTyped, both_typed, arms_typed, TypedSub, typed_subs, AreTyped, last_typed, when_typed, select_typed}
+use Rattle.spx_sound.proofs.Typings.{test_typed, right_side, IsTyped, both_typed, arms_typed, TypedSub, typed_subs, AreTyped, last_typed, when_typed, select_typed}
 use Rattle.spx_sound.proofs.SortedTerms.{HasSortOf, now_sorted, entry_sorted, boolean_sort, right_sort, sorted_with, ordered_sort, literal_of_type}
 use Rattle.spx_sound.proofs.NeverBadTrees.{each_flat_map, each_without_doubles}
 use Rattle.spx_sound.proofs.NeverBadStores.{same_name-Decides}
-use Rattle.spx_sound.proofs.SortedTrees.{IsFormula, AreFormulas, IsSortedTree, assume_sorted, in_type_sorted, goal_sorted, checks_sorted, test_sorted, tested_sorted, asserted_sorted, assigned_sorted, facts_sorted, these_sorted}
+use Rattle.spx_sound.proofs.SortedTrees.{IsFormula, AreFormulas, IsSortedTree, IsSortedCount, HeadIsSorted, head_sorted, into_loop_sorted, again_sorted, leaving_sorted, count_facts_sorted, assume_sorted, in_type_sorted, goal_sorted, checks_sorted, test_sorted, tested_sorted, asserted_sorted, assigned_sorted, facts_sorted, these_sorted}
 
 -- ---- commands
 
@@ -90,11 +90,13 @@ module _ (p : Program) (sub : Sub) where
         (walk_for_sorted t (whole.sorted ∙ ap Some (ordered_sort select.typing.of select.ordered)) [] tt select.typing.of alternatives rest leave select.parts declared.1 k l made)
     walk_sorted (Assertion assertion.Assert place e) rest leave typed declared k l made = asserted_sorted p sub AssertCondition place e Cut typed declared tt
     walk_sorted (Assertion assertion.Check place e) rest leave typed declared k l made = asserted_sorted p sub CheckCondition place e (rest made) typed declared (k made)
-    walk_sorted (Repeat (Tested place e) body) rest leave typed declared k l made =
-        let parts = loop_typed place e body typed in
+    walk_sorted (Repeat head body) rest leave typed declared k l made =
+        let parts = head_sorted p head body typed declared.0 in
         let ends : ℕ → Tree = λ m. Cut in
-        let first = walk p sub body ends rest in
-        tested_sorted p e (as_far_as_cut (has_own_cut body) first) rest made parts.0 declared.0 (as_far_sorted (has_own_cut body) first (walk_sorted body ends rest parts.1 declared.1 (λ m. tt) k) made) (k made)
+        let out = leaving p head rest in
+        let after : AreSortedTrees out = λ m. leaving_sorted p sub head rest m parts.0 (k m) in
+        let first = walk p sub body ends out in
+        into_loop_sorted p sub head (as_far_as_cut (has_own_cut body) first) out made parts.0 (as_far_sorted (has_own_cut body) first (walk_sorted body ends out parts.1 declared.1 (λ m. tt) after) made) (after made)
 
     walk_for_sorted : (t : Term) → HasSortOf Integer t → (earlier : List Term) → AreFormulas earlier → (of : ExprType) (alternatives : Alternatives) (rest leave : ℕ → Tree) → AreTyped of alternatives → AllAreAsDeclared p alternatives
         → AreSortedTrees rest → AreSortedTrees leave → AreSortedTrees (walk_for p sub t earlier alternatives rest leave)
@@ -113,52 +115,71 @@ module _ (p : Program) (sub : Sub) where
 abbrev AllSorted : List Tree → Type 0
 AllSorted trees = AllByRecursion IsSortedTree trees
 
-module _ (p : Program) (sub : Sub) (known_sorted : AreFormulas (cut_facts p sub)) where
-  from_cut_sorted : (known : List Term) (rest : Tree) → AreFormulas known → IsSortedTree rest → IsSortedTree (from_cut p sub known rest)
-  from_cut_sorted known rest h k = assume_sorted (cut_facts p sub ++ known) rest (each_append IsFormula (cut_facts p sub) known known_sorted h) k
+-- these loops have numbers
+abbrev AreSortedCounts : Program → List Count → Type 0
+AreSortedCounts p within = AllByRecursion (IsSortedCount p) within
 
-  noted_cut_sorted : (kind : AssertionKind) (e : CoreExpr) (rest : Tree) → test e ≡ Ok tt → All (IsAsDeclared p) (names_read e) → IsSortedTree rest → AllSorted (noted_cut p sub kind e rest)
-  noted_cut_sorted assertion.Assert e rest typed declared k =
+-- so have they with one more
+inside_sorted : (p : Program) (within : List Count) (head : Head) → AreSortedCounts p within → HeadIsSorted p head → AreSortedCounts p (inside within head)
+inside_sorted p within (Tested place e) around sorted = around
+inside_sorted p within (Counted c) around sorted = each_append (IsSortedCount p) within (c ∷ []) around (sorted, tt)
+
+both_sorted : (a b : List Tree) → AllSorted a → AllSorted b → AllSorted (a ++ b)
+both_sorted a b h k = each_append IsSortedTree a b h k
+
+module _ (p : Program) (sub : Sub) (known_sorted : (within : List Count) → AreSortedCounts p within → AreFormulas (cut_facts p sub within)) where
+  from_cut_sorted : (within : List Count) (known : List Term) (rest : Tree) → AreSortedCounts p within → AreFormulas known → IsSortedTree rest → IsSortedTree (from_cut p sub within known rest)
+  from_cut_sorted within known rest around h k = assume_sorted (cut_facts p sub within ++ known) rest (each_append IsFormula (cut_facts p sub within) known (known_sorted within around) h) k
+
+  noted_cut_sorted : (within : List Count) (kind : AssertionKind) (e : CoreExpr) (rest : Tree) → AreSortedCounts p within → test e ≡ Ok tt → All (IsAsDeclared p) (names_read e) → IsSortedTree rest → AllSorted (noted_cut p sub within kind e rest)
+  noted_cut_sorted within assertion.Assert e rest around typed declared k =
       let t = term_of p (entry_term p sub) e in
-      (from_cut_sorted (conjuncts t) rest (conjuncts_sorted t (test_sorted p (entry_term p sub) (entry_sorted p sub) e typed declared).formula) k, tt)
-  noted_cut_sorted assertion.Check e rest typed declared k = tt
+      (from_cut_sorted within (conjuncts t) rest around (conjuncts_sorted t (test_sorted p (entry_term p sub) (entry_sorted p sub) e typed declared).formula) k, tt)
+  noted_cut_sorted within assertion.Check e rest around typed declared k = tt
 
-  loop_cut_sorted : (own : Bool) (rest : Tree) → IsSortedTree rest → AllSorted (loop_cut p sub own rest)
-  loop_cut_sorted true rest k = tt
-  loop_cut_sorted false rest k = (from_cut_sorted (term.Truth true ∷ []) rest (terms.fold-Truth sort_step true, tt) k, tt)
-
-  both_sorted : (a b : List Tree) → AllSorted a → AllSorted b → AllSorted (a ++ b)
-  both_sorted a b h k = each_append IsSortedTree a b h k
+  loop_cut_sorted : (within : List Count) (own : Bool) (rest : Tree) → AreSortedCounts p within → IsSortedTree rest → AllSorted (loop_cut p sub within own rest)
+  loop_cut_sorted within true rest around k = tt
+  loop_cut_sorted within false rest around k = (from_cut_sorted within (term.Truth true ∷ []) rest around (terms.fold-Truth sort_step true, tt) k, tt)
 
   -- the trees from the cuts in a command are sorted
   mutual
-    cuts_sorted : (c : Command) (rest leave : ℕ → Tree) → IsTyped c → AreAsDeclared p c → AreSortedTrees rest → AreSortedTrees leave → AllSorted (cuts p sub c rest leave)
-    cuts_sorted Skip rest leave typed declared k l = tt
-    cuts_sorted (Set target e) rest leave typed declared k l = tt
-    cuts_sorted (Then a b) rest leave typed declared k l =
+    cuts_sorted : (within : List Count) (c : Command) (rest leave : ℕ → Tree) → AreSortedCounts p within → IsTyped c → AreAsDeclared p c → AreSortedTrees rest → AreSortedTrees leave → AllSorted (cuts p sub within c rest leave)
+    cuts_sorted within Skip rest leave around typed declared k l = tt
+    cuts_sorted within (Set target e) rest leave around typed declared k l = tt
+    cuts_sorted within (Then a b) rest leave around typed declared k l =
         let parts = both_typed a b typed in
         let back = walk p sub b rest leave in
-        both_sorted (cuts p sub a back leave) (cuts p sub b rest leave) (cuts_sorted a back leave parts.0 declared.0 (walk_sorted p sub b rest leave parts.1 declared.1 k l) l) (cuts_sorted b rest leave parts.1 declared.1 k l)
-    cuts_sorted (Choose place e a b) rest leave typed declared k l =
+        both_sorted (cuts p sub within a back leave) (cuts p sub within b rest leave) (cuts_sorted within a back leave around parts.0 declared.0 (walk_sorted p sub b rest leave parts.1 declared.1 k l) l)
+        (cuts_sorted within b rest leave around parts.1 declared.1 k l)
+    cuts_sorted within (Choose place e a b) rest leave around typed declared k l =
         let parts = arms_typed place e a b typed in
-        both_sorted (cuts p sub a rest leave) (cuts p sub b rest leave) (cuts_sorted a rest leave parts.1 declared.1.0 k l) (cuts_sorted b rest leave parts.2 declared.1.1 k l)
-    cuts_sorted (Select place selector alternatives) rest leave typed declared k l =
+        both_sorted (cuts p sub within a rest leave) (cuts p sub within b rest leave) (cuts_sorted within a rest leave around parts.1 declared.1.0 k l) (cuts_sorted within b rest leave around parts.2 declared.1.1 k l)
+    cuts_sorted within (Select place selector alternatives) rest leave around typed declared k l =
         let select = select_typed place selector alternatives typed in
-        cuts_for_sorted select.typing.of alternatives rest leave select.parts declared.1 k l
-    cuts_sorted (Assertion kind place e) rest leave typed declared k l = noted_cut_sorted kind e (rest 0) typed declared (k 0)
-    cuts_sorted (Repeat (Tested place e) body) rest leave typed declared k l =
-        let parts = loop_typed place e body typed in
-        let head = walk p sub (Repeat (Tested place e) body) rest leave in
-        let again : AreSortedTrees head = walk_sorted p sub (Repeat (Tested place e) body) rest leave typed declared k l in
-        let turn = walk p sub body head rest 0 in
-        both_sorted (loop_cut p sub (has_own_cut body) turn) (cuts p sub body head rest) (loop_cut_sorted (has_own_cut body) turn (walk_sorted p sub body head rest parts.1 declared.1 again k 0))
-        (cuts_sorted body head rest parts.1 declared.1 again k)
+        cuts_for_sorted within select.typing.of alternatives rest leave around select.parts declared.1 k l
+    cuts_sorted within (Assertion kind place e) rest leave around typed declared k l = noted_cut_sorted within kind e (rest 0) around typed declared (k 0)
+    cuts_sorted within (Repeat head body) rest leave around typed declared k l =
+        let parts = head_sorted p head body typed declared.0 in
+        let here = inside within head in
+        let known = inside_sorted p within head around parts.0 in
+        let ends : ℕ → Tree = λ m. Cut in
+        let out = leaving p head rest in
+        let after : AreSortedTrees out = λ m. leaving_sorted p sub head rest m parts.0 (k m) in
+        let first = walk p sub body ends out in
+        let end = end_of_turn p sub head body rest in
+        let again : AreSortedTrees end = λ m.
+        again_sorted p sub head (as_far_as_cut (has_own_cut body) first) out m parts.0 (as_far_sorted (has_own_cut body) first (walk_sorted p sub body ends out parts.1 declared.1 (λ m. tt) after) m) (after m)
+        in
+        let turn = walk p sub body end out 0 in
+        both_sorted (loop_cut p sub here (has_own_cut body) turn) (cuts p sub here body end out) (loop_cut_sorted here (has_own_cut body) turn known (walk_sorted p sub body end out parts.1 declared.1 again after 0))
+        (cuts_sorted here body end out known parts.1 declared.1 again after)
 
-    cuts_for_sorted : (of : ExprType) (alternatives : Alternatives) (rest leave : ℕ → Tree) → AreTyped of alternatives → AllAreAsDeclared p alternatives → AreSortedTrees rest → AreSortedTrees leave → AllSorted (cuts_for p sub alternatives rest leave)
-    cuts_for_sorted of (Last choices a) rest leave typed declared k l = cuts_sorted a rest leave (last_typed of choices a typed).1 declared k l
-    cuts_for_sorted of (When choices a more) rest leave typed declared k l =
+    cuts_for_sorted : (within : List Count) (of : ExprType) (alternatives : Alternatives) (rest leave : ℕ → Tree) → AreSortedCounts p within → AreTyped of alternatives → AllAreAsDeclared p alternatives → AreSortedTrees rest → AreSortedTrees leave
+        → AllSorted (cuts_for p sub within alternatives rest leave)
+    cuts_for_sorted within of (Last choices a) rest leave around typed declared k l = cuts_sorted within a rest leave around (last_typed of choices a typed).1 declared k l
+    cuts_for_sorted within of (When choices a more) rest leave around typed declared k l =
         let parts = when_typed of choices a more typed in
-        both_sorted (cuts p sub a rest leave) (cuts_for p sub more rest leave) (cuts_sorted a rest leave parts.1 declared.0 k l) (cuts_for_sorted of more rest leave parts.2 declared.1 k l)
+        both_sorted (cuts p sub within a rest leave) (cuts_for p sub within more rest leave) (cuts_sorted within a rest leave around parts.1 declared.0 k l) (cuts_for_sorted within of more rest leave around parts.2 declared.1 k l)
 
 -- ---- subprograms
 
@@ -193,12 +214,17 @@ module _ (p : Program) (sub : Sub) where
       let sorted = sorted_with p (entry_term p sub) (entry_term p sub) sorts sorts pre.condition of.0 of.1 (recursion_from_All (IsAsDeclared p) (names_read pre.condition) (declared pre refl)) in
       conjuncts_sorted (term_with (entry_term p sub) (entry_term p sub) pre.condition) (sorted ∙ ap Some (boolean_sort of.0.of of.2))
 
-  cut_facts_sorted : Scoped p sub → TypedSub sub → AreFormulas (cut_facts p sub)
-  cut_facts_sorted scoped typed =
+  all_count_facts_sorted : (within : List Count) → AreSortedCounts p within → AreFormulas (flat_map (count_facts p sub) within)
+  all_count_facts_sorted [] around = tt
+  all_count_facts_sorted (c ∷ within) around = each_append IsFormula (count_facts p sub c) (flat_map (count_facts p sub) within) (count_facts_sorted p sub c around.0) (all_count_facts_sorted within around.1)
+
+  cut_facts_sorted : Scoped p sub → TypedSub sub → (within : List Count) → AreSortedCounts p within → AreFormulas (cut_facts p sub within)
+  cut_facts_sorted scoped typed within around =
       let before = pre_on_entry_sorted sub.pre scoped.pre_names typed.pre in
       each_append IsFormula (flat_map (var_facts p) (formals sub)) _ (each_flat_map IsFormula (var_facts p) var_facts_sorted (formals sub))
       (each_append IsFormula (flat_map (var_facts p) (locals sub)) _ (each_flat_map IsFormula (var_facts p) var_facts_sorted (locals sub))
-      (each_append IsFormula (flat_map (entry_facts p sub) (formals sub)) (pre_facts_on_entry p sub sub.pre) (each_flat_map IsFormula (entry_facts p sub) entry_facts_sorted (formals sub)) before))
+      (each_append IsFormula (flat_map (entry_facts p sub) (formals sub)) _ (each_flat_map IsFormula (entry_facts p sub) entry_facts_sorted (formals sub))
+      (each_append IsFormula (flat_map (count_facts p sub) within) (pre_facts_on_entry p sub sub.pre) (all_count_facts_sorted within around) before)))
 
   ending_sorted : (post : Option CorePredicate) → ((it : CorePredicate) → post ≡ Some it → All (IsAsDeclared p) (names_read it.condition)) → if_there judged_predicate post ≡ Ok tt → IsSortedTree (ending_with p sub post)
   ending_sorted None declared typed = tt
@@ -239,7 +265,7 @@ module _ (p : Program) (sub : Sub) where
   all_sorted : Scoped p sub → TypedSub sub → AllSorted (trees_of p sub)
   all_sorted scoped typed =
       let last = last_sorted scoped typed in
-      (start_sorted scoped typed, cuts_sorted p sub (cut_facts_sorted scoped typed) (commands sub.statements) (ending p sub) (ending p sub) typed.statements scoped.body_names last last)
+      (start_sorted scoped typed, cuts_sorted p sub (cut_facts_sorted scoped typed) [] (commands sub.statements) (ending p sub) (ending p sub) tt typed.statements scoped.body_names last last)
 
 -- ---- claims and conditions
 

@@ -24,7 +24,7 @@ use Rattle.spx_core.specs.Formals.{formals, mode_of, initial_in, initial_of, is_
 use Rattle.spx_core.specs.FlowRules.{HasNoFinding, body_effect, read, left}
 use Rattle.spx_core.specs.Rules.{ObeysRules}
 use Rattle.spx_core.specs.Scopes.{Scoped, StartsInType, TypesHaveValues, kind_of, object_declared, object_in}
-use Rattle.spx_core.specs.Effects.{defines, effect, reads}
+use Rattle.spx_core.specs.Effects.{counts, defines, effect, reads}
 use Rattle.spx_core.specs.Types.{has_truths, is_between, is_true}
 use Rattle.spx_term.specs.declared.condition.CondKind.TheVariants.{Post as PostCondition}
 use Rattle.spx_term.specs.declared.term.Sort.{Sort}
@@ -64,7 +64,7 @@ use Rattle.spx_sound.proofs.Extents.{AreInTypes}
 use Rattle.spx_sound.proofs.NeverBadStores.{same_name-Decides, Fits, Reaches, Spares, asserted_good, stays}
 use Rattle.spx_sound.proofs.NeverBadLoops.{Began}
 use Rattle.spx_sound.proofs.NeverBadBodies.{walk_good}
-use Rattle.spx_sound.proofs.NeverUnset.{IsClear, Passes, never_unset, reaches_reads}
+use Rattle.spx_sound.proofs.NeverUnset.{CountsUnset, IsClear, KeepsUnset, Passes, never_unset, reaches_reads}
 
 -- ---- the valuation of a store
 
@@ -362,19 +362,35 @@ module _ (p : Program) (sub : Sub) (scoped : Scoped p sub) (initial : StartsInTy
         by_own false true f l own = by_start (initial_of x p) (sym (local_starts p sub scoped x l s) ∙ unset)
         by_own false false f l own = absurd (cc)
 
-    first_clear : HasNoFinding p sub → IsClear (body_effect sub) first
+    -- the parameter of a loop
+    abbrev IsParameter : VarId → Type 0
+    IsParameter x = counts x (body_effect sub) ≡ true
+
+    parameters_keep : KeepsUnset IsParameter (body_effect sub)
+    parameters_keep = record { parameters = λ x h. h; unassigned = λ x h. (scoped.parameters x h).3; kept = scoped.parameters_kept }
+
+    -- what counts as unset on entry is no import either
+    counts_no_import : (x : VarId) → CountsUnset IsParameter first x → imports x sub ≡ false
+    counts_no_import x (inl unset) = no_import x unset
+    counts_no_import x (inr parameter) = false_from_ne_true (imports x sub) (λ import. both_ways (is_formal x sub) (scoped.parameters x parameter).0 (scoped.imported x import))
+
+    counts_no_initial : (x : VarId) → CountsUnset IsParameter first x → reads x (body_effect sub) ≡ true → is_some (initial_of x p) ≡ false
+    counts_no_initial x (inl unset) used = no_initial x unset used
+    counts_no_initial x (inr parameter) used = ap is_some (scoped.parameters x parameter).2
+
+    first_clear : HasNoFinding p sub → IsClear IsParameter (body_effect sub) first
     first_clear flows place x unset way =
-        flows.none_unset place x (read (ap₂ ◌||◌ (no_import x unset) (no_initial x unset (reaches_reads (body_effect sub) place x way.0 way.1))) way)
+        flows.none_unset place x (read (ap₂ ◌||◌ (counts_no_import x unset) (counts_no_initial x unset (reaches_reads (body_effect sub) place x way.0 way.1))) way)
 
     -- at the end each export is set
-    export_set : HasNoFinding p sub → (t : Store) → Passes (body_effect sub) first t → (x : VarId) → exports x sub ≡ true → is_some (look t x) ≡ true
+    export_set : HasNoFinding p sub → (t : Store) → Passes IsParameter (body_effect sub) first t → (x : VarId) → exports x sub ≡ true → is_some (look t x) ≡ true
     export_set flows t passes x export = by_value (look t x) refl
       where
         by_value : (o : Option Value) → look t x ≡ o → is_some o ≡ true
         by_value (Some w) is = refl
-        by_value None is = let unset = passes x is in absurd (flows.none_unset sub.end x (left export (no_import x unset.0) unset.1))
+        by_value None is = let unset = passes x is in absurd (flows.none_unset sub.end x (left export (counts_no_import x unset.0) unset.1))
 
-    exports_good : HasNoFinding p sub → (t : Store) → Passes (body_effect sub) first t → (vars : List VarId) → list_all (λ v. not (exports v sub) || is_some (look t v)) vars ≡ true
+    exports_good : HasNoFinding p sub → (t : Store) → Passes IsParameter (body_effect sub) first t → (vars : List VarId) → list_all (λ v. not (exports v sub) || is_some (look t v)) vars ≡ true
     exports_good flows t passes [] = refl
     exports_good flows t passes (x ∷ vars) = ap₂ ◌&&◌ (by_export (exports x sub) refl) (exports_good flows t passes vars)
       where
@@ -389,13 +405,13 @@ module _ (p : Program) (sub : Sub) (scoped : Scoped p sub) (initial : StartsInTy
 
     -- at the end
     abbrev IsDone : Store → Type 0
-    IsDone t = Reaches frame [] (ending p sub) t × Passes (body_effect sub) first t
+    IsDone t = Reaches frame [] (ending p sub) t × Passes IsParameter (body_effect sub) first t
 
     body_good : HasNoFinding p sub → TypedSub sub → HasValidConditions p sub → (n : ℕ) → Good Never (body_run n) IsDone Nowhere
     body_good flows typed valid n =
-        joined (body_run n) (Reaches frame [] (ending p sub)) (Passes (body_effect sub) first) (Reaches frame [] (ending p sub)) Nowhere
+        joined (body_run n) (Reaches frame [] (ending p sub)) (Passes IsParameter (body_effect sub) first) (Reaches frame [] (ending p sub)) Nowhere
         (walk_good frame first_began (commands sub.statements) [] n (ending p sub) (ending p sub) 0 first first_valuation typed.statements scoped.body_names import_is_spared scoped.parameters_kept (λ v respects. (safe_sub p sub valid v respects).1) first_fits (body_safe valid))
-        (never_unset frame (commands sub.statements) n first (first_clear flows))
+        (never_unset frame types (commands sub.statements) IsParameter parameters_keep n first (first_clear flows))
 
     pre_good : (pre : Option CorePredicate) → pre_holds frame pre first ≡ true → demand_pre frame pre first ≡ Ended first
     pre_good None h = refl

@@ -1,5 +1,5 @@
 -- Trees whose formulas and names are well sorted.
-use Rattle.std.proofs.Common.{◌≡◌, ℕ, ℤ, pos, true, false, List, [], ◌∷◌, map, Option, Some, None, Ok, refl, sym, ap, ap₂, ◌∙◌, subst}
+use Rattle.std.proofs.Common.{◌≡◌, ℕ, ℤ, pos, Bool, true, false, if◌then◌else◌, List, [], ◌∷◌, map, Option, Some, None, Ok, refl, sym, ap, ap₂, ◌∙◌, subst}
 use Rattle.std.specs.Prelude.{⊤, All}
 use Rattle.std.specs.List.{AllByRecursion}
 use Rattle.std.proofs.lemmas.Bool.{and_parts}
@@ -18,6 +18,7 @@ use Rattle.spx_core.specs.declared.entity.VarId.{VarId}
 use Rattle.spx_core.specs.declared.program.Program.{Program}
 use Rattle.spx_core.specs.declared.subprogram.Sub.{Sub}
 use Rattle.spx_core.specs.declared.statement.CoreChoice.{CoreChoice}
+use Rattle.spx_core.specs.declared.statement.CoreRange.{CoreRange}
 use Rattle.spx_core.specs.declared.expression.CoreExpr.{CoreExpr}
 use Rattle.spx_core.specs.declared.expression.CoreExpr.TheVariants.{Name, Applied, Prefix, Infix, InType, InRange}
 use Rattle.spx_core.specs.declared.rule.ExprType.{ExprType}
@@ -25,17 +26,19 @@ use Rattle.spx_core.specs.declared.rule.ExprType.TheVariants.{Of}
 use Rattle.spx_core.specs.declared.rule.Typing.{Typing}
 use Rattle.spx_core.specs.declared.function.Mapping.{Mapping}
 use Rattle.spx_core.specs.declared.function.Span.{Span}
+use Rattle.spx_core.specs.Commands.{Command, Count, Head, Repeat, Tested, Counted}
 use Rattle.spx_core.specs.Places.{place_of}
-use Rattle.spx_core.specs.Judged.{judged, typing, application}
+use Rattle.spx_core.specs.Judged.{if_there, judged, typing, application}
 use Rattle.spx_core.specs.Reads.{names_read}
-use Rattle.spx_core.specs.Scopes.{IsAsDeclared}
-use Rattle.spx_core.specs.Statements.{test}
-use Rattle.spx_core.specs.Types.{is_boolean, is_number, is_of, left_type, operand_fits, operands_fit, result_type, is_taken}
+use Rattle.spx_core.specs.Scopes.{HeadIsAsDeclared, IsAsDeclared, names_in_bounds}
+use Rattle.spx_core.specs.Statements.{judged_bounds, test}
+use Rattle.spx_core.specs.Types.{has_numbers, is_boolean, is_number, is_of, left_type, operand_fits, operands_fit, result_type, is_taken}
 use Rattle.spx_term.specs.declared.condition.CondKind.{CondKind}
 use Rattle.spx_term.specs.declared.condition.CondKind.TheVariants.{Division, Overflow, Range}
 use Rattle.spx_term.specs.declared.term.Sort.TheVariants.{Integer, Boolean}
 use Rattle.spx_term.specs.declared.term.Term.{Term}
 use Rattle.spx_term.specs.declared.term.Term.TheVariants as term
+use Rattle.spx_term.specs.declared.term.Name.{Name as Symbolic}
 use Rattle.spx_term.specs.declared.term.TermOp.TheVariants as sign
 use Rattle.spx_term.specs.Conjuncts.{conjuncts}
 use Rattle.spx_term.specs.declared.term.TermPrefix.TheVariants.{Not}
@@ -47,12 +50,13 @@ use Rattle.spx_term.proofs.ConjunctLaws.{conjuncts_sorted}
 use Rattle.spx_term.proofs.Terms as terms
 use Rattle.spx_meaning.specs.Literals.{base_of, literal}
 use Rattle.spx_meaning.specs.Stores.{type_of}
-use Rattle.spx_paths.specs.Terms.{now, now_term, entry_term, sort_of_class, sort_of_var, term_of, moved_term}
+use Rattle.spx_meaning.proofs.Callers.Types.{type_is}
+use Rattle.spx_paths.specs.Terms.{first_name, last_name, now, now_term, entry_term, sort_of_class, sort_of_var, term_of, moved_term}
 use Rattle.spx_paths.specs.Checks.{in_class, in_range, in_type, under, guarded, checked_under, base_check, divisor_check, exponent_check, operation_check, right_lefts, sign_check, unless_static, checks, checks-Parenthesized, checks-Prefix, checks-Infix, checks-InType, checks-InRange, checks-Number, checks-Name, checks-Entry, checks-Attribute, bounds_check, mapping_check, checks-Applied}
-use Rattle.spx_paths.specs.Walks.{tested, asserted, assigned, checked_in, alternative_facts, and_these, choice_term, choices_term, chosen_term, one_of}
+use Rattle.spx_paths.specs.Walks.{again, before_end, bound_term, count_facts, end_term, enter_range, entering_loop, high_term, is_fixed, leaving, low_term, naming, next_term, range_goal, start_term, tested, asserted, assigned, checked_in, alternative_facts, and_these, choice_term, choices_term, chosen_term, one_of}
 use Rattle.spx_core.proofs.Callers.ListTests.{each_append}
-use Rattle.spx_sound.proofs.Typings.{Cases, typed_induct, test_typed, Maps, maps_numbers, keeps_truths}
-use Rattle.spx_sound.proofs.SortedTerms.{AreDeclared, HasSortOf, now_sorted, entry_sorted, sort_of_type, boolean_sort, compared_sorted, declared-Infix, declared-InRange, declared-InType, declared-Parenthesized, declared-Prefix, is_of_sort, is_sorted, not_sorted, number_sort, numbers, raised_sort, sorted_cases, moved_sorted, ordered_sort, declared-Applied, between_sorted}
+use Rattle.spx_sound.proofs.Typings.{Cases, typed_induct, test_typed, Maps, maps_numbers, keeps_truths, IsTyped, TypedBound, bounds_typed, count_typed, loop_typed}
+use Rattle.spx_sound.proofs.SortedTerms.{AreDeclared, HasSortOf, class_number, each_parts, now_sorted, entry_sorted, sort_of_type, boolean_sort, compared_sorted, declared-Infix, declared-InRange, declared-InType, declared-Parenthesized, declared-Prefix, is_of_sort, is_sorted, not_sorted, number_sort, numbers, raised_sort, sorted_cases, moved_sorted, ordered_sort, declared-Applied, between_sorted}
 
 abbrev pub IsFormula : Term → Type 0
 IsFormula t = HasSortOf Boolean t
@@ -349,3 +353,180 @@ module _ (t : Term) (number : HasSortOf Integer t) where
   pub these_sorted : (earlier : List Term) → AreFormulas earlier → (choices : Option (List CoreChoice)) → AreFormulas (and_these t earlier choices)
   these_sorted earlier h None = h
   these_sorted earlier h (Some choices) = each_append IsFormula earlier (choices_term t choices ∷ []) h (choices_sorted choices, tt)
+
+-- ---- loops that count
+
+-- a bound is a number, and has sorted checks
+pub record SortedBound (p : Program) (e : CoreExpr) : Type 0 where
+  pub sorted : HasSortOf Integer (term_of p (now_term p) e)
+  pub checks : (rest : Tree) → IsSortedTree rest → IsSortedTree (checks p (now_term p) [] e rest)
+
+-- so are both, where they are written
+abbrev AreSortedBounds : Program → Option CoreRange → Type 0
+AreSortedBounds p None = ⊤
+AreSortedBounds p (Some range) = SortedBound p range.low × SortedBound p range.high
+
+-- the values of the parameter and the bounds are numbers
+pub record IsSortedCount (p : Program) (c : Count) : Type 0 where
+  pub number : sort_of_var p c.parameter ≡ Integer
+  pub bounds : AreSortedBounds p c.bounds
+
+bound_sorted : (p : Program) (of : Subtype) (e : CoreExpr) → has_numbers of.base.class ≡ true → TypedBound of e → AreDeclared p e → SortedBound p e
+bound_sorted p of e has bound declared =
+    let whole = checks_sorted p (now_term p) (now_sorted p) e bound.typing bound.typed declared in
+    record { sorted = whole.sorted ∙ ap Some (is_of_sort of.base bound.typing.of bound.fits ∙ class_number of.base.class has); checks = whole.checks [] tt }
+
+both_bounds : (p : Program) (of : Subtype) (bounds : Option CoreRange) → has_numbers of.base.class ≡ true → if_there (judged_bounds of) bounds ≡ Ok tt → AllByRecursion (IsAsDeclared p) (names_in_bounds bounds) → AreSortedBounds p bounds
+both_bounds p of None has typed declared = tt
+both_bounds p of (Some range) has typed declared =
+    let parts = bounds_typed of range typed in
+    let names = each_parts (IsAsDeclared p) (names_read range.low) (names_read range.high) declared in
+    (bound_sorted p of range.low has parts.0 names.0, bound_sorted p of range.high has parts.1 names.1)
+
+-- a condition is a truth value; a loop that counts has numbers
+abbrev pub HeadIsSorted : Program → Head → Type 0
+HeadIsSorted p (Tested place e) = (test e ≡ Ok tt) × All (IsAsDeclared p) (names_read e)
+HeadIsSorted p (Counted c) = IsSortedCount p c
+
+pub head_sorted : (p : Program) (head : Head) (body : Command) → IsTyped (Repeat head body) → HeadIsAsDeclared p head → HeadIsSorted p head × IsTyped body
+head_sorted p (Tested place e) body typed declared = let parts = loop_typed place e body typed in ((parts.0, declared), parts.1)
+head_sorted p (Counted c) body typed declared =
+    let whole = count_typed c body typed in
+    let object = declared.1.0 in
+    let one : object.subtype ≡ whole.subtype = (let e = sym declared.1.2 ∙ whole.named in cc) in (
+      record {
+        number = ap (λ (of : Subtype). sort_of_class of.base.class) (type_is p c.parameter object declared.1.1 ∙ one) ∙ class_number whole.subtype.base.class whole.ordered;
+        bounds = both_bounds p whole.subtype c.bounds whole.ordered whole.bounds (recursion_from_All (IsAsDeclared p) (names_in_bounds c.bounds) declared.0);
+      },
+      whole.turn,
+    )
+
+-- the loop with these bounds
+abbrev bounded : Count → Option CoreRange → Count
+bounded c bounds = record { place = c.place; parameter = c.parameter; type_name = c.type_name; is_reverse = c.is_reverse; bounds = bounds }
+
+module _ (p : Program) (sub : Sub) where
+  bound_term_sorted : (name : Symbolic) (e : CoreExpr) → name.sort ≡ Integer → SortedBound p e → HasSortOf Integer (bound_term p sub name e)
+  bound_term_sorted name e number bound = by_fixed (is_fixed sub e)
+    where
+      by_fixed : (b : Bool) → HasSortOf Integer (if b then term_of p (now_term p) e else term.Variable name)
+      by_fixed true = bound.sorted
+      by_fixed false = terms.fold-Variable sort_step name ∙ ap Some number
+
+  naming_sorted : (name : Symbolic) (e : CoreExpr) (rest : Tree) → name.sort ≡ Integer → SortedBound p e → IsSortedTree rest → IsSortedTree (naming p sub name e rest)
+  naming_sorted name e rest number bound k = by_fixed (is_fixed sub e)
+    where
+      by_fixed : (b : Bool) → IsSortedTree (if b then rest else Assign name (term_of p (now_term p) e) rest)
+      by_fixed true = k
+      by_fixed false = (bound.sorted ∙ ap Some (sym number), k)
+
+  low_of_bounds : (c : Count) (bounds : Option CoreRange) → AreSortedBounds p bounds → HasSortOf Integer (low_term p sub (bounded c bounds))
+  low_of_bounds c None h = terms.fold-Number sort_step (type_of p c.parameter).first
+  low_of_bounds c (Some range) h = bound_term_sorted (first_name c.parameter) range.low refl h.0
+
+  high_of_bounds : (c : Count) (bounds : Option CoreRange) → AreSortedBounds p bounds → HasSortOf Integer (high_term p sub (bounded c bounds))
+  high_of_bounds c None h = terms.fold-Number sort_step (type_of p c.parameter).last
+  high_of_bounds c (Some range) h = bound_term_sorted (last_name c.parameter) range.high refl h.1
+
+  module _ (c : Count) (sorted : IsSortedCount p c) where
+    low_sorted : HasSortOf Integer (low_term p sub c)
+    low_sorted = low_of_bounds c c.bounds sorted.bounds
+
+    high_sorted : HasSortOf Integer (high_term p sub c)
+    high_sorted = high_of_bounds c c.bounds sorted.bounds
+
+    parameter_sorted : HasSortOf Integer (now_term p c.parameter)
+    parameter_sorted = now_sorted p c.parameter ∙ ap Some sorted.number
+
+    -- the parameter takes a number
+    taken_sorted : (t : Term) → HasSortOf Integer t → HasSortOf (now p c.parameter).sort t
+    taken_sorted t h = h ∙ ap Some (sym sorted.number)
+
+    either_sorted : (b : Bool) (t u : Term) → HasSortOf Integer t → HasSortOf Integer u → HasSortOf Integer (if b then t else u)
+    either_sorted true t u h k = h
+    either_sorted false t u h k = k
+
+    start_sorted : HasSortOf Integer (start_term p sub c)
+    start_sorted = either_sorted c.is_reverse (high_term p sub c) (low_term p sub c) high_sorted low_sorted
+
+    end_sorted : HasSortOf Integer (end_term p sub c)
+    end_sorted = either_sorted c.is_reverse (low_term p sub c) (high_term p sub c) low_sorted high_sorted
+
+    before_end_sorted : IsFormula (before_end p sub c)
+    unfolding sort_of_op
+    before_end_sorted = by_reverse c.is_reverse
+      where
+        by_reverse : (b : Bool) → IsFormula (term.Infix (if b then sign.Greater else sign.Less) (now_term p c.parameter) (end_term p sub c))
+        by_reverse true = compared_sorted sign.Greater (now_term p c.parameter) (end_term p sub c) refl parameter_sorted end_sorted
+        by_reverse false = compared_sorted sign.Less (now_term p c.parameter) (end_term p sub c) refl parameter_sorted end_sorted
+
+    next_sorted : HasSortOf Integer (next_term p c)
+    unfolding sort_of_op
+    next_sorted = by_reverse c.is_reverse
+      where
+        by_reverse : (b : Bool) → HasSortOf Integer (term.Infix (if b then sign.Subtract else sign.Add) (now_term p c.parameter) (term.Number (pos 1)))
+        by_reverse true = terms.fold-Infix sort_step sign.Subtract (now_term p c.parameter) (term.Number (pos 1)) ∙ ap₂ (both (sort_of_op sign.Subtract)) parameter_sorted (terms.fold-Number sort_step (pos 1))
+        by_reverse false = terms.fold-Infix sort_step sign.Add (now_term p c.parameter) (term.Number (pos 1)) ∙ ap₂ (both (sort_of_op sign.Add)) parameter_sorted (terms.fold-Number sort_step (pos 1))
+
+    range_goal_sorted : (of : Subtype) (low high : Term) → HasSortOf Integer low → HasSortOf Integer high → IsFormula (range_goal of low high)
+    unfolding sort_of_op
+    range_goal_sorted of low high h k =
+        let first = term.Number of.first in
+        let last = term.Number of.last in
+        let above = compared_sorted sign.GreaterOrEqual low first refl h (terms.fold-Number sort_step of.first) in
+        let below = compared_sorted sign.LessOrEqual high last refl k (terms.fold-Number sort_step of.last) in
+        let inside = terms.fold-Infix sort_step sign.And (term.Infix sign.GreaterOrEqual low first) (term.Infix sign.LessOrEqual high last) ∙ ap₂ (both (sort_of_op sign.And)) above below in
+        terms.fold-Infix sort_step sign.Implies (term.Infix sign.LessOrEqual low high) (term.Infix sign.And (term.Infix sign.GreaterOrEqual low first) (term.Infix sign.LessOrEqual high last))
+        ∙ ap₂ (both (sort_of_op sign.Implies)) (compared_sorted sign.LessOrEqual low high refl h k) inside
+
+    -- the steps into the loop, or past it
+    enter_sorted : (bounds : Option CoreRange) → AreSortedBounds p bounds → (into out : ℕ → Tree) (made : ℕ) → IsSortedTree (into made) → IsSortedTree (out made) → IsSortedTree (enter_range p sub c bounds into out made)
+    unfolding sort_of_op
+    enter_sorted None h into out made k l = (taken_sorted (start_term p sub c) start_sorted, k)
+    enter_sorted (Some range) h into out made k l =
+        let low = low_term p sub c in
+        let high = high_term p sub c in
+        let first = first_name c.parameter in
+        let last = last_name c.parameter in
+        let turns = Assign (now p c.parameter) (start_term p sub c) (into made) in
+        let arms = Split (Assume (term.Infix sign.LessOrEqual low high) turns) (Assume (term.Infix sign.Greater low high) (out made)) in
+        let goals = range_goal (type_of p c.parameter) low high ∷ [] in
+        let checked = check Range (place_of range.low) goals arms in
+        let there : IsSortedTree arms = (
+          (compared_sorted sign.LessOrEqual low high refl low_sorted high_sorted, (taken_sorted (start_term p sub c) start_sorted, k)),
+          (compared_sorted sign.Greater low high refl low_sorted high_sorted, l),
+        ) in
+        h.0.checks (checks p (now_term p) [] range.high (naming p sub first range.low (naming p sub last range.high checked)))
+        (h.1.checks (naming p sub first range.low (naming p sub last range.high checked))
+        (naming_sorted first range.low (naming p sub last range.high checked) refl h.0
+        (naming_sorted last range.high checked refl h.1
+        (check_sorted Range (place_of range.low) goals arms (range_goal_sorted (type_of p c.parameter) low high low_sorted high_sorted, tt) there))))
+
+    -- that the parameter lies between its bounds is a list of formulas
+    pub count_facts_sorted : AreFormulas (count_facts p sub c)
+    unfolding sort_of_op
+    count_facts_sorted =
+        let parameter = now_term p c.parameter in
+        let low = low_term p sub c in
+        let high = high_term p sub c in
+        each_append IsFormula (in_type (type_of p c.parameter) parameter) (term.Infix sign.GreaterOrEqual parameter low ∷ term.Infix sign.LessOrEqual parameter high ∷ []) (in_type_sorted (type_of p c.parameter) parameter (now_sorted p c.parameter))
+        (compared_sorted sign.GreaterOrEqual parameter low refl parameter_sorted low_sorted, (compared_sorted sign.LessOrEqual parameter high refl parameter_sorted high_sorted, tt))
+
+  -- ---- loops
+
+  -- the steps from the head of a loop are sorted where those into it and out of it are
+  pub into_loop_sorted : (head : Head) (into out : ℕ → Tree) (made : ℕ) → HeadIsSorted p head → IsSortedTree (into made) → IsSortedTree (out made) → IsSortedTree (entering_loop p sub head into out made)
+  into_loop_sorted (Tested place e) into out made sorted k l = tested_sorted p e into out made sorted.0 sorted.1 k l
+  into_loop_sorted (Counted c) into out made sorted k l = enter_sorted c sorted c.bounds sorted.bounds into out made k l
+
+  pub again_sorted : (head : Head) (into out : ℕ → Tree) (made : ℕ) → HeadIsSorted p head → IsSortedTree (into made) → IsSortedTree (out made) → IsSortedTree (again p sub head into out made)
+  unfolding sort_of_op
+  again_sorted (Tested place e) into out made sorted k l = tested_sorted p e into out made sorted.0 sorted.1 k l
+  again_sorted (Counted c) into out made sorted k l = (
+    (before_end_sorted c sorted, (taken_sorted c sorted (next_term p c) (next_sorted c sorted), k)),
+    (compared_sorted sign.Equal (now_term p c.parameter) (end_term p sub c) refl (parameter_sorted c sorted) (end_sorted c sorted), l),
+  )
+
+  pub leaving_sorted : (head : Head) (rest : ℕ → Tree) (made : ℕ) → HeadIsSorted p head → IsSortedTree (rest made) → IsSortedTree (leaving p head rest made)
+  leaving_sorted (Tested place e) rest made sorted k = k
+  leaving_sorted (Counted c) rest made sorted k = (taken_sorted c sorted (term.Number (type_of p c.parameter).first) (terms.fold-Number sort_step (type_of p c.parameter).first), k)
