@@ -52,7 +52,7 @@ use Rattle.spx_meaning.proofs.Callers.Stores.{look-put_other}
 use Rattle.spx_meaning.proofs.Callers.Types.{type_is}
 use Rattle.spx_paths.specs.Terms.{now, entry, now_term, entry_term, sort_of_class, sort_of_var}
 use Rattle.spx_paths.specs.Checks.{in_type}
-use Rattle.spx_paths.specs.Walks.{walk, entering, import_facts, pre_facts, first_facts, ending, ending_with, initializing, starting_with}
+use Rattle.spx_paths.specs.Walks.{ending, ending_with, entering, first_facts, import_facts, initializing, keeps_value, pre_facts, starting_with, walk}
 use Rattle.spx_paths.specs.Fit.{HasValidConditions, Fit}
 use Rattle.spx_core.proofs.Callers.ListTests.{each_append}
 use Rattle.spx_sound.proofs.Typings.{TypedSub, typed_subs}
@@ -61,7 +61,7 @@ use Rattle.spx_sound.proofs.NeverBadRuns.{Never, Nowhere, Good, good_then, good_
 use Rattle.spx_sound.proofs.NeverBadExpressions.{type_facts, AgreesWith, static_term_value}
 use Rattle.spx_sound.proofs.NeverBadAnnotations.{now_terms, parts_where_true}
 use Rattle.spx_sound.proofs.Extents.{AreInTypes}
-use Rattle.spx_sound.proofs.NeverBadStores.{same_name-Decides, Fits, Reaches, Spares, asserted_good, stays}
+use Rattle.spx_sound.proofs.NeverBadStores.{same_name-Decides, Fits, Reaches, Spares, asserted_good}
 use Rattle.spx_sound.proofs.NeverBadLoops.{Began}
 use Rattle.spx_sound.proofs.NeverBadBodies.{walk_good}
 use Rattle.spx_sound.proofs.NeverUnset.{CountsUnset, IsClear, KeepsUnset, Passes, never_unset, reaches_reads}
@@ -218,7 +218,7 @@ module _ (p : Program) (sub : Sub) (scoped : Scoped p sub) (initial : StartsInTy
   -- an import that is no export is set by no statement
   import_is_spared : Spares sub [] (effect (commands sub.statements))
   import_is_spared x held =
-      let parts = and_parts (imports x sub) (not (exports x sub)) (sym (or-false (stays sub x)) ∙ held) in
+      let parts = and_parts (imports x sub) (not (exports x sub)) (sym (or-false (keeps_value sub x)) ∙ held) in
       let formal = scoped.imported x parts.0 in
       let kind = scoped.formal_kinds x formal in
       by_mode kind.0 (mode_is p x (Formal kind.0) kind.1) formal parts.0 parts.1
@@ -293,7 +293,7 @@ module _ (p : Program) (sub : Sub) (scoped : Scoped p sub) (initial : StartsInTy
 
     -- at the start the terms of the values on entry have these values
     first_anchored : (x : VarId) → value_of first_valuation (entry_term p sub x) ≡ reading p first x
-    first_anchored x = by_import (stays sub x)
+    first_anchored x = by_import (keeps_value sub x)
       where
         by_import : (b : Bool) → value_of first_valuation (if b then now_term p x else Variable (entry p x)) ≡ reading p first x
         by_import true = fold-Variable (value_step first_valuation) (now p x) ∙ first_agrees x

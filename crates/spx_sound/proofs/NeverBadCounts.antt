@@ -45,14 +45,14 @@ use Rattle.spx_meaning.proofs.Callers.Types.{type_is}
 use Rattle.spx_meaning.proofs.Callers.Types.{type_has_value}
 use Rattle.spx_paths.specs.Terms.{first_name, last_name, now, now_term, sort_of_var, term_of}
 use Rattle.spx_paths.specs.Checks.{checks}
-use Rattle.spx_paths.specs.Walks.{before_end, bound_term, cuts, end_of_turn, end_term, enter_range, high_term, is_fixed, leaving, loop_cut, low_term, naming, next_term, range_goal, start_term}
+use Rattle.spx_paths.specs.Walks.{before_end, bound_term, cuts, end_of_turn, end_term, enter_range, high_term, is_fixed, keeps_value, leaving, loop_cut, low_term, naming, next_term, range_goal, start_term}
 use Rattle.spx_sound.proofs.Typings.{IsTyped, TypedBound, bounds_typed, count_typed}
 use Rattle.spx_sound.proofs.SortedTerms.{class_number, integer_value, is_of_sort, is_sorted, now_sorted}
 use Rattle.spx_sound.proofs.NeverBadTrees.{Safe, changed}
 use Rattle.spx_sound.proofs.NeverBadRuns.{Good, GoodValue, IsUnset, good_after, good_if, good_then, good_use, good_weaker}
 use Rattle.spx_sound.proofs.NeverBadExpressions.{eval_good, past_check, truth_is}
 use Rattle.spx_sound.proofs.NeverBadAnnotations.{now_terms}
-use Rattle.spx_sound.proofs.NeverBadStores.{Counting, Fits, IsFresh, IsInside, Reaches, Spares, bound_kept, changed_at, first_is_fresh, is_held, is_parameter, last_is_fresh, low_kept, high_kept, named_fits, put_fits, put_kept, put_value_fits, stays, term_kept, unchanged_at, within}
+use Rattle.spx_sound.proofs.NeverBadStores.{Counting, Fits, IsFresh, IsInside, Reaches, Spares, bound_kept, changed_at, first_is_fresh, is_held, is_parameter, last_is_fresh, low_kept, high_kept, named_fits, put_fits, put_kept, put_value_fits, term_kept, unchanged_at, within}
 use Rattle.spx_sound.proofs.NeverBadLoops.{AlwaysSafe, Began, GoesOn, always_parts, first_part, turn_safe, turn_tree}
 
 -- ---- numbers
@@ -163,12 +163,12 @@ spares_inside : (f : Frame) (at : List Counting) (x : Counting) (body : Command)
 spares_inside f at x body spares kept y held =
     let parameter = x.count.parameter in
     let around : is_held f.sub at y ≡ true → sets y (effect body) ≡ false = λ h. (or_parts (parameter.0 == y.0) (sets y (effect body)) (spares y h)).1 in
-    ⊎_elim (λ stay. around (or_left (stays f.sub y) (is_parameter at y) stay))
+    ⊎_elim (λ stay. around (or_left (keeps_value f.sub y) (is_parameter at y) stay))
     (λ parameters.
-    ⊎_elim (λ outer. around (or_right (stays f.sub y) (is_parameter at y) outer))
+    ⊎_elim (λ outer. around (or_right (keeps_value f.sub y) (is_parameter at y) outer))
     (λ own. ⊎_elim (λ same. subst (λ (k : ℕ). sets (record { 0 = k }) (effect body) ≡ false) (eqb-true parameter.0 y.0 same) kept.0) (λ none. absurd (cc)) (or_cases (parameter.0 == y.0) false own))
     (or_cases (is_parameter at y) (is_parameter (x ∷ []) y) (sym (list_any-append (λ (z : Counting). z.count.parameter.0 == y.0) at (x ∷ [])) ∙ parameters)))
-    (or_cases (stays f.sub y) (is_parameter (at ++ x ∷ []) y) held)
+    (or_cases (keeps_value f.sub y) (is_parameter (at ++ x ∷ []) y) held)
 
 -- nor is the parameter held around the loop
 parameter_free : (f : Frame) (at : List Counting) (c : Count) (body : Command) → Spares f.sub at (effect (Repeat (Counted c) body)) → is_held f.sub at c.parameter ≡ false
@@ -300,7 +300,7 @@ module _ (f : Frame) (began : Began f) (at : List Counting) (c : Count) (body : 
         let t = put s c.parameter (Some (Number k)) in
         let u = changed v (now f.program c.parameter) (Number k) in
         let after = put_value_fits f at s c.parameter (Number k) v free (number_sorted k) (value_lies k above below) fits in
-        let same : (x : VarId) → stays f.sub x ≡ true → look s x ≡ look t x = λ x is. put_kept f at s c.parameter (Some (Number k)) free x (or_left (stays f.sub x) (is_parameter at x) is) in
+        let same : (x : VarId) → keeps_value f.sub x ≡ true → look s x ≡ look t x = λ x is. put_kept f at s c.parameter (Some (Number k)) free x (or_left (keeps_value f.sub x) (is_parameter at x) is) in
         record {
           agrees = after.agrees;
           respects = after.respects;
@@ -411,7 +411,7 @@ module _ (f : Frame) (began : Began f) (at : List Counting) (c : Count) (body : 
       let first = first_name c.parameter in
       let last = last_name c.parameter in
       let place = place_of range.low in
-      let outer = (or_parts (stays f.sub c.parameter) (is_parameter at c.parameter) free).1 in
+      let outer = (or_parts (keeps_value f.sub c.parameter) (is_parameter at c.parameter) free).1 in
       let low = bound_number f v subtype range.low fits.respects ordered bounds.0 names.0 in
       let high = bound_number f v subtype range.high fits.respects ordered bounds.1 names.1 in
       let tree = ranged place made in

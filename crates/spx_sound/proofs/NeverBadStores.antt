@@ -1,5 +1,5 @@
 -- Valuations that stand for stores, values that are checked, and annotations that are shown.
-use Rattle.std.proofs.Common.{◌≡◌, ℕ, ℤ, Bool, true, false, not, ◌&&◌, ◌||◌, ◌==◌, if◌then◌else◌, List, [], ◌∷◌, map, Option, Some, None, refl, sym, ap, ap₂, ◌∙◌, subst, int_le, inl, inr, ⊎_elim, Decides}
+use Rattle.std.proofs.Common.{◌≡◌, ℕ, ℤ, Bool, true, false, not, ◌||◌, ◌==◌, if◌then◌else◌, List, [], ◌∷◌, map, Option, Some, None, refl, sym, ap, ap₂, ◌∙◌, subst, int_le, inl, inr, ⊎_elim, Decides}
 use Rattle.std.specs.List.{AllByRecursion, list_all, list_any}
 use Rattle.std.proofs.lemmas.Bool.{and_parts, both_ways, eq-eqb, eqb-true, false_from_ne_true, or_cases, or_left, or_right}
 use Rattle.std.proofs.lemmas.Bool.Decides.{eqb_tells}
@@ -13,7 +13,6 @@ use Rattle.spx_core.specs.declared.subprogram.Sub.{Sub}
 use Rattle.spx_core.specs.declared.expression.CoreExpr.{CoreExpr}
 use Rattle.spx_core.specs.declared.statement.CoreRange.{CoreRange}
 use Rattle.spx_core.specs.Commands.{Count}
-use Rattle.spx_core.specs.Dependency.{exports, imports}
 use Rattle.spx_core.specs.Effects.{Effect, Read, is_read, reads_of, sets}
 use Rattle.spx_core.specs.Uses.{uses}
 use Rattle.spx_core.proofs.Callers.FlowLaws.{reads_uses}
@@ -39,7 +38,7 @@ use Rattle.spx_meaning.proofs.Callers.Evaluation.{AgreeOnUses, meant_same}
 use Rattle.spx_meaning.proofs.Callers.Stores.{look-put_either, look-put_other}
 use Rattle.spx_paths.specs.Terms.{now, now_term, entry, entry_term, first_name, last_name, sort_of_class, sort_of_var, term_of}
 use Rattle.spx_paths.specs.Checks.{in_class, in_range, in_type}
-use Rattle.spx_paths.specs.Walks.{asserted, bound_term, checked_in, high_term, is_fixed, low_term, range_check}
+use Rattle.spx_paths.specs.Walks.{asserted, bound_term, checked_in, high_term, is_fixed, keeps_value, low_term, range_check}
 use Rattle.spx_sound.proofs.SortedTerms.{integer_is}
 use Rattle.spx_sound.proofs.NeverBadTrees.{AllHold, assumed, changed, Safe}
 use Rattle.spx_sound.proofs.NeverBadExpressions.{past_check, within_range, AgreesWith}
@@ -69,10 +68,6 @@ apart x y differ = false_from_ne_true (same_name x y) (λ e. differ (ap (λ (n :
 
 -- ---- variables that keep their values
 
--- an import that is no export, whose present value is the one on entry
-abbrev pub stays : Sub → VarId → Bool
-stays sub x = imports x sub && not (exports x sub)
-
 -- a loop that counts and is under way: the values of its bounds, and that of its parameter
 pub record Counting : Type 0 where
   pub count : Count
@@ -90,13 +85,13 @@ is_parameter at y = list_any (λ (x : Counting). x.count.parameter.0 == y.0) at
 
 -- whether it keeps its value in their bodies
 abbrev pub is_held : Sub → List Counting → VarId → Bool
-is_held sub at y = stays sub y || is_parameter at y
+is_held sub at y = keeps_value sub y || is_parameter at y
 
 -- the effect sets none of those that do
 abbrev pub Spares : Sub → List Counting → Effect → Type 0
 Spares sub at e = (x : VarId) → is_held sub at x ≡ true → sets x e ≡ false
 
--- what is none of them is none of those that are
+-- a variable that is held is none that is not
 other_held : (sub : Sub) (at : List Counting) (x y : VarId) → is_held sub at x ≡ false → is_held sub at y ≡ true → x.0 ≡ y.0 → ⊥
 other_held sub at x y free held same = both_ways (is_held sub at y) (ap (λ k. is_held sub at (record { 0 = k })) (sym same) ∙ free) held
 
@@ -120,14 +115,14 @@ pub record Fits (f : Frame) (at : List Counting) (s : Store) (v : Valuation) : T
 
 -- ---- values of bounds
 
-reads_stay : (sub : Sub) (rs : List Read) (x : VarId) → list_all (λ (r : Read). stays sub r.1) rs ≡ true → is_read x rs ≡ true → stays sub x ≡ true
+reads_stay : (sub : Sub) (rs : List Read) (x : VarId) → list_all (λ (r : Read). keeps_value sub r.1) rs ≡ true → is_read x rs ≡ true → keeps_value sub x ≡ true
 reads_stay sub [] x all among = absurd (cc)
 reads_stay sub (r ∷ rs) x all among =
-    let parts = and_parts (stays sub r.1) (list_all (λ (r : Read). stays sub r.1) rs) all in
-    ⊎_elim (λ here. subst (λ (k : ℕ). stays sub (record { 0 = k }) ≡ true) (eqb-true r.1.0 x.0 here) parts.0) (λ later. reads_stay sub rs x parts.1 later) (or_cases (r.1.0 == x.0) (is_read x rs) among)
+    let parts = and_parts (keeps_value sub r.1) (list_all (λ (r : Read). keeps_value sub r.1) rs) all in
+    ⊎_elim (λ here. subst (λ (k : ℕ). keeps_value sub (record { 0 = k }) ≡ true) (eqb-true r.1.0 x.0 here) parts.0) (λ later. reads_stay sub rs x parts.1 later) (or_cases (r.1.0 == x.0) (is_read x rs) among)
 
 -- a bound that is fixed uses only variables that keep their values
-fixed_stays : (sub : Sub) (e : CoreExpr) (x : VarId) → is_fixed sub e ≡ true → uses x e ≡ true → stays sub x ≡ true
+fixed_stays : (sub : Sub) (e : CoreExpr) (x : VarId) → is_fixed sub e ≡ true → uses x e ≡ true → keeps_value sub x ≡ true
 fixed_stays sub e x fixed used = reads_stay sub (reads_of e) x fixed (reads_uses x e ∙ used)
 
 -- from one store and its valuation to another in which the variables that keep their values have them
@@ -140,7 +135,7 @@ module _ (f : Frame) (s t : Store) (v u : Valuation) (before : AgreesWith f.prog
       ∙ means_its_term (around f.program f.sub t) t u (now_term f.program) (now_term f.program) (now_terms f.program t u after) (now_terms f.program t u after) e
 
   abbrev pub AreKept : Type 0
-  AreKept = (x : VarId) → stays f.sub x ≡ true → look s x ≡ look t x
+  AreKept = (x : VarId) → keeps_value f.sub x ≡ true → look s x ≡ look t x
 
   -- so has a bound that is fixed, and the name of one that is not
   pub bound_kept : AreKept → (name : Symbolic) → v name ≡ u name → (e : CoreExpr) → value_of v (bound_term f.program f.sub name e) ≡ value_of u (bound_term f.program f.sub name e)
@@ -191,11 +186,11 @@ module _ (f : Frame) (s t : Store) (v u : Valuation) (before : AgreesWith f.prog
     agrees = after;
     respects = respects;
     in_types = in_types;
-    anchored = λ x. sym (entry_kept x (stays f.sub x) refl) ∙ fits.anchored x;
+    anchored = λ x. sym (entry_kept x (keeps_value f.sub x) refl) ∙ fits.anchored x;
     inside = inside_kept kept at untouched fits.inside;
   }
     where
-      entry_kept : (x : VarId) (b : Bool) → stays f.sub x ≡ b → value_of v (if b then now_term f.program x else term.Variable (entry f.program x)) ≡ value_of u (if b then now_term f.program x else term.Variable (entry f.program x))
+      entry_kept : (x : VarId) (b : Bool) → keeps_value f.sub x ≡ b → value_of v (if b then now_term f.program x else term.Variable (entry f.program x)) ≡ value_of u (if b then now_term f.program x else term.Variable (entry f.program x))
       entry_kept x true is = now_terms f.program s v before x ∙ ap (seen (type_of f.program x)) (kept x is) ∙ sym (now_terms f.program t u after x)
       entry_kept x false is = fold-Variable (value_step v) (entry f.program x) ∙ entered x ∙ sym (fold-Variable (value_step u) (entry f.program x))
 
@@ -223,9 +218,9 @@ put_kept f at s x o free y held = sym (look-put_other s x y o (other_held f.sub 
 pub put_fits : (f : Frame) (at : List Counting) (s : Store) (x : VarId) (o : Option Value) (w : Value) (v : Valuation) → w ≡ seen (type_of f.program x) o → is_held f.sub at x ≡ false → HasSort (sort_of_var f.program x) w
     → ((u : Value) → o ≡ Some u → is_in (type_of f.program x) u ≡ true) → Fits f at s v → Fits f at (put s x o) (changed v (now f.program x) w)
 put_fits f at s x o w v counts free sorted typed fits =
-    fits_kept f s (put s x o) v (changed v (now p x) w) fits.agrees agrees (respects_changed v (now p x) w sorted fits.respects) in_types (λ y is. other y (or_left (stays f.sub y) (is_parameter at y) is))
+    fits_kept f s (put s x o) v (changed v (now p x) w) fits.agrees agrees (respects_changed v (now p x) w sorted fits.respects) in_types (λ y is. other y (or_left (keeps_value f.sub y) (is_parameter at y) is))
     (λ y. unchanged_at v (now p x) w (entry p y) (λ e. absurd (cc))) at (λ y is. record {
-      present = other y (or_right (stays f.sub y) (is_parameter at y) is);
+      present = other y (or_right (keeps_value f.sub y) (is_parameter at y) is);
       first = unchanged_at v (now p x) w (first_name y) (λ e. absurd (cc));
       last = unchanged_at v (now p x) w (last_name y) (λ e. absurd (cc));
     }) fits
