@@ -97,7 +97,7 @@ walked =
 start_is : start_tree p sub ≡ tree_from_start
 start_is = ap₂ (λ parts rest. Assign now_name entry_x (assume_all (in_integer now_x ++ parts) rest)) (positive_parts 3 9) walked
 
-cuts_are : cuts p sub body last last ≡ tree_from_assert ∷ []
+cuts_are : cuts p sub [] body last last ≡ tree_from_assert ∷ []
 cuts_are =
     ap₂ (λ pre known. assume_all (in_integer now_x ++ in_integer entry_x ++ pre ++ known) (last 0) ∷ []) pre_parts (positive_parts 6 18)
     ∙ ap (λ end. assume_all (lies_in_integer now_x ++ known_entry ++ entry_is_positive ∷ now_is_positive ∷ []) end ∷ []) last_is
@@ -110,7 +110,7 @@ three_paths = ap (λ c. arrivals c 1 1 + cut_arrivals c 1 1) body_is
 
 -- ---- what is known after a cut
 
-pub import_known : cut_facts flag_with_pre_program flag_with_pre ≡ lies_in_integer x_now ++ lies_in_integer y_now ++ now_is_positive ∷ []
+pub import_known : cut_facts flag_with_pre_program flag_with_pre [] ≡ lies_in_integer x_now ++ lies_in_integer y_now ++ now_is_positive ∷ []
 import_known =
     ap (λ pre. lies_in_integer x_now ++ lies_in_integer y_now ++ pre)
     (parts_of_value (entry_term flag_with_pre_program flag_with_pre) (import_at 3 9) (fold-Name expr_step (import_at 3 9)) (place 3 11) (place 3 13))

@@ -1,19 +1,20 @@
 -- What may flow and what may be unset, as lists. What may flow is listed where there is no loop.
-use Rattle.std.proofs.Common.{◌≡◌, ◌↔◌, ◌⊎◌, inl, inr, ⊎_elim, Bool, true, false, not, List, [], ◌∷◌, ◌++◌, Some, None, refl, sym, ap₂, subst, ◌∙◌}
+use Rattle.std.proofs.Common.{◌≡◌, ◌↔◌, ◌⊎◌, inl, inr, ⊎_elim, Bool, true, false, not, List, [], ◌∷◌, ◌++◌, Some, None, refl, sym, ap, ap₂, subst, ◌∙◌}
 use Rattle.std.specs.Prelude.{IsTrue, ◌==◌, ◌||◌, ◌&&◌, Contains}
 use Rattle.std.specs.List.{flat_map}
 use Rattle.std.specs.Option.{option_to_list}
 use Rattle.std.proofs.lemmas.Bool.{or_parts}
 use Rattle.std.proofs.lemmas.List.Folds.{list_any-append}
+use Rattle.std.proofs.lemmas.Map.Views.{any-filter_same}
 use Rattle.spx_text.specs.declared.place.Place.{Place}
 use Rattle.spx_core.specs.declared.entity.VarId.{VarId}
 use Rattle.spx_core.specs.Formals.{stands_in}
 use Rattle.spx_core.specs.Uses.{is_same}
-use Rattle.spx_core.specs.Effects.{Effect, Read, nothing, assign, next, choose, observe, repeat, sets, is_read}
+use Rattle.spx_core.specs.Effects.{Effect, Read, nothing, assign, next, choose, observe, repeat, count, sets, is_read, reads_in}
 use Rattle.spx_core.specs.Flow.{MayFlow}
 use Rattle.spx_core.specs.Marks.{Occurs, marked}
-use Rattle.spx_core.specs.Ways.{Ways, Turns, no_turn, Follow, Free, Goes, Reaches}
-use Rattle.spx_examples.proofs.Lists.{same, turned, chain, either, both, flipped, not_is, and_is, or_is, Among, only, those, of_single, of_both, of_only, of_one, of_each, of_those, contains_is, or_none, in_target, stands_any}
+use Rattle.spx_core.specs.Ways.{Ways, Turns, TurnsWithin, no_turn, Follow, Free, Goes, JustSet, Reaches, forgetting}
+use Rattle.spx_examples.proofs.Lists.{same, turned, chain, either, both, flipped, not_is, and_is, or_is, Among, only, those, of_single, of_both, of_only, of_one, of_each, of_those, contains_is, or_none, in_target, same_is, stands_any}
 
 -- ---- loops
 
@@ -129,6 +130,36 @@ free_follow A B v =
 free_now : (reads : List Read) (at : Place) (v : VarId) → Among reads (at, v) ↔ Free (Reaches (assign None reads at) at v) v
 free_now reads at v = (λ h. ([], ((contains_is reads (at, v)).1 h, refl), refl), λ h. (contains_is reads (at, v)).0 h.1.0)
 
+-- every effect has a way
+some_way : (e : Effect) → (way : List VarId) × Goes e way
+some_way nothing = ([], refl)
+some_way (assign target reads place) = (option_to_list target, refl)
+some_way (next a b) =
+    let first = some_way a in
+    let second = some_way b in
+    (first.0 ++ second.0, (first.0, second.0, refl, first.1, second.1))
+some_way (choose tests a b place) = let first = some_way a in (first.0, inl first.1)
+some_way (observe values) = ([], refl)
+some_way (repeat tests body place) = ([], no_turn)
+some_way (count parameter (Some bounds) body place) = ([], ([], no_turn, refl))
+some_way (count parameter None body place) = let turn = some_way body in (forgetting parameter (turn.0 ++ []), (turn.0 ++ [], (turn.0, [], refl, turn.1, no_turn), refl))
+
+-- a test that counts only where another one fails
+unless : (a b : Bool) → ((not a && b) ≡ false) ↔ (IsTrue a ⊎ (b ≡ false))
+unless true b = (λ h. inl refl, λ h. refl)
+unless false b = (λ h. inr h, λ h. ⊎_elim (λ e. absurd (cc)) (λ none. none) h)
+
+-- a loop leaves v unset where v is its parameter, or its turns do not set it
+free_forgetting : (A : Ways) (parameter v : VarId)
+    → Free (λ way. (inside : List VarId) × A inside × (way ≡ forgetting parameter inside)) v ↔ ((inside : List VarId) × A inside × (IsTrue (is_same v (Some parameter)) ⊎ (stands_in v inside ≡ false)))
+free_forgetting A parameter v =
+    let same = is_same v (Some parameter) in
+    let kept = λ (inside : List VarId).
+    any-filter_same (λ (w : VarId). w.0 == v.0) (λ w. not (is_same w (Some parameter))) (not same) (λ w is. ap (λ (x : VarId). not (is_same x (Some parameter))) ((same_is w v).0 is)) inside in (
+      λ h. let way = h.1 in (way.0, way.1, (unless same (stands_in v way.0)).0 (sym (kept way.0) ∙ subst (λ w. stands_in v w ≡ false) way.2 h.2)),
+      λ h. (forgetting parameter h.0, (h.0, h.1, refl), kept h.0 ∙ (unless same (stands_in v h.0)).1 h.2),
+    )
+
 -- some way does not set v
 abbrev pub skips : VarId → Effect → Bool
 skips v nothing = true
@@ -137,6 +168,8 @@ skips v (next a b) = skips v a && skips v b
 skips v (choose tests a b place) = skips v a || skips v b
 skips v (observe values) = true
 skips v (repeat tests body place) = true
+skips v (count parameter (Some bounds) body place) = true
+skips v (count parameter None body place) = is_same v (Some parameter) || skips v body
 
 pub skips_is : (v : VarId) (e : Effect) → IsTrue (skips v e) ↔ Free (Goes e) v
 skips_is v nothing = (λ h. ([], refl, refl), λ h. refl)
@@ -148,6 +181,16 @@ skips_is v (next a b) = chain (and_is (skips v a) (skips v b)) (chain (both (ski
 skips_is v (choose tests a b place) = chain (or_is (skips v a) (skips v b)) (chain (either (skips_is v a) (skips_is v b)) (turned (free_either (Goes a) (Goes b) v)))
 skips_is v (observe values) = (λ h. ([], refl, refl), λ h. refl)
 skips_is v (repeat tests body place) = (λ h. ([], no_turn, refl), λ h. refl)
+skips_is v (count parameter (Some bounds) body place) = (λ h. ([], ([], no_turn, refl), refl), λ h. refl)
+skips_is v (count parameter None body place) =
+    let turn = some_way body in
+    let turns = TurnsWithin None (Goes body) in
+    let inner = skips_is v body in
+    let loop : (IsTrue (is_same v (Some parameter)) ⊎ Free (Goes body) v) ↔ ((inside : List VarId) × turns inside × (IsTrue (is_same v (Some parameter)) ⊎ (stands_in v inside ≡ false))) = (
+      λ h. ⊎_elim (λ same. (turn.0 ++ [], (turn.0, [], refl, turn.1, no_turn), inl same)) (λ one. let free = (free_follow (Goes body) (Turns (Goes body)) v).1 (one, ([], no_turn, refl)) in (free.0, free.1, inr free.2)) h,
+      λ h. ⊎_elim (λ same. inl same) (λ none. inr ((free_follow (Goes body) (Turns (Goes body)) v).0 (h.0, h.1, none)).0) h.2,
+    ) in
+    chain (or_is (is_same v (Some parameter)) (skips v body)) (chain (either same inner) (chain loop (turned (free_forgetting turns parameter v))))
 
 -- the reads to which some way leads that does not set what is read
 abbrev pub first_reads : Effect → List Read
@@ -157,6 +200,7 @@ first_reads (next a b) = first_reads a ++ those (λ (r : Read). skips r.1 a) (fi
 first_reads (choose tests a b place) = tests ++ (first_reads a ++ first_reads b)
 first_reads (observe values) = values
 first_reads (repeat tests body place) = tests ++ first_reads body
+first_reads (count parameter bounds body place) = reads_in bounds ++ those (λ (r : Read). not (is_same r.1 (Some parameter))) (first_reads body)
 
 pub first_reads_are : (e : Effect) (at : Place) (v : VarId) → Among (first_reads e) (at, v) ↔ Free (Reaches e at v) v
 first_reads_are nothing at v = (λ h. absurd h, λ h. absurd h.1)
@@ -177,3 +221,14 @@ first_reads_are (repeat tests body place) at v =
     let later = chain (λ h. (([], no_turn, refl), (first_reads_are body at v).0 h), λ h. (first_reads_are body at v).1 h.1) (turned (free_follow (Turns (Goes body)) (Reaches body at v) v)) in
     chain (of_both tests (first_reads body) (at, v))
     (chain (either now later) (turned (free_either (λ way. Contains tests (at, v) × Turns (Goes body) way) (Follow (Turns (Goes body)) (Reaches body at v)) v)))
+first_reads_are (count parameter bounds body place) at v =
+    let test = λ (r : Read). not (is_same r.1 (Some parameter)) in
+    let around = Follow (Turns (Goes body)) (Reaches body at v) in
+    let set : IsTrue (not (is_same v (Some parameter))) ↔ Free (JustSet parameter) v = chain (not_is (is_same v (Some parameter))) (
+      λ h. (parameter ∷ [], refl, in_target v (Some parameter) ∙ h),
+      λ h. sym (in_target v (Some parameter)) ∙ subst (λ way. stands_in v way ≡ false) h.1 h.2,
+    ) in
+    let turns = chain (λ h. (([], no_turn, refl), (first_reads_are body at v).0 h), λ h. (first_reads_are body at v).1 h.1) (turned (free_follow (Turns (Goes body)) (Reaches body at v) v)) in
+    let inner = chain (of_those test (first_reads body) (at, v)) (chain (both set turns) (turned (free_follow (JustSet parameter) around v))) in
+    chain (of_both (reads_in bounds) (those test (first_reads body)) (at, v))
+    (chain (either (free_now (reads_in bounds) at v) inner) (turned (free_either (Reaches (assign None (reads_in bounds) at) at v) (Follow (JustSet parameter) around) v)))

@@ -55,3 +55,6 @@ mod Loops
 mod LoopFlows
 mod LoopCuts
 mod LoopText
+mod CountedLoops
+mod CountedFlows
+mod CountedCuts

@@ -24,15 +24,15 @@ module _ (rest leave : ℕ → Tree) where
   abbrev counts : ℕ → Tree
   counts = walk p sub counting rest leave
 
-  pub counting_cut : cuts p sub counting rest leave ≡ counting_from_cut (rest 0) ∷ []
+  pub counting_cut : cuts p sub [] counting rest leave ≡ counting_from_cut (rest 0) ∷ []
   counting_cut = ap (λ t. from_cut_with (term.Truth true) t ∷ []) (walk_step (sub ∷ []) sub 6 7 12 counts rest 0 ∙ ap (counted 6) (tested_below (sub ∷ []) (λ made. Cut) rest 0))
 
   abbrev asserts : ℕ → Tree
   asserts = walk p sub asserting rest leave
 
-  pub asserting_cut : cuts p sub asserting rest leave ≡ asserting_from_cut (rest 0) ∷ []
+  pub asserting_cut : cuts p sub [] asserting rest leave ≡ asserting_from_cut (rest 0) ∷ []
   asserting_cut =
-      ap (λ t. from_cut p sub (conjuncts (term_of p (entry_term p sub) (is_positive 6 18))) t ∷ []) (
+      ap (λ t. from_cut p sub [] (conjuncts (term_of p (entry_term p sub) (is_positive 6 18))) t ∷ []) (
       walk_step (sub ∷ []) sub 7 7 12 asserts rest 0
       ∙ ap (counted 7) (tested_below (sub ∷ []) (walk p sub (Then (assert_in 6) (only (step_in 7))) (λ made. Cut) rest) rest 0))
-      ∙ ap (λ parts. from_cut p sub parts (counted 7 (forked (check Assert (place 6 11) parts Cut) (rest 0))) ∷ []) (positive_parts 6 18)
+      ∙ ap (λ parts. from_cut p sub [] parts (counted 7 (forked (check Assert (place 6 11) parts Cut) (rest 0))) ∷ []) (positive_parts 6 18)

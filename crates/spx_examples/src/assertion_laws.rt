@@ -92,9 +92,9 @@ pub fn an_assert_cuts_paths()
 /// Known after each cut are the types of formals of any mode and of locals, and of values on entry for what is imported and exported too; and the
 /// precondition, which for an import that is no export is about its value.
 pub fn what_is_known_after_a_cut()
-    ensures formals { cut_facts flag_program flag ≡ lies_in_integer x_now ++ lies_in_integer y_now }
-    ensures local { cut_facts (local_program only_null) (local_sub only_null) ≡ lies_in_integer x_now ++ lies_in_integer y_now ++ lies_in_integer entry_x }
-    ensures precondition { cut_facts flag_with_pre_program flag_with_pre ≡ lies_in_integer x_now ++ lies_in_integer y_now ++ now_is_positive ∷ [] }
+    ensures formals { cut_facts flag_program flag [] ≡ lies_in_integer x_now ++ lies_in_integer y_now }
+    ensures local { cut_facts (local_program only_null) (local_sub only_null) [] ≡ lies_in_integer x_now ++ lies_in_integer y_now ++ lies_in_integer entry_x }
+    ensures precondition { cut_facts flag_with_pre_program flag_with_pre [] ≡ lies_in_integer x_now ++ lies_in_integer y_now ++ now_is_positive ∷ [] }
 {}
 
 /// `X~` stands in a postcondition or a `check`, for a variable that is both imported and exported. It does not in a precondition or in code, nor for an

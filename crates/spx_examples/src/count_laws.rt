@@ -13,8 +13,8 @@ ghost use Rattle.spx_meaning.specs.Runs.{Bad, Ended, Later};
 ghost use Rattle.spx_paths.specs.Terms.{last_name, now_term};
 ghost use Rattle.spx_paths.specs.Walks.{again, arrivals, high_term};
 ghost use Rattle.spx_examples.specs.CountedLoops.{after, between_numbers, each, i, only, over, runs_at, taking_i, to_next, to_previous, up_to_x, up_to_y, with_parameter};
-ghost use Rattle.spx_examples.specs.Flag.{flag, x, y};
-ghost use Rattle.spx_examples.specs.Increment.{place};
+ghost use Rattle.spx_examples.specs.Flag.{flag, y};
+ghost use Rattle.spx_examples.specs.Increment.{place, x};
 
 /// `for I in Positive range 1 .. 2 loop Y := I; end loop` takes two turns, the second with 2, and in reverse the second with 1. It ends at the bound 2, and
 /// not at 1. After it I is unset.

@@ -61,9 +61,9 @@ pub fn a_loop_may_have_no_turn()
 /// A loop has one cut before its body, from which neither its test nor anything before it is known. Where one of the statements of its body is an `assert`,
 /// that is its cut, and there is no other; one in an arm is a second cut.
 pub fn a_loop_has_a_cut()
-    ensures without { (rest leave : ℕ → Tree) → cuts increment_without_pre inc_without_pre counting rest leave ≡ counting_from_cut (rest 0) ∷ [] }
-    ensures own { (rest leave : ℕ → Tree) → cuts increment_without_pre inc_without_pre asserting rest leave ≡ asserting_from_cut (rest 0) ∷ [] }
-    ensures in_arm { (rest leave : ℕ → Tree) → length (cuts increment_without_pre inc_without_pre asserting_in_arm rest leave) ≡ 2 }
+    ensures without { (rest leave : ℕ → Tree) → cuts increment_without_pre inc_without_pre [] counting rest leave ≡ counting_from_cut (rest 0) ∷ [] }
+    ensures own { (rest leave : ℕ → Tree) → cuts increment_without_pre inc_without_pre [] asserting rest leave ≡ asserting_from_cut (rest 0) ∷ [] }
+    ensures in_arm { (rest leave : ℕ → Tree) → length (cuts increment_without_pre inc_without_pre [] asserting_in_arm rest leave) ≡ 2 }
 {}
 
 /// Paths are counted so. Before a loop with a branch in its body there are the path to its cut and the path past it; each arm goes on from the cut to both.
