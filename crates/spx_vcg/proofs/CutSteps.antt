@@ -79,14 +79,14 @@ pub begins_along : {a b c : Walk} {f g : Tree → Tree} → BeginsAnew a b f →
 begins_along {a} {b} {c} {f} {g} begins goes = record { whole = goes.whole; same = λ rest. sym (goes.same rest) ∙ begins.same (g rest) }
 
 -- ---- the paths from a cut
-pub after_cut : {a b c d : Walk} (p : Program) (sub : Sub) (known : List Term) (following : Command) → BeginsAnew a b (assume_all (cut_facts p sub)) → Walks b c (assume_all known) → Ends p sub c d following
-    → Leaves a d (from_cut p sub known (to_end p sub following 0) ∷ []) []
+pub after_cut : {a b c d : Walk} (p : Program) (sub : Sub) (known : List Term) (following : Command) → BeginsAnew a b (assume_all (cut_facts p sub [])) → Walks b c (assume_all known) → Ends p sub c d following
+    → Leaves a d (from_cut p sub [] known (to_end p sub following 0) ∷ []) []
 after_cut {a} {b} {c} {d} p sub known following begins walks ends =
     let rest = to_end p sub following 0 in
     record {
       whole = ends.whole;
       same =
-          ap (λ cs. so_far a ++ cs) (append-nil (forward Variable [] (from_cut p sub known rest)) ∙ ap (forward Variable []) (assume_all-append (cut_facts p sub) known rest))
+          ap (λ cs. so_far a ++ cs) (append-nil (forward Variable [] (from_cut p sub [] known rest)) ∙ ap (forward Variable []) (assume_all-append (cut_facts p sub []) known rest))
           ∙ sym (begins.same (assume_all known rest))
           ∙ walks.same rest
           ∙ ends.same 0
@@ -94,14 +94,14 @@ after_cut {a} {b} {c} {d} p sub known following begins walks ends =
     }
 
 -- that before the body of a loop
-pub after_loop_cut : {a b c d : Walk} (p : Program) (sub : Sub) (body again : Command) → has_own_cut body ≡ false → BeginsAnew a b (assume_all (cut_facts p sub)) → Walks b c (assume_all (Truth true ∷ [])) → Ends p sub c d (Then body again)
-    → Leaves a d (loop_cut p sub (has_own_cut body) (to_end p sub (Then body again) 0)) []
+pub after_loop_cut : {a b c d : Walk} (p : Program) (sub : Sub) (body again : Command) → has_own_cut body ≡ false → BeginsAnew a b (assume_all (cut_facts p sub [])) → Walks b c (assume_all (Truth true ∷ [])) → Ends p sub c d (Then body again)
+    → Leaves a d (loop_cut p sub [] (has_own_cut body) (to_end p sub (Then body again) 0)) []
 after_loop_cut {a} {b} {c} {d} p sub body again none begins walks ends =
-    subst (λ own. Leaves a d (loop_cut p sub own (to_end p sub (Then body again) 0)) []) (sym none) (after_cut p sub (Truth true ∷ []) (Then body again) begins walks ends)
+    subst (λ own. Leaves a d (loop_cut p sub [] own (to_end p sub (Then body again) 0)) []) (sym none) (after_cut p sub (Truth true ∷ []) (Then body again) begins walks ends)
 
 -- there is none, where the body has its own
-pub no_loop_cut : {w : Walk} (p : Program) (sub : Sub) (body : Command) (rest : Tree) → has_own_cut body ≡ true → Whole w → Leaves w w (loop_cut p sub (has_own_cut body) rest) []
-no_loop_cut {w} p sub body rest own whole = subst (λ b. Leaves w w (loop_cut p sub b rest) []) (sym own) (record { whole = whole; same = refl })
+pub no_loop_cut : {w : Walk} (p : Program) (sub : Sub) (body : Command) (rest : Tree) → has_own_cut body ≡ true → Whole w → Leaves w w (loop_cut p sub [] (has_own_cut body) rest) []
+no_loop_cut {w} p sub body rest own whole = subst (λ b. Leaves w w (loop_cut p sub [] b rest) []) (sym own) (record { whole = whole; same = refl })
 
 -- ---- statements
 module _ (p : Program) (sub : Sub) {a b c : Walk} {all : List Tree} (following : Command) where
@@ -121,7 +121,7 @@ module _ (p : Program) (sub : Sub) {a b c : Walk} {all : List Tree} (following :
       (ap (λ xs. cuts_in p sub (arms_before otherwise (map arm_before xs)) following) (drop-cons arms i arm within ∙ (λ k. sym is k ∷ drop (sym (add-one i) k) arms)) ∙ ap (λ d. cuts_in p sub d following) (arm_is arm next)) before step
 
 -- those of a `case` are those in its alternatives
-among_is : (p : Program) (sub : Sub) (first : Part) (more : List Part) (following : Command) → cuts_for p sub (alternatives_of first more) (to_end p sub following) (ending p sub) ≡ cuts_among p sub (first ∷ more) following
+among_is : (p : Program) (sub : Sub) (first : Part) (more : List Part) (following : Command) → cuts_for p sub [] (alternatives_of first more) (to_end p sub following) (ending p sub) ≡ cuts_among p sub (first ∷ more) following
 among_is p sub first [] following = sym (append-nil (cuts_in p sub first.1 following))
 among_is p sub first (second ∷ more) following = ap (λ ts. cuts_in p sub first.1 following ++ ts) (among_is p sub second more following)
 

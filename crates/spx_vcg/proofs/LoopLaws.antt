@@ -4,7 +4,7 @@ use Rattle.spx_core.specs.declared.program.Program.{Program}
 use Rattle.spx_core.specs.declared.statement.CoreScheme.{CoreScheme}
 use Rattle.spx_core.specs.declared.statement.CoreScheme.TheVariants as scheme
 use Rattle.spx_core.specs.declared.subprogram.Sub.{Sub}
-use Rattle.spx_core.specs.Commands.{Command, Skip, Set, Then, Choose, Select, Assertion, Repeat, Tested, Alternatives, Last, When, has_own_cut, loop_of}
+use Rattle.spx_core.specs.Commands.{Command, Skip, Set, Then, Choose, Select, Assertion, Count, Repeat, Tested, Alternatives, Last, When, has_own_cut, loop_of}
 use Rattle.spx_term.specs.declared.term.Term.{Term}
 use Rattle.spx_term.specs.Steps.{Tree, Cut, Split, assume_all}
 use Rattle.spx_paths.specs.Checks.{checks}
@@ -25,7 +25,7 @@ module _ (p : Program) (sub : Sub) where
     leaves_not (Select place selector alternatives) rest leave other =
         λ i made. checks p (now_term p) [] selector (leaves_not_for (term_of p (now_term p) selector) [] alternatives rest leave other i made)
     leaves_not (Assertion kind place e) rest leave other = refl
-    leaves_not (Repeat (Tested place e) body) rest leave other = refl
+    leaves_not (Repeat head body) rest leave other = refl
 
     leaves_not_for : (t : Term) (earlier : List Term) (alternatives : Alternatives) (rest leave other : ℕ → Tree) → walk_for p sub t earlier alternatives rest leave ≡ walk_for p sub t earlier alternatives rest other
     leaves_not_for t earlier (Last choices a) rest leave other = λ i made. assume_all (alternative_facts t earlier choices) (leaves_not a rest leave other i made)
@@ -34,19 +34,19 @@ module _ (p : Program) (sub : Sub) where
 
   -- nor does it for the cuts in it
   mutual
-    cuts_leave_not : (c : Command) (rest leave other : ℕ → Tree) → cuts p sub c rest leave ≡ cuts p sub c rest other
-    cuts_leave_not Skip rest leave other = refl
-    cuts_leave_not (Set target e) rest leave other = refl
-    cuts_leave_not (Then a b) rest leave other =
-        λ i. (cuts_leave_not a (walk p sub b rest leave) leave other ∙ ap (λ next. cuts p sub a next other) (leaves_not b rest leave other)) i ++ cuts_leave_not b rest leave other i
-    cuts_leave_not (Choose place e a b) rest leave other = λ i. cuts_leave_not a rest leave other i ++ cuts_leave_not b rest leave other i
-    cuts_leave_not (Select place selector alternatives) rest leave other = cuts_leave_not_for alternatives rest leave other
-    cuts_leave_not (Assertion kind place e) rest leave other = refl
-    cuts_leave_not (Repeat (Tested place e) body) rest leave other = refl
+    cuts_leave_not : (within : List Count) (c : Command) (rest leave other : ℕ → Tree) → cuts p sub within c rest leave ≡ cuts p sub within c rest other
+    cuts_leave_not within Skip rest leave other = refl
+    cuts_leave_not within (Set target e) rest leave other = refl
+    cuts_leave_not within (Then a b) rest leave other =
+        λ i. (cuts_leave_not within a (walk p sub b rest leave) leave other ∙ ap (λ next. cuts p sub within a next other) (leaves_not b rest leave other)) i ++ cuts_leave_not within b rest leave other i
+    cuts_leave_not within (Choose place e a b) rest leave other = λ i. cuts_leave_not within a rest leave other i ++ cuts_leave_not within b rest leave other i
+    cuts_leave_not within (Select place selector alternatives) rest leave other = cuts_leave_not_for within alternatives rest leave other
+    cuts_leave_not within (Assertion kind place e) rest leave other = refl
+    cuts_leave_not within (Repeat head body) rest leave other = refl
 
-    cuts_leave_not_for : (alternatives : Alternatives) (rest leave other : ℕ → Tree) → cuts_for p sub alternatives rest leave ≡ cuts_for p sub alternatives rest other
-    cuts_leave_not_for (Last choices a) rest leave other = cuts_leave_not a rest leave other
-    cuts_leave_not_for (When choices a more) rest leave other = λ i. cuts_leave_not a rest leave other i ++ cuts_leave_not_for more rest leave other i
+    cuts_leave_not_for : (within : List Count) (alternatives : Alternatives) (rest leave other : ℕ → Tree) → cuts_for p sub within alternatives rest leave ≡ cuts_for p sub within alternatives rest other
+    cuts_leave_not_for within (Last choices a) rest leave other = cuts_leave_not within a rest leave other
+    cuts_leave_not_for within (When choices a more) rest leave other = λ i. cuts_leave_not within a rest leave other i ++ cuts_leave_not_for within more rest leave other i
 
   -- the tree of a turn that comes to its own cut
   pub own_turn : (body following : Command) → has_own_cut body ≡ true → to_end p sub (Then body following) ≡ turn_to_cut p sub body following
@@ -57,9 +57,9 @@ module _ (p : Program) (sub : Sub) where
 
   -- the trees from the cuts in a loop, where its head comes after its body
   pub loop_cuts : (s : CoreScheme) (body again following : Command) → to_end p sub again ≡ to_end p sub (Then (loop_of s body) following)
-      → cuts_in p sub (loop_of s body) following ≡ loop_cut p sub (has_own_cut body) (to_end p sub (Then body again) 0) ++ cuts_in p sub body again
+      → cuts_in p sub (loop_of s body) following ≡ loop_cut p sub [] (has_own_cut body) (to_end p sub (Then body again) 0) ++ cuts_in p sub body again
   loop_cuts (scheme.While place e) body again following is =
       let head = to_end p sub (Then (Repeat (Tested place e) body) following) in
       let rest = to_end p sub following in
-      (λ i. loop_cut p sub (has_own_cut body) (leaves_not body head rest (ending p sub) i 0) ++ cuts_leave_not body head rest (ending p sub) i)
-      ∙ (λ i. loop_cut p sub (has_own_cut body) (walk p sub body (sym is i) (ending p sub) 0) ++ cuts p sub body (sym is i) (ending p sub))
+      (λ i. loop_cut p sub [] (has_own_cut body) (leaves_not body head rest (ending p sub) i 0) ++ cuts_leave_not [] body head rest (ending p sub) i)
+      ∙ (λ i. loop_cut p sub [] (has_own_cut body) (walk p sub body (sym is i) (ending p sub) 0) ++ cuts p sub [] body (sym is i) (ending p sub))

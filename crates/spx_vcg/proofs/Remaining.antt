@@ -7,7 +7,7 @@ use Rattle.spx_core.specs.declared.statement.CoreArm.{CoreArm, out-CoreArm}
 use Rattle.spx_core.specs.declared.statement.CoreScheme.{CoreScheme}
 use Rattle.spx_core.specs.declared.statement.CoreScheme.TheVariants as scheme
 use Rattle.spx_core.specs.declared.statement.CoreStmt.{CoreStmt}
-use Rattle.spx_core.specs.Commands.{Command, Skip, Set, Then, Choose, Select, Assertion, Repeat, Tested, Alternatives, Last, When, alternative, alternatives_of, arm_before, arms_before, command, commands, loop_of, select}
+use Rattle.spx_core.specs.Commands.{Command, Skip, Set, Then, Choose, Select, Assertion, Repeat, Alternatives, Last, When, alternative, alternatives_of, arm_before, arms_before, command, commands, loop_of, select}
 use Rattle.spx_vcg.proofs.BranchSteps.{here_is}
 use Rattle.spx_vcg.proofs.Forms.{Part, alternative_is, arm_is}
 
@@ -20,7 +20,7 @@ abbrev mutual
   size (Choose place condition a b) = 1 + (size a + size b)
   size (Select place selector alternatives) = 1 + size_for alternatives
   size (Assertion kind place condition) = 1
-  size (Repeat (Tested place condition) body) = 1 + size body
+  size (Repeat head body) = 1 + size body
 
   pub size_for : Alternatives → ℕ
   size_for (Last choices a) = 1 + size a
@@ -39,7 +39,7 @@ left (Then a b) = size a + left b
 left (Choose place condition a b) = 0
 left (Select place selector alternatives) = 0
 left (Assertion kind place condition) = 0
-left (Repeat (Tested place condition) body) = 0
+left (Repeat head body) = 0
 
 pub size_positive : (c : Command) → 0 < size c
 size_positive Skip = omega arith
@@ -48,7 +48,7 @@ size_positive (Then a b) = omega arith
 size_positive (Choose place condition a b) = omega arith
 size_positive (Select place selector alternatives) = omega arith
 size_positive (Assertion kind place condition) = omega arith
-size_positive (Repeat (Tested place condition) body) = omega arith
+size_positive (Repeat head body) = omega arith
 
 arm_size : (arm : CoreArm) (otherwise : Command) → size (arm_before arm otherwise) ≡ 1 + (size (commands (out-CoreArm arm).body) + size otherwise)
 arm_size arm otherwise = ap size (arm_is arm otherwise)

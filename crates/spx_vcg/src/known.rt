@@ -1,5 +1,5 @@
 // What is known after each cut of a body.
-ghost use Rattle.std.specs.Prelude.{◌&&◌, flat_map, OnOk};
+ghost use Rattle.std.specs.Prelude.{◌&&◌, [], flat_map, OnOk};
 ghost use Rattle.spx_core.specs.Formals.{formals};
 ghost use Rattle.spx_core.specs.Mirror.VarSets.{holds};
 ghost use Rattle.spx_term.specs.Steps.{assume_all};
