@@ -51,7 +51,8 @@ PIECES = tuple(piece.encode('ascii') for piece in (
     'end case;', 'case X is', 'when 1 =>', 'when others =>', 'when 1 .. 5 | 7 =>', '   case X is when 1 => X := 2; when others => X := 3; end case;\n',
     'Integer (', "Integer'(", "Hue'Succ (", "'Pos", "'Val (1)", ' := 5', '   V : Integer := 5;\n', '<->', ' -> X = X', ' <-> X = X', 'X~', '~',
     'check', 'post', 'assert', '\n--# check X = X;\n', '\n--# assert X = X;\n', '\n--# post X = X;\n', '\n--# check X~ = X;\n', '(X = X -> X = X)',
-    'while', 'loop', 'end loop', 'while X > 0 loop', 'end loop;', '   while X > 0 loop X := X - 1; end loop;\n'))
+    'while', 'loop', 'end loop', 'while X > 0 loop', 'end loop;', '   while X > 0 loop X := X - 1; end loop;\n', 'for', 'reverse', 'for I in Integer range 1 .. 5 loop', 'for I in reverse Natural loop',
+    '   for I in Integer range 1 .. X loop X := I; end loop;\n', ' I'))
 # Bytes that are apt to end a lexeme, a line or a text.
 EDGES = b'\0\t\n\v\f\r -#0A_\x80\xa0\xff'
 
@@ -286,6 +287,15 @@ class Loop(Branch):
     """A `while`, as an arm with its condition and its statements."""
 
 
+@dataclass
+class Count(Branch):
+    """A `for`, as an arm with its bounds, or with nothing, and its statements."""
+    parameter: str = ''
+    mark: str = 'Integer'
+    base: str = 'Integer'
+    is_reverse: bool = False
+
+
 # Around the condition of an `assert` or a `check`, which is on a line of its own in the end.
 ASSERT, CHECK, END_OF_CHECK = '\3', '\1', '\2'
 
@@ -321,6 +331,8 @@ def sources_after(statements, sources):
     for statement in statements:
         if isinstance(statement, Loop):
             sources = sources_after_loop(statement, sources)
+        elif isinstance(statement, Count):
+            sources = sources_after_count(statement, sources)
         elif isinstance(statement, Branch):
             conditions = set().union(*(sources_of(test, sources) for test in statement.tests()))
             changed = {target for target, _ in assignments([statement])}
@@ -344,6 +356,25 @@ def sources_after_loop(loop, sources):
     return {name: sources[name] | (conditions if name in changed else set()) for name in sources}
 
 
+def sources_after_count(loop, sources):
+    """The same after turns, of which there is one at least where there are no bounds."""
+    (bounds, body), = loop.arms
+    read = sources_of(bounds, sources)
+    turned = turn_of_count(loop, sources | {loop.parameter: read})
+    begun = sources | {loop.parameter: read} if bounds else turned
+    while begun != turned:
+        begun = {name: begun[name] | turned[name] for name in begun}
+        turned = turn_of_count(loop, begun)
+        turned = {name: begun[name] | turned[name] for name in begun}
+    changed = {target for target, _ in assignments(body)}
+    return {name: begun[name] | (read if name in changed else set()) for name in sources}
+
+
+def turn_of_count(loop, sources):
+    """The same after one turn, in which the parameter stays what it is."""
+    return sources_after(loop.arms[0][1], sources) | {loop.parameter: sources[loop.parameter]}
+
+
 def sources_of(value, sources):
     """The formals that what is written comes from."""
     return {source for name in sources if re.search(rf"(?<!')\b{name}\b", value) for source in sources[name]}
@@ -355,6 +386,7 @@ class Writer:
     def __init__(self, seed):
         self.random = random.Random(seed)
         self.types = {}
+        self.count_names = 0
         self.bases = {}
         self.declared = Declared()
         self.base = 'Integer'
@@ -555,8 +587,9 @@ class Writer:
         for _ in range(self.random.choice((1, 1, 1, 2, 2, 3))):
             at = self.random.randrange(len(found) + 1)
             after = min(len(found), at + self.random.choice((0, 1, 1, 2)))
-            if self.random.random() < 0.3:
-                tried = found[:after] + [self.loop(found[at:after], formals, locals_)] + found[after:]
+            if self.random.random() < 0.4:
+                make = self.random.choice((self.loop, self.count))
+                tried = found[:after] + [make(found[at:after], formals, locals_)] + found[after:]
             else:
                 tried = found[:at] + [self.branch(found[at:after], formals, locals_)] + found[after:]
             if paths(tried) <= MOST_PATHS and levels(tried) <= MOST_NESTED:
@@ -590,6 +623,33 @@ class Writer:
             target = self.random.choice(formals)
             body = [(target, self.right_side(readable, target, target))]
         return Loop([(self.condition(readable), body)])
+
+    def count(self, statements, formals, locals_):
+        """A `for` in which what the statements before it set is set once more, or some formal; often from its parameter."""
+        readable = formals + tuple(local for local in locals_ if self.random.random() < 0.2)
+        found = self.random.choice([found for found in self.declared.types if found.base != 'Boolean' or self.random.random() < 0.05])
+        self.count_names += self.random.random() < 0.9
+        parameter = f'{"IJKLM"[self.count_names % 5]}{self.count_names // 5 or ""}'
+        if self.random.random() < 0.01:
+            parameter = self.random.choice(formals + ('Integer',))
+        bounds = '' if self.random.random() < 0.3 else f'{self.end_of(found, readable)} .. {self.end_of(found, readable)}'
+        self.types[parameter], self.bases[parameter] = found.name, found.base
+        inside = readable + (parameter, parameter)
+        body = [self.other(statement, inside) for statement in statements]
+        if not body and self.random.random() < 0.95:
+            target = self.random.choice(formals)
+            body = [(target, parameter if self.base_of(target) == found.base and self.random.random() < 0.5 else self.right_side(inside, target, target))]
+        if self.random.random() < 0.01:
+            body.append((parameter, parameter))
+        return Count([(bounds, body)], None, parameter, found.name, found.base, self.random.random() < 0.4)
+
+    def end_of(self, found, readable):
+        """A bound of a range of a type."""
+        ends = [f"{found.name}'First", f"{found.name}'Last", *(name for name in readable if self.base_of(name) == found.base)]
+        if not self.is_literal(found.base):
+            ends += ['0', '1', '5', '-3', str(found.low), str(found.high)] if found.low is not None else []
+        end = self.random.choice(ends if self.random.random() < 0.98 else readable)
+        return f'{end} {self.random.choice("+-")} 1' if self.random.random() < 0.1 else end
 
     def selection(self, statements, formals, readable):
         """A `case` with the statements in one of its alternatives, or with other values in each. It mostly has each value once."""
@@ -793,6 +853,8 @@ class Writer:
             return self.spelled_selection(branch, gap)
         if isinstance(branch, Loop):
             return self.spelled_loop(branch, gap)
+        if isinstance(branch, Count):
+            return self.spelled_count(branch, gap)
         text = ''
         for word, (condition, body) in zip(['if'] + ['elsif'] * len(branch.arms), branch.arms):
             text += f'{word} {condition} then{gap}' + ''.join(f'{piece};{gap}' for piece in self.spelled(body))
@@ -808,6 +870,20 @@ class Writer:
             known = condition if self.random.random() < 0.6 else self.predicate(self.readable)
             pieces.insert(0 if self.random.random() < 0.7 else self.random.randrange(len(pieces) + 1), f'{ASSERT}{known}{END_OF_CHECK}')
         return f'while {condition} loop{gap}' + ''.join(f'{piece};{gap}' for piece in pieces) + 'end loop'
+
+    def spelled_count(self, loop, gap):
+        """A `for`, often with an `assert`, in which the parameter may be named."""
+        (bounds, body), = loop.arms
+        before = self.readable
+        if before:
+            self.readable = before + (loop.parameter,)
+            self.types[loop.parameter], self.bases[loop.parameter] = loop.mark, loop.base
+        pieces = self.spelled(body)
+        if self.readable and self.random.random() < 0.5:
+            pieces.insert(self.random.randrange(len(pieces) + 1), f'{ASSERT}{self.predicate(self.readable)}{END_OF_CHECK}')
+        self.readable = before
+        head = f'for {loop.parameter} in {"reverse " if loop.is_reverse else ""}{loop.mark}{f" range {bounds}" if bounds else ""} loop{gap}'
+        return head + ''.join(f'{piece};{gap}' for piece in pieces) + 'end loop'
 
     def spelled_selection(self, branch, gap):
         """A `case`; `others` rarely is not the last choice."""

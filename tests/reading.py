@@ -530,12 +530,8 @@ class Case:
         return [alternative.statements for alternative in self.alternatives]
 
 
-@dataclass(frozen=True, eq=False)
-class While:
-    """`while condition loop statements end loop;`, which stands at its first word."""
-    place: Place
-    condition: Expression
-    statements: list
+class Loop:
+    """A loop over statements."""
 
     def branches(self):
         """Its statements, which a turn runs."""
@@ -544,6 +540,51 @@ class While:
     def has_own_cut(self):
         """Whether one of its statements is itself an `assert`."""
         return any(isinstance(statement, Asserted) and statement.is_cut() for statement in self.statements)
+
+
+@dataclass(frozen=True, eq=False)
+class While(Loop):
+    """`while condition loop statements end loop;`, which stands at its first word."""
+    place: Place
+    condition: Expression
+    statements: list
+
+    def tested(self):
+        """What is read before each turn."""
+        return [self.condition]
+
+
+@dataclass(frozen=True, eq=False)
+class For(Loop):
+    """`for name in [reverse] type_mark [range low .. high] loop statements end loop;`, which stands at its first word.
+
+    Its parameter has a word of its own, which no other loop has.
+    """
+    place: Place
+    name: Name
+    is_reverse: bool
+    type_mark: Union[Name, Attribute, Subtype]
+    low: Optional[Expression]
+    high: Optional[Expression]
+    statements: list
+    word: Optional[str] = None
+
+    def tested(self):
+        """What is read before the first turn: its bounds, if they are written."""
+        return [self.low, self.high] if self.low else []
+
+    def bounds(self):
+        """Its bounds, or those of its type."""
+        if self.low:
+            return self.low, self.high
+        kind = self.type_mark.kind
+        return Static(self.type_mark.first, kind, self.place), Static(self.type_mark.last, kind, self.place)
+
+
+@dataclass(frozen=True, eq=False)
+class TurnEnd:
+    """The end of a turn of a loop over a parameter: one more turn, or the end of the loop."""
+    loop: For
 
 
 @dataclass(frozen=True)
@@ -639,6 +680,7 @@ class Procedure:
     subtypes: Optional[dict] = None
     constants: Optional[list] = None
     initial: Optional[dict] = None
+    parameters: Optional[list] = None
 
     def items(self):
         """The items of `derives`, if it is there."""
@@ -829,16 +871,16 @@ class Parser:
         parent = self.name()
         return SubtypeDeclaration(name, parent, *(self.range() if self.take_if('range') else (None, None)))
 
-    def range(self):
-        """sum ".." sum"""
-        low = self.sum(False, 0)
+    def range(self, above=0):
+        """sum ".." sum, under so many levels"""
+        low = self.sum(False, above)
         self.take('..')
-        return low, self.sum(False, 0)
+        return low, self.sum(False, above)
 
     def statements(self, above):
         """statement {statement}, under so many levels"""
         statements = [self.statement(above)]
-        while any(self.next_is(kind, marked=True) for kind in ('assert', 'check')) or any(self.next_is(kind) for kind in ('null', 'identifier', 'if', 'case', 'while')):
+        while any(self.next_is(kind, marked=True) for kind in ('assert', 'check')) or any(self.next_is(kind) for kind in ('null', 'identifier', 'if', 'case', 'while', 'for')):
             statements.append(self.statement(above))
         return statements
 
@@ -850,9 +892,9 @@ class Parser:
         if self.take_if('null'):
             self.take(';')
             return Null()
-        word = self.opening(('if', 'case', 'while'), False, above + 1)
+        word = self.opening(('if', 'case', 'while', 'for'), False, above + 1)
         if word:
-            read = {'if': self.branching, 'case': self.selection, 'while': self.looping}[word.kind]
+            read = {'if': self.branching, 'case': self.selection, 'while': self.looping, 'for': self.counting}[word.kind]
             return read(word, above + 1)
         target = self.name()
         self.take(':=')
@@ -885,11 +927,24 @@ class Parser:
     def looping(self, word, above):
         """"while" expression "loop" statement {statement} "end" "loop" ";" after the first word"""
         condition = self.expression(False, above)
+        return While(word.place, condition, self.turn(above))
+
+    def counting(self, word, above):
+        """"for" id "in" ["reverse"] name ["range" sum ".." sum] "loop" statement {statement} "end" "loop" ";" after the first word"""
+        name = self.identifier()
+        self.take('in')
+        is_reverse = self.take_if('reverse') is not None
+        type_mark = self.name()
+        low, high = self.range(above) if self.take_if('range') else (None, None)
+        return For(word.place, name, is_reverse, type_mark, low, high, self.turn(above))
+
+    def turn(self, above):
+        """"loop" statement {statement} "end" "loop" ";" """
         self.take('loop')
         statements = self.statements(above)
         for kind in ('end', 'loop', ';'):
             self.take(kind)
-        return While(word.place, condition, statements)
+        return statements
 
     def alternative(self, above):
         """"when" ("others" | choice {"|" choice}) "=>" statement {statement}"""
@@ -1281,11 +1336,13 @@ def judged(tree):
 class Entity:
     """What a word denotes: a 'type', a 'variable', a 'constant', a 'literal' or a 'subprogram'.
 
-    All but the last have a type, and constants and literals a value. The type of a named number is that of all numbers.
+    All but the last have a type, and constants and literals a value. The type of a named number is that of all numbers. The
+    parameter of a loop has a word of its own.
     """
     sort: str
     subtype: Optional[Subtype] = None
     value: Union[int, bool, None] = None
+    word: Optional[str] = None
 
 
 NUMBERS = Subtype(UNIVERSAL, UNIVERSAL.first, UNIVERSAL.last)
@@ -1325,6 +1382,7 @@ class Resolver:
         self.initial = {}
         self.outer = EVERYWHERE
         self.changed = set()
+        self.parameters = {}
 
     def run(self):
         """The procedure with what its names denote. Annotations see the formals and not the locals."""
@@ -1344,8 +1402,8 @@ class Resolver:
         formals = [formal.word for formal in self.formals]
         return replace(self.tree, formals=self.formals, derives=derives, pre=pre, post=post, statements=statements,
                        locals=[word for word in self.words('variable') if word not in formals],
-                       constants=self.words('constant'), spelled=self.spelled, initial=self.initial,
-                       subtypes={word: self.scope[word].subtype for word in self.words('variable')})
+                       constants=self.words('constant'), spelled=self.spelled, initial=self.initial, parameters=list(self.parameters),
+                       subtypes={word: self.scope[word].subtype for word in self.words('variable')} | self.parameters)
 
     def words(self, sort):
         """The words of the procedure that are declared as such ones."""
@@ -1465,7 +1523,7 @@ class Resolver:
     def variable(self, name, *others):
         """N3: operands, targets and `derives` name variables. A name at some places may be of other sorts too."""
         entity = self.must_denote(name, 'variable', *others)
-        return Variable(name.word(), name.place, entity.subtype.kind)
+        return Variable(entity.word or name.word(), name.place, entity.subtype.kind)
 
     def subtype(self, name):
         """N3: what a type is needed of names one."""
@@ -1516,9 +1574,34 @@ class Resolver:
         if isinstance(tree, While):
             condition = self.condition(tree.condition)
             return While(tree.place, condition, self.statements(tree.statements))
+        if isinstance(tree, For):
+            return self.counting(tree)
         target, value = self.variable(tree.target, 'constant'), self.expression(tree.value)
         must_match(value, target.kind)
         return Assignment(target, value)
+
+    def counting(self, tree):
+        """The parameter of a loop is declared for its statements, and hidden in what is said of it. N10: its type has an order.
+
+        N10, N12: bounds match it as the right side of an assignment does.
+        """
+        self.begin([tree.name])
+        subtype = self.subtype(tree.type_mark)
+        require('N10', tree.type_mark.place, subtype.kind is not BOOLEAN)
+        low, high = [bound and self.matching(bound, subtype.kind) for bound in (tree.low, tree.high)]
+        del self.spelled[tree.name.word()]
+        word = f'{tree.name.word()} {len(self.parameters) + 1}'
+        self.parameters[word], self.spelled[word] = subtype, tree.name.text
+        self.end([tree.name], Entity('variable', subtype, word=word))
+        statements = self.statements(tree.statements)
+        del self.scope[tree.name.word()]
+        return For(tree.place, tree.name, tree.is_reverse, subtype, low, high, statements, word)
+
+    def matching(self, tree, kind):
+        """An expression that matches a kind."""
+        found = self.expression(tree)
+        must_match(found, kind)
+        return found
 
     def selection(self, tree):
         """N17, before all parts: `others` is last; and where selector and choices break no rule, they are given once."""
@@ -1678,7 +1761,7 @@ def assignments(statements):
     for statement in statements:
         if isinstance(statement, Assignment):
             found.append(statement)
-        elif isinstance(statement, (If, Case, While)):
+        elif isinstance(statement, (If, Case, Loop)):
             found += [inner for branch in statement.branches() for inner in assignments(branch)]
     return found
 
@@ -1758,8 +1841,8 @@ def u11(procedure, relation):
 
 
 def u2(procedure):
-    """U2: no target is a formal of mode `in`, nor a constant."""
-    read_only = {formal.word for formal in procedure.formals if formal.mode == 'in'} | set(procedure.constants)
+    """U2: no target is a formal of mode `in`, nor a constant, nor the parameter of a loop."""
+    read_only = {formal.word for formal in procedure.formals if formal.mode == 'in'} | set(procedure.constants) | set(procedure.parameters)
     for statement in assignments(procedure.statements):
         require('U2', statement.target.place, statement.target.word not in read_only)
 
@@ -1793,8 +1876,15 @@ def tests_of(tree):
     """
     if isinstance(tree, If):
         return [(arm.condition, arm.place, choice) for arm, choice in zip(tree.arms, choices(tree))]
+    if isinstance(tree, For):
+        return []
     test = tree.condition if isinstance(tree, While) else tree.selector
-    return [(test, tree.place, {assignment.target.word for assignment in assignments([tree])})]
+    return [(test, tree.place, targets_in([tree]))]
+
+
+def targets_in(statements):
+    """The words of all targets in statements."""
+    return {assignment.target.word for assignment in assignments(statements)}
 
 
 def choices(tree):
@@ -1823,7 +1913,36 @@ def carried(statements, words):
             words = set().union(*branches, *chosen)
         elif isinstance(statement, While):
             words = through_loop(statement, frozenset(words))
+        elif isinstance(statement, For):
+            words = through_count(statement, frozenset(words))
+        elif isinstance(statement, TurnEnd):
+            words = after_turns(statement.loop, frozenset(words)) - {statement.loop.word}
     return words
+
+
+def through_count(loop, words):
+    """The variables to which flows lead through a loop over a parameter from these ones.
+
+    What its bounds read comes to its parameter, and to all targets in it. It has any number of turns, or, over a whole type, one
+    at least. After it the parameter is gone.
+    """
+    are_bounds = any(are_read(words, bound) for bound in loop.tested())
+    begin = words - {loop.word} | ({loop.word} if are_bounds else set())
+    if not loop.low:
+        begin = after_turn(loop, begin)
+    return (after_turns(loop, frozenset(begin)) - {loop.word}) | (targets_in(loop.statements) if are_bounds else set())
+
+
+def after_turn(loop, words):
+    """After a turn the parameter has the sources that it had before it."""
+    return (set(carried(loop.statements, set(words))) - {loop.word}) | (words & {loop.word})
+
+
+@lru_cache(maxsize=4096)
+def after_turns(loop, words):
+    """After any number of turns."""
+    more = words | after_turn(loop, words)
+    return after_turns(loop, more) if more != words else words
 
 
 @lru_cache(maxsize=4096)
@@ -1854,11 +1973,20 @@ def occurrences(statements, after):
         rest = statements[at + 1:] + after
         if isinstance(statement, Assignment):
             yield statement.target.place, {statement.target.word}, rest
-        elif isinstance(statement, (If, Case, While)):
+        elif isinstance(statement, (If, Case, Loop)):
             for _, place, choice in tests_of(statement):
                 yield place, choice, rest
+            if isinstance(statement, For) and statement.low:
+                yield statement.place, targets_in(statement.statements), rest
             for branch in statement.branches():
-                yield from occurrences(branch, [statement] + rest if isinstance(statement, While) else rest)
+                yield from occurrences(branch, turn_end(statement) + rest)
+
+
+def turn_end(statement):
+    """What comes after the statements of a branch, before what comes after the whole: the end of a turn."""
+    if isinstance(statement, For):
+        return [TurnEnd(statement)]
+    return [statement] if isinstance(statement, While) else []
 
 
 def f3(procedure, relation):
@@ -1881,7 +2009,8 @@ def f4(procedure, relation):
 def set_after(statements, is_set, unset_reads):
     """The variables that are set after statements, whatever way is taken; and reads of others are added to the list.
 
-    After an `if` or a `case` those are set that each of its branches leaves set. A loop may have no turn.
+    After an `if` or a `case` those are set that each of its branches leaves set. A loop may have no turn, but for one over a whole
+    type, and the parameter of a loop is set in it alone.
     """
     for statement in statements:
         if isinstance(statement, Assignment):
@@ -1895,6 +2024,10 @@ def set_after(statements, is_set, unset_reads):
         elif isinstance(statement, While):
             unset_reads += [name for name in reads(statement.condition) if name.word not in is_set]
             set_after(statement.statements, is_set, unset_reads)
+        elif isinstance(statement, For):
+            unset_reads += [name for bound in statement.tested() for name in reads(bound) if name.word not in is_set]
+            is_set_inside = set_after(statement.statements, is_set | {statement.word}, unset_reads)
+            is_set = is_set if statement.low else is_set_inside - {statement.word}
     return is_set
 
 
@@ -2150,9 +2283,14 @@ def cut_values(procedure):
     return {word: (entry if word in fixed else later)(word, procedure.subtypes[word].kind is BOOLEAN) for word in procedure.words()}
 
 
-def cut_facts(procedure):
+def names_of_bounds(loop):
+    """The names of the bounds of a loop, where they have some."""
+    return f'{loop.word} first', f'{loop.word} last'
+
+
+def cut_facts(procedure, counted):
     """After a cut each formal and each local lies in its type, and so does the value on entry of each import that is exported too;
-    and each part of the precondition is true of the values on entry.
+    then come these facts of the loops around it; and each part of the precondition is true of the values on entry.
     """
     relation, values, on_entry = Relation(procedure.items()), cut_values(procedure), entry_values(procedure)
     facts = ()
@@ -2161,6 +2299,7 @@ def cut_facts(procedure):
     for formal in procedure.formals:
         if formal.word in relation.imported & relation.exported:
             facts = with_facts(facts, bounds_of(formal.subtype, on_entry[formal.word]))
+    facts = with_facts(facts, counted)
     return with_facts(facts, facts_of(procedure.pre, on_entry)) if procedure.pre else facts
 
 
@@ -2171,7 +2310,18 @@ class Walk:
         self.procedure = procedure
         self.subtypes = procedure.subtypes
         self.post = procedure.post
+        relation = Relation(procedure.items())
+        self.fixed = relation.imported - relation.exported
         self.found = []
+
+    def bounds(self, loop, values):
+        """The terms of the bounds of a loop: one that reads only imports that are no exports stands for itself, another for its name."""
+        return [term_of(bound, values) if self.is_fixed(bound) else values[name]
+                for bound, name in zip(loop.bounds(), names_of_bounds(loop))]
+
+    def is_fixed(self, bound):
+        """Whether a bound has one value all through the procedure."""
+        return words_of(reads(bound)) <= self.fixed
 
     def show(self, checks, facts):
         """A condition for each check. What was shown is a fact from there on."""
@@ -2186,8 +2336,8 @@ class Walk:
         A target stands for its term after its assignment.
         """
         for at, statement in enumerate(statements):
-            if isinstance(statement, (If, Case, While)):
-                part = {If: self.part, Case: self.select, While: self.turn}[type(statement)]
+            if isinstance(statement, (If, Case, Loop, TurnEnd)):
+                part = {If: self.part, Case: self.select, While: self.turn, For: self.count, TurnEnd: self.end_of_turn}[type(statement)]
                 part(statement, statements[at + 1:], facts, values)
                 return
             if isinstance(statement, Assignment):
@@ -2201,24 +2351,35 @@ class Walk:
         if self.post:
             self.show([asserted_check(self.post, values)], facts)
 
-    def go_from_cuts(self, statements, after):
-        """From each cut in statements, in their order, along those after it and then along these others."""
+    def go_from_cuts(self, statements, after, within=()):
+        """From each cut in statements, in their order, along those after it and then along these others, within these loops."""
         for at, statement in enumerate(statements):
             rest = statements[at + 1:] + after
             if isinstance(statement, Asserted) and statement.is_cut():
-                self.go_anew(rest, facts_of(statement.condition, cut_values(self.procedure)))
+                self.go_anew(rest, within, lambda values: facts_of(statement.condition, values))
             elif isinstance(statement, (If, Case)):
                 for branch in statement.branches():
-                    self.go_from_cuts(branch, rest)
-            elif isinstance(statement, While):
-                again = [statement] + rest
+                    self.go_from_cuts(branch, rest, within)
+            elif isinstance(statement, Loop):
+                again = turn_end(statement) + rest
+                inside = within + ((statement,) if isinstance(statement, For) else ())
                 if not statement.has_own_cut():
-                    self.go_anew(statement.statements + again, (truth(True),))
-                self.go_from_cuts(statement.statements, again)
+                    self.go_anew(statement.statements + again, inside, lambda values: (truth(True),))
+                self.go_from_cuts(statement.statements, again, inside)
 
-    def go_anew(self, statements, known):
-        """From a cut, where this is known, along statements."""
-        self.go(statements, with_facts(cut_facts(self.procedure), known), cut_values(self.procedure))
+    def go_anew(self, statements, within, known):
+        """From a cut within these loops, where this is known, along statements."""
+        values = cut_values(self.procedure)
+        for loop in within:
+            values |= {word: later(word, False) for word in (loop.word, *names_of_bounds(loop))}
+        counted = sum((self.count_facts(loop, values) for loop in within), ())
+        self.go(statements, with_facts(cut_facts(self.procedure, counted), known(values)), values)
+
+    def count_facts(self, loop, values):
+        """The parameter of a loop lies in its type, and between its bounds."""
+        low, high = self.bounds(loop, values)
+        parameter = values[loop.word]
+        return bounds_of(loop.type_mark, parameter) + between(parameter, low, high)
 
     def turn(self, loop, rest, facts, values):
         """Where its condition holds, a turn of a loop as far as its own cut; a loop without one has a cut before its statements.
@@ -2228,6 +2389,40 @@ class Walk:
         if loop.has_own_cut():
             self.go(loop.statements, with_facts(facts, facts_of(loop.condition, values)), values)
         self.go(rest, with_facts(facts, (negation(term_of(loop.condition, values)),)), values)
+
+    def count(self, loop, rest, facts, values):
+        """The bounds are evaluated once; where there is a value, they lie in the type, and the first turn begins. Else the rest.
+
+        A loop over a whole type has a value.
+        """
+        low, high = loop.bounds()
+        facts = self.show(checks_of(low, values) + checks_of(high, values), facts)
+        values = values | dict(zip(names_of_bounds(loop), (term_of(low, values), term_of(high, values))))
+        first, last = self.bounds(loop, values)
+        inside, outside = infix('<=', first, last), infix('>', first, last)
+        if loop.low:
+            least, greatest = number(loop.type_mark.first), number(loop.type_mark.last)
+            goal = infix('->', inside, infix('and', infix('>=', first, least), infix('<=', last, greatest)))
+            facts = self.show([Check('range', loop.low.place, (goal,))], facts)
+        entering = with_facts(facts, (inside,)) if loop.low else facts
+        self.next_turn(loop, entering, values | {loop.word: last if loop.is_reverse else first}, rest)
+        if loop.low:
+            self.go(rest, with_facts(facts, (outside,)), values)
+
+    def next_turn(self, loop, facts, values, rest):
+        """A turn of a loop as far as its own cut; a loop without one has a cut before its statements."""
+        if loop.has_own_cut():
+            self.go(loop.statements + turn_end(loop) + rest, facts, values)
+
+    def end_of_turn(self, end, rest, facts, values):
+        """One more turn, with the next value, where there is one; else the rest."""
+        loop = end.loop
+        low, high = self.bounds(loop, values)
+        last, before, step = (low, '>', '-') if loop.is_reverse else (high, '<', '+')
+        parameter = values[loop.word]
+        following = infix(step, parameter, number(1))
+        self.next_turn(loop, with_facts(facts, (infix(before, parameter, last),)), values | {loop.word: following}, rest)
+        self.go(rest, with_facts(facts, (infix('=', parameter, last),)), values)
 
     def part(self, tree, rest, facts, values):
         """Each branch, and after it the rest: an arm where its condition holds and those before it do not."""
@@ -2266,9 +2461,15 @@ def paths_before(statements, after):
             after = 1
         elif isinstance(statement, (If, Case)):
             after = sum(paths_before(branch, after) for branch in statement.branches())
-        elif isinstance(statement, While):
-            after += paths_before(statement.statements, 1) if statement.has_own_cut() else 1
+        elif isinstance(statement, Loop):
+            is_passed = isinstance(statement, While) or statement.low
+            after = turns_before(statement) + (after if is_passed else 0)
     return after
+
+
+def turns_before(loop):
+    """The number of ways from the begin of a turn to the first cut in it."""
+    return paths_before(loop.statements, 1) if loop.has_own_cut() else 1
 
 
 def paths_from_cuts(statements, after):
@@ -2280,9 +2481,10 @@ def paths_from_cuts(statements, after):
             found += after
         elif isinstance(statement, (If, Case)):
             found += sum(paths_from_cuts(branch, after) for branch in statement.branches())
-        elif isinstance(statement, While):
-            found += paths_from_cuts(statement.statements, before)
-            found += 0 if statement.has_own_cut() else paths_before(statement.statements, before)
+        elif isinstance(statement, Loop):
+            end = turns_before(statement) + after
+            found += paths_from_cuts(statement.statements, end)
+            found += 0 if statement.has_own_cut() else paths_before(statement.statements, end)
         after = before
     return found
 
@@ -2622,7 +2824,7 @@ def program_of(text):
     procedures = resolved(Parser(tokens, scanner.place()).file())
     for procedure in procedures:
         require_rules(procedure)
-    if any(len(procedure.words()) > MOST_VARIABLES for procedure in procedures):
+    if any(len(procedure.words()) + len(procedure.parameters) > MOST_VARIABLES for procedure in procedures):
         raise TooManyVariables
     findings = in_order(finding for procedure in procedures for finding in flow_findings(procedure))
     if findings:

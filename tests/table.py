@@ -566,7 +566,24 @@ LOOP_TOKENS = (
     *plain('\n end Cnt ;'),
 )
 
-TOKEN_LISTS = (TOKENS, LOCAL_TOKENS, ATTRIBUTE_TOKENS, SKIP_TOKENS, IF_TOKENS, DECLARED_TOKENS, CASE_TOKENS, LOOP_TOKENS)
+# A text with a `for`.
+COUNT_TOKENS = (
+    *plain('procedure Cnt ( X : in out Integer ) \n--# derives X from X ; \n is \n begin \n'),
+    ('word_for', 'for', 'when'),
+    ('loop_parameter', 'I', '1'),
+    ('in_after_a_loop_parameter', 'in', 'is'),
+    ('reverse', 'reverse', 'range'),
+    ('type_of_a_loop_parameter', 'Integer', 'loop'),
+    ('range_of_a_loop', 'range', 'of'),
+    ('low_bound_of_a_loop', '1', '..'),
+    ('dots_of_a_loop', '..', ','),
+    ('high_bound_of_a_loop', '5', ')'),
+    ('loop_after_bounds', 'loop', 'then'),
+    ('target_after_bounds', 'X', 'end'),
+    *plain(':= I ; end loop ; \n end Cnt ;'),
+)
+
+TOKEN_LISTS = (TOKENS, LOCAL_TOKENS, ATTRIBUTE_TOKENS, SKIP_TOKENS, IF_TOKENS, DECLARED_TOKENS, CASE_TOKENS, LOOP_TOKENS, COUNT_TOKENS)
 
 # What a text is without a token: which token after it is unexpected, if not the next one; or a finding, and the token
 # at which it stands; or that it is accepted.
@@ -584,7 +601,9 @@ MISSING = {'in': ('U8', 'import'), 'out': ('U8', 'export'), 'import': ('U8', 'ex
            # a target and `is`; a `case` and `;`
            'case': 2, 'end_of_a_case': 2,
            # the condition begins as a target does
-           'while': 2,
+           'while': 2, 'word_for': 2,
+           # the values from the first on
+           'reverse': lambda name, text: accepted(name, text, 2, named='Cnt'),
            'type_of_a_constant': lambda name, text: accepted(name, text, 1, named='Dcl'),
            # see `missing_signs`
            'sign': None, 'sign_in_pre': None, 'first_held_operand': None}
@@ -2393,7 +2412,8 @@ def left_in(name, text, named, total, **left):
 
 def worked_loops():
     """The worked examples of loops, and each without its assertion."""
-    texts = {name: (TOP / 'examples' / f'{name}.adb').read_text(encoding='utf-8') for name in ('count_down', 'integer_root', 'divide')}
+    texts = {name: (TOP / 'examples' / f'{name}.adb').read_text(encoding='utf-8') 
+             for name in ('count_down', 'integer_root', 'divide', 'sum_to', 'squares', 'pressure_bands')}
     without = {name: re.sub('.*--# assert.*\n', '', text) for name, text in texts.items()}
     yield accepted('count_down.adb', texts['count_down'], 6, named='Count_Down')
     yield left_in('count_down_without_its_assertion.adb', without['count_down'], 'Count_Down', 4, range_3='- 1;')
@@ -2401,6 +2421,9 @@ def worked_loops():
     yield left_in('integer_root_without_its_assertion.adb', without['integer_root'], 'Integer_Root', 11, overflow_6='+ 1;', post_11='post Root')
     yield left_in('divide.adb', texts['divide'], 'Divide', 10, overflow_5='+ 1;', range_8='- Divisor;', assert_9='assert Dividend', post_10='post Dividend')
     yield left_in('divide_without_its_assertion.adb', without['divide'], 'Divide', 8, overflow_4='+ 1;', range_7='- Divisor;', post_8='post Dividend')
+    yield left_in('sum_to.adb', texts['sum_to'], 'Sum_To', 10, overflow_7='+ Number;', assert_9='assert 2', post_10='post 2')
+    yield left_in('squares.adb', texts['squares'], 'Square_Of', 14, overflow_11='+ (2 * Root - 1);', assert_13='assert Square', post_14='post Square')
+    yield accepted('pressure_bands.adb', texts['pressure_bands'], 171, named='Pressure_Bands')
 
 
 def assigned(value, pre=None):
@@ -5404,7 +5427,7 @@ def syntax_of_loops():
             'elsif': 'while X > 0 loop X := 0; @elsif X > 1 then X := 1; end loop', 'exit': 'while X > 0 loop X := 0; @exit; end loop',
             'exit_when': 'while X > 0 loop @exit when X > 5; X := 0; end loop', 'return': 'while X > 0 loop @return; end loop', 'begin': 'while X > 0 @begin X := 0; end loop',
             'is': 'while X > 0 @is loop X := 0; end loop', 'semicolon_after_the_condition': 'while X > 0@; loop X := 0; end loop', 'label': 'L @: while X > 0 loop X := 0; end loop L',
-            'arrow': 'while X > 0 @=> X := 0; end loop', 'no_scheme': '@loop X := 0; end loop', 'for': '@for I in 1 .. 5 loop X := 0; end loop', 'until': 'while X > 0 loop X := 0; @until X = 0; end loop',
+            'arrow': 'while X > 0 @=> X := 0; end loop', 'no_scheme': '@loop X := 0; end loop', 'for': 'for I in @1 .. 5 loop X := 0; end loop', 'until': 'while X > 0 loop X := 0; @until X = 0; end loop',
             'condition_for_a_statement': 'while X > 0 loop X @> 0; end loop', 'implication': 'while X > 0 -@> X > 5 loop X := 0; end loop'}.items():
         yield unexpected(f'while_with_{name}.adb', longer(X, 'X from X', statement))
     for name, statement in {'a_marked_while': '--# @while X > 0 loop', 'a_marked_loop': 'while X > 0\n--# @loop\nX := 0; end loop',
@@ -5530,6 +5553,187 @@ def paths_of_loops():
     yield too_nested('loops_of_201_levels.adb', nested_loops(201))
 
 
+# ---------------------------------------------------------------- loops over a parameter
+
+TO_THREE = 'subtype Small is Integer range 1 .. 3'
+HUES = 'type Hue is (Red, Green, Blue)'
+
+
+def counting(head, *statements, asserted=None):
+    """A `for` with these statements, and an `assert` after them where there is one."""
+    last = '' if asserted is None else f'\n--# assert {asserted};\n'
+    return f'for {head} loop {"; ".join(statements)};{last} end loop'
+
+
+def syntax_of_counts():
+    """Where a `for` may stand, tokens with which none goes on, and the levels that it opens."""
+    five = 'I in Integer range 1 .. 5'
+    yield accepted('for_alone.adb', longer(X, 'X from X', counting(five, 'X := I')), 2)
+    yield accepted('for_in_reverse.adb', longer(X, 'X from X', counting('I in reverse Integer range 1 .. 5', 'X := I')), 2)
+    yield accepted('for_over_a_subtype.adb', longer(OUT_X, 'X from', counting('I in Small', 'X := I'), declared=[TO_THREE]), 1)
+    yield accepted('for_over_a_subtype_in_reverse.adb', longer(OUT_X, 'X from', counting('I in reverse Small', 'X := I'), declared=[TO_THREE]), 1)
+    yield accepted('fors_in_a_row.adb', longer(X, 'X from X', counting(five, 'X := I'), counting(five, 'X := I')), 5)
+    yield accepted('for_in_a_for.adb', longer(X, 'X from X', counting(five, counting('J in Integer range 1 .. 2', 'X := J'))), 3)
+    yield accepted('for_in_a_while.adb', longer(X, 'X from X', looping('X > 0', counting(five, 'X := I'))), 2)
+    yield accepted('while_in_a_for.adb', longer(X, 'X from X', counting(five, looping('X > 0', 'X := I'))), 2)
+    yield accepted('for_in_an_arm.adb', longer(X, 'X from X', f'if X > 5 then {counting(five, "X := I")}; end if'), 2)
+    yield accepted('for_on_several_lines.adb', longer(X, 'X from X', 'FOR\nI -- a parameter\nIN\nReverse\nInteger\nRange 1\n.. 5\nLoop\nX := i;\nEND\nLOOP'), 2)
+    yield accepted('sums_for_bounds.adb', longer(X, 'X from X', counting('I in Integer range 1 + 1 .. 10 - 2 * 2', 'X := I')), 2)
+    for name, statement in {
+            'no_parameter': 'for @in Integer loop X := 0; end loop', 'number_for_a_parameter': 'for @1 in Integer loop X := 0; end loop',
+            'two_parameters': 'for I@, J in Integer loop X := 0; end loop', 'colon': 'for I @: Integer loop X := 0; end loop', 'of': 'for I @of Integer loop X := 0; end loop',
+            'no_type': 'for I in @range 1 .. 5 loop X := 0; end loop', 'bounds_for_a_type': 'for I in @(1 .. 5) loop X := 0; end loop',
+            'reverse_twice': 'for I in reverse @reverse Integer loop X := 0; end loop', 'reverse_before_in': 'for I @reverse in Integer loop X := 0; end loop',
+            'reverse_first': 'for @reverse I in Integer loop X := 0; end loop', 'reverse_after_the_type': 'for I in Integer @reverse loop X := 0; end loop',
+            'no_bounds': 'for I in Integer range @loop X := 0; end loop', 'one_bound': 'for I in Integer range 1 @loop X := 0; end loop',
+            'no_high_bound': 'for I in Integer range 1 .. @loop X := 0; end loop', 'no_low_bound': 'for I in Integer range @.. 5 loop X := 0; end loop',
+            'three_bounds': 'for I in Integer range 1 .. 5 @.. 9 loop X := 0; end loop', 'relation_in_a_bound': 'for I in Integer range 1 .. 5 @> 2 loop X := 0; end loop',
+            'bounds_without_range': 'for I in Integer @1 .. 5 loop X := 0; end loop', 'range_attribute': "for I in Integer'@Range loop X := 0; end loop",
+            'no_loop': 'for I in Integer @X := 0; end loop', 'do': 'for I in Integer @do X := 0; end loop', 'statements_missing': 'for I in Integer loop @end loop',
+            'end_for': 'for I in Integer loop X := 0; end @for', 'name_at_the_end': 'for I in Integer loop X := 0; end loop @I', 'step': 'for I in Integer range 1 .. 5 @by 2 loop X := 0; end loop',
+            'while_after_bounds': 'for I in Integer range 1 .. 5 @while X > 0 loop X := 0; end loop'}.items():
+        yield unexpected(f'for_with_{name}.adb', longer(X, 'X from X', statement))
+    yield unexpected('a_marked_for.adb', longer(X, 'X from X', '--# @for I in Integer loop'))
+    yield unexpected('marked_bounds.adb', longer(X, 'X from X', 'for I in Integer\n--# @range 1 .. 5\nloop X := 0; end loop'))
+    yield unexpected('for_among_declarations.adb', longer(X, 'X from X', 'X := X', declared=['@for I in Integer loop X := 0; end loop']))
+    yield accepted('bounds_of_200_levels.adb', longer(X, 'X from X', 'if X > 0 then ' * 198 + counting('I in Integer range (1) .. 5', 'X := I') + '; end if' * 198), 2)
+    yield too_nested('bounds_of_201_levels.adb', longer(X, 'X from X', 'if X > 0 then ' * 199 + counting('I in Integer range (1) .. 5', 'X := I') + '; end if' * 199))
+    yield too_nested('for_of_201_levels.adb', longer(X, 'X from X', 'if X > 0 then ' * 200 + counting('I in Integer', 'X := I') + '; end if' * 200))
+
+
+def rules_of_counts():
+    """A parameter is a name of the statements of its loop alone, and is not assigned; bounds are of its type, which has an order."""
+    def refused_in(name, statement, *rules, params=X, derives='X from X', declared=()):
+        return refused(f'{name}.adb', longer(params, derives, statement, declared=declared), *rules)
+
+    yield refused_in('parameter_named_as_a_formal', counting('@X in Integer', 'X := 0'), 'N2')
+    yield refused_in('parameter_named_as_a_local', counting('@t in Integer', 'X := 0'), 'N2', declared=T)
+    yield refused_in('parameter_named_as_a_type', counting('@Small in Small', 'X := 0'), 'N2', declared=[TO_THREE])
+    yield refused_in('parameter_named_as_a_predefined_type', counting('@Integer in Integer', 'X := 0'), 'N2')
+    yield refused_in('parameter_named_as_a_predefined_literal', counting('@true in Integer', 'X := 0'), 'N2')
+    yield refused_in('parameter_named_as_one_outside', counting('I in Integer range 1 .. 2', counting('@I in Integer range 1 .. 2', 'X := 0')), 'N2')
+    yield accepted('parameters_of_one_name.adb', longer(X, 'X from X', counting('I in Integer range 1 .. 2', counting('J in Integer range 1 .. 2', 'X := J'), counting('J in Integer range 1 .. 2', 'X := J'))), 6)
+    yield accepted('parameter_named_as_the_procedure.adb', longer(X, 'X from X', counting('Inc in Integer range 1 .. 2', 'X := Inc')), 2)
+    yield refused_in('parameter_after_its_loop', counting('I in Integer range 1 .. 2', 'X := I') + '; X := @I', 'N1')
+    yield refused_in('parameter_in_its_own_bounds', counting('I in Integer range 1 .. @I', 'X := I'), 'N1')
+    yield refused_in('parameter_in_its_own_low_bound', counting('Inc in Integer range @Inc .. 2', 'X := 0'), 'N1')
+    yield refused_in('parameter_for_its_own_type', counting('I in @I', 'X := I'), 'N1')
+    yield refused_in('parameter_outside_in_bounds_beside', counting('I in Integer range 1 .. 2', 'X := I') + '; ' + counting('J in Integer range 1 .. @I', 'X := J'), 'N1')
+    yield refused_in('variable_for_the_type_of_a_parameter', counting('I in @X', 'X := I'), 'N3')
+    yield refused_in('literal_for_a_type', counting('I in @True', 'X := I'), 'N3')
+    yield refused_in('attribute_for_a_type', counting("I in @Integer'First", 'X := I'), 'N3')
+    yield refused_in('for_over_truth_values', counting('I in @Boolean', 'X := 0'), 'N10')
+    yield refused_in('for_over_a_range_of_truth_values', counting('I in @Boolean range False .. True', 'X := 0'), 'N10')
+    yield refused_in('low_bound_of_another_type', counting('I in Integer range @True .. 5', 'X := I'), 'N10')
+    yield refused_in('high_bound_of_another_type', counting('I in Integer range 1 .. @Red', 'X := I'), 'N10', declared=[HUES])
+    yield refused_in('number_for_a_literal', counting('I in Hue range Red .. @2', 'X := 0'), 'N10', declared=[HUES])
+    yield refused_in('wide_bound', counting('I in Integer range 1 .. @2147483648', 'X := I'), 'N12')
+    yield refused_in('static_fault_in_a_bound', counting('I in Integer range 1 @/ 0 .. 5', 'X := I'), 'N12')
+    yield refused_in('parameter_assigned', counting('I in Integer range 1 .. 2', '@I := 1', 'X := I'), 'U2')
+    yield refused_in('parameter_outside_assigned', counting('I in Integer range 1 .. 2', counting('J in Integer range 1 .. 2', '@I := J', 'X := I')), 'U2')
+    yield refused_in('parameter_assigned_under_an_if', counting('I in Integer range 1 .. 2', 'if X > 0 then @i := 1; end if', 'X := I'), 'U2')
+    yield refused_in('parameter_on_entry', counting('I in Integer range 1 .. 2', 'X := I', asserted='@I~ = 1'), 'N18')
+    yield refused_in('truth_value_for_a_parameter', counting('I in Integer range 1 .. 2', 'X := I', asserted='I @= True'), 'N10')
+    yield refused_in('parameter_named_twice_before_its_type', counting('@X in Y', 'X := 0'), 'N2')
+    yield refused_in('type_before_bounds', counting('I in @Y range Z .. X', 'X := 0'), 'N1')
+    yield refused_in('type_without_an_order_before_bounds', counting('I in @Boolean range Z .. X', 'X := 0'), 'N10')
+    yield refused_in('low_bound_before_high_bound', counting('I in Integer range @Z .. Y', 'X := 0'), 'N1')
+    yield refused_in('bounds_before_statements', counting('I in Integer range 1 .. @Z', 'X := Y'), 'N1')
+    yield refused_in('statements_of_a_for', counting('I in Integer range 1 .. 2', 'X := @Y'), 'N1')
+    yield refused_in('choices_over_a_parameter', counting('I in Small', '@case I is when 1 .. 2 => X := 0; end case'), 'N17', declared=[TO_THREE])
+    yield accepted('all_choices_over_a_parameter.adb', longer(OUT_X, 'X from', counting('I in Small', 'case I is when 1 .. 2 => X := 0; when 3 => X := I; end case'), declared=[TO_THREE]), 2)
+    yield accepted('for_over_literals.adb', longer(OUT_X, 'X from', counting('H in Hue', "X := Hue'Pos (H)"), declared=[HUES]), 1)
+    yield accepted('for_over_a_range_of_literals.adb', longer(X, 'X from X', counting('H in reverse Hue range Red .. Green', "X := Hue'Pos (H)"), declared=[HUES]), 2)
+    yield accepted('constant_for_a_bound.adb', longer(X, 'X from X', counting('I in Integer range 1 .. C', 'X := I'), declared=['C : constant Integer := 5']), 2)
+
+
+def flow_of_counts():
+    """What bounds read comes to all that the statements set, by the parameter and by the number of turns."""
+    A_XY, A_XYZ = 'A : in Integer; X, Y : in out Integer', 'A : in Integer; X, Y, Z : in out Integer'
+    to_a, small = 'I in Integer range 1 .. A', 'I in Small'
+    yield accepted('flow_of_bounds.adb', longer(A_AND_X, 'X from X, A', counting(to_a, 'X := 0')), 2)
+    yield accepted('flow_of_a_low_bound.adb', longer(A_AND_X, 'X from X, A', counting('I in Integer range A .. 5', 'X := 0')), 2)
+    yield refused('missing_flow_of_bounds.adb', longer(A_AND_X, '@X from X & null from A', counting(to_a, 'X := 0')), 'F1 missing: X from A')
+    yield refused('flow_of_bounds_past_the_targets.adb', longer(A_XY, 'X from X, A & @Y from Y, A', counting(to_a, 'X := I'), 'Y := Y'), 'F2 unused: Y from A')
+    yield accepted('flow_of_a_parameter.adb', longer(A_XY, 'X from X, A & Y from Y', counting(to_a, 'X := I'), 'Y := Y'), 4)
+    yield accepted('flow_through_turns.adb', longer(A_XYZ, 'X from X, A & Y from Y, X, A & Z from Z, Y, X, A', counting(to_a, 'Z := Y', 'Y := X', 'X := I')), 4)
+    yield refused('missing_flow_through_turns.adb', longer(A_XYZ, 'X from X, A & Y from Y, X, A & @Z from Z, Y, A', counting(to_a, 'Z := Y', 'Y := X', 'X := I')), 'F1 missing: Z from X')
+    yield accepted('flow_through_a_turn_at_least.adb', longer('X, Y : in out Integer', 'X from & Y from X & null from Y', counting(small, 'Y := X', 'X := I'), declared=[TO_THREE]), 2)
+    yield refused('flow_past_a_turn_at_least.adb', longer(X, '@X from X', counting(small, 'X := I'), declared=[TO_THREE]), 'F2 unused: X from X')
+    yield refused('flow_past_no_turn.adb', longer(X, '@X from & null from X', counting('I in Small range 1 .. 3', 'X := I'), declared=[TO_THREE]), 'F1 missing: X from X')
+    yield accepted('bounds_are_read_once.adb', longer(A_XY, 'X from X, Y & Y from Y, A', counting('I in Integer range 1 .. Y', 'X := 0', 'Y := A')), 3)
+    yield refused('flow_of_bounds_that_change.adb', longer(A_XY, '@X from X, Y, A & Y from Y, A', counting('I in Integer range 1 .. Y', 'X := 0', 'Y := A')), 'F2 unused: X from A')
+    yield accepted('parameter_outside_in_bounds.adb', longer(A_AND_X, 'X from X, A', counting(to_a, counting('J in Integer range 1 .. I', 'X := J'))), 3)
+    yield refused('missing_flow_of_a_parameter_outside.adb', longer(A_AND_X, '@X from X & null from A', counting(to_a, counting('J in Integer range 1 .. I', 'X := J'))), 'F1 missing: X from A')
+    yield refused('no_export_in_a_for.adb', longer(A_AND_X, 'X from X & null from A', '@' + counting(to_a, '@T := 1'), 'X := X', declared=T), 'F3', 'F3')
+    yield refused('literal_bounds_for_no_export.adb', longer(X, 'X from X', '@' + counting('I in Integer range 1 .. 5', '@T := 1'), 'X := X', declared=T), 'F3', 'F3')
+    yield refused('no_bounds_for_no_export.adb', longer(X, 'X from X', counting(small, '@T := 1'), 'X := X', declared=[TO_THREE, *T]), 'F3')
+    yield refused('for_over_nothing.adb', longer(X, 'X from X', '@' + counting('I in Integer range 1 .. 5', 'null'), 'X := X'), 'F3')
+    yield accepted('for_over_nothing_without_bounds.adb', longer(X, 'X from X', counting(small, 'null'), 'X := X', declared=[TO_THREE]), 1)
+    yield refused('for_that_sets_what_is_overwritten.adb', longer(OUT_X, 'X from', '@X := 1', counting(small, 'X := I'), declared=[TO_THREE]), 'F3')
+    yield accepted('for_that_may_leave_what_is_set.adb', longer(OUT_X, 'X from', 'X := 1', counting('I in Integer range 1 .. 5', 'X := I')), 3)
+    yield accepted('value_for_the_next_turn_of_a_for.adb', longer(X, 'X from X', 'T := X', counting('I in Integer range 1 .. 5', 'X := T', 'T := I'), declared=T), 4)
+    yield refused('value_for_no_turn_of_a_for.adb', longer(A_AND_X, 'X from X, A', counting(to_a, '@T := 1', 'T := A', 'X := T'), declared=T), 'F3')
+
+
+def unset_in_counts():
+    """A loop over a whole type has a turn; another need not. The parameter is set in its loop."""
+    to_a, small = 'I in Integer range 1 .. A', 'I in Small'
+    yield refused('set_in_a_for_only.adb', longer(A_TO_X, 'X from A', counting(to_a, 'T := I'), 'X := @T', declared=T), 'F4 unset: T')
+    yield refused('set_for_literal_bounds_only.adb', longer(OUT_X, 'X from', counting('I in Integer range 1 .. 5', 'T := I'), 'X := @T', declared=T), 'F4 unset: T')
+    yield accepted('set_in_a_for_over_a_subtype.adb', longer(OUT_X, 'X from', counting(small, 'T := I'), 'X := T', declared=[TO_THREE, *T]), 2)
+    yield refused('set_on_one_way_of_a_for.adb', longer(A_TO_X, 'X from A', counting(small, 'if A > 0 then T := I; end if'), 'X := @T', declared=[TO_THREE, *T]), 'F4 unset: T')
+    yield refused('set_in_a_later_turn_of_a_for.adb', longer(OUT_X, 'X from', counting(small, 'X := @T', 'T := I'), declared=[TO_THREE, *T]), 'F4 unset: T')
+    yield refused('bound_that_is_unset.adb', longer(X, 'X from X', counting('I in Integer range @T .. 5', 'T := I', 'X := T'), declared=T), 'F4 unset: T')
+    yield refused('bounds_that_are_unset.adb', longer(X, 'X from X', counting('I in Integer range @T .. @T', 'X := I'), declared=T), 'F4 unset: T', 'F4 unset: T')
+    yield refused('unset_in_an_assertion_of_a_for.adb', longer(OUT_X, 'X from', counting(small, 'X := I', asserted='@T = I'), declared=[TO_THREE, *T]), 'F4 unset: T')
+    yield accepted('set_by_a_for_inside.adb', longer(OUT_X, 'X from', counting(small, counting('J in Small', 'T := J')), 'X := T', declared=[TO_THREE, *T]), 2)
+    yield refused('set_by_a_for_that_may_have_no_turn.adb', longer(OUT_X, 'X from', counting(small, counting('J in Small range 1 .. I', 'T := J')), 'X := @T', declared=[TO_THREE, *T]), 'F4 unset: T')
+
+
+def conditions_of_counts():
+    """Bounds are evaluated once; where there is a value they lie in the type; the parameter lies between them in each turn."""
+    to_a, small = 'I in Integer range 1 .. A', 'I in Small'
+    yield left_at('sum_in_a_for.adb', longer(A_AND_X, 'X from X, A', counting(to_a, 'X := X <2o>+ I')), 3)
+    yield left_at('checks_of_bounds.adb', longer(A_AND_X, 'X from X, A', counting('I in Integer range A <1o>- 1 .. A <2o>+ 1', 'X := I')), 4)
+    yield left_at('bound_past_the_type.adb', longer(A_AND_X, 'X from X, A', counting('I in Small range <1r>1 .. A', 'X := I'), declared=[TO_THREE]), 2)
+    yield left_at('bound_before_the_type.adb', longer(A_AND_X, 'X from X, A', counting('I in Small range <1r>A .. 3', 'X := I'), declared=[TO_THREE]), 2)
+    yield left_at('literal_bounds_past_the_type.adb', longer(X, 'X from X', counting('I in Small range <1r>1 .. 4', 'X := I'), declared=[TO_THREE]), 2)
+    yield accepted('bounds_without_a_value.adb', longer(X, 'X from X', counting('I in Small range 9 .. 8', 'X := I'), declared=[TO_THREE]), 2)
+    yield accepted('bound_in_the_type.adb', longer(A_AND_X, 'X from X, A', counting('I in Small range 1 .. A', 'X := I'), pre='A <= 3', declared=[TO_THREE]), 2)
+    yield accepted('type_of_a_parameter.adb', longer('X : in out Positive', 'X from X', counting(small, 'X := I'), declared=[TO_THREE]).replace('X from X', 'X from & null from X'), 1)
+    yield accepted('parameter_between_its_bounds.adb', longer(A_AND_X, 'X from X, A', counting(to_a, '\n--# check 1 <= I and I <= A', '\nX := I')), 3)
+    yield accepted('parameter_between_bounds_in_reverse.adb', longer(A_AND_X, 'X from X, A', counting('I in reverse Integer range 1 .. A', '\n--# check 1 <= I and I <= A', '\nX := I')), 3)
+    yield examined('local_bound_is_lost.adb', longer(A_AND_X, 'X from X, A', 'T := A', counting('I in Integer range 1 .. T', '\n--# @check I <= T', '\nX := I'), declared=T), ('Inc', 4, (3, 'check')))
+    yield examined('export_for_a_bound_is_lost.adb', longer(X, 'X from X', counting('I in Integer range 1 .. X', '\n--# @check I <= X', '\nX := I')), ('Inc', 3, (2, 'check')))
+    yield accepted('sum_for_a_bound_stays.adb', longer(A_AND_X, 'X from X, A', counting('I in Integer range 1 .. A - 1', '\n--# check I <= A - 1', '\nX := I'), pre='A > 0'), 4)
+    yield accepted('low_bound_of_a_local.adb', longer(A_AND_X, 'X from X, A', 'T := 1', counting('I in Integer range T .. A', 'X := I'), declared=T), 3)
+    yield examined('value_before_a_for_is_lost.adb', longer(X, 'X from', 'X := 1', counting('I in Integer range 1 .. 5', '\n--# @check X = 1', '\nX := I')).replace('X from', 'X from & null from X'), ('Inc', 4, (3, 'check')))
+    # The assertion is after the statements: the start, a turn from it on, and what follows the loop.
+    yield accepted('assertion_of_a_for.adb', longer(X, 'X from X', counting('I in Integer range 1 .. 5', 'X := I', asserted='X = I')), 5)
+    yield accepted('assertion_of_a_for_in_reverse.adb', longer(X, 'X from X', counting('I in reverse Integer range 1 .. 5', 'X := I', asserted='X = I')), 5)
+    yield accepted('next_value_of_a_for.adb', longer(X, 'X from X', counting('I in Integer range 1 .. 5', '\n--# check I <= 5', '\nX := I', asserted='I >= 1')), 7)
+    yield accepted('next_value_of_a_for_in_reverse.adb', longer(X, 'X from X', counting('I in reverse Integer range 1 .. 5', '\n--# check I >= 1', '\nX := I', asserted='I <= 5')), 7)
+    yield examined('first_value_of_a_for.adb', longer(OUT_X, 'X from', counting(small, '\n--# @check I = 1', '\n--# assert True', '\nX := 0'), declared=[TO_THREE]), ('Inc', 5, (4, 'check')))
+    yield examined('first_value_of_a_for_in_reverse.adb', longer(OUT_X, 'X from', counting('I in reverse Small', '\n--# @check I = 3', '\n--# assert True', '\nX := 0'), declared=[TO_THREE]), ('Inc', 5, (4, 'check')))
+    yield examined('after_a_for.adb', longer(OUT_X, 'X from', counting(small, 'X := I', asserted='X = 1 or True'), '--# @check X = 3', declared=[TO_THREE]), ('Inc', 5, (5, 'check')))
+    yield accepted('past_a_for.adb', longer(A_AND_X, 'X from X, A', counting(to_a, 'X := 0', asserted='X = 0'), pre='X = 0', post='X = 0'), 7)
+    yield examined('past_a_for_that_has_no_turn.adb', longer(A_AND_X, 'X from X, A', counting(to_a, 'X := 0', asserted='X = 0'), post='X = 0').replace('post', '@post'), ('Inc', 7, (4, 'post')))
+    yield accepted('for_over_a_subtype_has_a_turn.adb', longer(OUT_X, 'X from', counting(small, 'X := 0', asserted='X = 0'), post='X = 0', declared=[TO_THREE]), 5)
+    yield accepted('facts_of_the_loop_outside.adb', longer(A_AND_X, 'X from X, A', counting(to_a, counting('J in Integer range 1 .. 5', '\n--# check 1 <= I and I <= A and J <= 5', '\nX := J'))), 4)
+    yield examined('bound_of_a_parameter_outside_is_lost.adb', longer(A_AND_X, 'X from X, A', counting(to_a, counting('J in Integer range 1 .. I', '\n--# @check J <= I', '\nX := J'))), ('Inc', 4, (3, 'check')))
+    yield accepted('for_over_literals_has_its_values.adb', longer(OUT_X, 'X from', counting('H in Hue', '\n--# check H >= Red and H <= Blue', "\nX := Hue'Pos (H)"), declared=[HUES]), 2)
+
+
+def paths_of_counts():
+    """A `for` with bounds has the paths of a `while`; one over a whole type none past it."""
+    ifs = ['if A > 0 then X := A; end if']
+    yield accepted('ten_ifs_in_a_for.adb', longer(A_AND_X, 'X from X, A', counting('I in Integer range 1 .. 5', *ifs * 10)), 1024)
+    yield too_many_paths('eleven_ifs_in_a_for.adb', longer(A_AND_X, 'X from X, A', counting('I in Integer range 1 .. 5', *ifs * 11)))
+    yield accepted('ten_ifs_in_a_for_over_a_subtype.adb', longer(A_AND_X, 'X from X, A', counting('I in Small', *ifs * 10), declared=[TO_THREE]), 1023)
+    yield too_many_paths('eleven_ifs_in_a_for_over_a_subtype.adb', longer(A_AND_X, 'X from X, A', counting('I in Small', *ifs * 11), declared=[TO_THREE]))
+
+
 # ---------------------------------------------------------------- the table
 
 GROUPS = (form, relations, simplifier, numbers, places, words, layout, comments, marks, other_bytes, tokens, grammar,
@@ -5550,7 +5754,8 @@ GROUPS = (form, relations, simplifier, numbers, places, words, layout, comments,
           initial_values, values_of_choices, rules_of_choices, conditions_of_cases, flow_of_cases, syntax_of_cases,
           places_of_checks, syntax_of_checks, syntax_of_predicates, cut_and_spoiled, rules_of_predicates, flow_of_checks,
           conditions_of_annotations, places_of_assertions, rules_of_assertions, facts_after_cuts, order_of_cuts,
-          syntax_of_loops, rules_of_loops, flow_of_loops, unset_in_loops, conditions_of_loops, paths_of_loops)
+          syntax_of_loops, rules_of_loops, flow_of_loops, unset_in_loops, conditions_of_loops, paths_of_loops,
+          syntax_of_counts, rules_of_counts, flow_of_counts, unset_in_counts, conditions_of_counts, paths_of_counts)
 CASES = tuple(case for group in GROUPS for case in group())
 
 

@@ -10,6 +10,11 @@ use Rattle.spx_tree.specs.declared.declaration.Decl.{Decl}
 use Rattle.spx_tree.specs.declared.declaration.Decl.TheVariants as decl
 use Rattle.spx_tree.specs.declared.declaration.TypeDef.{TypeDef}
 use Rattle.spx_tree.specs.declared.declaration.TypeDef.TheVariants as definition
+use Rattle.spx_tree.specs.declared.statement.Stmt.{Stmt}
+use Rattle.spx_tree.specs.declared.statement.Arm.{Arm}
+use Rattle.spx_tree.specs.declared.statement.Alternative.{Alternative}
+use Rattle.spx_tree.specs.declared.statement.Scheme.{Scheme}
+use Rattle.spx_tree.specs.declared.statement.Scheme.TheVariants as scheme
 use Rattle.spx_tree.specs.declared.subprogram.Param.{Param}
 use Rattle.spx_tree.specs.declared.subprogram.FormalPart.{FormalPart}
 use Rattle.spx_core.specs.declared.entity.VarId.{VarId}
@@ -21,22 +26,27 @@ use Rattle.spx_core.specs.declared.entity.TypeId.{TypeId}
 use Rattle.spx_core.specs.declared.entity.Subtype.{Subtype}
 use Rattle.spx_core.specs.declared.entity.Mode.{Mode}
 use Rattle.spx_core.specs.declared.entity.VarKind.{VarKind}
-use Rattle.spx_core.specs.declared.entity.VarKind.TheVariants.{Formal}
+use Rattle.spx_core.specs.declared.entity.VarKind.TheVariants.{Formal, Local, Initialized, LoopParameter}
 use Rattle.spx_core.specs.declared.entity.Object.{Object}
 use Rattle.spx_core.specs.declared.name.Defining.{Defining}
 use Rattle.spx_core.specs.declared.name.Reference.{Reference}
 use Rattle.spx_core.specs.declared.expression.CoreExpr.{CoreExpr}
 use Rattle.spx_core.specs.declared.statement.CoreRange.{CoreRange}
+use Rattle.spx_core.specs.declared.statement.CoreStmt.{CoreStmt}
+use Rattle.spx_core.specs.declared.statement.CoreArm.{CoreArm}
+use Rattle.spx_core.specs.declared.statement.CoreAlternative.{CoreAlternative}
+use Rattle.spx_core.specs.declared.dependency.CoreDerivesItem.{CoreDerivesItem}
 use Rattle.spx_core.specs.declared.program.TypeRow.{TypeRow}
 use Rattle.spx_core.specs.declared.program.Var.{Var}
 use Rattle.spx_core.specs.declared.program.Program.{Program}
 use Rattle.spx_core.specs.Formals.{stands_in}
 use Rattle.spx_core.specs.Regions.{Region, Regions}
-use Rattle.spx_core.specs.Resolved.{around_formals, around_names, bounded, constant_of, counted, Counts, declared_by, declared_by_decls, declared_by_params, declaring, declaring_all, defining, defining_all, enumeration_type, id_at, integer_type, local_kind, meant_at, mode_of, narrowed, object_of, params_of, positions, resolved_decl, resolved_decls, resolved_expr, resolved_formal_part, resolved_param, resolved_params, resolved_range, resolved_reference, resolved_type, rows_by, rows_by_decls, standard_types, static_value, subtype_of, var_in, var_of, variable_at, variables_by, variables_by_decls}
-use Rattle.spx_core.specs.Scopes.{IsLocalKind, object_declared, object_in}
+use Rattle.spx_core.specs.Resolved.{around_formals, around_names, bounded, constant_of, counted, Counts, declared_by, declared_by_decls, declared_by_params, declared_by_scheme, declaring, declaring_all, defining, defining_all, enumeration_type, id_at, integer_type, local_kind, meant_at, mode_of, narrowed, object_of, params_of, positions, resolved_decl, resolved_decls, resolved_expr, resolved_formal_part, resolved_param, resolved_params, resolved_range, resolved_reference, resolved_scheme, resolved_type, rows_by, rows_by_decls, standard_types, static_value, subtype_of, var_in, var_of, variable_at, variables_by, variables_by_decls}
+use Rattle.spx_core.specs.Scopes.{object_declared, object_in}
 use Rattle.spx_core.proofs.RegionLaws.{AllHold, HasRow, Holds, HoldsIn, row_at, declaring_all_holds, hidden_holds, root_holds, predefined_have_rows, standard_holds, subtype_holds}
 use Rattle.spx_core.proofs.Callers.ListTests.{each_append, each_split}
 use Rattle.spx_core.proofs.Callers.Variables.{same_var}
+use Rattle.spx_core.proofs.ResolvedParts.{IsStmt, null, assignment, if_then, if_else, case_of, loop, assertion, IsArm, arm, IsAlternative, alternative, AreStmts, no_stmts, more_stmts, AreArms, no_arms, more_arms, AreAlternatives, no_alternatives, more_alternatives}
 
 -- these declare variables of such a kind, at this position and the next ones
 abbrev pub Consecutive : (Object → Type 0) → ℕ → List Defining → Type 0
@@ -63,8 +73,18 @@ defining_consecutive K region object position (name ∷ names) is =
 abbrev pub IsFormal : List TypeRow → Object → Type 0
 IsFormal more object = ((mode : Mode) × (object.kind ≡ Formal mode)) × HasRow more object.subtype
 
+-- a local is declared without a value or with one
+abbrev pub IsLocalKind : VarKind → Type 0
+IsLocalKind (Formal mode) = ⊥
+IsLocalKind Local = ⊤
+IsLocalKind (Initialized n) = ⊤
+IsLocalKind LoopParameter = ⊥
+
 abbrev pub IsLocal : List TypeRow → Object → Type 0
 IsLocal more object = IsLocalKind object.kind × HasRow more object.subtype
+
+abbrev pub IsLoopParameter : List TypeRow → Object → Type 0
+IsLoopParameter more object = (object.kind ≡ LoopParameter) × HasRow more object.subtype
 
 kind_is_local : (value : Option CoreExpr) → IsLocalKind (local_kind value)
 kind_is_local None = tt
@@ -77,7 +97,7 @@ Any v object = ⊤
 -- ---- names that denote such variables and subtypes
 
 module _ (T : Subtype → Type 0) where
-  consecutive_known : (K : Object → Type 0) (position : ℕ) (ds : List Defining) → Consecutive K position ds → AllHold T Any ds
+  pub consecutive_known : (K : Object → Type 0) (position : ℕ) (ds : List Defining) → Consecutive K position ds → AllHold T Any ds
   consecutive_known K position [] each = tt
   consecutive_known K position (d ∷ ds) each = (subst (λ e. Holds T Any (Some e)) (sym each.0.2) tt, consecutive_known K (position + 1) ds each.1)
 
@@ -196,6 +216,51 @@ module _ (more : List TypeRow) where
           consecutive = consecutive_append (IsLocal more) before.vars (variables_by one) (variables_by_decls later) first.consecutive rest.consecutive;
           holds = λ P h. let parts = each_split (λ (x : Defining). Holds (HasRow more) P (Some x.entity)) (variables_by one) (variables_by_decls later) h in each_append (λ (x : Defining). Holds (HasRow more) P (Some x.entity)) (declared_by one) (declared_by_decls later) (first.holds P parts.0) (rest.holds P parts.1);
         }
+
+    -- ---- what loops declare
+
+    scheme_consecutive : (region : Region) (position : ℕ) (x : Scheme) → HoldsIn (HasRow more) Any region → Consecutive (IsLoopParameter more) position (declared_by_scheme (resolved_scheme outer region position x))
+    scheme_consecutive region position (scheme.While place condition) own = tt
+    scheme_consecutive region position (scheme.For c) own =
+        ((object_of LoopParameter (resolved_reference (around_names outer region (c.name ∷ [])) c.type_name), (refl, type_has_row region (c.name ∷ []) c.type_name own), refl), tt)
+
+    module _ (items : List CoreDerivesItem) where
+      mutual
+        stmt_consecutive : {region : Region} {position : ℕ} {s : Stmt} {c : CoreStmt} {ds : List Defining} → IsStmt items outer region position s c ds → HoldsIn (HasRow more) Any region → Consecutive (IsLoopParameter more) position ds
+        stmt_consecutive (null region position place) own = tt
+        stmt_consecutive (assignment region position target value) own = tt
+        stmt_consecutive (if_then region position arms closing cores ds are) own = arms_consecutive are own
+        stmt_consecutive (if_else region position arms stmts closing cores body ds es are others) own = consecutive_append (IsLoopParameter more) position ds es (arms_consecutive are own) (stmts_consecutive others own)
+        stmt_consecutive (case_of region position place selector alternatives closing cores ds are) own = alternatives_consecutive are own
+        stmt_consecutive (loop region position x word stmts closing body ds are) own =
+            let declared = declared_by_scheme (resolved_scheme outer region position x) in
+            let first = scheme_consecutive region position x own in
+            let along = declaring_all_holds (HasRow more) Any region declared own (consecutive_known (HasRow more) (IsLoopParameter more) position declared first) in
+            consecutive_append (IsLoopParameter more) position declared ds first (stmts_consecutive are along)
+        stmt_consecutive (assertion region position kind place condition) own = tt
+
+        arm_consecutive : {region : Region} {position : ℕ} {a : Arm} {c : CoreArm} {ds : List Defining} → IsArm items outer region position a c ds → HoldsIn (HasRow more) Any region → Consecutive (IsLoopParameter more) position ds
+        arm_consecutive (arm region position place condition stmts body ds are) own = stmts_consecutive are own
+
+        alternative_consecutive : {region : Region} {position : ℕ} {a : Alternative} {c : CoreAlternative} {ds : List Defining} → IsAlternative items outer region position a c ds → HoldsIn (HasRow more) Any region
+            → Consecutive (IsLoopParameter more) position ds
+        alternative_consecutive (alternative region position choices stmts body ds are) own = stmts_consecutive are own
+
+        pub stmts_consecutive : {region : Region} {position : ℕ} {stmts : List Stmt} {cores : List CoreStmt} {ds : List Defining} → AreStmts items outer region position stmts cores ds → HoldsIn (HasRow more) Any region
+            → Consecutive (IsLoopParameter more) position ds
+        stmts_consecutive (no_stmts region position) own = tt
+        stmts_consecutive (more_stmts region position s stmts c cores ds es first rest) own = consecutive_append (IsLoopParameter more) position ds es (stmt_consecutive first own) (stmts_consecutive rest own)
+
+        arms_consecutive : {region : Region} {position : ℕ} {arms : List Arm} {cores : List CoreArm} {ds : List Defining} → AreArms items outer region position arms cores ds → HoldsIn (HasRow more) Any region
+            → Consecutive (IsLoopParameter more) position ds
+        arms_consecutive (no_arms region position) own = tt
+        arms_consecutive (more_arms region position a arms c cores ds es first rest) own = consecutive_append (IsLoopParameter more) position ds es (arm_consecutive first own) (arms_consecutive rest own)
+
+        alternatives_consecutive : {region : Region} {position : ℕ} {alternatives : List Alternative} {cores : List CoreAlternative} {ds : List Defining} → AreAlternatives items outer region position alternatives cores ds
+            → HoldsIn (HasRow more) Any region → Consecutive (IsLoopParameter more) position ds
+        alternatives_consecutive (no_alternatives region position) own = tt
+        alternatives_consecutive (more_alternatives region position a alternatives c cores ds es first rest) own =
+            consecutive_append (IsLoopParameter more) position ds es (alternative_consecutive first own) (alternatives_consecutive rest own)
 
   pub formals_consecutive : (name : Identifier) (position : ℕ) (part : Option FormalPart) → Consecutive (IsFormal more) position (declared_by_params (params_of (option_map (resolved_formal_part name position) part)))
   formals_consecutive name position None = tt

@@ -1,5 +1,5 @@
 -- Resolution adds to the units what names denote, and nothing else.
-use Rattle.std.proofs.Common.{◌≡◌, ℕ, ◌+◌, List, [], ◌∷◌, ◌++◌, length, map, Option, Some, None, option_map, ap, ap₂, ◌∙◌, sym, subst, refl}
+use Rattle.std.proofs.Common.{◌≡◌, ℕ, ◌+◌, List, [], ◌∷◌, length, map, Option, Some, None, option_map, ap, ap₂, ◌∙◌, sym, subst, refl}
 use denote.Hole.Carrier.{roll}
 use Rattle.spx_tree.specs.declared.expression.Identifier.{Identifier}
 use Rattle.spx_tree.specs.declared.expression.Name.{Name}
@@ -12,11 +12,12 @@ use Rattle.spx_tree.specs.declared.declaration.Range.{Range}
 use Rattle.spx_tree.specs.declared.declaration.TypeDef.{TypeDef}
 use Rattle.spx_tree.specs.declared.declaration.TypeDef.TheVariants as definition
 use Rattle.spx_core.specs.declared.entity.Meaning.{Meaning}
-use Rattle.spx_tree.specs.declared.statement.Stmt.{Stmt, Stmt-F, map-Stmt, roll-Stmt, ind-Stmt, fold-roll-Stmt}
+use Rattle.spx_tree.specs.declared.statement.Stmt.{Stmt}
 use Rattle.spx_tree.specs.declared.statement.Stmt.TheVariants as stmt
-use Rattle.spx_tree.specs.declared.statement.Arm.{Arm, Arm-F, map-Arm, roll-Arm, fold-roll-Arm}
-use Rattle.spx_tree.specs.declared.statement.Alternative.{Alternative, Alternative-F, map-Alternative, roll-Alternative, fold-roll-Alternative}
+use Rattle.spx_tree.specs.declared.statement.Arm.{Arm}
+use Rattle.spx_tree.specs.declared.statement.Alternative.{Alternative}
 use Rattle.spx_tree.specs.declared.statement.Choice.{Choice}
+use Rattle.spx_tree.specs.declared.statement.Count.{Count}
 use Rattle.spx_tree.specs.declared.statement.Scheme.{Scheme}
 use Rattle.spx_tree.specs.declared.statement.Scheme.TheVariants as scheme
 use Rattle.spx_tree.specs.declared.annotation.Exports.{Exports}
@@ -33,16 +34,18 @@ use Rattle.spx_core.specs.declared.expression.CoreExpr.{CoreExpr, CoreExpr-F, ro
 use Rattle.spx_core.specs.declared.statement.CoreStmt.{CoreStmt, CoreStmt-F, map-CoreStmt, roll-CoreStmt, fold-roll-CoreStmt}
 use Rattle.spx_core.specs.declared.statement.CoreArm.{CoreArm, fold-roll-CoreArm}
 use Rattle.spx_core.specs.declared.statement.CoreAlternative.{CoreAlternative, fold-roll-CoreAlternative}
+use Rattle.spx_core.specs.declared.name.Defining.{Defining}
 use Rattle.spx_core.specs.declared.dependency.CoreDerivesItem.{CoreDerivesItem}
 use Rattle.spx_core.specs.declared.program.Program.{Program}
 use Rattle.spx_core.specs.Regions.{Region, Regions, hidden}
-use Rattle.spx_core.specs.Erased.{Visible, erased, erased_alternative, erased_alternative_step, erased_arm, erased_arm_step, erased_choice, erased_decl, erased_range, erased_defining, erased_derives, erased_exports, erased_expr, erased_formal_part, erased_item, erased_param, erased_predicate, erased_reference, erased_scheme, erased_step, erased_stmt, erased_stmt_step, erased_sub, unit_of}
+use Rattle.spx_core.specs.Erased.{Visible, erased, erased_alternative, erased_alternative_step, erased_arm, erased_arm_step, erased_choice, erased_count, erased_decl, erased_range, erased_defining, erased_derives, erased_exports, erased_expr, erased_formal_part, erased_item, erased_param, erased_predicate, erased_reference, erased_scheme, erased_step, erased_stmt, erased_stmt_step, erased_sub, unit_of}
 use Rattle.spx_core.specs.Judged.{breach_in}
 use Rattle.spx_core.specs.Statements.{Typed, first_name_breach, judged_program}
 use Rattle.spx_core.proofs.Callers.Bodies.{all_are_units}
 use Rattle.spx_core.proofs.Judgements.{unbroken}
+use Rattle.spx_core.proofs.ResolvedParts.{IsStmt, null, assignment, if_then, if_else, case_of, loop, assertion, IsArm, arm, IsAlternative, alternative, AreStmts, no_stmts, more_stmts, AreArms, no_arms, more_arms, AreAlternatives, no_alternatives, more_alternatives, stmts_are}
 use Rattle.spx_core.specs.Resolved as resolved
-use Rattle.spx_core.specs.Resolved.{after_formals, around_body, around_formals, around_names, at_start, counted, counted_sub, Counts, declared_by, declaring, declaring_all, defining, defining_all, exported_names, formal_names, is_changed_by, items_for, local_names, meant_at, place_of_null, resolved_alternative, resolved_arm, resolved_choice, resolved_decl, resolved_decls, resolved_derives, resolved_expr, resolved_formal_part, resolved_function, resolved_in, resolved_item, resolved_name, resolved_param, resolved_params, resolved_predicate, resolved_range, resolved_reference, resolved_scheme, resolved_stmt, resolved_sub, resolved_subs, resolved_type, unit_name}
+use Rattle.spx_core.specs.Resolved.{after_formals, around_body, around_formals, around_names, at_start, counted, counted_sub, Counts, declared_by, declaring, declaring_all, defining, defining_all, exported_names, formal_names, is_changed_by, items_for, meant_at, place_of_null, resolved_choice, resolved_decl, resolved_decls, resolved_derives, resolved_expr, resolved_formal_part, resolved_function, resolved_in, resolved_item, resolved_name, resolved_param, resolved_params, resolved_predicate, resolved_range, resolved_reference, resolved_scheme, resolved_sub, resolved_subs, resolved_type, unit_name, own_region, declared_before, resolved_count}
 
 -- ---- names and expressions
 
@@ -102,12 +105,7 @@ kept_names region meaning position [] = refl
 kept_names region meaning position (name ∷ names) =
     ap (λ rest. name ∷ rest) (kept_names (declaring region (defining region (meant_at meaning position) name)) meaning (position + 1) names)
 
--- ---- statements and annotations
-
--- parts of which each is kept
-all_kept : {T C : Type 0} (back : C → T) (core : T → C) (ts : List ((t : T) × (back (core t) ≡ t))) → map back (map core (map (λ t. t.0) ts)) ≡ map (λ t. t.0) ts
-all_kept back core [] = refl
-all_kept {T} back core (t ∷ ts) = ap₂ (λ (x : T) (xs : List T). x ∷ xs) t.1 (all_kept back core ts)
+-- ---- choices and annotations
 
 erased_stmt_at : (y : CoreStmt-F CoreStmt CoreAlternative CoreArm) → erased_stmt (roll-CoreStmt y) ≡ erased_stmt_step (map-CoreStmt CoreStmt CoreAlternative CoreArm Stmt Alternative Arm erased_stmt erased_alternative erased_arm y)
 erased_stmt_at y = fold-roll-CoreStmt Stmt Alternative Arm erased_stmt_step erased_alternative_step erased_arm_step y
@@ -119,9 +117,6 @@ module _ (regions : Regions) where
 
   kept_choices : (choices : Option (List Choice)) → option_map (map erased_choice) (option_map (map (resolved_choice regions)) choices) ≡ choices
   kept_choices choices = kept_if_there (map erased_choice) (map (resolved_choice regions)) (kept_each erased_choice (resolved_choice regions) kept_choice) choices
-
-  kept_scheme : (written : Scheme) → erased_scheme (resolved_scheme regions written) ≡ written
-  kept_scheme (scheme.While place condition) = ap (scheme.While place) (kept_expr regions condition)
 
   kept_exports : (exports : Exports) → erased_exports (place_of_null exports) (map (resolved_reference regions) (exported_names exports)) ≡ exports
   kept_exports (exported.Names names) = ap exported.Names (kept_each erased_reference (resolved_reference regions) (kept_reference regions) names)
@@ -140,70 +135,62 @@ module _ (regions : Regions) where
 kept_predicate : (items : List CoreDerivesItem) (regions : Regions) (predicate : Predicate) → erased_predicate (resolved_predicate items regions predicate) ≡ predicate
 kept_predicate items regions predicate = ap (λ (e : Expr). let x : Predicate = record { place = predicate.place; condition = e } in x) (kept_in items regions predicate.condition)
 
-module _ (items : List CoreDerivesItem) (regions : Regions) where
-  abbrev KeptStmt : Stmt → Type 0
-  KeptStmt s = erased_stmt (resolved_stmt items regions s) ≡ s
+-- ---- statements
 
-  abbrev KeptAlternative : Alternative → Type 0
-  KeptAlternative a = erased_alternative (resolved_alternative items regions a) ≡ a
+kept_range : (regions : Regions) (range : Range) → erased_range (resolved_range regions range) ≡ range
+kept_range regions range = ap₂ (λ (low high : Expr). let x : Range = record { low = low; high = high } in x) (kept_expr regions range.low) (kept_expr regions range.high)
 
-  abbrev KeptArm : Arm → Type 0
-  KeptArm a = erased_arm (resolved_arm items regions a) ≡ a
+module _ (outer : Regions) where
+  kept_count : (region : Region) (position : ℕ) (c : Count) → erased_count (resolved_count outer region position c) ≡ c
+  kept_count region position c =
+      let around = around_names outer region (c.name ∷ []) in
+      ap₂ (λ (n : Name) (b : Option Range). let x : Count = record { place = c.place; name = c.name; word = c.word; is_reverse = c.is_reverse; type_name = n; bounds = b } in x) (kept_reference around c.type_name)
+      (kept_if_there erased_range (resolved_range around) (kept_range around) c.bounds)
 
-  abbrev ShownStmt : Type 0
-  ShownStmt = (s : Stmt) × KeptStmt s
+  kept_scheme : (region : Region) (position : ℕ) (written : Scheme) → erased_scheme (resolved_scheme outer region position written) ≡ written
+  kept_scheme region position (scheme.While place condition) = ap (scheme.While place) (kept_expr (region ∷ outer) condition)
+  kept_scheme region position (scheme.For c) = ap scheme.For (kept_count region position c)
 
-  abbrev ShownAlternative : Type 0
-  ShownAlternative = (a : Alternative) × KeptAlternative a
+module _ (items : List CoreDerivesItem) (outer : Regions) where
+  mutual
+    unfolding roll-CoreStmt roll
 
-  abbrev ShownArm : Type 0
-  ShownArm = (a : Arm) × KeptArm a
+    kept_stmt : {region : Region} {position : ℕ} {s : Stmt} {c : CoreStmt} {ds : List Defining} → IsStmt items outer region position s c ds → erased_stmt c ≡ s
+    kept_stmt (null region position place) = erased_stmt_at (CoreStmt-F.Null place)
+    kept_stmt (assignment region position target value) =
+        erased_stmt_at (CoreStmt-F.Assignment (resolved_reference (region ∷ outer) target) (resolved_expr (region ∷ outer) value)) ∙ ap₂ stmt.Assignment (kept_reference (region ∷ outer) target) (kept_expr (region ∷ outer) value)
+    kept_stmt (if_then region position arms closing cores ds are) = erased_stmt_at (CoreStmt-F.If cores None closing) ∙ ap (λ (a : List Arm). stmt.If a None closing) (kept_arms are)
+    kept_stmt (if_else region position arms stmts closing cores body ds es are others) =
+        erased_stmt_at (CoreStmt-F.If cores (Some body) closing) ∙ ap₂ (λ (a : List Arm) (o : List Stmt). stmt.If a (Some o) closing) (kept_arms are) (kept_stmts others)
+    kept_stmt (case_of region position place selector alternatives closing cores ds are) =
+        erased_stmt_at (CoreStmt-F.Case place (resolved_expr (region ∷ outer) selector) cores closing) ∙ ap₂ (λ (e : Expr) (a : List Alternative). stmt.Case place e a closing) (kept_expr (region ∷ outer) selector) (kept_alternatives are)
+    kept_stmt (loop region position scheme word stmts closing body ds are) =
+        erased_stmt_at (CoreStmt-F.Loop (resolved_scheme outer region position scheme) word body closing) ∙ ap₂ (λ (x : Scheme) (b : List Stmt). stmt.Loop x word b closing) (kept_scheme outer region position scheme) (kept_stmts are)
+    kept_stmt (assertion region position kind place condition) =
+        erased_stmt_at (CoreStmt-F.Assertion kind place (resolved_in items (region ∷ outer) condition)) ∙ ap (stmt.Assertion kind place) (kept_in items (region ∷ outer) condition)
 
-  abbrev bare_stmt : Stmt-F ShownStmt ShownAlternative ShownArm → Stmt-F Stmt Alternative Arm
-  bare_stmt y = map-Stmt ShownStmt ShownAlternative ShownArm Stmt Alternative Arm (λ e. e.0) (λ e. e.0) (λ e. e.0) y
+    kept_arm : {region : Region} {position : ℕ} {a : Arm} {c : CoreArm} {ds : List Defining} → IsArm items outer region position a c ds → erased_arm c ≡ a
+    kept_arm (arm region position place condition stmts body ds are) =
+        fold-roll-CoreArm Stmt Alternative Arm erased_stmt_step erased_alternative_step erased_arm_step _
+        ∙ ap₂ (λ (c : Expr) (ss : List Stmt). let x : Arm = record { place = place; condition = c; body = ss } in x) (kept_expr (region ∷ outer) condition) (kept_stmts are)
 
-  stmt_at_layer : (y : Stmt-F ShownStmt ShownAlternative ShownArm)
-      → erased_stmt (resolved.stmt_step items regions (map-Stmt Stmt Alternative Arm CoreStmt CoreAlternative CoreArm (resolved_stmt items regions) (resolved_alternative items regions) (resolved_arm items regions) (bare_stmt y))) ≡ roll-Stmt (bare_stmt y)
-  unfolding roll-Stmt roll-CoreStmt roll
-  stmt_at_layer (Stmt-F.Null place) = erased_stmt_at (CoreStmt-F.Null place)
-  stmt_at_layer (Stmt-F.Assignment target value) =
-      erased_stmt_at (CoreStmt-F.Assignment (resolved_reference regions target) (resolved_expr regions value)) ∙ ap₂ stmt.Assignment (kept_reference regions target) (kept_expr regions value)
-  stmt_at_layer (Stmt-F.If arms None closing) =
-      erased_stmt_at (CoreStmt-F.If (map (resolved_arm items regions) (map (λ a. a.0) arms)) None closing)
-      ∙ ap (λ (a : List Arm). stmt.If a None closing) (all_kept erased_arm (resolved_arm items regions) arms)
-  stmt_at_layer (Stmt-F.If arms (Some stmts) closing) =
-      erased_stmt_at (CoreStmt-F.If (map (resolved_arm items regions) (map (λ a. a.0) arms)) (Some (map (resolved_stmt items regions) (map (λ s. s.0) stmts))) closing)
-      ∙ ap₂ (λ (a : List Arm) (o : List Stmt). stmt.If a (Some o) closing) (all_kept erased_arm (resolved_arm items regions) arms) (all_kept erased_stmt (resolved_stmt items regions) stmts)
-  stmt_at_layer (Stmt-F.Case place selector alternatives closing) =
-      erased_stmt_at (CoreStmt-F.Case place (resolved_expr regions selector) (map (resolved_alternative items regions) (map (λ a. a.0) alternatives)) closing)
-      ∙ ap₂ (λ (e : Expr) (a : List Alternative). stmt.Case place e a closing) (kept_expr regions selector) (all_kept erased_alternative (resolved_alternative items regions) alternatives)
-  stmt_at_layer (Stmt-F.Loop scheme word body closing) =
-      erased_stmt_at (CoreStmt-F.Loop (resolved_scheme regions scheme) word (map (resolved_stmt items regions) (map (λ s. s.0) body)) closing)
-      ∙ ap₂ (λ (x : Scheme) (b : List Stmt). stmt.Loop x word b closing) (kept_scheme regions scheme) (all_kept erased_stmt (resolved_stmt items regions) body)
-  stmt_at_layer (Stmt-F.Assertion kind place condition) =
-      erased_stmt_at (CoreStmt-F.Assertion kind place (resolved_in items regions condition)) ∙ ap (stmt.Assertion kind place) (kept_in items regions condition)
+    kept_alternative : {region : Region} {position : ℕ} {a : Alternative} {c : CoreAlternative} {ds : List Defining} → IsAlternative items outer region position a c ds → erased_alternative c ≡ a
+    kept_alternative (alternative region position choices stmts body ds are) =
+        fold-roll-CoreAlternative Stmt Alternative Arm erased_stmt_step erased_alternative_step erased_arm_step _
+        ∙ ap₂ (λ (c : Option (List Choice)) (ss : List Stmt). let x : Alternative = record { choices = c; body = ss } in x) (kept_choices (region ∷ outer) choices) (kept_stmts are)
 
-  stmt_layer : (y : Stmt-F ShownStmt ShownAlternative ShownArm) → KeptStmt (roll-Stmt (bare_stmt y))
-  stmt_layer y =
-      ap erased_stmt (fold-roll-Stmt CoreStmt CoreAlternative CoreArm (resolved.stmt_step items regions) (resolved.alternative_step regions) (resolved.arm_step regions) (bare_stmt y)) ∙ stmt_at_layer y
+    kept_stmts : {region : Region} {position : ℕ} {stmts : List Stmt} {cores : List CoreStmt} {ds : List Defining} → AreStmts items outer region position stmts cores ds → map erased_stmt cores ≡ stmts
+    kept_stmts (no_stmts region position) = refl
+    kept_stmts (more_stmts region position s stmts c cores ds es first rest) = ap₂ (λ (x : Stmt) (xs : List Stmt). x ∷ xs) (kept_stmt first) (kept_stmts rest)
 
-  alternative_layer : (y : Alternative-F ShownStmt ShownAlternative ShownArm)
-      → KeptAlternative (roll-Alternative (map-Alternative ShownStmt ShownAlternative ShownArm Stmt Alternative Arm (λ e. e.0) (λ e. e.0) (λ e. e.0) y))
-  alternative_layer y =
-      ap erased_alternative (fold-roll-Alternative CoreStmt CoreAlternative CoreArm (resolved.stmt_step items regions) (resolved.alternative_step regions) (resolved.arm_step regions) _)
-      ∙ fold-roll-CoreAlternative Stmt Alternative Arm erased_stmt_step erased_alternative_step erased_arm_step _
-      ∙ ap₂ (λ (c : Option (List Choice)) (ss : List Stmt). record { choices = c; body = ss }) (kept_choices regions y.choices) (all_kept erased_stmt (resolved_stmt items regions) y.body)
+    kept_arms : {region : Region} {position : ℕ} {arms : List Arm} {cores : List CoreArm} {ds : List Defining} → AreArms items outer region position arms cores ds → map erased_arm cores ≡ arms
+    kept_arms (no_arms region position) = refl
+    kept_arms (more_arms region position a arms c cores ds es first rest) = ap₂ (λ (x : Arm) (xs : List Arm). x ∷ xs) (kept_arm first) (kept_arms rest)
 
-  arm_layer : (y : Arm-F ShownStmt ShownAlternative ShownArm) → KeptArm (roll-Arm (map-Arm ShownStmt ShownAlternative ShownArm Stmt Alternative Arm (λ e. e.0) (λ e. e.0) (λ e. e.0) y))
-  arm_layer y =
-      ap erased_arm (fold-roll-Arm CoreStmt CoreAlternative CoreArm (resolved.stmt_step items regions) (resolved.alternative_step regions) (resolved.arm_step regions) _)
-      ∙ fold-roll-CoreArm Stmt Alternative Arm erased_stmt_step erased_alternative_step erased_arm_step _
-      ∙ ap₂ (λ (c : Expr) (ss : List Stmt). record { place = y.place; condition = c; body = ss }) (kept_expr regions y.condition) (all_kept erased_stmt (resolved_stmt items regions) y.body)
-
-  kept_stmt : (s : Stmt) → KeptStmt s
-  kept_stmt =
-      ind-Stmt KeptStmt KeptAlternative KeptArm (λ x y is. subst (λ z. KeptStmt (roll-Stmt z)) is (stmt_layer y)) (λ x y is. subst (λ z. KeptAlternative (roll-Alternative z)) is (alternative_layer y))
-      (λ x y is. subst (λ z. KeptArm (roll-Arm z)) is (arm_layer y))
+    kept_alternatives : {region : Region} {position : ℕ} {alternatives : List Alternative} {cores : List CoreAlternative} {ds : List Defining} → AreAlternatives items outer region position alternatives cores ds
+        → map erased_alternative cores ≡ alternatives
+    kept_alternatives (no_alternatives region position) = refl
+    kept_alternatives (more_alternatives region position a alternatives c cores ds es first rest) = ap₂ (λ (x : Alternative) (xs : List Alternative). x ∷ xs) (kept_alternative first) (kept_alternatives rest)
 
 -- ---- declarations
 
@@ -216,9 +203,6 @@ module _ (outer : Regions) where
   kept_params : (region : Region) (position : ℕ) (params : List Param) → map erased_param (resolved_params outer region position params) ≡ params
   kept_params region position [] = refl
   kept_params region position (p ∷ ps) = ap₂ (λ (x : Param) (xs : List Param). x ∷ xs) (kept_param region position p) (kept_params (declaring_all region (resolved_param outer region position p).names) (position + length (resolved_param outer region position p).names) ps)
-
-  kept_range : (regions : Regions) (range : Range) → erased_range (resolved_range regions range) ≡ range
-  kept_range regions range = ap₂ (λ (low high : Expr). let x : Range = record { low = low; high = high } in x) (kept_expr regions range.low) (kept_expr regions range.high)
 
   kept_type : (region : Region) (before : Counts) (name : Identifier) (d : TypeDef) → erased_decl (resolved_type outer region before name d) ≡ decl.FullType name d
   kept_type region before name (definition.Integer range) = ap (λ (r : Range). decl.FullType name (definition.Integer r)) (kept_range (around_names outer region (name ∷ [])) range)
@@ -255,14 +239,13 @@ kept_sub library position before s =
     let name = unit_name library position s in
     let sub = resolved_sub name before s in
     let annotations = declaring_all [] (formal_names sub) ∷ around_body name in
-    let body = declaring_all [] (formal_names sub ++ local_names sub) ∷ around_body name in
     let part = kept_if_there erased_formal_part (resolved_formal_part s.name before.vars) (kept_formal_part s.name before.vars) s.formal_part in
     let derives = kept_if_there erased_derives (resolved_derives annotations) (kept_derives annotations) s.derives in
     let items = items_for name sub.formal_part s in
     let pre = kept_if_there erased_predicate (resolved_predicate [] annotations) (kept_predicate [] annotations) s.pre in
     let post = kept_if_there erased_predicate (resolved_predicate items annotations) (kept_predicate items annotations) s.post in
     let decls = kept_decls (around_body name) (declaring_all [] (formal_names sub)) (after_formals before sub.formal_part) s.declarations in
-    let stmts = kept_each erased_stmt (resolved_stmt items body) (kept_stmt items body) s.statements in
+    let stmts = kept_stmts items (around_body name) (stmts_are items (around_body name) s.statements (own_region sub.formal_part sub.declarations) (before.vars + length (declared_before sub.formal_part sub.declarations))) in
     let all : erased_sub sub ≡ record { place = s.place; name = s.name; formal_part = s.formal_part; derives = s.derives; pre = s.pre; post = s.post; declarations = s.declarations; statements = s.statements; end = s.end; end_name = s.end_name } = cc in
     all
 

@@ -1,6 +1,7 @@
 pub mod Callers
 mod Elements
 mod Judgements
+mod ResolvedParts
 mod Erasure
 mod TypedLaws
 mod RegionLaws

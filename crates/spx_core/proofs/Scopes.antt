@@ -1,18 +1,18 @@
 -- The names of a subprogram denote the variables that it declares, each with what is declared of it.
-use Rattle.std.proofs.Common.{◌≡◌, ℕ, ◌+◌, Bool, true, false, ◌||◌, List, [], ◌∷◌, ◌++◌, length, map, Option, Some, None, option_map, is_some, refl, sym, ap, ap₂, subst, ◌∙◌, ⊎_elim, append_assoc, length-append}
-use denote.Hole.Carrier.{roll}
-use Rattle.std.specs.Prelude.{⊤, All, ◌&&◌, option_and_then, slice_get}
+use Rattle.std.proofs.Common.{◌≡◌, ℕ, ◌+◌, Bool, true, false, ◌||◌, List, [], ◌∷◌, ◌++◌, length, map, Option, Some, None, option_map, is_some, refl, sym, ap, ap₂, subst, ◌∙◌, ⊎_elim, append_assoc, length-append, ◌≤◌, take, drop, inl, inr, arith}
+use Rattle.std.specs.Prelude.{⊤, All, ◌&&◌, option_and_then, slice_get, ◌==◌}
 use Rattle.std.specs.List.{AllByRecursion, flat_map, list_any}
-use Rattle.std.proofs.lemmas.Bool.{and_parts, false_from_ne_true, or_cases, or_left, or_right}
-use Rattle.std.proofs.lemmas.List.{length-map, map-append}
+use Rattle.std.proofs.lemmas.Bool.{and_parts, false_from_ne_true, or_cases, or_left, or_right, eqb-true}
+use Rattle.std.proofs.lemmas.List.{length-map, map-append, take-append-drop}
 use Rattle.std.proofs.Common.{get_or}
-use Rattle.std.proofs.lemmas.List.Elements.{All-from_recursion, All-map}
+use Rattle.std.proofs.lemmas.List.Elements.{All-from_recursion, All-map, All-append}
+use Rattle.std.proofs.lemmas.List.Folds.{list_any-append}
 use Rattle.spx_text.specs.declared.place.Place.{Place}
 use Rattle.spx_tree.specs.declared.expression.Name.{Name}
 use Rattle.spx_tree.specs.declared.expression.Expr.{Expr}
-use Rattle.spx_tree.specs.declared.statement.Stmt.{Stmt, Stmt-F, map-Stmt, roll-Stmt, ind-Stmt, fold-roll-Stmt}
-use Rattle.spx_tree.specs.declared.statement.Arm.{Arm, Arm-F, map-Arm, roll-Arm, fold-roll-Arm}
-use Rattle.spx_tree.specs.declared.statement.Alternative.{Alternative, Alternative-F, map-Alternative, roll-Alternative, fold-roll-Alternative}
+use Rattle.spx_tree.specs.declared.statement.Stmt.{Stmt}
+use Rattle.spx_tree.specs.declared.statement.Arm.{Arm}
+use Rattle.spx_tree.specs.declared.statement.Alternative.{Alternative}
 use Rattle.spx_tree.specs.declared.statement.Scheme.TheVariants as scheme
 use Rattle.spx_tree.specs.declared.annotation.DerivesItem.{DerivesItem}
 use Rattle.spx_tree.specs.declared.annotation.Derives.{Derives}
@@ -20,45 +20,52 @@ use Rattle.spx_tree.specs.declared.annotation.Predicate.{Predicate}
 use Rattle.spx_tree.specs.declared.subprogram.Subprogram.{Subprogram}
 use Rattle.spx_tree.specs.declared.subprogram.Unit.{Unit}
 use Rattle.spx_tree.specs.declared.subprogram.Unit.TheVariants as unit
+use Rattle.spx_tree.specs.declared.declaration.Range.{Range}
 use Rattle.spx_core.specs.declared.entity.VarId.{VarId}
 use Rattle.spx_core.specs.declared.entity.Mode.{Mode}
 use Rattle.spx_core.specs.declared.entity.VarKind.{VarKind}
-use Rattle.spx_core.specs.declared.entity.VarKind.TheVariants.{Formal}
+use Rattle.spx_core.specs.declared.entity.VarKind.TheVariants.{Formal, Local, Initialized, LoopParameter}
 use Rattle.spx_core.specs.declared.entity.Object.{Object}
 use Rattle.spx_core.specs.declared.entity.Subtype.{Subtype}
 use Rattle.spx_core.specs.declared.name.CoreName.{CoreName}
 use Rattle.spx_core.specs.declared.name.Defining.{Defining}
 use Rattle.spx_core.specs.declared.name.Reference.{Reference}
 use Rattle.spx_core.specs.declared.expression.CoreExpr.{CoreExpr}
-use Rattle.spx_core.specs.declared.statement.CoreStmt.{CoreStmt, CoreStmt-F, map-CoreStmt, roll-CoreStmt, fold-roll-CoreStmt}
-use Rattle.spx_core.specs.declared.statement.CoreArm.{CoreArm, fold-roll-CoreArm}
-use Rattle.spx_core.specs.declared.statement.CoreAlternative.{CoreAlternative, fold-roll-CoreAlternative}
+use Rattle.spx_core.specs.declared.statement.CoreStmt.{CoreStmt}
+use Rattle.spx_core.specs.declared.statement.CoreArm.{CoreArm}
+use Rattle.spx_core.specs.declared.statement.CoreAlternative.{CoreAlternative}
 use Rattle.spx_core.specs.declared.statement.CoreChoice.{CoreChoice}
+use Rattle.spx_core.specs.declared.statement.CoreStmt.TheVariants as stmt
+use Rattle.spx_core.specs.declared.statement.CoreScheme.TheVariants as core_scheme
+use Rattle.spx_core.specs.declared.statement.CoreRange.{CoreRange}
 use Rattle.spx_core.specs.declared.dependency.CoreDerivesItem.{CoreDerivesItem}
 use Rattle.spx_core.specs.declared.program.TypeRow.{TypeRow}
 use Rattle.spx_core.specs.declared.program.Var.{Var}
 use Rattle.spx_core.specs.declared.program.Program.{Program}
 use Rattle.spx_core.specs.declared.subprogram.CorePredicate.{CorePredicate}
 use Rattle.spx_core.specs.declared.subprogram.Sub.{Sub}
-use Rattle.spx_core.specs.Commands.{Command, Skip, Set, Then, Choose, Select, Assertion, Repeat, Tested, Counted, Alternatives, Last, When, alternative, alternatives_of, arm_before, arms_before, chain, command, commands, select}
+use Rattle.spx_core.specs.Commands.{Command, Skip, Set, Then, Choose, Select, Assertion, Repeat, Tested, Counted, Alternatives, Last, When, alternatives_of, arm_before, arms_before, command, commands, select}
 use Rattle.spx_core.specs.Commands as commands_of
 use Rattle.spx_core.specs.Reads.{names_read}
-use Rattle.spx_core.specs.Uses.{denotes, mentions, uses}
+use Rattle.spx_core.specs.Uses.{denotes, mentions, uses, is_same}
 use Rattle.spx_core.specs.Dependency.{items_of}
 use Rattle.spx_core.specs.Mirror.DerivesItems.{has_export, has_import}
-use Rattle.spx_core.specs.Formals.{is_formal, is_local, mode_in, mode_of, stands_in}
-use Rattle.spx_core.specs.Effects.{Read, counts, effect, effect_among, is_read, reads, reads_of, sets}
+use Rattle.spx_core.specs.Formals.{is_formal, is_local, mode_in, mode_of, stands_in, inner, is_inner, is_loop_parameter}
+use Rattle.spx_core.specs.Effects.{Read, counts, effect, effect_among, is_read, reads, reads_of, sets, assigns, reads_in, reads_of_range}
 use Rattle.spx_core.specs.Obeyed.{mode_denoted}
 use Rattle.spx_core.specs.Regions.{Region, Regions}
-use Rattle.spx_core.specs.Resolved.{after_formals, around_body, at_start, counted_sub, Counts, declaring, declaring_all, exported_names, formal_names, items_for, local_names, local_variables, own_types, own_vars, resolved_alternative, resolved_arm, resolved_derives, resolved_expr, resolved_in, resolved_item, resolved_predicate, resolved_reference, resolved_scheme, resolved_stmt, resolved_sub, resolved_subs, standard_types, unit_name, var_of}
+use Rattle.spx_core.specs.Resolved.{after_formals, around_body, at_start, counted_sub, Counts, declaring, declaring_all, exported_names, formal_names, items_for, local_names, local_variables, own_types, own_vars, resolved_derives, resolved_expr, resolved_in, resolved_item, resolved_predicate, resolved_reference, resolved_sub, resolved_subs, standard_types, unit_name, var_of, around_names, declared_by_count, loop_names, object_of, positions, resolved_choice, resolved_count, resolved_range}
 use Rattle.spx_core.specs.Resolved as resolved
 use Rattle.spx_core.specs.Erased.{Visible, erased}
-use Rattle.spx_core.specs.Scopes.{AllAreAsDeclared, AllHaveTheirModes, AreAsDeclared, HasItsMode, HaveTheirModes, IsAsDeclared, IsLocalKind, KeepsParameters, Scoped, TargetsHaveTheirModes, kind_of, object_declared, object_in}
+use Rattle.spx_core.specs.Scopes.{AllAreAsDeclared, AllHaveTheirModes, AreAsDeclared, HasItsMode, HaveTheirModes, IsAsDeclared, Scoped, TargetsHaveTheirModes, kind_of, object_declared, object_in, IsInnerKind, LoopsDiffer, names_in_bounds}
 use Rattle.spx_core.proofs.Callers.Pairs.{exports_are, imports_are}
-use Rattle.spx_core.proofs.Callers.ListTests.{each_append, some_mapped}
-use Rattle.spx_core.proofs.Callers.FlowLaws.{reads_uses}
-use Rattle.spx_core.proofs.RegionLaws.{AllHold, HasRow, Holds, HoldsIn, around_holds, inside_holds, mentioned_variable, predefined_have_rows, read_known, reference_variable, root_holds, used_variable}
-use Rattle.spx_core.proofs.Consecutive.{Any, Consecutive, Known, positions_differ, IsFormal, IsLocal, at_position, decls_known, first_positions, formals_consecutive, formals_known, is_at, last_positions, rows}
+use Rattle.spx_core.proofs.Callers.ListTests.{each_append, some_mapped, each_split}
+use Rattle.spx_core.proofs.Callers.FlowLaws.{reads_uses, sets_by}
+use Rattle.spx_core.proofs.Callers.Variables.{same_var}
+use Rattle.spx_core.proofs.Callers.CommandForms.{command-Null, command-Assignment, command-If, command-If-else, command-Case, command-While, command-For, command-Assertion, command_arm, command_alternative}
+use Rattle.spx_core.proofs.RegionLaws.{AllHold, HasRow, Holds, HoldsIn, around_holds, inside_holds, mentioned_variable, predefined_have_rows, read_known, reference_variable, root_holds, used_variable, declaring_all_holds, hidden_holds}
+use Rattle.spx_core.proofs.ResolvedParts.{IsStmt, null, assignment, if_then, if_else, case_of, loop, assertion, IsArm, arm, IsAlternative, alternative, AreStmts, no_stmts, more_stmts, AreArms, no_arms, more_arms, AreAlternatives, no_alternatives, more_alternatives, stmts_are}
+use Rattle.spx_core.proofs.Consecutive.{Any, Consecutive, Known, positions_differ, IsFormal, IsLocal, at_position, decls_known, first_positions, formals_consecutive, formals_known, is_at, last_positions, rows, IsLocalKind, IsLoopParameter, consecutive_known, stmts_consecutive}
 
 mode_in_row : (kind : VarKind) (row : Option Var) → option_map (λ (var : Var). var.kind) row ≡ Some kind → option_and_then (λ (var : Var). mode_in var.kind) row ≡ mode_in kind
 mode_in_row kind (Some var) is = ap mode_in (let e : var.kind ≡ kind = cc in e)
@@ -82,207 +89,262 @@ mode_is p v kind is = mode_in_row kind (slice_get p.vars v.0) is
 
 -- ---- names of annotations and of statements
 
-abbrev IsTargetIn : Regions → Reference → Type 0
-IsTargetIn regions target = (name : Name) × (target ≡ resolved_reference regions name)
+-- one thing holds of the types, and one of the variables, that regions declare
+module _ (T : Subtype → Type 0) (P : VarId → Object → Type 0) where
+  -- a target is what some name is in such regions
+  abbrev IsTarget : Reference → Type 0
+  IsTarget target = (regions : Regions) × (name : Name) × AllByRecursion (HoldsIn T P) regions × (target ≡ resolved_reference regions name)
 
--- whichever items say of what values on entry may be named
-abbrev IsValueIn : Regions → CoreExpr → Type 0
-IsValueIn regions value = (items : List CoreDerivesItem) × (e : Expr) × (value ≡ resolved_in items regions e)
+  -- a value is what some expression is there, whichever items say of what values on entry may be named
+  abbrev IsValue : CoreExpr → Type 0
+  IsValue value = (regions : Regions) × (items : List CoreDerivesItem) × (e : Expr) × AllByRecursion (HoldsIn T P) regions × (value ≡ resolved_in items regions e)
 
--- the targets and the expressions of a command are what names and expressions are in these regions
-abbrev mutual
-  Resolves : Regions → Command → Type 0
-  Resolves regions Skip = ⊤
-  Resolves regions (Set target value) = IsTargetIn regions target × IsValueIn regions value
-  Resolves regions (Then a b) = Resolves regions a × Resolves regions b
-  Resolves regions (Choose place condition a b) = IsValueIn regions condition × Resolves regions a × Resolves regions b
-  Resolves regions (Select place selector alternatives) = IsValueIn regions selector × AllResolve regions alternatives
-  Resolves regions (Assertion kind place condition) = IsValueIn regions condition
-  Resolves regions (Repeat (Tested place condition) body) = IsValueIn regions condition × Resolves regions body
-  -- no statement is such a loop
-  Resolves regions (Repeat (Counted c) body) = ⊥
+  abbrev AreValues : Option CoreRange → Type 0
+  AreValues None = ⊤
+  AreValues (Some range) = IsValue range.low × IsValue range.high
 
-  AllResolve : Regions → Alternatives → Type 0
-  AllResolve regions (Last choices a) = Resolves regions a
-  AllResolve regions (When choices a rest) = Resolves regions a × AllResolve regions rest
+  -- The targets and the expressions of a command are such names and values. The parameters of its loops stand at this position or after it, those of loops
+  -- in a loop after its own.
+  abbrev mutual
+    Resolves : ℕ → Command → Type 0
+    Resolves low Skip = ⊤
+    Resolves low (Set target value) = IsTarget target × IsValue value
+    Resolves low (Then a b) = Resolves low a × Resolves low b
+    Resolves low (Choose place condition a b) = IsValue condition × Resolves low a × Resolves low b
+    Resolves low (Select place selector alternatives) = IsValue selector × AllResolve low alternatives
+    Resolves low (Assertion kind place condition) = IsValue condition
+    Resolves low (Repeat (Tested place condition) body) = IsValue condition × Resolves low body
+    Resolves low (Repeat (Counted c) body) = (low ≤ c.parameter.0) × P c.parameter (object_of LoopParameter c.type_name) × AreValues c.bounds × Resolves (c.parameter.0 + 1) body
 
--- what alternatives are folded into
-abbrev Chosen : Type 0
-Chosen = Option (List CoreChoice) × Command
+    AllResolve : ℕ → Alternatives → Type 0
+    AllResolve low (Last choices a) = Resolves low a
+    AllResolve low (When choices a rest) = Resolves low a × AllResolve low rest
 
-command_at : (y : CoreStmt-F CoreStmt CoreAlternative CoreArm) → command (roll-CoreStmt y) ≡ commands_of.stmt_step (map-CoreStmt CoreStmt CoreAlternative CoreArm Command Chosen (Command → Command) command alternative arm_before y)
-command_at y = fold-roll-CoreStmt Command Chosen (Command → Command) commands_of.stmt_step commands_of.alternative_step commands_of.arm_step y
+  bounds_are_values : (regions : Regions) → AllByRecursion (HoldsIn T P) regions → (bounds : Option Range) → AreValues (option_map (resolved_range regions) bounds)
+  bounds_are_values regions all None = tt
+  bounds_are_values regions all (Some range) = ((regions, [], range.low, all, refl), (regions, [], range.high, all, refl))
 
-module _ (items : List CoreDerivesItem) (regions : Regions) where
-  abbrev StmtResolves : Stmt → Type 0
-  StmtResolves s = Resolves regions (command (resolved_stmt items regions s))
+  -- ---- so it is with the commands of resolved statements
 
-  abbrev AlternativeResolves : Alternative → Type 0
-  AlternativeResolves a = Resolves regions (alternative (resolved_alternative items regions a)).1
+  module _ (items : List CoreDerivesItem) (outer : Regions) (known : AllByRecursion (HoldsIn T P) outer) where
+    abbrev value_in : (region : Region) → HoldsIn T P region → (e : Expr) → IsValue (resolved_expr (region ∷ outer) e)
+    value_in region own e = (region ∷ outer, [], e, (own, known), refl)
 
-  abbrev ArmResolves : Arm → Type 0
-  ArmResolves a = (otherwise : Command) → Resolves regions otherwise → Resolves regions (arm_before (resolved_arm items regions a) otherwise)
+    mutual
+      stmt_resolves : (low : ℕ) {region : Region} {position : ℕ} {s : Stmt} {c : CoreStmt} {ds : List Defining} → IsStmt items outer region position s c ds → low ≤ position → HoldsIn T P region → AllHold T P ds → Resolves low (command c)
+      stmt_resolves low (null region position place) at own all = subst (Resolves low) (sym (command-Null place)) tt
+      stmt_resolves low (assignment region position target value) at own all =
+          subst (Resolves low) (sym (command-Assignment (resolved_reference (region ∷ outer) target) (resolved_expr (region ∷ outer) value))) ((region ∷ outer, target, (own, known), refl), value_in region own value)
+      stmt_resolves low (if_then region position arms closing cores ds are) at own all =
+          subst (Resolves low) (sym (command-If (stmt.If cores None closing) cores None closing refl refl)) (arms_resolve low are at own all Skip tt)
+      stmt_resolves low (if_else region position arms stmts closing cores body ds es are others) at own all =
+          let parts = each_split (λ (d : Defining). Holds T P (Some d.entity)) ds es all in
+          subst (Resolves low) (sym (command-If-else (stmt.If cores (Some body) closing) cores (Some body) body closing refl refl))
+          (arms_resolve low are at own parts.0 (commands body) (stmts_resolve low others (omega (arith, at)) own parts.1))
+      stmt_resolves low (case_of region position place selector alternatives closing cores ds are) at own all =
+          let value = resolved_expr (region ∷ outer) selector in
+          subst (Resolves low) (sym (command-Case (stmt.Case place value cores closing) place value cores closing refl)) (select_resolves low place value (value_in region own selector) are at own all)
+      stmt_resolves low (loop region position (scheme.While place condition) word stmts closing body ds are) at own all =
+          let value = resolved_expr (region ∷ outer) condition in
+          let x = core_scheme.While place value in
+          subst (Resolves low) (sym (command-While (stmt.Loop x word body closing) x word body closing place value refl refl)) (value_in region own condition, stmts_resolve low are (omega (arith, at)) own all)
+      stmt_resolves low (loop region position (scheme.For written) word stmts closing body ds are) at own all =
+          let c = resolved_count outer region position written in
+          let x = core_scheme.For c in
+          let d = declared_by_count c in
+          let around = around_names outer region (written.name ∷ []) in
+          let inside = declaring_all_holds T P region (d ∷ []) own (all.0, tt) in
+          let bounds = bounds_are_values around (hidden_holds T P (written.name ∷ []), (own, known)) written.bounds in
+          subst (Resolves low) (sym (command-For (stmt.Loop x word body closing) x word body closing c refl refl)) (at, all.0, bounds, stmts_resolve (position + 1) are (omega arith) inside all.1)
+      stmt_resolves low (assertion region position kind place condition) at own all =
+          subst (Resolves low) (sym (command-Assertion kind place (resolved_in items (region ∷ outer) condition))) (region ∷ outer, items, condition, (own, known), refl)
 
-  abbrev StmtShown : Type 0
-  StmtShown = (s : Stmt) × StmtResolves s
+      arm_resolves : (low : ℕ) {region : Region} {position : ℕ} {a : Arm} {c : CoreArm} {ds : List Defining} → IsArm items outer region position a c ds → low ≤ position → HoldsIn T P region → AllHold T P ds
+          → (otherwise : Command) → Resolves low otherwise → Resolves low (arm_before c otherwise)
+      arm_resolves low (arm region position place condition stmts body ds are) at own all otherwise rest =
+          subst (Resolves low) (sym (command_arm (record { place = place; condition = resolved_expr (region ∷ outer) condition; body = body }) otherwise)) (value_in region own condition, stmts_resolve low are at own all, rest)
 
-  abbrev AlternativeShown : Type 0
-  AlternativeShown = (a : Alternative) × AlternativeResolves a
+      alternative_resolves : (low : ℕ) {region : Region} {position : ℕ} {a : Alternative} {c : CoreAlternative} {ds : List Defining} → IsAlternative items outer region position a c ds → low ≤ position → HoldsIn T P region → AllHold T P ds
+          → Resolves low (commands_of.alternative c).1
+      alternative_resolves low (alternative region position choices stmts body ds are) at own all =
+          subst (Resolves low) (sym (command_alternative (record { choices = option_map (map (resolved_choice (region ∷ outer))) choices; body = body }))) (stmts_resolve low are at own all)
 
-  abbrev ArmShown : Type 0
-  ArmShown = (a : Arm) × ArmResolves a
+      stmts_resolve : (low : ℕ) {region : Region} {position : ℕ} {stmts : List Stmt} {cores : List CoreStmt} {ds : List Defining} → AreStmts items outer region position stmts cores ds → low ≤ position → HoldsIn T P region → AllHold T P ds
+          → Resolves low (commands cores)
+      stmts_resolve low (no_stmts region position) at own all = tt
+      stmts_resolve low (more_stmts region position s stmts c cores ds es first rest) at own all =
+          let parts = each_split (λ (d : Defining). Holds T P (Some d.entity)) ds es all in
+          (stmt_resolves low first at own parts.0, stmts_resolve low rest (omega (arith, at)) own parts.1)
 
-  chain_resolves : (stmts : List StmtShown) → Resolves regions (chain (map command (map (resolved_stmt items regions) (map (λ s. s.0) stmts))))
-  chain_resolves [] = tt
-  chain_resolves (s ∷ stmts) = (s.1, chain_resolves stmts)
+      arms_resolve : (low : ℕ) {region : Region} {position : ℕ} {arms : List Arm} {cores : List CoreArm} {ds : List Defining} → AreArms items outer region position arms cores ds → low ≤ position → HoldsIn T P region → AllHold T P ds
+          → (otherwise : Command) → Resolves low otherwise → Resolves low (arms_before otherwise (map arm_before cores))
+      arms_resolve low (no_arms region position) at own all otherwise last = last
+      arms_resolve low (more_arms region position a arms c cores ds es first rest) at own all otherwise last =
+          let parts = each_split (λ (d : Defining). Holds T P (Some d.entity)) ds es all in
+          arm_resolves low first at own parts.0 (arms_before otherwise (map arm_before cores)) (arms_resolve low rest (omega (arith, at)) own parts.1 otherwise last)
 
-  arms_resolve : (otherwise : Command) → Resolves regions otherwise → (arms : List ArmShown) → Resolves regions (arms_before otherwise (map arm_before (map (resolved_arm items regions) (map (λ a. a.0) arms))))
-  arms_resolve otherwise known [] = known
-  arms_resolve otherwise known (a ∷ arms) = a.1 _ (arms_resolve otherwise known arms)
+      -- what comes first is known
+      alternatives_resolve : (low : ℕ) {region : Region} {position : ℕ} {alternatives : List Alternative} {cores : List CoreAlternative} {ds : List Defining} → AreAlternatives items outer region position alternatives cores ds → low ≤ position
+          → HoldsIn T P region → AllHold T P ds → (chosen : Option (List CoreChoice) × Command) → Resolves low chosen.1 → AllResolve low (alternatives_of chosen (map commands_of.alternative cores))
+      alternatives_resolve low (no_alternatives region position) at own all chosen before = before
+      alternatives_resolve low (more_alternatives region position a alternatives c cores ds es first rest) at own all chosen before =
+          let parts = each_split (λ (d : Defining). Holds T P (Some d.entity)) ds es all in
+          (before, alternatives_resolve low rest (omega (arith, at)) own parts.1 (commands_of.alternative c) (alternative_resolves low first at own parts.0))
 
-  alternatives_resolve : (first : AlternativeShown) (rest : List AlternativeShown)
-      → AllResolve regions (alternatives_of (alternative (resolved_alternative items regions first.0)) (map alternative (map (resolved_alternative items regions) (map (λ a. a.0) rest))))
-  alternatives_resolve first [] = first.1
-  alternatives_resolve first (second ∷ rest) = (first.1, alternatives_resolve second rest)
+      select_resolves : (low : ℕ) (place : Place) (selector : CoreExpr) → IsValue selector → {region : Region} {position : ℕ} {alternatives : List Alternative} {cores : List CoreAlternative} {ds : List Defining}
+          → AreAlternatives items outer region position alternatives cores ds → low ≤ position → HoldsIn T P region → AllHold T P ds → Resolves low (select place selector (map commands_of.alternative cores))
+      select_resolves low place selector value (no_alternatives region position) at own all = tt
+      select_resolves low place selector value (more_alternatives region position a alternatives c cores ds es first rest) at own all =
+          let parts = each_split (λ (d : Defining). Holds T P (Some d.entity)) ds es all in
+          (value, alternatives_resolve low rest (omega (arith, at)) own parts.1 (commands_of.alternative c) (alternative_resolves low first at own parts.0))
 
-  select_resolves : (place : Place) (selector : Expr) (alternatives : List AlternativeShown)
-      → Resolves regions (select place (resolved_expr regions selector) (map alternative (map (resolved_alternative items regions) (map (λ a. a.0) alternatives))))
-  select_resolves place selector [] = tt
-  select_resolves place selector (first ∷ rest) = (([], selector, refl), alternatives_resolve first rest)
+  -- ---- variables of a relation
 
-  abbrev bare_stmt : Stmt-F StmtShown AlternativeShown ArmShown → Stmt-F Stmt Alternative Arm
-  bare_stmt y = map-Stmt StmtShown AlternativeShown ArmShown Stmt Alternative Arm (λ e. e.0) (λ e. e.0) (λ e. e.0) y
+  module _ (regions : Regions) (all : AllByRecursion (HoldsIn T P) regions) (v : VarId) where
+    imported_variable : (item : DerivesItem) → has_import v (resolved_item regions item) ≡ true → (object : Object) × P v object
+    imported_variable item h =
+        ⊎_elim (mentioned_variable T P regions all v item.imports.names) (λ itself. mentioned_variable T P regions all v (exported_names item.exports) (and_parts (is_some item.imports.itself) (has_export v (resolved_item regions item)) itself).1)
+        (or_cases (mentions v (map (resolved_reference regions) item.imports.names)) (is_some item.imports.itself && has_export v (resolved_item regions item)) h)
 
-  stmt_at_layer : (y : Stmt-F StmtShown AlternativeShown ArmShown)
-      → Resolves regions (command (resolved.stmt_step items regions (map-Stmt Stmt Alternative Arm CoreStmt CoreAlternative CoreArm (resolved_stmt items regions) (resolved_alternative items regions) (resolved_arm items regions) (bare_stmt y))))
-  unfolding roll-CoreStmt roll
-  stmt_at_layer (Stmt-F.Null place) = subst (Resolves regions) (sym (command_at (CoreStmt-F.Null place))) tt
-  stmt_at_layer (Stmt-F.Assignment target value) =
-      subst (Resolves regions) (sym (command_at (CoreStmt-F.Assignment (resolved_reference regions target) (resolved_expr regions value)))) ((target, refl), ([], value, refl))
-  stmt_at_layer (Stmt-F.If arms None closing) =
-      subst (Resolves regions) (sym (command_at (CoreStmt-F.If (map (resolved_arm items regions) (map (λ a. a.0) arms)) None closing))) (arms_resolve Skip tt arms)
-  stmt_at_layer (Stmt-F.If arms (Some stmts) closing) =
-      subst (Resolves regions) (sym (command_at (CoreStmt-F.If (map (resolved_arm items regions) (map (λ a. a.0) arms)) (Some (map (resolved_stmt items regions) (map (λ s. s.0) stmts))) closing)))
-      (arms_resolve _ (chain_resolves stmts) arms)
-  stmt_at_layer (Stmt-F.Case place selector alternatives closing) =
-      subst (Resolves regions) (sym (command_at (CoreStmt-F.Case place (resolved_expr regions selector) (map (resolved_alternative items regions) (map (λ a. a.0) alternatives)) closing))) (select_resolves place selector alternatives)
-  stmt_at_layer (Stmt-F.Loop (scheme.While place condition) word body closing) =
-      subst (Resolves regions) (sym (command_at (CoreStmt-F.Loop (resolved_scheme regions (scheme.While place condition)) word (map (resolved_stmt items regions) (map (λ s. s.0) body)) closing)))
-      (([], condition, refl), chain_resolves body)
-  stmt_at_layer (Stmt-F.Assertion kind place condition) =
-      subst (Resolves regions) (sym (command_at (CoreStmt-F.Assertion kind place (resolved_in items regions condition)))) (items, condition, refl)
+    in_relation : (test : CoreDerivesItem → Bool) → ((item : DerivesItem) → test (resolved_item regions item) ≡ true → (object : Object) × P v object)
+        → (derives : Option Derives) → list_any test (items_of (option_map (resolved_derives regions) derives)) ≡ true → (object : Object) × P v object
+    in_relation test known None h = absurd cc
+    in_relation test known (Some derives) h = let one = some_mapped test (resolved_item regions) derives.items h in known one.0 one.1
 
-  stmt_layer : (y : Stmt-F StmtShown AlternativeShown ArmShown) → StmtResolves (roll-Stmt (bare_stmt y))
-  stmt_layer y =
-      subst (λ s. Resolves regions (command s)) (sym (fold-roll-Stmt CoreStmt CoreAlternative CoreArm (resolved.stmt_step items regions) (resolved.alternative_step regions) (resolved.arm_step regions) _)) (stmt_at_layer y)
+  -- ---- variables of a command
 
-  alternative_layer : (y : Alternative-F StmtShown AlternativeShown ArmShown)
-      → AlternativeResolves (roll-Alternative (map-Alternative StmtShown AlternativeShown ArmShown Stmt Alternative Arm (λ e. e.0) (λ e. e.0) (λ e. e.0) y))
-  alternative_layer y =
-      subst (λ a. Resolves regions (alternative a).1) (sym (fold-roll-Alternative CoreStmt CoreAlternative CoreArm (resolved.stmt_step items regions) (resolved.alternative_step regions) (resolved.arm_step regions) _))
-      (subst (λ (c : Chosen). Resolves regions c.1) (sym (fold-roll-CoreAlternative Command Chosen (Command → Command) commands_of.stmt_step commands_of.alternative_step commands_of.arm_step _)) (chain_resolves y.body))
+  module _ (v : VarId) where
+    value_variable : (value : CoreExpr) → IsValue value → is_read v (reads_of value) ≡ true → (object : Object) × P v object
+    value_variable value written h = used_variable T P written.0 written.3 written.1 v written.2 (ap (uses v) (sym written.4) ∙ sym (reads_uses v value) ∙ h)
 
-  arm_layer : (y : Arm-F StmtShown AlternativeShown ArmShown) → ArmResolves (roll-Arm (map-Arm StmtShown AlternativeShown ArmShown Stmt Alternative Arm (λ e. e.0) (λ e. e.0) (λ e. e.0) y))
-  arm_layer y otherwise known =
-      subst (λ a. Resolves regions (arm_before a otherwise)) (sym (fold-roll-Arm CoreStmt CoreAlternative CoreArm (resolved.stmt_step items regions) (resolved.alternative_step regions) (resolved.arm_step regions) _))
-      (subst (λ f. Resolves regions (f otherwise)) (sym (fold-roll-CoreArm Command Chosen (Command → Command) commands_of.stmt_step commands_of.alternative_step commands_of.arm_step _))
-      (([], y.condition, refl), chain_resolves y.body, known))
+    bounds_variable : (bounds : Option CoreRange) → AreValues bounds → is_read v (reads_in (option_map reads_of_range bounds)) ≡ true → (object : Object) × P v object
+    bounds_variable None written h = absurd cc
+    bounds_variable (Some range) written h =
+        let reads_it : Read → Bool = λ (r : Read). r.1.0 == v.0 in
+        ⊎_elim (value_variable range.low written.0) (value_variable range.high written.1) (or_cases (is_read v (reads_of range.low)) (is_read v (reads_of range.high)) (sym (list_any-append reads_it (reads_of range.low) (reads_of range.high)) ∙ h))
 
-  stmt_resolves : (s : Stmt) → StmtResolves s
-  stmt_resolves =
-      ind-Stmt StmtResolves AlternativeResolves ArmResolves (λ x y is. subst (λ z. StmtResolves (roll-Stmt z)) is (stmt_layer y))
-      (λ x y is. subst (λ z. AlternativeResolves (roll-Alternative z)) is (alternative_layer y)) (λ x y is. subst (λ z. ArmResolves (roll-Arm z)) is (arm_layer y))
+    mutual
+      -- what a loop counts over is one of its parameters
+      counted_variable : (low : ℕ) (c : Command) → Resolves low c → counts v (effect c) ≡ true → (low ≤ v.0) × ((object : Object) × (object.kind ≡ LoopParameter) × P v object)
+      counted_variable low Skip written h = absurd cc
+      counted_variable low (Set target value) written h = absurd cc
+      counted_variable low (Then a b) written h = ⊎_elim (counted_variable low a written.0) (counted_variable low b written.1) (or_cases (counts v (effect a)) (counts v (effect b)) h)
+      counted_variable low (Choose place condition a b) written h = ⊎_elim (counted_variable low a written.1) (counted_variable low b written.2) (or_cases (counts v (effect a)) (counts v (effect b)) h)
+      counted_variable low (Select place selector alternatives) written h = counted_among low (reads_of selector) place alternatives written.1 h
+      counted_variable low (Assertion kind place condition) written h = absurd cc
+      counted_variable low (Repeat (Tested place condition) body) written h = counted_variable low body written.1 h
+      counted_variable low (Repeat (Counted c) body) written h =
+          elim (or_cases (is_same v (Some c.parameter)) (counts v (effect body)) h) [
+            | inl same ↦
+                let is = same_var c.parameter v (eqb-true c.parameter.0 v.0 same) in
+                (subst (λ (w : VarId). low ≤ w.0) is written.0, (object_of LoopParameter c.type_name, refl, subst (λ w. P w (object_of LoopParameter c.type_name)) is written.1))
+            | inr later ↦ let one = counted_variable (c.parameter.0 + 1) body written.3 later in (omega (arith, written.0, one.0), one.1)
+          ]
 
-  stmts_resolve : (stmts : List Stmt) → Resolves regions (commands (map (resolved_stmt items regions) stmts))
-  stmts_resolve [] = tt
-  stmts_resolve (s ∷ stmts) = (stmt_resolves s, stmts_resolve stmts)
+      counted_among : (low : ℕ) (tests : List Read) (place : Place) (alternatives : Alternatives) → AllResolve low alternatives → counts v (effect_among tests place alternatives) ≡ true
+          → (low ≤ v.0) × ((object : Object) × (object.kind ≡ LoopParameter) × P v object)
+      counted_among low tests place (Last choices a) written h = ⊎_elim (counted_variable low a written) (counted_variable low a written) (or_cases (counts v (effect a)) (counts v (effect a)) h)
+      counted_among low tests place (When choices a rest) written h =
+          ⊎_elim (counted_variable low a written.0) (counted_among low tests place rest written.1) (or_cases (counts v (effect a)) (counts v (effect_among tests place rest)) h)
 
-module _ (T : Subtype → Type 0) (P : VarId → Object → Type 0) (regions : Regions) (all : AllByRecursion (HoldsIn T P) regions) (v : VarId) where
-  imported_variable : (item : DerivesItem) → has_import v (resolved_item regions item) ≡ true → (object : Object) × P v object
-  imported_variable item h =
-      ⊎_elim (mentioned_variable T P regions all v item.imports.names) (λ itself. mentioned_variable T P regions all v (exported_names item.exports) (and_parts (is_some item.imports.itself) (has_export v (resolved_item regions item)) itself).1)
-      (or_cases (mentions v (map (resolved_reference regions) item.imports.names)) (is_some item.imports.itself && has_export v (resolved_item regions item)) h)
+    mutual
+      assigned_variable : (low : ℕ) (c : Command) → Resolves low c → assigns v (effect c) ≡ true → (object : Object) × P v object
+      assigned_variable low Skip written h = absurd cc
+      assigned_variable low (Set target value) written h =
+          let known = reference_variable T P written.0.0 written.0.2 v written.0.1 (ap (λ (name : Reference). denotes v name.root) (sym written.0.3) ∙ h) in (known.0, known.2)
+      assigned_variable low (Then a b) written h = ⊎_elim (assigned_variable low a written.0) (assigned_variable low b written.1) (or_cases (assigns v (effect a)) (assigns v (effect b)) h)
+      assigned_variable low (Choose place condition a b) written h = ⊎_elim (assigned_variable low a written.1) (assigned_variable low b written.2) (or_cases (assigns v (effect a)) (assigns v (effect b)) h)
+      assigned_variable low (Select place selector alternatives) written h = assigned_among low (reads_of selector) place alternatives written.1 h
+      assigned_variable low (Assertion kind place condition) written h = absurd cc
+      assigned_variable low (Repeat (Tested place condition) body) written h = assigned_variable low body written.1 h
+      assigned_variable low (Repeat (Counted c) body) written h = assigned_variable (c.parameter.0 + 1) body written.3 h
 
-  in_relation : (test : CoreDerivesItem → Bool) → ((item : DerivesItem) → test (resolved_item regions item) ≡ true → (object : Object) × P v object)
-      → (derives : Option Derives) → list_any test (items_of (option_map (resolved_derives regions) derives)) ≡ true → (object : Object) × P v object
-  in_relation test known None h = absurd cc
-  in_relation test known (Some derives) h = let one = some_mapped test (resolved_item regions) derives.items h in known one.0 one.1
+      assigned_among : (low : ℕ) (tests : List Read) (place : Place) (alternatives : Alternatives) → AllResolve low alternatives → assigns v (effect_among tests place alternatives) ≡ true → (object : Object) × P v object
+      assigned_among low tests place (Last choices a) written h = ⊎_elim (assigned_variable low a written) (assigned_variable low a written) (or_cases (assigns v (effect a)) (assigns v (effect a)) h)
+      assigned_among low tests place (When choices a rest) written h =
+          ⊎_elim (assigned_variable low a written.0) (assigned_among low tests place rest written.1) (or_cases (assigns v (effect a)) (assigns v (effect_among tests place rest)) h)
 
-  value_variable : (value : CoreExpr) → IsValueIn regions value → is_read v (reads_of value) ≡ true → (object : Object) × P v object
-  value_variable value written h = used_variable T P regions all written.0 v written.1 (ap (uses v) (sym written.2) ∙ sym (reads_uses v value) ∙ h)
+    set_variable : (low : ℕ) (c : Command) → Resolves low c → sets v (effect c) ≡ true → (object : Object) × P v object
+    set_variable low c written h = ⊎_elim (assigned_variable low c written) (λ counted. let one = (counted_variable low c written counted).1 in (one.0, one.2)) (sets_by v (effect c) h)
+
+    mutual
+      read_variable : (low : ℕ) (c : Command) → Resolves low c → reads v (effect c) ≡ true → (object : Object) × P v object
+      read_variable low Skip written h = absurd cc
+      read_variable low (Set target value) written h = value_variable value written.1 h
+      read_variable low (Then a b) written h = ⊎_elim (read_variable low a written.0) (read_variable low b written.1) (or_cases (reads v (effect a)) (reads v (effect b)) h)
+      read_variable low (Choose place condition a b) written h =
+          ⊎_elim (value_variable condition written.0)
+          (λ arms. ⊎_elim (read_variable low a written.1) (read_variable low b written.2) (or_cases (reads v (effect a)) (reads v (effect b)) arms))
+          (or_cases (is_read v (reads_of condition)) (reads v (effect a) || reads v (effect b)) h)
+      read_variable low (Select place selector alternatives) written h = read_among low (reads_of selector) place (value_variable selector written.0) alternatives written.1 h
+      read_variable low (Assertion kind place condition) written h = value_variable condition written h
+      read_variable low (Repeat (Tested place condition) body) written h =
+          ⊎_elim (value_variable condition written.0) (read_variable low body written.1) (or_cases (is_read v (reads_of condition)) (reads v (effect body)) h)
+      read_variable low (Repeat (Counted c) body) written h =
+          ⊎_elim (bounds_variable c.bounds written.2) (read_variable (c.parameter.0 + 1) body written.3) (or_cases (is_read v (reads_in (option_map reads_of_range c.bounds))) (reads v (effect body)) h)
+
+      -- the tests read such a variable
+      read_among : (low : ℕ) (tests : List Read) (place : Place) → (is_read v tests ≡ true → (object : Object) × P v object) → (alternatives : Alternatives) → AllResolve low alternatives
+          → reads v (effect_among tests place alternatives) ≡ true → (object : Object) × P v object
+      read_among low tests place tested (Last choices a) written h =
+          ⊎_elim tested (λ arms. ⊎_elim (read_variable low a written) (read_variable low a written) (or_cases (reads v (effect a)) (reads v (effect a)) arms))
+          (or_cases (is_read v tests) (reads v (effect a) || reads v (effect a)) h)
+      read_among low tests place tested (When choices a rest) written h =
+          ⊎_elim tested (λ arms. ⊎_elim (read_variable low a written.0) (read_among low tests place tested rest written.1) (or_cases (reads v (effect a)) (reads v (effect_among tests place rest)) arms))
+          (or_cases (is_read v tests) (reads v (effect a) || reads v (effect_among tests place rest)) h)
+
+  -- ---- loops in loops
 
   mutual
-    assigned_variable : (c : Command) → Resolves regions c → sets v (effect c) ≡ true → (object : Object) × P v object
-    assigned_variable Skip written h = absurd cc
-    assigned_variable (Set target value) written h =
-        let known = reference_variable T P regions all v written.0.0 (ap (λ (name : Reference). denotes v name.root) (sym written.0.1) ∙ h) in (known.0, known.2)
-    assigned_variable (Then a b) written h = ⊎_elim (assigned_variable a written.0) (assigned_variable b written.1) (or_cases (sets v (effect a)) (sets v (effect b)) h)
-    assigned_variable (Choose place condition a b) written h = ⊎_elim (assigned_variable a written.1) (assigned_variable b written.2) (or_cases (sets v (effect a)) (sets v (effect b)) h)
-    assigned_variable (Select place selector alternatives) written h = assigned_among (reads_of selector) place alternatives written.1 h
-    assigned_variable (Assertion kind place condition) written h = absurd cc
-    assigned_variable (Repeat (Tested place condition) body) written h = assigned_variable body written.1 h
-    assigned_variable (Repeat (Counted c) body) written h = absurd written
+    loops_differ : (low : ℕ) (c : Command) → Resolves low c → LoopsDiffer (effect c)
+    loops_differ low Skip written = tt
+    loops_differ low (Set target value) written = tt
+    loops_differ low (Then a b) written = (loops_differ low a written.0, loops_differ low b written.1)
+    loops_differ low (Choose place condition a b) written = (loops_differ low a written.1, loops_differ low b written.2)
+    loops_differ low (Select place selector alternatives) written = loops_differ_among low (reads_of selector) place alternatives written.1
+    loops_differ low (Assertion kind place condition) written = tt
+    loops_differ low (Repeat (Tested place condition) body) written = loops_differ low body written.1
+    loops_differ low (Repeat (Counted c) body) written =
+        let next = c.parameter.0 + 1 in (
+          false_from_ne_true (counts c.parameter (effect body)) (λ h. let later = (counted_variable c.parameter next body written.3 h).0 in omega (arith, later)),
+          loops_differ next body written.3,
+        )
 
-    assigned_among : (tests : List Read) (place : Place) (alternatives : Alternatives) → AllResolve regions alternatives → sets v (effect_among tests place alternatives) ≡ true → (object : Object) × P v object
-    assigned_among tests place (Last choices a) written h = ⊎_elim (assigned_variable a written) (assigned_variable a written) (or_cases (sets v (effect a)) (sets v (effect a)) h)
-    assigned_among tests place (When choices a rest) written h =
-        ⊎_elim (assigned_variable a written.0) (assigned_among tests place rest written.1) (or_cases (sets v (effect a)) (sets v (effect_among tests place rest)) h)
+    loops_differ_among : (low : ℕ) (tests : List Read) (place : Place) (alternatives : Alternatives) → AllResolve low alternatives → LoopsDiffer (effect_among tests place alternatives)
+    loops_differ_among low tests place (Last choices a) written = (loops_differ low a written, loops_differ low a written)
+    loops_differ_among low tests place (When choices a rest) written = (loops_differ low a written.0, loops_differ_among low tests place rest written.1)
 
-  mutual
-    read_variable : (c : Command) → Resolves regions c → reads v (effect c) ≡ true → (object : Object) × P v object
-    read_variable Skip written h = absurd cc
-    read_variable (Set target value) written h = value_variable value written.1 h
-    read_variable (Then a b) written h = ⊎_elim (read_variable a written.0) (read_variable b written.1) (or_cases (reads v (effect a)) (reads v (effect b)) h)
-    read_variable (Choose place condition a b) written h =
-        ⊎_elim (value_variable condition written.0)
-        (λ arms. ⊎_elim (read_variable a written.1) (read_variable b written.2) (or_cases (reads v (effect a)) (reads v (effect b)) arms))
-        (or_cases (is_read v (reads_of condition)) (reads v (effect a) || reads v (effect b)) h)
-    read_variable (Select place selector alternatives) written h = read_among (reads_of selector) place (value_variable selector written.0) alternatives written.1 h
-    read_variable (Assertion kind place condition) written h = value_variable condition written h
-    read_variable (Repeat (Tested place condition) body) written h =
-        ⊎_elim (value_variable condition written.0) (read_variable body written.1) (or_cases (is_read v (reads_of condition)) (reads v (effect body)) h)
-    read_variable (Repeat (Counted c) body) written h = absurd written
+-- ---- what is declared of the variables that names denote
 
-    -- the tests read such a variable
-    read_among : (tests : List Read) (place : Place) → (is_read v tests ≡ true → (object : Object) × P v object) → (alternatives : Alternatives) → AllResolve regions alternatives → reads v (effect_among tests place alternatives) ≡ true
-        → (object : Object) × P v object
-    read_among tests place tested (Last choices a) written h =
-        ⊎_elim tested (λ arms. ⊎_elim (read_variable a written) (read_variable a written) (or_cases (reads v (effect a)) (reads v (effect a)) arms))
-        (or_cases (is_read v tests) (reads v (effect a) || reads v (effect a)) h)
-    read_among tests place tested (When choices a rest) written h =
-        ⊎_elim tested (λ arms. ⊎_elim (read_variable a written.0) (read_among tests place tested rest written.1) (or_cases (reads v (effect a)) (reads v (effect_among tests place rest)) arms))
-        (or_cases (is_read v tests) (reads v (effect a) || reads v (effect_among tests place rest)) h)
-
-module _ (p : Program) (T : Subtype → Type 0) (P : VarId → Object → Type 0) (row : (v : VarId) (object : Object) → P v object → object_declared p v ≡ Some object) (regions : Regions) (all : AllByRecursion (HoldsIn T P) regions) where
-  has_its_mode : (name : Name) → HasItsMode p (resolved_reference regions name)
-  has_its_mode name v is =
+module _ (p : Program) (T : Subtype → Type 0) (P : VarId → Object → Type 0) (row : (v : VarId) (object : Object) → P v object → object_declared p v ≡ Some object) where
+  has_its_mode : (regions : Regions) → AllByRecursion (HoldsIn T P) regions → (name : Name) → HasItsMode p (resolved_reference regions name)
+  has_its_mode regions all name v is =
       let known = reference_variable T P regions all v name is in
       ap mode_denoted known.1 ∙ sym (mode_is p v known.0.kind (kind_is p v known.0 (row v known.0 known.2)))
 
-  have_their_modes : (names : List Name) → All (HasItsMode p) (map (resolved_reference regions) names)
-  have_their_modes names = All-map (HasItsMode p) (resolved_reference regions) names (λ k d less. has_its_mode _)
+  have_their_modes : (regions : Regions) → AllByRecursion (HoldsIn T P) regions → (names : List Name) → All (HasItsMode p) (map (resolved_reference regions) names)
+  have_their_modes regions all names = All-map (HasItsMode p) (resolved_reference regions) names (λ k d less. has_its_mode regions all _)
 
-  relation_has_modes : (derives : Option Derives) → All (HaveTheirModes p) (items_of (option_map (resolved_derives regions) derives))
-  relation_has_modes None = All-from_recursion (HaveTheirModes p) [] tt
-  relation_has_modes (Some derives) =
-      All-map (HaveTheirModes p) (resolved_item regions) derives.items (λ k d less. let item = get_or derives.items k d in (have_their_modes (exported_names item.exports), have_their_modes item.imports.names))
+  relation_has_modes : (regions : Regions) → AllByRecursion (HoldsIn T P) regions → (derives : Option Derives) → All (HaveTheirModes p) (items_of (option_map (resolved_derives regions) derives))
+  relation_has_modes regions all None = All-from_recursion (HaveTheirModes p) [] tt
+  relation_has_modes regions all (Some derives) =
+      All-map (HaveTheirModes p) (resolved_item regions) derives.items
+      (λ k d less. let item = get_or derives.items k d in (have_their_modes regions all (exported_names item.exports), have_their_modes regions all item.imports.names))
 
   mutual
-    targets_have_modes : (c : Command) → Resolves regions c → TargetsHaveTheirModes p c
-    targets_have_modes Skip written = tt
-    targets_have_modes (Set target value) written = subst (HasItsMode p) (sym written.0.1) (has_its_mode written.0.0)
-    targets_have_modes (Then a b) written = (targets_have_modes a written.0, targets_have_modes b written.1)
-    targets_have_modes (Choose place condition a b) written = (targets_have_modes a written.1, targets_have_modes b written.2)
-    targets_have_modes (Select place selector alternatives) written = all_have_modes alternatives written.1
-    targets_have_modes (Assertion kind place condition) written = tt
-    targets_have_modes (Repeat (Tested place condition) body) written = targets_have_modes body written.1
-    targets_have_modes (Repeat (Counted c) body) written = absurd written
+    targets_have_modes : (low : ℕ) (c : Command) → Resolves T P low c → TargetsHaveTheirModes p c
+    targets_have_modes low Skip written = tt
+    targets_have_modes low (Set target value) written = subst (HasItsMode p) (sym written.0.3) (has_its_mode written.0.0 written.0.2 written.0.1)
+    targets_have_modes low (Then a b) written = (targets_have_modes low a written.0, targets_have_modes low b written.1)
+    targets_have_modes low (Choose place condition a b) written = (targets_have_modes low a written.1, targets_have_modes low b written.2)
+    targets_have_modes low (Select place selector alternatives) written = all_have_modes low alternatives written.1
+    targets_have_modes low (Assertion kind place condition) written = tt
+    targets_have_modes low (Repeat (Tested place condition) body) written = targets_have_modes low body written.1
+    targets_have_modes low (Repeat (Counted c) body) written = targets_have_modes (c.parameter.0 + 1) body written.3
 
-    all_have_modes : (alternatives : Alternatives) → AllResolve regions alternatives → AllHaveTheirModes p alternatives
-    all_have_modes (Last choices a) written = targets_have_modes a written
-    all_have_modes (When choices a rest) written = (targets_have_modes a written.0, all_have_modes rest written.1)
-
-  -- ---- what is declared of the variables that names denote
+    all_have_modes : (low : ℕ) (alternatives : Alternatives) → AllResolve T P low alternatives → AllHaveTheirModes p alternatives
+    all_have_modes low (Last choices a) written = targets_have_modes low a written
+    all_have_modes low (When choices a rest) written = (targets_have_modes low a written.0, all_have_modes low rest written.1)
 
   as_declared : (name : CoreName) → Holds T P name.entity → IsAsDeclared p name
   as_declared name h v object is = row v object (subst (Holds T P) is h)
@@ -291,80 +353,71 @@ module _ (p : Program) (T : Subtype → Type 0) (P : VarId → Object → Type 0
   all_as_declared [] known = tt
   all_as_declared (name ∷ names) known = (as_declared name known.0, all_as_declared names known.1)
 
-  read_as_declared : (value : CoreExpr) → IsValueIn regions value → All (IsAsDeclared p) (names_read value)
+  read_as_declared : (value : CoreExpr) → IsValue T P value → All (IsAsDeclared p) (names_read value)
   read_as_declared value written =
-      subst (λ e. All (IsAsDeclared p) (names_read e)) (sym written.2)
-      (All-from_recursion (IsAsDeclared p) _ (all_as_declared (names_read (resolved_in written.0 regions written.1)) (read_known T P regions all written.0 written.1)))
+      subst (λ e. All (IsAsDeclared p) (names_read e)) (sym written.4)
+      (All-from_recursion (IsAsDeclared p) _ (all_as_declared (names_read (resolved_in written.1 written.0 written.2)) (read_known T P written.0 written.3 written.1 written.2)))
 
-  target_as_declared : (target : Reference) → IsTargetIn regions target → IsAsDeclared p target.root
-  target_as_declared target written = subst (λ (r : Reference). IsAsDeclared p r.root) (sym written.1) (as_declared (resolved_reference regions written.0).root (root_holds T P regions all written.0))
+  bounds_as_declared : (bounds : Option CoreRange) → AreValues T P bounds → All (IsAsDeclared p) (names_in_bounds bounds)
+  bounds_as_declared None written = All-from_recursion (IsAsDeclared p) [] tt
+  bounds_as_declared (Some range) written = All-append (IsAsDeclared p) (names_read range.low) (names_read range.high) (read_as_declared range.low written.0) (read_as_declared range.high written.1)
 
-  mutual
-    command_as_declared : (c : Command) → Resolves regions c → AreAsDeclared p c
-    command_as_declared Skip written = tt
-    command_as_declared (Set target value) written = (target_as_declared target written.0, read_as_declared value written.1)
-    command_as_declared (Then a b) written = (command_as_declared a written.0, command_as_declared b written.1)
-    command_as_declared (Choose place condition a b) written = (read_as_declared condition written.0, (command_as_declared a written.1, command_as_declared b written.2))
-    command_as_declared (Select place selector alternatives) written = (read_as_declared selector written.0, alternatives_as_declared alternatives written.1)
-    command_as_declared (Assertion kind place condition) written = read_as_declared condition written
-    command_as_declared (Repeat (Tested place condition) body) written = (read_as_declared condition written.0, command_as_declared body written.1)
-    command_as_declared (Repeat (Counted c) body) written = absurd written
-
-    alternatives_as_declared : (alternatives : Alternatives) → AllResolve regions alternatives → AllAreAsDeclared p alternatives
-    alternatives_as_declared (Last choices a) written = command_as_declared a written
-    alternatives_as_declared (When choices a rest) written = (command_as_declared a written.0, alternatives_as_declared rest written.1)
-
-  -- ---- loops that count
+  target_as_declared : (target : Reference) → IsTarget T P target → IsAsDeclared p target.root
+  target_as_declared target written = subst (λ (r : Reference). IsAsDeclared p r.root) (sym written.3) (as_declared (resolved_reference written.0 written.1).root (root_holds T P written.0 written.2 written.1))
 
   mutual
-    none_counts : (v : VarId) (c : Command) → Resolves regions c → counts v (effect c) ≡ true → ⊥
-    none_counts v Skip written h = absurd cc
-    none_counts v (Set target value) written h = absurd cc
-    none_counts v (Then a b) written h = ⊎_elim (none_counts v a written.0) (none_counts v b written.1) (or_cases (counts v (effect a)) (counts v (effect b)) h)
-    none_counts v (Choose place condition a b) written h = ⊎_elim (none_counts v a written.1) (none_counts v b written.2) (or_cases (counts v (effect a)) (counts v (effect b)) h)
-    none_counts v (Select place selector alternatives) written h = none_counts_among v (reads_of selector) place alternatives written.1 h
-    none_counts v (Assertion kind place condition) written h = absurd cc
-    none_counts v (Repeat (Tested place condition) body) written h = none_counts v body written.1 h
-    none_counts v (Repeat (Counted c) body) written h = absurd written
+    command_as_declared : (low : ℕ) (c : Command) → Resolves T P low c → AreAsDeclared p c
+    command_as_declared low Skip written = tt
+    command_as_declared low (Set target value) written = (target_as_declared target written.0, read_as_declared value written.1)
+    command_as_declared low (Then a b) written = (command_as_declared low a written.0, command_as_declared low b written.1)
+    command_as_declared low (Choose place condition a b) written = (read_as_declared condition written.0, (command_as_declared low a written.1, command_as_declared low b written.2))
+    command_as_declared low (Select place selector alternatives) written = (read_as_declared selector written.0, alternatives_as_declared low alternatives written.1)
+    command_as_declared low (Assertion kind place condition) written = read_as_declared condition written
+    command_as_declared low (Repeat (Tested place condition) body) written = (read_as_declared condition written.0, command_as_declared low body written.1)
+    command_as_declared low (Repeat (Counted c) body) written =
+        ((bounds_as_declared c.bounds written.2, row c.parameter (object_of LoopParameter c.type_name) written.1), command_as_declared (c.parameter.0 + 1) body written.3)
 
-    none_counts_among : (v : VarId) (tests : List Read) (place : Place) (alternatives : Alternatives) → AllResolve regions alternatives → counts v (effect_among tests place alternatives) ≡ true → ⊥
-    none_counts_among v tests place (Last choices a) written h = ⊎_elim (none_counts v a written) (none_counts v a written) (or_cases (counts v (effect a)) (counts v (effect a)) h)
-    none_counts_among v tests place (When choices a rest) written h = ⊎_elim (none_counts v a written.0) (none_counts_among v tests place rest written.1) (or_cases (counts v (effect a)) (counts v (effect_among tests place rest)) h)
+    alternatives_as_declared : (low : ℕ) (alternatives : Alternatives) → AllResolve T P low alternatives → AllAreAsDeclared p alternatives
+    alternatives_as_declared low (Last choices a) written = command_as_declared low a written
+    alternatives_as_declared low (When choices a rest) written = (command_as_declared low a written.0, alternatives_as_declared low rest written.1)
 
-  mutual
-    keeps_parameters : (c : Command) → Resolves regions c → KeepsParameters (effect c)
-    keeps_parameters Skip written = tt
-    keeps_parameters (Set target value) written = tt
-    keeps_parameters (Then a b) written = (keeps_parameters a written.0, keeps_parameters b written.1)
-    keeps_parameters (Choose place condition a b) written = (keeps_parameters a written.1, keeps_parameters b written.2)
-    keeps_parameters (Select place selector alternatives) written = keeps_parameters_among (reads_of selector) place alternatives written.1
-    keeps_parameters (Assertion kind place condition) written = tt
-    keeps_parameters (Repeat (Tested place condition) body) written = keeps_parameters body written.1
-    keeps_parameters (Repeat (Counted c) body) written = absurd written
+  predicate_as_declared : (regions : Regions) → AllByRecursion (HoldsIn T P) regions → (items : List CoreDerivesItem) (written : Option Predicate) (predicate : CorePredicate)
+      → option_map (resolved_predicate items regions) written ≡ Some predicate → All (IsAsDeclared p) (names_read predicate.condition)
+  predicate_as_declared regions all items None predicate is = absurd cc
+  predicate_as_declared regions all items (Some w) predicate is =
+      read_as_declared predicate.condition (regions, items, w.condition, all, ap (λ (x : CorePredicate). x.condition) (let e : predicate ≡ resolved_predicate items regions w = cc in e))
 
-    keeps_parameters_among : (tests : List Read) (place : Place) (alternatives : Alternatives) → AllResolve regions alternatives → KeepsParameters (effect_among tests place alternatives)
-    keeps_parameters_among tests place (Last choices a) written = (keeps_parameters a written, keeps_parameters a written)
-    keeps_parameters_among tests place (When choices a rest) written = (keeps_parameters a written.0, keeps_parameters_among tests place rest written.1)
+-- ---- what is declared in a body
 
-  predicate_as_declared : (items : List CoreDerivesItem) (written : Option Predicate) (predicate : CorePredicate) → option_map (resolved_predicate items regions) written ≡ Some predicate
-      → All (IsAsDeclared p) (names_read predicate.condition)
-  predicate_as_declared items None predicate is = absurd cc
-  predicate_as_declared items (Some w) predicate is =
-      read_as_declared predicate.condition (items, w.condition, ap (λ (x : CorePredicate). x.condition) (let e : predicate ≡ resolved_predicate items regions w = cc in e))
+inner_is : (v : VarId) (sub : Sub) → is_inner v sub ≡ (is_local v sub || is_loop_parameter v sub)
+inner_is v sub =
+    ap (stands_in v) (sym (take-append-drop sub.local_count (inner sub))) ∙ list_any-append (λ (w : VarId). w.0 == v.0) (take sub.local_count (inner sub)) (drop sub.local_count (inner sub))
+
+local_is_inner : (v : VarId) (sub : Sub) → is_local v sub ≡ true → is_inner v sub ≡ true
+local_is_inner v sub h = inner_is v sub ∙ or_left (is_local v sub) (is_loop_parameter v sub) h
+
+loop_parameter_is_inner : (v : VarId) (sub : Sub) → is_loop_parameter v sub ≡ true → is_inner v sub ≡ true
+loop_parameter_is_inner v sub h = inner_is v sub ∙ or_right (is_local v sub) (is_loop_parameter v sub) h
+
+inner_if_local : (kind : VarKind) → IsLocalKind kind → IsInnerKind kind
+inner_if_local (Formal mode) h = h
+inner_if_local Local h = tt
+inner_if_local (Initialized n) h = tt
+inner_if_local LoopParameter h = tt
 
 -- ---- subprograms
 
 module _ (p : Program) (more : List TypeRow) (types : p.types ≡ standard_types ++ more) where
   -- the unit at this position, whose variables and types stand between these rows
-  module _ (library : Region) (position : ℕ) (counts : Counts) (s : Subprogram) (before after : List Var) (len : length before ≡ counts.vars) where
+  module _ (library : Region) (position : ℕ) (start : Counts) (s : Subprogram) (before after : List Var) (len : length before ≡ start.vars) where
     abbrev first : ℕ
-    first = counts.vars
+    first = start.vars
 
     abbrev name : Defining
     name = unit_name library position s
 
     abbrev sub : Sub
-    sub = resolved_sub name counts s
+    sub = resolved_sub name start s
 
     abbrev its_formals : List Defining
     its_formals = formal_names sub
@@ -375,11 +428,26 @@ module _ (p : Program) (more : List TypeRow) (types : p.types ≡ standard_types
     abbrev its_locals : List Defining
     its_locals = local_variables sub
 
+    abbrev its_loops : List Defining
+    its_loops = loop_names sub
+
+    abbrev after_locals : ℕ
+    after_locals = first + length its_formals + length its_locals
+
+    its_vars : positions first ((its_formals ++ its_locals) ++ its_loops) ≡ positions first (its_formals ++ (its_locals ++ its_loops))
+    its_vars = ap (positions first) (append_assoc its_formals its_locals its_loops)
+
     formal_positions : (v : VarId) → is_formal v sub ≡ is_at v first its_formals
-    formal_positions v = ap (stands_in v) (first_positions first its_formals its_locals)
+    formal_positions v = ap (stands_in v) (ap (take (length its_formals)) its_vars ∙ first_positions first its_formals (its_locals ++ its_loops))
+
+    inner_positions : inner sub ≡ positions (first + length its_formals) (its_locals ++ its_loops)
+    inner_positions = ap (drop (length its_formals)) its_vars ∙ last_positions first its_formals (its_locals ++ its_loops)
 
     local_positions : (v : VarId) → is_local v sub ≡ is_at v (first + length its_formals) its_locals
-    local_positions v = ap (stands_in v) (last_positions first its_formals its_locals)
+    local_positions v = ap (stands_in v) (ap (take (length its_locals)) inner_positions ∙ first_positions (first + length its_formals) its_locals its_loops)
+
+    loop_positions : (v : VarId) → is_loop_parameter v sub ≡ is_at v after_locals its_loops
+    loop_positions v = ap (stands_in v) (ap (drop (length its_locals)) inner_positions ∙ last_positions (first + length its_formals) its_locals its_loops)
 
     formals_are : Consecutive (IsFormal more) first its_formals
     formals_are = formals_consecutive more s.name first s.formal_part
@@ -390,45 +458,91 @@ module _ (p : Program) (more : List TypeRow) (types : p.types ≡ standard_types
     abbrev body : Regions
     body = declaring_all [] (its_formals ++ its_names) ∷ around_body name
 
+    abbrev its_items : List CoreDerivesItem
+    its_items = items_for name sub.formal_part s
+
     -- a formal whose row says what is declared of it, and any variable of the subprogram
     abbrev FormalRow : VarId → Object → Type 0
     FormalRow v object = (is_formal v sub ≡ true) × (object_declared p v ≡ Some object)
 
     abbrev Own : VarId → Object → Type 0
-    Own v object = ((is_formal v sub || is_local v sub) ≡ true) × (object_declared p v ≡ Some object)
+    Own v object = ((is_formal v sub || is_inner v sub) ≡ true) × (object_declared p v ≡ Some object) × (object.kind ≡ LoopParameter → is_loop_parameter v sub ≡ true)
 
-    module _ (vars : p.vars ≡ before ++ (own_vars sub ++ after)) (front back : List TypeRow) (count : length (standard_types ++ front) ≡ counts.types) (rows_are : more ≡ front ++ (own_types sub ++ back)) where
+    module _ (vars : p.vars ≡ before ++ (own_vars sub ++ after)) (front back : List TypeRow) (count : length (standard_types ++ front) ≡ start.types) (rows_are : more ≡ front ++ (own_types sub ++ back)) where
       names_known : Known more (first + length its_formals) its_locals its_names
-      names_known = decls_known more (around_body name) (around_holds (HasRow more) Any (predefined_have_rows more) name tt) (declaring_all [] its_formals) (after_formals counts sub.formal_part) s.declarations front back (formals_known (HasRow more) (IsFormal more) first its_formals formals_are) (count, rows_are)
+      names_known = decls_known more (around_body name) (around_holds (HasRow more) Any (predefined_have_rows more) name tt) (declaring_all [] its_formals) (after_formals start sub.formal_part) s.declarations front back (formals_known (HasRow more) (IsFormal more) first its_formals formals_are) (count, rows_are)
 
       pub locals_are : Consecutive (IsLocal more) (first + length its_formals) its_locals
       locals_are = names_known.consecutive
 
-      vars_are : p.vars ≡ before ++ (map var_of its_formals ++ (map var_of its_locals ++ after))
-      vars_are = vars ∙ ap (λ ws. before ++ (ws ++ after)) (map-append var_of its_formals its_locals) ∙ ap (λ ws. before ++ ws) (append_assoc (map var_of its_formals) (map var_of its_locals) after)
+      own_holds : HoldsIn (HasRow more) Any (declaring_all [] (its_formals ++ its_names))
+      own_holds =
+          declaring_all_holds (HasRow more) Any [] (its_formals ++ its_names) tt
+          (each_append _ its_formals its_names (consecutive_known (HasRow more) (IsFormal more) first its_formals formals_are) (names_known.holds Any (consecutive_known (HasRow more) (IsLocal more) (first + length its_formals) its_locals locals_are)))
+
+      its_parts : AreStmts its_items (around_body name) (declaring_all [] (its_formals ++ its_names)) (first + length (its_formals ++ its_locals)) s.statements sub.statements its_loops
+      its_parts = stmts_are its_items (around_body name) s.statements (declaring_all [] (its_formals ++ its_names)) (first + length (its_formals ++ its_locals))
+
+      loops_are : Consecutive (IsLoopParameter more) after_locals its_loops
+      loops_are =
+          subst (λ n. Consecutive (IsLoopParameter more) n its_loops) (let e : first + length (its_formals ++ its_locals) ≡ after_locals = omega (arith, length-append its_formals its_locals) in e)
+          (stmts_consecutive more (around_body name) (around_holds (HasRow more) Any (predefined_have_rows more) name tt) its_items its_parts own_holds)
+
+      -- ---- their rows
+
+      abbrev formal_vars : List Var
+      formal_vars = map var_of its_formals
+
+      abbrev local_vars : List Var
+      local_vars = map var_of its_locals
+
+      abbrev loop_vars : List Var
+      loop_vars = map var_of its_loops
+
+      vars_are : p.vars ≡ before ++ (formal_vars ++ (local_vars ++ (loop_vars ++ after)))
+      vars_are =
+          vars ∙ ap (λ ws. before ++ (ws ++ after)) (map-append var_of (its_formals ++ its_locals) its_loops ∙ ap (λ ws. ws ++ loop_vars) (map-append var_of its_formals its_locals))
+          ∙ ap (λ ws. before ++ ws) (append_assoc (formal_vars ++ local_vars) loop_vars after ∙ append_assoc formal_vars local_vars (loop_vars ++ after))
 
       formal_rows : (P : VarId → Object → Type 0) → ((v : VarId) (object : Object) → IsFormal more object → is_formal v sub ≡ true → object_declared p v ≡ Some object → P v object) → AllHold (HasRow more) P its_formals
       formal_rows P follows =
-          rows p more types (IsFormal more) (λ object k. k.1) P before first its_formals (map var_of its_locals ++ after) len vars_are formals_are (λ v object kind at row. follows v object kind (formal_positions v ∙ at) row)
+          rows p more types (IsFormal more) (λ object k. k.1) P before first its_formals (local_vars ++ (loop_vars ++ after)) len vars_are formals_are (λ v object kind at row. follows v object kind (formal_positions v ∙ at) row)
+
+      length_before_locals : length (before ++ formal_vars) ≡ first + length its_formals
+      length_before_locals = length-append before formal_vars ∙ ap₂ ◌+◌ len (length-map its_formals var_of)
 
       rows_of_locals : (K : Object → Type 0) → ((object : Object) → K object → HasRow more object.subtype) → Consecutive K (first + length its_formals) its_locals → (P : VarId → Object → Type 0)
           → ((v : VarId) (object : Object) → K object → is_local v sub ≡ true → object_declared p v ≡ Some object → P v object) → AllHold (HasRow more) P its_locals
       rows_of_locals K typed are P follows =
-          rows p more types K typed P (before ++ map var_of its_formals) (first + length its_formals) its_locals after
-          (length-append before (map var_of its_formals) ∙ ap₂ ◌+◌ len (length-map its_formals var_of)) (vars_are ∙ sym (append_assoc before (map var_of its_formals) (map var_of its_locals ++ after))) are
+          rows p more types K typed P (before ++ formal_vars) (first + length its_formals) its_locals (loop_vars ++ after) length_before_locals (vars_are ∙ sym (append_assoc before formal_vars (local_vars ++ (loop_vars ++ after)))) are
           (λ v object kind at row. follows v object kind (local_positions v ∙ at) row)
 
       local_rows : (P : VarId → Object → Type 0) → ((v : VarId) (object : Object) → IsLocal more object → is_local v sub ≡ true → object_declared p v ≡ Some object → P v object) → AllHold (HasRow more) P its_locals
       local_rows P follows = rows_of_locals (IsLocal more) (λ object k. k.1) locals_are P follows
 
+      loop_rows : (P : VarId → Object → Type 0) → ((v : VarId) (object : Object) → IsLoopParameter more object → is_loop_parameter v sub ≡ true → object_declared p v ≡ Some object → P v object) → AllHold (HasRow more) P its_loops
+      loop_rows P follows =
+          rows p more types (IsLoopParameter more) (λ object k. k.1) P ((before ++ formal_vars) ++ local_vars) after_locals its_loops after
+          (length-append (before ++ formal_vars) local_vars ∙ ap₂ ◌+◌ length_before_locals (length-map its_locals var_of))
+          (vars_are ∙ sym (append_assoc before formal_vars (local_vars ++ (loop_vars ++ after))) ∙ sym (append_assoc (before ++ formal_vars) local_vars (loop_vars ++ after))) loops_are
+          (λ v object kind at row. follows v object kind (loop_positions v ∙ at) row)
+
       in_annotations : AllByRecursion (HoldsIn (HasRow more) FormalRow) annotations
       in_annotations = inside_holds (HasRow more) FormalRow (predefined_have_rows more) name its_formals tt (formal_rows FormalRow (λ v object kind formal row. (formal, row)))
 
+      formals_own : AllHold (HasRow more) Own its_formals
+      formals_own = formal_rows Own (λ v object kind formal row. (or_left (is_formal v sub) (is_inner v sub) formal, row, λ loop. let e : Formal kind.0.0 ≡ LoopParameter = sym kind.0.1 ∙ loop in absurd cc))
+
+      locals_own : AllHold (HasRow more) Own its_locals
+      locals_own = local_rows Own (λ v object kind local row. (or_right (is_formal v sub) (is_inner v sub) (local_is_inner v sub local), row, λ loop. absurd (subst IsLocalKind loop kind.0)))
+
+      loops_own : AllHold (HasRow more) Own its_loops
+      loops_own = loop_rows Own (λ v object kind loop row. (or_right (is_formal v sub) (is_inner v sub) (loop_parameter_is_inner v sub loop), row, λ is. loop))
+
       in_body : AllByRecursion (HoldsIn (HasRow more) Own) body
-      in_body =
-          inside_holds (HasRow more) Own (predefined_have_rows more) name (its_formals ++ its_names) tt
-          (each_append _ its_formals its_names (formal_rows Own (λ v object kind formal row. (or_left (is_formal v sub) (is_local v sub) formal, row)))
-          (names_known.holds Own (local_rows Own (λ v object kind local row. (or_right (is_formal v sub) (is_local v sub) local, row)))))
+      in_body = inside_holds (HasRow more) Own (predefined_have_rows more) name (its_formals ++ its_names) tt (each_append _ its_formals its_names formals_own (names_known.holds Own locals_own))
+
+      -- ---- their kinds
 
       formal_kind : (v : VarId) → is_formal v sub ≡ true → (mode : Mode) × (kind_of p v ≡ Some (Formal mode))
       formal_kind v h =
@@ -443,35 +557,46 @@ module _ (p : Program) (more : List TypeRow) (types : p.types ≡ standard_types
           let one = at_position p more types K typed P v (first + length its_formals) its_locals are (rows_of_locals K typed are P (λ v object kind at row. (row, kind))) (sym (local_positions v) ∙ h) in
           (one.0, one.1.0, one.1.1)
 
-      local_kind : (v : VarId) → is_local v sub ≡ true → (kind : VarKind) × (kind_of p v ≡ Some kind) × IsLocalKind kind
-      local_kind v h = let one = local_as (IsLocal more) (λ object k. k.1) locals_are v h in (one.0.kind, kind_is p v one.0 one.1, one.2.0)
+      loop_kind : (v : VarId) → is_loop_parameter v sub ≡ true → kind_of p v ≡ Some LoopParameter
+      loop_kind v h =
+          let P : VarId → Object → Type 0 = λ v object. kind_of p v ≡ Some LoopParameter in
+          (at_position p more types (IsLoopParameter more) (λ object k. k.1) P v after_locals its_loops loops_are (loop_rows P (λ v object kind at row. kind_is p v object row ∙ ap Some kind.0)) (sym (loop_positions v) ∙ h)).1
 
-      no_local : (v : VarId) → is_formal v sub ≡ true → is_local v sub ≡ false
-      no_local v h =
-          false_from_ne_true (is_local v sub) (λ l. let kind = formal_kind v h in let other = local_kind v l in let e : Formal kind.0 ≡ other.0 = cc in subst IsLocalKind (sym e) other.2)
+      inner_kind : (v : VarId) → is_inner v sub ≡ true → (kind : VarKind) × (kind_of p v ≡ Some kind) × IsInnerKind kind
+      inner_kind v h =
+          ⊎_elim (λ local. let one = local_as (IsLocal more) (λ object k. k.1) locals_are v local in (one.0.kind, kind_is p v one.0 one.1, inner_if_local one.0.kind one.2.0)) (λ loop. (LoopParameter, loop_kind v loop, tt))
+          (or_cases (is_local v sub) (is_loop_parameter v sub) (sym (inner_is v sub) ∙ h))
 
-      abbrev its_items : List CoreDerivesItem
-      its_items = items_for name sub.formal_part s
+      no_inner : (v : VarId) → is_formal v sub ≡ true → is_inner v sub ≡ false
+      no_inner v h =
+          false_from_ne_true (is_inner v sub) (λ l. let kind = formal_kind v h in let other = inner_kind v l in let e : Formal kind.0 ≡ other.0 = cc in subst IsInnerKind (sym e) other.2)
 
-      its_commands : Resolves body (commands sub.statements)
-      its_commands = stmts_resolve its_items body s.statements
+      its_commands : Resolves (HasRow more) Own 0 (commands sub.statements)
+      its_commands = stmts_resolve (HasRow more) Own its_items (around_body name) in_body.1 0 its_parts (omega arith) in_body.0 loops_own
+
+      own_row : (v : VarId) (object : Object) → Own v object → object_declared p v ≡ Some object
+      own_row v object own = own.1
+
+      counted_over : (v : VarId) → counts v (effect (commands sub.statements)) ≡ true → is_loop_parameter v sub ≡ true
+      counted_over v h = let one = (counted_variable (HasRow more) Own v 0 (commands sub.statements) its_commands h).1 in one.2.2 one.1
 
       scoped_sub : Scoped p sub
       scoped_sub = record {
-        targets = λ v h. (assigned_variable (HasRow more) Own body in_body v (commands sub.statements) its_commands h).1.0;
-        read = λ v h. (read_variable (HasRow more) Own body in_body v (commands sub.statements) its_commands h).1.0;
+        targets = λ v h. (set_variable (HasRow more) Own v 0 (commands sub.statements) its_commands h).1.0;
+        read = λ v h. (read_variable (HasRow more) Own v 0 (commands sub.statements) its_commands h).1.0;
         exported = λ v h. (in_relation (HasRow more) FormalRow annotations in_annotations v (has_export v) (λ item. mentioned_variable (HasRow more) FormalRow annotations in_annotations v (exported_names item.exports)) s.derives (sym (exports_are v sub) ∙ h)).1.0;
         imported = λ v h. (in_relation (HasRow more) FormalRow annotations in_annotations v (has_import v) (imported_variable (HasRow more) FormalRow annotations in_annotations v) s.derives (sym (imports_are v sub) ∙ h)).1.0;
         formal_kinds = formal_kind;
-        local_kinds = local_kind;
+        inner_kinds = inner_kind;
         local_types = λ v h. let one = local_as (IsLocal more) (λ object k. k.1) locals_are v h in (one.0, one.1);
-        once = positions_differ first (its_formals ++ its_locals);
-        apart = no_local;
+        once = positions_differ first ((its_formals ++ its_locals) ++ its_loops);
+        apart = no_inner;
         relation_modes = relation_has_modes p (HasRow more) FormalRow (λ v object h. h.1) annotations in_annotations s.derives;
-        target_modes = targets_have_modes p (HasRow more) Own (λ v object h. h.1) body in_body (commands sub.statements) its_commands;
-        body_names = command_as_declared p (HasRow more) Own (λ v object h. h.1) body in_body (commands sub.statements) its_commands;
-        parameters = λ v h. absurd (none_counts p (HasRow more) Own (λ v object h. h.1) body in_body v (commands sub.statements) its_commands h);
-        parameters_kept = keeps_parameters p (HasRow more) Own (λ v object h. h.1) body in_body (commands sub.statements) its_commands;
+        target_modes = targets_have_modes p (HasRow more) Own own_row 0 (commands sub.statements) its_commands;
+        body_names = command_as_declared p (HasRow more) Own own_row 0 (commands sub.statements) its_commands;
+        counted = counted_over;
+        loop_parameter_kinds = loop_kind;
+        loops_differ = loops_differ (HasRow more) Own 0 (commands sub.statements) its_commands;
         pre_names = predicate_as_declared p (HasRow more) FormalRow (λ v object h. h.1) annotations in_annotations [] s.pre;
         post_names = predicate_as_declared p (HasRow more) FormalRow (λ v object h. h.1) annotations in_annotations its_items s.post;
       }

@@ -1,7 +1,7 @@
 -- What is reported of a rule on names or types in statements is broken at that place, and where nothing is reported no rule is broken.
 use Rattle.std.proofs.Common.{◌≡◌, ◌⊎◌, ℤ, true, false, not, ◌||◌, List, [], ◌∷◌, Option, Some, None, Ok, Err, is_ok, refl, sym, ap, subst, ◌∙◌, inl, inr, ⊎_elim}
 use Rattle.std.specs.Prelude.{⊤, Contains}
-use Rattle.std.proofs.lemmas.Bool.{and_cases, and_parts, both_ways, not-false, or_parts}
+use Rattle.std.proofs.lemmas.Bool.{and_cases, and_parts, both_ways, not-false, or_parts, not-true}
 use Rattle.std.proofs.lemmas.List.Elements.{Contains-append_left, Contains-append_right}
 use Rattle.spx_text.specs.declared.place.Place.{Place}
 use Rattle.spx_core.specs.declared.entity.Entity.{Entity}
@@ -13,11 +13,12 @@ use Rattle.spx_core.specs.declared.statement.CoreChoice.{CoreChoice}
 use Rattle.spx_core.specs.declared.statement.CoreRange.{CoreRange}
 use Rattle.spx_core.specs.declared.rule.Breach.{Breach}
 use Rattle.spx_core.specs.declared.rule.RuleName.{RuleName}
-use Rattle.spx_core.specs.declared.rule.RuleName.TheVariants.{N10, N12, N17}
+use Rattle.spx_core.specs.declared.rule.RuleName.TheVariants.{N10, N12, N17, N2}
 use Rattle.spx_core.specs.declared.rule.ExprType.{ExprType}
 use Rattle.spx_core.specs.declared.rule.ExprType.TheVariants.{Of}
 use Rattle.spx_core.specs.declared.rule.Typing.{Typing}
-use Rattle.spx_core.specs.Commands.{Command, Count, Skip, Set, Then, Choose, Select, Assertion, Repeat, Tested, Counted, Alternatives, Last, When, bodies_in, choices_in, has_others, has_others_last, listed, spans_of}
+use Rattle.spx_core.specs.declared.statement.CoreCount.{CoreCount}
+use Rattle.spx_core.specs.Commands.{Command, Skip, Set, Then, Choose, Select, Assertion, Repeat, Tested, Counted, Alternatives, Last, When, bodies_in, choices_in, has_others, has_others_last, listed, spans_of}
 use Rattle.spx_core.specs.HasType.{HasType}
 use Rattle.spx_core.specs.Extents.{extent}
 use Rattle.spx_core.specs.Judged.{Judged, ◌>>=◌, if_there, judged, keeps, named_target, operand_of, referred_target, referred_type}
@@ -130,19 +131,20 @@ operand_found subtype e t b d h =
     by_part (keeps N10 t.place (is_of subtype.base t.of)) _ b h (λ k. by_test Breaks N10 t.place (is_of subtype.base t.of) b k (broken.of_another_type t d)) (λ _ _ k.
     by_test Breaks N12 t.place (lies_in (Of subtype.base) t.value) b k (broken.out_of_type t d))
 
-bounds_found : (c : Count) (subtype : Subtype) (range : CoreRange) (b : Breach) → c.bounds ≡ Some range → c.type_name.root.entity ≡ Some (entity.TypeName subtype) → judged_bounds subtype range ≡ Err b → At (BreaksCount c) b
+bounds_found : (c : CoreCount) (subtype : Subtype) (range : CoreRange) (b : Breach) → c.bounds ≡ Some range → c.type_name.root.entity ≡ Some (entity.TypeName subtype) → judged_bounds subtype range ≡ Err b → At (BreaksCount c) b
 bounds_found c subtype range b written is h =
     by_part (judged range.low) _ b h (λ e. broken.low range subtype b.rule b.place written is (broken.itself b.rule b.place (expr_found range.low b e))) (λ l low h.
     by_part (operand_of subtype l) _ b h (λ e. broken.low range subtype b.rule b.place written is (operand_found subtype range.low l b (sound range.low l low) e)) (λ _ _ h.
     by_part (judged range.high) _ b h (λ e. broken.high range subtype b.rule b.place written is (broken.itself b.rule b.place (expr_found range.high b e))) (λ u high e.
     broken.high range subtype b.rule b.place written is (operand_found subtype range.high u b (sound range.high u high) e))))
 
-count_found : (c : Count) (b : Breach) → judged_count c ≡ Err b → At (BreaksCount c) b
+count_found : (c : CoreCount) (b : Breach) → judged_count c ≡ Err b → At (BreaksCount c) b
 count_found c b h =
     let place = c.type_name.root.name.place in
+    by_part (keeps N2 c.name.place (not c.again)) _ b h (λ k. by_test (BreaksCount c) N2 c.name.place (not c.again) b k (λ no. broken.declared_again (not-false c.again no))) (λ _ _ h.
     by_part (referred_type c.type_name) _ b h (λ e. broken.type_name b.rule b.place (type_reference_found c.type_name b e)) (λ subtype named h.
     let is = referred_is c.type_name subtype named in
-    by_part (keeps N10 place (has_numbers subtype.base.class)) _ b h (λ k. by_test (BreaksCount c) N10 place _ b k (broken.no_order subtype is)) (λ _ _ e. in_bounds subtype is c.bounds refl e))
+    by_part (keeps N10 place (has_numbers subtype.base.class)) _ b h (λ k. by_test (BreaksCount c) N10 place _ b k (broken.no_order subtype is)) (λ _ _ e. in_bounds subtype is c.bounds refl e)))
   where
     in_bounds : (subtype : Subtype) → c.type_name.root.entity ≡ Some (entity.TypeName subtype) → (o : Option CoreRange) → c.bounds ≡ o → if_there (judged_bounds subtype) o ≡ Err b → At (BreaksCount c) b
     in_bounds subtype is None written e = absurd cc
@@ -233,16 +235,21 @@ bound_passes of choice e is ok =
     let parts = bound (chosen of choice.low) (λ _. if_there (chosen of) choice.high) tt ok in
     ⊎_elim (λ low. ap (chosen of) low ∙ parts.1) (λ high. ap (if_there (chosen of)) (sym high) ∙ parts.2) is
 
--- what a loop that counts passes, where its type is known to be this one
-count_passes : (c : Count) (subtype : Subtype) → c.type_name.root.entity ≡ Some (entity.TypeName subtype) → judged_count c ≡ Ok tt → (has_numbers subtype.base.class ≡ true) × (if_there (judged_bounds subtype) c.bounds ≡ Ok tt)
+-- what a loop that counts passes: its name is new, and it is named by a type
+count_parts : (c : CoreCount) → judged_count c ≡ Ok tt
+    → (keeps N2 c.name.place (not c.again) ≡ Ok tt) × ((referred_type c.type_name >>= λ subtype. keeps N10 c.type_name.root.name.place (has_numbers subtype.base.class) >>= λ _. if_there (judged_bounds subtype) c.bounds) ≡ Ok tt)
+count_parts c ok = let n = bound (keeps N2 c.name.place (not c.again)) _ tt ok in (n.1, n.2)
+
+-- where that type is known to be this one
+count_passes : (c : CoreCount) (subtype : Subtype) → c.type_name.root.entity ≡ Some (entity.TypeName subtype) → judged_count c ≡ Ok tt → (has_numbers subtype.base.class ≡ true) × (if_there (judged_bounds subtype) c.bounds ≡ Ok tt)
 count_passes c subtype is ok =
-    let s = bound (referred_type c.type_name) _ tt ok in
+    let s = bound (referred_type c.type_name) _ tt (count_parts c ok).1 in
     let place = c.type_name.root.name.place in
     let h = subst (λ (x : Subtype). (keeps N10 place (has_numbers x.base.class) >>= λ _. if_there (judged_bounds x) c.bounds) ≡ Ok tt) (same_type_named c.type_name s.0 subtype s.1 is) s.2 in
     let k = bound (keeps N10 place (has_numbers subtype.base.class)) _ tt h in
     (kept N10 place _ k.1, k.2)
 
-bounds_pass : (c : Count) (range : CoreRange) (subtype : Subtype) → c.bounds ≡ Some range → c.type_name.root.entity ≡ Some (entity.TypeName subtype) → judged_count c ≡ Ok tt
+bounds_pass : (c : CoreCount) (range : CoreRange) (subtype : Subtype) → c.bounds ≡ Some range → c.type_name.root.entity ≡ Some (entity.TypeName subtype) → judged_count c ≡ Ok tt
     → ((judged range.low >>= operand_of subtype) ≡ Ok tt) × ((judged range.high >>= operand_of subtype) ≡ Ok tt)
 bounds_pass c range subtype written is ok =
     let l = bound (judged range.low) _ tt (ap (if_there (judged_bounds subtype)) (sym written) ∙ (count_passes c subtype is ok).1) in
@@ -254,8 +261,9 @@ no_bound subtype e _ _ (broken.itself rule place h) ok = let t = bound (judged e
 no_bound subtype e _ _ (broken.of_another_type t d fails) ok = both_ways _ fails (operand_passes subtype e t d ok).0
 no_bound subtype e _ _ (broken.out_of_type t d fails) ok = both_ways _ fails (operand_passes subtype e t d ok).1
 
-no_count : (c : Count) (rule : RuleName) (place : Place) → BreaksCount c rule place → judged_count c ≡ Ok tt → ⊥
-no_count c _ _ (broken.type_name rule place h) ok = let s = bound (referred_type c.type_name) _ tt ok in no_type_reference c.type_name s.0 s.1 rule place h
+no_count : (c : CoreCount) (rule : RuleName) (place : Place) → BreaksCount c rule place → judged_count c ≡ Ok tt → ⊥
+no_count c _ _ (broken.declared_again again) ok = both_ways c.again (not-true c.again (kept N2 c.name.place _ (count_parts c ok).0)) again
+no_count c _ _ (broken.type_name rule place h) ok = let s = bound (referred_type c.type_name) _ tt (count_parts c ok).1 in no_type_reference c.type_name s.0 s.1 rule place h
 no_count c _ _ (broken.no_order subtype is without) ok = both_ways _ without (count_passes c subtype is ok).0
 no_count c _ _ (broken.low range subtype rule place written is h) ok = no_bound subtype range.low rule place h (bounds_pass c range subtype written is ok).0
 no_count c _ _ (broken.high range subtype rule place written is h) ok = no_bound subtype range.high rule place h (bounds_pass c range subtype written is ok).1

@@ -3,33 +3,23 @@ use Rattle.std.specs.Prelude.{Bool, true, false, ◌||◌, ◌&&◌, is_none, is
 use Rattle.spx_text.specs.declared.place.Place.{Place}
 use Rattle.spx_tree.specs.declared.statement.AssertionKind.{AssertionKind}
 use Rattle.spx_tree.specs.declared.statement.AssertionKind.TheVariants as assertion
-use Rattle.spx_core.specs.declared.entity.VarId.{VarId}
 use Rattle.spx_core.specs.declared.name.Reference.{Reference}
 use Rattle.spx_core.specs.declared.expression.CoreExpr.{CoreExpr}
 use Rattle.spx_core.specs.declared.statement.CoreStmt.{CoreStmt, CoreStmt-F, fold-CoreStmt}
 use Rattle.spx_core.specs.declared.statement.CoreArm.{CoreArm, CoreArm-F, fold-CoreArm}
 use Rattle.spx_core.specs.declared.statement.CoreAlternative.{CoreAlternative, CoreAlternative-F, fold-CoreAlternative}
 use Rattle.spx_core.specs.declared.statement.CoreChoice.{CoreChoice}
-use Rattle.spx_core.specs.declared.statement.CoreRange.{CoreRange}
+use Rattle.spx_core.specs.declared.statement.CoreCount.{CoreCount}
 use Rattle.spx_core.specs.declared.statement.CoreScheme.{CoreScheme}
 use Rattle.spx_core.specs.declared.statement.CoreScheme.TheVariants as scheme
 use Rattle.spx_core.specs.declared.function.Span.{Span}
-
--- A loop over the values of a range (Ada 95 RM 5.5): at the word `for`, over a parameter, which is a variable of the loop's own. Without bounds the range is
--- that of the type; `reverse` takes the values from the last one down.
-pub record Count : Type 0 where
-  pub place : Place
-  pub parameter : VarId
-  pub type_name : Reference
-  pub is_reverse : Bool
-  pub bounds : Option CoreRange
 
 -- how often the body of a loop is run (Ada 95 RM 5.5)
 pub data Head : Type 0 where
   -- at the word `while`: again and again as long as the condition is true
   Tested : Place → CoreExpr → Head
   -- once for each value
-  Counted : Count → Head
+  Counted : CoreCount → Head
 
 mutual
   pub data Command : Type 0 where
@@ -86,9 +76,13 @@ abbrev pub select : Place → CoreExpr → List (Option (List CoreChoice) × Com
 select place selector [] = Skip
 select place selector (first ∷ rest) = Select place selector (alternatives_of first rest)
 
+abbrev pub head_of : CoreScheme → Head
+head_of (scheme.While place condition) = Tested place condition
+head_of (scheme.For c) = Counted c
+
 -- a loop over its body
 abbrev pub loop_of : CoreScheme → Command → Command
-loop_of (scheme.While place condition) body = Repeat (Tested place condition) body
+loop_of scheme body = Repeat (head_of scheme) body
 
 abbrev pub stmt_step : CoreStmt-F Command (Option (List CoreChoice) × Command) (Command → Command) → Command
 stmt_step (CoreStmt-F.Null place) = Skip

@@ -15,6 +15,7 @@ use Rattle.spx_tree.specs.declared.statement.Stmt.TheVariants as stmt
 use Rattle.spx_tree.specs.declared.statement.Arm.{Arm}
 use Rattle.spx_tree.specs.declared.statement.Alternative.{Alternative}
 use Rattle.spx_tree.specs.declared.statement.Choice.{Choice}
+use Rattle.spx_tree.specs.declared.statement.Count.{Count}
 use Rattle.spx_tree.specs.declared.statement.Scheme.{Scheme}
 use Rattle.spx_tree.specs.declared.statement.Scheme.TheVariants as scheme
 use Rattle.spx_tree.specs.declared.expression.Function.{Function}
@@ -38,6 +39,7 @@ use Rattle.spx_core.specs.declared.statement.CoreStmt.{CoreStmt, CoreStmt-F, fol
 use Rattle.spx_core.specs.declared.statement.CoreArm.{CoreArm, CoreArm-F, fold-CoreArm}
 use Rattle.spx_core.specs.declared.statement.CoreAlternative.{CoreAlternative, CoreAlternative-F, fold-CoreAlternative}
 use Rattle.spx_core.specs.declared.statement.CoreChoice.{CoreChoice}
+use Rattle.spx_core.specs.declared.statement.CoreCount.{CoreCount}
 use Rattle.spx_core.specs.declared.statement.CoreScheme.{CoreScheme}
 use Rattle.spx_core.specs.declared.statement.CoreScheme.TheVariants as core_scheme
 use Rattle.spx_core.specs.declared.function.CoreFunction.{CoreFunction}
@@ -93,8 +95,15 @@ erased_expr = fold-CoreExpr Expr erased_step
 abbrev pub erased_choice : CoreChoice → Choice
 erased_choice choice = record { low = erased_expr choice.low; high = option_map erased_expr choice.high }
 
+abbrev pub erased_range : CoreRange → Range
+erased_range range = record { low = erased_expr range.low; high = erased_expr range.high }
+
+abbrev pub erased_count : CoreCount → Count
+erased_count c = record { place = c.place; name = c.name; word = c.word; is_reverse = c.is_reverse; type_name = erased_reference c.type_name; bounds = option_map erased_range c.bounds }
+
 abbrev pub erased_scheme : CoreScheme → Scheme
 erased_scheme (core_scheme.While place condition) = scheme.While place (erased_expr condition)
+erased_scheme (core_scheme.For c) = scheme.For (erased_count c)
 
 abbrev pub erased_alternative_step : CoreAlternative-F Stmt Alternative Arm → Alternative
 erased_alternative_step alternative = record { choices = option_map (map erased_choice) alternative.choices; body = alternative.body }
@@ -118,9 +127,6 @@ erased_arm = fold-CoreArm Stmt Alternative Arm erased_stmt_step erased_alternati
 
 abbrev pub erased_alternative : CoreAlternative → Alternative
 erased_alternative = fold-CoreAlternative Stmt Alternative Arm erased_stmt_step erased_alternative_step erased_arm_step
-
-abbrev pub erased_range : CoreRange → Range
-erased_range range = record { low = erased_expr range.low; high = erased_expr range.high }
 
 abbrev pub erased_definition : CoreTypeDef → TypeDef
 erased_definition (core_definition.Integer range) = definition.Integer (erased_range range)

@@ -40,7 +40,8 @@ use Rattle.spx_core.specs.declared.rule.RuleName.TheVariants.{N1, N2, N3, N5, N1
 use Rattle.spx_core.specs.declared.rule.ExprType.{ExprType}
 use Rattle.spx_core.specs.declared.rule.ExprType.TheVariants.{Of}
 use Rattle.spx_core.specs.declared.rule.Typing.{Typing}
-use Rattle.spx_core.specs.Commands.{Command, Count, Head, Set, Then, Choose, Select, Assertion, Repeat, Tested, Counted, Alternatives, bodies_in, choices_in, commands, has_others, has_others_last, spans_of}
+use Rattle.spx_core.specs.declared.statement.CoreCount.{CoreCount}
+use Rattle.spx_core.specs.Commands.{Command, Head, Set, Then, Choose, Select, Assertion, Repeat, Tested, Counted, Alternatives, bodies_in, choices_in, commands, has_others, has_others_last, spans_of}
 use Rattle.spx_core.specs.Dependency.{relation}
 use Rattle.spx_core.specs.Extents.{extent}
 use Rattle.spx_core.specs.HasType.{HasType}
@@ -178,7 +179,8 @@ pub data BreaksBound (subtype : Subtype) (e : CoreExpr) : RuleName → Place →
   out_of_type : (t : Typing) → HasType e t → lies_in (Of subtype.base) t.value ≡ false → BreaksBound subtype e N12 t.place
 
 -- what a loop counts over: a type that has an order, between bounds of it
-pub data BreaksCount (c : Count) : RuleName → Place → Type 0 where
+pub data BreaksCount (c : CoreCount) : RuleName → Place → Type 0 where
+  declared_again : c.again ≡ true → BreaksCount c N2 c.name.place
   type_name : (rule : RuleName) (place : Place) → BreaksReference IsType c.type_name rule place → BreaksCount c rule place
   no_order : (subtype : Subtype) → c.type_name.root.entity ≡ Some (entity.TypeName subtype) → has_numbers subtype.base.class ≡ false → BreaksCount c N10 c.type_name.root.name.place
   low : (range : CoreRange) (subtype : Subtype) (rule : RuleName) (place : Place) → c.bounds ≡ Some range → c.type_name.root.entity ≡ Some (entity.TypeName subtype) → BreaksBound subtype range.low rule place → BreaksCount c rule place
@@ -207,7 +209,7 @@ pub data BreaksCommand : Command → RuleName → Place → Type 0 where
   alternative : (at : Place) (selector : CoreExpr) (alternatives : Alternatives) (a : Command) (rule : RuleName) (place : Place) → Contains (bodies_in alternatives) a → BreaksCommand a rule place → BreaksCommand (Select at selector alternatives) rule place
   asserted : (kind : AssertionKind) (at : Place) (c : CoreExpr) (rule : RuleName) (place : Place) → BreaksCondition c rule place → BreaksCommand (Assertion kind at c) rule place
   turned : (at : Place) (c : CoreExpr) (a : Command) (rule : RuleName) (place : Place) → BreaksCondition c rule place → BreaksCommand (Repeat (Tested at c) a) rule place
-  counted : (c : Count) (a : Command) (rule : RuleName) (place : Place) → BreaksCount c rule place → BreaksCommand (Repeat (Counted c) a) rule place
+  counted : (c : CoreCount) (a : Command) (rule : RuleName) (place : Place) → BreaksCount c rule place → BreaksCommand (Repeat (Counted c) a) rule place
   body : (head : Head) (a : Command) (rule : RuleName) (place : Place) → BreaksCommand a rule place → BreaksCommand (Repeat head a) rule place
 
 -- ---- declarations

@@ -3,6 +3,8 @@ use Rattle.std.specs.Prelude.{◌≡◌, ⊤, Bool, true, false, not, ◌&&◌, 
 use Rattle.std.specs.List.{flat_map, list_any, list_all}
 use Rattle.spx_text.specs.declared.place.Place.{Place}
 use Rattle.spx_core.specs.declared.entity.VarId.{VarId}
+use Rattle.spx_core.specs.declared.entity.VarKind.{VarKind}
+use Rattle.spx_core.specs.declared.entity.VarKind.TheVariants.{LoopParameter}
 use Rattle.spx_core.specs.declared.entity.Mode.{Mode}
 use Rattle.spx_core.specs.declared.entity.Mode.TheVariants.{In, Out, InOut}
 use Rattle.spx_core.specs.declared.entity.Entity.{Entity}
@@ -16,7 +18,7 @@ use Rattle.spx_core.specs.declared.subprogram.Sub.{Sub}
 use Rattle.spx_core.specs.declared.program.Program.{Program}
 use Rattle.spx_core.specs.declared.rule.RuleName.TheVariants.{U2, U7, U8, U11}
 use Rattle.spx_core.specs.declared.rule.Breach.{Breach}
-use Rattle.spx_core.specs.Commands.{Command, Skip, Set, Then, Choose, Select, Assertion, Repeat, Tested, Alternatives, Last, When, commands}
+use Rattle.spx_core.specs.Commands.{Command, Skip, Set, Then, Choose, Select, Assertion, Repeat, Alternatives, Last, When, commands}
 use Rattle.spx_core.specs.Reads.{names_read}
 use Rattle.spx_core.specs.Uses.{mentions, variable_of, variable_is}
 use Rattle.spx_core.specs.Dependency.{relation, exports, imports}
@@ -142,9 +144,14 @@ reads_formal sub name = keeps U11 name.name.place (variable_passes (λ v. is_for
 abbrev pub obeyed_post : Sub → CorePredicate → Judged ⊤
 obeyed_post sub post = each (reads_formal sub) (names_read post.condition)
 
--- ---- U2: no formal of mode `in` is assigned, and no constant
+-- ---- U2: no formal of mode `in` is assigned, and no constant; the parameter of a loop is one (Ada 95 RM 3.3)
+
+abbrev pub is_loop_parameter_kind : VarKind → Bool
+is_loop_parameter_kind LoopParameter = true
+is_loop_parameter_kind _ = false
 
 abbrev pub is_constant : Option Entity → Bool
+is_constant (Some (entity.Variable v object)) = is_loop_parameter_kind object.kind
 is_constant (Some (entity.Constant subtype value)) = true
 is_constant (Some (entity.NamedNumber value)) = true
 is_constant _ = false

@@ -15,6 +15,8 @@ use Rattle.spx_tree.specs.declared.statement.Stmt.{Stmt, Stmt-F, fold-Stmt}
 use Rattle.spx_tree.specs.declared.statement.Arm.{Arm, Arm-F, fold-Arm}
 use Rattle.spx_tree.specs.declared.statement.Alternative.{Alternative, Alternative-F, fold-Alternative}
 use Rattle.spx_tree.specs.declared.statement.Choice.{Choice}
+use Rattle.spx_tree.specs.declared.statement.Closing.{Closing}
+use Rattle.spx_tree.specs.declared.statement.Count.{Count}
 use Rattle.spx_tree.specs.declared.statement.Scheme.{Scheme}
 use Rattle.spx_tree.specs.declared.statement.Scheme.TheVariants as scheme
 use Rattle.spx_tree.specs.declared.expression.Function.{Function}
@@ -43,7 +45,7 @@ use Rattle.spx_core.specs.declared.entity.Subtype.{Subtype}
 use Rattle.spx_core.specs.declared.entity.Mode.{Mode}
 use Rattle.spx_core.specs.declared.entity.Mode.TheVariants as mode
 use Rattle.spx_core.specs.declared.entity.VarKind.{VarKind}
-use Rattle.spx_core.specs.declared.entity.VarKind.TheVariants.{Formal, Local, Initialized}
+use Rattle.spx_core.specs.declared.entity.VarKind.TheVariants.{Formal, Local, Initialized, LoopParameter}
 use Rattle.spx_core.specs.declared.entity.Object.{Object}
 use Rattle.spx_core.specs.declared.entity.Entity.{Entity}
 use Rattle.spx_core.specs.declared.entity.Entity.TheVariants as entity
@@ -53,10 +55,11 @@ use Rattle.spx_core.specs.declared.name.Step.TheVariants as step
 use Rattle.spx_core.specs.declared.name.Reference.{Reference}
 use Rattle.spx_core.specs.declared.expression.CoreExpr.{CoreExpr}
 use Rattle.spx_core.specs.declared.expression.CoreExpr.TheVariants as expr
-use Rattle.spx_core.specs.declared.statement.CoreStmt.{CoreStmt}
-use Rattle.spx_core.specs.declared.statement.CoreArm.{CoreArm}
-use Rattle.spx_core.specs.declared.statement.CoreAlternative.{CoreAlternative}
+use Rattle.spx_core.specs.declared.statement.CoreStmt.{CoreStmt, CoreStmt-F, fold-CoreStmt}
+use Rattle.spx_core.specs.declared.statement.CoreArm.{CoreArm, CoreArm-F, fold-CoreArm}
+use Rattle.spx_core.specs.declared.statement.CoreAlternative.{CoreAlternative, CoreAlternative-F, fold-CoreAlternative}
 use Rattle.spx_core.specs.declared.statement.CoreChoice.{CoreChoice}
+use Rattle.spx_core.specs.declared.statement.CoreCount.{CoreCount}
 use Rattle.spx_core.specs.declared.statement.CoreScheme.{CoreScheme}
 use Rattle.spx_core.specs.declared.statement.CoreScheme.TheVariants as core_scheme
 use Rattle.spx_core.specs.declared.function.CoreFunction.{CoreFunction}
@@ -149,70 +152,6 @@ or_zero None = pos 0
 abbrev pub value_or_zero : CoreExpr → ℤ
 value_or_zero e = or_zero (static_value e)
 
--- ---- statements and annotations
-
--- the values of a choice
-abbrev pub chosen_by : CoreExpr → Option CoreExpr → Span
-chosen_by low None = record { first = value_or_zero low; last = value_or_zero low }
-chosen_by low (Some high) = record { first = value_or_zero low; last = value_or_zero high }
-
-abbrev pub choice_of : CoreExpr → Option CoreExpr → CoreChoice
-choice_of low high = record { low = low; high = high; span = chosen_by low high }
-
-abbrev pub resolved_choice : Regions → Choice → CoreChoice
-resolved_choice regions choice = choice_of (resolved_expr regions choice.low) (option_map (resolved_expr regions) choice.high)
-
-abbrev pub resolved_scheme : Regions → Scheme → CoreScheme
-resolved_scheme regions (scheme.While place condition) = core_scheme.While place (resolved_expr regions condition)
-
--- one level, whose parts are resolved
-abbrev pub alternative_step : Regions → Alternative-F CoreStmt CoreAlternative CoreArm → CoreAlternative
-alternative_step regions alternative = record { choices = option_map (map (resolved_choice regions)) alternative.choices; body = alternative.body }
-
-abbrev pub arm_step : Regions → Arm-F CoreStmt CoreAlternative CoreArm → CoreArm
-arm_step regions arm = record { place = arm.place; condition = resolved_expr regions arm.condition; body = arm.body }
-
-abbrev pub stmt_step : List CoreDerivesItem → Regions → Stmt-F CoreStmt CoreAlternative CoreArm → CoreStmt
-stmt_step items regions (Stmt-F.Null place) = stmt.Null place
-stmt_step items regions (Stmt-F.Assignment target value) = stmt.Assignment (resolved_reference regions target) (resolved_expr regions value)
-stmt_step items regions (Stmt-F.If arms otherwise closing) = stmt.If arms otherwise closing
-stmt_step items regions (Stmt-F.Case place selector alternatives closing) = stmt.Case place (resolved_expr regions selector) alternatives closing
-stmt_step items regions (Stmt-F.Loop scheme word body closing) = stmt.Loop (resolved_scheme regions scheme) word body closing
-stmt_step items regions (Stmt-F.Assertion kind place condition) = stmt.Assertion kind place (resolved_in items regions condition)
-
-abbrev pub resolved_stmt : List CoreDerivesItem → Regions → Stmt → CoreStmt
-resolved_stmt items regions = fold-Stmt CoreStmt CoreAlternative CoreArm (stmt_step items regions) (alternative_step regions) (arm_step regions)
-
-abbrev pub resolved_arm : List CoreDerivesItem → Regions → Arm → CoreArm
-resolved_arm items regions = fold-Arm CoreStmt CoreAlternative CoreArm (stmt_step items regions) (alternative_step regions) (arm_step regions)
-
-abbrev pub resolved_alternative : List CoreDerivesItem → Regions → Alternative → CoreAlternative
-resolved_alternative items regions = fold-Alternative CoreStmt CoreAlternative CoreArm (stmt_step items regions) (alternative_step regions) (arm_step regions)
-
--- the names that are exported; at `null` there are none
-abbrev pub exported_names : Exports → List Name
-exported_names (exported.Names names) = names
-exported_names (exported.Null place) = []
-
--- the place of `null`
-abbrev pub place_of_null : Exports → Option Place
-place_of_null (exported.Names names) = None
-place_of_null (exported.Null place) = Some place
-
-abbrev pub resolved_item : Regions → DerivesItem → CoreDerivesItem
-resolved_item regions item = record {
-  null = place_of_null item.exports;
-  exports = map (resolved_reference regions) (exported_names item.exports);
-  itself = item.imports.itself;
-  imports = map (resolved_reference regions) item.imports.names;
-}
-
-abbrev pub resolved_derives : Regions → Derives → CoreDerives
-resolved_derives regions derives = record { place = derives.place; items = map (resolved_item regions) derives.items }
-
-abbrev pub resolved_predicate : List CoreDerivesItem → Regions → Predicate → CorePredicate
-resolved_predicate items regions predicate = record { place = predicate.place; condition = resolved_in items regions predicate.condition }
-
 -- ---- declared names
 
 -- the subtype that a name denotes; where it denotes none, a rule is broken, and it counts as that of universal numbers
@@ -251,6 +190,171 @@ abbrev pub defining_all : Region → Meaning → ℕ → List Identifier → Lis
 defining_all region meaning position [] = []
 defining_all region meaning position (name ∷ names) =
     defining region (meant_at meaning position) name ∷ defining_all (declaring region (defining region (meant_at meaning position) name)) meaning (position + 1) names
+
+-- around what a declaration of these names in a region says: there they are hidden
+abbrev pub around_names : Regions → Region → List Identifier → Regions
+around_names outer region names = hidden names ∷ region ∷ outer
+
+-- ---- choices
+
+-- the values of a choice
+abbrev pub chosen_by : CoreExpr → Option CoreExpr → Span
+chosen_by low None = record { first = value_or_zero low; last = value_or_zero low }
+chosen_by low (Some high) = record { first = value_or_zero low; last = value_or_zero high }
+
+abbrev pub choice_of : CoreExpr → Option CoreExpr → CoreChoice
+choice_of low high = record { low = low; high = high; span = chosen_by low high }
+
+abbrev pub resolved_choice : Regions → Choice → CoreChoice
+resolved_choice regions choice = choice_of (resolved_expr regions choice.low) (option_map (resolved_expr regions) choice.high)
+
+-- ---- the parameters of loops (Ada 95 RM 5.5)
+
+abbrev pub count_of : Region → ℕ → Count → Reference → Option CoreRange → CoreCount
+count_of region position c type_name bounds = record {
+  place = c.place;
+  name = c.name;
+  parameter = record { 0 = position };
+  again = is_declared region c.name.text;
+  word = c.word;
+  is_reverse = c.is_reverse;
+  type_name = type_name;
+  bounds = bounds;
+}
+
+-- at this position; its name is hidden in what is said of it
+abbrev pub resolved_count : Regions → Region → ℕ → Count → CoreCount
+resolved_count outer region position c =
+    count_of region position c (resolved_reference (around_names outer region (c.name ∷ [])) c.type_name) (option_map (resolved_range (around_names outer region (c.name ∷ []))) c.bounds)
+
+abbrev pub declared_by_count : CoreCount → Defining
+declared_by_count c = record { name = c.name; entity = entity.Variable c.parameter (object_of LoopParameter c.type_name); again = c.again }
+
+abbrev pub declared_by_scheme : CoreScheme → List Defining
+declared_by_scheme (core_scheme.While place condition) = []
+declared_by_scheme (core_scheme.For c) = declared_by_count c ∷ []
+
+abbrev pub resolved_scheme : Regions → Region → ℕ → Scheme → CoreScheme
+resolved_scheme outer region position (scheme.While place condition) = core_scheme.While place (resolved_expr (region ∷ outer) condition)
+resolved_scheme outer region position (scheme.For c) = core_scheme.For (resolved_count outer region position c)
+
+-- ---- parts of a body
+
+-- A part of a body, in a region and at the position of the first loop parameter in it: what it is resolved to, and the position after the last one.
+abbrev pub Part : Type 0 → Type 0
+Part A = Region → ℕ → A × ℕ
+
+-- in which there is no loop
+abbrev pub plain : {A : Type 0} → (Region → A) → Part A
+plain f region position = (f region, position)
+
+-- made of one
+abbrev pub made_of : {A B : Type 0} → (Region → A → B) → Part A → Part B
+made_of f a region position = (f region (a region position).0, (a region position).1)
+
+-- made of two, one after the other
+abbrev pub made_of_both : {A B C : Type 0} → (A → B → C) → Part A → Part B → Part C
+made_of_both f a b region position = (f (a region position).0 (b region (a region position).1).0, (b region (a region position).1).1)
+
+-- one after another
+abbrev pub in_order : {A : Type 0} → List (Part A) → Part (List A)
+in_order [] = plain (λ region. [])
+in_order (p ∷ ps) = made_of_both (λ x xs. x ∷ xs) p (in_order ps)
+
+-- inside a loop with this scheme, which sees its parameter
+abbrev pub inside : {A : Type 0} → CoreScheme → Part A → Part A
+inside scheme body region position = body (declaring_all region (declared_by_scheme scheme)) (position + length (declared_by_scheme scheme))
+
+abbrev pub loop_with : Place → Closing → Part (List CoreStmt) → CoreScheme → Part CoreStmt
+loop_with word closing body scheme = made_of (λ region stmts. stmt.Loop scheme word stmts closing) (inside scheme body)
+
+-- one level, whose parts are resolved
+abbrev pub alternative_step : Regions → Alternative-F (Part CoreStmt) (Part CoreAlternative) (Part CoreArm) → Part CoreAlternative
+alternative_step outer alternative =
+    made_of (λ region stmts. record { choices = option_map (map (resolved_choice (region ∷ outer))) alternative.choices; body = stmts }) (in_order alternative.body)
+
+abbrev pub arm_step : Regions → Arm-F (Part CoreStmt) (Part CoreAlternative) (Part CoreArm) → Part CoreArm
+arm_step outer arm = made_of (λ region stmts. record { place = arm.place; condition = resolved_expr (region ∷ outer) arm.condition; body = stmts }) (in_order arm.body)
+
+abbrev pub stmt_step : List CoreDerivesItem → Regions → Stmt-F (Part CoreStmt) (Part CoreAlternative) (Part CoreArm) → Part CoreStmt
+stmt_step items outer (Stmt-F.Null place) = plain (λ region. stmt.Null place)
+stmt_step items outer (Stmt-F.Assignment target value) = plain (λ region. stmt.Assignment (resolved_reference (region ∷ outer) target) (resolved_expr (region ∷ outer) value))
+stmt_step items outer (Stmt-F.If arms None closing) = made_of (λ region xs. stmt.If xs None closing) (in_order arms)
+stmt_step items outer (Stmt-F.If arms (Some stmts) closing) = made_of_both (λ xs ys. stmt.If xs (Some ys) closing) (in_order arms) (in_order stmts)
+stmt_step items outer (Stmt-F.Case place selector alternatives closing) =
+    made_of (λ region xs. stmt.Case place (resolved_expr (region ∷ outer) selector) xs closing) (in_order alternatives)
+stmt_step items outer (Stmt-F.Loop scheme word body closing) = λ region position. loop_with word closing (in_order body) (resolved_scheme outer region position scheme) region position
+stmt_step items outer (Stmt-F.Assertion kind place condition) = plain (λ region. stmt.Assertion kind place (resolved_in items (region ∷ outer) condition))
+
+abbrev pub resolved_stmt : List CoreDerivesItem → Regions → Stmt → Part CoreStmt
+resolved_stmt items outer = fold-Stmt (Part CoreStmt) (Part CoreAlternative) (Part CoreArm) (stmt_step items outer) (alternative_step outer) (arm_step outer)
+
+abbrev pub resolved_arm : List CoreDerivesItem → Regions → Arm → Part CoreArm
+resolved_arm items outer = fold-Arm (Part CoreStmt) (Part CoreAlternative) (Part CoreArm) (stmt_step items outer) (alternative_step outer) (arm_step outer)
+
+abbrev pub resolved_alternative : List CoreDerivesItem → Regions → Alternative → Part CoreAlternative
+resolved_alternative items outer = fold-Alternative (Part CoreStmt) (Part CoreAlternative) (Part CoreArm) (stmt_step items outer) (alternative_step outer) (arm_step outer)
+
+abbrev pub resolved_stmts : List CoreDerivesItem → Regions → List Stmt → Part (List CoreStmt)
+resolved_stmts items outer stmts = in_order (map (resolved_stmt items outer) stmts)
+
+-- ---- the loop parameters of statements, in the order of the text
+
+abbrev pub all_of : List (List Defining) → List Defining
+all_of lists = flat_map (λ (ds : List Defining). ds) lists
+
+abbrev pub parameters_in_alternative : CoreAlternative-F (List Defining) (List Defining) (List Defining) → List Defining
+parameters_in_alternative alternative = all_of alternative.body
+
+abbrev pub parameters_in_arm : CoreArm-F (List Defining) (List Defining) (List Defining) → List Defining
+parameters_in_arm arm = all_of arm.body
+
+abbrev pub parameters_step : CoreStmt-F (List Defining) (List Defining) (List Defining) → List Defining
+parameters_step (CoreStmt-F.Null place) = []
+parameters_step (CoreStmt-F.Assignment target value) = []
+parameters_step (CoreStmt-F.If arms None closing) = all_of arms
+parameters_step (CoreStmt-F.If arms (Some stmts) closing) = all_of arms ++ all_of stmts
+parameters_step (CoreStmt-F.Case place selector alternatives closing) = all_of alternatives
+parameters_step (CoreStmt-F.Loop scheme word body closing) = declared_by_scheme scheme ++ all_of body
+parameters_step (CoreStmt-F.Assertion kind place condition) = []
+
+abbrev pub parameters_by : CoreStmt → List Defining
+parameters_by = fold-CoreStmt (List Defining) (List Defining) (List Defining) parameters_step parameters_in_alternative parameters_in_arm
+
+abbrev pub parameters_by_arm : CoreArm → List Defining
+parameters_by_arm = fold-CoreArm (List Defining) (List Defining) (List Defining) parameters_step parameters_in_alternative parameters_in_arm
+
+abbrev pub parameters_by_alternative : CoreAlternative → List Defining
+parameters_by_alternative = fold-CoreAlternative (List Defining) (List Defining) (List Defining) parameters_step parameters_in_alternative parameters_in_arm
+
+abbrev pub parameters_by_stmts : List CoreStmt → List Defining
+parameters_by_stmts stmts = flat_map parameters_by stmts
+
+-- ---- annotations
+
+-- the names that are exported; at `null` there are none
+abbrev pub exported_names : Exports → List Name
+exported_names (exported.Names names) = names
+exported_names (exported.Null place) = []
+
+-- the place of `null`
+abbrev pub place_of_null : Exports → Option Place
+place_of_null (exported.Names names) = None
+place_of_null (exported.Null place) = Some place
+
+abbrev pub resolved_item : Regions → DerivesItem → CoreDerivesItem
+resolved_item regions item = record {
+  null = place_of_null item.exports;
+  exports = map (resolved_reference regions) (exported_names item.exports);
+  itself = item.imports.itself;
+  imports = map (resolved_reference regions) item.imports.names;
+}
+
+abbrev pub resolved_derives : Regions → Derives → CoreDerives
+resolved_derives regions derives = record { place = derives.place; items = map (resolved_item regions) derives.items }
+
+abbrev pub resolved_predicate : List CoreDerivesItem → Regions → Predicate → CorePredicate
+resolved_predicate items regions predicate = record { place = predicate.place; condition = resolved_in items regions predicate.condition }
 
 -- ---- declared types and values (Ada 95 RM 3.2.2, 3.3, 3.5)
 
@@ -377,12 +481,8 @@ subtype_decl region position name parent range =
 
 -- The declarations of a region inside others: each sees those before it, and not itself.
 module _ (outer : Regions) where
-  -- around what a declaration of these names says
-  abbrev pub around_names : Region → List Identifier → Regions
-  around_names region names = hidden names ∷ region ∷ outer
-
   abbrev pub resolved_param : Region → ℕ → Param → CoreParam
-  resolved_param region position param = param_of region position param (resolved_reference (around_names region param.names) param.type_name)
+  resolved_param region position param = param_of region position param (resolved_reference (around_names outer region param.names) param.type_name)
 
   -- the first variable has this position
   abbrev pub resolved_params : Region → ℕ → List Param → List CoreParam
@@ -392,17 +492,17 @@ module _ (outer : Regions) where
       ∷ resolved_params (declaring_all region (resolved_param region position p).names) (position + length (resolved_param region position p).names) ps
 
   abbrev pub resolved_type : Region → Counts → Identifier → TypeDef → CoreDecl
-  resolved_type region before name (written_definition.Integer range) = integer_decl region before.types name (resolved_range (around_names region (name ∷ [])) range)
+  resolved_type region before name (written_definition.Integer range) = integer_decl region before.types name (resolved_range (around_names outer region (name ∷ [])) range)
   resolved_type region before name (written_definition.Enumeration place literals) = enumeration_decl region before.types name place literals
 
   abbrev pub resolved_decl : Region → Counts → Decl → CoreDecl
   resolved_decl region before (written_decl.Variables names type_name value) =
-      variables_of region before.vars names (resolved_reference (around_names region names) type_name) (option_map (resolved_expr (around_names region names)) value)
+      variables_of region before.vars names (resolved_reference (around_names outer region names) type_name) (option_map (resolved_expr (around_names outer region names)) value)
   resolved_decl region before (written_decl.Constants names type_name value) =
-      constants_of region names (option_map (resolved_reference (around_names region names)) type_name) (resolved_expr (around_names region names) value)
+      constants_of region names (option_map (resolved_reference (around_names outer region names)) type_name) (resolved_expr (around_names outer region names) value)
   resolved_decl region before (written_decl.FullType name definition) = resolved_type region before name definition
   resolved_decl region before (written_decl.Subtype name parent range) =
-      subtype_decl region before.types name (resolved_reference (around_names region (name ∷ [])) parent) (option_map (resolved_range (around_names region (name ∷ []))) range)
+      subtype_decl region before.types name (resolved_reference (around_names outer region (name ∷ [])) parent) (option_map (resolved_range (around_names outer region (name ∷ []))) range)
 
   abbrev pub resolved_decls : Region → Counts → List Decl → List CoreDecl
   resolved_decls region before [] = []
@@ -438,6 +538,9 @@ local_names sub = declared_by_decls sub.declarations
 abbrev pub local_variables : Sub → List Defining
 local_variables sub = variables_by_decls sub.declarations
 
+abbrev pub loop_names : Sub → List Defining
+loop_names sub = parameters_by_stmts sub.statements
+
 -- so many variables, from this position on
 abbrev pub positions : ℕ → List Defining → List VarId
 positions position [] = []
@@ -469,9 +572,22 @@ derives_of name part s = option_map (resolved_derives (around_annotations name p
 abbrev pub items_for : Defining → Option CoreFormalPart → Subprogram → List CoreDerivesItem
 items_for name part s = items_of (derives_of name part s)
 
+-- what the names of its body denote, in its own region
+abbrev pub own_region : Option CoreFormalPart → List CoreDecl → Region
+own_region part decls = declaring_all [] (declared_by_params (params_of part) ++ declared_by_decls decls)
+
+-- its formals and its locals
+abbrev pub declared_before : Option CoreFormalPart → List CoreDecl → List Defining
+declared_before part decls = declared_by_params (params_of part) ++ variables_by_decls decls
+
+-- its statements, where its first variable has this position; the parameters of its loops come after the locals
+abbrev pub statements_of : Defining → ℕ → Subprogram → Option CoreFormalPart → List CoreDecl → List CoreStmt
+statements_of name position s part decls =
+    (resolved_stmts (items_for name part s) (around_body name) s.statements (own_region part decls) (position + length (declared_before part decls))).0
+
 -- the subprogram of which these parts are resolved, and whose first variable has this position
-abbrev pub sub_of : Defining → ℕ → Subprogram → Option CoreFormalPart → List CoreDecl → Sub
-sub_of name position s part decls = record {
+abbrev pub sub_with : Defining → ℕ → Subprogram → Option CoreFormalPart → List CoreDecl → List CoreStmt → Sub
+sub_with name position s part decls statements = record {
   place = s.place;
   name = name;
   formal_part = part;
@@ -479,12 +595,16 @@ sub_of name position s part decls = record {
   pre = option_map (resolved_predicate [] (around_annotations name part)) s.pre;
   post = option_map (resolved_predicate (items_for name part s) (around_annotations name part)) s.post;
   declarations = decls;
-  statements = map (resolved_stmt (items_for name part s) (declaring_all [] (declared_by_params (params_of part) ++ declared_by_decls decls) ∷ around_body name)) s.statements;
+  statements = statements;
   end = s.end;
   end_name = s.end_name;
-  vars = positions position (declared_by_params (params_of part) ++ variables_by_decls decls);
+  vars = positions position (declared_before part decls ++ parameters_by_stmts statements);
   formal_count = length (declared_by_params (params_of part));
+  local_count = length (variables_by_decls decls);
 }
+
+abbrev pub sub_of : Defining → ℕ → Subprogram → Option CoreFormalPart → List CoreDecl → Sub
+sub_of name position s part decls = sub_with name position s part decls (statements_of name position s part decls)
 
 -- its declarations are seen after the formals
 abbrev pub with_formals : Defining → Counts → Subprogram → Option CoreFormalPart → Sub
@@ -505,7 +625,7 @@ abbrev pub var_of : Defining → Var
 var_of d = var_in d.name.text d.entity
 
 abbrev pub own_vars : Sub → List Var
-own_vars sub = map var_of (formal_names sub ++ local_variables sub)
+own_vars sub = map var_of ((formal_names sub ++ local_variables sub) ++ loop_names sub)
 
 -- the rows of the types that it declares
 abbrev pub own_types : Sub → List TypeRow

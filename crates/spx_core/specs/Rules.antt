@@ -1,5 +1,5 @@
 -- What the rules on variables say of a program that breaks none (Barnes, High Integrity Software).
-use Rattle.std.specs.Prelude.{◌≡◌, ◌≢◌, Bool, ◌&&◌, not, IsTrue, Some}
+use Rattle.std.specs.Prelude.{◌≡◌, ◌≢◌, Bool, false, ◌&&◌, not, IsTrue, Some}
 use Rattle.std.specs.List.{list_all}
 use Rattle.spx_core.specs.declared.entity.VarId.{VarId}
 use Rattle.spx_core.specs.declared.entity.Mode.{Mode}
@@ -9,7 +9,8 @@ use Rattle.spx_core.specs.declared.subprogram.Sub.{Sub}
 use Rattle.spx_core.specs.declared.program.Program.{Program}
 use Rattle.spx_core.specs.Uses.{uses}
 use Rattle.spx_core.specs.Dependency.{exports, imports, relation}
-use Rattle.spx_core.specs.Effects.{defines}
+use Rattle.spx_core.specs.Effects.{assigns, counts, defines, effects}
+use Rattle.spx_core.specs.Scopes.{KeepsParameters}
 use Rattle.spx_core.specs.Formals.{formals, is_formal, mode_of}
 use Rattle.spx_core.specs.Obeyed.{exports_once, is_listed, names_formals, names_once, pairs_once, unused_imports}
 
@@ -22,6 +23,8 @@ agrees mode.InOut imported exported = imported && exported
 pub record ObeysRules (p : Program) (sub : Sub) : Type 0 where
   -- U2
   pub targets : (v : VarId) → IsTrue (defines v sub.statements) → mode_of v p ≢ Some mode.In
+  pub loop_parameters : (v : VarId) → IsTrue (counts v (effects sub.statements)) → assigns v (effects sub.statements) ≡ false
+  pub loops_keep_them : KeepsParameters (effects sub.statements)
   -- U7
   pub exports_are_named_once : IsTrue (exports_once (relation sub))
   pub pairs_are_named_once : IsTrue (list_all pairs_once (relation sub))

@@ -4,7 +4,7 @@ use Rattle.std.specs.Prelude.{◌≡◌, ⊤, ℤ, int_le, true, false, ◌||◌
 use Rattle.std.specs.List.{IsDistinct}
 use Rattle.spx_core.specs.declared.entity.VarId.{VarId}
 use Rattle.spx_core.specs.declared.entity.VarKind.{VarKind}
-use Rattle.spx_core.specs.declared.entity.VarKind.TheVariants.{Formal, Local, Initialized}
+use Rattle.spx_core.specs.declared.entity.VarKind.TheVariants.{Formal, Local, Initialized, LoopParameter}
 use Rattle.spx_core.specs.declared.entity.Mode.{Mode}
 use Rattle.spx_core.specs.declared.entity.Object.{Object}
 use Rattle.spx_core.specs.declared.entity.Entity.TheVariants as entity
@@ -17,13 +17,14 @@ use Rattle.spx_core.specs.declared.program.TypeRow.{TypeRow}
 use Rattle.spx_core.specs.declared.program.Var.{Var}
 use Rattle.spx_core.specs.declared.program.Program.{Program}
 use Rattle.spx_core.specs.declared.subprogram.Sub.{Sub}
-use Rattle.spx_core.specs.Commands.{Command, Skip, Set, Then, Choose, Select, Count, Head, Assertion, Repeat, Tested, Counted, Alternatives, Last, When, commands}
+use Rattle.spx_core.specs.Commands.{Command, Skip, Set, Then, Choose, Select, Head, Assertion, Repeat, Tested, Counted, Alternatives, Last, When, commands}
 use Rattle.spx_core.specs.Reads.{names_read}
 use Rattle.spx_core.specs.Uses.{denotes}
 use Rattle.spx_core.specs.Dependency.{exports, imports, relation}
-use Rattle.spx_core.specs.Formals.{initial_of, is_formal, is_local, mode_of}
-use Rattle.spx_core.specs.Effects.{Effect, nothing, assign, next, choose, observe, repeat, count, assigns, counts, defines, effects, reads, sets}
+use Rattle.spx_core.specs.Formals.{is_formal, is_inner, is_local, is_loop_parameter, mode_of}
+use Rattle.spx_core.specs.Effects.{Effect, nothing, assign, next, choose, observe, repeat, count, counts, defines, effects, reads, sets}
 use Rattle.spx_core.specs.Obeyed.{mode_named}
+use Rattle.spx_core.specs.Resolved.{object_of}
 use Rattle.spx_core.specs.Types.{is_between}
 
 -- what a variable is declared as
@@ -52,11 +53,12 @@ abbrev mutual
   AllHaveTheirModes p (Last choices a) = TargetsHaveTheirModes p a
   AllHaveTheirModes p (When choices a rest) = TargetsHaveTheirModes p a × AllHaveTheirModes p rest
 
--- a local is declared without a value or with one
-abbrev pub IsLocalKind : VarKind → Type 0
-IsLocalKind (Formal mode) = ⊥
-IsLocalKind Local = ⊤
-IsLocalKind (Initialized n) = ⊤
+-- what is declared in a body is no formal
+abbrev pub IsInnerKind : VarKind → Type 0
+IsInnerKind (Formal mode) = ⊥
+IsInnerKind Local = ⊤
+IsInnerKind (Initialized n) = ⊤
+IsInnerKind LoopParameter = ⊤
 
 -- what is declared of a variable: its kind, and its type by the table of types
 abbrev pub object_in : Program → Var → Option Object
@@ -74,12 +76,12 @@ abbrev pub names_in_bounds : Option CoreRange → List CoreName
 names_in_bounds None = []
 names_in_bounds (Some range) = names_read range.low ++ names_read range.high
 
--- so do the names in the head of a loop; its parameter is declared with the type that is named there
+-- so do the names in the head of a loop; its parameter is declared as one of the type that is named there
 abbrev pub HeadIsAsDeclared : Program → Head → Type 0
 HeadIsAsDeclared p (Tested place condition) = All (IsAsDeclared p) (names_read condition)
 HeadIsAsDeclared p (Counted c) =
     All (IsAsDeclared p) (names_in_bounds c.bounds)
-    × ((object : Object) × (object_declared p c.parameter ≡ Some object) × (c.type_name.root.entity ≡ Some (entity.TypeName object.subtype)))
+    × (object_declared p c.parameter ≡ Some (object_of LoopParameter c.type_name))
 
 -- so does each name of a command that is evaluated or assigned to; choices are static
 abbrev mutual
@@ -96,7 +98,17 @@ abbrev mutual
   AllAreAsDeclared p (Last choices a) = AreAsDeclared p a
   AllAreAsDeclared p (When choices a rest) = AreAsDeclared p a × AllAreAsDeclared p rest
 
--- no loop sets its parameter in its body, nor has it a loop over the same one there
+-- no loop in a loop counts over the same parameter
+abbrev pub LoopsDiffer : Effect → Type 0
+LoopsDiffer nothing = ⊤
+LoopsDiffer (assign target reads place) = ⊤
+LoopsDiffer (next a b) = LoopsDiffer a × LoopsDiffer b
+LoopsDiffer (choose tests a b place) = LoopsDiffer a × LoopsDiffer b
+LoopsDiffer (observe values) = ⊤
+LoopsDiffer (repeat tests body place) = LoopsDiffer body
+LoopsDiffer (count parameter bounds body place) = (counts parameter body ≡ false) × LoopsDiffer body
+
+-- nor does any statement in a loop set its parameter
 abbrev pub KeepsParameters : Effect → Type 0
 KeepsParameters nothing = ⊤
 KeepsParameters (assign target reads place) = ⊤
@@ -107,21 +119,22 @@ KeepsParameters (repeat tests body place) = KeepsParameters body
 KeepsParameters (count parameter bounds body place) = (sets parameter body ≡ false) × KeepsParameters body
 
 pub record Scoped (p : Program) (sub : Sub) : Type 0 where
-  pub targets : (v : VarId) → defines v sub.statements ≡ true → (is_formal v sub || is_local v sub) ≡ true
-  pub read : (v : VarId) → reads v (effects sub.statements) ≡ true → (is_formal v sub || is_local v sub) ≡ true
+  pub targets : (v : VarId) → defines v sub.statements ≡ true → (is_formal v sub || is_inner v sub) ≡ true
+  pub read : (v : VarId) → reads v (effects sub.statements) ≡ true → (is_formal v sub || is_inner v sub) ≡ true
   pub exported : (v : VarId) → exports v sub ≡ true → is_formal v sub ≡ true
   pub imported : (v : VarId) → imports v sub ≡ true → is_formal v sub ≡ true
   pub formal_kinds : (v : VarId) → is_formal v sub ≡ true → (mode : Mode) × (kind_of p v ≡ Some (Formal mode))
-  pub local_kinds : (v : VarId) → is_local v sub ≡ true → (kind : VarKind) × (kind_of p v ≡ Some kind) × IsLocalKind kind
+  pub inner_kinds : (v : VarId) → is_inner v sub ≡ true → (kind : VarKind) × (kind_of p v ≡ Some kind) × IsInnerKind kind
   pub local_types : (v : VarId) → is_local v sub ≡ true → (object : Object) × (object_declared p v ≡ Some object)
   pub once : IsDistinct (λ (v : VarId) (w : VarId). w.0 == v.0) sub.vars
-  pub apart : (v : VarId) → is_formal v sub ≡ true → is_local v sub ≡ false
+  pub apart : (v : VarId) → is_formal v sub ≡ true → is_inner v sub ≡ false
   pub relation_modes : All (HaveTheirModes p) (relation sub)
   pub target_modes : TargetsHaveTheirModes p (commands sub.statements)
   pub body_names : AreAsDeclared p (commands sub.statements)
-  -- a loop's parameter is the loop's own: it is no formal, is declared without a value, and is assigned to nowhere
-  pub parameters : (v : VarId) → counts v (effects sub.statements) ≡ true → (is_formal v sub ≡ false) × (mode_of v p ≡ None) × (initial_of v p ≡ None) × (assigns v (effects sub.statements) ≡ false)
-  pub parameters_kept : KeepsParameters (effects sub.statements)
+  -- a loop counts over a parameter of its own, which no loop in it has
+  pub counted : (v : VarId) → counts v (effects sub.statements) ≡ true → is_loop_parameter v sub ≡ true
+  pub loop_parameter_kinds : (v : VarId) → is_loop_parameter v sub ≡ true → kind_of p v ≡ Some LoopParameter
+  pub loops_differ : LoopsDiffer (effects sub.statements)
   pub pre_names : (pre : CorePredicate) → sub.pre ≡ Some pre → All (IsAsDeclared p) (names_read pre.condition)
   pub post_names : (post : CorePredicate) → sub.post ≡ Some post → All (IsAsDeclared p) (names_read post.condition)
 

@@ -25,7 +25,8 @@ use Rattle.spx_core.specs.declared.statement.CoreChoice.{CoreChoice}
 use Rattle.spx_core.specs.declared.function.Span.{Span}
 use Rattle.spx_core.specs.declared.rule.ExprType.{ExprType}
 use Rattle.spx_core.specs.declared.rule.Typing.{Typing}
-use Rattle.spx_core.specs.Commands.{Command, Skip, Set, Then, Choose, Select, Count, Assertion, Repeat, Tested, Counted, Alternatives, Last, When, choices_in, commands, has_others, has_others_last, listed, spans_of}
+use Rattle.spx_core.specs.declared.statement.CoreCount.{CoreCount}
+use Rattle.spx_core.specs.Commands.{Command, Skip, Set, Then, Choose, Select, Assertion, Repeat, Tested, Counted, Alternatives, Last, When, choices_in, commands, has_others, has_others_last, listed, spans_of}
 use Rattle.spx_core.specs.Dependency.{relation}
 use Rattle.spx_core.specs.Judged.{Judged, ◌>>=◌, breach_in, condition, each, if_there, judged, keeps, operand_of, referred_object, referred_target, referred_type}
 use Rattle.spx_core.specs.Extents.{extent}
@@ -166,7 +167,7 @@ are_given_once values alternatives =
 abbrev pub has_right_choices : CoreExpr → Alternatives → Bool
 has_right_choices selector alternatives = has_others_last alternatives && (not (is_ok (judged_heads selector alternatives)) || are_given_once (extent selector) alternatives)
 
--- a loop counts over a type that has an order, between bounds of it (Ada 95 RM 3.6.1, 5.5)
+-- a loop counts over a type that has an order, between bounds of it (Ada 95 RM 3.6.1, 5.5); its parameter is declared first
 abbrev pub judged_bounds : Subtype → CoreRange → Judged ⊤
 judged_bounds subtype range = do
   low ← judged range.low
@@ -174,8 +175,9 @@ judged_bounds subtype range = do
   high ← judged range.high
   operand_of subtype high
 
-abbrev pub judged_count : Count → Judged ⊤
+abbrev pub judged_count : CoreCount → Judged ⊤
 judged_count c = do
+  _ ← keeps N2 c.name.place (not c.again)
   subtype ← referred_type c.type_name
   _ ← keeps N10 c.type_name.root.name.place (has_numbers subtype.base.class)
   if_there (judged_bounds subtype) c.bounds

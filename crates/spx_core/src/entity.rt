@@ -128,6 +128,8 @@ pub enum VarKind {
     Local,
     /// A local variable that is declared with this value, which is static (RM 3.3.1). A value of no number is its position.
     Initialized(i128),
+    /// The parameter of a loop, which is a constant in each turn (RM 3.3, 5.5).
+    LoopParameter,
 }
 
 /// What is declared of an object (Ada 95 RM 3.3).

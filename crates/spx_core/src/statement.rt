@@ -2,9 +2,9 @@
 ghost use Rattle.std.specs.Prelude.{◌≡◌};
 ghost use Rattle.spx_core.specs.Commands.{command, commands, has_own_cut, is_assert, is_cut};
 
-use crate::{CoreExpr, Defining, Reference, Span};
+use crate::{CoreExpr, Defining, Reference, Span, VarId};
 use spx_text::Place;
-use spx_tree::{AssertionKind, Closing};
+use spx_tree::{AssertionKind, Closing, Identifier};
 use sqlite_items::Items;
 
 /// `low .. high`
@@ -59,6 +59,25 @@ pub enum CoreStmt {
 pub enum CoreScheme {
     /// At the word `while`: again and again as long as the condition is true.
     While(Place, CoreExpr),
+    /// Once for each value of a type, or of a range of it.
+    For(CoreCount),
+}
+
+/// The parameter of a loop, at the word `for`, and the values that it takes (Ada 95 RM 5.5). Without bounds these are all
+/// values of the type; `reverse` takes them from the last one down.
+#[derive(Debug, Drop)]
+pub struct CoreCount {
+    pub place: Place,
+    pub name: Identifier,
+    /// A variable of the loop's own.
+    pub parameter: VarId,
+    /// Whether the name is declared before: in the same body, in a loop around this one, or as a predefined one.
+    pub again: bool,
+    /// The place of the word `in`.
+    pub word: Place,
+    pub is_reverse: bool,
+    pub type_name: Reference,
+    pub bounds: Option<CoreRange>,
 }
 
 /// A condition and the statements after `then`, at the word `if` or `elsif`.

@@ -1,16 +1,20 @@
 -- Laws of a pass forward.
-use Rattle.std.proofs.Common.{◌≡◌, ℕ, Bool, true, false, ◌||◌, List, [], Option, refl, sym, ◌∙◌, inl, inr, ⊎_elim}
-use Rattle.std.specs.Prelude.{◌⊎◌, ◌&&◌}
+use Rattle.std.proofs.Common.{◌≡◌, ◌↔◌, ℕ, Bool, true, false, not, ◌||◌, List, [], Option, Some, None, refl, sym, ap, ◌∙◌, inl, inr, ⊎_elim}
+use Rattle.std.specs.Prelude.{◌⊎◌, ◌&&◌, Contains}
 use Rattle.std.proofs.lemmas.Bool.{or_parts}
 use Rattle.spx_text.specs.declared.place.Place.{Place}
 use Rattle.spx_core.specs.declared.entity.VarId.{VarId}
-use Rattle.spx_core.specs.Effects.{Effect, Read, nothing, assign, next, choose, observe, repeat}
+use Rattle.spx_core.specs.Effects.{Effect, Read, nothing, assign, next, choose, observe, repeat, count, reads_in}
 use Rattle.spx_core.specs.Uses.{is_same}
 use Rattle.spx_core.specs.Mirror.VarSets.{holds}
-use Rattle.spx_core.specs.Ways.{Goes, no_turn}
+use Rattle.spx_core.specs.Ways.{Free, Goes, Reaches, no_turn}
 use Rattle.spx_core.proofs.Callers.FlowLaws.{goes_free}
 use Rattle.spx_define.specs.Passes.{Finds, Passes}
-use Rattle.spx_define.proofs.WayLaws.{free_follow, goes_chosen, reads_at_once, reads_chosen, reads_next, reads_observed, reads_repeated, target_unset}
+use Rattle.spx_define.proofs.WayLaws.{free_follow, goes_chosen, goes_counted, reads_at_once, reads_chosen, reads_counted, reads_next, reads_observed, reads_repeated, target_unset}
+
+either_false : (x y : Bool) → x ≡ false → y ≡ false → (x || y) ≡ false
+either_false true y h k = h
+either_false false y h k = k
 
 -- where nothing is done, the set has the same variables
 pub passes_nothing : (old_set new_set : List ℕ) (found : List Read) → ((v : VarId) → holds new_set v ≡ holds old_set v) → Passes nothing old_set new_set found found
@@ -41,10 +45,6 @@ passes_assign target reads at old_set new_set old new set f = record {
     λ h. (f.exact place v).1 (⊎_elim (λ o. inl o) (λ k. inr (k.0, once.0 k.1)) h),
   );
 }
-  where
-    either_false : (x y : Bool) → x ≡ false → y ≡ false → (x || y) ≡ false
-    either_false true y h k = h
-    either_false false y h k = k
 
 -- what only reads leaves the set as it is
 pub passes_observe : (values : List Read) (set : List ℕ) (old new : List Read) → Finds set values old new → Passes (observe values) set set old new
@@ -157,3 +157,54 @@ passes_repeat tests body at set end old mid new f turn = record {
         h,
   );
 }
+
+-- the bounds, then the body, from a copy in which the parameter is set
+module _ (parameter : VarId) (body : Effect) (at : Place) (set start end : List ℕ) (old mid new : List Read) (starts : (v : VarId) → holds start v ≡ (is_same v (Some parameter) || holds set v)) (turn : Passes body start end mid new) where
+  turn_found : (bounds : Option (List Read)) → Finds set (reads_in bounds) old mid → (place : Place) (v : VarId)
+      → Contains new (place, v) ↔ (Contains old (place, v) ⊎ ((holds set v ≡ false) × Free (Reaches (count parameter bounds body at) place v) v))
+  turn_found bounds f place v = let ways = reads_counted place v parameter bounds body at in (
+    λ h. ⊎_elim
+        (λ m. ⊎_elim (λ o. inl o) (λ k. inr (k.0, ways.1 (inl k.1))) ((f.exact place v).0 m))
+        (λ k. let parts = or_parts (is_same v (Some parameter)) (holds set v) (sym (starts v) ∙ k.0) in inr (parts.1, ways.1 (inr (parts.0, k.1))))
+        ((turn.found place v).0 h),
+    λ h. ⊎_elim
+        (λ o. (turn.found place v).1 (inl ((f.exact place v).1 (inl o))))
+        (λ k. ⊎_elim
+        (λ here. (turn.found place v).1 (inl ((f.exact place v).1 (inr (k.0, here)))))
+        (λ more. (turn.found place v).1 (inr (starts v ∙ either_false (is_same v (Some parameter)) (holds set v) more.0 k.0, more.1)))
+        (ways.0 k.1))
+        h,
+  )
+
+  -- between bounds no turn need be run, so that after the loop is set what was set before it
+  pub passes_between : (bounds : List Read) → Finds set bounds old mid → Passes (count parameter (Some bounds) body at) set set old new
+  passes_between bounds f = record {
+    set = λ v. (λ h. (h, ([], ([], no_turn, refl), refl)), λ h. h.0);
+    found = turn_found (Some bounds) f;
+  }
+
+  -- over all values of a type a turn is run, so that after the loop is set too what the turn sets, but for the parameter
+  pub passes_over : (new_set : List ℕ) → Finds set [] old mid → ((v : VarId) → holds new_set v ≡ ((holds end v && not (is_same v (Some parameter))) || holds set v)) → Passes (count parameter None body at) set new_set old new
+  passes_over new_set f after = record {
+    set = λ v.
+        let same = is_same v (Some parameter) in
+        let ways = goes_counted parameter body at v in (
+          λ h.
+              let parts = or_parts (holds end v && not same) (holds set v) (sym (after v) ∙ h) in
+              (parts.1, ways.1 (by_same same (λ other. ((turn.set v).0 (end_false (holds end v) same parts.0 other)).1))),
+          λ h. after v ∙ either_false (holds end v && not same) (holds set v) (both_false (holds end v) (not same) (⊎_elim
+              (λ is. inr (ap not is))
+              (λ other. inl ((turn.set v).1 (starts v ∙ either_false same (holds set v) other.0 h.0, other.1)))
+              (ways.0 h.1))) h.0,
+        );
+    found = turn_found None f;
+  }
+    where
+      by_same : {A : Type 0} (same : Bool) → (same ≡ false → A) → (same ≡ true) ⊎ ((same ≡ false) × A)
+      by_same true free = inl refl
+      by_same false free = inr (refl, free refl)
+
+      end_false : (ends same : Bool) → (ends && not same) ≡ false → same ≡ false → ends ≡ false
+      end_false ends true h other = absurd cc
+      end_false true false h other = h
+      end_false false false h other = refl

@@ -1,15 +1,17 @@
 -- Ways that do not set a variable.
-use Rattle.std.proofs.Common.{◌≡◌, ◌↔◌, ◌⊎◌, false, ◌||◌, List, [], ◌++◌, Option, Some, None, refl, sym, ap₂, ◌∙◌, subst, inl, inr, ⊎_elim}
-use Rattle.std.specs.Prelude.{◌==◌, Contains}
+use Rattle.std.proofs.Common.{◌≡◌, ◌↔◌, ◌⊎◌, Bool, true, false, not, ◌||◌, List, [], ◌∷◌, ◌++◌, Option, Some, None, refl, sym, ap, ap₂, ◌∙◌, subst, inl, inr, ⊎_elim}
+use Rattle.std.specs.Prelude.{◌==◌, ◌&&◌, Contains}
 use Rattle.std.specs.Option.{option_to_list}
-use Rattle.std.proofs.lemmas.Bool.{or_parts}
+use Rattle.std.proofs.lemmas.Bool.{eqb-true, or_parts}
 use Rattle.std.proofs.lemmas.List.Folds.{list_any-append}
+use Rattle.std.proofs.lemmas.Map.Views.{any-filter_same}
 use Rattle.spx_text.specs.declared.place.Place.{Place}
 use Rattle.spx_core.specs.declared.entity.VarId.{VarId}
 use Rattle.spx_core.specs.Formals.{stands_in}
 use Rattle.spx_core.specs.Uses.{is_same}
-use Rattle.spx_core.specs.Effects.{Effect, Read, assign, next, choose, observe, repeat}
-use Rattle.spx_core.specs.Ways.{Ways, Follow, Free, Goes, Reaches, Turns, no_turn}
+use Rattle.spx_core.specs.Effects.{Effect, Read, nothing, assign, next, choose, observe, repeat, count, reads_in}
+use Rattle.spx_core.specs.Ways.{Ways, Follow, Free, Goes, JustSet, Reaches, Turns, forgetting, no_turn}
+use Rattle.spx_core.proofs.Callers.FlowLaws.{forgotten}
 
 stands_in_both : (v : VarId) (front back : List VarId) → stands_in v (front ++ back) ≡ (stands_in v front || stands_in v back)
 stands_in_both v front back = list_any-append (λ (w : VarId). w.0 == v.0) front back
@@ -36,6 +38,54 @@ goes_chosen tests a b at v = (
   λ h. ⊎_elim (λ one. inl (h.0, one, h.2)) (λ two. inr (h.0, two, h.2)) h.1,
   λ h. ⊎_elim (λ one. (one.0, inl one.1, one.2)) (λ two. (two.0, inr two.1, two.2)) h,
 )
+
+-- ---- loops that count
+
+free_just : (parameter v : VarId) → Free (JustSet parameter) v ↔ (is_same v (Some parameter) ≡ false)
+free_just parameter v = (
+  λ h. (or_parts (is_same v (Some parameter)) false (subst (λ way. stands_in v way ≡ false) h.1 h.2)).0,
+  λ none. (parameter ∷ [], refl, ap (λ b. b || false) none),
+)
+
+-- what is left of a way sets the variable where the way does, if it is not forgotten
+stands_after : (parameter v : VarId) (way : List VarId) → stands_in v (forgetting parameter way) ≡ (not (is_same v (Some parameter)) && stands_in v way)
+stands_after parameter v way =
+    any-filter_same (λ (w : VarId). w.0 == v.0) (λ w. not (is_same w (Some parameter))) (not (is_same v (Some parameter))) (λ w same. ap (λ n. not (parameter.0 == n)) (eqb-true w.0 v.0 same)) way
+
+-- there is a way
+some_way : (e : Effect) → (way : List VarId) × Goes e way
+some_way nothing = ([], refl)
+some_way (assign target reads place) = (option_to_list target, refl)
+some_way (next a b) =
+    let first = some_way a in
+    let second = some_way b in
+    (first.0 ++ second.0, (first.0, second.0, refl, first.1, second.1))
+some_way (choose tests a b place) = let first = some_way a in (first.0, inl first.1)
+some_way (observe values) = ([], refl)
+some_way (repeat tests body place) = ([], no_turn)
+some_way (count parameter (Some bounds) body place) = ([], ([], no_turn, refl))
+some_way (count parameter None body place) = let turn = some_way body in (forgetting parameter (turn.0 ++ []), (turn.0 ++ [], (turn.0, [], refl, turn.1, no_turn), refl))
+
+-- a loop with a turn leaves its parameter unset, and each other variable that one turn does not set
+pub goes_counted : (parameter : VarId) (body : Effect) (at : Place) (v : VarId)
+    → Free (Goes (count parameter None body at)) v ↔ ((is_same v (Some parameter) ≡ true) ⊎ ((is_same v (Some parameter) ≡ false) × Free (Goes body) v))
+goes_counted parameter body at v = let turns = free_follow (Goes body) (Turns (Goes body)) v in (
+  λ h.
+      let inside = h.1.0 in
+      let none : (not (is_same v (Some parameter)) && stands_in v inside) ≡ false = sym (stands_after parameter v inside) ∙ subst (λ way. stands_in v way ≡ false) h.1.2 h.2 in
+      by_same (is_same v (Some parameter)) (stands_in v inside) (λ unset. (turns.0 (inside, h.1.1, unset)).0) none,
+  λ h. ⊎_elim
+      (λ same.
+      let turn = some_way body in
+      let inside = turn.0 ++ [] in
+      (forgetting parameter inside, (inside, (turn.0, [], refl, turn.1, no_turn), refl), stands_after parameter v inside ∙ ap (λ b. not b && stands_in v inside) same))
+      (λ other. let all = turns.1 (other.1, ([], no_turn, refl)) in (forgetting parameter all.0, (all.0, all.1, refl), forgotten parameter v all.0 all.2))
+      h,
+)
+  where
+    by_same : (same inside : Bool) → (inside ≡ false → Free (Goes body) v) → (not same && inside) ≡ false → (same ≡ true) ⊎ ((same ≡ false) × Free (Goes body) v)
+    by_same true inside free none = inl refl
+    by_same false inside free none = inr (refl, free none)
 
 module _ (place : Place) (v : VarId) where
   pub reads_at_once : (target : Option VarId) (reads : List Read) (at : Place) → Free (Reaches (assign target reads at) place v) v ↔ Contains reads (place, v)
@@ -71,3 +121,17 @@ module _ (place : Place) (v : VarId) where
         (λ more. let way = turns.1 (([], no_turn, refl), more) in (way.0, inr way.1, way.2))
         h,
   )
+
+  -- so it is in a loop that counts, for each variable but its parameter
+  pub reads_counted : (parameter : VarId) (bounds : Option (List Read)) (body : Effect) (at : Place)
+      → Free (Reaches (count parameter bounds body at) place v) v ↔ (Contains (reads_in bounds) (place, v) ⊎ ((is_same v (Some parameter) ≡ false) × Free (Reaches body place v) v))
+  reads_counted parameter bounds body at =
+      let just = free_just parameter v in
+      let turns = free_follow (Turns (Goes body)) (Reaches body place v) v in
+      let all = free_follow (JustSet parameter) (Follow (Turns (Goes body)) (Reaches body place v)) v in (
+        λ h. ⊎_elim (λ here. inl here.0) (λ later. let parts = all.0 (h.0, later, h.2) in inr (just.0 parts.0, (turns.0 parts.1).1)) h.1,
+        λ h. ⊎_elim
+            (λ here. ([], inl (here, refl), refl))
+            (λ more. let way = all.1 (just.1 more.0, turns.1 (([], no_turn, refl), more.1)) in (way.0, inr way.1, way.2))
+            h,
+      )

@@ -1,12 +1,12 @@
 // Reads of variables that may be unset (Bergeretti and Carré, TOPLAS 1985).
-ghost use Rattle.std.specs.Prelude.{◌≡◌, ◌≢◌, ◌<◌, ◌||◌, [], ◌∷◌, Some, is_some, length, not, filter, map, slice_get, IfOk, OnOk};
+ghost use Rattle.std.specs.Prelude.{◌≡◌, ◌≢◌, ◌<◌, ◌||◌, [], ◌∷◌, Some, is_some, length, not, filter, map, option_map, slice_get, IfOk, OnOk};
 ghost use Rattle.std.specs.List.{AllPairs};
 ghost use Rattle.std.specs.Option.{option_to_list};
 ghost use Rattle.spx_text.specs.declared.place.Place.{Place};
 ghost use Rattle.spx_core.specs.declared.entity.VarId.{VarId};
 ghost use Rattle.spx_core.specs.declared.subprogram.Sub.{Sub};
-ghost use Rattle.spx_core.specs.Commands.{Choose, alternative, arm_before, arms_before, command, commands, loop_of, select};
-ghost use Rattle.spx_core.specs.Effects.{effect, effects, reads_of};
+ghost use Rattle.spx_core.specs.Commands.{Choose, Counted, Repeat, alternative, arm_before, arms_before, command, commands, loop_of, select};
+ghost use Rattle.spx_core.specs.Effects.{effect, effects, reads_in, reads_of, reads_of_range};
 ghost use Rattle.spx_core.specs.Formals.{initial_of};
 ghost use Rattle.spx_core.specs.Uses.{denotes};
 ghost use Rattle.spx_core.specs.Mirror.VarSets.{holds};
@@ -16,8 +16,8 @@ ghost use Rattle.spx_define.specs.UnsetReads.{AreUnsetReads};
 use crate::assigned::Assigned;
 use indexmap::IndexSet;
 use spx_core::{
-    CoreAlternative, CoreArm, CoreDerivesItem, CoreExpr, CoreScheme, CoreStmt, Entity, Program,
-    Reference, Sub, SubId, VarId, VarKind, VarSet, variable_of,
+    CoreAlternative, CoreArm, CoreCount, CoreDerivesItem, CoreExpr, CoreRange, CoreScheme,
+    CoreStmt, Entity, Program, Reference, Sub, SubId, VarId, VarKind, VarSet, variable_of,
 };
 use spx_text::Place;
 use std::alloc::{AllocError, Global};
@@ -80,6 +80,23 @@ fn add_unset_names(set: &Assigned, expr: &CoreExpr, found: &mut Reads) -> Result
     }
 }
 
+/// Adds what the bounds of a loop read of variables that are not in the set, where they are written.
+fn add_unset_bounds(
+    set: &Assigned,
+    bounds: &Option<CoreRange>,
+    found: &mut Reads,
+) -> Result<(), AllocError>
+    ensures { OnOk result (Finds set.now (reads_in (option_map reads_of_range bounds.now)) found.old.keys found.new.keys) }
+{
+    match bounds {
+        None => Ok(()),
+        Some(range) => {
+            add_unset_names(set, &range.low, found)?;
+            add_unset_names(set, &range.high, found)
+        }
+    }
+}
+
 fn add_unset_references(
     set: &Assigned,
     place: Place,
@@ -120,7 +137,7 @@ fn set_target(set: &mut Assigned, target: &Reference) -> Result<(), AllocError>
 }
 
 /// Goes over a statement. A variable is set only after the right side is read, after an `if` or a `case` only where each of
-/// its arms or alternatives sets it, and after a loop only where it was set before.
+/// its arms or alternatives sets it, and after a loop only where it was set before, or a turn sets it that has to be run.
 #[cycle(go_over)]
 fn go_over(
     alloc: Global,
@@ -227,8 +244,8 @@ fn go_over_case(
     Ok(())
 }
 
-/// Goes over a loop: its condition, and one turn of its body. The set stays as it was, since no turn need be run, and later
-/// turns find nothing that the first does not.
+/// Goes over a loop: what stands at its head, and one turn of its body, since later turns find nothing that the first does
+/// not. After a `while` the set is as it was, since no turn need be run.
 #[cycle(go_over)]
 fn go_over_loop(
     alloc: Global,
@@ -246,6 +263,29 @@ fn go_over_loop(
             go_over_all(alloc, body, &mut turn, found)?;
             Ok(())
         }
+        CoreScheme::For(count) => go_over_count(alloc, body, count, set, found),
+    }
+}
+
+/// Goes over a loop over a parameter, which is set in its turns. Between bounds that are written no turn need be run, and
+/// else there is one. After the loop the parameter is set only where it was set before.
+#[cycle(go_over)]
+fn go_over_count(
+    alloc: Global,
+    body: &[CoreStmt],
+    count: &CoreCount,
+    set: &mut Assigned,
+    found: &mut Reads,
+) -> Result<(), AllocError>
+    ensures { OnOk result (Passes (effect (Repeat (Counted count.now) (commands body.now))) set.old set.new found.old.keys found.new.keys) }
+{
+    add_unset_bounds(set, &count.bounds, found)?;
+    let mut turn = set.copy(alloc)?;
+    turn.insert(count.parameter)?;
+    go_over_all(alloc, body, &mut turn, found)?;
+    match &count.bounds {
+        None => set.insert_others(&turn, count.parameter),
+        Some(_) => Ok(()),
     }
 }
 
@@ -273,6 +313,7 @@ fn has_initial_value(program: &Program, var: VarId) -> bool
             VarKind::Formal(_) => false,
             VarKind::Local => false,
             VarKind::Initialized(_) => true,
+            VarKind::LoopParameter => false,
         },
         None => false,
     }

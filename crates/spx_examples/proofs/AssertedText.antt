@@ -20,17 +20,19 @@ use Rattle.spx_tree.proofs.WrittenLevels.{written_level, spelled_stmt}
 use Rattle.spx_core.specs.declared.dependency.CoreDerivesItem.{CoreDerivesItem}
 use Rattle.spx_core.specs.declared.expression.CoreExpr.{CoreExpr}
 use Rattle.spx_core.specs.declared.expression.CoreExpr.TheVariants as expr
+use Rattle.spx_core.specs.declared.name.Defining.{Defining}
 use Rattle.spx_core.specs.declared.statement.CoreStmt.{CoreStmt}
 use Rattle.spx_core.specs.declared.statement.CoreStmt.TheVariants as stmt
 use Rattle.spx_core.specs.declared.program.Program.{Program}
 use Rattle.spx_core.specs.Regions.{standard}
-use Rattle.spx_core.specs.Resolved.{expr_step, resolved, resolved_in}
+use Rattle.spx_core.specs.Resolved.{expr_step, parameters_by_stmts, resolved, resolved_in, resolved_stmt}
+use Rattle.spx_core.proofs.Callers.LoopParameters.{parameters-Assertion, parameters-Assignment}
 use Rattle.spx_examples.specs.Assertions.{is_next, is_positive, post_on, program_of}
-use Rattle.spx_examples.specs.AssertionText.{assert_bytes, assert_tokens, assert_units, asserted_bytes, asserted_tokens, asserted_units, next_written, noted_sub, noted_written, positive_written, tokens_with, units_with}
-use Rattle.spx_examples.specs.Increment.{place, word, x_written, successor_written, step_written, relation, x_at}
-use Rattle.spx_examples.proofs.IncrementNames.{regions, x_denotes}
+use Rattle.spx_examples.specs.AssertionText.{assert_bytes, assert_tokens, assert_units, asserted_bytes, asserted_tokens, asserted_units, next_written, noted_sub, noted_written, positive_written, procedure_with, tokens_with, units_with}
+use Rattle.spx_examples.specs.Increment.{place, word, x_written, successor_written, step as step_resolved, step_written, relation, successor, x_at, x_named}
+use Rattle.spx_examples.proofs.IncrementNames.{outer, region, regions, x_denotes}
 use Rattle.spx_examples.proofs.IncrementText.{heading, derives, opening, step, ending, step_is, step_written_as}
-use Rattle.spx_examples.proofs.Resolving.{resolved_assertion, resolved_step, resolved_x}
+use Rattle.spx_examples.proofs.Resolving.{as_body, resolved_as, resolved_assertion, resolved_step, resolved_x}
 use Rattle.spx_examples.proofs.Spelling.{Piece, Word, Digits, Delimiter, Space, Head, LineEnd, spelled_by}
 
 -- ---- its tokens
@@ -119,12 +121,25 @@ module _ (kind : AssertionKind) (column : ℕ) where
       fold-roll-Expr CoreExpr (expr_step items regions) (Expr-F.Infix op.Greater (place 7 (column + 2)) (written_expr.Name (x_written 7 column)) (written_expr.Number (pos 0) (place 7 (column + 4))))
       ∙ ap₂ (expr.Infix op.Greater (place 7 (column + 2))) (resolved_x items regions x_denotes 7 column) (fold-roll-Expr CoreExpr (expr_step items regions) (Expr-F.Number (pos 0) (place 7 (column + 4))))
 
-  -- the program with this postcondition and these statements
-  abbrev with_parts : CoreExpr → List CoreStmt → Program
-  with_parts condition statements = program_of (record (noted_sub kind column) { post = Some (post_on condition); statements = statements })
+  -- the program with this postcondition
+  abbrev with_post : CoreExpr → Program
+  with_post condition = program_of (record (noted_sub kind column) { post = Some (post_on condition) })
+
+  -- `assert` or `check`
+  abbrev noted_resolved : CoreStmt
+  noted_resolved = stmt.Assertion kind (place 7 8) (is_positive 7 column)
+
+  resolved_noted : resolved_stmt items outer (noted_written kind column) region 1 ≡ (noted_resolved, 1)
+  resolved_noted = resolved_assertion items outer region 1 kind (place 7 8) (positive_written column) ∙ ap (λ e. (stmt.Assertion kind (place 7 8) e, 1)) resolved_positive
+
+  no_parameters : parameters_by_stmts (step_resolved ∷ noted_resolved ∷ []) ≡ []
+  no_parameters = ap₂ (λ (a b : List Defining). a ++ (b ++ [])) (parameters-Assignment (x_named 6 4) (successor 6 9)) (parameters-Assertion kind (place 7 8) (is_positive 7 column))
 
   pub made : resolved (units_with (noted_written kind column)) ≡ program_of (noted_sub kind column)
   unfolding standard
   made =
-      ap₂ with_parts resolved_next
-      (ap₂ (λ (a b : CoreStmt). a ∷ b ∷ []) (resolved_step items regions x_denotes 6 4 9) (resolved_assertion items regions kind (place 7 8) (positive_written column) ∙ ap (stmt.Assertion kind (place 7 8)) resolved_positive))
+      resolved_as (procedure_with (noted_written kind column)) (step_resolved ∷ noted_resolved ∷ []) []
+      (ap (λ (first : CoreStmt × ℕ). first.0 ∷ as_body (resolved_stmt items outer (noted_written kind column) region first.1)) (resolved_step items outer region 1 x_denotes 6 4 9)
+      ∙ ap (λ (last : CoreStmt × ℕ). step_resolved ∷ as_body last) resolved_noted)
+      no_parameters
+      ∙ ap with_post resolved_next

@@ -27,7 +27,6 @@ use Rattle.spx_core.specs.declared.rule.Breach.{Breach}
 use Rattle.spx_core.specs.declared.rule.RuleName.TheVariants.{N10, N13}
 use Rattle.spx_core.specs.declared.rule.Typing.{Typing}
 use Rattle.spx_core.specs.declared.statement.CoreDecl.{CoreDecl}
-use Rattle.spx_core.specs.declared.statement.CoreStmt.{CoreStmt}
 use Rattle.spx_core.specs.declared.subprogram.Sub.{Sub}
 use Rattle.spx_core.specs.Commands.{Command, Skip, Set, Then, commands}
 use Rattle.spx_core.specs.Dependency.{relation}
@@ -35,7 +34,7 @@ use Rattle.spx_core.specs.Judged.{Judged, ◌>>=◌, breach_in, each, expr_step,
 use Rattle.spx_core.specs.Obeyed.{obeyed_post, obeyed_pre}
 use Rattle.spx_core.specs.Places.{place_in}
 use Rattle.spx_core.specs.Regions.{Region, Regions}
-use Rattle.spx_core.specs.Resolved.{Counts, after_formals, around_body, around_names, at_start, bounded, constant_of, counted, counted_sub, declared_by, declared_by_decls, declaring as declared_after, declaring_all, defining, defining_all, formal_names, integer_type, object_of, or_zero, own_types, params_of, resolved, resolved_decl, resolved_decls, resolved_expr, resolved_reference, resolved_stmt, resolved_sub, row_of, rows_by, rows_by_decls, standard_types, subtype_of, unit_name, value_in}
+use Rattle.spx_core.specs.Resolved.{Counts, after_formals, around_body, around_names, at_start, bounded, constant_of, counted, counted_sub, declared_by, declared_by_decls, declaring as declared_after, declaring_all, defining, defining_all, formal_names, integer_type, object_of, or_zero, own_types, params_of, resolved, resolved_decl, resolved_decls, resolved_expr, resolved_reference, resolved_sub, row_of, rows_by, rows_by_decls, standard_types, subtype_of, unit_name, value_in}
 use Rattle.spx_core.specs.Statements.{bound, declared_once, first_name_breach, judged_command, judged_decl, judged_end, judged_item, judged_name, judged_param, judged_predicate, static_between, static_number}
 use Rattle.spx_core.specs.Types.{has_numbers}
 use Rattle.spx_core.specs.Uses.{variable_of}
@@ -53,9 +52,9 @@ use Rattle.spx_examples.specs.Increment.{place, x_written}
 use Rattle.spx_examples.specs.NameRules.{alone}
 use Rattle.spx_examples.specs.Operators.{a, a_at, b_at, number, two, values}
 use Rattle.spx_examples.proofs.Evaluations.{assigns, eval_name, operated_as}
-use Rattle.spx_examples.proofs.NameBreaches.{assignment_now, body_is, expr_now, judged_is}
+use Rattle.spx_examples.proofs.NameBreaches.{assignment_now, body_is, body_of, expr_now, first_position, judged_is}
 use Rattle.spx_examples.proofs.Operators.{eval_two, two_judged}
-use Rattle.spx_examples.proofs.Resolving.{resolved_assignment}
+use Rattle.spx_examples.proofs.Resolving.{as_body, resolved_assignment}
 use Rattle.spx_examples.proofs.Statements.{and_no_more, assignment_is}
 use Rattle.spx_examples.proofs.VariableBreaches as rules
 
@@ -188,8 +187,11 @@ module _ (ds : List Decl) (statement : Stmt) where
   now_is = all_seen around (declaring_all [] (formal_names first)) (after_formals at_start first.formal_part) ds
 
   -- around its statement, where these are its locals
+  abbrev pub seen_there : List Defining → Region
+  seen_there names = declaring_all [] (formal_names first ++ names)
+
   abbrev pub inside : List Defining → Regions
-  inside names = declaring_all [] (formal_names first ++ names) ∷ around
+  inside names = seen_there names ∷ around
 
   -- what it is judged to be, and the first breach, where its declarations and its body are judged to be this
   abbrev sub_with : (declarations body : Judged ⊤) → Judged ⊤
@@ -205,13 +207,13 @@ module _ (ds : List Decl) (statement : Stmt) where
   abbrev pub breach_with : (declarations body : Judged ⊤) → Option Breach
   breach_with declarations body = breach_in (each judged_name (first ∷ []) >>= λ _. and_no_more (sub_with declarations body))
 
-  abbrev body_of : List Defining → Judged ⊤
-  body_of names = judged_command (commands (resolved_stmt (relation first) (inside names) statement ∷ []))
+  abbrev pub body_after : List Defining → Command
+  body_after names = body_of (relation first) around (seen_there names) (first_position first) (statement ∷ [])
 
   -- where its body is judged to be this after its declarations
-  pub breach_where : (body : Judged ⊤) → body_of now.names ≡ body → first_name_breach (alone (stating ds statement)) ≡ breach_with now.judgement body
+  pub breach_where : (body : Judged ⊤) → judged_command (body_after now.names) ≡ body → first_name_breach (alone (stating ds statement)) ≡ breach_with now.judgement body
   unfolding first_name_breach
-  breach_where body is = ap (λ (s : Seen). breach_with s.judgement (body_of s.names)) now_is ∙ ap (breach_with now.judgement) is
+  breach_where body is = ap (λ (s : Seen). breach_with s.judgement (judged_command (body_after s.names))) now_is ∙ ap (breach_with now.judgement) is
 
 module _ (ds : List Decl) (target : Name) (value : Expr) where
   abbrev set : Stmt
@@ -222,7 +224,7 @@ module _ (ds : List Decl) (target : Name) (value : Expr) where
   around_set = inside ds set (now ds set).names
 
   pub breach_is : breach_at ds target value ≡ breach_with ds set (now ds set).judgement (and_no_more (assignment_now around_set target value))
-  breach_is = breach_where ds set (and_no_more (assignment_now around_set target value)) (body_is (relation (first ds set)) around_set target value)
+  breach_is = breach_where ds set (and_no_more (assignment_now around_set target value)) (body_is (relation (first ds set)) (around ds set) (seen_there ds set (now ds set).names) (first_position (first ds set)) target value)
 
   -- the assignment, where its names denote what they do after these declarations
   abbrev setting : Command
@@ -230,8 +232,8 @@ module _ (ds : List Decl) (target : Name) (value : Expr) where
 
   setting_is : commands (first ds set).statements ≡ setting
   setting_is =
-      ap (λ (s : Seen). commands (resolved_stmt (relation (first ds set)) (inside ds set s.names) set ∷ [])) (now_is ds set)
-      ∙ ap (λ (s : CoreStmt). commands (s ∷ [])) (resolved_assignment (relation (first ds set)) around_set target value)
+      ap (λ (s : Seen). body_after ds set s.names) (now_is ds set)
+      ∙ ap (λ made. commands (as_body made)) (resolved_assignment (relation (first ds set)) (around ds set) (seen_there ds set (now ds set).names) (first_position (first ds set)) target value)
       ∙ assignment_is (resolved_reference around_set target) (resolved_expr around_set value)
 
   pub rule_breach_is : rule_breach_at ds target value ≡ rules.breach_with (first ds set) [] (if_there (obeyed_pre (first ds set)) (first ds set).pre) (if_there (obeyed_post (first ds set)) (first ds set).post) setting

@@ -1,5 +1,5 @@
 -- The program of the procedure `Inc` is what its units are resolved to, with its precondition and without.
-use Rattle.std.proofs.Common.{◌≡◌, [], ◌∷◌, Some, refl, ap, ap₂, ◌∙◌}
+use Rattle.std.proofs.Common.{◌≡◌, [], ◌∷◌, Some, None, refl, ap, ap₂, ◌∙◌}
 use Rattle.std.specs.Prelude.{codes}
 use denote.Hole.Carrier.{roll}
 use Rattle.spx_tree.specs.declared.expression.InfixOp.TheVariants as op
@@ -9,18 +9,24 @@ use Rattle.spx_tree.specs.declared.expression.Expr.TheVariants as written_expr
 use Rattle.spx_core.specs.declared.entity.Entity.TheVariants as entity
 use Rattle.spx_core.specs.declared.expression.CoreExpr.{CoreExpr}
 use Rattle.spx_core.specs.declared.expression.CoreExpr.TheVariants as expr
-use Rattle.spx_core.specs.declared.statement.CoreStmt.{CoreStmt}
 use Rattle.spx_core.specs.declared.subprogram.Sub.{Sub}
 use Rattle.spx_core.specs.declared.program.Program.{Program}
-use Rattle.spx_core.specs.Regions.{Regions, denoted, standard}
-use Rattle.spx_core.specs.Resolved.{around_body, declaring, expr_step, resolved, resolved_expr}
-use Rattle.spx_examples.specs.Increment.{place, word, x_written, last_written, below_written, inc_units, x, object, x_declared, inc_declared, below_last, relation, inc, increment}
-use Rattle.spx_examples.specs.Refused.{units_without_pre, inc_without_pre, increment_without_pre}
-use Rattle.spx_examples.proofs.Resolving.{resolved_x, resolved_step}
+use Rattle.spx_core.specs.Regions.{Region, Regions, denoted, standard}
+use Rattle.spx_core.specs.Resolved.{around_body, declaring, expr_step, parameters_by_stmts, resolved, resolved_expr}
+use Rattle.spx_core.proofs.Callers.LoopParameters.{parameters-Assignment}
+use Rattle.spx_examples.specs.Increment.{place, word, x_written, last_written, below_written, inc_written, inc_units, x, object, x_named, x_declared, inc_declared, below_last, successor, step, relation, inc, increment}
+use Rattle.spx_examples.specs.Refused.{units_without_pre, increment_without_pre}
+use Rattle.spx_examples.proofs.Resolving.{as_body, in_one, resolved_as, resolved_step, resolved_x}
 
 -- around the annotations and the body
+abbrev pub outer : Regions
+outer = around_body inc_declared
+
+abbrev pub region : Region
+region = declaring [] x_declared
+
 abbrev pub regions : Regions
-regions = declaring [] x_declared ∷ around_body inc_declared
+regions = region ∷ outer
 
 pub x_denotes : denoted regions (codes "X") ≡ Some (entity.Variable x object)
 x_denotes = refl
@@ -35,14 +41,20 @@ resolved_below =
 abbrev of_sub : Sub → Program
 of_sub sub = record increment { subs = sub ∷ [] }
 
--- the program with this condition and this statement
-abbrev with_parts : CoreExpr → CoreStmt → Program
-with_parts condition statement = of_sub (record inc { pre = Some (record { place = place 3 5; condition = condition }); statements = statement ∷ [] })
+-- the program with this condition
+abbrev with_pre : CoreExpr → Program
+with_pre condition = of_sub (record inc { pre = Some (record { place = place 3 5; condition = condition }) })
+
+no_parameters : parameters_by_stmts (step ∷ []) ≡ []
+no_parameters = in_one step (parameters-Assignment (x_named 6 4) (successor 6 9))
 
 pub increment_is_resolved : resolved inc_units ≡ increment
 unfolding standard
-increment_is_resolved = ap₂ with_parts resolved_below (resolved_step (relation ∷ []) regions x_denotes 6 4 9)
+increment_is_resolved =
+    resolved_as inc_written (step ∷ []) [] (ap as_body (resolved_step (relation ∷ []) outer region 1 x_denotes 6 4 9)) no_parameters
+    ∙ ap with_pre resolved_below
 
 pub without_pre_is_resolved : resolved units_without_pre ≡ increment_without_pre
 unfolding standard
-without_pre_is_resolved = ap (λ statement. of_sub (record inc_without_pre { statements = statement ∷ [] })) (resolved_step (relation ∷ []) regions x_denotes 6 4 9)
+without_pre_is_resolved =
+    resolved_as (record inc_written { pre = None }) (step ∷ []) [] (ap as_body (resolved_step (relation ∷ []) outer region 1 x_denotes 6 4 9)) no_parameters

@@ -58,3 +58,6 @@ mod LoopText
 mod CountedLoops
 mod CountedFlows
 mod CountedCuts
+mod Computing
+mod Doubling
+mod DoublingText

@@ -1,5 +1,5 @@
 -- The text of a procedure with a loop, cut into its parts, its units in the grammar, the program that they are resolved to, and its body as a command.
-use Rattle.std.proofs.Common.{◌≡◌, List, [], ◌∷◌, ◌++◌, refl, sym, ap, ap₂, subst, ◌∙◌, arith}
+use Rattle.std.proofs.Common.{◌≡◌, ℕ, List, [], ◌∷◌, ◌++◌, refl, sym, ap, ap₂, subst, ◌∙◌, arith}
 use Rattle.std.specs.Prelude.{codes}
 use denote.Hole.Carrier.{hidden}
 use Rattle.spx_tree.specs.declared.expression.Expr.TheBlock.{hidden-the_row-Expr-0}
@@ -13,20 +13,21 @@ use Rattle.spx_tree.specs.Grammar.{IsExpr, IsFormed, Within, IsStmt, IsFile}
 use Rattle.spx_tree.specs.Form.{Form, forms_of}
 use Rattle.spx_tree.specs.Written.{stmt_step, written, written_stmt}
 use Rattle.spx_tree.proofs.WrittenLevels.{written_level, spelled_stmt}
+use Rattle.spx_core.specs.declared.expression.CoreExpr.{CoreExpr}
 use Rattle.spx_core.specs.declared.statement.CoreScheme.TheVariants as scheme
 use Rattle.spx_core.specs.declared.statement.CoreStmt.{CoreStmt}
 use Rattle.spx_core.specs.declared.statement.CoreStmt.TheVariants as stmt
 use Rattle.spx_core.specs.Commands.{Command, Repeat, Tested, commands}
 use Rattle.spx_core.specs.Regions.{standard}
-use Rattle.spx_core.specs.Resolved.{resolved, resolved_stmt}
-use Rattle.spx_examples.specs.Assertions.{doing, program_of}
+use Rattle.spx_core.specs.Resolved.{parameters_by_stmts, resolved, resolved_stmt}
+use Rattle.spx_core.proofs.Callers.LoopParameters.{parameters-Assignment, parameters-While}
 use Rattle.spx_examples.specs.Increment.{place, x_written, successor_written, relation, x_named, successor}
 use Rattle.spx_examples.specs.Loops.{only}
-use Rattle.spx_examples.specs.LoopText.{closing, loop_bytes, loop_command, loop_program, loop_resolved, loop_sub, loop_tokens, loop_units, loop_written}
+use Rattle.spx_examples.specs.LoopText.{closing, loop_bytes, loop_command, loop_procedure, loop_program, loop_resolved, loop_sub, loop_tokens, loop_units, loop_written}
 use Rattle.spx_examples.specs.Next.{below_hundred_at, below_written, step as step_resolved, step_written}
-use Rattle.spx_examples.proofs.IncrementNames.{regions, x_denotes}
+use Rattle.spx_examples.proofs.IncrementNames.{outer, region, regions, x_denotes}
 use Rattle.spx_examples.proofs.IncrementText.{heading, derives, opening, step, ending, step_is, step_written_as, sum_expr}
-use Rattle.spx_examples.proofs.Resolving.{resolved_below, resolved_step, resolved_while}
+use Rattle.spx_examples.proofs.Resolving.{as_body, in_one, resolved_as, resolved_below, resolved_step, resolved_while}
 use Rattle.spx_examples.proofs.Spelling.{Piece, Word, Digits, Delimiter, Space, LineEnd, spelled_by}
 use Rattle.spx_examples.proofs.Statements.{assignment_is, while_is}
 
@@ -78,14 +79,22 @@ as_written = rw loop_written_as refl
 
 -- ---- its program
 
-resolved_loop : resolved_stmt (relation ∷ []) regions loop_written ≡ loop_resolved
+resolved_loop : resolved_stmt (relation ∷ []) outer loop_written region 1 ≡ (loop_resolved, 1)
 resolved_loop =
-    resolved_while (relation ∷ []) regions (place 5 4) (below_written 5 10) (place 5 18) (step_written ∷ []) closing
-    ∙ ap₂ (λ condition statement. stmt.Loop (scheme.While (place 5 4) condition) (place 5 18) (statement ∷ []) closing) (resolved_below (relation ∷ []) regions x_denotes 5 10) (resolved_step (relation ∷ []) regions x_denotes 6 7 12)
+    resolved_while (relation ∷ []) outer region 1 (place 5 4) (below_written 5 10) (place 5 18) (step_written ∷ []) closing
+    ∙ ap₂ (λ (condition : CoreExpr) (made : CoreStmt × ℕ). (stmt.Loop (scheme.While (place 5 4) condition) (place 5 18) (as_body made) closing, made.1))
+    (resolved_below regions x_denotes 5 10)
+    (resolved_step (relation ∷ []) outer region 1 x_denotes 6 7 12)
+
+no_parameters : parameters_by_stmts (loop_resolved ∷ []) ≡ []
+no_parameters =
+    in_one loop_resolved
+    (parameters-While loop_resolved (scheme.While (place 5 4) (below_hundred_at 5 10)) (place 5 18) (step_resolved ∷ []) closing (place 5 4) (below_hundred_at 5 10) refl refl
+    ∙ in_one step_resolved (parameters-Assignment (x_named 6 7) (successor 6 12)))
 
 pub made : resolved loop_units ≡ loop_program
 unfolding standard
-made = ap (λ (statement : CoreStmt). program_of (doing (statement ∷ []) 8)) resolved_loop
+made = resolved_as loop_procedure (loop_resolved ∷ []) [] (ap as_body resolved_loop) no_parameters
 
 -- ---- its command
 

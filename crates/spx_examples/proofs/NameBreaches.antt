@@ -1,5 +1,5 @@
 -- The first breach of a rule on names or types, in a file of which the first procedure has one statement.
-use Rattle.std.proofs.Common.{◌≡◌, ◌+◌, List, [], ◌∷◌, ◌++◌, Option, Some, None, map, option_map, refl, ap, ap₂, ◌∙◌}
+use Rattle.std.proofs.Common.{◌≡◌, ℕ, ◌+◌, List, [], ◌∷◌, ◌++◌, length, Option, Some, None, option_map, refl, ap, ap₂, ◌∙◌}
 use Rattle.std.specs.Prelude.{⊤}
 use denote.Hole.Carrier.{roll, hidden}
 use Rattle.spx_text.specs.declared.place.Place.{Place}
@@ -21,17 +21,17 @@ use Rattle.spx_core.specs.declared.dependency.CoreDerivesItem.{CoreDerivesItem}
 use Rattle.spx_core.specs.declared.expression.CoreExpr.{CoreExpr, CoreExpr-F}
 use Rattle.spx_core.specs.declared.rule.Breach.{Breach}
 use Rattle.spx_core.specs.declared.rule.Typing.{Typing}
-use Rattle.spx_core.specs.Commands.{commands}
+use Rattle.spx_core.specs.Commands.{Command, commands}
 use Rattle.spx_core.specs.Dependency.{relation}
 use Rattle.spx_core.specs.declared.subprogram.Sub.{Sub}
 use Rattle.spx_core.specs.Judged.{Judged, ◌>>=◌, breach_in, condition, each, expr_step, if_there, judged, operand_of, referred_target}
-use Rattle.spx_core.specs.Regions.{Regions}
-use Rattle.spx_core.specs.Resolved.{around_body, at_start, counted_sub, declaring, declaring_all, formal_names, local_names, params_of, is_changed_by, resolved_expr, resolved_function, resolved_in, resolved_name, resolved_predicate, resolved_reference, resolved_stmt, resolved_sub, resolved_subs, resolved_value, unit_name}
+use Rattle.spx_core.specs.Regions.{Region, Regions}
+use Rattle.spx_core.specs.Resolved.{around_body, at_start, counted_sub, declaring, declaring_all, formal_names, local_names, local_variables, params_of, is_changed_by, resolved_expr, resolved_function, resolved_in, resolved_name, resolved_predicate, resolved_reference, resolved_stmts, resolved_sub, resolved_subs, resolved_value, unit_name}
 use Rattle.spx_core.specs.Resolved as resolving
 use Rattle.spx_core.specs.Statements.{first_name_breach, judged_name, judged_command, judged_decl, judged_end, judged_item, judged_param, judged_predicate, judged_sub}
 use Rattle.spx_core.proofs.Callers.Expressions.{fold-Number, fold-Name, fold-Entry, fold-Attribute, fold-Applied, fold-Parenthesized, fold-Prefix, fold-Infix, fold-InType, fold-InRange}
 use Rattle.spx_examples.proofs.Statements.{assignment_is, assertion_is, if_is, and_no_more}
-use Rattle.spx_examples.proofs.Resolving.{resolved_assignment, resolved_assertion, resolved_if}
+use Rattle.spx_examples.proofs.Resolving.{as_body, resolved_assertion, resolved_assignment, resolved_if}
 
 -- `if test then body end if`
 abbrev if_written : Place → Expr → List Stmt → Closing → Stmt
@@ -109,31 +109,37 @@ module _ (around : Regions) where
     v ← expr_now [] around value
     operand_of subtype v
 
-module _ (items : List CoreDerivesItem) (around : Regions) where
-  pub body_is : (target : Name) (value : Expr) → judged_command (commands (resolved_stmt items around (written_stmt.Assignment target value) ∷ [])) ≡ and_no_more (assignment_now around target value)
+module _ (items : List CoreDerivesItem) (outer : Regions) (region : Region) (position : ℕ) where
+  abbrev around : Regions
+  around = region ∷ outer
+
+  -- these statements, as a command
+  abbrev pub body_of : List Stmt → Command
+  body_of stmts = commands (resolved_stmts items outer stmts region position).0
+
+  pub body_is : (target : Name) (value : Expr) → judged_command (body_of (written_stmt.Assignment target value ∷ [])) ≡ and_no_more (assignment_now around target value)
   body_is target value =
-      ap (λ s. judged_command (commands (s ∷ []))) (resolved_assignment items around target value)
+      ap (λ made. judged_command (commands (as_body made))) (resolved_assignment items outer region position target value)
       ∙ ap judged_command (assignment_is (resolved_reference around target) (resolved_expr around value))
       ∙ ap (λ j. and_no_more (referred_target (resolved_reference around target) >>= λ subtype. j >>= λ v. operand_of subtype v)) (judged_is [] around value)
 
   -- what the `if` of one arm is judged to be
   abbrev if_now : Judged Typing → List Stmt → Judged ⊤
-  if_now test body = (test >>= λ t. condition t) >>= λ _. and_no_more (judged_command (commands (map (resolved_stmt items around) body)))
+  if_now test body = (test >>= λ t. condition t) >>= λ _. and_no_more (judged_command (body_of body))
 
-  if_body : (at : Place) (test : Expr) (body : List Stmt) (closing : Closing)
-      → judged_command (commands (resolved_stmt items around (if_written at test body closing) ∷ [])) ≡ and_no_more (if_now (expr_now [] around test) body)
+  if_body : (at : Place) (test : Expr) (body : List Stmt) (closing : Closing) → judged_command (body_of (if_written at test body closing ∷ [])) ≡ and_no_more (if_now (expr_now [] around test) body)
   if_body at test body closing =
-      ap (λ s. judged_command (commands (s ∷ []))) (resolved_if items around at test body closing)
-      ∙ ap judged_command (if_is at (resolved_expr around test) (map (resolved_stmt items around) body) closing)
+      ap (λ made. judged_command (commands (as_body made))) (resolved_if items outer region position at test body closing)
+      ∙ ap judged_command (if_is at (resolved_expr around test) (resolved_stmts items outer body region position).0 closing)
       ∙ ap (λ j. and_no_more (if_now j body)) (judged_is [] around test)
 
   -- what an `assert` or a `check` is judged to be
   abbrev assertion_now : Expr → Judged ⊤
   assertion_now test = expr_now items around test >>= λ t. condition t
 
-  assertion_body : (kind : AssertionKind) (at : Place) (test : Expr) → judged_command (commands (resolved_stmt items around (written_stmt.Assertion kind at test) ∷ [])) ≡ and_no_more (assertion_now test)
+  assertion_body : (kind : AssertionKind) (at : Place) (test : Expr) → judged_command (body_of (written_stmt.Assertion kind at test ∷ [])) ≡ and_no_more (assertion_now test)
   assertion_body kind at test =
-      ap (λ s. judged_command (commands (s ∷ []))) (resolved_assertion items around kind at test)
+      ap (λ made. judged_command (commands (as_body made))) (resolved_assertion items outer region position kind at test)
       ∙ ap judged_command (assertion_is kind at (resolved_in items around test))
       ∙ ap (λ j. and_no_more (j >>= λ t. condition t)) (judged_is items around test)
 
@@ -154,8 +160,19 @@ sub_with sub pre post body = do
 abbrev annotated : Sub → Regions
 annotated sub = declaring_all [] (formal_names sub) ∷ around_body sub.name
 
+abbrev own_names : Sub → Region
+own_names sub = declaring_all [] (formal_names sub ++ local_names sub)
+
 abbrev inside : Sub → Regions
-inside sub = declaring_all [] (formal_names sub ++ local_names sub) ∷ around_body sub.name
+inside sub = own_names sub ∷ around_body sub.name
+
+-- in the first procedure of a file, the position of the first parameter of a loop
+abbrev pub first_position : Sub → ℕ
+first_position sub = at_start.vars + length (formal_names sub ++ local_variables sub)
+
+-- its body, where it has these statements
+abbrev first_body : Sub → List Stmt → Command
+first_body sub stmts = body_of (relation sub) (around_body sub.name) (own_names sub) (first_position sub) stmts
 
 module _ (s : Subprogram) (others : List Unit) where
   -- the first procedure of a file, and the others after it
@@ -174,25 +191,31 @@ module _ (s : Subprogram) (others : List Unit) where
   first_with body = sub_with first (if_there (predicate_now [] (annotated first)) s.pre) (if_there (predicate_now (relation first) (annotated first)) s.post) body
 
   module _ (statement : Stmt) (is : s.statements ≡ statement ∷ []) where
-    with_body : (body : Judged ⊤) → judged_command (commands (resolved_stmt (relation first) (inside first) statement ∷ [])) ≡ body → first_name_breach (unit.Subprogram s ∷ others) ≡ breach_with (first_with body)
+    with_body : (body : Judged ⊤) → judged_command (first_body first (statement ∷ [])) ≡ body → first_name_breach (unit.Subprogram s ∷ others) ≡ breach_with (first_with body)
     unfolding first_name_breach
     with_body body body_is =
         ap (λ parts. breach_with parts)
         (ap₂ (λ pre post. sub_with first pre post (judged_command (commands first.statements))) (predicate_is [] (annotated first) s.pre) (predicate_is (relation first) (annotated first) s.post)
-        ∙ ap (sub_with first (if_there (predicate_now [] (annotated first)) s.pre) (if_there (predicate_now (relation first) (annotated first)) s.post)) (ap (λ ss. judged_command (commands (map (resolved_stmt (relation first) (inside first)) ss))) is ∙ body_is))
+        ∙ ap (sub_with first (if_there (predicate_now [] (annotated first)) s.pre) (if_there (predicate_now (relation first) (annotated first)) s.post)) (ap (λ ss. judged_command (first_body first ss)) is ∙ body_is))
 
   -- where its one statement is an assignment
   pub breach_is : (target : Name) (value : Expr) → s.statements ≡ written_stmt.Assignment target value ∷ []
       → first_name_breach (unit.Subprogram s ∷ others) ≡ breach_with (first_with (and_no_more (assignment_now (inside first) target value)))
-  breach_is target value is = with_body (written_stmt.Assignment target value) is (and_no_more (assignment_now (inside first) target value)) (body_is (relation first) (inside first) target value)
+  breach_is target value is = with_body (written_stmt.Assignment target value) is (and_no_more (assignment_now (inside first) target value)) (body_is (relation first) (around_body first.name) (own_names first) (first_position first) target value)
 
   -- where it is an `if` of one arm
+  abbrev first_if : Expr → List Stmt → Judged ⊤
+  first_if test body = if_now (relation first) (around_body first.name) (own_names first) (first_position first) (expr_now [] (inside first) test) body
+
   pub breach_of_if : (at : Place) (test : Expr) (body : List Stmt) (closing : Closing) → s.statements ≡ if_written at test body closing ∷ []
-      → first_name_breach (unit.Subprogram s ∷ others) ≡ breach_with (first_with (and_no_more (if_now (relation first) (inside first) (expr_now [] (inside first) test) body)))
+      → first_name_breach (unit.Subprogram s ∷ others) ≡ breach_with (first_with (and_no_more (first_if test body)))
   breach_of_if at test body closing is =
-      with_body (if_written at test body closing) is (and_no_more (if_now (relation first) (inside first) (expr_now [] (inside first) test) body)) (if_body (relation first) (inside first) at test body closing)
+      with_body (if_written at test body closing) is (and_no_more (first_if test body)) (if_body (relation first) (around_body first.name) (own_names first) (first_position first) at test body closing)
 
   -- where it is an `assert` or a `check`
+  abbrev first_assertion : Expr → Judged ⊤
+  first_assertion test = assertion_now (relation first) (around_body first.name) (own_names first) (first_position first) test
+
   pub breach_of_assertion : (kind : AssertionKind) (at : Place) (test : Expr) → s.statements ≡ written_stmt.Assertion kind at test ∷ []
-      → first_name_breach (unit.Subprogram s ∷ others) ≡ breach_with (first_with (and_no_more (assertion_now (relation first) (inside first) test)))
-  breach_of_assertion kind at test is = with_body (written_stmt.Assertion kind at test) is (and_no_more (assertion_now (relation first) (inside first) test)) (assertion_body (relation first) (inside first) kind at test)
+      → first_name_breach (unit.Subprogram s ∷ others) ≡ breach_with (first_with (and_no_more (first_assertion test)))
+  breach_of_assertion kind at test is = with_body (written_stmt.Assertion kind at test) is (and_no_more (first_assertion test)) (assertion_body (relation first) (around_body first.name) (own_names first) (first_position first) kind at test)

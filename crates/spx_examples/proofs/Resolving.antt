@@ -1,5 +1,5 @@
 -- What statements and expressions of the examples are resolved to.
-use Rattle.std.proofs.Common.{◌≡◌, ℕ, ◌+◌, pos, List, [], ◌∷◌, Some, None, map, ap, ap₂, ◌∙◌}
+use Rattle.std.proofs.Common.{◌≡◌, ℕ, ◌+◌, pos, List, [], ◌∷◌, ◌++◌, Option, Some, None, map, ap, ap₂, ◌∙◌}
 use Rattle.std.specs.Prelude.{codes}
 use denote.Hole.Carrier.{roll}
 use Rattle.spx_text.specs.declared.place.Place.{Place}
@@ -9,11 +9,16 @@ use Rattle.spx_tree.specs.declared.expression.Expr.{Expr, Expr-F, roll-Expr, fol
 use Rattle.spx_tree.specs.declared.expression.Expr.TheVariants as written_expr
 use Rattle.spx_tree.specs.declared.statement.AssertionKind.{AssertionKind}
 use Rattle.spx_tree.specs.declared.statement.Closing.{Closing}
-use Rattle.spx_tree.specs.declared.statement.Stmt.{Stmt, Stmt-F, roll-Stmt, fold-roll-Stmt}
+use Rattle.spx_tree.specs.declared.statement.Stmt.{Stmt, Stmt-F, roll-Stmt, map-Stmt, fold-roll-Stmt}
 use Rattle.spx_tree.specs.declared.statement.Stmt.TheVariants as written_stmt
+use Rattle.spx_tree.specs.declared.statement.Alternative.{Alternative}
 use Rattle.spx_tree.specs.declared.statement.Arm.{Arm, fold-roll-Arm}
+use Rattle.spx_tree.specs.declared.statement.Count.{Count}
 use Rattle.spx_tree.specs.declared.statement.Scheme.TheVariants as written_scheme
+use Rattle.spx_tree.specs.declared.subprogram.Subprogram.{Subprogram}
+use Rattle.spx_tree.specs.declared.subprogram.Unit.TheVariants as unit
 use Rattle.spx_core.specs.declared.dependency.CoreDerivesItem.{CoreDerivesItem}
+use Rattle.spx_core.specs.declared.entity.Entity.{Entity}
 use Rattle.spx_core.specs.declared.entity.Entity.TheVariants as entity
 use Rattle.spx_core.specs.declared.expression.CoreExpr.{CoreExpr}
 use Rattle.spx_core.specs.declared.expression.CoreExpr.TheVariants as expr
@@ -22,8 +27,11 @@ use Rattle.spx_core.specs.declared.statement.CoreStmt.TheVariants as stmt
 use Rattle.spx_core.specs.declared.statement.CoreAlternative.{CoreAlternative}
 use Rattle.spx_core.specs.declared.statement.CoreArm.{CoreArm}
 use Rattle.spx_core.specs.declared.statement.CoreScheme.TheVariants as scheme
-use Rattle.spx_core.specs.Regions.{Regions, denoted}
-use Rattle.spx_core.specs.Resolved.{alternative_step, arm_step, expr_step, stmt_step, resolved_expr, resolved_in, resolved_reference, resolved_stmt}
+use Rattle.spx_core.specs.declared.name.Defining.{Defining}
+use Rattle.spx_core.specs.declared.program.Program.{Program}
+use Rattle.spx_core.specs.declared.subprogram.Sub.{Sub}
+use Rattle.spx_core.specs.Regions.{Region, Regions, denoted}
+use Rattle.spx_core.specs.Resolved.{Part, alternative_step, arm_step, at_start, declared_by_count, declaring_all, expr_step, formal_names, local_variables, parameters_by, parameters_by_stmts, positions, program_of, resolved, resolved_alternative, resolved_arm, resolved_count, resolved_expr, resolved_in, resolved_reference, resolved_stmt, resolved_stmts, resolved_sub, stmt_step, unit_name, var_of}
 use Rattle.spx_examples.specs.Increment.{place, word, x_written, successor_written, x, object, x_at, x_named, successor}
 use Rattle.spx_examples.specs.Branches.{arm}
 use Rattle.spx_examples.specs.Next.{below_hundred_at, below_written}
@@ -36,31 +44,60 @@ pub resolved_x : (items : List CoreDerivesItem) (around : Regions) → XDenotes 
 unfolding roll-Expr roll
 resolved_x items around is line column = fold-roll-Expr CoreExpr (expr_step items around) (Expr-F.Name (x_written line column)) ∙ ap (λ e. expr.Name (record { name = word (codes "X") line column; entity = e })) is
 
-module _ (items : List CoreDerivesItem) (around : Regions) where
-  pub resolved_assignment : (target : Name) (value : Expr) → resolved_stmt items around (written_stmt.Assignment target value) ≡ stmt.Assignment (resolved_reference around target) (resolved_expr around value)
+module _ (items : List CoreDerivesItem) (outer : Regions) where
+  -- a written statement of this form
+  stmt_of : (layer : Stmt-F Stmt Alternative Arm)
+      → resolved_stmt items outer (roll-Stmt layer) ≡ stmt_step items outer (map-Stmt Stmt Alternative Arm (Part CoreStmt) (Part CoreAlternative) (Part CoreArm) (resolved_stmt items outer) (resolved_alternative items outer) (resolved_arm items outer) layer)
+  stmt_of layer = fold-roll-Stmt (Part CoreStmt) (Part CoreAlternative) (Part CoreArm) (stmt_step items outer) (alternative_step outer) (arm_step outer) layer
+
+module _ (items : List CoreDerivesItem) (outer : Regions) (region : Region) (position : ℕ) where
+  abbrev around : Regions
+  around = region ∷ outer
+
+  -- from this position on
+  abbrev pub here : {A : Type 0} → Part A → A × ℕ
+  here part = part region position
+
+  pub resolved_assignment : (target : Name) (value : Expr)
+      → here (resolved_stmt items outer (written_stmt.Assignment target value)) ≡ (stmt.Assignment (resolved_reference around target) (resolved_expr around value), position)
   unfolding roll-Stmt roll
-  resolved_assignment target value = fold-roll-Stmt CoreStmt CoreAlternative CoreArm (stmt_step items around) (alternative_step around) (arm_step around) (Stmt-F.Assignment target value)
+  resolved_assignment target value = ap here (stmt_of items outer (Stmt-F.Assignment target value))
 
   abbrev written_arm : Place → Expr → List Stmt → Arm
   written_arm at condition body = record { place = at; condition = condition; body = body }
 
   pub resolved_if : (at : Place) (condition : Expr) (body : List Stmt) (closing : Closing)
-      → resolved_stmt items around (written_stmt.If (written_arm at condition body ∷ []) None closing) ≡ stmt.If (arm at (resolved_expr around condition) (map (resolved_stmt items around) body) ∷ []) None closing
+      → here (resolved_stmt items outer (written_stmt.If (written_arm at condition body ∷ []) None closing))
+      ≡ (stmt.If (arm at (resolved_expr around condition) (here (resolved_stmts items outer body)).0 ∷ []) None closing, (here (resolved_stmts items outer body)).1)
   unfolding roll-Stmt roll
   resolved_if at condition body closing =
-      fold-roll-Stmt CoreStmt CoreAlternative CoreArm (stmt_step items around) (alternative_step around) (arm_step around) (Stmt-F.If (written_arm at condition body ∷ []) None closing)
-      ∙ ap (λ (a : CoreArm). stmt.If (a ∷ []) None closing) (fold-roll-Arm CoreStmt CoreAlternative CoreArm (stmt_step items around) (alternative_step around) (arm_step around) (record { place = at; condition = condition; body = body }))
+      ap here (stmt_of items outer (Stmt-F.If (written_arm at condition body ∷ []) None closing))
+      ∙ ap (λ (a : Part CoreArm). (stmt.If ((here a).0 ∷ []) None closing, (here a).1))
+      (fold-roll-Arm (Part CoreStmt) (Part CoreAlternative) (Part CoreArm) (stmt_step items outer) (alternative_step outer) (arm_step outer) (record { place = at; condition = condition; body = body }))
 
   pub resolved_while : (at : Place) (condition : Expr) (loop_word : Place) (body : List Stmt) (closing : Closing)
-      → resolved_stmt items around (written_stmt.Loop (written_scheme.While at condition) loop_word body closing) ≡ stmt.Loop (scheme.While at (resolved_expr around condition)) loop_word (map (resolved_stmt items around) body) closing
+      → here (resolved_stmt items outer (written_stmt.Loop (written_scheme.While at condition) loop_word body closing))
+      ≡ (stmt.Loop (scheme.While at (resolved_expr around condition)) loop_word (resolved_stmts items outer body region (position + 0)).0 closing, (resolved_stmts items outer body region (position + 0)).1)
   unfolding roll-Stmt roll
-  resolved_while at condition loop_word body closing =
-      fold-roll-Stmt CoreStmt CoreAlternative CoreArm (stmt_step items around) (alternative_step around) (arm_step around) (Stmt-F.Loop (written_scheme.While at condition) loop_word body closing)
+  resolved_while at condition loop_word body closing = ap here (stmt_of items outer (Stmt-F.Loop (written_scheme.While at condition) loop_word body closing))
 
-  pub resolved_assertion : (kind : AssertionKind) (at : Place) (condition : Expr) → resolved_stmt items around (written_stmt.Assertion kind at condition) ≡ stmt.Assertion kind at (resolved_in items around condition)
+  pub resolved_for : (c : Count) (loop_word : Place) (body : List Stmt) (closing : Closing)
+      → here (resolved_stmt items outer (written_stmt.Loop (written_scheme.For c) loop_word body closing))
+      ≡ (
+        stmt.Loop (scheme.For (resolved_count outer region position c)) loop_word
+            (resolved_stmts items outer body (declaring_all region (declared_by_count (resolved_count outer region position c) ∷ [])) (position + 1)).0
+            closing,
+        (resolved_stmts items outer body (declaring_all region (declared_by_count (resolved_count outer region position c) ∷ [])) (position + 1)).1,
+      )
   unfolding roll-Stmt roll
-  resolved_assertion kind at condition = fold-roll-Stmt CoreStmt CoreAlternative CoreArm (stmt_step items around) (alternative_step around) (arm_step around) (Stmt-F.Assertion kind at condition)
+  resolved_for c loop_word body closing = ap here (stmt_of items outer (Stmt-F.Loop (written_scheme.For c) loop_word body closing))
 
+  pub resolved_assertion : (kind : AssertionKind) (at : Place) (condition : Expr)
+      → here (resolved_stmt items outer (written_stmt.Assertion kind at condition)) ≡ (stmt.Assertion kind at (resolved_in items around condition), position)
+  unfolding roll-Stmt roll
+  resolved_assertion kind at condition = ap here (stmt_of items outer (Stmt-F.Assertion kind at condition))
+
+module _ (around : Regions) where
   -- where X denotes the variable
   module _ (is : XDenotes around) where
     resolved_successor : (line column : ℕ) → resolved_expr around (successor_written line column) ≡ successor line column
@@ -76,8 +113,34 @@ module _ (items : List CoreDerivesItem) (around : Regions) where
         fold-roll-Expr CoreExpr (expr_step [] around) (Expr-F.Infix op.Less (place line (column + 2)) (written_expr.Name (x_written line column)) (written_expr.Number (pos 100) (place line (column + 4))))
         ∙ ap₂ (expr.Infix op.Less (place line (column + 2))) (resolved_x [] around is line column) (fold-roll-Expr CoreExpr (expr_step [] around) (Expr-F.Number (pos 100) (place line (column + 4))))
 
-    -- `X := X + 1`
-    pub resolved_step : (line target value : ℕ) → resolved_stmt items around (written_stmt.Assignment (x_written line target) (successor_written line value)) ≡ stmt.Assignment (x_named line target) (successor line value)
-    resolved_step line target value =
-        resolved_assignment (x_written line target) (successor_written line value)
-        ∙ ap₂ stmt.Assignment (ap (λ e. record { root = record { name = word (codes "X") line target; entity = e }; way = [] }) is) (resolved_successor line value)
+-- `X := X + 1`
+pub resolved_step : (items : List CoreDerivesItem) (outer : Regions) (region : Region) (position : ℕ) → XDenotes (region ∷ outer) → (line target value : ℕ)
+    → resolved_stmt items outer (written_stmt.Assignment (x_written line target) (successor_written line value)) region position ≡ (stmt.Assignment (x_named line target) (successor line value), position)
+resolved_step items outer region position is line target value =
+    resolved_assignment items outer region position (x_written line target) (successor_written line value)
+    ∙ ap₂ (λ (e : Option Entity) v. (stmt.Assignment (record { root = record { name = word (codes "X") line target; entity = e }; way = [] }) v, position)) is (resolved_successor (region ∷ outer) is line value)
+
+-- ---- programs
+
+-- the one statement of a body
+abbrev pub as_body : CoreStmt × ℕ → List CoreStmt
+as_body made = made.0 ∷ []
+
+-- one that is no loop and has none
+pub in_one : (s : CoreStmt) → parameters_by s ≡ [] → parameters_by_stmts (s ∷ []) ≡ []
+in_one s none = ap (λ ds. ds ++ []) none
+
+-- The program of one procedure, where it has these statements, and these parameters of loops.
+module _ (s : Subprogram) where
+  abbrev own : Sub
+  own = resolved_sub (unit_name [] 0 s) at_start s
+
+  abbrev variables : List Defining → List Defining
+  variables parameters = (formal_names own ++ local_variables own) ++ parameters
+
+  abbrev pub having : List CoreStmt → List Defining → Program
+  having statements parameters =
+      record (program_of (record own { statements = statements; vars = positions 0 (variables parameters) } ∷ [])) { vars = map var_of (variables parameters) ++ [] }
+
+  pub resolved_as : (statements : List CoreStmt) (parameters : List Defining) → own.statements ≡ statements → parameters_by_stmts statements ≡ parameters → resolved (unit.Subprogram s ∷ []) ≡ having statements parameters
+  resolved_as statements parameters is are = ap (λ stmts. having stmts (parameters_by_stmts stmts)) is ∙ ap (having statements) are

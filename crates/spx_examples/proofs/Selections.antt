@@ -23,6 +23,7 @@ use Rattle.spx_core.specs.declared.expression.CoreExpr.TheVariants.{outs-Name}
 use Rattle.spx_core.specs.declared.function.CoreFunction.{CoreFunction}
 use Rattle.spx_core.specs.declared.function.Span.{Span}
 use Rattle.spx_core.specs.declared.name.CoreName.{CoreName}
+use Rattle.spx_core.specs.declared.name.Defining.{Defining}
 use Rattle.spx_core.specs.declared.rule.ExprType.{ExprType}
 use Rattle.spx_core.specs.declared.rule.RuleName.TheVariants.{N10, N12, N17}
 use Rattle.spx_core.specs.declared.rule.Typing.{Typing}
@@ -36,8 +37,8 @@ use Rattle.spx_core.specs.Dependency.{relation}
 use Rattle.spx_core.specs.Extents.{extent, extent-Name, extent_in, extent_named, type_judged, with_static}
 use Rattle.spx_core.specs.Judged.{Judged, ◌>>=◌, application, each, expr_step, if_there, judged, keeps, mapped, named_value}
 use Rattle.spx_core.specs.Places.{place_in, place_of}
-use Rattle.spx_core.specs.Regions.{Regions}
-use Rattle.spx_core.specs.Resolved.{choice_of, or_zero, resolved_alternative, resolved_choice, resolved_expr, resolved_name, resolved_stmt, value_in}
+use Rattle.spx_core.specs.Regions.{Region, Regions}
+use Rattle.spx_core.specs.Resolved.{Part, around_body, choice_of, or_zero, resolved_alternative, resolved_choice, resolved_expr, resolved_name, resolved_stmt, value_in}
 use Rattle.spx_core.specs.Resolved as resolving
 use Rattle.spx_core.specs.Shapes as shape
 use Rattle.spx_core.specs.Statements.{are_given_once, first_name_breach, judged_command, static_at}
@@ -55,8 +56,10 @@ use Rattle.spx_examples.specs.Increment.{place}
 use Rattle.spx_examples.specs.NameRules.{alone}
 use Rattle.spx_examples.specs.Operators.{a, a_at, number}
 use Rattle.spx_examples.specs.Selections.{Chosen, color_program, giving, holding, literal_at}
-use Rattle.spx_examples.proofs.Declarations.{breach_where, breach_with, first as procedure, inside, now}
+use Rattle.spx_examples.proofs.Declarations.{breach_where, breach_with, first as procedure, inside, now, seen_there}
 use Rattle.spx_examples.proofs.Evaluations.{assigns, eval_name}
+use Rattle.spx_examples.proofs.NameBreaches.{body_of, first_position}
+use Rattle.spx_examples.proofs.Resolving.{as_body, here}
 use Rattle.spx_examples.proofs.Statements.{and_no_more, null_is}
 
 -- ---- what a name is resolved to and judged to be
@@ -183,32 +186,46 @@ module _ (around : Regions) where
       ap (λ (s : Span). record { low = resolved_expr around c.low; high = option_map (resolved_expr around) c.high; span = s }) (span_is (resolved_expr around c.low) (option_map (resolved_expr around) c.high))
       ∙ ap₂ (λ j r. choice_by j r c) (fun_ext judgement_is) (fun_ext (resolution_is around))
 
-module _ (items : List CoreDerivesItem) (around : Regions) where
-  resolved_null : (at : Place) → resolved_stmt items around (written_stmt.Null at) ≡ stmt.Null at
+module _ (items : List CoreDerivesItem) (outer : Regions) (region : Region) (position : ℕ) where
+  abbrev around_case : Regions
+  around_case = region ∷ outer
+
+  resolved_null : (at : Place) → resolved_stmt items outer (written_stmt.Null at) region position ≡ (stmt.Null at, position)
   unfolding roll-Stmt roll
-  resolved_null at = fold-roll-Stmt CoreStmt CoreAlternative CoreArm (resolving.stmt_step items around) (resolving.alternative_step around) (resolving.arm_step around) (Stmt-F.Null at)
+  resolved_null at =
+      ap (here items outer region position)
+      (fold-roll-Stmt (Part CoreStmt) (Part CoreAlternative) (Part CoreArm) (resolving.stmt_step items outer) (resolving.alternative_step outer) (resolving.arm_step outer) (Stmt-F.Null at))
 
   abbrev core : Option (List Choice) → Place → CoreAlternative
-  core choices at = record { choices = option_map (map (resolved_choice around)) choices; body = stmt.Null at ∷ [] }
+  core choices at = record { choices = option_map (map (resolved_choice around_case)) choices; body = stmt.Null at ∷ [] }
 
-  alternative_is : (choices : Option (List Choice)) (at : Place) → resolved_alternative items around (written choices at) ≡ core choices at
+  alternative_is : (choices : Option (List Choice)) (at : Place) → resolved_alternative items outer (written choices at) region position ≡ (core choices at, position)
   alternative_is choices at =
-      fold-roll-Alternative CoreStmt CoreAlternative CoreArm (resolving.stmt_step items around) (resolving.alternative_step around) (resolving.arm_step around) (record { choices = choices; body = written_stmt.Null at ∷ [] })
-      ∙ ap (λ (s : CoreStmt). record { choices = option_map (map (resolved_choice around)) choices; body = s ∷ [] }) (resolved_null at)
+      ap (here items outer region position)
+      (fold-roll-Alternative (Part CoreStmt) (Part CoreAlternative) (Part CoreArm) (resolving.stmt_step items outer) (resolving.alternative_step outer) (resolving.arm_step outer) (record { choices = choices; body = written_stmt.Null at ∷ [] }))
+      ∙ ap (λ (made : CoreStmt × ℕ). (record { choices = option_map (map (resolved_choice around_case)) choices; body = as_body made }, made.1)) (resolved_null at)
+
+  -- the whole, where its alternatives are these
+  abbrev case_with : Place → Identifier → Closing → CoreAlternative × ℕ → CoreAlternative × ℕ → CoreStmt × ℕ
+  case_with at selector closing b c = (stmt.Case at (resolved_expr around_case (written_expr.Name (Simple selector))) (b.0 ∷ c.0 ∷ []) closing, c.1)
 
   resolved_case : (at : Place) (selector : Identifier) (first second : Option (List Choice)) (p q : Place) (closing : Closing)
-      → resolved_stmt items around (case_written at selector first second p q closing) ≡ stmt.Case at (resolved_expr around (written_expr.Name (Simple selector))) (core first p ∷ core second q ∷ []) closing
+      → resolved_stmt items outer (case_written at selector first second p q closing) region position
+      ≡ (stmt.Case at (resolved_expr around_case (written_expr.Name (Simple selector))) (core first p ∷ core second q ∷ []) closing, position)
   unfolding roll-Stmt roll
   resolved_case at selector first second p q closing =
-      fold-roll-Stmt CoreStmt CoreAlternative CoreArm (resolving.stmt_step items around) (resolving.alternative_step around) (resolving.arm_step around) (Stmt-F.Case at (written_expr.Name (Simple selector)) (written first p ∷ written second q ∷ []) closing)
-      ∙ ap₂ (λ (b c : CoreAlternative). stmt.Case at (resolved_expr around (written_expr.Name (Simple selector))) (b ∷ c ∷ []) closing) (alternative_is first p) (alternative_is second q)
+      ap (here items outer region position)
+      (fold-roll-Stmt (Part CoreStmt) (Part CoreAlternative) (Part CoreArm) (resolving.stmt_step items outer) (resolving.alternative_step outer) (resolving.arm_step outer) (Stmt-F.Case at (written_expr.Name (Simple selector)) (written first p ∷ written second q ∷ []) closing))
+      ∙ ap (λ (b : CoreAlternative × ℕ). case_with at selector closing b (resolved_alternative items outer (written second q) region b.1)) (alternative_is first p)
+      ∙ ap (case_with at selector closing (core first p, position)) (alternative_is second q)
 
   case_body : (at : Place) (selector : Identifier) (first second : Option (List Choice)) (p q : Place) (closing : Closing)
-      → judged_command (commands (resolved_stmt items around (case_written at selector first second p q closing) ∷ [])) ≡ and_no_more (case_now around at selector first second)
+      → judged_command (body_of items outer region position (case_written at selector first second p q closing ∷ [])) ≡ and_no_more (case_now around_case at selector first second)
   case_body at selector first second p q closing =
+      let around : Regions = around_case in
       let e : CoreExpr = resolved_expr around (written_expr.Name (Simple selector)) in
       let name : CoreName = resolved_name around selector in
-      ap (λ (s : CoreStmt). judged_command (commands (s ∷ []))) (resolved_case at selector first second p q closing)
+      ap (λ made. judged_command (commands (as_body made))) (resolved_case at selector first second p q closing)
       ∙ ap judged_command (command_is at e (option_map (map (resolved_choice around)) first) (option_map (map (resolved_choice around)) second) (stmt.Null p ∷ []) (stmt.Null q ∷ []) closing)
       ∙ ap₂ (λ (b c : Command). judged_command (Then (Select at e (When (option_map (map (resolved_choice around)) first) b (Last (option_map (map (resolved_choice around)) second) c))) Skip)) (null_is p) (null_is q)
       ∙ ap (λ (f : Choice → CoreChoice). and_no_more (case_by judged at e (extent e) (option_map (map f) first) (option_map (map f) second))) (fun_ext (choice_is around))
@@ -221,8 +238,10 @@ pub case_breach : (ds : List Decl) (at : Place) (selector : Identifier) (first s
     (and_no_more (case_now (inside ds (case_written at selector first second p q closing) (now ds (case_written at selector first second p q closing)).names) at selector first second))
 case_breach ds at selector first second p q closing =
     let statement : Stmt = case_written at selector first second p q closing in
-    let around : Regions = inside ds statement (now ds statement).names in
-    breach_where ds statement (and_no_more (case_now around at selector first second)) (case_body (relation (procedure ds statement)) around at selector first second p q closing)
+    let names : List Defining = (now ds statement).names in
+    breach_where ds statement
+    (and_no_more (case_now (inside ds statement names) at selector first second))
+    (case_body (relation (procedure ds statement)) (around_body (procedure ds statement).name) (seen_there ds statement names) (first_position (procedure ds statement)) at selector first second p q closing)
 
 -- ---- runs
 

@@ -7,6 +7,7 @@ use Rattle.spx_tree.specs.declared.statement.AssertionKind.{AssertionKind}
 use Rattle.spx_tree.specs.declared.statement.AssertionKind.TheVariants as assertion
 use Rattle.spx_tree.specs.declared.statement.Stmt.{Stmt}
 use Rattle.spx_tree.specs.declared.statement.Stmt.TheVariants as written_stmt
+use Rattle.spx_tree.specs.declared.subprogram.Subprogram.{Subprogram}
 use Rattle.spx_tree.specs.declared.subprogram.Unit.{Unit}
 use Rattle.spx_tree.specs.declared.subprogram.Unit.TheVariants as unit
 use Rattle.spx_tree.specs.declared.token.Kind.TheVariants as token
@@ -110,16 +111,17 @@ abbrev pub noted_written : AssertionKind → ℕ → Stmt
 noted_written kind column = written_stmt.Assertion kind (place 7 8) (positive_written column)
 
 -- the unit with this statement after the assignment
+abbrev pub procedure_with : Stmt → Subprogram
+procedure_with last = record inc_written {
+  pre = None;
+  post = Some (record { place = place 3 5; condition = next_written });
+  statements = step_written ∷ last ∷ [];
+  end = place 8 1;
+  end_name = Some (word (codes "Inc") 8 5);
+}
+
 abbrev pub units_with : Stmt → List Unit
-units_with last =
-    unit.Subprogram (record inc_written {
-      pre = None;
-      post = Some (record { place = place 3 5; condition = next_written });
-      statements = step_written ∷ last ∷ [];
-      end = place 8 1;
-      end_name = Some (word (codes "Inc") 8 5);
-    })
-    ∷ []
+units_with last = unit.Subprogram (procedure_with last) ∷ []
 
 abbrev pub asserted_units : List Unit
 asserted_units = units_with (noted_written assertion.Check 14)

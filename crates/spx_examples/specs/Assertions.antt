@@ -156,7 +156,7 @@ flag_promising name = record flags.flag { post = Some (post_on (positive_name na
 
 -- its program with a local Z, which its postcondition names
 abbrev pub z_promised : Program
-z_promised = record (with_local_z []) { subs = record (flag_promising z_at) { vars = x ∷ flags.y ∷ z ∷ [] } ∷ [] }
+z_promised = record (with_local_z []) { subs = record (flag_promising z_at) { vars = x ∷ flags.y ∷ z ∷ []; local_count = 1 } ∷ [] }
 
 -- `check Y < 0`, and `check Y > 0`, for a local Y that nothing sets
 abbrev pub checking_unset : InfixOp → List CoreStmt

@@ -48,6 +48,7 @@ copy = record flag {
   end_name = Some (word (codes "Copy") 6 5);
   vars = x ∷ y ∷ z ∷ [];
   formal_count = 3;
+  local_count = 0;
 }
 
 -- its program

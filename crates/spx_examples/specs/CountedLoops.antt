@@ -1,18 +1,18 @@
 -- Loops over a parameter, as commands, over the variables of the procedure `Flag`: X, which is imported, and Y, which is exported. The parameter is I, of the
 -- type `Positive`. A loop has its word in line 5, and its body in the lines after it.
-use Rattle.std.specs.Prelude.{ℕ, ℤ, pos, Bool, true, false, [], ◌∷◌, ◌++◌, Option, Some, None, codes}
+use Rattle.std.specs.Prelude.{ℕ, ℤ, pos, Bool, false, [], ◌∷◌, ◌++◌, Option, Some, None, codes}
 use Rattle.spx_core.specs.declared.entity.TheConstants.{POSITIVE}
-use Rattle.spx_core.specs.declared.entity.Entity.{Entity}
 use Rattle.spx_core.specs.declared.entity.Entity.TheVariants as entity
 use Rattle.spx_core.specs.declared.entity.VarId.{VarId}
-use Rattle.spx_core.specs.declared.entity.VarKind.TheVariants.{Local}
+use Rattle.spx_core.specs.declared.entity.VarKind.TheVariants.{LoopParameter}
 use Rattle.spx_core.specs.declared.expression.CoreExpr.{CoreExpr}
 use Rattle.spx_core.specs.declared.expression.CoreExpr.TheVariants as expr
 use Rattle.spx_core.specs.declared.name.CoreName.{CoreName}
 use Rattle.spx_core.specs.declared.name.Reference.{Reference}
 use Rattle.spx_core.specs.declared.program.Program.{Program}
 use Rattle.spx_core.specs.declared.statement.CoreRange.{CoreRange}
-use Rattle.spx_core.specs.Commands.{Command, Count, Skip, Set, Then, Repeat, Counted}
+use Rattle.spx_core.specs.declared.statement.CoreCount.{CoreCount}
+use Rattle.spx_core.specs.Commands.{Command, Skip, Set, Then, Repeat, Counted}
 use Rattle.spx_term.specs.declared.term.TermOp.TheVariants as sign
 use Rattle.spx_term.specs.declared.term.Term.{Term}
 use Rattle.spx_term.specs.declared.term.Term.TheVariants as term
@@ -33,19 +33,20 @@ i = record { 0 = 2 }
 
 -- the program of `Flag` with it
 abbrev pub with_parameter : Program
-with_parameter = record flag_program { vars = flag_program.vars ++ record { name = codes "I"; kind = Local; type_id = POSITIVE.id } ∷ [] }
+with_parameter = record flag_program { vars = flag_program.vars ++ record { name = codes "I"; kind = LoopParameter; type_id = POSITIVE.id } ∷ [] }
 
 -- `I`, at its line and column
 abbrev pub i_at : ℕ → ℕ → CoreName
-i_at line column = record { name = word (codes "I") line column; entity = Some (entity.Variable i (record { kind = Local; subtype = POSITIVE })) }
+i_at line column = record { name = word (codes "I") line column; entity = Some (entity.Variable i (record { kind = LoopParameter; subtype = POSITIVE })) }
 
 -- `Positive`, in line 5
 abbrev pub positive_named : Reference
 positive_named = named (record { name = word (codes "Positive") 5 13; entity = Some (entity.TypeName POSITIVE) })
 
 -- `for I in Positive` and these bounds, in reverse or not
-abbrev pub over : (is_reverse : Bool) → Option CoreRange → Count
-over is_reverse bounds = record { place = place 5 4; parameter = i; type_name = positive_named; is_reverse = is_reverse; bounds = bounds }
+abbrev pub over : (is_reverse : Bool) → Option CoreRange → CoreCount
+over is_reverse bounds =
+    record { place = place 5 4; name = word (codes "I") 5 8; parameter = i; again = false; word = place 5 10; is_reverse = is_reverse; type_name = positive_named; bounds = bounds }
 
 -- such a loop
 abbrev pub each : (is_reverse : Bool) → Option CoreRange → Command → Command

@@ -87,6 +87,7 @@ inc_and items value = record inc {
   end_name = Some (word (codes "Inc") 8 5);
   vars = x ∷ y ∷ [];
   formal_count = 2;
+  local_count = 0;
 }
 
 -- `X, Y from X`
@@ -145,6 +146,7 @@ inc_with_local = record inc {
   end = place 8 1;
   end_name = Some (word (codes "Inc") 8 5);
   vars = x ∷ y ∷ [];
+  local_count = 1;
 }
 
 -- `X > 0`, at this line

@@ -105,6 +105,7 @@ flag = record {
   end_name = Some (word (codes "Flag") 8 5);
   vars = x ∷ y ∷ [];
   formal_count = 2;
+  local_count = 0;
 }
 
 -- the program of the one procedure

@@ -175,6 +175,7 @@ inc = record {
   end_name = Some (word (codes "Inc") 7 5);
   vars = x ∷ [];
   formal_count = 1;
+  local_count = 0;
 }
 
 -- its body sets X, and reads X for that

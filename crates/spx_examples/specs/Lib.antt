@@ -21,3 +21,5 @@ pub mod AssertionText
 pub mod Loops
 pub mod LoopText
 pub mod CountedLoops
+pub mod Doubling
+pub mod DoublingText

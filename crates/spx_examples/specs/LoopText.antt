@@ -13,6 +13,7 @@ use Rattle.spx_tree.specs.declared.statement.Closing.{Closing}
 use Rattle.spx_tree.specs.declared.statement.Scheme.TheVariants as written_scheme
 use Rattle.spx_tree.specs.declared.statement.Stmt.{Stmt}
 use Rattle.spx_tree.specs.declared.statement.Stmt.TheVariants as written_stmt
+use Rattle.spx_tree.specs.declared.subprogram.Subprogram.{Subprogram}
 use Rattle.spx_tree.specs.declared.subprogram.Unit.{Unit}
 use Rattle.spx_tree.specs.declared.subprogram.Unit.TheVariants as unit
 use Rattle.spx_tree.specs.declared.token.Kind.TheVariants as token
@@ -84,8 +85,11 @@ closing = record { end = place 7 4; word = place 7 8 }
 abbrev pub loop_written : Stmt
 loop_written = written_stmt.Loop (written_scheme.While (place 5 4) (below_written 5 10)) (place 5 18) (step_written ∷ []) closing
 
+abbrev pub loop_procedure : Subprogram
+loop_procedure = record inc_written { pre = None; statements = loop_written ∷ []; end = place 8 1; end_name = Some (word (codes "Inc") 8 5) }
+
 abbrev pub loop_units : List Unit
-loop_units = unit.Subprogram (record inc_written { pre = None; statements = loop_written ∷ []; end = place 8 1; end_name = Some (word (codes "Inc") 8 5) }) ∷ []
+loop_units = unit.Subprogram loop_procedure ∷ []
 
 -- ---- its program
 

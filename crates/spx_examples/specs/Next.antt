@@ -142,6 +142,7 @@ next_sub = record {
   end_name = Some (word (codes "Next") 8 5);
   vars = x ∷ [];
   formal_count = 1;
+  local_count = 0;
 }
 
 -- the program of the one procedure

@@ -122,7 +122,7 @@ with_modes m n items = record flag_program {
 
 -- `Flag` without formals and without `derives`, which does nothing
 abbrev pub bare : Program
-bare = record flag_program { vars = []; subs = record (idle flag) { formal_part = None; derives = None; vars = []; formal_count = 0 } ∷ [] }
+bare = record flag_program { vars = []; subs = record (idle flag) { formal_part = None; derives = None; vars = []; formal_count = 0; local_count = 0 } ∷ [] }
 
 -- ---- a local
 
@@ -145,5 +145,6 @@ with_local_z items = record flag_program {
   subs = record (with_items items) {
     declarations = Variables (record { name = word (codes "Z") 4 4; entity = z_entity; again = false } ∷ []) (named (integer_at 4 8)) None ∷ [];
     vars = x ∷ y ∷ z ∷ [];
+    local_count = 1;
   } ∷ [];
 }

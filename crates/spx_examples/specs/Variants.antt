@@ -53,6 +53,7 @@ local_sub statements = record inc_without_pre {
   declarations = Variables (record { name = word (codes "Y") 4 4; entity = local_y; again = false } ∷ []) (named (integer_at 4 8)) None ∷ [];
   statements = statements;
   vars = x ∷ y ∷ [];
+  local_count = 1;
 }
 
 -- its program

@@ -1,18 +1,26 @@
-// What loops over a parameter do, flow and ask for, as commands. Each law is the contract of a function that does nothing.
-ghost use Rattle.std.specs.Prelude.{◌≡◌, ℕ, pos, true, false, [], ◌∷◌, None};
+// What loops over a parameter do, flow and ask for, mostly as commands. Each law is the contract of a function that does nothing.
+ghost use Rattle.std.specs.Prelude.{◌≡◌, ℕ, pos, true, false, [], ◌∷◌, Some, None, length, slice_get};
+ghost use Rattle.spx_tree.specs.Form.{forms_of};
+ghost use Rattle.spx_tree.specs.Grammar.{IsFile};
+ghost use Rattle.spx_tree.specs.Spells.{Spells};
+ghost use Rattle.spx_tree.specs.Written.{written};
 ghost use Rattle.spx_core.specs.declared.entity.VarId.{VarId};
-ghost use Rattle.spx_core.specs.Commands.{Counted, Skip};
+ghost use Rattle.spx_core.specs.Commands.{Counted, Skip, commands};
 ghost use Rattle.spx_core.specs.Effects.{effect};
 ghost use Rattle.spx_core.specs.Flow.{MayFlow};
 ghost use Rattle.spx_core.specs.Marks.{Occurs};
+ghost use Rattle.spx_core.specs.Resolved.{resolved};
 ghost use Rattle.spx_core.specs.Ways.{Free, Goes, Reaches};
 ghost use Rattle.spx_term.specs.declared.term.Term.TheVariants as term;
 ghost use Rattle.spx_term.specs.Steps.{Tree};
 ghost use Rattle.spx_meaning.specs.declared.bad.BadKind.TheVariants.{Range};
 ghost use Rattle.spx_meaning.specs.Runs.{Bad, Ended, Later};
+ghost use Rattle.spx_paths.specs.Conditions.{conditions_of};
 ghost use Rattle.spx_paths.specs.Terms.{last_name, now_term};
 ghost use Rattle.spx_paths.specs.Walks.{again, arrivals, high_term};
 ghost use Rattle.spx_examples.specs.CountedLoops.{after, between_numbers, each, i, only, over, runs_at, taking_i, to_next, to_previous, up_to_x, up_to_y, with_parameter};
+ghost use Rattle.spx_examples.specs.Doubling.{double, double_command, double_program, post_after_turn, post_without_turn};
+ghost use Rattle.spx_examples.specs.DoublingText.{double_bytes, double_tokens, double_units};
 ghost use Rattle.spx_examples.specs.Flag.{flag, y};
 ghost use Rattle.spx_examples.specs.Increment.{place, x};
 
@@ -69,4 +77,22 @@ pub fn a_turn_goes_on_to_the_next_value()
 pub fn a_loop_without_bounds_cannot_be_passed()
     ensures with_bounds { arrivals (each false up_to_x taking_i) 1 1 ≡ 2 }
     ensures without { arrivals (each false None taking_i) 1 1 ≡ 1 }
+{}
+
+/// The procedure `Double`, which adds up in a loop over `1 .. N` with an `assert`, has ten conditions. The sixth is its postcondition at the end of the path
+/// that takes no turn, where 1 exceeds N. The last one is that at the end of the path from the `assert` out of the loop, where the parameter is N.
+pub fn a_loop_asks_for_conditions()
+    ensures ten { length (conditions_of double_program double) ≡ 10 }
+    ensures without_turn { slice_get (conditions_of double_program double) 5 ≡ Some post_without_turn }
+    ensures after_turn { slice_get (conditions_of double_program double) 9 ≡ Some post_after_turn }
+{}
+
+/// The text of `Double`: it is these tokens, units of three levels are written with these tokens, those units are resolved to its program, in which the
+/// parameter of the loop is the variable after the formals, and its body is this as a command.
+pub fn a_loop_over_a_parameter_is_read()
+    ensures spelled { Spells 0 double_bytes double_tokens }
+    ensures grammatical { IsFile 3 double_units }
+    ensures as_written { written double_units ≡ forms_of double_bytes double_tokens }
+    ensures made { resolved double_units ≡ double_program }
+    ensures command { commands double.statements ≡ double_command }
 {}

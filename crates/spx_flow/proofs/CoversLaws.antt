@@ -5,13 +5,15 @@ use Rattle.std.proofs.lemmas.Bool.{or_left, or_right, or_cases}
 use Rattle.std.proofs.lemmas.List.Elements.{All-cons, All-nil}
 use Rattle.spx_text.specs.declared.place.Place.{Place}
 use Rattle.spx_tree.specs.declared.statement.Closing.{Closing}
+use Rattle.spx_core.specs.declared.entity.VarId.{VarId}
 use Rattle.spx_core.specs.declared.statement.CoreStmt.{CoreStmt}
 use Rattle.spx_core.specs.declared.statement.CoreStmt.TheVariants.{If}
 use Rattle.spx_core.specs.declared.statement.CoreArm.{CoreArm, out-CoreArm}
 use Rattle.spx_core.specs.declared.statement.CoreAlternative.{CoreAlternative, out-CoreAlternative}
 use Rattle.spx_core.specs.declared.expression.CoreExpr.{CoreExpr}
 use Rattle.spx_core.specs.Commands.{Command, Skip, alternative, arm_before, arms_before, command, commands, select}
-use Rattle.spx_core.specs.Effects.{Effect, Read, choose, effect, effects, is_read, nothing, reads, reads_of, repeat, sets}
+use Rattle.spx_core.specs.Uses.{is_same}
+use Rattle.spx_core.specs.Effects.{Effect, Read, choose, count, effect, effects, is_read, nothing, reads, reads_in, reads_of, repeat, sets}
 use Rattle.spx_flow.specs.Positions.{Covers}
 use Rattle.spx_core.proofs.Callers.CommandForms.{command-If-else, command_arm, select_last, select_more}
 
@@ -66,6 +68,14 @@ module _ (set : List ℕ) where
   -- the body of a loop
   pub turn_covered : (tests : List Read) (body : Effect) (place : Place) → Covers set (repeat tests body place) → Covers set body
   turn_covered tests body place covers = record { once = covers.once; targets = covers.targets; read = λ v h. covers.read v (or_right (is_read v tests) (reads v body) h) }
+
+  -- the body of a loop that counts
+  pub counted_covered : (parameter : VarId) (bounds : Option (List Read)) (body : Effect) (place : Place) → Covers set (count parameter bounds body place) → Covers set body
+  counted_covered parameter bounds body place covers = record {
+    once = covers.once;
+    targets = λ v h. covers.targets v (or_right (is_same v (Some parameter)) (sets v body) h);
+    read = λ v h. covers.read v (or_right (is_read v (reads_in bounds)) (reads v body) h);
+  }
 
   -- the statements of each alternative of a `case`
   pub alternatives_covered : (place : Place) (selector : CoreExpr) (alternatives : List CoreAlternative) → Covers set (effect (select place selector (map alternative alternatives))) →

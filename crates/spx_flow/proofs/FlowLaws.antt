@@ -9,7 +9,7 @@ use Rattle.spx_text.specs.declared.place.Place.{Place}
 use Rattle.spx_core.specs.declared.entity.VarId.{VarId}
 use Rattle.spx_core.specs.declared.program.Program.{Program}
 use Rattle.spx_core.specs.declared.subprogram.Sub.{Sub}
-use Rattle.spx_core.specs.Formals.{formals, is_formal, is_local, locals, stands_in}
+use Rattle.spx_core.specs.Formals.{formals, inner, is_formal, is_inner, stands_in}
 use Rattle.spx_core.specs.Effects.{defines}
 use Rattle.spx_core.specs.Marks.{Lambda}
 use Rattle.spx_core.specs.Mirror.VarSets.{holds, positions_of}
@@ -27,10 +27,10 @@ held : (v : VarId) (vars : List VarId) → holds (positions_of vars) v ≡ stand
 held v [] = refl
 held v (w ∷ vars) = ap₂ ◌||◌ (turned v.0 w.0) (held v vars)
 
--- a formal or a local is one of the variables
-own : (v : VarId) (sub : Sub) → (is_formal v sub || is_local v sub) ≡ holds (positions_of sub.vars) v
+-- a formal, or what is declared in the body, is one of the variables
+own : (v : VarId) (sub : Sub) → (is_formal v sub || is_inner v sub) ≡ holds (positions_of sub.vars) v
 own v sub =
-    sym (held v sub.vars ∙ ap (stands_in v) (sym (take-append-drop sub.formal_count sub.vars)) ∙ list_any-append (λ (w : VarId). w.0 == v.0) (formals sub) (locals sub))
+    sym (held v sub.vars ∙ ap (stands_in v) (sym (take-append-drop sub.formal_count sub.vars)) ∙ list_any-append (λ (w : VarId). w.0 == v.0) (formals sub) (inner sub))
 
 others : (v : VarId) (vars : List VarId) → AllByRecursion (λ (w : VarId). (w.0 == v.0) ≡ false) vars → AllByRecursion (λ n. (v.0 == n) ≡ false) (positions_of vars)
 others v [] each = tt

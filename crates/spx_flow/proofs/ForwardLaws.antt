@@ -63,7 +63,7 @@ module _ (set : List ℕ) (once : IsDistinct ◌==◌ set) (v : VarId) (k : ℕ)
   target_row : (a : ℕ) → Holds new k a ↔ Leads set (λ z. IsTrue (is_read z values)) old a
   target_row a = (λ h. ⊎_elim (λ q. (rows_read a).0 q.1) (λ q. absurd (q.0 refl)) ((pairs k a).0 h), λ h. (pairs k a).1 (inl (refl, (rows_read a).1 h)))
 
-  state_assigned : (b a : ℕ) (y : VarId) → Stands set b y → Holds new b a ↔ Leads set (λ z. MayFlow (assign (Some v) values place) z y) old a
+  pub state_assigned : (b a : ℕ) (y : VarId) → Stands set b y → Holds new b a ↔ Leads set (λ z. MayFlow (assign (Some v) values place) z y) old a
   state_assigned b a y stands = (
     λ h. ⊎_elim
         (λ q. let one = (rows_read a).0 q.1 in (one.0, one.1, one.2, inl (at_target set once v k at b y stands q.0, one.3), one.4))

@@ -4,6 +4,9 @@ mod PositionLaws
 mod BranchLaws
 mod Occurrences
 mod BackwardLaws
+mod BackwardCounts
 mod ForwardLaws
 mod LoopLaws
+mod Counts
+mod ForwardCounts
 mod FlowLaws

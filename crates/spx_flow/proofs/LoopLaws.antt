@@ -65,7 +65,7 @@ module _ (n : ℕ) (m : Matrix) where
   }
 
 -- what occurrences are listed with leads on through the rows of a matrix
-carried_on : (set : List ℕ) (inner : List Occurrence) (p : Place) (M : VarId → Type 0) (R : VarId → VarId → Type 0) (head next : Matrix) →
+pub carried_on : (set : List ℕ) (inner : List Occurrence) (p : Place) (M : VarId → Type 0) (R : VarId → VarId → Type 0) (head next : Matrix) →
     ((k : ℕ) → Relates inner p k ↔ ((z : VarId) × Stands set k z × M z)) → ((k q : ℕ) (z : VarId) → Stands set k z → Holds head k q ↔ Leads set (R z) next q) →
     ((c : ℕ) (z w : VarId) → Stands set c w → M z → R z w → (k : ℕ) × Stands set k z) → (q : ℕ) → ((k : ℕ) × Relates inner p k × Holds head k q) ↔ Leads set (λ w. (z : VarId) × M z × R z w) next q
 carried_on set inner p M R head next listed rows placed q = (
@@ -76,23 +76,23 @@ carried_on set inner p M R head next listed rows placed q = (
 -- ---- turns
 
 -- in the row of each variable the matrix shows those to which R leads
-abbrev Shows : List ℕ → Matrix → (VarId → VarId → Type 0) → Type 0
+abbrev pub Shows : List ℕ → Matrix → (VarId → VarId → Type 0) → Type 0
 Shows set m R = (a b : ℕ) (x : VarId) → Stands set a x → Holds m a b ↔ ((z : VarId) × Stands set b z × R x z)
 
 -- steps, the other way round
-steps_turned : {R : VarId → VarId → Type 0} {u w : VarId} → Steps R u w → Steps (λ a b. R b a) w u
+pub steps_turned : {R : VarId → VarId → Type 0} {u w : VarId} → Steps R u w → Steps (λ a b. R b a) w u
 steps_turned stay = stay
 steps_turned (advance r rest) = steps_on (steps_turned rest) (advance r stay)
 
 -- a pass that starts at the identity, with no occurrences
 module _ (set : List ℕ) (start : Matrix) (itself : (a b : ℕ) → Holds start a b ↔ ((a < length set) × (a ≡ b))) (M : VarId → Type 0) where
-  led_itself : (b : ℕ) → Leads set M start b ↔ ((z : VarId) × Stands set b z × M z)
+  pub led_itself : (b : ℕ) → Leads set M start b ↔ ((z : VarId) × Stands set b z × M z)
   led_itself b = (
     λ h. (h.1, subst (λ k. Stands set k h.1) ((itself h.0 b).0 h.4).1 h.2, h.3),
     λ h. (b, h.0, h.1, h.2, (itself b b).1 (slice_get_within set b h.0.0 h.1, refl)),
   )
 
-  listed_itself : (inner : List Occurrence) (p : Place) → ((k : ℕ) → Relates inner p k ↔ (Relates [] p k ⊎ Leads set M start k)) → (k : ℕ) → Relates inner p k ↔ ((z : VarId) × Stands set k z × M z)
+  pub listed_itself : (inner : List Occurrence) (p : Place) → ((k : ℕ) → Relates inner p k ↔ (Relates [] p k ⊎ Leads set M start k)) → (k : ℕ) → Relates inner p k ↔ ((z : VarId) × Stands set k z × M z)
   listed_itself inner p listed k = (
     λ h. ⊎_elim (λ none. absurd (none_related p k none)) (λ q. (led_itself k).0 q) ((listed k).0 h),
     λ h. (listed k).1 (inr ((led_itself k).1 h)),
@@ -100,7 +100,7 @@ module _ (set : List ℕ) (start : Matrix) (itself : (a b : ℕ) → Holds start
 
 -- from a variable of the set R leads to one of the set
 module _ (set : List ℕ) (R : VarId → VarId → Type 0) (kept : (a : ℕ) (x z : VarId) → Stands set a x → R x z → (k : ℕ) × Stands set k z) where
-  steps_kept : {x z : VarId} → Steps R x z → (a : ℕ) → Stands set a x → (k : ℕ) × Stands set k z
+  pub steps_kept : {x z : VarId} → Steps R x z → (a : ℕ) → Stands set a x → (k : ℕ) × Stands set k z
   steps_kept stay a at = (a, at)
   steps_kept (advance {u = x} {v = v} r rest) a at = let k = kept a x v at r in steps_kept rest k.0 k.1
 
@@ -118,13 +118,13 @@ module _ (set : List ℕ) (R : VarId → VarId → Type 0) (kept : (a : ℕ) (x 
         let k = kept a x v at r in
         go_on ((one a k.0 x at).1 (v, k.1, r)) (from_steps rest k.0 b k.1 end)
 
-    turns_shown : Shows set turns (Steps R)
+    pub turns_shown : Shows set turns (Steps R)
     turns_shown a b x at = (
       λ h. to_steps ((many a b).0 h).1 x at,
       λ h. (many a b).1 (subst (λ n. a < n) (sym size) (slice_get_within set a x.0 at), from_steps h.2 a b at h.1),
     )
 
-    turns_led : (next both : Matrix) → ((a b : ℕ) → Holds both a b ↔ Then (Holds turns) (Holds next) a b) → (a b : ℕ) (x : VarId) → Stands set a x → Holds both a b ↔ Leads set (Steps R x) next b
+    pub turns_led : (next both : Matrix) → ((a b : ℕ) → Holds both a b ↔ Then (Holds turns) (Holds next) a b) → (a b : ℕ) (x : VarId) → Stands set a x → Holds both a b ↔ Leads set (Steps R x) next b
     turns_led next both made a b x at = (
       λ h. let k = (made a b).0 h in let s = (turns_shown a k.0 x at).0 k.1 in (k.0, s.0, s.1, s.2, k.2),
       λ h. (made a b).1 (h.0, (turns_shown a h.0 x at).1 (h.1, h.2, h.3), h.4),

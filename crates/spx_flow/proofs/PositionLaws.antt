@@ -6,7 +6,8 @@ use Rattle.std.specs.List.{IsDistinct, cons_option, filter_map, list_any, positi
 use Rattle.std.proofs.lemmas.Bool.{both_ways, cases_Bool, eq-eqb, eqb-true, lt-ltb, ne_eqb}
 use Rattle.std.proofs.lemmas.List.{take_more}
 use Rattle.std.proofs.lemmas.Option.{get_or_from_slice_get, slice_get-get_or, slice_get_within}
-use Rattle.std.proofs.lemmas.List.Elements.{All-cons, All-nil, filter_map-append}
+use Rattle.std.proofs.lemmas.List.Elements.{All-append, All-cons, All-nil, filter_map-append}
+use Rattle.std.proofs.lemmas.List.Folds.{list_any-append}
 use Rattle.std.proofs.lemmas.List.Quantifiers.{position-Some}
 use Rattle.std.proofs.lemmas.List.Sums.{position_or_len_is}
 use Rattle.std.proofs.lemmas.Map.Keys.{apart_from_distinct}
@@ -20,11 +21,12 @@ use Rattle.spx_core.specs.declared.function.CoreFunction.{CoreFunction}
 use Rattle.spx_core.specs.declared.name.CoreName.{CoreName}
 use Rattle.spx_core.specs.declared.name.Reference.{Reference}
 use Rattle.spx_core.specs.declared.expression.CoreExpr.{CoreExpr}
+use Rattle.spx_core.specs.declared.statement.CoreRange.{CoreRange}
 use Rattle.spx_core.specs.declared.statement.CoreStmt.{CoreStmt}
 use Rattle.spx_core.specs.declared.expression.CoreExpr.TheVariants.{Number, Name, Entry, Attribute, Applied, Parenthesized, Prefix, Infix, InType, InRange}
 use Rattle.spx_core.specs.Uses.{denotes, is_same, variable_of}
 use Rattle.spx_core.specs.Reads.{names_read, names_step}
-use Rattle.spx_core.specs.Effects.{Effect, effect, effects, is_read, reads, reads_of, sets}
+use Rattle.spx_core.specs.Effects.{Effect, Read, effect, effects, is_read, reads, reads_of, reads_of_range, sets}
 use Rattle.spx_core.specs.Commands.{command}
 use Rattle.spx_core.specs.Flow.{MayFlow}
 use Rattle.spx_core.specs.Mirror.VarSets.{holds, place_in_set}
@@ -152,6 +154,21 @@ module _ (set : List ℕ) (once : IsDistinct ◌==◌ set) (k : ℕ) (v : VarId)
         subst (Contains (positions_read set e)) (eqb-true one.0 k one.2) one.1,
   )
 
+  -- what a range reads
+  named_range : (range : CoreRange) → list_any (λ j. j == k) (positions_read set range.low ++ positions_read set range.high) ≡ is_read v (reads_of_range range)
+  named_range range =
+      list_any-append (λ j. j == k) (positions_read set range.low) (positions_read set range.high)
+      ∙ ap₂ ◌||◌ (named (names_read range.low) ∙ sym (reads_uses v range.low)) (named (names_read range.high) ∙ sym (reads_uses v range.high))
+      ∙ sym (list_any-append (λ (r : Read). r.1.0 == v.0) (reads_of range.low) (reads_of range.high))
+
+  pub range_at : (range : CoreRange) → Contains (positions_read set range.low ++ positions_read set range.high) k ↔ (is_read v (reads_of_range range) ≡ true)
+  range_at range = (
+    λ c. sym (named_range range) ∙ passes (λ j. j == k) (positions_read set range.low ++ positions_read set range.high) k c (eq-eqb k k refl),
+    λ h.
+        let one = found (λ j. j == k) (positions_read set range.low ++ positions_read set range.high) (named_range range ∙ h) in
+        subst (Contains (positions_read set range.low ++ positions_read set range.high)) (eqb-true one.0 k one.2) one.1,
+  )
+
   -- the variables with these numbers
   numbered : (numbers : List ℕ) → list_any (λ j. j == k) (positions_in set numbers) ≡ holds numbers v
   numbered [] = refl
@@ -181,6 +198,9 @@ within_names set (name ∷ names) = within_first set (variable_of name.entity) (
 
 pub read_within : (set : List ℕ) (e : CoreExpr) → All (λ k. k < length set) (positions_read set e)
 read_within set e = within_names set (names_read e)
+
+pub range_within : (set : List ℕ) (range : CoreRange) → All (λ k. k < length set) (positions_read set range.low ++ positions_read set range.high)
+range_within set range = All-append (λ k. k < length set) (positions_read set range.low) (positions_read set range.high) (read_within set range.low) (read_within set range.high)
 
 pub numbers_within : (set : List ℕ) (numbers : List ℕ) → All (λ k. k < length set) (positions_in set numbers)
 numbers_within set [] = All-nil (λ k. k < length set)

@@ -1,9 +1,9 @@
 -- The steps of the backward pass: from the last statement to the first.
-use Rattle.std.specs.Prelude.{◌≡◌, ◌↔◌, ◌⊎◌, ℕ, List, length}
+use Rattle.std.specs.Prelude.{◌≡◌, ◌↔◌, ◌⊎◌, ℕ, Bool, IsSome, IsTrue, List, length, Option, Some, None}
 use Rattle.spx_text.specs.declared.place.Place.{Place}
 use Rattle.spx_core.specs.declared.entity.VarId.{VarId}
-use Rattle.spx_core.specs.Effects.{Effect}
-use Rattle.spx_core.specs.Flow.{MayFlow}
+use Rattle.spx_core.specs.Effects.{Effect, Read, is_read, reads_in}
+use Rattle.spx_core.specs.Flow.{Given, MayFlow}
 use Rattle.spx_core.specs.Marks.{Mu, Occurs}
 use Rattle.spx_rows.specs.Relations.{Matrix, Holds}
 use Rattle.spx_flow.specs.declared.flow.Occurrence.{Occurrence}
@@ -25,3 +25,18 @@ pub record LeadOn (set : List ℕ) (e : Effect) (flows : Matrix) (marks : List O
   pub mu_rows : AreRows (length set) marks
   pub mu : (place : Place) (b : ℕ) (y : VarId) → Stands set b y → Relates marks place b ↔ Mu e place y
   pub occurrences : (place : Place) → Lists marks place ↔ Occurs e place
+
+-- ---- loops over a parameter
+
+-- What leads on from before the first turn, where `rest` leads on from before some number of turns: where no bounds are written there is one at least.
+abbrev pub Begun : Option (List Read) → (turn rest : ℕ → ℕ → Type 0) → ℕ → ℕ → Type 0
+Begun (Some reads) turn rest a b = rest a b
+Begun None turn rest a b = (v : ℕ) × turn a v × rest v b
+
+-- Bounds stand before the turns of a loop: the parameter comes from what they read, which comes to the variables of `to` too. An occurrence is listed with these, where bounds are written.
+pub record Enters (set : List ℕ) (parameter : VarId) (bounds : Option (List Read)) (to : VarId → Bool) (place : Place) (last head new : Matrix) (before after : List Occurrence) : Type 0 where
+  pub size : length new ≡ length head
+  pub rows : AreRows (length set) after
+  pub pairs : (p q : ℕ) (x : VarId) → Stands set p x → Holds new p q ↔ (Leads set (Given (Some parameter) (reads_in bounds) x) head q ⊎ (IsTrue (is_read x (reads_in bounds)) × Leads set (λ z. IsTrue (to z)) last q))
+  pub related : (p : Place) (q : ℕ) → Relates after p q ↔ (Relates before p q ⊎ (IsSome bounds × (place ≡ p) × Leads set (λ z. IsTrue (to z)) last q))
+  pub listed : (p : Place) → Lists after p ↔ (Lists before p ⊎ (IsSome bounds × (place ≡ p)))

@@ -1,22 +1,26 @@
 // Backward through statements: what leads from each variable before them, and from each occurrence in them, to the
 // variables after them.
-ghost use Rattle.std.specs.Prelude.{◌≡◌, ◌==◌, ◌≤◌, All, length, map, IfOk, OnOk};
+ghost use Rattle.std.specs.Prelude.{◌≡◌, ◌↔◌, ◌==◌, ◌≤◌, ℕ, All, length, map, option_map, IfOk, OnOk};
 ghost use Rattle.std.specs.List.{IsDistinct};
 ghost use Rattle.spx_core.specs.declared.statement.CoreArm.{CoreArm};
-ghost use Rattle.spx_core.specs.Commands.{Set, Skip, Repeat, Tested, alternative, arm_before, arms_before, command, commands, loop_of, select};
-ghost use Rattle.spx_core.specs.Effects.{effect, effects, is_read, reads_of};
+ghost use Rattle.spx_core.specs.Commands.{Set, Skip, Repeat, Counted, Tested, alternative, arm_before, arms_before, command, commands, loop_of, select};
+ghost use Rattle.spx_core.specs.Effects.{effect, effects, is_read, reads_of, reads_of_range};
 ghost use Rattle.spx_core.specs.Mirror.VarSets.{holds};
+ghost use Rattle.spx_rows.specs.Relations.{Holds};
 ghost use Rattle.spx_flow.specs.Branches.{Arms, Joins, Spreads};
-ghost use Rattle.spx_flow.specs.Positions.{Covers};
+ghost use Rattle.spx_flow.specs.Positions.{Covers, Stands};
 ghost use Rattle.spx_flow.specs.Flows.{AreRows};
-ghost use Rattle.spx_flow.specs.BackwardSteps.{LeadOn, StepsBack};
+ghost use Rattle.spx_flow.specs.BackwardSteps.{Begun, Enters, LeadOn, StepsBack};
 
 use crate::flow::Occurrence;
-use crate::positions::{position_named, positions_read};
+use crate::positions::{bounds_read, position_named, positions_read};
 use crate::targets::{Targets, add_all_targets, all_targets, target_positions};
 use crate::turns::{carry, close_turns, composed};
 use indexmap::IndexSet;
-use spx_core::{CoreAlternative, CoreArm, CoreExpr, CoreScheme, CoreStmt, Reference, VarSet};
+use spx_core::{
+    CoreAlternative, CoreArm, CoreCount, CoreExpr, CoreRange, CoreScheme, CoreStmt, Reference,
+    VarSet,
+};
 use spx_rows::Relation;
 use spx_text::Place;
 use sqlite_items::Items;
@@ -256,6 +260,99 @@ fn before_while(
     Ok(())
 }
 
+/// Goes back to before the first turn of a loop over a parameter, where `rest` leads on from before some number of turns:
+/// where no bounds are written there is one at least.
+fn before_turns(
+    alloc: Global,
+    bounds: &Option<CoreRange>,
+    turn: &Relation,
+    rest: Relation,
+) -> Result<Relation, AllocError>
+    requires { length turn.now ≡ length rest }
+    ensures { IfOk result (λ head. (length head ≡ length rest) × ((a b : ℕ) → Holds head a b ↔ Begun (option_map reads_of_range bounds.now) (Holds turn.now) (Holds rest) a b)) }
+{
+    match bounds {
+        Some(_) => Ok(rest),
+        None => {
+            let head = composed(alloc, turn, &rest)?;
+            Ok(head)
+        }
+    }
+}
+
+/// Goes backward over the bounds of a loop, where they are written. What leads on from the first value of the parameter, and
+/// from all that the body sets, leads on from what they read; `last` leads on from after the loop. The parameter has no
+/// value before.
+fn before_bounds(
+    alloc: Global,
+    vars: &VarSet,
+    count: &CoreCount,
+    parameter: usize,
+    last: &Relation,
+    head: &mut Relation,
+    targets: &Targets,
+    mu: &mut Items<Occurrence>,
+) -> Result<(), AllocError>
+    requires once { IsDistinct ◌==◌ vars.now }
+    requires parameter { Stands vars.now parameter count.now.parameter }
+    requires size { length last.now ≡ length vars.now }
+    requires head { length head.old ≡ length vars.now }
+    requires rows { AreRows (length vars.now) mu.old }
+    ensures { OnOk result (Enters vars.now count.now.parameter (option_map reads_of_range count.now.bounds) (λ w. holds targets.now.keys w) count.now.place last.now head.old head.new mu.old mu.new) }
+{
+    let from = bounds_read(alloc, vars, &count.bounds)?;
+    let to = target_positions(alloc, vars, targets)?;
+    let reached = last.union_of(alloc, to.as_slice())?;
+    head.spread_row(parameter, from.as_slice());
+    head.add_rows_to(from.as_slice(), last, to.as_slice());
+    match &count.bounds {
+        Some(_) => {
+            mu.push(Occurrence {
+                place: count.place,
+                vars: reached,
+            })?;
+            Ok(())
+        }
+        None => Ok(()),
+    }
+}
+
+/// Goes backward over a loop over a parameter, and once over its body. What the body makes of the parameter leads on to
+/// nothing, since each turn begins with a value of the loop's own; after the loop the parameter is gone.
+#[cycle(before)]
+fn before_count(
+    alloc: Global,
+    vars: &VarSet,
+    body: &[CoreStmt],
+    count: &CoreCount,
+    rho: &mut Relation,
+    mu: &mut Items<Occurrence>,
+) -> Result<(), AllocError>
+    requires covers { Covers vars.now (effect (Repeat (Counted count.now) (commands body.now))) }
+    requires size { length rho.old ≡ length vars.now }
+    requires rows { AreRows (length vars.now) mu.old }
+    ensures { OnOk result (StepsBack vars.now (effect (Repeat (Counted count.now) (commands body.now))) rho.old rho.new mu.old mu.new) }
+{
+    let Some(parameter) = vars.position(count.parameter) else {
+        return Ok(());
+    };
+    let mut turn = Relation::identity(alloc, rho.size())?;
+    turn.clear_row(parameter);
+    let mut inner = Items::new(alloc);
+    before_all(alloc, vars, body, &mut turn, &mut inner)?;
+    turn.add(parameter, parameter);
+    rho.clear_row(parameter);
+    let mut turns = turn.copy(alloc)?;
+    close_turns(&mut turns);
+    let rest = composed(alloc, &turns, rho)?;
+    carry(alloc, inner.as_slice(), &rest, mu)?;
+    let mut head = before_turns(alloc, &count.bounds, &turn, rest)?;
+    let changed = all_targets(alloc, body)?;
+    before_bounds(alloc, vars, count, parameter, rho, &mut head, &changed, mu)?;
+    *rho = head;
+    Ok(())
+}
+
 /// Goes backward over a loop.
 #[cycle(before)]
 fn before_loop(
@@ -274,6 +371,10 @@ fn before_loop(
     match scheme {
         CoreScheme::While(place, condition) => {
             before_while(alloc, vars, body, *place, condition, rho, mu)?;
+            Ok(())
+        }
+        CoreScheme::For(count) => {
+            before_count(alloc, vars, body, count, rho, mu)?;
             Ok(())
         }
     }

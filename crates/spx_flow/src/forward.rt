@@ -1,24 +1,28 @@
 // Forward through statements: row w has the variables before them from which the present value of w may come.
-ghost use Rattle.std.specs.Prelude.{◌≡◌, ◌==◌, ◌↔◌, ◌≤◌, ℕ, All, length, map, IfOk, OnOk};
+ghost use Rattle.std.specs.Prelude.{◌≡◌, ◌≢◌, ◌==◌, ◌↔◌, ◌⊎◌, ◌≤◌, ◌<◌, ℕ, All, Bool, Contains, IsTrue, Some, length, map, option_map, IfOk, OnOk};
 ghost use Rattle.spx_text.specs.declared.place.Place.{Place};
 ghost use Rattle.spx_core.specs.declared.entity.VarId.{VarId};
 ghost use Rattle.std.specs.List.{IsDistinct};
 ghost use Rattle.spx_core.specs.declared.statement.CoreArm.{CoreArm};
-ghost use Rattle.spx_core.specs.Commands.{Set, Skip, Repeat, Tested, alternative, arm_before, arms_before, command, commands, loop_of, select};
-ghost use Rattle.spx_core.specs.Effects.{effect, effects, is_read, reads_of};
+ghost use Rattle.spx_core.specs.Commands.{Set, Skip, Repeat, Tested, Counted, alternative, arm_before, arms_before, command, commands, loop_of, select};
+ghost use Rattle.spx_core.specs.Effects.{effect, effects, is_read, reads_in, reads_of, reads_of_range};
+ghost use Rattle.spx_core.specs.Flow.{Given};
 ghost use Rattle.spx_core.specs.Marks.{Lambda};
 ghost use Rattle.spx_core.specs.Mirror.VarSets.{holds};
 ghost use Rattle.spx_flow.specs.Branches.{Arms, Joins, Spreads};
-ghost use Rattle.spx_flow.specs.Positions.{Covers, Stands};
+ghost use Rattle.spx_rows.specs.Relations.{Holds};
+ghost use Rattle.spx_flow.specs.Positions.{Covers, Leads, Stands};
 ghost use Rattle.spx_flow.specs.Flows.{AreRows, Relates};
-ghost use Rattle.spx_flow.specs.ForwardSteps.{StepsForward};
+ghost use Rattle.spx_flow.specs.ForwardSteps.{IsLeft, StepsForward};
 
 use crate::flow::Occurrence;
-use crate::positions::{position_named, positions_read};
+use crate::positions::{bounds_read, position_named, positions_read, range_read};
 use crate::targets::{Targets, add_all_targets, all_targets, target_positions};
 use crate::turns::{carry, close_turns, composed};
 use indexmap::IndexSet;
-use spx_core::{CoreAlternative, CoreArm, CoreExpr, CoreScheme, CoreStmt, Reference, VarSet};
+use spx_core::{
+    CoreAlternative, CoreArm, CoreCount, CoreExpr, CoreScheme, CoreStmt, Reference, VarSet,
+};
 use spx_rows::Relation;
 use spx_text::Place;
 use sqlite_items::Items;
@@ -109,6 +113,34 @@ fn after(
     }
 }
 
+/// Lists an occurrence with the union of the rows at some positions, and adds this union to the rows of the targets in `ends`.
+fn spread(
+    alloc: Global,
+    vars: &VarSet,
+    place: Place,
+    from: &[usize],
+    state: &Relation,
+    ends: &mut Relation,
+    targets: &Targets,
+    lambda: &mut Items<Occurrence>,
+) -> Result<(), AllocError>
+    requires once { IsDistinct ◌==◌ vars.now }
+    requires size { length state.now ≡ length vars.now }
+    requires ends { length ends.old ≡ length vars.now }
+    requires rows { AreRows (length vars.now) lambda.old }
+    requires within { All (λ k. k < length vars.now) from.now }
+    ensures { OnOk result ((read : VarId → Bool) → ((k : ℕ) (v : VarId) → Stands vars.now k v → Contains from.now k ↔ IsTrue (read v)) → Spreads vars.now read (λ y. holds targets.now.keys y) place state.now ends.old ends.new lambda.old lambda.new) }
+{
+    let to = target_positions(alloc, vars, targets)?;
+    let sources = state.union_of(alloc, from)?;
+    ends.add_rows_to(to.as_slice(), state, from);
+    lambda.push(Occurrence {
+        place,
+        vars: sources,
+    })?;
+    Ok(())
+}
+
 /// Goes forward over a condition or a selector, where `ends` is what all that it chooses from makes of the state, and
 /// `targets` what this sets. What is read comes to all of these targets.
 fn after_test(
@@ -128,13 +160,16 @@ fn after_test(
     ensures { OnOk result (Spreads vars.now (λ z. is_read z (reads_of test.now)) (λ y. holds targets.now.keys y) place state.now ends.old ends.new lambda.old lambda.new) }
 {
     let from = positions_read(alloc, vars, test)?;
-    let to = target_positions(alloc, vars, targets)?;
-    let sources = state.union_of(alloc, from.as_slice())?;
-    ends.add_rows_to(to.as_slice(), state, from.as_slice());
-    lambda.push(Occurrence {
+    spread(
+        alloc,
+        vars,
         place,
-        vars: sources,
-    })?;
+        from.as_slice(),
+        state,
+        ends,
+        targets,
+        lambda,
+    )?;
     Ok(())
 }
 
@@ -255,6 +290,106 @@ fn after_while(
     Ok(())
 }
 
+/// The rows where the turns of a loop over a parameter begin: the parameter has the sources of what its bounds read.
+fn entered(
+    alloc: Global,
+    vars: &VarSet,
+    parameter: usize,
+    count: &CoreCount,
+    state: &Relation,
+) -> Result<Relation, AllocError>
+    requires once { IsDistinct ◌==◌ vars.now }
+    requires size { length state.now ≡ length vars.now }
+    requires parameter { Stands vars.now parameter count.now.parameter }
+    ensures size { IfOk result (λ start. length start ≡ length vars.now) }
+    ensures rows { IfOk result (λ start. (b a : ℕ) (y : VarId) → Stands vars.now b y → Holds start b a ↔ Leads vars.now (λ z. Given (Some count.now.parameter) (reads_in (option_map reads_of_range count.now.bounds)) z y) state.now a) }
+{
+    let from = bounds_read(alloc, vars, &count.bounds)?;
+    let mut start = state.copy(alloc)?;
+    start.set_row(parameter, from.as_slice());
+    Ok(start)
+}
+
+/// In a turn of a loop, lets its parameter keep the sources of its own value.
+fn keep_value(turn: &mut Relation, parameter: usize)
+    requires { parameter < length turn.old }
+    ensures size { length turn.new ≡ length turn.old }
+    ensures pairs { (a b : ℕ) → Holds turn.new a b ↔ (((parameter ≡ a) × (parameter ≡ b)) ⊎ ((parameter ≢ a) × Holds turn.old a b)) }
+{
+    turn.clear_row(parameter);
+    turn.add(parameter, parameter);
+}
+
+/// The rows where a loop over a parameter is left, where `head` is what any number of turns makes of the rows at which they
+/// begin, and `state` what was before. Without bounds there is one turn more; what bounds read comes to all targets.
+fn after_bounds(
+    alloc: Global,
+    vars: &VarSet,
+    count: &CoreCount,
+    turn: &Relation,
+    head: &Relation,
+    targets: &Targets,
+    state: &Relation,
+    lambda: &mut Items<Occurrence>,
+) -> Result<Relation, AllocError>
+    requires once { IsDistinct ◌==◌ vars.now }
+    requires turn { length turn.now ≡ length vars.now }
+    requires head { length head.now ≡ length vars.now }
+    requires size { length state.now ≡ length vars.now }
+    requires rows { AreRows (length vars.now) lambda.old }
+    ensures size { IfOk result (λ ends. length ends ≡ length vars.now) }
+    ensures rows { OnOk result (AreRows (length vars.now) lambda.new) }
+    ensures left { IfOk result (λ ends. IsLeft vars.now (option_map reads_of_range count.now.bounds) (λ y. holds targets.now.keys y) count.now.place turn.now head.now state.now ends lambda.old lambda.new) }
+{
+    match &count.bounds {
+        None => composed(alloc, turn, head),
+        Some(range) => {
+            let mut ends = head.copy(alloc)?;
+            let from = range_read(alloc, vars, range)?;
+            let place = count.place;
+            let from = from.as_slice();
+            spread(alloc, vars, place, from, state, &mut ends, targets, lambda)?;
+            Ok(ends)
+        }
+    }
+}
+
+/// Goes forward over a loop over a parameter, and once over its body. The turns begin where the parameter has the sources of
+/// its bounds, and each of them keeps these; what leads through turns to an occurrence in the body leads to it from the
+/// start. After the loop the parameter has no sources.
+#[cycle(after)]
+fn after_count(
+    alloc: Global,
+    vars: &VarSet,
+    body: &[CoreStmt],
+    count: &CoreCount,
+    state: &mut Relation,
+    lambda: &mut Items<Occurrence>,
+) -> Result<(), AllocError>
+    requires covers { Covers vars.now (effect (Repeat (Counted count.now) (commands body.now))) }
+    requires size { length state.old ≡ length vars.now }
+    requires rows { AreRows (length vars.now) lambda.old }
+    ensures { OnOk result (StepsForward vars.now (effect (Repeat (Counted count.now) (commands body.now))) state.old state.new lambda.old lambda.new) }
+{
+    let Some(parameter) = vars.position(count.parameter) else {
+        return Ok(());
+    };
+    let mut turn = Relation::identity(alloc, state.size())?;
+    let mut inner = Items::new(alloc);
+    after_all(alloc, vars, body, &mut turn, &mut inner)?;
+    keep_value(&mut turn, parameter);
+    let mut star = turn.copy(alloc)?;
+    close_turns(&mut star);
+    let start = entered(alloc, vars, parameter, count, state)?;
+    let head = composed(alloc, &star, &start)?;
+    let targets = all_targets(alloc, body)?;
+    let mut ends = after_bounds(alloc, vars, count, &turn, &head, &targets, state, lambda)?;
+    ends.clear_row(parameter);
+    carry(alloc, inner.as_slice(), &head, lambda)?;
+    *state = ends;
+    Ok(())
+}
+
 /// Goes forward over a loop.
 #[cycle(after)]
 fn after_loop(
@@ -273,6 +408,10 @@ fn after_loop(
     match scheme {
         CoreScheme::While(place, condition) => {
             after_while(alloc, vars, body, *place, condition, state, lambda)?;
+            Ok(())
+        }
+        CoreScheme::For(count) => {
+            after_count(alloc, vars, body, count, state, lambda)?;
             Ok(())
         }
     }

@@ -1,11 +1,11 @@
 // The variables that expressions read, by their position.
-ghost use Rattle.std.specs.Prelude.{◌≡◌, ◌==◌, ◌↔◌, [], ◌++◌, ℕ, ◌<◌, All, Contains, IfOk, IsTrue, OnOk, length};
+ghost use Rattle.std.specs.Prelude.{◌≡◌, ◌==◌, ◌↔◌, [], ◌++◌, ℕ, ◌<◌, All, Contains, IfOk, IsTrue, OnOk, length, option_map};
 ghost use Rattle.std.specs.List.{IsDistinct, cons_option};
 ghost use Rattle.spx_core.specs.declared.entity.VarId.{VarId};
-ghost use Rattle.spx_core.specs.Effects.{is_read, reads_of};
+ghost use Rattle.spx_core.specs.Effects.{is_read, reads_in, reads_of, reads_of_range};
 ghost use Rattle.spx_flow.specs.Positions.{Stands, position_named, positions_read};
 
-use spx_core::{CoreExpr, CoreName, VarSet, variable_of};
+use spx_core::{CoreExpr, CoreName, CoreRange, VarSet, variable_of};
 use std::alloc::{AllocError, Global};
 
 /// The position of the variable that the name denotes, if it denotes one of the set.
@@ -74,4 +74,36 @@ pub(crate) fn positions_read(
     let mut found = Vec::new(alloc);
     add_positions(vars, value, &mut found)?;
     Ok(found)
+}
+
+/// The positions of the variables that a range reads.
+pub(crate) fn range_read(
+    alloc: Global,
+    vars: &VarSet,
+    range: &CoreRange,
+) -> Result<Vec<usize>, AllocError>
+    requires { IsDistinct ◌==◌ vars.now }
+    ensures within { IfOk result (λ found. All (λ k. k < length vars.now) found.items) }
+    ensures exact { IfOk result (λ found. (k : ℕ) (v : VarId) → Stands vars.now k v → Contains found.items k ↔ IsTrue (is_read v (reads_of_range range.now))) }
+{
+    let mut found = Vec::new(alloc);
+    add_positions(vars, &range.low, &mut found)?;
+    add_positions(vars, &range.high, &mut found)?;
+    Ok(found)
+}
+
+/// The positions of the variables that the bounds of a loop read, where they are written.
+pub(crate) fn bounds_read(
+    alloc: Global,
+    vars: &VarSet,
+    bounds: &Option<CoreRange>,
+) -> Result<Vec<usize>, AllocError>
+    requires { IsDistinct ◌==◌ vars.now }
+    ensures within { IfOk result (λ found. All (λ k. k < length vars.now) found.items) }
+    ensures exact { IfOk result (λ found. (k : ℕ) (v : VarId) → Stands vars.now k v → Contains found.items k ↔ IsTrue (is_read v (reads_in (option_map reads_of_range bounds.now)))) }
+{
+    match bounds {
+        Some(range) => range_read(alloc, vars, range),
+        None => Ok(Vec::new(alloc)),
+    }
 }

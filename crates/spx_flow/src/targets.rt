@@ -1,9 +1,9 @@
 // The variables that statements set.
-ghost use Rattle.std.specs.Prelude.{◌≡◌, ◌||◌, [], ◌∷◌, ◌++◌, IfOk, OnOk};
+ghost use Rattle.std.specs.Prelude.{◌≡◌, ◌||◌, [], ◌∷◌, ◌++◌, IfOk, OnOk, Some};
 ghost use Rattle.spx_core.specs.declared.entity.VarId.{VarId};
 ghost use Rattle.spx_core.specs.Commands.{command};
 ghost use Rattle.spx_core.specs.Effects.{effect, effects, sets};
-ghost use Rattle.spx_core.specs.Uses.{denotes};
+ghost use Rattle.spx_core.specs.Uses.{denotes, is_same};
 ghost use Rattle.spx_core.specs.Mirror.VarSets.{holds};
 ghost use Rattle.spx_flow.specs.Targets.{alternatives_set, arms_set, positions_in};
 
@@ -16,13 +16,21 @@ use std::alloc::{AllocError, Global};
 /// Variables, each once, by their position in the program's list.
 pub(crate) type Targets = IndexSet<usize>;
 
+/// Adds the variable.
+fn add_variable(found: &mut Targets, var: VarId) -> Result<(), AllocError>
+    ensures { OnOk result ((v : VarId) → holds found.new.keys v ≡ (is_same v (Some var) || holds found.old.keys v)) }
+{
+    found.insert(var.0)?;
+    Ok(())
+}
+
 /// Adds the variable that the name denotes, if it denotes one.
 fn add_target(found: &mut Targets, target: &Reference) -> Result<(), AllocError>
     ensures { OnOk result ((v : VarId) → holds found.new.keys v ≡ (denotes v target.now.root || holds found.old.keys v)) }
 {
     match variable_of(target.root.entity) {
         Some(var) => {
-            found.insert(var.0)?;
+            add_variable(found, var)?;
             Ok(())
         }
         None => Ok(()),
@@ -58,6 +66,11 @@ fn add_targets(stmt: &CoreStmt, found: &mut Targets) -> Result<(), AllocError>
         CoreStmt::Loop(scheme, _, body, _) => match scheme {
             CoreScheme::While(_, _) => {
                 add_all_targets(body.as_slice(), found)?;
+                Ok(())
+            }
+            CoreScheme::For(count) => {
+                add_all_targets(body.as_slice(), found)?;
+                add_variable(found, count.parameter)?;
                 Ok(())
             }
         },

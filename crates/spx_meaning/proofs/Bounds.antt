@@ -5,7 +5,8 @@ use Rattle.std.specs.Ordering.{int_eq}
 use Rattle.spx_core.specs.declared.entity.Subtype.{Subtype}
 use Rattle.spx_core.specs.declared.expression.CoreExpr.{CoreExpr}
 use Rattle.spx_core.specs.declared.statement.CoreRange.{CoreRange}
-use Rattle.spx_core.specs.Commands.{Command, Skip, Set, Then, Choose, Select, Count, Assertion, Repeat, Tested, Counted, Alternatives, Last, When, commands}
+use Rattle.spx_core.specs.declared.statement.CoreCount.{CoreCount}
+use Rattle.spx_core.specs.Commands.{Command, Skip, Set, Then, Choose, Select, Assertion, Repeat, Tested, Counted, Alternatives, Last, When, commands}
 use Rattle.spx_core.specs.Places.{place_of}
 use Rattle.spx_core.specs.Uses.{variable_of}
 use Rattle.spx_term.specs.declared.value.Value.{Value}
@@ -76,7 +77,7 @@ bounds_kept f n m s subtype (Some range) go go' more =
     let checked = in_bounds subtype (place_of range.low) (as_number low) (as_number high) s in
     kept_then checked checked (go (as_number low) (as_number high)) (go' (as_number low) (as_number high)) (same checked) (more (as_number low) (as_number high))))
 
-module _ (c : Count) (body : ℕ → Store → Outcome) (body_kept : (n m : ℕ) → n ≤ m → (s : Store) → Kept (body n s) (body m s)) where
+module _ (c : CoreCount) (body : ℕ → Store → Outcome) (body_kept : (n m : ℕ) → n ≤ m → (s : Store) → Kept (body n s) (body m s)) where
   counted_kept : (last : ℤ) (n m : ℕ) → n ≤ m → (k : ℤ) (s : Store) → Kept (counted c body last n k s) (counted c body last m k s)
   counted_kept last zero m less k s = nothing_yet _
   counted_kept last (suc n) zero less k s = absurd (omega arith)

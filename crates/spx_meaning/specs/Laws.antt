@@ -5,7 +5,7 @@ use Rattle.spx_core.specs.declared.entity.VarId.{VarId}
 use Rattle.spx_core.specs.declared.program.Program.{Program}
 use Rattle.spx_core.specs.declared.subprogram.Sub.{Sub}
 use Rattle.spx_core.specs.Commands.{Command}
-use Rattle.spx_core.specs.Formals.{is_local}
+use Rattle.spx_core.specs.Formals.{is_inner}
 use Rattle.spx_core.specs.Dependency.{derives, exports, imports}
 use Rattle.spx_meaning.specs.declared.bad.BadKind.{BadKind}
 use Rattle.spx_meaning.specs.Stores.{Store, look, type_of, is_in}
@@ -46,10 +46,10 @@ AreDerived p sub =
     (n m : ℕ) (s t s' t' : Store) → Start p sub s → Start p sub t → call p n sub s ≡ Ended s' → call p m sub t ≡ Ended t' →
     (y : VarId) → IsTrue (exports y sub) → Agree (λ x. IsTrue (derives x y sub)) s t → look s' y ≡ look t' y
 
--- a variable that is neither an export nor a local has the value with which the body began, after a call that has ended
+-- a variable that is neither an export nor declared in the body has the value with which the body began, after a call that has ended
 abbrev pub OthersAreKept : Program → Sub → Type 0
 OthersAreKept p sub =
-    (n : ℕ) (s s' : Store) → Start p sub s → call p n sub s ≡ Ended s' → (v : VarId) → exports v sub ≡ false → is_local v sub ≡ false → look s' v ≡ look (entry_of p sub s) v
+    (n : ℕ) (s s' : Store) → Start p sub s → call p n sub s ≡ Ended s' → (v : VarId) → exports v sub ≡ false → is_inner v sub ≡ false → look s' v ≡ look (entry_of p sub s) v
 
 pub record TwoRuns (p : Program) : Type 0 where
   pub derived : All (AreDerived p) p.subs

@@ -5,7 +5,7 @@ use Rattle.std.specs.Ordering.{int_eq}
 use Rattle.spx_text.specs.declared.place.Place.{Place}
 use Rattle.spx_core.specs.declared.entity.VarId.{VarId}
 use Rattle.spx_core.specs.declared.entity.VarKind.{VarKind}
-use Rattle.spx_core.specs.declared.entity.VarKind.TheVariants.{Formal, Local, Initialized}
+use Rattle.spx_core.specs.declared.entity.VarKind.TheVariants.{Formal, Local, Initialized, LoopParameter}
 use Rattle.spx_core.specs.declared.program.Var.{Var}
 use Rattle.spx_core.specs.declared.program.Program.{Program}
 use Rattle.spx_core.specs.declared.entity.Mode.TheVariants as mode
@@ -13,7 +13,8 @@ use Rattle.spx_core.specs.declared.subprogram.CorePredicate.{CorePredicate}
 use Rattle.spx_core.specs.declared.subprogram.Sub.{Sub}
 use Rattle.spx_tree.specs.declared.statement.AssertionKind.{AssertionKind}
 use Rattle.spx_tree.specs.declared.statement.AssertionKind.TheVariants as assertion
-use Rattle.spx_core.specs.Commands.{Command, Skip, Set, Then, Choose, Select, Count, Assertion, Repeat, Tested, Counted, Alternatives, Last, When, commands, spans_of}
+use Rattle.spx_core.specs.declared.statement.CoreCount.{CoreCount}
+use Rattle.spx_core.specs.Commands.{Command, Skip, Set, Then, Choose, Select, Assertion, Repeat, Tested, Counted, Alternatives, Last, When, commands, spans_of}
 use Rattle.spx_core.specs.declared.entity.Subtype.{Subtype}
 use Rattle.spx_core.specs.declared.rule.ExprType.TheVariants.{Of}
 use Rattle.spx_core.specs.declared.statement.CoreChoice.{CoreChoice}
@@ -101,23 +102,23 @@ with_bounds f n s subtype (Some range) go =
     then_do (in_bounds subtype (place_of range.low) (as_number low) (as_number high) s) (go (as_number low) (as_number high))))
 
 -- where a loop begins and where it ends, and the value after this one
-abbrev pub start_of : Count → (low high : ℤ) → ℤ
+abbrev pub start_of : CoreCount → (low high : ℤ) → ℤ
 start_of c low high = if c.is_reverse then high else low
 
-abbrev pub end_of : Count → (low high : ℤ) → ℤ
+abbrev pub end_of : CoreCount → (low high : ℤ) → ℤ
 end_of c low high = if c.is_reverse then low else high
 
-abbrev pub value_after : Count → ℤ → ℤ
+abbrev pub value_after : CoreCount → ℤ → ℤ
 value_after c k = if c.is_reverse then k -ℤ pos 1 else k +ℤ pos 1
 
 -- The turns from this value of the parameter to the last one. A turn and the rest of the loop have one less of the bound; at 0 there is none.
-abbrev pub counted : Count → (body : ℕ → Store → Outcome) → (last : ℤ) → ℕ → ℤ → Store → Outcome
+abbrev pub counted : CoreCount → (body : ℕ → Store → Outcome) → (last : ℤ) → ℕ → ℤ → Store → Outcome
 counted c body last zero k s = Later
 counted c body last (suc n) k s =
     after_turn (body n (put s c.parameter (Some (Number k)))) (λ t. if int_eq k last then Ended t else counted c body last n (value_after c k) t)
 
 -- a turn for each value between these, if there is one; then the parameter is unset
-abbrev pub over_range : Count → (body : ℕ → Store → Outcome) → ℕ → (low high : ℤ) → Store → Outcome
+abbrev pub over_range : CoreCount → (body : ℕ → Store → Outcome) → ℕ → (low high : ℤ) → Store → Outcome
 over_range c body n low high s =
     then_do (if int_le low high then counted c body (end_of c low high) n (start_of c low high) s else Ended s) (λ t. Ended (put t c.parameter None))
 
@@ -138,13 +139,14 @@ abbrev mutual
   run_for x f n s (Last choices a) = run f n s a
   run_for x f n s (When choices a rest) = if has_value choices x then run f n s a else run_for x f n s rest
 
--- `out` formals and locals take nothing over from the caller
+-- `out` formals and what is declared in a body take nothing over from the caller
 abbrev pub is_new_kind : VarKind → Bool
 is_new_kind (Formal mode.In) = false
 is_new_kind (Formal mode.Out) = true
 is_new_kind (Formal mode.InOut) = false
 is_new_kind Local = true
 is_new_kind (Initialized n) = true
+is_new_kind LoopParameter = true
 
 abbrev pub is_new_var : Option Var → Bool
 is_new_var (Some var) = is_new_kind var.kind

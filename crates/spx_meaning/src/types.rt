@@ -35,6 +35,7 @@ fn initial_in(kind: VarKind) -> Option<i128>
         VarKind::Formal(_) => None,
         VarKind::Local => None,
         VarKind::Initialized(value) => Some(value),
+        VarKind::LoopParameter => None,
     }
 }
 

@@ -10,7 +10,7 @@ use Rattle.spx_parse_body.specs.Reading.{Outcome, Reader, and_then, ◌>>=◌, p
 use Rattle.spx_parse_body.specs.declared.operators.Chain.{Chain}
 use Rattle.spx_parse_body.specs.Operators.{goes_on}
 use Rattle.spx_parse_body.specs.Expressions.{joined_by, step_by, chain_step, chained, below, at_layer, expression, simple_expression, expression_below, simple_expression_below}
-use Rattle.spx_parse_body.specs.Statements.{stmts_below, stmts}
+use Rattle.spx_parse_body.specs.Statements.{constraint_below, constraint, stmts_below, stmts}
 use Rattle.spx_parse_body.proofs.Callers.Loops.{loop_is}
 use Rattle.spx_parse_body.proofs.Callers.ExpressionsGood.{below_good, chain_shrinks}
 
@@ -26,6 +26,11 @@ expression_below_is marked levels fs h = ap (λ (o : Outcome Tall). and_then o (
 pub simple_expression_below_is : (marked : Bool) (levels : ℕ) (fs : List Form) → 0 < levels → simple_expression_below marked levels fs ≡ simple_expression marked (levels - 1) fs
 unfolding simple_expression simple_expression_below
 simple_expression_below_is marked levels fs h = ap (λ (o : Outcome Tall). and_then o (λ t. pure t.expr)) (below_is marked levels layer.Sum fs h)
+
+pub constraint_below_is : (levels : ℕ) (fs : List Form) → 0 < levels → constraint_below levels fs ≡ constraint (levels - 1) fs
+unfolding constraint_below
+constraint_below_is zero fs h = absurd (omega arith)
+constraint_below_is (suc n) fs h = let e : suc n - 1 ≡ n = omega arith in sym (ap (λ (j : ℕ). constraint j fs) e)
 
 pub stmts_below_is : (levels : ℕ) (fs : List Form) → 0 < levels → stmts_below levels fs ≡ stmts (levels - 1) fs
 unfolding stmts_below stmts

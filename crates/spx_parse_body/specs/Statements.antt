@@ -10,15 +10,18 @@ use Rattle.spx_tree.specs.declared.statement.Alternative.{Alternative}
 use Rattle.spx_tree.specs.declared.statement.AssertionKind.{AssertionKind}
 use Rattle.spx_tree.specs.declared.statement.AssertionKind.TheVariants as assertion
 use Rattle.spx_tree.specs.declared.statement.Scheme.{Scheme}
-use Rattle.spx_tree.specs.declared.statement.Scheme.TheVariants.{While}
+use Rattle.spx_tree.specs.declared.statement.Scheme.TheVariants.{While, For}
+use Rattle.spx_tree.specs.declared.declaration.Range.{Range}
 use Rattle.spx_tree.specs.declared.statement.Stmt.{Stmt}
 use Rattle.spx_tree.specs.declared.statement.Stmt.TheVariants.{Null, Assignment, If, Case, Loop, Assertion}
 use Rattle.spx_tree.specs.Form.{Form}
 use Rattle.spx_tree.specs.Written.{program, annotation, assertion_word}
+use Rattle.spx_parse_body.specs.declared.statements.SchemeKind.{SchemeKind}
+use Rattle.spx_parse_body.specs.declared.statements.SchemeKind.TheVariants as schemes
 use Rattle.spx_parse_body.specs.declared.statements.StmtKind.{StmtKind}
 use Rattle.spx_parse_body.specs.declared.statements.StmtKind.TheVariants as kinds
-use Rattle.spx_parse_body.specs.Reading.{Reader, ◌>>=◌, ◌>>◌, pure, refuse, too_deep, peek, sees, expect, expect_place, if_seen, deeper, more_items}
-use Rattle.spx_parse_body.specs.Expressions.{name, expression, predicate_after, expression_below, simple_expression_below}
+use Rattle.spx_parse_body.specs.Reading.{Reader, ◌>>=◌, ◌>>◌, pure, refuse, too_deep, peek, sees, expect, expect_place, identifier, if_seen, deeper, more_items}
+use Rattle.spx_parse_body.specs.Expressions.{name, expression, simple_expression, predicate_after, expression_below, simple_expression_below}
 
 -- "null" ";"
 unfoldable pub null_statement : Reader Stmt
@@ -45,7 +48,8 @@ stmt_of (Some k.Null) noted = Some kinds.Null
 stmt_of (Some k.Identifier) noted = Some kinds.Assignment
 stmt_of (Some k.If) noted = Some kinds.If
 stmt_of (Some k.Case) noted = Some kinds.Case
-stmt_of (Some k.While) noted = Some kinds.While
+stmt_of (Some k.While) noted = Some (kinds.Loop schemes.While)
+stmt_of (Some k.For) noted = Some (kinds.Loop schemes.For)
 stmt_of _ noted = noted_stmt noted
 
 -- the statement that comes next
@@ -85,6 +89,25 @@ choices_by levels None = some_choices levels >>= λ choices. pure (Some choices)
 unfoldable pub choices : ℕ → Reader (Option (List Choice))
 choices levels = if_seen program k.Others (expect program k.Others) >>= choices_by levels
 
+-- ---- ranges (Ada 95 RM 3.5)
+
+-- sum ".." sum
+unfoldable pub range : ℕ → Reader Range
+range levels = do
+  low ← simple_expression program levels
+  expect program k.DoubleDot
+  high ← simple_expression program levels
+  pure (record { low = low; high = high })
+
+-- "range" range
+unfoldable pub constraint : ℕ → Reader Range
+constraint levels = expect program k.Range >> range levels
+
+-- "range" range one level down
+unfoldable pub constraint_below : ℕ → Reader Range
+constraint_below zero = too_deep
+constraint_below (suc levels) = constraint levels
+
 -- ---- the scheme of a loop (Ada 95 RM 5.5), one level down
 
 -- "while" expression
@@ -93,6 +116,26 @@ while_scheme levels = do
   place ← expect_place program k.While
   condition ← expression_below program levels
   pure (While place condition)
+
+-- ["reverse"]
+unfoldable pub direction : Reader Bool
+direction = if_seen program k.Reverse (expect program k.Reverse) >>= λ seen. pure (is_some seen)
+
+-- "for" identifier "in" ["reverse"] name ["range" range]
+unfoldable pub for_scheme : ℕ → Reader Scheme
+for_scheme levels = do
+  place ← expect_place program k.For
+  subject ← identifier program
+  word ← expect_place program k.In
+  is_reverse ← direction
+  type_name ← name program
+  bounds ← if_seen program k.Range (constraint_below levels)
+  pure (For (record { place = place; name = subject; word = word; is_reverse = is_reverse; type_name = type_name; bounds = bounds }))
+
+-- the scheme that begins with this word
+abbrev pub scheme : SchemeKind → ℕ → Reader Scheme
+scheme schemes.While = while_scheme
+scheme schemes.For = for_scheme
 
 -- What reads statements one level down is a parameter, and so is the number of levels that are left.
 module _ (inner : Reader (List Stmt)) (levels : ℕ) where
@@ -166,9 +209,9 @@ module _ (inner : Reader (List Stmt)) (levels : ℕ) where
     pure (Case place selector alternatives (record { end = end; word = word })))
 
   -- scheme "loop" statements "end" "loop" ";"
-  unfoldable pub loop_statement : Reader Stmt
-  loop_statement = deeper levels 0 (do
-    scheme ← while_scheme levels
+  unfoldable pub loop_statement : SchemeKind → Reader Stmt
+  loop_statement kind = deeper levels 0 (do
+    scheme ← scheme kind levels
     word ← expect_place program k.Loop
     body ← inner
     end ← expect_place program k.End
@@ -181,7 +224,7 @@ module _ (inner : Reader (List Stmt)) (levels : ℕ) where
   stmt_by (Some kinds.Assignment) = assignment
   stmt_by (Some kinds.If) = if_statement
   stmt_by (Some kinds.Case) = case_statement
-  stmt_by (Some kinds.While) = loop_statement
+  stmt_by (Some (kinds.Loop kind)) = loop_statement kind
   stmt_by (Some (kinds.Assertion kind)) = assertion_statement kind levels
   stmt_by None = refuse
 

@@ -11,7 +11,9 @@ ghost use Rattle.spx_parse_body.specs.Answers.{Reads};
 use crate::cursor::{ANNOTATION, Cursor, PROGRAM, Stop};
 use crate::expressions::{expression, name, predicate_after, simple_expression};
 use spx_text::Place;
-use spx_tree::{Alternative, Arm, AssertionKind, Choice, Closing, Expr, Kind, Scheme, Stmt};
+use spx_tree::{
+    Alternative, Arm, AssertionKind, Choice, Closing, Count, Expr, Kind, Range, Scheme, Stmt,
+};
 use sqlite_items::Items;
 use std::alloc::Global;
 
@@ -22,9 +24,16 @@ pub enum StmtKind {
     Assignment,
     If,
     Case,
-    While,
+    Loop(SchemeKind),
     /// In annotation text.
     Assertion(AssertionKind),
+}
+
+/// The schemes of loops, by their first word.
+#[derive(Clone, Copy, Debug, PartialEq, Eq)]
+pub enum SchemeKind {
+    While,
+    For,
 }
 
 // null_statement = "null" ";"
@@ -273,16 +282,108 @@ fn while_scheme(alloc: Global, cursor: &mut Cursor<'_>, levels: u32) -> Result<S
     Ok(Scheme::While(place, condition))
 }
 
-// loop_statement = while_scheme "loop" stmts "end" "loop" ";"
+// range = sum ".." sum
+#[tactic(auto, unfolding(crate::specs::Statements::range))]
+fn range(alloc: Global, cursor: &mut Cursor<'_>, levels: u32) -> Result<Range, Stop>
+    ensures { Reads (read.range levels cursor.old) result cursor.new }
+{
+    let low = simple_expression(alloc, cursor, levels, PROGRAM)?;
+    cursor.expect(PROGRAM, Kind::DoubleDot)?;
+    let high = simple_expression(alloc, cursor, levels, PROGRAM)?;
+    Ok(Range { low, high })
+}
+
+/// Reads `range low .. high`.
+// constraint = "range" range
+#[tactic(auto, unfolding(crate::specs::Statements::constraint))]
+pub fn constraint(alloc: Global, cursor: &mut Cursor<'_>, levels: u32) -> Result<Range, Stop>
+    ensures { Reads (read.constraint levels cursor.old) result cursor.new }
+{
+    cursor.expect(PROGRAM, Kind::Range)?;
+    range(alloc, cursor, levels)
+}
+
+// [constraint], one level down
+#[tactic(auto, using(crate::proofs::Levels::constraint_below_is), unfolding(crate::specs::Reading::if_seen))]
+fn optional_bounds(
+    alloc: Global,
+    cursor: &mut Cursor<'_>,
+    levels: u32,
+) -> Result<Option<Range>, Stop>
+    requires { 0 < levels }
+    ensures { Reads (reading.if_seen program k.Range (read.constraint_below levels) cursor.old) result cursor.new }
+{
+    if cursor.sees(PROGRAM, Kind::Range) {
+        return Ok(Some(constraint(alloc, cursor, levels - 1)?));
+    }
+    Ok(None)
+}
+
+// direction = ["reverse"]
+#[tactic(auto, unfolding(crate::specs::Statements::direction, crate::specs::Reading::if_seen))]
+fn direction(cursor: &mut Cursor<'_>) -> Result<bool, Stop>
+    ensures { Reads (read.direction cursor.old) result cursor.new }
+{
+    if cursor.sees(PROGRAM, Kind::Reverse) {
+        cursor.expect(PROGRAM, Kind::Reverse)?;
+        return Ok(true);
+    }
+    Ok(false)
+}
+
+// for_scheme = "for" identifier "in" direction name [constraint]
+#[tactic(auto, unfolding(crate::specs::Statements::for_scheme))]
+fn for_scheme(alloc: Global, cursor: &mut Cursor<'_>, levels: u32) -> Result<Scheme, Stop>
+    requires { 0 < levels }
+    ensures { Reads (read.for_scheme levels cursor.old) result cursor.new }
+{
+    let place = cursor.expect_place(PROGRAM, Kind::For)?;
+    let subject = cursor.identifier(alloc, PROGRAM)?;
+    let word = cursor.expect_place(PROGRAM, Kind::In)?;
+    let is_reverse = direction(cursor)?;
+    let type_name = name(alloc, cursor, PROGRAM)?;
+    let bounds = optional_bounds(alloc, cursor, levels)?;
+    Ok(Scheme::For(Count {
+        place,
+        name: subject,
+        word,
+        is_reverse,
+        type_name,
+        bounds,
+    }))
+}
+
+// scheme = while_scheme | for_scheme
+fn scheme(
+    alloc: Global,
+    cursor: &mut Cursor<'_>,
+    levels: u32,
+    kind: SchemeKind,
+) -> Result<Scheme, Stop>
+    requires { 0 < levels }
+    ensures { Reads (read.scheme kind levels cursor.old) result cursor.new }
+{
+    match kind {
+        SchemeKind::While => while_scheme(alloc, cursor, levels),
+        SchemeKind::For => for_scheme(alloc, cursor, levels),
+    }
+}
+
+// loop_statement = scheme "loop" stmts "end" "loop" ";"
 #[cycle(stmts)]
 #[tactic(auto, using(crate::proofs::Levels::stmts_below_is), unfolding(crate::specs::Statements::loop_statement))]
-fn loop_statement(alloc: Global, cursor: &mut Cursor<'_>, levels: u32) -> Result<Stmt, Stop>
-    ensures { Reads (read.loop_statement (read.stmts_below levels) levels cursor.old) result cursor.new }
+fn loop_statement(
+    alloc: Global,
+    cursor: &mut Cursor<'_>,
+    levels: u32,
+    kind: SchemeKind,
+) -> Result<Stmt, Stop>
+    ensures { Reads (read.loop_statement (read.stmts_below levels) levels kind cursor.old) result cursor.new }
 {
     if levels == 0 {
         return Err(cursor.too_deep());
     }
-    let scheme = while_scheme(alloc, cursor, levels)?;
+    let scheme = scheme(alloc, cursor, levels, kind)?;
     let word = cursor.expect_place(PROGRAM, Kind::Loop)?;
     let stmts = stmts(alloc, cursor, levels - 1)?;
     let end = cursor.expect_place(PROGRAM, Kind::End)?;
@@ -336,7 +437,8 @@ fn next_stmt(cursor: &Cursor<'_>) -> Option<StmtKind>
         Some(Kind::Identifier) => Some(StmtKind::Assignment),
         Some(Kind::If) => Some(StmtKind::If),
         Some(Kind::Case) => Some(StmtKind::Case),
-        Some(Kind::While) => Some(StmtKind::While),
+        Some(Kind::While) => Some(StmtKind::Loop(SchemeKind::While)),
+        Some(Kind::For) => Some(StmtKind::Loop(SchemeKind::For)),
         _ => noted_stmt(cursor.peek(ANNOTATION)),
     }
 }
@@ -352,7 +454,7 @@ fn stmt(alloc: Global, cursor: &mut Cursor<'_>, levels: u32) -> Result<Stmt, Sto
         Some(StmtKind::Assignment) => assignment(alloc, cursor, levels),
         Some(StmtKind::If) => if_statement(alloc, cursor, levels),
         Some(StmtKind::Case) => case_statement(alloc, cursor, levels),
-        Some(StmtKind::While) => loop_statement(alloc, cursor, levels),
+        Some(StmtKind::Loop(kind)) => loop_statement(alloc, cursor, levels, kind),
         Some(StmtKind::Assertion(kind)) => assertion_statement(alloc, cursor, levels, kind),
         None => Err(cursor.expected()),
     }

@@ -14,19 +14,19 @@ use Rattle.spx_tree.specs.declared.annotation.Imports.{Imports}
 use Rattle.spx_tree.specs.declared.subprogram.WrittenMode.TheVariants as modes
 use Rattle.spx_tree.specs.declared.subprogram.Unit.TheVariants as unit
 use Rattle.spx_tree.specs.Form.{Form, bare, placed, named}
-use Rattle.spx_tree.specs.Written.{program, annotation, following, separated, optional, written_identifier, written_identifiers, written_name, written_names, written_range, written_constraint, written_definition, written_initial, written_decl, written_decls, written_stmts, written_imports, written_item, written_derives, written_pre, written_post, written_mode, written_param, written_params, written_formal_part, written_subprogram, written_unit, written}
+use Rattle.spx_tree.specs.Written.{program, annotation, following, separated, optional, written_identifier, written_identifiers, written_name, written_names, written_constraint, written_definition, written_initial, written_decl, written_decls, written_stmts, written_imports, written_item, written_derives, written_pre, written_post, written_mode, written_param, written_params, written_formal_part, written_subprogram, written_unit, written}
 use Rattle.spx_tree.specs.Grammar.{Each, OneOrMore, IfThere, IsIdentifiers, IsNames, IsExpr, IsRange, IsDefinition, IsDecl, IsStmts, IsItem, IsDerives, IsPredicate, IsParam, IsFormalPart, IsSubprogram, IsUnit, IsFile}
 use Rattle.spx_parse_body.specs.Reading.{◌>>◌, peek, sees, expect, identifier, item_step}
 use Rattle.spx_parse_body.specs.Expressions.{name}
 use Rattle.spx_parse_unit.specs.declared.subprograms.HeadingParts.{HeadingParts}
 use Rattle.spx_parse_unit.specs.declared.subprograms.BodyParts.{BodyParts}
-use Rattle.spx_parse_unit.specs.Units.{more_identifiers, identifiers, more_names, names, starred, unstarred, imports_by, imports, named_item, null_item, item_by, item, more_derives, items, derives, in_by, following_in, mode_by, mode, param, more_params, params, formal_part, range, constraint, integer, enumeration, definition_by, definition, full_type, subtype, initial, variables, constants, objects_by, objects_after, objects, declaration_by, declaration, starts_declaration, sees_declaration, more_declarations, declarations, heading, body, whole, subprogram, unit_at, more_units, file}
+use Rattle.spx_parse_unit.specs.Units.{more_identifiers, identifiers, more_names, names, starred, unstarred, imports_by, imports, named_item, null_item, item_by, item, more_derives, items, derives, in_by, following_in, mode_by, mode, param, more_params, params, formal_part, integer, enumeration, definition_by, definition, full_type, subtype, initial, variables, constants, objects_by, objects_after, objects, declaration_by, declaration, starts_declaration, sees_declaration, more_declarations, declarations, heading, body, whole, subprogram, unit_at, more_units, file}
 use Rattle.spx_parse_body.proofs.Callers.Loops.{Shrinks}
 use Rattle.spx_parse_body.proofs.Callers.Lawful.{Ends, Any, Sees, Always}
 use Rattle.spx_parse_body.proofs.Callers.Good.{Good, Starts, Case, Adds, absent, present, good_bind, good_as, good_pure, good_refuse, good_fewer, good_choose, good_before, good_given, good_expect, good_expect_place, good_identifier, good_option, good_more, list_shrinks, starts_bind, starts_choose, starts_expect, starts_place, starts_identifier}
 use Rattle.spx_parse_body.proofs.Callers.Separated.{sees_kind, all_added, joined_added, next, following_added, separated_adds, next_starts, good_separated, separated_shrinks, good_items, items_shrinks, good_if_seen}
-use Rattle.spx_parse_body.proofs.Callers.ExpressionsGood.{name_starts, name_good, expression_good, predicate_after_starts, simple_expression_good}
-use Rattle.spx_parse_body.proofs.Callers.StatementsGood.{stmts_good}
+use Rattle.spx_parse_body.proofs.Callers.ExpressionsGood.{name_starts, name_good, expression_good, predicate_after_starts}
+use Rattle.spx_parse_body.proofs.Callers.StatementsGood.{constraint_starts, stmts_good}
 
 -- ---- identifiers
 
@@ -199,18 +199,6 @@ formal_part_starts here =
     good_pure (record { place = place; params = params }) (λ l w. refl) (λ l w. w.0.1))))
 
 -- ---- declarations
-
-range_good : {L P : Type 0} (levels : ℕ) → Good L P written_range (IsRange levels) [] Any (range levels) (range (suc levels))
-unfolding range
-range_good levels =
-    good_bind (simple_expression_good program levels) (λ low.
-    good_bind (good_expect program k.DoubleDot) (λ u.
-    good_bind (simple_expression_good program levels) (λ high.
-    good_pure (record { low = low; high = high }) (λ l w. simp append_assoc) (λ l w. record { low = w.0.0.1; high = w.1 }))))
-
-constraint_starts : {L P : Type 0} {on : List Form → Type 0} (levels : ℕ) → ((fs : List Form) → on fs → peek program fs ≡ Some k.Range) → Starts L P written_constraint (IsRange levels) [] on (constraint levels) (constraint (suc levels))
-unfolding constraint
-constraint_starts levels here = starts_bind (starts_expect program k.Range here refl) (λ u. good_as (λ l w x f. (refl, f)) (range_good levels))
 
 integer_starts : {L P : Type 0} {on : List Form → Type 0} (levels : ℕ) → ((fs : List Form) → on fs → peek program fs ≡ Some k.Range) → Starts L P written_definition (IsDefinition levels) [] on (integer levels) (integer (suc levels))
 unfolding integer

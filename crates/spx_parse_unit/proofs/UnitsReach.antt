@@ -9,7 +9,6 @@ use Rattle.spx_tree.specs.declared.expression.Name.{Name}
 use Rattle.spx_tree.specs.declared.expression.Expr.{Expr}
 use Rattle.spx_tree.specs.declared.declaration.Decl.{Decl}
 use Rattle.spx_tree.specs.declared.declaration.Decl.TheVariants as decl
-use Rattle.spx_tree.specs.declared.declaration.Range.{Range}
 use Rattle.spx_tree.specs.declared.declaration.TypeDef.{TypeDef}
 use Rattle.spx_tree.specs.declared.declaration.TypeDef.TheVariants as defined
 use Rattle.spx_tree.specs.declared.expression.Layer.TheVariants as layer
@@ -27,18 +26,18 @@ use Rattle.spx_tree.specs.declared.subprogram.Subprogram.{Subprogram}
 use Rattle.spx_tree.specs.declared.subprogram.Unit.{Unit}
 use Rattle.spx_tree.specs.declared.subprogram.Unit.TheVariants as unit
 use Rattle.spx_tree.specs.Form.{Form, bare, placed, named}
-use Rattle.spx_tree.specs.Written.{program, annotation, written_at, following, separated, optional, written_identifier, written_identifiers, written_name, written_names, written_expr, written_range, written_constraint, written_definition, written_initial, written_decl, written_decls, written_stmts, written_imports, written_item, written_derives, written_pre, written_post, written_mode, written_param, written_params, written_formal_part, written_subprogram, written_unit, written}
-use Rattle.spx_tree.specs.Grammar.{Each, OneOrMore, IfThere, IsIdentifiers, IsNames, IsExpr, IsRange, IsDefinition, IsDecl, HasImportsFor, IsItem, IsDerives, IsPredicate, IsParam, IsFormalPart, IsSubprogram, IsUnit, IsFile}
+use Rattle.spx_tree.specs.Written.{program, annotation, written_at, following, separated, optional, written_identifier, written_identifiers, written_name, written_names, written_expr, written_constraint, written_definition, written_initial, written_decl, written_decls, written_stmts, written_imports, written_item, written_derives, written_pre, written_post, written_mode, written_param, written_params, written_formal_part, written_subprogram, written_unit, written}
+use Rattle.spx_tree.specs.Grammar.{Each, OneOrMore, IfThere, IsIdentifiers, IsNames, IsExpr, IsDefinition, IsDecl, HasImportsFor, IsItem, IsDerives, IsPredicate, IsParam, IsFormalPart, IsSubprogram, IsUnit, IsFile}
 use Rattle.spx_parse_body.specs.Reading.{pure, peek, is_kind, sees, identifier, optional_by, if_seen}
 use Rattle.spx_parse_body.specs.Expressions.{name, predicate_after}
 use Rattle.spx_parse_unit.specs.declared.subprograms.HeadingParts.{HeadingParts}
 use Rattle.spx_parse_unit.specs.declared.subprograms.BodyParts.{BodyParts}
-use Rattle.spx_parse_unit.specs.Units.{more_identifiers, identifiers, more_names, names, starred, unstarred, imports_by, imports, named_item, null_item, item_by, item, more_derives, items, derives, in_by, following_in, mode_by, mode, param, more_params, params, formal_part, range, constraint, integer, enumeration, definition_by, definition, full_type, subtype, initial, variables, constants, objects_by, objects_after, objects, declaration_by, declaration, sees_declaration, more_declarations, declarations, heading, body, subprogram, unit_at, more_units, file}
+use Rattle.spx_parse_unit.specs.Units.{more_identifiers, identifiers, more_names, names, starred, unstarred, imports_by, imports, named_item, null_item, item_by, item, more_derives, items, derives, in_by, following_in, mode_by, mode, param, more_params, params, formal_part, integer, enumeration, definition_by, definition, full_type, subtype, initial, variables, constants, objects_by, objects_after, objects, declaration_by, declaration, sees_declaration, more_declarations, declarations, heading, body, subprogram, unit_at, more_units, file}
 use Rattle.spx_parse_body.proofs.Callers.Shaped.{kind_self}
 use Rattle.spx_parse_body.proofs.Callers.Separated.{Lacks, not_seen, sees_front, reaches_following, reaches_separated, reaches_if_seen}
 use Rattle.spx_parse_body.proofs.Callers.Reaches.{Reaches, reaches_is, reaches_bind, reaches_pure, reaches_choose, reaches_expect, reaches_expect_place, reaches_identifier, reaches_items, peek_front}
-use Rattle.spx_parse_body.proofs.Callers.ExpressionsReach.{Free, name_again, name_front, expression_again, predicate_after_again, simple_expression_again, semicolon_free, sum_free, double_dot_free}
-use Rattle.spx_parse_body.proofs.Callers.StatementsReach.{stmts_again}
+use Rattle.spx_parse_body.proofs.Callers.ExpressionsReach.{Free, name_again, name_front, expression_again, predicate_after_again, semicolon_free, sum_free}
+use Rattle.spx_parse_body.proofs.Callers.StatementsReach.{constraint_again, constraint_option, constraint_apart, stmts_again}
 use Rattle.spx_parse_unit.proofs.UnitsGood.{identifiers_shrinks, names_shrinks, derives_shrinks, params_shrinks, declarations_shrinks, units_shrinks}
 
 -- ---- identifiers and names
@@ -185,26 +184,9 @@ formal_part_again x fs zs f h =
 
 -- ---- declarations
 
-range_again : (levels : ℕ) (x : Range) (fs zs : List Form) → IsRange levels x → Free layer.Sum (peek program zs) → fs ≡ written_range x ++ zs → Reaches (range levels) fs x zs
-unfolding range
-range_again levels x fs zs f free h =
-    let flat = h ∙ append_assoc (written_expr program x.low) (bare program k.DoubleDot ∷ written_expr program x.high) zs in
-    reaches_bind _ (simple_expression_again program levels x.low fs (bare program k.DoubleDot ∷ (written_expr program x.high ++ zs)) f.low (double_dot_free program (written_expr program x.high ++ zs)) flat) (λ us a.
-    reaches_bind _ (reaches_expect program k.DoubleDot a) (λ vs b.
-    reaches_bind _ (simple_expression_again program levels x.high vs zs f.high free b) (λ ws d. reaches_pure d)))
-
 -- no sum goes on with a semicolon
 semicolon_ends : (zs : List Form) → Free layer.Sum (peek program (bare program k.Semicolon ∷ zs))
 semicolon_ends zs = sum_free (peek program (bare program k.Semicolon ∷ zs)) (semicolon_free program zs)
-
-constraint_again : (levels : ℕ) (x : Range) (fs zs : List Form) → IsRange levels x → fs ≡ written_constraint x ++ bare program k.Semicolon ∷ zs → Reaches (constraint levels) fs x (bare program k.Semicolon ∷ zs)
-unfolding constraint
-constraint_again levels x fs zs f h = reaches_bind _ (reaches_expect program k.Range h) (λ us a. range_again levels x us (bare program k.Semicolon ∷ zs) f (semicolon_ends zs) a)
-
-constraint_option : (levels : ℕ) (x : Option Range) (fs zs : List Form) → IfThere (IsRange levels) x → fs ≡ optional written_constraint x ++ bare program k.Semicolon ∷ zs → Reaches (if_seen program k.Range (constraint levels)) fs x (bare program k.Semicolon ∷ zs)
-unfolding if_seen
-constraint_option levels None fs zs f h = reaches_choose (sees program k.Range) (optional_by (constraint levels)) false (ap (sees program k.Range) h ∙ not_seen program k.Range (bare program k.Semicolon ∷ zs) (λ e. cc)) (reaches_pure h)
-constraint_option levels (Some x) fs zs f h = reaches_choose (sees program k.Range) (optional_by (constraint levels)) true (ap (sees program k.Range) h ∙ kind_self k.Range) (reaches_bind _ (constraint_again levels x fs zs f h) (λ us a. reaches_pure a))
 
 initial_again : (levels : ℕ) (x : Expr) (fs zs : List Form) → IsExpr levels x → fs ≡ written_initial x ++ bare program k.Semicolon ∷ zs → Reaches (initial levels) fs x (bare program k.Semicolon ∷ zs)
 unfolding initial
@@ -234,7 +216,7 @@ definition_again : (levels : ℕ) (x : TypeDef) (fs zs : List Form) → IsDefini
 unfolding definition integer enumeration
 definition_again levels (defined.Integer x) fs zs f h =
     reaches_choose (peek program) (definition_by levels) (Some k.Range) (peek_front program fs h)
-    (reaches_bind _ (constraint_again levels x fs zs f h) (λ us a. reaches_pure a))
+    (reaches_bind _ (constraint_again levels x fs (bare program k.Semicolon ∷ zs) f (semicolon_ends zs) h) (λ us a. reaches_pure a))
 definition_again levels (defined.Enumeration place literals) fs zs f h =
     let flat = h ∙ ap (λ (us : List Form). placed program k.LeftParenthesis place ∷ us) (append_assoc (written_identifiers program literals) (bare program k.RightParenthesis ∷ []) (bare program k.Semicolon ∷ zs)) in
     reaches_choose (peek program) (definition_by levels) (Some k.LeftParenthesis) (peek_front program fs h)
@@ -265,11 +247,6 @@ constants_text n t v zs = simp append_assoc
 
 subtype_text : (p r zs : List Form) → (p ++ (r ++ bare program k.Semicolon ∷ [])) ++ zs ≡ p ++ (r ++ bare program k.Semicolon ∷ zs)
 subtype_text p r zs = simp append_assoc
-
--- what stands after the name of a subtype does not go on with it
-constraint_apart : (x : Option Range) (zs : List Form) → Apart program (optional written_constraint x ++ bare program k.Semicolon ∷ zs)
-constraint_apart None zs e = cc
-constraint_apart (Some x) zs e = cc
 
 declaration_again : (levels : ℕ) (x : Decl) (fs zs : List Form) → IsDecl levels x → fs ≡ written_decl x ++ zs → Reaches (declaration levels) fs x zs
 unfolding declaration objects_after variables constants full_type subtype
@@ -305,8 +282,8 @@ declaration_again levels (decl.Subtype subject parent range) fs zs f h =
     (reaches_bind _ (reaches_expect program k.Subtype flat) (λ us a.
     reaches_bind _ (reaches_identifier program a) (λ vs b.
     reaches_bind _ (reaches_expect program k.Is b) (λ ws d.
-    reaches_bind _ (name_again program parent ws after (constraint_apart range zs) d) (λ t1 a1.
-    reaches_bind _ (constraint_option levels range t1 zs f a1) (λ t2 a2.
+    reaches_bind _ (name_again program parent ws after (constraint_apart range (bare program k.Semicolon ∷ zs) (semicolon_ends zs)) d) (λ t1 a1.
+    reaches_bind _ (constraint_option levels range t1 (bare program k.Semicolon ∷ zs) f (semicolon_ends zs) (λ e. cc) a1) (λ t2 a2.
     reaches_bind _ (reaches_expect program k.Semicolon a2) (λ t3 a3. reaches_pure a3)))))))
 
 declaration_seen : (levels : ℕ) (x : Decl) (ws : List Form) → IsDecl levels x → sees_declaration (written_decl x ++ ws) ≡ true

@@ -8,7 +8,6 @@ use Rattle.spx_tree.specs.declared.expression.Name.{Name}
 use Rattle.spx_tree.specs.declared.expression.Expr.{Expr}
 use Rattle.spx_tree.specs.declared.declaration.Decl.{Decl}
 use Rattle.spx_tree.specs.declared.declaration.Decl.TheVariants as decl
-use Rattle.spx_tree.specs.declared.declaration.Range.{Range}
 use Rattle.spx_tree.specs.declared.declaration.TypeDef.{TypeDef}
 use Rattle.spx_tree.specs.declared.declaration.TypeDef.TheVariants as defined
 use Rattle.spx_tree.specs.declared.annotation.Exports.TheVariants as exported
@@ -27,8 +26,8 @@ use Rattle.spx_tree.specs.Written.{program, annotation}
 use Rattle.spx_parse_unit.specs.declared.subprograms.HeadingParts.{HeadingParts}
 use Rattle.spx_parse_unit.specs.declared.subprograms.BodyParts.{BodyParts}
 use Rattle.spx_parse_body.specs.Reading.{Reader, ◌>>=◌, ◌>>◌, pure, refuse, peek, sees, expect, expect_place, identifier, if_seen, more_items}
-use Rattle.spx_parse_body.specs.Expressions.{name, expression, predicate_after, simple_expression}
-use Rattle.spx_parse_body.specs.Statements.{stmts}
+use Rattle.spx_parse_body.specs.Expressions.{name, expression, predicate_after}
+use Rattle.spx_parse_body.specs.Statements.{constraint, stmts}
 
 -- ---- names
 
@@ -155,18 +154,6 @@ formal_part = do
   pure (record { place = place; params = params })
 
 -- ---- declarations
-
--- sum ".." sum
-unfoldable pub range : ℕ → Reader Range
-range levels = do
-  low ← simple_expression program levels
-  expect program k.DoubleDot
-  high ← simple_expression program levels
-  pure (record { low = low; high = high })
-
--- "range" range
-unfoldable pub constraint : ℕ → Reader Range
-constraint levels = expect program k.Range >> range levels
 
 -- "range" range
 unfoldable pub integer : ℕ → Reader TypeDef

@@ -4,34 +4,15 @@ ghost use Rattle.spx_tree.specs.Written.{program};
 ghost use Rattle.spx_tree.specs.declared.token.Kind.TheVariants as k;
 ghost use Rattle.spx_parse_body.specs.Reading as reading;
 ghost use Rattle.spx_parse_body.specs.Expressions as expressions;
+ghost use Rattle.spx_parse_body.specs.Statements as body;
 ghost use Rattle.spx_parse_unit.specs.Units as read;
 ghost use Rattle.spx_parse_body.specs.Answers.{Reads};
 
 use crate::annotations::identifiers;
-use spx_parse_body::{Cursor, PROGRAM, Stop, expression, name, simple_expression};
+use spx_parse_body::{Cursor, PROGRAM, Stop, constraint, expression, name};
 use spx_tree::{Decl, Expr, Identifier, Kind, Name, Range, TypeDef};
 use sqlite_items::Items;
 use std::alloc::Global;
-
-// range = sum ".." sum
-#[tactic(auto, unfolding(crate::specs::Units::range))]
-fn range(alloc: Global, cursor: &mut Cursor<'_>, levels: u32) -> Result<Range, Stop>
-    ensures { Reads (read.range levels cursor.old) result cursor.new }
-{
-    let low = simple_expression(alloc, cursor, levels, PROGRAM)?;
-    cursor.expect(PROGRAM, Kind::DoubleDot)?;
-    let high = simple_expression(alloc, cursor, levels, PROGRAM)?;
-    Ok(Range { low, high })
-}
-
-// constraint = "range" range
-#[tactic(auto, unfolding(crate::specs::Units::constraint))]
-fn constraint(alloc: Global, cursor: &mut Cursor<'_>, levels: u32) -> Result<Range, Stop>
-    ensures { Reads (read.constraint levels cursor.old) result cursor.new }
-{
-    cursor.expect(PROGRAM, Kind::Range)?;
-    range(alloc, cursor, levels)
-}
 
 // [constraint]
 #[tactic(auto, unfolding(spx_parse_body::specs::Reading::if_seen))]
@@ -40,7 +21,7 @@ fn optional_constraint(
     cursor: &mut Cursor<'_>,
     levels: u32,
 ) -> Result<Option<Range>, Stop>
-    ensures { Reads (reading.if_seen program k.Range (read.constraint levels) cursor.old) result cursor.new }
+    ensures { Reads (reading.if_seen program k.Range (body.constraint levels) cursor.old) result cursor.new }
 {
     if cursor.sees(PROGRAM, Kind::Range) {
         return Ok(Some(constraint(alloc, cursor, levels)?));

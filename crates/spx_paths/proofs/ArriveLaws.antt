@@ -153,7 +153,7 @@ one_more_ended before beginning path ended all tree so_far ends is =
     ∙ sym (each_more before (beginning ∷ []) tree)
 
 -- from each cut to the next
-pub paths_are : (p : Program) (sub : Sub) (start : List PathStep) (found more all : List Beginning) (ended : List Path) → Walked [] start (opening p sub) → Arrive p sub (commands sub.statements) start found → BeginIn p sub (commands sub.statements) more → all ≡ found ++ more
+pub paths_are : (p : Program) (sub : Sub) (start : List PathStep) (found more all : List Beginning) (ended : List Path) → Walked [] start (opening p sub) → Arrive p sub (commands sub.statements) start found → BeginIn p sub [] (commands sub.statements) more → all ≡ found ++ more
     → map steps_of ended ≡ after_each all (ending_with p sub sub.post) → map steps_of ended ≡ paths p sub
 paths_are p sub start found more all ended opens arrives begins is ends =
     let body = commands sub.statements in

@@ -21,7 +21,8 @@ use Rattle.spx_paths.specs.Counts.{arrivals_in, capped, cut_arrivals_in, AreCoun
 use Rattle.spx_core.specs.declared.subprogram.CorePredicate.{CorePredicate}
 use Rattle.spx_core.specs.declared.subprogram.Sub.{Sub}
 use Rattle.spx_core.specs.declared.statement.CoreRange.{CoreRange}
-use Rattle.spx_core.specs.Commands.{Command, Skip, Set, Then, Choose, Select, Assertion, Count, Head, Repeat, Tested, Counted, Alternatives, Last, When, alternative, alternatives_of, commands, has_own_cut, select}
+use Rattle.spx_core.specs.declared.statement.CoreCount.{CoreCount}
+use Rattle.spx_core.specs.Commands.{Command, Skip, Set, Then, Choose, Select, Assertion, Head, Repeat, Tested, Counted, Alternatives, Last, When, alternative, alternatives_of, commands, has_own_cut, select}
 use Rattle.spx_core.specs.Dependency.{exports}
 use Rattle.spx_core.specs.Formals.{formals, locals}
 use Rattle.spx_core.specs.Judged.{Judged, application}
@@ -177,7 +178,7 @@ count_naming : (p : Program) (sub : Sub) (name : Name) (e : CoreExpr) (rest : Tr
 count_naming p sub name e rest = unless_fixed (is_fixed sub e) name (term_of p (now_term p) e) rest
 
 -- a range without bounds is not passed by
-count_enter : (p : Program) (sub : Sub) (c : Count) (bounds : Option CoreRange) (into out : ℕ → Tree) (made : ℕ) → count (enter_range p sub c bounds into out made) ≡ count (into made) + (if is_some bounds then count (out made) else 0)
+count_enter : (p : Program) (sub : Sub) (c : CoreCount) (bounds : Option CoreRange) (into out : ℕ → Tree) (made : ℕ) → count (enter_range p sub c bounds into out made) ≡ count (into made) + (if is_some bounds then count (out made) else 0)
 count_enter p sub c None into out made = one_step (step.Assign (now p c.parameter) (start_term p sub c)) (branches (into made)) ∙ sym (add-zero _)
 count_enter p sub c (Some range) into out made =
     let low = low_term p sub c in
@@ -262,16 +263,16 @@ count_all trees = length (flat_map branches trees)
 count_both : (trees more : List Tree) → count_all (trees ++ more) ≡ count_all trees + count_all more
 count_both trees more = ap length (flat_map-append branches trees more) ∙ length-append (flat_map branches trees) (flat_map branches more)
 
-count_from_cut : (p : Program) (sub : Sub) (within : List Count) (known : List Term) (rest : Tree) → count_all (from_cut p sub within known rest ∷ []) ≡ count rest
+count_from_cut : (p : Program) (sub : Sub) (within : List CoreCount) (known : List Term) (rest : Tree) → count_all (from_cut p sub within known rest ∷ []) ≡ count rest
 count_from_cut p sub within known rest = length-append (branches (from_cut p sub within known rest)) [] ∙ add-zero _ ∙ count_facts (cut_facts p sub within ++ known) rest
 
-count_loop_cut : (p : Program) (sub : Sub) (within : List Count) (b : Bool) (rest : Tree) (n : ℕ) → count rest ≡ n → count_all (loop_cut p sub within b rest) ≡ (if b then 0 else n)
+count_loop_cut : (p : Program) (sub : Sub) (within : List CoreCount) (b : Bool) (rest : Tree) (n : ℕ) → count rest ≡ n → count_all (loop_cut p sub within b rest) ≡ (if b then 0 else n)
 count_loop_cut p sub within true rest n is = refl
 count_loop_cut p sub within false rest n is = count_from_cut p sub within (term.Truth true ∷ []) rest ∙ is
 
 -- as many paths lead from the cuts in a command as are counted
 mutual
-  count_cuts : (p : Program) (sub : Sub) (within : List Count) (c : Command) (rest leave : ℕ → Tree) (r l : ℕ) → ((m : ℕ) → count (rest m) ≡ r) → ((m : ℕ) → count (leave m) ≡ l) → count_all (cuts p sub within c rest leave) ≡ cut_arrivals c r l
+  count_cuts : (p : Program) (sub : Sub) (within : List CoreCount) (c : Command) (rest leave : ℕ → Tree) (r l : ℕ) → ((m : ℕ) → count (rest m) ≡ r) → ((m : ℕ) → count (leave m) ≡ l) → count_all (cuts p sub within c rest leave) ≡ cut_arrivals c r l
   count_cuts p sub within Skip rest leave r l goes leaves = refl
   count_cuts p sub within (Set target e) rest leave r l goes leaves = refl
   count_cuts p sub within (Then a b) rest leave r l goes leaves =
@@ -293,7 +294,7 @@ mutual
       ∙ ap₂ (λ (m n : ℕ). m + n) (count_loop_cut p sub (inside within head) (has_own_cut body) turn (arrivals body n r) (count_walk p sub body next out n r goes_again goes_out 0))
       (count_cuts p sub (inside within head) body next out n r goes_again goes_out)
 
-  count_cuts_for : (p : Program) (sub : Sub) (within : List Count) (alternatives : Alternatives) (rest leave : ℕ → Tree) (r l : ℕ) → ((m : ℕ) → count (rest m) ≡ r) → ((m : ℕ) → count (leave m) ≡ l) → count_all (cuts_for p sub within alternatives rest leave) ≡ cut_arrivals_for alternatives r l
+  count_cuts_for : (p : Program) (sub : Sub) (within : List CoreCount) (alternatives : Alternatives) (rest leave : ℕ → Tree) (r l : ℕ) → ((m : ℕ) → count (rest m) ≡ r) → ((m : ℕ) → count (leave m) ≡ l) → count_all (cuts_for p sub within alternatives rest leave) ≡ cut_arrivals_for alternatives r l
   count_cuts_for p sub within (Last choices a) rest leave r l goes leaves = count_cuts p sub within a rest leave r l goes leaves
   count_cuts_for p sub within (When choices a more) rest leave r l goes leaves =
       count_both (cuts p sub within a rest leave) _ ∙ ap₂ (λ (m n : ℕ). m + n) (count_cuts p sub within a rest leave r l goes leaves) (count_cuts_for p sub within more rest leave r l goes leaves)

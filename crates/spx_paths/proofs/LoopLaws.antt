@@ -1,37 +1,25 @@
 -- Paths through loops, from the cuts in them, and how many there are.
-use Rattle.std.proofs.Common.{◌≡◌, ◌+◌, if◌then◌else◌, ℕ, zero-add, true, false, List, [], ◌∷◌, ◌++◌, take, drop, refl, sym, subst, ap, ap₂, ◌∙◌, arith}
+use Rattle.std.proofs.Common.{◌≡◌, ◌+◌, if◌then◌else◌, ℕ, zero-add, Bool, true, false, List, [], ◌∷◌, ◌++◌, take, drop, refl, sym, ap, ap₂, ◌∙◌, arith}
 use Rattle.std.proofs.lemmas.List.{append-nil, take-append-drop}
-use Rattle.spx_text.specs.declared.place.Place.{Place}
-use Rattle.spx_tree.specs.declared.statement.Closing.{Closing}
-use Rattle.spx_core.specs.declared.expression.CoreExpr.{CoreExpr}
 use Rattle.spx_core.specs.declared.program.Program.{Program}
-use Rattle.spx_core.specs.declared.statement.CoreScheme.{CoreScheme}
-use Rattle.spx_core.specs.declared.statement.CoreScheme.TheVariants as scheme
+use Rattle.spx_core.specs.declared.statement.CoreCount.{CoreCount}
 use Rattle.spx_core.specs.declared.statement.CoreStmt.{CoreStmt}
-use Rattle.spx_core.specs.declared.statement.CoreStmt.TheVariants as stmt
 use Rattle.spx_core.specs.declared.subprogram.Sub.{Sub}
-use Rattle.spx_core.specs.Commands.{Command, Skip, Repeat, Tested, command, commands, has_own_cut, loop_of}
-use Rattle.spx_core.proofs.Callers.CommandForms.{command-While}
+use Rattle.spx_core.specs.Commands.{Command, Head, Repeat, command, commands, has_own_cut}
 use Rattle.spx_term.specs.declared.path.PathStep.{PathStep}
 use Rattle.spx_term.specs.declared.term.Term.TheVariants as term
 use Rattle.spx_term.specs.Paths.{branches}
 use Rattle.spx_term.specs.Steps.{Tree, Cut}
 use Rattle.spx_paths.specs.declared.beginning.Beginning.{Beginning}
+use Rattle.spx_paths.specs.declared.beginning.Beginning.TheVariants.{GoesOn, Ended}
 use Rattle.spx_paths.specs.declared.count.Counts.{Counts}
 use Rattle.spx_paths.specs.Counts.{capped, CountsBack, CutAt}
-use Rattle.spx_paths.specs.Prefixes.{Arrive, ArriveAtCut, ArriveEach, BeginBody, BeginIn, BeginLoop, Splits, Walked, after_beginning, after_each, all_branches}
-use Rattle.spx_paths.specs.Walks.{arrivals, as_far_as_cut, cut_arrivals, cuts, from_cut, loop_cut, walk}
+use Rattle.spx_paths.specs.Heads.{EndTurn, EndTurnEach, EndTurnFrom}
+use Rattle.spx_paths.specs.Prefixes.{Arrive, BeginBody, BeginIn, BeginLoop, Walked, after, after_beginning, after_each, all_branches}
+use Rattle.spx_paths.specs.Walks.{arrivals, cut_arrivals, cuts, end_of_turn, from_cut, inside, leaving, loop_cut, may_be_passed, turn_arrivals, walk}
 use Rattle.spx_paths.proofs.ArriveLaws.{all_paths}
 use Rattle.spx_paths.proofs.CutLaws.{both}
-use Rattle.spx_paths.proofs.PrefixLaws.{each_more, each_none, each_single}
-
--- each scheme is a `while`
-pub is_while : (x : CoreScheme) → (place : Place) × (condition : CoreExpr) × (x ≡ scheme.While place condition)
-is_while (scheme.While place condition) = (place, condition, refl)
-
--- a loop as a command, whatever its scheme
-pub command_loop : (s : CoreStmt) (x : CoreScheme) (word : Place) (body : List CoreStmt) (closing : Closing) → s ≡ stmt.Loop x word body closing → command s ≡ loop_of x (commands body)
-command_loop s (scheme.While place condition) word body closing is = command-While s (scheme.While place condition) word body closing place condition is refl
+use Rattle.spx_paths.proofs.PrefixLaws.{all_of, each_more, each_none, each_single, on_from}
 
 -- ---- walks
 
@@ -43,42 +31,58 @@ one_more_ends before beginning end ended all rest so_far ends is =
     ∙ sym (each_more ended (end ∷ []) rest)
     ∙ ap (λ paths. after_each paths rest) (sym is)
 
--- the body as far as its cut, and the path that goes on where the condition is false
-pub while_arrives : (p : Program) (sub : Sub) (place : Place) (condition : CoreExpr) (body : Command) (old new taken : List PathStep) (found more all : List Beginning) → Splits p condition old new taken → ArriveAtCut p sub body taken found → Arrive p sub Skip new more → all ≡ found ++ more
-    → Arrive p sub (Repeat (Tested place condition) body) old all
-while_arrives p sub place condition body old new taken found more all splits arrives goes is = λ rest leave made.
-    splits (as_far_as_cut (has_own_cut body) (walk p sub body (λ m. Cut) rest) made) (rest made)
-    ∙ ap₂ (λ (x y : List (List PathStep)). x ++ y) (arrives rest made) (goes rest leave made)
-    ∙ sym (each_more found more (rest made))
-    ∙ ap (λ paths. after_each paths (rest made)) (sym is)
-
 -- ---- cuts
 
--- a body that has its own cut
-pub own_cut_begins : (p : Program) (sub : Sub) (body : Command) (found : List Beginning) → has_own_cut body ≡ true → found ≡ [] → BeginBody p sub body found
-own_cut_begins p sub body found own is = λ rest leave. ap (λ b. all_branches (loop_cut p sub [] b (walk p sub body rest leave 0))) own ∙ sym (ap (λ xs. after_each xs (rest 0)) is ∙ each_none (rest 0))
+module _ (p : Program) (sub : Sub) (within : List CoreCount) where
+  -- a body that has its own cut
+  pub own_cut_begins : (body : Command) (found : List Beginning) → has_own_cut body ≡ true → found ≡ [] → BeginBody p sub within body found
+  own_cut_begins body found own is = λ rest leave. ap (λ b. all_branches (loop_cut p sub within b (walk p sub body rest leave 0))) own ∙ sym (ap (λ xs. after_each xs (rest 0)) is ∙ each_none (rest 0))
 
--- one that has none
-pub no_cut_begins : (p : Program) (sub : Sub) (body : Command) (steps : List PathStep) (found : List Beginning) → has_own_cut body ≡ false → Walked [] steps (from_cut p sub [] (term.Truth true ∷ [])) → Arrive p sub body steps found → BeginBody p sub body found
-no_cut_begins p sub body steps found none walked arrives = λ rest leave.
-    let tree = walk p sub body rest leave 0 in
-    ap (λ b. all_branches (loop_cut p sub [] b tree)) none
-    ∙ append-nil (branches (from_cut p sub [] (term.Truth true ∷ []) tree))
-    ∙ sym (all_paths (from_cut p sub [] (term.Truth true ∷ []) tree))
-    ∙ walked tree
-    ∙ arrives rest leave 0
+  -- one that has none
+  pub no_cut_begins : (body : Command) (steps : List PathStep) (found : List Beginning) → has_own_cut body ≡ false → Walked [] steps (from_cut p sub within (term.Truth true ∷ [])) → Arrive p sub body steps found → BeginBody p sub within body found
+  no_cut_begins body steps found none walked arrives = λ rest leave.
+      let tree = walk p sub body rest leave 0 in
+      ap (λ b. all_branches (loop_cut p sub within b tree)) none
+      ∙ append-nil (branches (from_cut p sub within (term.Truth true ∷ []) tree))
+      ∙ sym (all_paths (from_cut p sub within (term.Truth true ∷ []) tree))
+      ∙ walked tree
+      ∙ arrives rest leave 0
 
--- the cut before the body, and those in it
-pub loop_begins : (p : Program) (sub : Sub) (body : Command) (found more all : List Beginning) → BeginBody p sub body found → BeginIn p sub body more → all ≡ found ++ more → BeginLoop p sub body all
-loop_begins p sub body found more all one two is = λ rest leave.
-    both (loop_cut p sub [] (has_own_cut body) (walk p sub body rest leave 0)) (cuts p sub [] body rest leave)
-    ∙ ap₂ (λ (x y : List (List PathStep)). x ++ y) (one rest leave) (two rest leave)
-    ∙ sym (each_more found more (rest 0))
-    ∙ ap (λ paths. after_each paths (rest 0)) (sym is)
+  -- the cut before the body, and those in it
+  pub loop_begins : (body : Command) (found more all : List Beginning) → BeginBody p sub within body found → BeginIn p sub within body more → all ≡ found ++ more → BeginLoop p sub within body all
+  loop_begins body found more all one two is = λ rest leave.
+      both (loop_cut p sub within (has_own_cut body) (walk p sub body rest leave 0)) (cuts p sub within body rest leave)
+      ∙ ap₂ (λ (x y : List (List PathStep)). x ++ y) (one rest leave) (two rest leave)
+      ∙ sym (each_more found more (rest 0))
+      ∙ ap (λ paths. after_each paths (rest 0)) (sym is)
 
--- at the end of the body its paths come to the head again
-pub while_begins : (p : Program) (sub : Sub) (place : Place) (condition : CoreExpr) (body : Command) (found all : List Beginning) → BeginLoop p sub body found → ArriveEach p sub (Repeat (Tested place condition) body) found all → BeginIn p sub (Repeat (Tested place condition) body) all
-while_begins p sub place condition body found all begins arrives = λ rest leave. begins (walk p sub (Repeat (Tested place condition) body) rest leave) rest ∙ arrives rest leave 0
+  -- they go on from the end of the body
+  pub repeat_begins : (head : Head) (body : Command) (found all : List Beginning) → BeginLoop p sub (inside within head) body found → EndTurnEach p sub head body found all → BeginIn p sub within (Repeat head body) all
+  repeat_begins head body found all begins ends = λ rest leave. begins (end_of_turn p sub head body rest) (leaving p head rest) ∙ ends rest 0
+
+-- ---- the ends of turns
+
+-- a path that goes on
+pub end_from_on : (p : Program) (sub : Sub) (head : Head) (body : Command) (beginning : Beginning) (steps : List PathStep) (found : List Beginning) → beginning ≡ GoesOn steps → EndTurn p sub head body steps found → EndTurnFrom p sub head body beginning found
+end_from_on p sub head body beginning steps found is ends = λ rest made.
+    let tree = end_of_turn p sub head body rest made in
+    ap (λ b. after_beginning b tree) is ∙ on_from steps tree ∙ ends rest made
+
+-- one that has ended
+pub end_from_ended : (p : Program) (sub : Sub) (head : Head) (body : Command) (beginning : Beginning) (steps : List PathStep) (found : List Beginning) → beginning ≡ Ended steps → ((rest : Tree) → after steps Cut ≡ after_each found rest) → EndTurnFrom p sub head body beginning found
+end_from_ended p sub head body beginning steps found is ended = λ rest made.
+    let tree = end_of_turn p sub head body rest made in
+    ap (λ b. after_beginning b tree) is ∙ all_of steps tree ∙ ended (rest made)
+
+-- one path more
+pub end_each_more : (p : Program) (sub : Sub) (head : Head) (body : Command) (before : List Beginning) (beginning : Beginning) (found more all : List Beginning) → EndTurnEach p sub head body before found → EndTurnFrom p sub head body beginning more → all ≡ found ++ more
+    → EndTurnEach p sub head body (before ++ beginning ∷ []) all
+end_each_more p sub head body before beginning found more all one two is = λ rest made.
+    let tree = end_of_turn p sub head body rest made in
+    each_more before (beginning ∷ []) tree
+    ∙ ap₂ (λ (x y : List (List PathStep)). x ++ y) (one rest made) (each_single beginning tree ∙ two rest made)
+    ∙ sym (each_more found more (rest made))
+    ∙ ap (λ paths. after_each paths (rest made)) (sym is)
 
 -- ---- counts
 
@@ -95,41 +99,52 @@ cut_arrivals_both (stmt ∷ stmts) others rest leave =
     let later = cut_arrivals_both stmts others rest leave in
     omega (arith, here, later)
 
-module _ (place : Place) (condition : CoreExpr) (stmts : List CoreStmt) (after before from_cuts : ℕ) where
+module _ (head : Head) (stmts : List CoreStmt) (after past : ℕ) (is_past : past ≡ (if may_be_passed head then after else 0)) where
   abbrev loop : Command
-  loop = Repeat (Tested place condition) (commands stmts)
+  loop = Repeat head (commands stmts)
+
+  past_is : (b : Bool) (rest : ℕ) → after ≡ capped rest → past ≡ (if b then after else 0) → past ≡ capped (if b then rest else 0)
+  past_is true rest is e = e ∙ is
+  past_is false rest is e = omega (arith, e)
 
   -- the body as far as its own cut, and from there on
-  pub counts_own_cut : (i : ℕ) (first others : List CoreStmt) (entered turn : Counts) → CutAt stmts i → first ≡ take i stmts → others ≡ drop i stmts → CountsBack (commands first) 1 entered → before ≡ capped (entered.before + after) → CountsBack (commands others) before turn
-      → from_cuts ≡ capped (entered.from_cuts + turn.from_cuts) → CountsBack loop after (record { before = before; from_cuts = from_cuts })
-  counts_own_cut i first others entered turn cut is_first are_others enters sum turns from_sum = λ rest leave is.
-      let n = arrivals loop rest leave in
+  pub counts_own_cut : (i : ℕ) (first others : List CoreStmt) (entered turn : Counts) (before next from_cuts : ℕ) → CutAt stmts i → first ≡ take i stmts → others ≡ drop i stmts → CountsBack (commands first) 1 entered → next ≡ capped (entered.before + after) → CountsBack (commands others) next turn
+      → before ≡ capped (entered.before + past) → from_cuts ≡ capped (entered.from_cuts + turn.from_cuts) → CountsBack loop after (record { before = before; from_cuts = from_cuts })
+  counts_own_cut i first others entered turn before next from_cuts cut is_first are_others enters next_sum turns sum from_sum = λ rest leave is.
+      let n = turn_arrivals (commands stmts) rest in
+      let passed : ℕ = if may_be_passed head then rest else 0 in
       let whole : stmts ≡ first ++ others = sym (ap₂ (λ (x y : List CoreStmt). x ++ y) is_first are_others ∙ take-append-drop i stmts) in
       let ends : (r : ℕ) → arrivals (commands others) r rest ≡ 1 = λ r. ap (λ xs. arrivals (commands xs) r rest) are_others ∙ cut.ends r rest in
       let one = enters 1 rest refl in
       let body : arrivals (commands stmts) 1 rest ≡ arrivals (commands first) 1 rest = ap (λ xs. arrivals (commands xs) 1 rest) whole ∙ arrivals_both first others 1 rest ∙ ap (λ m. arrivals (commands first) m rest) (ends 1) in
-      let head : n ≡ arrivals (commands first) 1 rest + rest = ap (λ b. (if b then arrivals (commands stmts) 1 rest else 1) + rest) cut.own ∙ ap (λ m. m + rest) body in
-      let begins : before ≡ capped n = omega (arith, one.before) in
-      let two = turns n rest begins in
+      let enter : (if has_own_cut (commands stmts) then arrivals (commands stmts) 1 rest else 1) ≡ arrivals (commands first) 1 rest = ap (λ b. if b then arrivals (commands stmts) 1 rest else 1) cut.own ∙ body in
+      let goes_on : n ≡ arrivals (commands first) 1 rest + rest = ap (λ m. m + rest) enter in
+      let two = turns n rest (omega (arith, one.before, goes_on, next_sum, is)) in
       let inside : cut_arrivals loop rest leave ≡ cut_arrivals (commands first) 1 rest + cut_arrivals (commands others) n rest
       = ap (λ b. (if b then 0 else arrivals (commands stmts) n rest) + cut_arrivals (commands stmts) n rest) cut.own
       ∙ zero-add _
       ∙ ap (λ xs. cut_arrivals (commands xs) n rest) whole
       ∙ cut_arrivals_both first others n rest
-      ∙ ap (λ m. cut_arrivals (commands first) m rest + cut_arrivals (commands others) n rest) (ends n) in record {
-        before = begins;
-        from_cuts = omega (arith, one.from_cuts, two.from_cuts);
+      ∙ ap (λ m. cut_arrivals (commands first) m rest + cut_arrivals (commands others) n rest) (ends n) in
+      let starts : arrivals loop rest leave ≡ arrivals (commands first) 1 rest + passed = ap (λ m. m + passed) enter in
+      let gone : past ≡ capped passed = past_is (may_be_passed head) rest is is_past in record {
+        before = omega (arith, one.before, starts, gone, sum);
+        from_cuts = omega (arith, one.from_cuts, two.from_cuts, inside, from_sum);
       }
 
--- ---- statements
-
-pub loop_counts : (s : CoreStmt) (x : CoreScheme) (word : Place) (body : List CoreStmt) (closing : Closing) (after : ℕ) (counts : Counts) → s ≡ stmt.Loop x word body closing → ((place : Place) (condition : CoreExpr) → CountsBack (Repeat (Tested place condition) (commands body)) after counts)
-    → CountsBack (command s) after counts
-loop_counts s (scheme.While place condition) word body closing after counts is counted =
-    subst (λ (c : Command). CountsBack c after counts) (sym (command_loop s (scheme.While place condition) word body closing is)) (counted place condition)
-
-pub loop_stmt_begins : (p : Program) (sub : Sub) (s : CoreStmt) (x : CoreScheme) (word : Place) (body : List CoreStmt) (closing : Closing) (found all : List Beginning) → s ≡ stmt.Loop x word body closing → BeginLoop p sub (commands body) found → ArriveEach p sub (command s) found all
-    → BeginIn p sub (command s) all
-loop_stmt_begins p sub s (scheme.While place condition) word body closing found all is begins arrives =
-    let same = command_loop s (scheme.While place condition) word body closing is in
-    subst (λ (c : Command). BeginIn p sub c all) (sym same) (while_begins p sub place condition (commands body) found all begins (subst (λ (c : Command). ArriveEach p sub c found all) same arrives))
+  -- the body from the cut before it on
+  pub counts_no_cut : (turn : Counts) (before next from_cuts : ℕ) → has_own_cut (commands stmts) ≡ false → next ≡ capped (1 + after) → CountsBack (commands stmts) next turn → before ≡ capped (1 + past) → from_cuts ≡ capped (turn.before + turn.from_cuts)
+      → CountsBack loop after (record { before = before; from_cuts = from_cuts })
+  counts_no_cut turn before next from_cuts none next_sum turns sum from_sum = λ rest leave is.
+      let n = turn_arrivals (commands stmts) rest in
+      let passed : ℕ = if may_be_passed head then rest else 0 in
+      let enter : (if has_own_cut (commands stmts) then arrivals (commands stmts) 1 rest else 1) ≡ 1 = ap (λ b. if b then arrivals (commands stmts) 1 rest else 1) none in
+      let goes_on : n ≡ 1 + rest = ap (λ m. m + rest) enter in
+      let two = turns n rest (omega (arith, goes_on, next_sum, is)) in
+      let inside : cut_arrivals loop rest leave ≡ arrivals (commands stmts) n rest + cut_arrivals (commands stmts) n rest
+      = ap (λ b. (if b then 0 else arrivals (commands stmts) n rest) + cut_arrivals (commands stmts) n rest) none in
+      let starts : arrivals loop rest leave ≡ 1 + passed = ap (λ m. m + passed) enter in
+      let gone : past ≡ capped passed = past_is (may_be_passed head) rest is is_past in record {
+        before = omega (arith, starts, gone, sum);
+        from_cuts = omega (arith, two.before, two.from_cuts, inside, from_sum);
+      }

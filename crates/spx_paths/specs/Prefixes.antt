@@ -7,6 +7,7 @@ use Rattle.spx_core.specs.declared.expression.CoreExpr.{CoreExpr}
 use Rattle.spx_core.specs.declared.statement.CoreAlternative.{CoreAlternative}
 use Rattle.spx_core.specs.declared.statement.CoreArm.{CoreArm}
 use Rattle.spx_core.specs.declared.statement.CoreChoice.{CoreChoice}
+use Rattle.spx_core.specs.declared.statement.CoreCount.{CoreCount}
 use Rattle.spx_core.specs.Formals.{formals, locals}
 use Rattle.spx_core.specs.Commands.{Command, alternative, arm_before, arms_before, has_own_cut}
 use Rattle.spx_term.specs.declared.path.PathStep.{PathStep}
@@ -96,43 +97,44 @@ abbrev pub ArriveAlternatives : Program → Sub → Term → List CoreAlternativ
 ArriveAlternatives p sub t alternatives steps found =
     (rest leave : ℕ → Tree) (made : ℕ) → after_alternatives p sub t [] (map alternative alternatives) steps rest leave made ≡ after_each found (rest made)
 
--- the body of a loop was walked as far as its cut: each of these paths has ended
+-- the body of a loop was walked as far as its cut: each of these paths has ended, whatever would come next
 abbrev pub ArriveAtCut : Program → Sub → Command → List PathStep → List Beginning → Type 0
-ArriveAtCut p sub body steps found = (rest : ℕ → Tree) (made : ℕ) → after steps (as_far_as_cut (has_own_cut body) (walk p sub body (λ m. Cut) rest) made) ≡ after_each found (rest made)
+ArriveAtCut p sub body steps found = (leave : ℕ → Tree) (made : ℕ) (next : Tree) → after steps (as_far_as_cut (has_own_cut body) (walk p sub body (λ m. Cut) leave) made) ≡ after_each found next
 
--- ---- from cuts
+-- ---- from cuts, inside these loops that count, the outermost first
 
 -- the paths of several trees
 abbrev pub all_branches : List Tree → List (List PathStep)
 all_branches = flat_map branches
 
 -- these are the paths from the cuts in a command as far as what stands after it
-abbrev pub BeginIn : Program → Sub → Command → List Beginning → Type 0
-BeginIn p sub c found = (rest leave : ℕ → Tree) → all_branches (cuts p sub [] c rest leave) ≡ after_each found (rest 0)
+abbrev pub BeginIn : Program → Sub → List CoreCount → Command → List Beginning → Type 0
+BeginIn p sub within c found = (rest leave : ℕ → Tree) → all_branches (cuts p sub within c rest leave) ≡ after_each found (rest 0)
 
 -- these are the paths from the cuts in arms as far as a part of them, if what stands last is given
-abbrev pub BeginBefore : Program → Sub → (whole part : Command → Command) → List Beginning → Type 0
-BeginBefore p sub whole part found =
-    (last : Command) (rest leave : ℕ → Tree) → all_branches (cuts p sub [] (whole last) rest leave) ≡ after_each found (rest 0) ++ all_branches (cuts p sub [] (part last) rest leave)
+abbrev pub BeginBefore : Program → Sub → List CoreCount → (whole part : Command → Command) → List Beginning → Type 0
+BeginBefore p sub within whole part found =
+    (last : Command) (rest leave : ℕ → Tree) → all_branches (cuts p sub within (whole last) rest leave) ≡ after_each found (rest 0) ++ all_branches (cuts p sub within (part last) rest leave)
 
-abbrev pub BeginArms : Program → Sub → List CoreArm → List Beginning → Type 0
-BeginArms p sub arms found = BeginBefore p sub (with_arms arms) (λ last. last) found
+abbrev pub BeginArms : Program → Sub → List CoreCount → List CoreArm → List Beginning → Type 0
+BeginArms p sub within arms found = BeginBefore p sub within (with_arms arms) (λ last. last) found
 
 -- the paths from the cuts in alternatives, one after the other
-abbrev pub cut_alternatives : Program → Sub → List (Option (List CoreChoice) × Command) → (rest leave : ℕ → Tree) → List (List PathStep)
-cut_alternatives p sub [] rest leave = []
-cut_alternatives p sub (first ∷ others) rest leave = all_branches (cuts p sub [] first.1 rest leave) ++ cut_alternatives p sub others rest leave
+abbrev pub cut_alternatives : Program → Sub → List CoreCount → List (Option (List CoreChoice) × Command) → (rest leave : ℕ → Tree) → List (List PathStep)
+cut_alternatives p sub within [] rest leave = []
+cut_alternatives p sub within (first ∷ others) rest leave = all_branches (cuts p sub within first.1 rest leave) ++ cut_alternatives p sub within others rest leave
 
-abbrev pub BeginAlternatives : Program → Sub → List (Option (List CoreChoice) × Command) → List Beginning → Type 0
-BeginAlternatives p sub alternatives found = (rest leave : ℕ → Tree) → cut_alternatives p sub alternatives rest leave ≡ after_each found (rest 0)
+abbrev pub BeginAlternatives : Program → Sub → List CoreCount → List (Option (List CoreChoice) × Command) → List Beginning → Type 0
+BeginAlternatives p sub within alternatives found = (rest leave : ℕ → Tree) → cut_alternatives p sub within alternatives rest leave ≡ after_each found (rest 0)
 
 -- these are the paths from the cut before the body of a loop, where it has none of its own, as far as the end of the body
-abbrev pub BeginBody : Program → Sub → Command → List Beginning → Type 0
-BeginBody p sub body found = (rest leave : ℕ → Tree) → all_branches (loop_cut p sub [] (has_own_cut body) (walk p sub body rest leave 0)) ≡ after_each found (rest 0)
+abbrev pub BeginBody : Program → Sub → List CoreCount → Command → List Beginning → Type 0
+BeginBody p sub within body found = (rest leave : ℕ → Tree) → all_branches (loop_cut p sub within (has_own_cut body) (walk p sub body rest leave 0)) ≡ after_each found (rest 0)
 
 -- these are the paths from all cuts in a loop as far as the end of its body
-abbrev pub BeginLoop : Program → Sub → Command → List Beginning → Type 0
-BeginLoop p sub body found = (rest leave : ℕ → Tree) → all_branches (loop_cut p sub [] (has_own_cut body) (walk p sub body rest leave 0) ++ cuts p sub [] body rest leave) ≡ after_each found (rest 0)
+abbrev pub BeginLoop : Program → Sub → List CoreCount → Command → List Beginning → Type 0
+BeginLoop p sub within body found =
+    (rest leave : ℕ → Tree) → all_branches (loop_cut p sub within (has_own_cut body) (walk p sub body rest leave 0) ++ cuts p sub within body rest leave) ≡ after_each found (rest 0)
 
 -- the operator of a conjunction
 abbrev pub is_and : TermOp → Bool

@@ -7,7 +7,8 @@ use Rattle.spx_core.specs.declared.subprogram.CorePredicate.{CorePredicate}
 use Rattle.spx_core.specs.declared.subprogram.Sub.{Sub}
 use Rattle.spx_tree.specs.declared.statement.AssertionKind.{AssertionKind}
 use Rattle.spx_tree.specs.declared.statement.AssertionKind.TheVariants as assertion
-use Rattle.spx_core.specs.Commands.{Command, Skip, Set, Then, Choose, Select, Count, Head, Assertion, Repeat, Tested, Counted, Alternatives, Last, When, commands, has_own_cut, is_cut}
+use Rattle.spx_core.specs.declared.statement.CoreCount.{CoreCount}
+use Rattle.spx_core.specs.Commands.{Command, Skip, Set, Then, Choose, Select, Head, Assertion, Repeat, Tested, Counted, Alternatives, Last, When, commands, has_own_cut, is_cut}
 use Rattle.spx_text.specs.declared.place.Place.{Place}
 use Rattle.spx_core.specs.Places.{place_of}
 use Rattle.spx_core.specs.Dependency.{exports, imports}
@@ -87,14 +88,14 @@ is_fixed sub e = list_all (λ (r : Read). keeps_value sub r.1) (reads_of e)
 abbrev pub bound_term : Program → Sub → Name → CoreExpr → Term
 bound_term p sub name e = if is_fixed sub e then term_of p (now_term p) e else term.Variable name
 
-abbrev pub low_term : Program → Sub → Count → Term
+abbrev pub low_term : Program → Sub → CoreCount → Term
 low_term p sub c = low_in c.bounds
   where
     low_in : Option CoreRange → Term
     low_in None = term.Number (type_of p c.parameter).first
     low_in (Some range) = bound_term p sub (first_name c.parameter) range.low
 
-abbrev pub high_term : Program → Sub → Count → Term
+abbrev pub high_term : Program → Sub → CoreCount → Term
 high_term p sub c = high_in c.bounds
   where
     high_in : Option CoreRange → Term
@@ -106,17 +107,17 @@ abbrev pub naming : Program → Sub → Name → CoreExpr → Tree → Tree
 naming p sub name e rest = if is_fixed sub e then rest else Assign name (term_of p (now_term p) e) rest
 
 -- where a loop begins and where it ends
-abbrev pub start_term : Program → Sub → Count → Term
+abbrev pub start_term : Program → Sub → CoreCount → Term
 start_term p sub c = if c.is_reverse then high_term p sub c else low_term p sub c
 
-abbrev pub end_term : Program → Sub → Count → Term
+abbrev pub end_term : Program → Sub → CoreCount → Term
 end_term p sub c = if c.is_reverse then low_term p sub c else high_term p sub c
 
 -- the parameter has not come to the end, and its next value
-abbrev pub before_end : Program → Sub → Count → Term
+abbrev pub before_end : Program → Sub → CoreCount → Term
 before_end p sub c = term.Infix (if c.is_reverse then operator.Greater else operator.Less) (now_term p c.parameter) (end_term p sub c)
 
-abbrev pub next_term : Program → Count → Term
+abbrev pub next_term : Program → CoreCount → Term
 next_term p c = term.Infix (if c.is_reverse then operator.Subtract else operator.Add) (now_term p c.parameter) (term.Number (pos 1))
 
 -- both bounds lie in the type where there is a value between them
@@ -126,10 +127,10 @@ range_goal subtype low high =
     (term.Infix operator.And (term.Infix operator.GreaterOrEqual low (term.Number subtype.first)) (term.Infix operator.LessOrEqual high (term.Number subtype.last)))
 
 -- after the loop the parameter is unset, and counts as the first value of its type
-abbrev pub past_loop : Program → Count → (ℕ → Tree) → ℕ → Tree
+abbrev pub past_loop : Program → CoreCount → (ℕ → Tree) → ℕ → Tree
 past_loop p c rest made = Assign (now p c.parameter) (term.Number (type_of p c.parameter).first) (rest made)
 
-abbrev pub enter_range : Program → Sub → Count → Option CoreRange → (into out : ℕ → Tree) → ℕ → Tree
+abbrev pub enter_range : Program → Sub → CoreCount → Option CoreRange → (into out : ℕ → Tree) → ℕ → Tree
 enter_range p sub c None into out made = Assign (now p c.parameter) (start_term p sub c) (into made)
 enter_range p sub c (Some range) into out made =
     let low = low_term p sub c in
@@ -296,39 +297,39 @@ pre_facts_on_entry p sub None = []
 pre_facts_on_entry p sub (Some pre) = conjuncts (term_with (entry_term p sub) (entry_term p sub) pre.condition)
 
 -- the parameter of a loop lies in its type and between its bounds
-abbrev pub count_facts : Program → Sub → Count → List Term
+abbrev pub count_facts : Program → Sub → CoreCount → List Term
 count_facts p sub c =
     in_type (type_of p c.parameter) (now_term p c.parameter)
     ++ term.Infix operator.GreaterOrEqual (now_term p c.parameter) (low_term p sub c) ∷ term.Infix operator.LessOrEqual (now_term p c.parameter) (high_term p sub c) ∷ []
 
 -- what is known after each cut inside these loops, the outermost first
-abbrev pub cut_facts : Program → Sub → List Count → List Term
+abbrev pub cut_facts : Program → Sub → List CoreCount → List Term
 cut_facts p sub within =
     flat_map (var_facts p) (formals sub)
     ++ (flat_map (var_facts p) (locals sub) ++ (flat_map (entry_facts p sub) (formals sub) ++ (flat_map (count_facts p sub) within ++ pre_facts_on_entry p sub sub.pre)))
 
 -- the steps from a cut on, where this is known too
-abbrev pub from_cut : Program → Sub → List Count → List Term → Tree → Tree
+abbrev pub from_cut : Program → Sub → List CoreCount → List Term → Tree → Tree
 from_cut p sub within known rest = assume_all (cut_facts p sub within ++ known) rest
 
 -- the cut before the body of a loop that has none of its own: nothing more is known there
-abbrev pub loop_cut : Program → Sub → List Count → Bool → Tree → List Tree
+abbrev pub loop_cut : Program → Sub → List CoreCount → Bool → Tree → List Tree
 loop_cut p sub within true rest = []
 loop_cut p sub within false rest = from_cut p sub within (term.Truth true ∷ []) rest ∷ []
 
 -- a tree from an `assert`, where it is known
-abbrev pub noted_cut : Program → Sub → List Count → AssertionKind → CoreExpr → Tree → List Tree
+abbrev pub noted_cut : Program → Sub → List CoreCount → AssertionKind → CoreExpr → Tree → List Tree
 noted_cut p sub within assertion.Assert condition rest = from_cut p sub within (conjuncts (term_of p (entry_term p sub) condition)) rest ∷ []
 noted_cut p sub within assertion.Check condition rest = []
 
 -- the loops that count around the body of a loop
-abbrev pub inside : List Count → Head → List Count
+abbrev pub inside : List CoreCount → Head → List CoreCount
 inside within (Tested place condition) = within
 inside within (Counted c) = within ++ c ∷ []
 
 -- A tree from each cut in a command, in the order of the text, along what follows it. It stands inside these loops that count.
 abbrev mutual
-  pub cuts : Program → Sub → List Count → Command → (rest leave : ℕ → Tree) → List Tree
+  pub cuts : Program → Sub → List CoreCount → Command → (rest leave : ℕ → Tree) → List Tree
   cuts p sub within Skip rest leave = []
   cuts p sub within (Set target e) rest leave = []
   cuts p sub within (Then a b) rest leave = cuts p sub within a (walk p sub b rest leave) leave ++ cuts p sub within b rest leave
@@ -339,7 +340,7 @@ abbrev mutual
       loop_cut p sub (inside within head) (has_own_cut body) (walk p sub body (end_of_turn p sub head body rest) (leaving p head rest) 0)
       ++ cuts p sub (inside within head) body (end_of_turn p sub head body rest) (leaving p head rest)
 
-  pub cuts_for : Program → Sub → List Count → Alternatives → (rest leave : ℕ → Tree) → List Tree
+  pub cuts_for : Program → Sub → List CoreCount → Alternatives → (rest leave : ℕ → Tree) → List Tree
   cuts_for p sub within (Last choices a) rest leave = cuts p sub within a rest leave
   cuts_for p sub within (When choices a more) rest leave = cuts p sub within a rest leave ++ cuts_for p sub within more rest leave
 

@@ -1,12 +1,13 @@
 // Counts of the paths of bodies, backward from the end.
-ghost use Rattle.std.specs.Prelude.{◌≡◌, ◌+◌, map};
+ghost use Rattle.std.specs.Prelude.{◌≡◌, ◌+◌, if◌then◌else◌, map};
 ghost use Rattle.spx_core.specs.declared.statement.CoreAlternative.{out-CoreAlternative};
 ghost use Rattle.spx_core.specs.declared.statement.CoreArm.{out-CoreArm};
 ghost use Rattle.spx_text.specs.declared.place.Place.{Place};
 ghost use Rattle.spx_core.specs.declared.expression.CoreExpr.{CoreExpr};
-ghost use Rattle.spx_core.specs.Commands.{Assertion, Repeat, Tested, alternative, arm_before, command, commands, is_assert};
+ghost use Rattle.spx_core.specs.Commands.{Assertion, alternative, arm_before, command, commands, head_of, is_assert, loop_of};
 ghost use Rattle.spx_paths.specs.Counts.{capped, AreCounts, CountsAlternatives, CountsArms, CountsBack, OwnCut};
 ghost use Rattle.spx_paths.specs.Limits.{has_many_paths};
+ghost use Rattle.spx_paths.specs.Walks.{may_be_passed};
 
 use crate::MOST_PATHS;
 use spx_core::{CoreAlternative, CoreArm, CoreScheme, CoreStmt, Sub, has_own_cut};
@@ -137,29 +138,41 @@ fn count_assertion(kind: AssertionKind, after: u32) -> Counts
     }
 }
 
+/// How many paths lead past the body of a loop, where there are so many after the loop.
+fn count_past(scheme: &CoreScheme, after: u32) -> u32
+    ensures { result ≡ (if may_be_passed (head_of scheme.now) then after else 0) }
+{
+    match scheme {
+        CoreScheme::While(_, _) => after,
+        CoreScheme::For(count) => match count.bounds {
+            None => 0,
+            Some(_) => after,
+        },
+    }
+}
+
 /// The counts of a loop over these statements, from how many paths there are after it.
 #[cycle(count)]
-fn count_while(body: &[CoreStmt], after: u32) -> Counts
-    ensures { (place : Place) (condition : CoreExpr) → CountsBack (Repeat (Tested place condition) (commands body.now)) after result }
+fn count_loop(body: &[CoreStmt], scheme: &CoreScheme, after: u32) -> Counts
+    ensures { CountsBack (loop_of scheme.now (commands body.now)) after result }
 {
+    let past = count_past(scheme, after);
     match own_cut(body) {
         None => {
             // The paths to the body end at the cut before it.
-            let before = capped_sum(1, after);
-            let turn = count_stmts(body, before);
+            let turn = count_stmts(body, capped_sum(1, after));
             Counts {
-                before,
+                before: capped_sum(1, past),
                 from_cuts: capped_sum(turn.before, turn.from_cuts),
             }
         }
         Some(cut) => {
-            // They end at the own cut, so that only what stands from there on comes to the head again.
+            // They end at the own cut, so that only what stands from there on comes to the end of the body.
             let (first, others) = body.split_at(cut);
             let entered = count_stmts(first, 1);
-            let before = capped_sum(entered.before, after);
-            let turn = count_stmts(others, before);
+            let turn = count_stmts(others, capped_sum(entered.before, after));
             Counts {
-                before,
+                before: capped_sum(entered.before, past),
                 from_cuts: capped_sum(entered.from_cuts, turn.from_cuts),
             }
         }
@@ -187,9 +200,7 @@ fn count_stmt(stmt: &CoreStmt, after: u32) -> Counts
             [] => without_cuts,
             alternatives => count_alternatives(alternatives, after),
         },
-        CoreStmt::Loop(scheme, _, body, _) => match scheme {
-            CoreScheme::While(_, _) => count_while(body.as_slice(), after),
-        },
+        CoreStmt::Loop(scheme, _, body, _) => count_loop(body.as_slice(), scheme, after),
     }
 }
 

@@ -5,7 +5,8 @@ ghost use Rattle.spx_core.specs.declared.statement.CoreAlternative.{out-CoreAlte
 ghost use Rattle.spx_core.specs.declared.program.Program.{Program};
 ghost use Rattle.spx_core.specs.declared.subprogram.Sub.{Sub};
 ghost use Rattle.spx_core.specs.Commands.{Assertion, Set, Skip, alternative, command, commands, loop_of, select};
-ghost use Rattle.spx_paths.specs.Prefixes.{after, after_beginning, after_each, Arrive, ArriveAlternatives, ArriveArm, ArriveArms, ArriveAtCut, ArriveEach, ArriveFrom, Passes, Splits, Walked};
+ghost use Rattle.spx_paths.specs.Heads.{ArriveTurn};
+ghost use Rattle.spx_paths.specs.Prefixes.{after, after_beginning, after_each, Arrive, ArriveAlternatives, ArriveArm, ArriveArms, ArriveAtCut, ArriveEach, ArriveFrom, Passes, Walked};
 ghost use Rattle.spx_paths.specs.Terms.{entry_term, term_of};
 ghost use Rattle.spx_paths.specs.Walks.{alternative_facts, asserted};
 ghost use Rattle.spx_term.specs.Steps.{Cut, Tree, assume_all};
@@ -14,12 +15,14 @@ use crate::beginning::Beginning;
 use crate::checks::check_expr;
 use crate::choices::{add_choices, assume_chosen};
 use crate::entered::Entered;
-use crate::steps::{assert_parts, assign, assume, assume_parts, copy_steps};
+use crate::heads::enter_loop;
+use crate::splits::split;
+use crate::steps::{assert_parts, assign, copy_steps};
 use crate::terms::term_of;
 use spx_core::{
     CoreAlternative, CoreArm, CoreExpr, CoreScheme, CoreStmt, Program, Reference, Sub, has_own_cut,
 };
-use spx_term::{CondKind, PathStep, Term, TermPrefix};
+use spx_term::{CondKind, PathStep, Term};
 use spx_text::Place;
 use spx_tree::AssertionKind;
 use sqlite_items::Items;
@@ -37,7 +40,7 @@ fn one(alloc: Global, steps: Items<PathStep>) -> Result<Vec<Beginning>, AllocErr
 
 /// The list of one path, which ends.
 #[tactic(auto, using(crate::proofs::PrefixLaws::each_ended))]
-fn one_ended(alloc: Global, steps: Items<PathStep>) -> Result<Vec<Beginning>, AllocError>
+pub(crate) fn one_ended(alloc: Global, steps: Items<PathStep>) -> Result<Vec<Beginning>, AllocError>
     ensures { IfOk result (λ found. (rest : Tree) → after steps Cut ≡ after_each found.items rest) }
 {
     let mut found = Vec::new(alloc);
@@ -162,25 +165,6 @@ fn walk_assertion(
             Ok(found)
         }
     }
-}
-
-/// Splits a path at a condition: the path goes on where it is false, and the result where it is true.
-#[tactic(auto, using(crate::proofs::PrefixLaws::step_laws))]
-fn split(
-    alloc: Global,
-    program: &Program,
-    steps: &mut Items<PathStep>,
-    condition: &CoreExpr,
-) -> Result<Items<PathStep>, AllocError>
-    ensures { IfOk result (λ taken. Splits program.now condition.now steps.old steps.new taken) }
-{
-    check_expr(alloc, program, steps, &[], condition)?;
-    let mut taken = copy_steps(alloc, steps.as_slice())?;
-    let holds = term_of(alloc, program, &Entered::Present, condition)?;
-    assume_parts(alloc, &mut taken, &holds)?;
-    let fails = Term::prefix(alloc, TermPrefix::Not, holds)?;
-    assume(steps, fails)?;
-    Ok(taken)
 }
 
 /// The path that goes on where the choices of an alternative have the value, after earlier ones.
@@ -363,7 +347,7 @@ fn walk_alternative(
     walk_stmts(alloc, program, sub, chosen.body.as_slice(), steps)
 }
 
-/// Walks a loop. The path goes on where its condition is false.
+/// Walks a loop. The path goes on where it is left.
 #[cycle(walk)]
 fn walk_loop(
     alloc: Global,
@@ -375,12 +359,28 @@ fn walk_loop(
 ) -> Result<Vec<Beginning>, AllocError>
     ensures { IfOk result (λ found. Arrive program.now sub.now (loop_of scheme.now (commands body.now)) steps found.items) }
 {
-    match scheme {
-        CoreScheme::While(_, condition) => {
-            let mut steps = steps;
-            let taken = split(alloc, program, &mut steps, condition)?;
-            let mut found = walk_to_cut(alloc, program, sub, body, taken)?;
-            found.append(&mut one(alloc, steps)?)?;
+    let turn = enter_loop(alloc, program, sub, scheme, steps)?;
+    let found = walk_turn(alloc, program, sub, body, turn.into, turn.past)?;
+    Ok(found)
+}
+
+/// Walks on from the head of a loop: into its body, and past the loop.
+#[cycle(walk)]
+pub(crate) fn walk_turn(
+    alloc: Global,
+    program: &Program,
+    sub: &Sub,
+    body: &[CoreStmt],
+    into: Items<PathStep>,
+    past: Option<Items<PathStep>>,
+) -> Result<Vec<Beginning>, AllocError>
+    ensures { IfOk result (λ found. ArriveTurn program.now sub.now (commands body.now) into past found.items) }
+{
+    let mut found = walk_to_cut(alloc, program, sub, body, into)?;
+    match past {
+        None => Ok(found),
+        Some(steps) => {
+            found.push(Beginning::GoesOn(steps))?;
             Ok(found)
         }
     }

@@ -1,6 +1,7 @@
 -- The subprograms of a program, one after another.
 use Rattle.std.proofs.Common.{◌≡◌, ℕ, ◌+◌, ◌<◌, List, [], ◌∷◌, ◌++◌, length, drop, get_or, refl, sym, ap, ◌∙◌, length-append, append_assoc}
 use Rattle.std.specs.List.{flat_map}
+use Rattle.spx_tree.specs.declared.subprogram.Subprogram.{Subprogram}
 use Rattle.spx_tree.specs.declared.subprogram.Unit.{Unit}
 use Rattle.spx_tree.specs.declared.subprogram.Unit.TheVariants as unit
 use Rattle.spx_core.specs.declared.name.Defining.{Defining}
@@ -51,10 +52,10 @@ unit_after library library' tables tables' subs subs' item rest name sub is_name
 
 -- one more subprogram
 pub unit_step : (units : List Unit) (i : ℕ) (library library' : Region) (tables tables' : Tables) (subs subs' all_subs : List Sub)
-    (all_vars : List Var) (all_types : List TypeRow) (item : Unit) (name : Defining) (sub : Sub)
-    → i < length units → item ≡ get_or units i item
-    → (name ≡ unit_name library (length subs) (subprogram_of item)) × (library' ≡ declaring library name)
-    → (sub ≡ resolved_sub name (counts_of tables) (subprogram_of item)) × (tables'.vars ≡ tables.vars ++ own_vars sub) × (tables'.types ≡ tables.types ++ own_types sub)
+    (all_vars : List Var) (all_types : List TypeRow) (item : Unit) (s : Subprogram) (name : Defining) (sub : Sub)
+    → i < length units → item ≡ get_or units i item → s ≡ subprogram_of item
+    → (name ≡ unit_name library (length subs) s) × (library' ≡ declaring library name)
+    → (sub ≡ resolved_sub name (counts_of tables) s) × (tables'.vars ≡ tables.vars ++ own_vars sub) × (tables'.types ≡ tables.types ++ own_types sub)
     → subs' ≡ subs ++ sub ∷ []
     → (subs ++ resolved_subs library (length subs) (counts_of tables) (drop i units) ≡ all_subs)
     × (tables.vars ++ flat_map own_vars (resolved_subs library (length subs) (counts_of tables) (drop i units)) ≡ all_vars)
@@ -62,13 +63,14 @@ pub unit_step : (units : List Unit) (i : ℕ) (library library' : Region) (table
     → (subs' ++ resolved_subs library' (length subs') (counts_of tables') (drop (i + 1) units) ≡ all_subs)
     × (tables'.vars ++ flat_map own_vars (resolved_subs library' (length subs') (counts_of tables') (drop (i + 1) units)) ≡ all_vars)
     × (tables'.types ++ flat_map own_types (resolved_subs library' (length subs') (counts_of tables') (drop (i + 1) units)) ≡ all_types)
-unit_step units i library library' tables tables' subs subs' all_subs all_vars all_types item name sub h e
+unit_step units i library library' tables tables' subs subs' all_subs all_vars all_types item s name sub h e is
     (is_name, is_library) (is_sub, are_vars, are_types) are_subs (before_subs, before_vars, before_types) =
     let rest = drop (i + 1) units in
     let more = resolved_subs library' (length subs') (counts_of tables') rest in
     let next : resolved_subs library (length subs) (counts_of tables) (drop i units) ≡ sub ∷ more =
     ap (resolved_subs library (length subs) (counts_of tables)) (rest_at units i item h e)
-    ∙ unit_after library library' tables tables' subs subs' item rest name sub is_name is_library is_sub are_vars are_types are_subs in (
+    ∙ unit_after library library' tables tables' subs subs' item rest name sub (is_name ∙ ap (unit_name library (length subs)) is) is_library (is_sub ∙ ap (resolved_sub name (counts_of tables)) is)
+    are_vars are_types are_subs in (
       ap (λ s. s ++ more) are_subs ∙ append_assoc subs (sub ∷ []) more ∙ ap (λ s. subs ++ s) (sym next) ∙ before_subs,
       ap (λ v. v ++ flat_map own_vars more) are_vars ∙ append_assoc tables.vars (own_vars sub) (flat_map own_vars more)
           ∙ ap (λ s. tables.vars ++ flat_map own_vars s) (sym next) ∙ before_vars,

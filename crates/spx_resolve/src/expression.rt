@@ -6,7 +6,7 @@ ghost use Rattle.spx_scope.specs.Seen.{seen};
 
 use crate::changed::Changed;
 use spx_core::{CoreExpr, CoreFunction, CoreName, Reference, Step};
-use spx_scope::Scope;
+use spx_scope::{Region, Scope};
 use spx_tree::{Expr, Function, Identifier, Name};
 use sqlite_items::{Boxed, Items};
 use std::alloc::{AllocError, Global};
@@ -163,4 +163,16 @@ pub fn resolve_expr(alloc: Global, expr: &Expr, scope: &Scope<'_>) -> Result<Cor
 {
     let changed = Changed::by_items(alloc, &[])?;
     resolve_in(alloc, expr, &changed, scope)
+}
+
+/// An expression of code inside a region.
+pub fn resolve_inside(
+    alloc: Global,
+    expr: &Expr,
+    region: &Region,
+    outer: &Scope<'_>,
+) -> Result<CoreExpr, AllocError>
+    ensures { IfOk result (λ r. r ≡ resolved_expr (region.now ∷ seen outer.now) expr.now) }
+{
+    resolve_expr(alloc, expr, &Scope::inside(region, outer))
 }

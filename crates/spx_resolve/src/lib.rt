@@ -15,6 +15,7 @@ mod meaning;
 mod names;
 mod parts;
 mod resolution;
+mod schemes;
 mod statement;
 mod tables;
 mod types;

@@ -1,34 +1,45 @@
 // Statements and annotations.
-ghost use Rattle.std.specs.Prelude.{◌≡◌, [], IfOk, map, option_map};
-ghost use Rattle.spx_core.specs.Resolved.{exported_names, place_of_null, resolved_alternative, resolved_arm, resolved_derives, resolved_item, resolved_predicate, resolved_reference, resolved_scheme, resolved_stmt};
+ghost use Rattle.std.specs.Prelude.{◌≡◌, ◌∷◌, ◌++◌, [], IfOk, length, map, option_map};
+ghost use Rattle.std.specs.List.{flat_map};
+ghost use Rattle.spx_core.specs.declared.statement.CoreStmt.TheVariants as stmt;
+ghost use Rattle.spx_core.specs.Resolved.{exported_names, in_order, parameters_by, parameters_by_alternative, parameters_by_arm, parameters_by_stmts, place_of_null, resolved_alternative, resolved_arm, resolved_choice, resolved_derives, resolved_expr, resolved_in, resolved_item, resolved_predicate, resolved_reference, resolved_stmt, resolved_stmts, var_of};
 ghost use Rattle.spx_scope.specs.Seen.{seen};
 
 use crate::changed::Changed;
 use crate::choices::resolve_listed;
-use crate::expression::{resolve_expr, resolve_in, resolve_reference, resolve_references};
-use spx_core::{
-    CoreAlternative, CoreArm, CoreDerives, CoreDerivesItem, CorePredicate, CoreScheme, CoreStmt,
-    Reference,
+use crate::expression::{
+    resolve_expr, resolve_in, resolve_inside, resolve_reference, resolve_references,
 };
-use spx_scope::Scope;
+use crate::schemes::resolve_scheme;
+use spx_core::{
+    CoreAlternative, CoreArm, CoreChoice, CoreDerives, CoreDerivesItem, CorePredicate, CoreStmt,
+    Reference, Var,
+};
+use spx_scope::{Region, Scope};
 use spx_text::Place;
-use spx_tree::{Alternative, Arm, Derives, DerivesItem, Exports, Predicate, Scheme, Stmt};
+use spx_tree::{
+    Alternative, Arm, AssertionKind, Choice, Derives, DerivesItem, Exports, Expr, Name, Predicate,
+    Stmt,
+};
 use sqlite_items::Items;
 use std::alloc::{AllocError, Global};
 
-/// Statements.
+/// Statements in a region. What a loop declares there is taken back after it, and is a variable that comes after those
+/// before it.
 #[cycle(resolve_stmt)]
 pub fn resolve_stmts(
     alloc: Global,
     stmts: &[Stmt],
     changed: &Changed<'_>,
-    scope: &Scope<'_>,
+    region: &mut Region,
+    vars: &mut Items<Var>,
+    outer: &Scope<'_>,
 ) -> Result<Items<CoreStmt>, AllocError>
-    ensures { IfOk result (λ r. r ≡ map (resolved_stmt changed.now (seen scope.now)) stmts.now) }
+    ensures { IfOk result (λ r. ((r, length vars.new) ≡ resolved_stmts changed.now (seen outer.now) stmts.now region.old (length vars.old)) × (region.new ≡ region.old) × (vars.new ≡ vars.old ++ map var_of (parameters_by_stmts r))) }
 {
     let mut resolved = Items::new(alloc);
     for stmt in stmts {
-        resolved.push(resolve_stmt(alloc, stmt, changed, scope)?)?;
+        resolved.push(resolve_stmt(alloc, stmt, changed, region, vars, outer)?)?;
     }
     Ok(resolved)
 }
@@ -38,15 +49,17 @@ fn resolve_arms(
     alloc: Global,
     arms: &[Arm],
     changed: &Changed<'_>,
-    scope: &Scope<'_>,
+    region: &mut Region,
+    vars: &mut Items<Var>,
+    outer: &Scope<'_>,
 ) -> Result<Items<CoreArm>, AllocError>
-    ensures { IfOk result (λ r. r ≡ map (resolved_arm changed.now (seen scope.now)) arms.now) }
+    ensures { IfOk result (λ r. ((r, length vars.new) ≡ in_order (map (resolved_arm changed.now (seen outer.now)) arms.now) region.old (length vars.old)) × (region.new ≡ region.old) × (vars.new ≡ vars.old ++ map var_of (flat_map parameters_by_arm r))) }
 {
     let mut resolved = Items::new(alloc);
     for arm in arms {
         let place = arm.place;
-        let condition = resolve_expr(alloc, &arm.condition, scope)?;
-        let body = resolve_stmts(alloc, arm.body.as_slice(), changed, scope)?;
+        let condition = resolve_inside(alloc, &arm.condition, region, outer)?;
+        let body = resolve_stmts(alloc, arm.body.as_slice(), changed, region, vars, outer)?;
         resolved.push(CoreArm {
             place,
             condition,
@@ -56,37 +69,68 @@ fn resolve_arms(
     Ok(resolved)
 }
 
+/// The choices of an alternative, unless it is for `others`, inside a region.
+fn resolve_choices(
+    alloc: Global,
+    choices: &Option<Items<Choice>>,
+    region: &Region,
+    outer: &Scope<'_>,
+) -> Result<Option<Items<CoreChoice>>, AllocError>
+    ensures { IfOk result (λ r. r ≡ option_map (map (resolved_choice (region.now ∷ seen outer.now))) choices.now) }
+{
+    resolve_listed(alloc, choices, &Scope::inside(region, outer))
+}
+
 #[cycle(resolve_stmt)]
 fn resolve_alternatives(
     alloc: Global,
     alternatives: &[Alternative],
     changed: &Changed<'_>,
-    scope: &Scope<'_>,
+    region: &mut Region,
+    vars: &mut Items<Var>,
+    outer: &Scope<'_>,
 ) -> Result<Items<CoreAlternative>, AllocError>
-    ensures { IfOk result (λ r. r ≡ map (resolved_alternative changed.now (seen scope.now)) alternatives.now) }
+    ensures { IfOk result (λ r. ((r, length vars.new) ≡ in_order (map (resolved_alternative changed.now (seen outer.now)) alternatives.now) region.old (length vars.old)) × (region.new ≡ region.old) × (vars.new ≡ vars.old ++ map var_of (flat_map parameters_by_alternative r))) }
 {
     let mut resolved = Items::new(alloc);
     for alternative in alternatives {
-        let choices = resolve_listed(alloc, &alternative.choices, scope)?;
-        let body = resolve_stmts(alloc, alternative.body.as_slice(), changed, scope)?;
+        let choices = resolve_choices(alloc, &alternative.choices, region, outer)?;
+        let body = alternative.body.as_slice();
+        let body = resolve_stmts(alloc, body, changed, region, vars, outer)?;
         resolved.push(CoreAlternative { choices, body })?;
     }
     Ok(resolved)
 }
 
-fn resolve_scheme(
+fn resolve_assignment(
     alloc: Global,
-    scheme: &Scheme,
-    scope: &Scope<'_>,
-) -> Result<CoreScheme, AllocError>
-    ensures { IfOk result (λ r. r ≡ resolved_scheme (seen scope.now) scheme.now) }
+    target: &Name,
+    value: &Expr,
+    region: &Region,
+    outer: &Scope<'_>,
+) -> Result<CoreStmt, AllocError>
+    ensures { IfOk result (λ r. r ≡ stmt.Assignment (resolved_reference (region.now ∷ seen outer.now) target.now) (resolved_expr (region.now ∷ seen outer.now) value.now)) }
 {
-    match scheme {
-        Scheme::While(place, condition) => Ok(CoreScheme::While(
-            *place,
-            resolve_expr(alloc, condition, scope)?,
-        )),
-    }
+    let scope = Scope::inside(region, outer);
+    let target = resolve_reference(alloc, target, &scope)?;
+    let value = resolve_expr(alloc, value, &scope)?;
+    Ok(CoreStmt::Assignment(target, value))
+}
+
+fn resolve_assertion(
+    alloc: Global,
+    kind: AssertionKind,
+    place: Place,
+    condition: &Expr,
+    changed: &Changed<'_>,
+    region: &Region,
+    outer: &Scope<'_>,
+) -> Result<CoreStmt, AllocError>
+    ensures { IfOk result (λ r. r ≡ stmt.Assertion kind place (resolved_in changed.now (region.now ∷ seen outer.now) condition.now)) }
+{
+    let scope = Scope::inside(region, outer);
+    let condition = resolve_in(alloc, condition, changed, &scope)?;
+    Ok(CoreStmt::Assertion(kind, place, condition))
 }
 
 #[cycle(resolve_stmt)]
@@ -94,43 +138,47 @@ fn resolve_stmt(
     alloc: Global,
     stmt: &Stmt,
     changed: &Changed<'_>,
-    scope: &Scope<'_>,
+    region: &mut Region,
+    vars: &mut Items<Var>,
+    outer: &Scope<'_>,
 ) -> Result<CoreStmt, AllocError>
-    ensures { IfOk result (λ r. r ≡ resolved_stmt changed.now (seen scope.now) stmt.now) }
+    ensures { IfOk result (λ r. ((r, length vars.new) ≡ resolved_stmt changed.now (seen outer.now) stmt.now region.old (length vars.old)) × (region.new ≡ region.old) × (vars.new ≡ vars.old ++ map var_of (parameters_by r))) }
 {
     match stmt {
         Stmt::Null(place) => Ok(CoreStmt::Null(*place)),
         Stmt::Assignment(target, value) => {
-            let target = resolve_reference(alloc, target, scope)?;
-            Ok(CoreStmt::Assignment(target, resolve_expr(alloc, value, scope)?))
+            Ok(resolve_assignment(alloc, target, value, region, outer)?)
         }
-        Stmt::If(arms, None, closing) => {
-            let arms = resolve_arms(alloc, arms.as_slice(), changed, scope)?;
-            Ok(CoreStmt::If(arms, None, *closing))
-        }
-        Stmt::If(arms, Some(stmts), closing) => {
-            let arms = resolve_arms(alloc, arms.as_slice(), changed, scope)?;
-            let stmts = resolve_stmts(alloc, stmts.as_slice(), changed, scope)?;
+        Stmt::If(arms, otherwise, closing) => {
+            let arms = resolve_arms(alloc, arms.as_slice(), changed, region, vars, outer)?;
+            let Some(stmts) = otherwise else {
+                return Ok(CoreStmt::If(arms, None, *closing));
+            };
+            let stmts = resolve_stmts(alloc, stmts.as_slice(), changed, region, vars, outer)?;
             Ok(CoreStmt::If(arms, Some(stmts), *closing))
         }
         Stmt::Case(place, selector, alternatives, closing) => {
-            let selector = resolve_expr(alloc, selector, scope)?;
+            let selector = resolve_inside(alloc, selector, region, outer)?;
+            let alternatives = alternatives.as_slice();
             let alternatives = resolve_alternatives(
                 alloc,
-                alternatives.as_slice(),
+                alternatives,
                 changed,
-                scope,
+                region,
+                vars,
+                outer,
             )?;
             Ok(CoreStmt::Case(*place, selector, alternatives, *closing))
         }
         Stmt::Loop(scheme, word, body, closing) => {
-            let scheme = resolve_scheme(alloc, scheme, scope)?;
-            let body = resolve_stmts(alloc, body.as_slice(), changed, scope)?;
+            let count = region.len();
+            let scheme = resolve_scheme(alloc, scheme, region, vars, outer)?;
+            let body = resolve_stmts(alloc, body.as_slice(), changed, region, vars, outer)?;
+            region.truncate(count);
             Ok(CoreStmt::Loop(scheme, *word, body, *closing))
         }
         Stmt::Assertion(kind, place, condition) => {
-            let condition = resolve_in(alloc, condition, changed, scope)?;
-            Ok(CoreStmt::Assertion(*kind, *place, condition))
+            Ok(resolve_assertion(alloc, *kind, *place, condition, changed, region, outer)?)
         }
     }
 }

@@ -1,7 +1,7 @@
 // Subprograms and programs.
-ghost use Rattle.std.specs.Prelude.{◌≡◌, ◌∷◌, ◌++◌, ◌-◌, [], IfOk, length, map, option_map};
+ghost use Rattle.std.specs.Prelude.{◌≡◌, ◌∷◌, ◌++◌, ◌+◌, ◌-◌, [], IfOk, length, map, option_map};
 ghost use Rattle.std.specs.List.{flat_map, range_with_len};
-ghost use Rattle.spx_core.specs.Resolved.{around_body, declared_by_decls, declared_by_params, declaring, declaring_all, own_types, own_vars, params_of, resolved, resolved_decls, resolved_derives, resolved_formal_part, resolved_predicate, resolved_stmt, resolved_sub, resolved_subs, rows_by_decls, sub_at, var_of, variables_by_decls};
+ghost use Rattle.spx_core.specs.Resolved.{around_body, declared_by_decls, declared_by_params, declaring, declaring_all, own_types, own_vars, parameters_by_stmts, params_of, resolved, resolved_decls, resolved_derives, resolved_formal_part, resolved_predicate, resolved_stmts, resolved_sub, resolved_subs, rows_by_decls, sub_at, var_of, variables_by_decls};
 ghost use Rattle.spx_core.specs.Dependency.{items_of};
 ghost use Rattle.spx_scope.specs.Seen.{seen};
 ghost use Rattle.spx_resolve.specs.Counting.{counts_of};
@@ -18,7 +18,7 @@ use spx_core::{
     Program, Sub, SubId, Var, VarId,
 };
 use spx_scope::{Region, Scope, Standard};
-use spx_tree::{Identifier, Predicate, Stmt, Subprogram, Unit};
+use spx_tree::{Identifier, Predicate, Subprogram, Unit};
 use sqlite_items::Items;
 use std::alloc::{AllocError, Global};
 use std::slice;
@@ -80,24 +80,13 @@ fn resolve_post(
     resolve_predicate(alloc, post, changed, &Scope::inside(region, outer))
 }
 
-/// Statements inside a region.
-fn resolve_statements(
-    alloc: Global,
-    stmts: &[Stmt],
-    changed: &Changed<'_>,
-    region: &Region,
-    outer: &Scope<'_>,
-) -> Result<Items<CoreStmt>, AllocError>
-    ensures { IfOk result (λ r. r ≡ map (resolved_stmt changed.now (region.now ∷ seen outer.now)) stmts.now) }
-{
-    resolve_stmts(alloc, stmts, changed, &Scope::inside(region, outer))
-}
-
 /// The postcondition, the declarations and the statements of a subprogram.
 #[derive(Drop)]
 struct Body {
     post: Option<CorePredicate>,
     declarations: Items<CoreDecl>,
+    /// How many variables are declared there.
+    local_count: usize,
     statements: Items<CoreStmt>,
 }
 
@@ -112,19 +101,24 @@ fn resolve_body(
 ) -> Result<Body, AllocError>
     ensures post { IfOk result (λ r. r.post ≡ option_map (resolved_predicate changed.now (formals ∷ seen outer.now)) subprogram.now.post) }
     ensures declarations { IfOk result (λ r. r.declarations ≡ resolved_decls (seen outer.now) formals (counts_of tables.old) subprogram.now.declarations) }
-    ensures statements { IfOk result (λ r. r.statements ≡ map (resolved_stmt changed.now (declaring_all formals (declared_by_decls r.declarations) ∷ seen outer.now)) subprogram.now.statements) }
-    ensures vars { IfOk result (λ r. tables.new.vars ≡ tables.old.vars ++ map var_of (variables_by_decls r.declarations)) }
+    ensures local_count { IfOk result (λ r. r.local_count ≡ length (variables_by_decls r.declarations)) }
+    ensures statements { IfOk result (λ r. r.statements ≡ (resolved_stmts changed.now (seen outer.now) subprogram.now.statements (declaring_all formals (declared_by_decls r.declarations)) (length tables.old.vars + r.local_count)).0) }
+    ensures vars { IfOk result (λ r. tables.new.vars ≡ tables.old.vars ++ map var_of (variables_by_decls r.declarations ++ parameters_by_stmts r.statements)) }
     ensures types { IfOk result (λ r. tables.new.types ≡ tables.old.types ++ rows_by_decls r.declarations) }
 {
     let mut region = formals;
     let post = resolve_post(alloc, &subprogram.post, changed, &region, outer)?;
+    let first = tables.vars.len();
     let declarations = subprogram.declarations.as_slice();
     let declarations = resolve_decls(alloc, &mut region, tables, outer, declarations)?;
+    let local_count = tables.vars.len() - first;
+    let vars = &mut tables.vars;
     let statements = subprogram.statements.as_slice();
-    let statements = resolve_statements(alloc, statements, changed, &region, outer)?;
+    let statements = resolve_stmts(alloc, statements, changed, &mut region, vars, outer)?;
     Ok(Body {
         post,
         declarations,
+        local_count,
         statements,
     })
 }
@@ -140,8 +134,9 @@ fn resolve_under(
 ) -> Result<Body, AllocError>
     ensures post { IfOk result (λ r. r.post ≡ option_map (resolved_predicate (items_of derives.now) (formals ∷ seen outer.now)) subprogram.now.post) }
     ensures declarations { IfOk result (λ r. r.declarations ≡ resolved_decls (seen outer.now) formals (counts_of tables.old) subprogram.now.declarations) }
-    ensures statements { IfOk result (λ r. r.statements ≡ map (resolved_stmt (items_of derives.now) (declaring_all formals (declared_by_decls r.declarations) ∷ seen outer.now)) subprogram.now.statements) }
-    ensures vars { IfOk result (λ r. tables.new.vars ≡ tables.old.vars ++ map var_of (variables_by_decls r.declarations)) }
+    ensures local_count { IfOk result (λ r. r.local_count ≡ length (variables_by_decls r.declarations)) }
+    ensures statements { IfOk result (λ r. r.statements ≡ (resolved_stmts (items_of derives.now) (seen outer.now) subprogram.now.statements (declaring_all formals (declared_by_decls r.declarations)) (length tables.old.vars + r.local_count)).0) }
+    ensures vars { IfOk result (λ r. tables.new.vars ≡ tables.old.vars ++ map var_of (variables_by_decls r.declarations ++ parameters_by_stmts r.statements)) }
     ensures types { IfOk result (λ r. tables.new.types ≡ tables.old.types ++ rows_by_decls r.declarations) }
 {
     let changed = Changed::by(alloc, derives)?;
@@ -169,8 +164,9 @@ fn resolve_inner(
     ensures pre { IfOk result (λ r. r.pre ≡ option_map (resolved_predicate [] (formals ∷ around_body name.now)) subprogram.now.pre) }
     ensures post { IfOk result (λ r. r.body.post ≡ option_map (resolved_predicate (items_of r.derives) (formals ∷ around_body name.now)) subprogram.now.post) }
     ensures declarations { IfOk result (λ r. r.body.declarations ≡ resolved_decls (around_body name.now) formals (counts_of tables.old) subprogram.now.declarations) }
-    ensures statements { IfOk result (λ r. r.body.statements ≡ map (resolved_stmt (items_of r.derives) (declaring_all formals (declared_by_decls r.body.declarations) ∷ around_body name.now)) subprogram.now.statements) }
-    ensures vars { IfOk result (λ r. tables.new.vars ≡ tables.old.vars ++ map var_of (variables_by_decls r.body.declarations)) }
+    ensures local_count { IfOk result (λ r. r.body.local_count ≡ length (variables_by_decls r.body.declarations)) }
+    ensures statements { IfOk result (λ r. r.body.statements ≡ (resolved_stmts (items_of r.derives) (around_body name.now) subprogram.now.statements (declaring_all formals (declared_by_decls r.body.declarations)) (length tables.old.vars + r.body.local_count)).0) }
+    ensures vars { IfOk result (λ r. tables.new.vars ≡ tables.old.vars ++ map var_of (variables_by_decls r.body.declarations ++ parameters_by_stmts r.body.statements)) }
     ensures types { IfOk result (λ r. tables.new.types ≡ tables.old.types ++ rows_by_decls r.body.declarations) }
 {
     let outermost = Scope::outermost(everywhere);
@@ -208,6 +204,7 @@ fn resolve_subprogram(
     let formal_part = resolve_formal_part(alloc, &mut formals, vars, everywhere, subprogram)?;
     let formal_count = tables.vars.len() - first;
     let inner = resolve_inner(alloc, formals, tables, everywhere, &name, subprogram)?;
+    let local_count = inner.body.local_count;
     let end_name = copy_end_name(alloc, &subprogram.end_name)?;
     let vars = ids_between(alloc, first, tables.vars.len())?;
     Ok(Sub {
@@ -223,6 +220,7 @@ fn resolve_subprogram(
         end_name,
         vars,
         formal_count,
+        local_count,
     })
 }
 

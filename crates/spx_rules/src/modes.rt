@@ -1,4 +1,4 @@
-// U8, U2: the mode of a formal agrees with the relation, and no formal of mode `in` is assigned.
+// U8, U2: the mode of a formal agrees with the relation, and no formal of mode `in` and no constant is assigned.
 ghost use Rattle.std.specs.Prelude.{◌≡◌};
 ghost use Rattle.spx_core.specs.Commands.{command, commands};
 ghost use Rattle.spx_core.specs.Formals.{mode_in};
@@ -9,8 +9,8 @@ ghost use Rattle.spx_types.specs.Choices.{alternatives_in, done_in};
 
 use crate::tables::Tables;
 use spx_core::{
-    Breach, CoreAlternative, CoreArm, CoreDerivesItem, CoreName, CoreScheme, CoreStmt, Entity,
-    Mode, Reference, RuleName, VarKind, variable_of,
+    Breach, CoreAlternative, CoreArm, CoreDerivesItem, CoreName, CoreStmt, Entity, Mode, Reference,
+    RuleName, VarKind, variable_of,
 };
 use spx_types::keeps;
 
@@ -19,7 +19,7 @@ fn mode_in(kind: VarKind) -> Option<Mode>
 {
     match kind {
         VarKind::Formal(mode) => Some(mode),
-        VarKind::Local | VarKind::Initialized(_) => None,
+        VarKind::Local | VarKind::Initialized(_) | VarKind::LoopParameter => None,
     }
 }
 
@@ -126,10 +126,18 @@ fn may_be_assigned(mode: Option<Mode>) -> bool
     !matches!(mode, Some(Mode::In))
 }
 
+fn is_loop_parameter(kind: VarKind) -> bool
+    ensures { result ≡ rules.is_loop_parameter_kind kind }
+{
+    matches!(kind, VarKind::LoopParameter)
+}
+
+/// Whether a name that denotes this may not be assigned: a constant, a named number, or the parameter of a loop.
 fn is_constant(entity: Option<Entity>) -> bool
     ensures { result ≡ rules.is_constant entity }
 {
     match entity {
+        Some(Entity::Variable(_, object)) => is_loop_parameter(object.kind),
         Some(Entity::Constant(_, _)) => true,
         Some(Entity::NamedNumber(_)) => true,
         _ => false,
@@ -193,7 +201,7 @@ fn obey_stmt(stmt: &CoreStmt) -> Result<(), Breach>
             obey_stmts(stmts.as_slice())
         }
         CoreStmt::Case(_, _, alternatives, _) => obey_alternatives(alternatives.as_slice()),
-        CoreStmt::Loop(CoreScheme::While(_, _), _, body, _) => obey_stmts(body.as_slice()),
+        CoreStmt::Loop(_, _, body, _) => obey_stmts(body.as_slice()),
         CoreStmt::Assertion(_, _, _) => Ok(()),
     }
 }

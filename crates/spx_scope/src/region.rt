@@ -1,5 +1,5 @@
 // The declarations of one region (Ada 95 RM 8.1).
-ghost use Rattle.std.specs.Prelude.{◌≡◌, [], Some, OnOk, OnErr};
+ghost use Rattle.std.specs.Prelude.{◌≡◌, [], Some, OnOk, OnErr, length, take};
 ghost use Rattle.spx_core.specs.Regions.{declared_in, with_declaration};
 
 use indexmap::IndexMap;
@@ -38,6 +38,20 @@ impl Region {
         ensures { result ≡ declared_in self.now name.now }
     {
         self.names.get(name).copied()
+    }
+
+    /// How many declarations there are.
+    pub fn len(&self) -> usize
+        ensures { result ≡ length self.now }
+    {
+        self.names.len()
+    }
+
+    /// Takes back all declarations but the first so many.
+    pub fn truncate(&mut self, count: usize)
+        ensures { self.new ≡ take count self.old }
+    {
+        self.names.truncate(count);
     }
 
     /// One more declaration, unless the region has one of the name.

@@ -13,7 +13,8 @@ use Rattle.spx_core.specs.declared.name.Reference.{Reference}
 use Rattle.spx_core.specs.declared.expression.CoreExpr.{CoreExpr}
 use Rattle.spx_core.specs.declared.rule.ExprType.{ExprType}
 use Rattle.spx_core.specs.declared.rule.ExprType.TheVariants.{Of}
-use Rattle.spx_core.specs.Commands.{has_own_cut, Command, Skip, Set, Then, Choose, commands, Select, Count, Head, Assertion, Repeat, Tested, Counted, Alternatives, Last, When}
+use Rattle.spx_core.specs.declared.statement.CoreCount.{CoreCount}
+use Rattle.spx_core.specs.Commands.{has_own_cut, Command, Skip, Set, Then, Choose, commands, Select, Head, Assertion, Repeat, Tested, Counted, Alternatives, Last, When}
 use Rattle.spx_core.specs.Places.{place_of}
 use Rattle.spx_core.specs.Dependency.{exports, imports}
 use Rattle.spx_core.specs.Formals.{formals, initial_of, locals}
@@ -116,34 +117,34 @@ abbrev AllSorted : List Tree → Type 0
 AllSorted trees = AllByRecursion IsSortedTree trees
 
 -- these loops have numbers
-abbrev AreSortedCounts : Program → List Count → Type 0
+abbrev AreSortedCounts : Program → List CoreCount → Type 0
 AreSortedCounts p within = AllByRecursion (IsSortedCount p) within
 
 -- so have they with one more
-inside_sorted : (p : Program) (within : List Count) (head : Head) → AreSortedCounts p within → HeadIsSorted p head → AreSortedCounts p (inside within head)
+inside_sorted : (p : Program) (within : List CoreCount) (head : Head) → AreSortedCounts p within → HeadIsSorted p head → AreSortedCounts p (inside within head)
 inside_sorted p within (Tested place e) around sorted = around
 inside_sorted p within (Counted c) around sorted = each_append (IsSortedCount p) within (c ∷ []) around (sorted, tt)
 
 both_sorted : (a b : List Tree) → AllSorted a → AllSorted b → AllSorted (a ++ b)
 both_sorted a b h k = each_append IsSortedTree a b h k
 
-module _ (p : Program) (sub : Sub) (known_sorted : (within : List Count) → AreSortedCounts p within → AreFormulas (cut_facts p sub within)) where
-  from_cut_sorted : (within : List Count) (known : List Term) (rest : Tree) → AreSortedCounts p within → AreFormulas known → IsSortedTree rest → IsSortedTree (from_cut p sub within known rest)
+module _ (p : Program) (sub : Sub) (known_sorted : (within : List CoreCount) → AreSortedCounts p within → AreFormulas (cut_facts p sub within)) where
+  from_cut_sorted : (within : List CoreCount) (known : List Term) (rest : Tree) → AreSortedCounts p within → AreFormulas known → IsSortedTree rest → IsSortedTree (from_cut p sub within known rest)
   from_cut_sorted within known rest around h k = assume_sorted (cut_facts p sub within ++ known) rest (each_append IsFormula (cut_facts p sub within) known (known_sorted within around) h) k
 
-  noted_cut_sorted : (within : List Count) (kind : AssertionKind) (e : CoreExpr) (rest : Tree) → AreSortedCounts p within → test e ≡ Ok tt → All (IsAsDeclared p) (names_read e) → IsSortedTree rest → AllSorted (noted_cut p sub within kind e rest)
+  noted_cut_sorted : (within : List CoreCount) (kind : AssertionKind) (e : CoreExpr) (rest : Tree) → AreSortedCounts p within → test e ≡ Ok tt → All (IsAsDeclared p) (names_read e) → IsSortedTree rest → AllSorted (noted_cut p sub within kind e rest)
   noted_cut_sorted within assertion.Assert e rest around typed declared k =
       let t = term_of p (entry_term p sub) e in
       (from_cut_sorted within (conjuncts t) rest around (conjuncts_sorted t (test_sorted p (entry_term p sub) (entry_sorted p sub) e typed declared).formula) k, tt)
   noted_cut_sorted within assertion.Check e rest around typed declared k = tt
 
-  loop_cut_sorted : (within : List Count) (own : Bool) (rest : Tree) → AreSortedCounts p within → IsSortedTree rest → AllSorted (loop_cut p sub within own rest)
+  loop_cut_sorted : (within : List CoreCount) (own : Bool) (rest : Tree) → AreSortedCounts p within → IsSortedTree rest → AllSorted (loop_cut p sub within own rest)
   loop_cut_sorted within true rest around k = tt
   loop_cut_sorted within false rest around k = (from_cut_sorted within (term.Truth true ∷ []) rest around (terms.fold-Truth sort_step true, tt) k, tt)
 
   -- the trees from the cuts in a command are sorted
   mutual
-    cuts_sorted : (within : List Count) (c : Command) (rest leave : ℕ → Tree) → AreSortedCounts p within → IsTyped c → AreAsDeclared p c → AreSortedTrees rest → AreSortedTrees leave → AllSorted (cuts p sub within c rest leave)
+    cuts_sorted : (within : List CoreCount) (c : Command) (rest leave : ℕ → Tree) → AreSortedCounts p within → IsTyped c → AreAsDeclared p c → AreSortedTrees rest → AreSortedTrees leave → AllSorted (cuts p sub within c rest leave)
     cuts_sorted within Skip rest leave around typed declared k l = tt
     cuts_sorted within (Set target e) rest leave around typed declared k l = tt
     cuts_sorted within (Then a b) rest leave around typed declared k l =
@@ -174,7 +175,7 @@ module _ (p : Program) (sub : Sub) (known_sorted : (within : List Count) → Are
         both_sorted (loop_cut p sub here (has_own_cut body) turn) (cuts p sub here body end out) (loop_cut_sorted here (has_own_cut body) turn known (walk_sorted p sub body end out parts.1 declared.1 again after 0))
         (cuts_sorted here body end out known parts.1 declared.1 again after)
 
-    cuts_for_sorted : (within : List Count) (of : ExprType) (alternatives : Alternatives) (rest leave : ℕ → Tree) → AreSortedCounts p within → AreTyped of alternatives → AllAreAsDeclared p alternatives → AreSortedTrees rest → AreSortedTrees leave
+    cuts_for_sorted : (within : List CoreCount) (of : ExprType) (alternatives : Alternatives) (rest leave : ℕ → Tree) → AreSortedCounts p within → AreTyped of alternatives → AllAreAsDeclared p alternatives → AreSortedTrees rest → AreSortedTrees leave
         → AllSorted (cuts_for p sub within alternatives rest leave)
     cuts_for_sorted within of (Last choices a) rest leave around typed declared k l = cuts_sorted within a rest leave around (last_typed of choices a typed).1 declared k l
     cuts_for_sorted within of (When choices a more) rest leave around typed declared k l =
@@ -214,11 +215,11 @@ module _ (p : Program) (sub : Sub) where
       let sorted = sorted_with p (entry_term p sub) (entry_term p sub) sorts sorts pre.condition of.0 of.1 (recursion_from_All (IsAsDeclared p) (names_read pre.condition) (declared pre refl)) in
       conjuncts_sorted (term_with (entry_term p sub) (entry_term p sub) pre.condition) (sorted ∙ ap Some (boolean_sort of.0.of of.2))
 
-  all_count_facts_sorted : (within : List Count) → AreSortedCounts p within → AreFormulas (flat_map (count_facts p sub) within)
+  all_count_facts_sorted : (within : List CoreCount) → AreSortedCounts p within → AreFormulas (flat_map (count_facts p sub) within)
   all_count_facts_sorted [] around = tt
   all_count_facts_sorted (c ∷ within) around = each_append IsFormula (count_facts p sub c) (flat_map (count_facts p sub) within) (count_facts_sorted p sub c around.0) (all_count_facts_sorted within around.1)
 
-  cut_facts_sorted : Scoped p sub → TypedSub sub → (within : List Count) → AreSortedCounts p within → AreFormulas (cut_facts p sub within)
+  cut_facts_sorted : Scoped p sub → TypedSub sub → (within : List CoreCount) → AreSortedCounts p within → AreFormulas (cut_facts p sub within)
   cut_facts_sorted scoped typed within around =
       let before = pre_on_entry_sorted sub.pre scoped.pre_names typed.pre in
       each_append IsFormula (flat_map (var_facts p) (formals sub)) _ (each_flat_map IsFormula (var_facts p) var_facts_sorted (formals sub))

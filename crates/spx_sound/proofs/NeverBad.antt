@@ -7,7 +7,7 @@ use Rattle.std.specs.List.{flat_map, list_all}
 use Rattle.spx_core.specs.declared.entity.Class.{Class}
 use Rattle.spx_core.specs.declared.entity.Class.TheVariants as class
 use Rattle.spx_core.specs.declared.entity.VarId.{VarId}
-use Rattle.spx_core.specs.declared.entity.VarKind.TheVariants.{Formal, Local, Initialized}
+use Rattle.spx_core.specs.declared.entity.VarKind.TheVariants.{Formal, Local, Initialized, LoopParameter}
 use Rattle.spx_core.specs.declared.entity.VarKind.{VarKind}
 use Rattle.spx_core.specs.declared.program.Program.{Program}
 use Rattle.spx_core.specs.declared.program.TypeRow.{TypeRow}
@@ -20,7 +20,7 @@ use Rattle.spx_core.specs.declared.subprogram.CorePredicate.{CorePredicate}
 use Rattle.spx_core.specs.declared.subprogram.Sub.{Sub}
 use Rattle.spx_core.specs.Commands.{commands}
 use Rattle.spx_core.specs.Dependency.{exports, imports}
-use Rattle.spx_core.specs.Formals.{formals, mode_of, initial_in, initial_of, is_formal, is_local, locals, stands_in}
+use Rattle.spx_core.specs.Formals.{formals, mode_of, initial_in, initial_of, is_formal, is_inner, is_local, is_loop_parameter, locals, stands_in}
 use Rattle.spx_core.specs.FlowRules.{HasNoFinding, body_effect, read, left}
 use Rattle.spx_core.specs.Rules.{ObeysRules}
 use Rattle.spx_core.specs.Scopes.{Scoped, StartsInType, TypesHaveValues, kind_of, object_declared, object_in}
@@ -47,7 +47,7 @@ use Rattle.spx_meaning.specs.Runs.{Outcome, Ended, then_do, demand, run, is_new_
 use Rattle.spx_meaning.specs.Laws.{Start, IsNeverBad, NeverBad}
 use Rattle.spx_meaning.proofs.Callers.Entries.{cleared_keeps, cleared_part}
 use Rattle.spx_meaning.proofs.Callers.Evaluation.{meant_same}
-use Rattle.spx_meaning.proofs.Callers.Scopes.{mode_is, new_is, local_starts, own_is}
+use Rattle.spx_meaning.proofs.Callers.Scopes.{mode_is, new_is, inner_is, inner_starts, local_is_inner, loop_parameter_is_inner, own_is}
 use Rattle.spx_meaning.proofs.Callers.Stores.{look-put_other}
 use Rattle.spx_meaning.proofs.Callers.Types.{type_is}
 use Rattle.spx_paths.specs.Terms.{now, entry, now_term, entry_term, sort_of_class, sort_of_var}
@@ -177,6 +177,7 @@ initialized : (kind : VarKind) (n : ℤ) → initial_in kind ≡ Some n → kind
 initialized (Formal mode) n is = absurd (cc)
 initialized Local n is = absurd (cc)
 initialized (Initialized m) n is = ap Initialized (let e : m ≡ n = cc in e)
+initialized LoopParameter n is = absurd (cc)
 
 -- a variable with an initial value is declared with it
 declared_initial : (p : Program) (x : VarId) (object : Object) (n : ℤ) → object_declared p x ≡ Some object → initial_of x p ≡ Some n → object.kind ≡ Initialized n
@@ -232,6 +233,10 @@ module _ (p : Program) (sub : Sub) (scoped : Scoped p sub) (initial : StartsInTy
   formal_starts_without : (x : VarId) → is_formal x sub ≡ true → initial_of x p ≡ None
   formal_starts_without x formal = let kind = scoped.formal_kinds x formal in initial_is p x (Formal kind.0) kind.1
 
+  -- nor has the parameter of a loop
+  parameter_starts_without : (x : VarId) → is_loop_parameter x sub ≡ true → initial_of x p ≡ None
+  parameter_starts_without x is = initial_is p x LoopParameter (scoped.loop_parameter_kinds x is)
+
   module _ (s : Store) (start : Start p sub s) where
     abbrev first : Store
     first = entry_of p sub s
@@ -257,14 +262,15 @@ module _ (p : Program) (sub : Sub) (scoped : Scoped p sub) (initial : StartsInTy
         was_in : look s x ≡ Some w → is_in (type_of p x) w ≡ true
         was_in before = subst (λ o. IfSome o (λ u. IsTrue (is_in (type_of p x) u))) before (start.in_types x)
 
-        by_own : (n : ℤ) → initial_of x p ≡ Some n → w ≡ value_in_type (type_of p x) n → (formal local : Bool) → is_formal x sub ≡ formal → is_local x sub ≡ local
+        by_own : (n : ℤ) → initial_of x p ≡ Some n → w ≡ value_in_type (type_of p x) n → (formal local counted : Bool) → is_formal x sub ≡ formal → is_local x sub ≡ local → is_loop_parameter x sub ≡ counted
             → (is_in (type_of p x) w ≡ true) ⊎ (n : ℤ) × (is_local x sub ≡ true) × (initial_of x p ≡ Some n) × (w ≡ value_in_type (type_of p x) n)
-        by_own n given same formal true f l = inr (n, l, given, same)
-        by_own n given same true false f l = absurd (let none = formal_starts_without x f in cc)
-        by_own n given same false false f l = inl (was_in (sym (cleared_other p s sub.vars x (own_is x sub ∙ ap₂ ◌||◌ f l)) ∙ is))
+        by_own n given same formal true counted f l k = inr (n, l, given, same)
+        by_own n given same true false counted f l k = absurd (let none = formal_starts_without x f in cc)
+        by_own n given same false false true f l k = absurd (let none = parameter_starts_without x k in cc)
+        by_own n given same false false false f l k = inl (was_in (sym (cleared_other p s sub.vars x (own_is x sub ∙ ap₂ ◌||◌ f (inner_is x sub ∙ ap₂ ◌||◌ l k))) ∙ is))
 
         by_initial : (o : Option ℤ) → initial_of x p ≡ o → option_map (value_in_type (type_of p x)) o ≡ Some w → (is_in (type_of p x) w ≡ true) ⊎ (n : ℤ) × (is_local x sub ≡ true) × (initial_of x p ≡ Some n) × (w ≡ value_in_type (type_of p x) n)
-        by_initial (Some n) given after = by_own n given (let e : w ≡ value_in_type (type_of p x) n = cc in e) (is_formal x sub) (is_local x sub) refl refl
+        by_initial (Some n) given after = by_own n given (let e : w ≡ value_in_type (type_of p x) n = cc in e) (is_formal x sub) (is_local x sub) (is_loop_parameter x sub) refl refl refl
         by_initial None given after = absurd (cc)
 
     first_sorted : HaveTheirSorts p first
@@ -334,7 +340,7 @@ module _ (p : Program) (sub : Sub) (scoped : Scoped p sub) (initial : StartsInTy
     body_safe valid =
         let known = assume_all (first_facts p sub) body_tree in
         let local = entered p first sub (formals sub) (initializing p (locals sub) known) (safe_sub p sub valid first_valuation (valuation_respects p first)).0 in
-        let whole = started p first first_agrees (locals sub) known (λ x is. local_starts p sub scoped x is s) local in
+        let whole = started p first first_agrees (locals sub) known (λ x is. inner_starts p sub scoped x (local_is_inner x sub is) s) local in
         assumed (first_facts p sub) body_tree first_valuation
         (each_append (λ t. Holds t first_valuation) (flat_map (import_facts p sub) (formals sub)) (pre_facts p sub sub.pre)
         (each_flat_map (λ t. Holds t first_valuation) (import_facts p sub) import_holds (formals sub)) (pre_facts_hold sub.pre (pre_first sub.pre refl start.precondition))) whole
@@ -351,32 +357,32 @@ module _ (p : Program) (sub : Sub) (scoped : Scoped p sub) (initial : StartsInTy
 
     -- nor is it declared with a value, if it is read
     no_initial : (x : VarId) → look first x ≡ None → reads x (body_effect sub) ≡ true → is_some (initial_of x p) ≡ false
-    no_initial x unset used = by_own (is_formal x sub) (is_local x sub) refl refl (scoped.read x used)
+    no_initial x unset used = by_own (is_formal x sub) (is_inner x sub) refl refl (scoped.read x used)
       where
         by_start : (o : Option ℤ) → option_map (value_in_type (type_of p x)) o ≡ None → is_some o ≡ false
         by_start (Some n) none = absurd (cc)
         by_start None none = refl
 
-        by_own : (formal local : Bool) → is_formal x sub ≡ formal → is_local x sub ≡ local → (formal || local) ≡ true → is_some (initial_of x p) ≡ false
-        by_own true local f l own = ap is_some (formal_starts_without x f)
-        by_own false true f l own = by_start (initial_of x p) (sym (local_starts p sub scoped x l s) ∙ unset)
-        by_own false false f l own = absurd (cc)
+        by_own : (formal inner : Bool) → is_formal x sub ≡ formal → is_inner x sub ≡ inner → (formal || inner) ≡ true → is_some (initial_of x p) ≡ false
+        by_own true inner f i own = ap is_some (formal_starts_without x f)
+        by_own false true f i own = by_start (initial_of x p) (sym (inner_starts p sub scoped x i s) ∙ unset)
+        by_own false false f i own = absurd (cc)
 
     -- the parameter of a loop
     abbrev IsParameter : VarId → Type 0
     IsParameter x = counts x (body_effect sub) ≡ true
 
     parameters_keep : KeepsUnset IsParameter (body_effect sub)
-    parameters_keep = record { parameters = λ x h. h; unassigned = λ x h. (scoped.parameters x h).3; kept = scoped.parameters_kept }
+    parameters_keep = record { parameters = λ x h. h; unassigned = λ x h. obeys.loop_parameters x h; kept = obeys.loops_keep_them }
 
     -- what counts as unset on entry is no import either
     counts_no_import : (x : VarId) → CountsUnset IsParameter first x → imports x sub ≡ false
     counts_no_import x (inl unset) = no_import x unset
-    counts_no_import x (inr parameter) = false_from_ne_true (imports x sub) (λ import. both_ways (is_formal x sub) (scoped.parameters x parameter).0 (scoped.imported x import))
+    counts_no_import x (inr parameter) = false_from_ne_true (imports x sub) (λ import. both_ways (is_inner x sub) (scoped.apart x (scoped.imported x import)) (loop_parameter_is_inner x sub (scoped.counted x parameter)))
 
     counts_no_initial : (x : VarId) → CountsUnset IsParameter first x → reads x (body_effect sub) ≡ true → is_some (initial_of x p) ≡ false
     counts_no_initial x (inl unset) used = no_initial x unset used
-    counts_no_initial x (inr parameter) used = ap is_some (scoped.parameters x parameter).2
+    counts_no_initial x (inr parameter) used = ap is_some (parameter_starts_without x (scoped.counted x parameter))
 
     first_clear : HasNoFinding p sub → IsClear IsParameter (body_effect sub) first
     first_clear flows place x unset way =
@@ -410,7 +416,7 @@ module _ (p : Program) (sub : Sub) (scoped : Scoped p sub) (initial : StartsInTy
     body_good : HasNoFinding p sub → TypedSub sub → HasValidConditions p sub → (n : ℕ) → Good Never (body_run n) IsDone Nowhere
     body_good flows typed valid n =
         joined (body_run n) (Reaches frame [] (ending p sub)) (Passes IsParameter (body_effect sub) first) (Reaches frame [] (ending p sub)) Nowhere
-        (walk_good frame first_began (commands sub.statements) [] n (ending p sub) (ending p sub) 0 first first_valuation typed.statements scoped.body_names import_is_spared scoped.parameters_kept (λ v respects. (safe_sub p sub valid v respects).1) first_fits (body_safe valid))
+        (walk_good frame first_began (commands sub.statements) [] n (ending p sub) (ending p sub) 0 first first_valuation typed.statements scoped.body_names import_is_spared obeys.loops_keep_them (λ v respects. (safe_sub p sub valid v respects).1) first_fits (body_safe valid))
         (never_unset frame types (commands sub.statements) IsParameter parameters_keep n first (first_clear flows))
 
     pre_good : (pre : Option CorePredicate) → pre_holds frame pre first ≡ true → demand_pre frame pre first ≡ Ended first

@@ -10,13 +10,14 @@ use Rattle.std.proofs.lemmas.List.Folds.{list_any-append}
 use Rattle.spx_text.specs.declared.place.Place.{Place}
 use Rattle.spx_core.specs.declared.entity.Class.{Class}
 use Rattle.spx_core.specs.declared.entity.Class.TheVariants as class
-use Rattle.spx_core.specs.declared.entity.Entity.{Entity}
-use Rattle.spx_core.specs.declared.entity.Entity.TheVariants as entity
 use Rattle.spx_core.specs.declared.entity.Subtype.{Subtype}
 use Rattle.spx_core.specs.declared.entity.VarId.{VarId}
 use Rattle.spx_core.specs.declared.expression.CoreExpr.{CoreExpr}
 use Rattle.spx_core.specs.declared.statement.CoreRange.{CoreRange}
-use Rattle.spx_core.specs.Commands.{Command, Count, Repeat, Counted, has_own_cut}
+use Rattle.spx_core.specs.declared.entity.VarKind.TheVariants.{LoopParameter}
+use Rattle.spx_core.specs.Resolved.{object_of, subtype_of}
+use Rattle.spx_core.specs.declared.statement.CoreCount.{CoreCount}
+use Rattle.spx_core.specs.Commands.{Command, Repeat, Counted, has_own_cut}
 use Rattle.spx_core.specs.Effects.{effect, sets}
 use Rattle.spx_core.specs.Judged.{if_there}
 use Rattle.spx_core.specs.Places.{place_of}
@@ -123,7 +124,7 @@ unfolding value_of_op
 after_is true k = refl
 after_is false k = refl
 
-module _ (f : Frame) (c : Count) (v : Valuation) (low high : ℤ) (low_is : value_of v (low_term f.program f.sub c) ≡ Number low) (high_is : value_of v (high_term f.program f.sub c) ≡ Number high) where
+module _ (f : Frame) (c : CoreCount) (v : Valuation) (low high : ℤ) (low_is : value_of v (low_term f.program f.sub c) ≡ Number low) (high_is : value_of v (high_term f.program f.sub c) ≡ Number high) where
   start_is : value_of v (start_term f.program f.sub c) ≡ Number (start_of c low high)
   start_is = one_of c.is_reverse v (high_term f.program f.sub c) (low_term f.program f.sub c) high low high_is low_is
 
@@ -171,7 +172,7 @@ spares_inside f at x body spares kept y held =
     (or_cases (keeps_value f.sub y) (is_parameter (at ++ x ∷ []) y) held)
 
 -- nor is the parameter held around the loop
-parameter_free : (f : Frame) (at : List Counting) (c : Count) (body : Command) → Spares f.sub at (effect (Repeat (Counted c) body)) → is_held f.sub at c.parameter ≡ false
+parameter_free : (f : Frame) (at : List Counting) (c : CoreCount) (body : Command) → Spares f.sub at (effect (Repeat (Counted c) body)) → is_held f.sub at c.parameter ≡ false
 parameter_free f at c body spares =
     false_from_ne_true (is_held f.sub at c.parameter) (λ h.
     both_ways (sets c.parameter (effect (Repeat (Counted c) body))) (spares c.parameter h) (or_left (c.parameter.0 == c.parameter.0) (sets c.parameter (effect body)) (eq-eqb c.parameter.0 c.parameter.0 refl)))
@@ -244,7 +245,7 @@ module _ (f : Frame) (at : List Counting) (s : Store) where
 
 -- ---- turns
 
-module _ (f : Frame) (began : Began f) (at : List Counting) (c : Count) (body : Command) (rest leave : ℕ → Tree) (has : has_numbers (type_of f.program c.parameter).base.class ≡ true) (go : (at : List Counting) (n : ℕ) → GoesOn f at body n) (typed : IsTyped body)
+module _ (f : Frame) (began : Began f) (at : List Counting) (c : CoreCount) (body : Command) (rest leave : ℕ → Tree) (has : has_numbers (type_of f.program c.parameter).base.class ≡ true) (go : (at : List Counting) (n : ℕ) → GoesOn f at body n) (typed : IsTyped body)
     (declared : AreAsDeclared f.program body) (spares : Spares f.sub at (effect (Repeat (Counted c) body))) (kept : KeepsParameters (effect (Repeat (Counted c) body))) (from_cuts : AlwaysSafe (cuts f.program f.sub (within at) (Repeat (Counted c) body) rest leave)) where
   abbrev type : Subtype
   type = type_of f.program c.parameter
@@ -439,13 +440,9 @@ module _ (f : Frame) (began : Began f) (at : List Counting) (c : Count) (body : 
   by_bounds (Some range) is subtype ordered judges names n made s v fits safe =
       range_good range is subtype ordered (bounds_typed subtype range judges) (each_split (IsAsDeclared f.program) (names_read range.low) (names_read range.high) names) n made s v fits safe
 
-type_known : (a b : Subtype) → ◌≡◌ {A = Option Entity} (Some (entity.TypeName a)) (Some (entity.TypeName b)) → a ≡ b
-type_known a b h = cc
-
-pub count_good : (f : Frame) → Began f → (at : List Counting) (c : Count) (body : Command) → ((at : List Counting) (n : ℕ) → GoesOn f at body n) → (n : ℕ) → GoesOn f at (Repeat (Counted c) body) n
+pub count_good : (f : Frame) → Began f → (at : List Counting) (c : CoreCount) (body : Command) → ((at : List Counting) (n : ℕ) → GoesOn f at body n) → (n : ℕ) → GoesOn f at (Repeat (Counted c) body) n
 count_good f began at c body go n rest leave made s v typed declared spares kept from_cuts fits safe =
     let known = count_typed c body typed in
-    let object = declared.0.1 in
-    let one = type_is f.program c.parameter object.0 object.1 ∙ type_known object.0.subtype known.subtype (sym object.2 ∙ known.named) in
+    let one = type_is f.program c.parameter (object_of LoopParameter c.type_name) declared.0.1 ∙ ap subtype_of known.named in
     let has = ap (λ (t : Subtype). has_numbers t.base.class) one ∙ known.ordered in
     by_bounds f began at c body rest leave has go known.turn declared.1 spares kept from_cuts c.bounds refl known.subtype known.ordered known.bounds (recursion_from_All (IsAsDeclared f.program) (names_in_bounds c.bounds) declared.0.0) n made s v fits safe

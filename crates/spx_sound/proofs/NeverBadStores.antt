@@ -12,7 +12,8 @@ use Rattle.spx_core.specs.declared.program.Program.{Program}
 use Rattle.spx_core.specs.declared.subprogram.Sub.{Sub}
 use Rattle.spx_core.specs.declared.expression.CoreExpr.{CoreExpr}
 use Rattle.spx_core.specs.declared.statement.CoreRange.{CoreRange}
-use Rattle.spx_core.specs.Commands.{Count}
+use Rattle.spx_core.specs.declared.statement.CoreCount.{CoreCount}
+use Rattle.spx_core.specs.Commands.{}
 use Rattle.spx_core.specs.Effects.{Effect, Read, is_read, reads_of, sets}
 use Rattle.spx_core.specs.Uses.{uses}
 use Rattle.spx_core.proofs.Callers.FlowLaws.{reads_uses}
@@ -70,13 +71,13 @@ apart x y differ = false_from_ne_true (same_name x y) (λ e. differ (ap (λ (n :
 
 -- a loop that counts and is under way: the values of its bounds, and that of its parameter
 pub record Counting : Type 0 where
-  pub count : Count
+  pub count : CoreCount
   pub low : ℤ
   pub high : ℤ
   pub value : ℤ
 
 -- the loops themselves, the outermost first
-abbrev pub within : List Counting → List Count
+abbrev pub within : List Counting → List CoreCount
 within at = map (λ (x : Counting). x.count) at
 
 -- whether it is the parameter of one of these loops
@@ -145,14 +146,14 @@ module _ (f : Frame) (s t : Store) (v u : Valuation) (before : AgreesWith f.prog
       by_fixed true fixed = term_kept e (λ x used. kept x (fixed_stays f.sub e x fixed used))
       by_fixed false fixed = fold-Variable (value_step v) name ∙ same ∙ sym (fold-Variable (value_step u) name)
 
-  pub low_kept : AreKept → (c : Count) → v (first_name c.parameter) ≡ u (first_name c.parameter) → value_of v (low_term f.program f.sub c) ≡ value_of u (low_term f.program f.sub c)
+  pub low_kept : AreKept → (c : CoreCount) → v (first_name c.parameter) ≡ u (first_name c.parameter) → value_of v (low_term f.program f.sub c) ≡ value_of u (low_term f.program f.sub c)
   low_kept kept c same = by_bounds c.bounds
     where
       by_bounds : (o : Option CoreRange) → value_of v (low_term f.program f.sub (record c { bounds = o })) ≡ value_of u (low_term f.program f.sub (record c { bounds = o }))
       by_bounds None = fold-Number (value_step v) _ ∙ sym (fold-Number (value_step u) _)
       by_bounds (Some range) = bound_kept kept (first_name c.parameter) same range.low
 
-  pub high_kept : AreKept → (c : Count) → v (last_name c.parameter) ≡ u (last_name c.parameter) → value_of v (high_term f.program f.sub c) ≡ value_of u (high_term f.program f.sub c)
+  pub high_kept : AreKept → (c : CoreCount) → v (last_name c.parameter) ≡ u (last_name c.parameter) → value_of v (high_term f.program f.sub c) ≡ value_of u (high_term f.program f.sub c)
   high_kept kept c same = by_bounds c.bounds
     where
       by_bounds : (o : Option CoreRange) → value_of v (high_term f.program f.sub (record c { bounds = o })) ≡ value_of u (high_term f.program f.sub (record c { bounds = o }))

@@ -21,7 +21,8 @@ use Rattle.spx_core.specs.declared.expression.CoreExpr.TheVariants.{Name, Attrib
 use Rattle.spx_core.specs.declared.function.Mapping.{Mapping}
 use Rattle.spx_core.specs.declared.function.Span.{Span}
 use Rattle.spx_core.specs.declared.statement.CoreRange.{CoreRange}
-use Rattle.spx_core.specs.Commands.{Command, Skip, Set, Then, Choose, Select, Count, Assertion, Repeat, Tested, Counted, Alternatives, Last, When}
+use Rattle.spx_core.specs.declared.statement.CoreCount.{CoreCount}
+use Rattle.spx_core.specs.Commands.{Command, Skip, Set, Then, Choose, Select, Assertion, Repeat, Tested, Counted, Alternatives, Last, When}
 use Rattle.spx_core.specs.Effects.{Effect, Read, assign as assigned, assigns, count, counts, effect, reads_of, reads_of_range, choose, effect_among, nothing, next, observe, repeat, is_read, reads, reads_in, sets}
 use Rattle.spx_core.specs.Formals.{stands_in}
 use Rattle.spx_core.specs.Places.{place_of}
@@ -515,7 +516,7 @@ module _ (f : Frame) (types : TypesHaveValues f.program) where
         (λ is v unset. (inl unset, ([], no_turn, refl))))
 
     -- so it is with a loop that counts
-    module _ (c : Count) (body : Command) (keeps : KeepsUnset P (effect (Repeat (Counted c) body))) (each : (n : ℕ) (s : Store) → Sets (Inside c.parameter P) n s body) where
+    module _ (c : CoreCount) (body : Command) (keeps : KeepsUnset P (effect (Repeat (Counted c) body))) (each : (n : ℕ) (s : Store) → Sets (Inside c.parameter P) n s body) where
       abbrev turn_effect : Effect
       turn_effect = effect body
 

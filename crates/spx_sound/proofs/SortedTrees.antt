@@ -26,7 +26,10 @@ use Rattle.spx_core.specs.declared.rule.ExprType.TheVariants.{Of}
 use Rattle.spx_core.specs.declared.rule.Typing.{Typing}
 use Rattle.spx_core.specs.declared.function.Mapping.{Mapping}
 use Rattle.spx_core.specs.declared.function.Span.{Span}
-use Rattle.spx_core.specs.Commands.{Command, Count, Head, Repeat, Tested, Counted}
+use Rattle.spx_core.specs.declared.entity.VarKind.TheVariants.{LoopParameter}
+use Rattle.spx_core.specs.Resolved.{object_of, subtype_of}
+use Rattle.spx_core.specs.declared.statement.CoreCount.{CoreCount}
+use Rattle.spx_core.specs.Commands.{Command, Head, Repeat, Tested, Counted}
 use Rattle.spx_core.specs.Places.{place_of}
 use Rattle.spx_core.specs.Judged.{if_there, judged, typing, application}
 use Rattle.spx_core.specs.Reads.{names_read}
@@ -367,7 +370,7 @@ AreSortedBounds p None = ⊤
 AreSortedBounds p (Some range) = SortedBound p range.low × SortedBound p range.high
 
 -- the values of the parameter and the bounds are numbers
-pub record IsSortedCount (p : Program) (c : Count) : Type 0 where
+pub record IsSortedCount (p : Program) (c : CoreCount) : Type 0 where
   pub number : sort_of_var p c.parameter ≡ Integer
   pub bounds : AreSortedBounds p c.bounds
 
@@ -392,18 +395,17 @@ pub head_sorted : (p : Program) (head : Head) (body : Command) → IsTyped (Repe
 head_sorted p (Tested place e) body typed declared = let parts = loop_typed place e body typed in ((parts.0, declared), parts.1)
 head_sorted p (Counted c) body typed declared =
     let whole = count_typed c body typed in
-    let object = declared.1.0 in
-    let one : object.subtype ≡ whole.subtype = (let e = sym declared.1.2 ∙ whole.named in cc) in (
+    let one = type_is p c.parameter (object_of LoopParameter c.type_name) declared.1 ∙ ap subtype_of whole.named in (
       record {
-        number = ap (λ (of : Subtype). sort_of_class of.base.class) (type_is p c.parameter object declared.1.1 ∙ one) ∙ class_number whole.subtype.base.class whole.ordered;
+        number = ap (λ (of : Subtype). sort_of_class of.base.class) one ∙ class_number whole.subtype.base.class whole.ordered;
         bounds = both_bounds p whole.subtype c.bounds whole.ordered whole.bounds (recursion_from_All (IsAsDeclared p) (names_in_bounds c.bounds) declared.0);
       },
       whole.turn,
     )
 
 -- the loop with these bounds
-abbrev bounded : Count → Option CoreRange → Count
-bounded c bounds = record { place = c.place; parameter = c.parameter; type_name = c.type_name; is_reverse = c.is_reverse; bounds = bounds }
+abbrev bounded : CoreCount → Option CoreRange → CoreCount
+bounded c bounds = record c { bounds = bounds }
 
 module _ (p : Program) (sub : Sub) where
   bound_term_sorted : (name : Symbolic) (e : CoreExpr) → name.sort ≡ Integer → SortedBound p e → HasSortOf Integer (bound_term p sub name e)
@@ -420,15 +422,15 @@ module _ (p : Program) (sub : Sub) where
       by_fixed true = k
       by_fixed false = (bound.sorted ∙ ap Some (sym number), k)
 
-  low_of_bounds : (c : Count) (bounds : Option CoreRange) → AreSortedBounds p bounds → HasSortOf Integer (low_term p sub (bounded c bounds))
+  low_of_bounds : (c : CoreCount) (bounds : Option CoreRange) → AreSortedBounds p bounds → HasSortOf Integer (low_term p sub (bounded c bounds))
   low_of_bounds c None h = terms.fold-Number sort_step (type_of p c.parameter).first
   low_of_bounds c (Some range) h = bound_term_sorted (first_name c.parameter) range.low refl h.0
 
-  high_of_bounds : (c : Count) (bounds : Option CoreRange) → AreSortedBounds p bounds → HasSortOf Integer (high_term p sub (bounded c bounds))
+  high_of_bounds : (c : CoreCount) (bounds : Option CoreRange) → AreSortedBounds p bounds → HasSortOf Integer (high_term p sub (bounded c bounds))
   high_of_bounds c None h = terms.fold-Number sort_step (type_of p c.parameter).last
   high_of_bounds c (Some range) h = bound_term_sorted (last_name c.parameter) range.high refl h.1
 
-  module _ (c : Count) (sorted : IsSortedCount p c) where
+  module _ (c : CoreCount) (sorted : IsSortedCount p c) where
     low_sorted : HasSortOf Integer (low_term p sub c)
     low_sorted = low_of_bounds c c.bounds sorted.bounds
 

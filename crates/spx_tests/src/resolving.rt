@@ -109,6 +109,7 @@ fn a_program_is_made(rt: HostRuntime) -> Result<(), Fail> {
     assert_eq!(rt; program.units.len(), 1);
     for sub in program.subs.as_slice() {
         assert_eq!(rt; sub.formal_count, 1);
+        assert_eq!(rt; sub.local_count, 1);
         for decl in sub.declarations.as_slice() {
             if let CoreDecl::Variables(names, type_name, value) = decl {
                 assert!(rt; value.is_some());

@@ -34,8 +34,12 @@ there_more P Q h (Some x) f = h x f
 pub layer_more : (m n : ℕ) → m ≤ n → (layer : Layer) (e : Expr) → OfLayer layer m e → OfLayer layer n e
 layer_more m n le layer e f = record { low = let low = f.low in omega arith; layered = f.layered; of_layer = f.of_layer }
 
+range_more : (m n : ℕ) → m ≤ n → (x : Range) → IsRange m x → IsRange n x
+range_more m n le x f = record { low = layer_more m n le _ x.low f.low; high = layer_more m n le _ x.high f.high }
+
 scheme_more : (m n : ℕ) → m ≤ n → (x : Scheme) → IsScheme m x → IsScheme n x
 scheme_more m n le (scheme.While place condition) f = layer_more m n le _ condition f
+scheme_more m n le (scheme.For c) f = there_more (IsRange m) (IsRange n) (range_more m n le) c.bounds f
 
 -- where the statements one level down are, so is one level
 module _ (m n : ℕ) (le : m ≤ n) (inner : (x : Stmt) → Within m x → Within n x) where
@@ -79,18 +83,15 @@ module _ (m n : ℕ) (le : m ≤ n) where
   predicate_more None f = tt
   predicate_more (Some p) f = layer_more m n le _ p.condition f
 
-  range_more : (x : Range) → IsRange m x → IsRange n x
-  range_more x f = record { low = layer_more m n le _ x.low f.low; high = layer_more m n le _ x.high f.high }
-
   definition_more : (x : TypeDef) → IsDefinition m x → IsDefinition n x
-  definition_more (definition.Integer range) f = range_more range f
+  definition_more (definition.Integer range) f = range_more m n le range f
   definition_more (definition.Enumeration place literals) f = f
 
   decl_more : (x : Decl) → IsDecl m x → IsDecl n x
   decl_more (decl.Variables names type_name value) f = (f.0, there_more (IsExpr m) (IsExpr n) (layer_more m n le _) value f.1)
   decl_more (decl.Constants names type_name value) f = (f.0, layer_more m n le _ value f.1)
   decl_more (decl.FullType name definition) f = definition_more definition f
-  decl_more (decl.Subtype name parent range) f = there_more (IsRange m) (IsRange n) range_more range f
+  decl_more (decl.Subtype name parent range) f = there_more (IsRange m) (IsRange n) (range_more m n le) range f
 
   unit_more : (x : Unit) → IsUnit m x → IsUnit n x
   unit_more (unit.Subprogram x) f = record { formal_part = f.formal_part; derives = f.derives; pre = predicate_more x.pre f.pre; post = predicate_more x.post f.post; declarations = each_more (IsDecl m) (IsDecl n) decl_more x.declarations f.declarations; statements = stmts_more x.statements f.statements }

@@ -64,6 +64,7 @@ keeps k.If = ItsPlace
 keeps k.Elsif = ItsPlace
 keeps k.Case = ItsPlace
 keeps k.While = ItsPlace
+keeps k.For = ItsPlace
 keeps k.Loop = ItsPlace
 keeps _ = KindAlone
 

@@ -239,9 +239,10 @@ pub record IsChoice (levels : ℕ) (choice : Choice) : Type 0 where
 abbrev pub IsAlternative : ℕ → (Stmt → Type 0) → Alternative-F Stmt Alternative Arm → Type 0
 IsAlternative levels Inner alternative = IfThere (OneOrMore (IsChoice (levels - 1))) alternative.choices × OneOrMore Inner alternative.body
 
--- "while" expression (Ada 95 RM 5.5)
+-- "while" expression | "for" identifier "in" ["reverse"] name ["range" range] (Ada 95 RM 5.5)
 abbrev pub IsScheme : ℕ → Scheme → Type 0
 IsScheme levels (scheme.While place condition) = IsExpr levels condition
+IsScheme levels (scheme.For c) = IfThere (IsRange levels) c.bounds
 
 -- one level: "null" ";" (Ada 95 RM 5.1) | name ":=" expression ";" (5.2) | "if" arm {"elsif" arm} ["else" statements] "end" "if" ";" (5.3)
 -- | "case" expression "is" alternative {alternative} "end" "case" ";" (5.4) | scheme "loop" statements "end" "loop" ";" (5.5) | ("assert" | "check") predicate ";" (Barnes)

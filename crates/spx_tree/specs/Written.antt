@@ -27,6 +27,7 @@ use Rattle.spx_tree.specs.declared.statement.Stmt.{Stmt, Stmt-F, fold-Stmt}
 use Rattle.spx_tree.specs.declared.statement.Arm.{Arm, Arm-F, fold-Arm}
 use Rattle.spx_tree.specs.declared.statement.AssertionKind.{AssertionKind}
 use Rattle.spx_tree.specs.declared.statement.AssertionKind.TheVariants as assertion
+use Rattle.spx_tree.specs.declared.statement.Count.{Count}
 use Rattle.spx_tree.specs.declared.statement.Scheme.{Scheme}
 use Rattle.spx_tree.specs.declared.statement.Scheme.TheVariants as scheme
 use Rattle.spx_tree.specs.declared.statement.Alternative.{Alternative, Alternative-F, fold-Alternative}
@@ -258,9 +259,19 @@ written_choices (Some choices) = separated (bare program k.Bar) written_choice c
 abbrev pub alternative_step : Alternative-F (List Form) (List Form) (Kind → List Form) → List Form
 alternative_step alternative = bare program k.When ∷ (written_choices alternative.choices ++ bare program k.Arrow ∷ joined alternative.body)
 
--- "while" expression
+-- ["reverse"]
+abbrev pub written_direction : Bool → List Form
+written_direction true = bare program k.Reverse ∷ []
+written_direction false = []
+
+-- "for" identifier "in" ["reverse"] name ["range" range]
+abbrev pub written_count : Count → List Form
+written_count c = placed program k.For c.place ∷ named program c.name ∷ placed program k.In c.word ∷ (written_direction c.is_reverse ++ (written_name program c.type_name ++ optional written_constraint c.bounds))
+
+-- "while" expression | count
 abbrev pub written_scheme : Scheme → List Form
 written_scheme (scheme.While place condition) = placed program k.While place ∷ written_expr program condition
+written_scheme (scheme.For c) = written_count c
 
 -- the word of an annotation among statements
 abbrev pub assertion_word : AssertionKind → Kind

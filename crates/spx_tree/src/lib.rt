@@ -19,6 +19,6 @@ pub use expression::{
     copy_identifiers,
 };
 pub use laws::{one_spelling, one_stop};
-pub use statement::{Alternative, Arm, AssertionKind, Choice, Closing, Scheme, Stmt};
+pub use statement::{Alternative, Arm, AssertionKind, Choice, Closing, Count, Scheme, Stmt};
 pub use subprogram::{FormalPart, Param, Subprogram, Unit, WrittenMode};
 pub use token::{ANNOTATION_WORDS, Kind, RESERVED_WORDS, Token};

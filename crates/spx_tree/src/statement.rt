@@ -1,7 +1,8 @@
 // Statements (Ada 95 RM 5).
 ghost use Rattle.std.specs.Prelude.{◌≡◌, IfOk};
 
-use crate::{Expr, Name};
+use crate::declaration::copy_range;
+use crate::{Expr, Identifier, Name, Range};
 use spx_text::Place;
 use sqlite_items::Items;
 use std::alloc::{AllocError, Global};
@@ -29,6 +30,21 @@ pub enum Stmt {
 pub enum Scheme {
     /// At the word `while`: again and again as long as the condition is true.
     While(Place, Expr),
+    /// Once for each value of a type, or of a range of it.
+    For(Count),
+}
+
+/// The parameter of a loop, at the word `for`, and the values that it takes (Ada 95 RM 5.5):
+/// `name in [reverse] type_name [range low .. high]`
+#[derive(Debug, Drop)]
+pub struct Count {
+    pub place: Place,
+    pub name: Identifier,
+    /// The place of the word `in`.
+    pub word: Place,
+    pub is_reverse: bool,
+    pub type_name: Name,
+    pub bounds: Option<Range>,
 }
 
 /// What is known after an annotation among statements (Barnes).
@@ -116,7 +132,27 @@ impl Scheme {
     {
         match self {
             Scheme::While(place, condition) => Ok(Scheme::While(*place, condition.copy(alloc)?)),
+            Scheme::For(count) => Ok(Scheme::For(count.copy(alloc)?)),
         }
+    }
+}
+
+impl Count {
+    /// An equal parameter.
+    pub fn copy(&self, alloc: Global) -> Result<Count, AllocError>
+        ensures { IfOk result (λ count. count ≡ self.now) }
+    {
+        let name = self.name.copy(alloc)?;
+        let type_name = self.type_name.copy(alloc)?;
+        let bounds = copy_range(alloc, &self.bounds)?;
+        Ok(Count {
+            place: self.place,
+            name,
+            word: self.word,
+            is_reverse: self.is_reverse,
+            type_name,
+            bounds,
+        })
     }
 }
 

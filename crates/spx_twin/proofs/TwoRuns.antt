@@ -12,7 +12,7 @@ use Rattle.spx_core.specs.declared.entity.Mode.TheVariants as mode
 use Rattle.spx_core.specs.declared.subprogram.Sub.{Sub}
 use Rattle.spx_core.specs.Commands.{commands}
 use Rattle.spx_core.specs.Dependency.{derives, exports, imports}
-use Rattle.spx_core.specs.Formals.{is_formal, is_local, mode_of}
+use Rattle.spx_core.specs.Formals.{is_formal, is_inner, mode_of}
 use Rattle.spx_core.specs.Effects.{defines, reads}
 use Rattle.spx_core.specs.Flow.{MayFlow}
 use Rattle.spx_core.specs.FlowRules.{HasNoFinding, HasNoFlowFinding, body_effect}
@@ -23,45 +23,45 @@ use Rattle.spx_meaning.specs.Runs.{entry_of}
 use Rattle.spx_meaning.specs.Laws.{AreDerived, OthersAreKept, TwoRuns}
 use Rattle.spx_core.specs.Scopes.{Scoped, TypesHaveValues}
 use Rattle.spx_core.proofs.Callers.FlowLaws.{unread}
-use Rattle.spx_meaning.proofs.Callers.Scopes.{local_starts, mode_is}
+use Rattle.spx_meaning.proofs.Callers.Scopes.{inner_starts, mode_is}
 use Rattle.spx_meaning.proofs.Callers.Entries.{cleared_agree}
 use Rattle.spx_meaning.proofs.Callers.Runs.{call_ended}
 use Rattle.spx_meaning.proofs.Callers.Flows.{kept, determined}
 
--- a formal or a local that is no local is a formal
-the_formal : (formal local : Bool) → (formal || local) ≡ true → local ≡ false → formal ≡ true
-the_formal true local own no_local = refl
-the_formal false local own no_local = absurd (cc)
+-- a variable of a subprogram that is not declared in its body is a formal
+the_formal : (formal inner : Bool) → (formal || inner) ≡ true → inner ≡ false → formal ≡ true
+the_formal true inner own no_inner = refl
+the_formal false inner own no_inner = absurd (cc)
 
 module _ (p : Program) (sub : Sub) (scoped : Scoped p sub) (types : TypesHaveValues p) where
-  -- every flow to an export that does not come from a local is declared
-  declared_flow : HasNoFinding p sub → (u y : VarId) → exports y sub ≡ true → MayFlow (body_effect sub) u y → is_local u sub ≡ false → derives u y sub ≡ true
-  declared_flow fits u y export flow no_local = by_derives (derives u y sub) refl
+  -- every flow to an export that does not come from what is declared in the body is declared in the relation
+  declared_flow : HasNoFinding p sub → (u y : VarId) → exports y sub ≡ true → MayFlow (body_effect sub) u y → is_inner u sub ≡ false → derives u y sub ≡ true
+  declared_flow fits u y export flow no_inner = by_derives (derives u y sub) refl
     where
       by_read : (r : Bool) → reads u (body_effect sub) ≡ r → is_formal u sub ≡ true
-      by_read true is = the_formal (is_formal u sub) (is_local u sub) (scoped.read u is) no_local
+      by_read true is = the_formal (is_formal u sub) (is_inner u sub) (scoped.read u is) no_inner
       by_read false is = ap (λ v. is_formal v sub) (unread (body_effect sub) u y is flow) ∙ scoped.exported y export
 
       by_derives : (d : Bool) → derives u y sub ≡ d → derives u y sub ≡ true
       by_derives true is = is
       by_derives false is = absurd (fits.none_missing u y (by_read (reads u (body_effect sub)) refl, export, flow, is))
 
-  -- two bodies begin with one value of a variable where the calls do; a local has the one with which it is declared
-  begin_alike : (s t : Store) (u : VarId) → (is_local u sub ≡ false → look s u ≡ look t u) → look (entry_of p sub s) u ≡ look (entry_of p sub t) u
-  begin_alike s t u agree = by_local (is_local u sub) refl
+  -- two bodies begin with one value of a variable where the calls do; what is declared in the body has the one with which it is declared
+  begin_alike : (s t : Store) (u : VarId) → (is_inner u sub ≡ false → look s u ≡ look t u) → look (entry_of p sub s) u ≡ look (entry_of p sub t) u
+  begin_alike s t u agree = by_inner (is_inner u sub) refl
     where
-      by_local : (b : Bool) → is_local u sub ≡ b → look (entry_of p sub s) u ≡ look (entry_of p sub t) u
-      by_local true is = local_starts p sub scoped u is s ∙ sym (local_starts p sub scoped u is t)
-      by_local false is = cleared_agree p s t sub.vars u (agree is)
+      by_inner : (b : Bool) → is_inner u sub ≡ b → look (entry_of p sub s) u ≡ look (entry_of p sub t) u
+      by_inner true is = inner_starts p sub scoped u is s ∙ sym (inner_starts p sub scoped u is t)
+      by_inner false is = cleared_agree p s t sub.vars u (agree is)
 
   pub are_derived : HasNoFinding p sub → AreDerived p sub
   are_derived fits n m s t s' t' start start' ended ended' y export agree =
       determined (around p sub (entry_of p sub s)) (around p sub (entry_of p sub t)) refl types n m (entry_of p sub s) (entry_of p sub t) s' t' (commands sub.statements) (call_ended p n sub s s' ended) (call_ended p m sub t t' ended') y
-      (λ u flow. begin_alike s t u (λ no_local. agree u (declared_flow fits u y export flow no_local)))
+      (λ u flow. begin_alike s t u (λ no_inner. agree u (declared_flow fits u y export flow no_inner)))
 
-  -- what is neither an export nor a local is not set
-  unset_others : ObeysRules p sub → (v : VarId) → exports v sub ≡ false → is_local v sub ≡ false → defines v sub.statements ≡ false
-  unset_others obeys v other no_local = by_defined (defines v sub.statements) refl
+  -- what is neither an export nor declared in the body is not set
+  unset_others : ObeysRules p sub → (v : VarId) → exports v sub ≡ false → is_inner v sub ≡ false → defines v sub.statements ≡ false
+  unset_others obeys v other no_inner = by_defined (defines v sub.statements) refl
     where
       allowed : (mode : Mode) → mode_of v p ≡ Some mode → is_formal v sub ≡ true → defines v sub.statements ≡ true → ⊥
       allowed mode.In is formal defined = obeys.targets v defined is
@@ -72,12 +72,12 @@ module _ (p : Program) (sub : Sub) (scoped : Scoped p sub) (types : TypesHaveVal
       by_mode formal defined = let kind = scoped.formal_kinds v formal in allowed kind.0 (mode_is p v (Formal kind.0) kind.1) formal defined
 
       by_defined : (d : Bool) → defines v sub.statements ≡ d → defines v sub.statements ≡ false
-      by_defined true is = absurd (by_mode (the_formal (is_formal v sub) (is_local v sub) (scoped.targets v is) no_local) is)
+      by_defined true is = absurd (by_mode (the_formal (is_formal v sub) (is_inner v sub) (scoped.targets v is) no_inner) is)
       by_defined false is = is
 
   pub others_are_kept : ObeysRules p sub → OthersAreKept p sub
-  others_are_kept obeys n s s' start ended v other no_local =
-      kept (around p sub (entry_of p sub s)) n (entry_of p sub s) s' (commands sub.statements) v (call_ended p n sub s s' ended) (unset_others obeys v other no_local)
+  others_are_kept obeys n s s' start ended v other no_inner =
+      kept (around p sub (entry_of p sub s)) n (entry_of p sub s) s' (commands sub.statements) v (call_ended p n sub s s' ended) (unset_others obeys v other no_inner)
 
 -- ---- programs
 

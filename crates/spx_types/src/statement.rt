@@ -1,18 +1,19 @@
-// The rules on annotations and statements (Ada 95 RM 5.2, 5.3, 8.3).
+// The rules on annotations and statements (Ada 95 RM 5.2 to 5.5, 8.3).
 ghost use Rattle.std.specs.Prelude.{◌≡◌};
 ghost use Rattle.spx_core.specs.declared.statement.CoreArm.{out-CoreArm};
 ghost use Rattle.spx_core.specs.Commands.{command, commands};
-ghost use Rattle.spx_core.specs.Judged.{each};
+ghost use Rattle.spx_core.specs.Judged.{each, if_there};
 ghost use Rattle.spx_core.specs.Statements as rules;
 ghost use Rattle.spx_types.specs.Arms.{FoundInArms};
 ghost use Rattle.spx_types.specs.Choices.{alternatives_in, done_in};
 
 use crate::choices::{judge_choices, judge_selector};
 use crate::expression::{condition, judge, operand_of};
-use crate::names::{referred_object, referred_target};
+use crate::membership::ordered_type;
+use crate::names::{keeps, referred_object, referred_target};
 use spx_core::{
-    Breach, CoreAlternative, CoreArm, CoreDerivesItem, CoreExpr, CorePredicate, CoreScheme,
-    CoreStmt, ExprType, Reference,
+    Breach, CoreAlternative, CoreArm, CoreCount, CoreDerivesItem, CoreExpr, CorePredicate,
+    CoreRange, CoreScheme, CoreStmt, ExprType, Reference, RuleName, Subtype,
 };
 
 fn judge_variable(reference: &Reference) -> Result<(), Breach>
@@ -58,6 +59,33 @@ fn assignment(target: &Reference, value: &CoreExpr) -> Result<(), Breach>
 {
     let subtype = referred_target(target)?;
     operand_of(subtype, judge(value)?)
+}
+
+/// Values of the type are needed.
+fn judge_range(subtype: Subtype, range: &CoreRange) -> Result<(), Breach>
+    ensures { result ≡ rules.judged_bounds subtype range.now }
+{
+    operand_of(subtype, judge(&range.low)?)?;
+    operand_of(subtype, judge(&range.high)?)
+}
+
+/// The first broken rule in the bounds of a loop over values of this type, if they are written.
+fn judge_bounds(subtype: Subtype, bounds: &Option<CoreRange>) -> Result<(), Breach>
+    ensures { result ≡ if_there (rules.judged_bounds subtype) bounds.now }
+{
+    match bounds {
+        None => Ok(()),
+        Some(range) => judge_range(subtype, range),
+    }
+}
+
+/// The first broken rule in the head of a loop over a parameter.
+fn judge_count(count: &CoreCount) -> Result<(), Breach>
+    ensures { result ≡ rules.judged_count count.now }
+{
+    keeps(RuleName::N2, count.name.place, !count.again)?;
+    let subtype = ordered_type(&count.type_name)?;
+    judge_bounds(subtype, &count.bounds)
 }
 
 /// The first broken rule in statements.
@@ -129,6 +157,10 @@ fn judge_stmt(stmt: &CoreStmt) -> Result<(), Breach>
         }
         CoreStmt::Loop(CoreScheme::While(_, condition), _, body, _) => {
             test(condition)?;
+            judge_stmts(body.as_slice())
+        }
+        CoreStmt::Loop(CoreScheme::For(count), _, body, _) => {
+            judge_count(count)?;
             judge_stmts(body.as_slice())
         }
         CoreStmt::Assertion(_, _, condition) => test(condition),

@@ -17,7 +17,7 @@ use Rattle.spx_term.specs.declared.term.Term.TheVariants.{Prefix}
 use Rattle.spx_term.specs.declared.term.TermPrefix.TheVariants.{Not}
 use Rattle.spx_term.specs.Steps.{Tree, Assume, Split, assume_parts}
 use Rattle.spx_paths.specs.Terms.{now_term, term_of}
-use Rattle.spx_paths.specs.Walks.{ending, tested, walk}
+use Rattle.spx_paths.specs.Walks.{ending, tested}
 use Rattle.spx_arena.specs.declared.facts.FactsId.{FactsId}
 use Rattle.spx_arena.specs.declared.terms.TermId.{TermId}
 use Rattle.spx_arena.specs.Claims.{AreIds, AreLists, AreClaims, trees_at, claims_at}
@@ -27,19 +27,20 @@ use Rattle.spx_arena.proofs.Ids.{kept_ids, wider_ids}
 use Rattle.spx_vcg.specs.declared.branches.Mark.{Mark}
 use Rattle.spx_vcg.specs.declared.walk.Walk.{Walk}
 use Rattle.spx_vcg.specs.ConditionWalk.{State, applied, forward}
+use Rattle.spx_vcg.specs.Counting.{along}
 use Rattle.spx_vcg.specs.States.{AreValues, state_in}
-use Rattle.spx_vcg.specs.WalkSteps.{state, Longer, OnlyAdds, OnlyTerms, Keeps, Walks, Means, Whole, claims_from, Evaluates}
-use Rattle.spx_vcg.specs.PathWalk.{Passes, Comes, Ends, PassesArm, Takes, negated, Marks, IsBack, to_end}
+use Rattle.spx_vcg.specs.WalkSteps.{state, Longer, OnlyAdds, OnlyTerms, Keeps, Goes, Walks, Means, Whole, claims_from, Evaluates}
+use Rattle.spx_vcg.specs.PathWalk.{Passes, Comes, Ends, PassesArm, Takes, negated, Marks, IsBack, to_end, where_true}
 use Rattle.spx_vcg.proofs.ConditionTerms.{applied-Prefix}
 use Rattle.spx_vcg.proofs.SharedIds.{state_kept}
 use Rattle.spx_vcg.proofs.SharedSteps.{adds_twice, longer_not, only_means, only_walks, walks_twice, wider_values}
 use Rattle.spx_vcg.proofs.StartSteps.{claims_end, no_lefts}
 
 -- ---- relations between walks
-pub comes_twice : {p : Program} {sub : Sub} {a b c : Walk} {e f g : Command} → Comes p sub a b e f → Comes p sub b c f g → Comes p sub a c e g
+pub comes_twice : {a b c : Walk} {e f g : ℕ → Tree} → Comes a b e f → Comes b c f g → Comes a c e g
 comes_twice l r = record { whole = r.whole; adds = adds_twice l.adds r.adds; same = λ made. l.same made ∙ r.same made }
 
-pub comes_ends : {p : Program} {sub : Sub} {a b c : Walk} {e f : Command} → Comes p sub a b e f → Ends p sub b c f → Ends p sub a c e
+pub comes_ends : {a b c : Walk} {e f : ℕ → Tree} → Comes a b e f → Ends b c f → Ends a c e
 comes_ends l r = record { whole = r.whole; adds = adds_twice l.adds r.adds; same = λ made. l.same made ∙ r.same made }
 
 -- ---- a negated condition
@@ -104,22 +105,19 @@ module _ {old last new : Walk} (m : Mark) (whole : Whole old) (later : Whole las
     same = λ rest. split_from old tree rest ∙ (λ i. (made ∙ back_claims) i ++ forward (sym back_state i) (sym back_facts i) rest) ∙ sym (from_here new rest);
   }
 
-pub after_taken : {p : Program} {sub : Sub} {old mid last new : Walk} (condition : CoreExpr) (c : Command) (m : Mark) → Whole old → Marks old m → Keeps old mid → Walks old mid (assume_parts (term_of p (now_term p) condition))
-    → Ends p sub mid last c → IsBack last new m → Takes p old new condition (to_end p sub c)
-after_taken {p} {sub} {old} {mid} {last} {new} condition c m whole marks keeps walks ends back =
-    let adds = adds_twice keeps.adds ends.adds in
+-- the steps to a way, and the way to its end
+pub taken_back : {old mid last new : Walk} {steps : Tree → Tree} {way : ℕ → Tree} (m : Mark) → Whole old → Marks old m → Goes old mid steps → Ends mid last way → IsBack last new m → Takes old new (along steps way)
+taken_back {old} {mid} {last} {new} {steps} {way} m whole marks goes ends back =
+    let adds = adds_twice goes.adds ends.adds in
     record {
       whole = back_whole m whole ends.whole adds marks back;
       adds = back_adds m whole ends.whole adds marks back;
       kept = back_state m whole ends.whole adds marks back;
-      goes = λ made.
-          let tree = walk p sub c (ending p sub) (ending p sub) made in
-          back_walks m whole ends.whole adds marks back (assume_parts (term_of p (now_term p) condition) tree)
-          (walks.same tree ∙ ends.same made ∙ claims_end last);
+      goes = λ made. back_walks m whole ends.whole adds marks back (steps (way made)) (goes.same (way made) ∙ ends.same made ∙ claims_end last);
     }
 
 -- ---- conditions
-module _ {p : Program} {w x y z : Walk} {id : TermId} (e : CoreExpr) {way : ℕ → Tree} (checked : Keeps w x) (within : id.0 < length x.terms) (v : Evaluates p [] w x e id) (k : Takes p x y e way) (last : Keeps y z) (n : (t : Term) → Means y id t → Walks y z (negated t)) where
+module _ {p : Program} {w x y z : Walk} {id : TermId} (e : CoreExpr) (way : ℕ → Tree) (checked : Keeps w x) (within : id.0 < length x.terms) (v : Evaluates p [] w x e id) (k : Takes x y (where_true p e way)) (last : Keeps y z) (n : (t : Term) → Means y id t → Walks y z (negated t)) where
   abbrev t : Term
   t = term_of p (now_term p) e
 
@@ -139,75 +137,77 @@ module _ {p : Program} {w x y z : Walk} {id : TermId} (e : CoreExpr) {way : ℕ 
       ∙ (n t condition_stays).same (fails made)
 
 -- ---- arms
-pub after_arm : {p : Program} {sub : Sub} {w x y z : Walk} {id : TermId} (e : CoreExpr) (c following : Command) → Keeps w x → id.0 < length x.terms → Evaluates p [] w x e id → Takes p x y e (to_end p sub (Then c following)) → Keeps y z
+pub after_arm : {p : Program} {w x y z : Walk} {id : TermId} (sub : Sub) (e : CoreExpr) (c : Command) (following : ℕ → Tree) → Keeps w x → id.0 < length x.terms → Evaluates p [] w x e id → Takes x y (where_true p e (to_end p sub c following)) → Keeps y z
     → ((t : Term) → Means y id t → Walks y z (negated t)) → (arm : Command → Command) (place : Place) → ((otherwise : Command) → arm otherwise ≡ Choose place e c otherwise) → PassesArm p sub w z arm following
-after_arm {p} {sub} {w} e c following checked within v k last n arm place is otherwise = record {
+after_arm {p} {w} sub e c following checked within v k last n arm place is otherwise = record {
   whole = last.whole;
-  adds = test_adds e checked within v k last n;
+  adds = test_adds e (to_end p sub c following) checked within v k last n;
   same = λ made.
-      ap (λ d. claims_from w (to_end p sub (Then d following) made)) (is otherwise)
-      ∙ after_test e checked within v k last n (to_end p sub (Then otherwise following)) made;
+      ap (λ d. claims_from w (to_end p sub d following made)) (is otherwise)
+      ∙ after_test e (to_end p sub c following) checked within v k last n (to_end p sub otherwise following) made;
 }
 
--- the walk is at these commands
-along : {p : Program} {sub : Sub} {a b : Walk} {e f g : Command} → f ≡ g → Comes p sub a b e f → Comes p sub a b e g
-along {p} {sub} {a} {b} {e} {f} {g} is c = subst (Comes p sub a b e) is c
+-- the walk is at the start of this way
+here_along : {a b : Walk} {e f g : ℕ → Tree} → f ≡ g → Comes a b e f → Comes a b e g
+here_along {a} {b} {e} is c = subst (Comes a b e) is c
 
-pub next_arm : {p : Program} {sub : Sub} {a b c : Walk} (o following : Command) (arms : List CoreArm) (i : ℕ) (arm : CoreArm) → i < length arms → arm ≡ get_or arms i arm
-    → Comes p sub a b (Then (arms_before o (map arm_before arms)) following) (Then (arms_before o (map arm_before (drop i arms))) following)
-    → PassesArm p sub b c (arm_before arm) following
-    → Comes p sub a c (Then (arms_before o (map arm_before arms)) following) (Then (arms_before o (map arm_before (drop (i + 1) arms))) following)
-next_arm o following arms i arm within is before passes =
-    let here : arms_before o (map arm_before (drop i arms)) ≡ arm_before arm (arms_before o (map arm_before (drop (i + 1) arms))) =
-    ap (λ xs. arms_before o (map arm_before xs)) (drop-cons arms i arm within ∙ (λ k. sym is k ∷ drop (sym (add-one i) k) arms)) in
-    comes_twice (along (ap (λ d. Then d following) here) before) (passes (arms_before o (map arm_before (drop (i + 1) arms))))
+module _ (p : Program) (sub : Sub) {a b c : Walk} (o : Command) (following : ℕ → Tree) (arms : List CoreArm) (i : ℕ) where
+  pub next_arm : (arm : CoreArm) → i < length arms → arm ≡ get_or arms i arm
+      → Comes a b (to_end p sub (arms_before o (map arm_before arms)) following) (to_end p sub (arms_before o (map arm_before (drop i arms))) following)
+      → PassesArm p sub b c (arm_before arm) following
+      → Comes a c (to_end p sub (arms_before o (map arm_before arms)) following) (to_end p sub (arms_before o (map arm_before (drop (i + 1) arms))) following)
+  next_arm arm within is before passes =
+      let here : arms_before o (map arm_before (drop i arms)) ≡ arm_before arm (arms_before o (map arm_before (drop (i + 1) arms))) =
+      ap (λ xs. arms_before o (map arm_before xs)) (drop-cons arms i arm within ∙ (λ k. sym is k ∷ drop (sym (add-one i) k) arms)) in
+      comes_twice (here_along (ap (λ d. to_end p sub d following) here) before) (passes (arms_before o (map arm_before (drop (i + 1) arms))))
 
-pub last_arm : {p : Program} {sub : Sub} {a b c : Walk} (o following : Command) (arms : List CoreArm) (i : ℕ) → length arms ≤ i
-    → Comes p sub a b (Then (arms_before o (map arm_before arms)) following) (Then (arms_before o (map arm_before (drop i arms))) following) → Ends p sub b c (Then o following)
-    → Ends p sub a c (Then (arms_before o (map arm_before arms)) following)
-last_arm o following arms i end before last = comes_ends (along (at_drop_all (λ (xs : List CoreArm). Then (arms_before o (map arm_before xs)) following) arms i end) before) last
+  pub last_arm : length arms ≤ i
+      → Comes a b (to_end p sub (arms_before o (map arm_before arms)) following) (to_end p sub (arms_before o (map arm_before (drop i arms))) following) → Ends b c (to_end p sub o following)
+      → Ends a c (to_end p sub (arms_before o (map arm_before arms)) following)
+  last_arm end before last = comes_ends (here_along (at_drop_all (λ (xs : List CoreArm). to_end p sub (arms_before o (map arm_before xs)) following) arms i end) before) last
 
 -- ---- statements
 pub here_is : (stmts : List CoreStmt) (i : ℕ) (stmt : CoreStmt) → i < length stmts → stmt ≡ get_or stmts i stmt → commands (drop i stmts) ≡ Then (command stmt) (commands (drop (i + 1) stmts))
 here_is stmts i stmt within is = ap commands (drop-cons stmts i stmt within ∙ (λ k. sym is k ∷ drop (sym (add-one i) k) stmts))
 
-module _ {p : Program} {sub : Sub} {a b : Walk} (start following : Command) (stmts : List CoreStmt) (i : ℕ) (stmt : CoreStmt) (within : i < length stmts) (is : stmt ≡ get_or stmts i stmt) (before : Comes p sub a b start (Then (commands (drop i stmts)) following)) where
+module _ (p : Program) (sub : Sub) {a b : Walk} (start following : ℕ → Tree) (stmts : List CoreStmt) (i : ℕ) (stmt : CoreStmt) (within : i < length stmts) (is : stmt ≡ get_or stmts i stmt)
+    (before : Comes a b start (to_end p sub (commands (drop i stmts)) following)) where
   abbrev next : Command
   next = commands (drop (i + 1) stmts)
 
-  at_statement : (c : Command) → command stmt ≡ c → Comes p sub a b start (Then (Then c next) following)
-  at_statement c e = along (ap (λ d. Then d following) (here_is stmts i stmt within is ∙ ap (λ d. Then d next) e)) before
+  at_statement : (c : Command) → command stmt ≡ c → Comes a b start (to_end p sub (Then c next) following)
+  at_statement c e = here_along (ap (λ d. to_end p sub d following) (here_is stmts i stmt within is ∙ ap (λ d. Then d next) e)) before
 
-  pub after_null : command stmt ≡ Skip → Comes p sub a b start (Then next following)
+  pub after_null : command stmt ≡ Skip → Comes a b start (to_end p sub next following)
   after_null e = let here = at_statement Skip e in record { whole = here.whole; adds = here.adds; same = here.same }
 
-  pub after_set : {c : Walk} (target : Reference) (value : CoreExpr) → command stmt ≡ Set target value → Passes p sub b c (Set target value) → Comes p sub a c start (Then next following)
+  pub after_set : {c : Walk} (target : Reference) (value : CoreExpr) → command stmt ≡ Set target value → Passes p sub b c (Set target value) → Comes a c start (to_end p sub next following)
   after_set {c} target value e passes =
       let here = at_statement (Set target value) e in
-      record { whole = passes.whole; adds = adds_twice here.adds passes.adds; same = λ made. here.same made ∙ passes.goes.same (walk p sub (Then next following) (ending p sub) (ending p sub) made) }
+      record { whole = passes.whole; adds = adds_twice here.adds passes.adds; same = λ made. here.same made ∙ passes.goes.same (to_end p sub next following made) }
 
-  pub after_check : {c : Walk} (place : Place) (condition : CoreExpr) → command stmt ≡ Assertion Check place condition → Passes p sub b c (Assertion Check place condition) → Comes p sub a c start (Then next following)
+  pub after_check : {c : Walk} (place : Place) (condition : CoreExpr) → command stmt ≡ Assertion Check place condition → Passes p sub b c (Assertion Check place condition) → Comes a c start (to_end p sub next following)
   after_check {c} place condition e passes =
       let here = at_statement (Assertion Check place condition) e in
-      record { whole = passes.whole; adds = adds_twice here.adds passes.adds; same = λ made. here.same made ∙ passes.goes.same (walk p sub (Then next following) (ending p sub) (ending p sub) made) }
+      record { whole = passes.whole; adds = adds_twice here.adds passes.adds; same = λ made. here.same made ∙ passes.goes.same (to_end p sub next following made) }
 
   -- at an `assert` the path ends
-  pub after_assert : {c : Walk} (place : Place) (condition : CoreExpr) → command stmt ≡ Assertion Assert place condition → Ends p sub b c (Assertion Assert place condition) → Ends p sub a c start
+  pub after_assert : {c : Walk} (place : Place) (condition : CoreExpr) → command stmt ≡ Assertion Assert place condition → Ends b c (to_end p sub (Assertion Assert place condition) (ending p sub)) → Ends a c start
   after_assert {c} place condition e ends =
       let here = at_statement (Assertion Assert place condition) e in
       record { whole = ends.whole; adds = adds_twice here.adds ends.adds; same = λ made. here.same made ∙ ends.same made }
 
-  pub after_branch : {c : Walk} (d then : Command) → command stmt ≡ d → then ≡ Then next following → Ends p sub b c (Then d then) → Ends p sub a c start
+  pub after_branch : {c : Walk} (d : Command) (then : ℕ → Tree) → command stmt ≡ d → then ≡ to_end p sub next following → Ends b c (to_end p sub d then) → Ends a c start
   after_branch {c} d then e f ends =
       let here = at_statement d e in
       record {
         whole = ends.whole;
         adds = adds_twice here.adds ends.adds;
-        same = λ made. here.same made ∙ ap (λ t. claims_from b (walk p sub (Then d t) (ending p sub) (ending p sub) made)) (sym f) ∙ ends.same made;
+        same = λ made. here.same made ∙ ap (λ t. claims_from b (to_end p sub d t made)) (sym f) ∙ ends.same made;
       }
 
 -- after the last statement
-pub at_end : {p : Program} {sub : Sub} {a b : Walk} (start following : Command) (stmts : List CoreStmt) (i : ℕ) → length stmts ≤ i → Comes p sub a b start (Then (commands (drop i stmts)) following) → Comes p sub a b start following
-at_end {p} {sub} {a} {b} start following stmts i end before =
-    let here = along (at_drop_all (λ (ss : List CoreStmt). Then (commands ss) following) stmts i end) before in
+pub at_end : {a b : Walk} (p : Program) (sub : Sub) (start following : ℕ → Tree) (stmts : List CoreStmt) (i : ℕ) → length stmts ≤ i → Comes a b start (to_end p sub (commands (drop i stmts)) following) → Comes a b start following
+at_end p sub start following stmts i end before =
+    let here = here_along (at_drop_all (λ (ss : List CoreStmt). to_end p sub (commands ss) following) stmts i end) before in
     record { whole = here.whole; adds = here.adds; same = here.same }

@@ -7,11 +7,11 @@ use Rattle.spx_core.specs.declared.program.Program.{Program}
 use Rattle.spx_core.specs.declared.statement.CoreAlternative.{CoreAlternative, out-CoreAlternative}
 use Rattle.spx_core.specs.declared.statement.CoreChoice.{CoreChoice}
 use Rattle.spx_core.specs.declared.subprogram.Sub.{Sub}
-use Rattle.spx_core.specs.Commands.{Command, Then, alternative, commands, select}
+use Rattle.spx_core.specs.Commands.{Command, alternative, commands, select}
 use Rattle.spx_term.specs.declared.term.Term.{Term}
 use Rattle.spx_term.specs.Steps.{Tree, Cut, Split, assume_all}
 use Rattle.spx_paths.specs.Terms.{now_term, term_of}
-use Rattle.spx_paths.specs.Walks.{alternative_facts, and_these, ending, walk}
+use Rattle.spx_paths.specs.Walks.{alternative_facts, and_these}
 use Rattle.spx_arena.specs.declared.terms.TermId.{TermId}
 use Rattle.spx_arena.specs.Claims.{claims_at, trees_at}
 use Rattle.spx_arena.specs.Sharing.{tree_at}
@@ -21,7 +21,7 @@ use Rattle.spx_vcg.specs.declared.walk.Walk.{Walk}
 use Rattle.spx_vcg.specs.ConditionWalk.{State, applied, forward}
 use Rattle.spx_vcg.specs.States.{AddsAll}
 use Rattle.spx_vcg.specs.WalkSteps.{state, Evaluates, Keeps, MeanAll, Means, Walks, Whole, claims_from}
-use Rattle.spx_vcg.specs.PathWalk.{Ends, IsBack, Marks, TakesEach, TakesUnder, left_for}
+use Rattle.spx_vcg.specs.PathWalk.{Ends, IsBack, Marks, TakesEach, TakesUnder, left_for, to_end}
 use Rattle.spx_vcg.proofs.BranchSteps.{back_adds, back_state, back_walks, back_whole}
 use Rattle.spx_vcg.proofs.CheckSteps.{only_at}
 use Rattle.spx_vcg.proofs.ChoiceTerms.{applied-alternative_facts, applied-and_these}
@@ -30,22 +30,21 @@ use Rattle.spx_vcg.proofs.SharedSteps.{adds_twice, only_all, only_walks, walks_t
 use Rattle.spx_vcg.proofs.StartSteps.{claims_end, no_lefts}
 
 -- ---- one alternative
-pub after_under : {p : Program} {sub : Sub} {old mid last new : Walk} (facts : List TermId) (c : Command) (m : Mark) → Whole old → Marks old m → Keeps old mid → ((ts : List Term) → MeanAll old facts ts → Walks old mid (assume_all ts))
-    → Ends p sub mid last c → IsBack last new m → TakesUnder p sub old new facts c
-after_under {p} {sub} {old} {mid} {last} {new} facts c m whole marks keeps walks ends back =
+pub after_under : {old mid last new : Walk} (facts : List TermId) (way : ℕ → Tree) (m : Mark) → Whole old → Marks old m → Keeps old mid → ((ts : List Term) → MeanAll old facts ts → Walks old mid (assume_all ts))
+    → Ends mid last way → IsBack last new m → TakesUnder old new facts way
+after_under {old} {mid} {last} {new} facts way m whole marks keeps walks ends back =
     let adds = adds_twice keeps.adds ends.adds in
     record {
       whole = back_whole m whole ends.whole adds marks back;
       adds = back_adds m whole ends.whole adds marks back;
       kept = back_state m whole ends.whole adds marks back;
       goes = λ ts means made.
-          let tree = walk p sub c (ending p sub) (ending p sub) made in
-          back_walks m whole ends.whole adds marks back (assume_all ts tree) ((walks ts means).same tree ∙ ends.same made ∙ claims_end last);
+          back_walks m whole ends.whole adds marks back (assume_all ts (way made)) ((walks ts means).same (way made) ∙ ends.same made ∙ claims_end last);
     }
 
 -- ---- one after the other
 -- The walk is at these alternatives of all, and the ids stand for the choices of earlier ones.
-pub record IsAt (p : Program) (sub : Sub) (old new : Walk) (ids : List TermId) (all those : List Part) (following : Command) (t : Term) : Type 0 where
+pub record IsAt (p : Program) (sub : Sub) (old new : Walk) (ids : List TermId) (all those : List Part) (following : ℕ → Tree) (t : Term) : Type 0 where
   pub earlier : List Term
   pub mean : MeanAll new ids earlier
   pub same : (made : ℕ) → claims_from old (left_for p sub t [] all following made) ≡ claims_from new (left_for p sub t earlier those following made)
@@ -54,10 +53,10 @@ split_last : (w : Walk) (tree : Tree) → claims_from w (Split tree Cut) ≡ cla
 unfolding claims_from
 split_last w tree = ap (λ cs. claims_at w.terms w.facts.lists w.claims ++ cs) (append-nil (forward (state w) (trees_at w.terms w.facts.present.keys) tree))
 
-one_taken : {w y : Walk} (p : Program) (sub : Sub) (t : Term) (earlier : List Term) (choices : Option (List CoreChoice)) (c : Command) (more : List Part) (following : Command) (made : ℕ)
-    → Walks w y (Split (assume_all (alternative_facts t earlier choices) (walk p sub (Then c following) (ending p sub) (ending p sub) made)))
+one_taken : {w y : Walk} (p : Program) (sub : Sub) (t : Term) (earlier : List Term) (choices : Option (List CoreChoice)) (c : Command) (more : List Part) (following : ℕ → Tree) (made : ℕ)
+    → Walks w y (Split (assume_all (alternative_facts t earlier choices) (to_end p sub c following made)))
     → claims_from w (left_for p sub t earlier ((choices, c) ∷ more) following made) ≡ claims_from y (left_for p sub t (and_these t earlier choices) more following made)
-one_taken {w} {y} p sub t earlier choices c [] following made walks = sym (split_last w (assume_all (alternative_facts t earlier choices) (walk p sub (Then c following) (ending p sub) (ending p sub) made))) ∙ walks.same Cut
+one_taken {w} {y} p sub t earlier choices c [] following made walks = sym (split_last w (assume_all (alternative_facts t earlier choices) (to_end p sub c following made))) ∙ walks.same Cut
 one_taken {w} {y} p sub t earlier choices c (second ∷ more) following made walks = walks.same (left_for p sub t (and_these t earlier choices) (second ∷ more) following made)
 
 pub here_alternative : (alternatives : List CoreAlternative) (i : ℕ) (a : CoreAlternative) → i < length alternatives → a ≡ get_or alternatives i a
@@ -65,10 +64,10 @@ pub here_alternative : (alternatives : List CoreAlternative) (i : ℕ) (a : Core
 here_alternative alternatives i a within is =
     ap (map alternative) (drop-cons alternatives i a within ∙ (λ k. sym is k ∷ drop (sym (add-one i) k) alternatives)) ∙ ap (λ x. x ∷ map alternative (drop (i + 1) alternatives)) (alternative_is a)
 
-module _ {p : Program} {sub : Sub} {first w y : Walk} {terms : List Term} {value : TermId} {ids facts same more : List TermId} {choices : Option (List CoreChoice)} {c following : Command} {all those rest : List Part} (whole : Whole w) (t : Term) (m : Means w value t)
+module _ {p : Program} {sub : Sub} {first w y : Walk} {terms : List Term} {value : TermId} {ids facts same more : List TermId} {choices : Option (List CoreChoice)} {c : Command} {following : ℕ → Tree} {all those rest : List Part} (whole : Whole w) (t : Term) (m : Means w value t)
     (at : IsAt p sub first w ids all those following t) (here : those ≡ (choices, c) ∷ rest)
     (known : AddsAll w.terms terms facts (alternative_facts (tree_at w.terms value) (trees_at w.terms ids) choices)) (added : AddsAll w.terms terms more (and_these (tree_at w.terms value) (trees_at w.terms ids) choices))
-    (is : same ≡ facts) (takes : TakesUnder p sub (record w { terms = terms }) y same (Then c following)) where
+    (is : same ≡ facts) (takes : TakesUnder (record w { terms = terms }) y same (to_end p sub c following)) where
   abbrev x : Walk
   x = record w { terms = terms }
 
@@ -93,12 +92,12 @@ module _ {p : Program} {sub : Sub} {first w y : Walk} {terms : List Term} {value
   }
 
 -- ---- all of them
-pub no_case : {p : Program} {sub : Sub} {w y : Walk} (e : CoreExpr) (alternatives : List CoreAlternative) (following : Command) → (length alternatives == 0) ≡ true → Ends p sub w y following → (place : Place) → Ends p sub w y (Then (select place e (map alternative alternatives)) following)
-no_case e [] following none ends place = record { whole = ends.whole; adds = ends.adds; same = ends.same }
-no_case e (a ∷ alternatives) following none ends place = let empty = (Decides-eqb (length (a ∷ alternatives)) 0).0 none in absurd (omega (arith, empty))
+pub no_case : {w y : Walk} (p : Program) (sub : Sub) (e : CoreExpr) (alternatives : List CoreAlternative) (following : ℕ → Tree) → (length alternatives == 0) ≡ true → Ends w y following → (place : Place) → Ends w y (to_end p sub (select place e (map alternative alternatives)) following)
+no_case p sub e [] following none ends place = record { whole = ends.whole; adds = ends.adds; same = ends.same }
+no_case p sub e (a ∷ alternatives) following none ends place = let empty = (Decides-eqb (length (a ∷ alternatives)) 0).0 none in absurd (omega (arith, empty))
 
-pub after_case : {p : Program} {sub : Sub} {w x y : Walk} {id : TermId} (e : CoreExpr) (alternatives : List CoreAlternative) (following : Command) → (length alternatives == 0) ≡ false → Keeps w x → Evaluates p [] w x e id → TakesEach p sub x y id (map alternative alternatives) following
-    → (place : Place) → Ends p sub w y (Then (select place e (map alternative alternatives)) following)
+pub after_case : {p : Program} {sub : Sub} {w x y : Walk} {id : TermId} (e : CoreExpr) (alternatives : List CoreAlternative) (following : ℕ → Tree) → (length alternatives == 0) ≡ false → Keeps w x → Evaluates p [] w x e id → TakesEach p sub x y id (map alternative alternatives) following
+    → (place : Place) → Ends w y (to_end p sub (select place e (map alternative alternatives)) following)
 after_case e [] following some checked v takes place = absurd (true≢false (sym ((Decides-eqb 0 0).1 refl) ∙ some))
 after_case {p} {sub} {w} e (a ∷ alternatives) following some checked v takes place = record {
   whole = takes.whole;

@@ -23,6 +23,7 @@ use Rattle.spx_term.proofs.Terms.{fold-Number, fold-Truth, fold-Variable, fold-P
 use Rattle.spx_term.specs.Folding.{term_of as static_term}
 use Rattle.spx_term.specs.Goals.{goal_of}
 use Rattle.spx_paths.specs.Checks.{guarded, in_class, in_range, in_type, under}
+use Rattle.spx_paths.specs.Walks.{range_goal}
 use Rattle.spx_paths.specs.Terms.{between, member_term, moved_term, signed_term}
 use Rattle.spx_vcg.specs.ConditionWalk.{State, applied_step, applied}
 
@@ -91,6 +92,18 @@ applied-in_type s subtype t = applied-in_class s subtype.base.class subtype.firs
 
 pub applied-compared : (s : State) (op : TermOp) (t : Term) (n : ℤ) → map (applied s) (Infix op t (Number n) ∷ []) ≡ Infix op (applied s t) (Number n) ∷ []
 applied-compared s op t n = ap (λ x. x ∷ []) (applied-Infix s op t (Number n) ∙ ap (Infix op (applied s t)) (applied-Number s n))
+
+applied-bounded : (s : State) (op : TermOp) (t : Term) (n : ℤ) → applied s (Infix op t (Number n)) ≡ Infix op (applied s t) (Number n)
+applied-bounded s op t n = applied-Infix s op t (Number n) ∙ ap (Infix op (applied s t)) (applied-Number s n)
+
+pub applied-range_goal : (s : State) (subtype : Subtype) (low high : Term) → applied s (range_goal subtype low high) ≡ range_goal subtype (applied s low) (applied s high)
+applied-range_goal s subtype low high =
+    let some = Infix operator.LessOrEqual low high in
+    let first = Infix operator.GreaterOrEqual low (Number subtype.first) in
+    let last = Infix operator.LessOrEqual high (Number subtype.last) in
+    let both =
+    applied-Infix s operator.And first last ∙ (λ i. Infix operator.And (applied-bounded s operator.GreaterOrEqual low subtype.first i) (applied-bounded s operator.LessOrEqual high subtype.last i)) in
+    applied-Infix s operator.Implies some (Infix operator.And first last) ∙ (λ i. Infix operator.Implies (applied-Infix s operator.LessOrEqual low high i) (both i))
 
 pub applied-goal_of : (s : State) (ts : List Term) → applied s (goal_of ts) ≡ goal_of (map (applied s) ts)
 applied-goal_of s [] = applied-Truth s true

@@ -5,9 +5,10 @@ use Rattle.spx_text.specs.declared.place.Place.{Place}
 use Rattle.spx_core.specs.declared.expression.CoreExpr.{CoreExpr}
 use Rattle.spx_core.specs.declared.program.Program.{Program}
 use Rattle.spx_core.specs.declared.statement.CoreArm.{CoreArm, out-CoreArm}
+use Rattle.spx_core.specs.declared.statement.CoreCount.{CoreCount}
 use Rattle.spx_core.specs.declared.statement.CoreStmt.{CoreStmt}
 use Rattle.spx_core.specs.declared.subprogram.Sub.{Sub}
-use Rattle.spx_core.specs.Commands.{Command, Then, alternatives_of, arm_before, arms_before, command, commands, has_own_cut, select}
+use Rattle.spx_core.specs.Commands.{Command, alternatives_of, arm_before, arms_before, command, commands, has_own_cut, select}
 use Rattle.spx_term.specs.declared.term.Name.{Name}
 use Rattle.spx_term.specs.declared.term.Term.{Term}
 use Rattle.spx_term.specs.declared.term.Term.TheVariants.{Truth, Variable}
@@ -79,14 +80,14 @@ pub begins_along : {a b c : Walk} {f g : Tree → Tree} → BeginsAnew a b f →
 begins_along {a} {b} {c} {f} {g} begins goes = record { whole = goes.whole; same = λ rest. sym (goes.same rest) ∙ begins.same (g rest) }
 
 -- ---- the paths from a cut
-pub after_cut : {a b c d : Walk} (p : Program) (sub : Sub) (known : List Term) (following : Command) → BeginsAnew a b (assume_all (cut_facts p sub [])) → Walks b c (assume_all known) → Ends p sub c d following
-    → Leaves a d (from_cut p sub [] known (to_end p sub following 0) ∷ []) []
-after_cut {a} {b} {c} {d} p sub known following begins walks ends =
-    let rest = to_end p sub following 0 in
+pub after_cut : {a b c d : Walk} (p : Program) (sub : Sub) (within : List CoreCount) (known : List Term) (following : ℕ → Tree) → BeginsAnew a b (assume_all (cut_facts p sub within)) → Walks b c (assume_all known) → Ends c d following
+    → Leaves a d (from_cut p sub within known (following 0) ∷ []) []
+after_cut {a} {b} {c} {d} p sub within known following begins walks ends =
+    let rest = following 0 in
     record {
       whole = ends.whole;
       same =
-          ap (λ cs. so_far a ++ cs) (append-nil (forward Variable [] (from_cut p sub [] known rest)) ∙ ap (forward Variable []) (assume_all-append (cut_facts p sub []) known rest))
+          ap (λ cs. so_far a ++ cs) (append-nil (forward Variable [] (from_cut p sub within known rest)) ∙ ap (forward Variable []) (assume_all-append (cut_facts p sub within) known rest))
           ∙ sym (begins.same (assume_all known rest))
           ∙ walks.same rest
           ∙ ends.same 0
@@ -94,37 +95,38 @@ after_cut {a} {b} {c} {d} p sub known following begins walks ends =
     }
 
 -- that before the body of a loop
-pub after_loop_cut : {a b c d : Walk} (p : Program) (sub : Sub) (body again : Command) → has_own_cut body ≡ false → BeginsAnew a b (assume_all (cut_facts p sub [])) → Walks b c (assume_all (Truth true ∷ [])) → Ends p sub c d (Then body again)
-    → Leaves a d (loop_cut p sub [] (has_own_cut body) (to_end p sub (Then body again) 0)) []
-after_loop_cut {a} {b} {c} {d} p sub body again none begins walks ends =
-    subst (λ own. Leaves a d (loop_cut p sub [] own (to_end p sub (Then body again) 0)) []) (sym none) (after_cut p sub (Truth true ∷ []) (Then body again) begins walks ends)
+pub after_loop_cut : {a b c d : Walk} (p : Program) (sub : Sub) (within : List CoreCount) (body : Command) (again : ℕ → Tree) → has_own_cut body ≡ false → BeginsAnew a b (assume_all (cut_facts p sub within)) → Walks b c (assume_all (Truth true ∷ []))
+    → Ends c d (to_end p sub body again) → Leaves a d (loop_cut p sub within (has_own_cut body) (to_end p sub body again 0)) []
+after_loop_cut {a} {b} {c} {d} p sub within body again none begins walks ends =
+    subst (λ own. Leaves a d (loop_cut p sub within own (to_end p sub body again 0)) []) (sym none) (after_cut p sub within (Truth true ∷ []) (to_end p sub body again) begins walks ends)
 
 -- there is none, where the body has its own
-pub no_loop_cut : {w : Walk} (p : Program) (sub : Sub) (body : Command) (rest : Tree) → has_own_cut body ≡ true → Whole w → Leaves w w (loop_cut p sub [] (has_own_cut body) rest) []
-no_loop_cut {w} p sub body rest own whole = subst (λ b. Leaves w w (loop_cut p sub [] b rest) []) (sym own) (record { whole = whole; same = refl })
+pub no_loop_cut : {w : Walk} (p : Program) (sub : Sub) (within : List CoreCount) (body : Command) (rest : Tree) → has_own_cut body ≡ true → Whole w → Leaves w w (loop_cut p sub within (has_own_cut body) rest) []
+no_loop_cut {w} p sub within body rest own whole = subst (λ b. Leaves w w (loop_cut p sub within b rest) []) (sym own) (record { whole = whole; same = refl })
 
 -- ---- statements
-module _ (p : Program) (sub : Sub) {a b c : Walk} {all : List Tree} (following : Command) where
-  pub next_statement : {more : Command} (stmts : List CoreStmt) (i : ℕ) (stmt : CoreStmt) → i < length stmts → stmt ≡ get_or stmts i stmt → more ≡ Then (commands (drop (i + 1) stmts)) following
-      → Leaves a b all (cuts_in p sub (commands (drop i stmts)) following) → Leaves b c (cuts_in p sub (command stmt) more) [] → Leaves a c all (cuts_in p sub (commands (drop (i + 1) stmts)) following)
+module _ (p : Program) (sub : Sub) (around : List CoreCount) {a b c : Walk} {all : List Tree} (following : ℕ → Tree) where
+  pub next_statement : {more : ℕ → Tree} (stmts : List CoreStmt) (i : ℕ) (stmt : CoreStmt) → i < length stmts → stmt ≡ get_or stmts i stmt → more ≡ to_end p sub (commands (drop (i + 1) stmts)) following
+      → Leaves a b all (cuts_in p sub around (commands (drop i stmts)) following) → Leaves b c (cuts_in p sub around (command stmt) more) [] → Leaves a c all (cuts_in p sub around (commands (drop (i + 1) stmts)) following)
   next_statement {more} stmts i stmt within is e before step =
-      let next = cuts_in p sub (commands (drop (i + 1) stmts)) following in
-      leaves_next (cuts_in p sub (command stmt) more) next
-      (ap (λ d. cuts_in p sub d following) (here_is stmts i stmt within is) ∙ ap (λ m. cuts_in p sub (command stmt) m ++ next) (sym e)) before step
+      let next = cuts_in p sub around (commands (drop (i + 1) stmts)) following in
+      leaves_next (cuts_in p sub around (command stmt) more) next
+      (ap (λ d. cuts_in p sub around d following) (here_is stmts i stmt within is) ∙ ap (λ m. cuts_in p sub around (command stmt) m ++ next) (sym e)) before step
 
   pub next_arm : (arms : List CoreArm) (i : ℕ) (arm : CoreArm) → i < length arms → arm ≡ get_or arms i arm
-      → (otherwise : Command) → Leaves a b all (cuts_in p sub (arms_before otherwise (map arm_before (drop i arms))) following)
-      → Leaves b c (cuts_in p sub (commands (out-CoreArm arm).body) following) [] → Leaves a c all (cuts_in p sub (arms_before otherwise (map arm_before (drop (i + 1) arms))) following)
+      → (otherwise : Command) → Leaves a b all (cuts_in p sub around (arms_before otherwise (map arm_before (drop i arms))) following)
+      → Leaves b c (cuts_in p sub around (commands (out-CoreArm arm).body) following) [] → Leaves a c all (cuts_in p sub around (arms_before otherwise (map arm_before (drop (i + 1) arms))) following)
   next_arm arms i arm within is otherwise before step =
       let next = arms_before otherwise (map arm_before (drop (i + 1) arms)) in
-      leaves_next (cuts_in p sub (commands (out-CoreArm arm).body) following) (cuts_in p sub next following)
-      (ap (λ xs. cuts_in p sub (arms_before otherwise (map arm_before xs)) following) (drop-cons arms i arm within ∙ (λ k. sym is k ∷ drop (sym (add-one i) k) arms)) ∙ ap (λ d. cuts_in p sub d following) (arm_is arm next)) before step
+      leaves_next (cuts_in p sub around (commands (out-CoreArm arm).body) following) (cuts_in p sub around next following)
+      (ap (λ xs. cuts_in p sub around (arms_before otherwise (map arm_before xs)) following) (drop-cons arms i arm within ∙ (λ k. sym is k ∷ drop (sym (add-one i) k) arms)) ∙ ap (λ d. cuts_in p sub around d following) (arm_is arm next)) before step
 
 -- those of a `case` are those in its alternatives
-among_is : (p : Program) (sub : Sub) (first : Part) (more : List Part) (following : Command) → cuts_for p sub [] (alternatives_of first more) (to_end p sub following) (ending p sub) ≡ cuts_among p sub (first ∷ more) following
-among_is p sub first [] following = sym (append-nil (cuts_in p sub first.1 following))
-among_is p sub first (second ∷ more) following = ap (λ ts. cuts_in p sub first.1 following ++ ts) (among_is p sub second more following)
+among_is : (p : Program) (sub : Sub) (within : List CoreCount) (first : Part) (more : List Part) (following : ℕ → Tree) → cuts_for p sub within (alternatives_of first more) following (ending p sub) ≡ cuts_among p sub within (first ∷ more) following
+among_is p sub within first [] following = sym (append-nil (cuts_in p sub within first.1 following))
+among_is p sub within first (second ∷ more) following = ap (λ ts. cuts_in p sub within first.1 following ++ ts) (among_is p sub within second more following)
 
-pub case_cuts : (p : Program) (sub : Sub) (place : Place) (selector : CoreExpr) (alternatives : List Part) (following : Command) → cuts_in p sub (select place selector alternatives) following ≡ cuts_among p sub alternatives following
-case_cuts p sub place selector [] following = refl
-case_cuts p sub place selector (first ∷ more) following = among_is p sub first more following
+pub case_cuts : (p : Program) (sub : Sub) (within : List CoreCount) (place : Place) (selector : CoreExpr) (alternatives : List Part) (following : ℕ → Tree)
+    → cuts_in p sub within (select place selector alternatives) following ≡ cuts_among p sub within alternatives following
+case_cuts p sub within place selector [] following = refl
+case_cuts p sub within place selector (first ∷ more) following = among_is p sub within first more following

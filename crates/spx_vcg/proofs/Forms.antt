@@ -1,22 +1,31 @@
 -- The commands of statements, of arms and of what follows, at each form.
-use Rattle.std.proofs.Common.{◌≡◌, List, map, Option, Some, None, refl, sym, ap, ◌∙◌}
+use Rattle.std.proofs.Common.{◌≡◌, ℕ, List, [], ◌∷◌, ◌++◌, map, Option, Some, None, refl, sym, ap, ◌∙◌}
 use denote.Bor.{Bor}
 use Rattle.spx_text.specs.declared.place.Place.{Place}
 use Rattle.spx_tree.specs.declared.statement.AssertionKind.{AssertionKind}
 use Rattle.spx_tree.specs.declared.statement.Closing.{Closing}
 use Rattle.spx_core.specs.declared.expression.CoreExpr.{CoreExpr}
 use Rattle.spx_core.specs.declared.name.Reference.{Reference}
+use Rattle.spx_core.specs.declared.program.Program.{Program}
 use Rattle.spx_core.specs.declared.statement.CoreAlternative.{CoreAlternative, out-CoreAlternative, fold_out-CoreAlternative}
 use Rattle.spx_core.specs.declared.statement.CoreArm.{CoreArm, out-CoreArm, fold_out-CoreArm}
 use Rattle.spx_core.specs.declared.statement.CoreChoice.{CoreChoice}
+use Rattle.spx_core.specs.declared.statement.CoreCount.{CoreCount}
 use Rattle.spx_core.specs.declared.statement.CoreScheme.{CoreScheme}
-use Rattle.spx_core.specs.declared.statement.CoreScheme.TheVariants as scheme
 use Rattle.spx_core.specs.declared.statement.CoreStmt.{CoreStmt, CoreStmt-F, out-CoreStmt, map-CoreStmt, fold_out-CoreStmt}
-use Rattle.spx_core.specs.declared.statement.CoreStmt.TheVariants.{Null, Assignment, If, Case, Loop, Assertion as AssertionStmt, outs-Null, outs-Assignment, outs-If, outs-Case, outs-Loop, outs-Assertion}
-use Rattle.spx_core.specs.Commands.{Command, Skip, Set, Then, Choose, Assertion, alternative, alternative_step, arm_before, arm_step, arms_before, command, commands, loop_of, select, stmt_step}
+use Rattle.spx_core.specs.declared.statement.CoreStmt.TheVariants.{Null, Assignment, If, Case, Loop, Assertion as AssertionStmt, outs-Null, outs-Assignment, outs-If, outs-Case, outs-Assertion}
+use Rattle.spx_core.specs.declared.subprogram.Sub.{Sub}
+use Rattle.spx_core.specs.Commands.{Command, Skip, Set, Choose, Assertion, alternative, alternative_step, arm_before, arm_step, arms_before, command, commands, head_of, loop_of, select, stmt_step}
+use Rattle.spx_core.proofs.Callers.CommandForms.{command-Loop}
+use Rattle.spx_term.specs.Steps.{Tree}
+use Rattle.spx_paths.specs.Walks.{end_of_turn, ending}
 use Rattle.spx_vcg.specs.declared.branches.Rest.{Rest, Rest-F, out-Rest, map-Rest, fold-Rest, fold_out-Rest}
-use Rattle.spx_vcg.specs.declared.branches.Rest.TheVariants.{End, After, outs-End, outs-After}
+use Rattle.spx_vcg.specs.declared.branches.Rest.TheVariants.{End, After, Again, outs-End, outs-After, outs-Again}
+use Rattle.spx_vcg.specs.declared.within.Within.{Within, Within-F, out-Within, map-Within, fold-Within, fold_out-Within}
+use Rattle.spx_vcg.specs.declared.within.Within.TheVariants.{Outermost, Inside, outs-Outermost, outs-Inside}
+use Rattle.spx_vcg.specs.Enclosing.{counts, counts_step}
 use Rattle.spx_vcg.specs.Following.{after, after_step, done_otherwise}
+use Rattle.spx_vcg.specs.PathWalk.{to_end}
 
 -- the choices of an alternative and what is done in it
 abbrev pub Part : Type 0
@@ -51,12 +60,7 @@ case_is s place selector alternatives closing is xs e =
 
 pub loop_is : (s : CoreStmt) (scheme : CoreScheme) (word : Place) (body : List CoreStmt) (closing : Closing) → s ≡ Loop scheme word body closing
     → (ss : List CoreStmt) → ss ≡ body → command s ≡ loop_of scheme (commands ss)
-loop_is s scheme word body closing is ss e =
-    at_layer s (CoreStmt-F.Loop scheme word body closing) (ap out-CoreStmt is ∙ outs-Loop scheme word body closing) ∙ ap (λ xs. loop_of scheme (commands xs)) (sym e)
-
--- each scheme is a `while`
-pub scheme_is : (s : CoreScheme) → (place : Place) × (condition : CoreExpr) × (s ≡ scheme.While place condition)
-scheme_is (scheme.While place condition) = (place, condition, refl)
+loop_is s scheme word body closing is ss e = command-Loop s scheme word body closing is ∙ ap (λ xs. loop_of scheme (commands xs)) (sym e)
 
 pub alternative_is : (a : CoreAlternative) → alternative a ≡ ((out-CoreAlternative a).choices, commands (out-CoreAlternative a).body)
 alternative_is a = rw (fold_out-CoreAlternative) refl
@@ -64,12 +68,28 @@ alternative_is a = rw (fold_out-CoreAlternative) refl
 pub arm_is : (arm : CoreArm) (otherwise : Command) → arm_before arm otherwise ≡ Choose (out-CoreArm arm).place (out-CoreArm arm).condition (commands (out-CoreArm arm).body) otherwise
 arm_is arm otherwise = rw (fold_out-CoreArm) refl
 
-rest_at : (r : Rest) (layer : Rest-F Rest) → out-Rest r ≡ layer → after r ≡ after_step (map-Rest Rest Command after layer)
-unfolding after
-rest_at r layer is = fold_out-Rest Command after_step r ∙ ap (λ x. after_step (map-Rest Rest Command (fold-Rest Command after_step) x)) is
+module _ (p : Program) (sub : Sub) where
+  rest_at : (r : Rest) (layer : Rest-F Rest) → out-Rest r ≡ layer → after p sub r ≡ after_step p sub (map-Rest Rest (ℕ → Tree) (after p sub) layer)
+  unfolding after
+  rest_at r layer is = fold_out-Rest (ℕ → Tree) (after_step p sub) r ∙ ap (λ x. after_step p sub (map-Rest Rest (ℕ → Tree) (fold-Rest (ℕ → Tree) (after_step p sub)) x)) is
 
-pub nothing_follows : (r : Rest) → r ≡ End → after r ≡ Skip
-nothing_follows r is = rest_at r Rest-F.End (ap out-Rest is ∙ outs-End)
+  pub nothing_follows : (r : Rest) → r ≡ End → after p sub r ≡ ending p sub
+  nothing_follows r is = rest_at r Rest-F.End (ap out-Rest is ∙ outs-End)
 
-pub follows_is : (r : Rest) (stmts : Bor (List CoreStmt)) (rest : Bor Rest) → r ≡ After stmts rest → after r ≡ Then (commands stmts.now) (after rest.now)
-follows_is r stmts rest is = rest_at r (Rest-F.After stmts rest) (ap out-Rest is ∙ outs-After stmts rest)
+  pub follows_is : (r : Rest) (stmts : Bor (List CoreStmt)) (rest : Bor Rest) → r ≡ After stmts rest → after p sub r ≡ to_end p sub (commands stmts.now) (after p sub rest.now)
+  follows_is r stmts rest is = rest_at r (Rest-F.After stmts rest) (ap out-Rest is ∙ outs-After stmts rest)
+
+  pub again_is : (r : Rest) (scheme : Bor CoreScheme) (stmts : Bor (List CoreStmt)) (rest : Bor Rest) → r ≡ Again scheme stmts rest
+      → after p sub r ≡ end_of_turn p sub (head_of scheme.now) (commands stmts.now) (after p sub rest.now)
+  again_is r scheme stmts rest is = rest_at r (Rest-F.Again scheme stmts rest) (ap out-Rest is ∙ outs-Again scheme stmts rest)
+
+-- ---- loops around a statement
+within_at : (w : Within) (layer : Within-F Within) → out-Within w ≡ layer → counts w ≡ counts_step (map-Within Within (List CoreCount) counts layer)
+unfolding counts
+within_at w layer is = fold_out-Within (List CoreCount) counts_step w ∙ ap (λ x. counts_step (map-Within Within (List CoreCount) (fold-Within (List CoreCount) counts_step) x)) is
+
+pub no_loops : (w : Within) → w ≡ Outermost → counts w ≡ []
+no_loops w is = within_at w Within-F.Outermost (ap out-Within is ∙ outs-Outermost)
+
+pub inside_is : (w : Within) (outer : Bor Within) (count : Bor CoreCount) → w ≡ Inside outer count → counts w ≡ counts outer.now ++ count.now ∷ []
+inside_is w outer count is = within_at w (Within-F.Inside outer count) (ap out-Within is ∙ outs-Inside outer count)

@@ -15,6 +15,8 @@ pub mod ChoiceTerms
 pub mod ChoiceSteps
 pub mod CheckSteps
 pub mod StartSteps
+pub mod Fixed
+pub mod CountSteps
 pub mod Sizes
 pub mod Subs
 pub mod BranchSteps

@@ -1,17 +1,16 @@
 -- What follows a loop does not matter to a turn that comes to its own cut, and no command leaves the loop around it.
 use Rattle.std.proofs.Common.{◌≡◌, ℕ, true, List, [], ◌++◌, refl, sym, ap, ◌∙◌}
 use Rattle.spx_core.specs.declared.program.Program.{Program}
-use Rattle.spx_core.specs.declared.statement.CoreScheme.{CoreScheme}
-use Rattle.spx_core.specs.declared.statement.CoreScheme.TheVariants as scheme
 use Rattle.spx_core.specs.declared.subprogram.Sub.{Sub}
-use Rattle.spx_core.specs.Commands.{Command, Skip, Set, Then, Choose, Select, Assertion, Count, Repeat, Tested, Alternatives, Last, When, has_own_cut, loop_of}
+use Rattle.spx_core.specs.declared.statement.CoreCount.{CoreCount}
+use Rattle.spx_core.specs.Commands.{Command, Skip, Set, Then, Choose, Select, Head, Assertion, Repeat, Alternatives, Last, When, has_own_cut}
 use Rattle.spx_term.specs.declared.term.Term.{Term}
 use Rattle.spx_term.specs.Steps.{Tree, Cut, Split, assume_all}
 use Rattle.spx_paths.specs.Checks.{checks}
 use Rattle.spx_paths.specs.Terms.{now_term, term_of}
-use Rattle.spx_paths.specs.Walks.{alternative_facts, and_these, as_far_as_cut, cuts, cuts_for, ending, loop_cut, tested, walk, walk_for}
+use Rattle.spx_paths.specs.Walks.{again, alternative_facts, and_these, as_far_as_cut, cuts, cuts_for, end_of_turn, ending, entering_loop, inside, leaving, loop_cut, tested, walk, walk_for}
 use Rattle.spx_paths.proofs.CutOff.{cut_off}
-use Rattle.spx_vcg.specs.Cuts.{cuts_in}
+use Rattle.spx_vcg.specs.Cuts.{cuts_in, cuts_of_body}
 use Rattle.spx_vcg.specs.PathWalk.{to_end, turn_to_cut}
 
 module _ (p : Program) (sub : Sub) where
@@ -34,7 +33,7 @@ module _ (p : Program) (sub : Sub) where
 
   -- nor does it for the cuts in it
   mutual
-    cuts_leave_not : (within : List Count) (c : Command) (rest leave other : ℕ → Tree) → cuts p sub within c rest leave ≡ cuts p sub within c rest other
+    cuts_leave_not : (within : List CoreCount) (c : Command) (rest leave other : ℕ → Tree) → cuts p sub within c rest leave ≡ cuts p sub within c rest other
     cuts_leave_not within Skip rest leave other = refl
     cuts_leave_not within (Set target e) rest leave other = refl
     cuts_leave_not within (Then a b) rest leave other =
@@ -44,22 +43,30 @@ module _ (p : Program) (sub : Sub) where
     cuts_leave_not within (Assertion kind place e) rest leave other = refl
     cuts_leave_not within (Repeat head body) rest leave other = refl
 
-    cuts_leave_not_for : (within : List Count) (alternatives : Alternatives) (rest leave other : ℕ → Tree) → cuts_for p sub within alternatives rest leave ≡ cuts_for p sub within alternatives rest other
+    cuts_leave_not_for : (within : List CoreCount) (alternatives : Alternatives) (rest leave other : ℕ → Tree) → cuts_for p sub within alternatives rest leave ≡ cuts_for p sub within alternatives rest other
     cuts_leave_not_for within (Last choices a) rest leave other = cuts_leave_not within a rest leave other
     cuts_leave_not_for within (When choices a more) rest leave other = λ i. cuts_leave_not within a rest leave other i ++ cuts_leave_not_for within more rest leave other i
 
-  -- the tree of a turn that comes to its own cut
-  pub own_turn : (body following : Command) → has_own_cut body ≡ true → to_end p sub (Then body following) ≡ turn_to_cut p sub body following
+  -- a turn that comes to its own cut ends there
+  pub own_turn : (body : Command) (following : ℕ → Tree) → has_own_cut body ≡ true → to_end p sub body following ≡ turn_to_cut p sub body
   own_turn body following own =
-      (λ i made. cut_off p sub body own (to_end p sub following) (λ m. Cut) (ending p sub) made i)
-      ∙ leaves_not body (λ m. Cut) (ending p sub) (to_end p sub following)
-      ∙ ap (λ b. as_far_as_cut b (walk p sub body (λ m. Cut) (to_end p sub following))) (sym own)
+      (λ i made. cut_off p sub body own following (λ m. Cut) (ending p sub) made i)
+      ∙ ap (λ b. as_far_as_cut b (walk p sub body (λ m. Cut) (ending p sub))) (sym own)
 
-  -- the trees from the cuts in a loop, where its head comes after its body
-  pub loop_cuts : (s : CoreScheme) (body again following : Command) → to_end p sub again ≡ to_end p sub (Then (loop_of s body) following)
-      → cuts_in p sub (loop_of s body) following ≡ loop_cut p sub [] (has_own_cut body) (to_end p sub (Then body again) 0) ++ cuts_in p sub body again
-  loop_cuts (scheme.While place e) body again following is =
-      let head = to_end p sub (Then (Repeat (Tested place e) body) following) in
-      let rest = to_end p sub following in
-      (λ i. loop_cut p sub [] (has_own_cut body) (leaves_not body head rest (ending p sub) i 0) ++ cuts_leave_not [] body head rest (ending p sub) i)
-      ∙ (λ i. loop_cut p sub [] (has_own_cut body) (walk p sub body (sym is i) (ending p sub) 0) ++ cuts p sub [] body (sym is i) (ending p sub))
+  turn_is : (body : Command) (leave : ℕ → Tree) → as_far_as_cut (has_own_cut body) (walk p sub body (λ m. Cut) leave) ≡ turn_to_cut p sub body
+  turn_is body leave = ap (as_far_as_cut (has_own_cut body)) (leaves_not body (λ m. Cut) leave (ending p sub))
+
+  -- the steps from the head of a loop on, and from the end of a turn on
+  pub head_steps : (head : Head) (body : Command) (following : ℕ → Tree) → to_end p sub (Repeat head body) following ≡ entering_loop p sub head (turn_to_cut p sub body) (leaving p head following)
+  head_steps head body following = λ i made. entering_loop p sub head (turn_is body (leaving p head following) i) (leaving p head following) made
+
+  pub again_steps : (head : Head) (body : Command) (following : ℕ → Tree) → end_of_turn p sub head body following ≡ again p sub head (turn_to_cut p sub body) (leaving p head following)
+  again_steps head body following = λ i made. again p sub head (turn_is body (leaving p head following) i) (leaving p head following) made
+
+  -- the trees from the cuts in a loop: the end of a turn comes after its body
+  pub loop_cuts : (within : List CoreCount) (head : Head) (body : Command) (following : ℕ → Tree)
+      → cuts_in p sub within (Repeat head body) following ≡ cuts_of_body p sub (inside within head) body (end_of_turn p sub head body following)
+  loop_cuts within head body following =
+      let next = end_of_turn p sub head body following in
+      let leave = leaving p head following in
+      λ i. loop_cut p sub (inside within head) (has_own_cut body) (leaves_not body next leave (ending p sub) i 0) ++ cuts_leave_not (inside within head) body next leave (ending p sub) i

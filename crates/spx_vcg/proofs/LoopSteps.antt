@@ -1,57 +1,79 @@
--- What the head of a loop adds.
-use Rattle.std.proofs.Common.{◌≡◌, ◌<◌, true, false, List, [], ◌∷◌, ◌++◌, length, refl, sym, ap, ◌∙◌, subst}
-use Rattle.spx_text.specs.declared.place.Place.{Place}
+-- What the heads of loops add, and the ends of turns.
+use Rattle.std.proofs.Common.{◌≡◌, ◌<◌, ℕ, true, false, [], length, Some, None, refl, sym, ap, ◌∙◌, subst}
 use Rattle.spx_core.specs.declared.expression.CoreExpr.{CoreExpr}
 use Rattle.spx_core.specs.declared.program.Program.{Program}
+use Rattle.spx_core.specs.declared.statement.CoreCount.{CoreCount}
+use Rattle.spx_core.specs.declared.statement.CoreRange.{CoreRange}
 use Rattle.spx_core.specs.declared.statement.CoreScheme.{CoreScheme}
-use Rattle.spx_core.specs.declared.statement.CoreScheme.TheVariants as scheme
 use Rattle.spx_core.specs.declared.subprogram.Sub.{Sub}
-use Rattle.spx_core.specs.Commands.{Command, Then, has_own_cut, loop_of}
+use Rattle.spx_core.specs.Commands.{Command, Counted, Head, Repeat, has_own_cut, head_of, loop_of}
 use Rattle.spx_term.specs.declared.term.Term.{Term}
-use Rattle.spx_term.specs.Conjuncts.{conjuncts}
-use Rattle.spx_term.specs.Steps.{Tree, Cut, Split, assume_all, with_new}
-use Rattle.spx_paths.specs.Terms.{now_term, term_of}
-use Rattle.spx_paths.specs.Walks.{as_far_as_cut, walk}
+use Rattle.spx_term.specs.Steps.{Tree, Cut, Split}
+use Rattle.spx_paths.specs.Walks.{again, as_far_as_cut, end_of_turn, ending, enter_range, entering_loop, leaving, past_loop, tested, walk}
 use Rattle.spx_arena.specs.declared.terms.TermId.{TermId}
-use Rattle.spx_arena.specs.Claims.{claims_at, trees_at}
 use Rattle.spx_vcg.specs.declared.walk.Walk.{Walk}
-use Rattle.spx_vcg.specs.ConditionWalk.{State, applied, forward}
-use Rattle.spx_vcg.specs.PathWalk.{Ends, Takes, negated, to_end, turn_to_cut}
-use Rattle.spx_vcg.specs.WalkSteps.{state, Evaluates, Keeps, Means, Walks, Whole, claims_from}
+use Rattle.spx_vcg.specs.Counting.{along, begun, bounded, into_next, into_range, past_end, past_range}
+use Rattle.spx_vcg.specs.PathWalk.{Ends, Takes, negated, to_end, turn_to_cut, where_true}
+use Rattle.spx_vcg.specs.WalkSteps.{Evaluates, Goes, Keeps, Means, Walks, Whole, claims_from}
 use Rattle.spx_vcg.proofs.BranchSteps.{after_test, test_adds}
-use Rattle.spx_vcg.proofs.LoopLaws.{own_turn}
+use Rattle.spx_vcg.proofs.LoopLaws.{again_steps, head_steps, own_turn}
 use Rattle.spx_vcg.proofs.SharedSteps.{adds_not, adds_twice}
 
 -- ---- a turn
 -- as far as the own cut of the body
-pub after_turn : {p : Program} {old new : Walk} {e : CoreExpr} (sub : Sub) (body following : Command) → has_own_cut body ≡ true → Takes p old new e (to_end p sub (Then body following)) → Takes p old new e (turn_to_cut p sub body following)
-after_turn {p} {old} {new} {e} sub body following own takes = subst (Takes p old new e) (own_turn p sub body following own) takes
-
--- a tree that only assumes facts has no claims
-no_claims : (s : State) (facts ts : List Term) → forward s facts (assume_all ts Cut) ≡ []
-no_claims s facts [] = refl
-no_claims s facts (t ∷ ts) = no_claims s (with_new facts (applied s t)) ts
-
-only_facts_same : (w : Walk) (ts : List Term) (rest : Tree) → claims_from w (Split (assume_all ts Cut) rest) ≡ claims_from w rest
-unfolding claims_from
-only_facts_same w ts rest =
-    let facts = trees_at w.terms w.facts.present.keys in
-    ap (λ cs. claims_at w.terms w.facts.lists w.claims ++ (cs ++ forward (state w) facts rest)) (no_claims (state w) facts ts)
-
-only_facts : (w : Walk) (ts : List Term) → Walks w w (Split (assume_all ts Cut))
-only_facts w ts = record { same = only_facts_same w ts }
+pub after_turn : {old new : Walk} (p : Program) (sub : Sub) (body : Command) (following : ℕ → Tree) → has_own_cut body ≡ true → Ends old new (to_end p sub body following) → Ends old new (turn_to_cut p sub body)
+after_turn {old} {new} p sub body following own ends = subst (Ends old new) (own_turn p sub body following own) ends
 
 -- nothing, where the cut is before the body
-pub no_turn : {p : Program} {w : Walk} (sub : Sub) (e : CoreExpr) (body following : Command) → has_own_cut body ≡ false → Whole w → Takes p w w e (turn_to_cut p sub body following)
-no_turn {p} {w} sub e body following none whole =
-    subst (λ b. Takes p w w e (as_far_as_cut b (walk p sub body (λ m. Cut) (to_end p sub following)))) (sym none)
-    (record { whole = whole; adds = adds_not w; kept = refl; goes = λ made. only_facts w (conjuncts (term_of p (now_term p) e)) })
+pub no_turn : {w : Walk} (p : Program) (sub : Sub) (body : Command) → has_own_cut body ≡ false → Whole w → Ends w w (turn_to_cut p sub body)
+no_turn {w} p sub body none whole =
+    subst (λ b. Ends w w (as_far_as_cut b (walk p sub body (λ m. Cut) (ending p sub)))) (sym none) (record { whole = whole; adds = adds_not w; same = λ made. refl })
 
--- ---- the head
-pub after_head : {p : Program} {sub : Sub} {w x y z last : Walk} {id : TermId} (e : CoreExpr) (body following : Command) → Keeps w x → id.0 < length x.terms → Evaluates p [] w x e id → Takes p x y e (turn_to_cut p sub body following) → Keeps y z
-    → ((t : Term) → Means y id t → Walks y z (negated t)) → Ends p sub z last following → (s : CoreScheme) (place : Place) → s ≡ scheme.While place e → Ends p sub w last (Then (loop_of s body) following)
-after_head {p} {sub} {w} e body following checked within v turn fails n ends s place is = record {
+-- ---- `while`
+pub after_tested : {p : Program} {w x y z last : Walk} {id : TermId} (e : CoreExpr) (way rest : ℕ → Tree) → Keeps w x → id.0 < length x.terms → Evaluates p [] w x e id → Takes x y (where_true p e way) → Keeps y z
+    → ((t : Term) → Means y id t → Walks y z (negated t)) → Ends z last rest → Ends w last (tested p e way rest)
+after_tested e way rest checked within v turn fails n ends = record {
   whole = ends.whole;
-  adds = adds_twice (test_adds e checked within v turn fails n) ends.adds;
-  same = λ made. ap (λ x. claims_from w (to_end p sub (Then (loop_of x body) following) made)) is ∙ after_test e checked within v turn fails n (to_end p sub following) made ∙ ends.same made;
+  adds = adds_twice (test_adds e way checked within v turn fails n) ends.adds;
+  same = λ made. after_test e way checked within v turn fails n rest made ∙ ends.same made;
 }
+
+-- ---- loops that count
+module _ (p : Program) (sub : Sub) (c : CoreCount) (way rest : ℕ → Tree) where
+  -- over a whole type
+  pub after_whole : {w x last : Walk} → Goes w x (begun p sub c) → Ends x last way → c.bounds ≡ None → Ends w last (entering_loop p sub (Counted c) way (past_loop p c rest))
+  after_whole {w} begins ends is = record {
+    whole = ends.whole;
+    adds = adds_twice begins.adds ends.adds;
+    same = λ made. ap (λ bounds. claims_from w (enter_range p sub c bounds way (past_loop p c rest) made)) is ∙ begins.same (way made) ∙ ends.same made;
+  }
+
+  -- over a range
+  pub after_range : {w x y z last : Walk} (range : CoreRange) → Goes w x (bounded p sub c range) → Takes x y (along (into_range p sub c) way) → Goes y z (past_range p sub c) → Ends z last rest → c.bounds ≡ Some range
+      → Ends w last (entering_loop p sub (Counted c) way (past_loop p c rest))
+  after_range {w} range bounds turn passes ends is = record {
+    whole = ends.whole;
+    adds = adds_twice bounds.adds (adds_twice turn.adds (adds_twice passes.adds ends.adds));
+    same = λ made.
+        ap (λ bounds. claims_from w (enter_range p sub c bounds way (past_loop p c rest) made)) is
+        ∙ bounds.same (Split (into_range p sub c (way made)) (past_range p sub c (rest made)))
+        ∙ (turn.goes made).same (past_range p sub c (rest made))
+        ∙ passes.same (rest made)
+        ∙ ends.same made;
+  }
+
+  -- at the end of a turn
+  pub after_again : {w y z last : Walk} → Takes w y (along (into_next p sub c) way) → Goes y z (past_end p sub c) → Ends z last rest → Ends w last (again p sub (Counted c) way (past_loop p c rest))
+  after_again turn passes ends = record {
+    whole = ends.whole;
+    adds = adds_twice turn.adds (adds_twice passes.adds ends.adds);
+    same = λ made. (turn.goes made).same (past_end p sub c (rest made)) ∙ passes.same (rest made) ∙ ends.same made;
+  }
+
+-- ---- all loops
+module _ {w last : Walk} (p : Program) (sub : Sub) (s : CoreScheme) (body : Command) (following : ℕ → Tree) (head : Head) (is : head_of s ≡ head) where
+  pub at_head : Ends w last (entering_loop p sub head (turn_to_cut p sub body) (leaving p head following)) → Ends w last (to_end p sub (loop_of s body) following)
+  at_head ends = subst (λ h. Ends w last (to_end p sub (Repeat h body) following)) (sym is) (subst (Ends w last) (sym (head_steps p sub head body following)) ends)
+
+  pub at_turn_end : Ends w last (again p sub head (turn_to_cut p sub body) (leaving p head following)) → Ends w last (end_of_turn p sub (head_of s) body following)
+  at_turn_end ends = subst (λ h. Ends w last (end_of_turn p sub h body following)) (sym is) (subst (Ends w last) (sym (again_steps p sub head body following)) ends)

@@ -1,13 +1,15 @@
 -- How many statements and arms a walk may still come to.
-use Rattle.std.proofs.Common.{◌≡◌, ℕ, ◌+◌, ◌*◌, ◌<◌, ◌≤◌, List, [], ◌∷◌, length, map, drop, get_or, zero, suc, refl, ap, arith}
+use Rattle.std.proofs.Common.{◌≡◌, ℕ, ◌+◌, ◌*◌, ◌<◌, ◌≤◌, List, [], ◌∷◌, length, map, drop, get_or, zero, suc, refl, ap, ◌∙◌, arith}
+use denote.Bor.{Bor}
 use Rattle.spx_text.specs.declared.place.Place.{Place}
 use Rattle.spx_core.specs.declared.expression.CoreExpr.{CoreExpr}
 use Rattle.spx_core.specs.declared.statement.CoreAlternative.{CoreAlternative, out-CoreAlternative}
 use Rattle.spx_core.specs.declared.statement.CoreArm.{CoreArm, out-CoreArm}
 use Rattle.spx_core.specs.declared.statement.CoreScheme.{CoreScheme}
-use Rattle.spx_core.specs.declared.statement.CoreScheme.TheVariants as scheme
 use Rattle.spx_core.specs.declared.statement.CoreStmt.{CoreStmt}
 use Rattle.spx_core.specs.Commands.{Command, Skip, Set, Then, Choose, Select, Assertion, Repeat, Alternatives, Last, When, alternative, alternatives_of, arm_before, arms_before, command, commands, loop_of, select}
+use Rattle.spx_vcg.specs.declared.branches.Rest.{Rest, Rest-F, out-Rest, map-Rest, fold-Rest, fold_out-Rest}
+use Rattle.spx_vcg.specs.declared.branches.Rest.TheVariants.{After, Again, outs-After, outs-Again}
 use Rattle.spx_vcg.proofs.BranchSteps.{here_is}
 use Rattle.spx_vcg.proofs.Forms.{Part, alternative_is, arm_is}
 
@@ -32,14 +34,23 @@ sizes [] = 0
 sizes (a ∷ more) = 1 + (size a.1 + sizes more)
 
 -- those of what follows
-abbrev pub left : Command → ℕ
-left Skip = 0
-left (Set target value) = 0
-left (Then a b) = size a + left b
-left (Choose place condition a b) = 0
-left (Select place selector alternatives) = 0
-left (Assertion kind place condition) = 0
-left (Repeat head body) = 0
+abbrev left_step : Rest-F ℕ → ℕ
+left_step Rest-F.End = 0
+left_step (Rest-F.After stmts rest) = size (commands stmts.now) + rest.now
+left_step (Rest-F.Again scheme stmts rest) = 2 + (size (commands stmts.now) + rest.now)
+
+unfoldable pub left : Rest → ℕ
+left = fold-Rest ℕ left_step
+
+left_at : (r : Rest) (layer : Rest-F Rest) → out-Rest r ≡ layer → left r ≡ left_step (map-Rest Rest ℕ left layer)
+unfolding left
+left_at r layer is = fold_out-Rest ℕ left_step r ∙ ap (λ x. left_step (map-Rest Rest ℕ (fold-Rest ℕ left_step) x)) is
+
+pub left_after : (r : Rest) (stmts : Bor (List CoreStmt)) (rest : Bor Rest) → r ≡ After stmts rest → left r ≡ size (commands stmts.now) + left rest.now
+left_after r stmts rest is = left_at r (Rest-F.After stmts rest) (ap out-Rest is ∙ outs-After stmts rest)
+
+pub left_again : (r : Rest) (scheme : Bor CoreScheme) (stmts : Bor (List CoreStmt)) (rest : Bor Rest) → r ≡ Again scheme stmts rest → left r ≡ 2 + (size (commands stmts.now) + left rest.now)
+left_again r scheme stmts rest is = left_at r (Rest-F.Again scheme stmts rest) (ap out-Rest is ∙ outs-Again scheme stmts rest)
 
 pub size_positive : (c : Command) → 0 < size c
 size_positive Skip = omega arith
@@ -74,7 +85,7 @@ select_size place selector [] = refl
 select_size place selector (first ∷ more) = ap (λ n. 1 + n) (sizes_are first more)
 
 pub loop_size : (s : CoreScheme) (body : Command) → size (loop_of s body) ≡ 1 + size body
-loop_size (scheme.While place condition) body = refl
+loop_size s body = refl
 
 -- what is done in an alternative
 pub alternative_smaller : (alternatives : List CoreAlternative) (i : ℕ) (d : CoreAlternative) → i < length alternatives → size (commands (out-CoreAlternative (get_or alternatives i d)).body) ≤ sizes (map alternative alternatives)
@@ -87,17 +98,20 @@ rest_smaller stmts zero = omega arith
 rest_smaller [] (suc i) = omega arith
 rest_smaller (s ∷ stmts) (suc i) = let w = rest_smaller stmts i in omega arith
 
-pub branch_smaller : (stmts : List CoreStmt) (i : ℕ) (stmt : CoreStmt) → i < length stmts → stmt ≡ get_or stmts i stmt → (d following more : Command) → command stmt ≡ d → more ≡ Then (commands (drop (i + 1) stmts)) following
-    → 4 * (size d + left more) + 3 < 4 * (size (commands stmts) + left following)
+-- a statement before so many others, where so many are left after these
+pub branch_smaller : (stmts : List CoreStmt) (i : ℕ) (stmt : CoreStmt) → i < length stmts → stmt ≡ get_or stmts i stmt → (d : Command) (following more : ℕ) → command stmt ≡ d → more ≡ size (commands (drop (i + 1) stmts)) + following
+    → 4 * (size d + more) + 3 < 4 * (size (commands stmts) + following)
 branch_smaller stmts i stmt within is d following more e f =
     let here = ap size (here_is stmts i stmt within is) in
     let this = ap size e in
-    let more_left = ap left f in
     let all = rest_smaller stmts i in
-    omega arith
+    omega (arith, f)
 
-pub follow_smaller : (stmts following : Command) → 4 * left following + 1 < 4 * (size stmts + left following)
+pub follow_smaller : (stmts : Command) (following : ℕ) → 4 * following + 1 < 4 * (size stmts + following)
 follow_smaller stmts following = let w = size_positive stmts in omega arith
 
-pub follows_smaller : (next following more : Command) → following ≡ Then next more → 4 * (size next + left more) < 4 * left following + 1
-follows_smaller next following more e = let f = ap left e in omega arith
+pub follows_smaller : (next : Command) (following more : ℕ) → following ≡ size next + more → 4 * (size next + more) < 4 * following + 1
+follows_smaller next following more e = omega (arith, e)
+
+pub again_smaller : (body : Command) (following more : ℕ) → following ≡ 2 + (size body + more) → 4 * (size body + more) + 6 < 4 * following + 1
+again_smaller body following more e = omega (arith, e)

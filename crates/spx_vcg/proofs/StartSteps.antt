@@ -10,7 +10,7 @@ use Rattle.spx_core.specs.declared.expression.CoreExpr.{CoreExpr}
 use Rattle.spx_core.specs.declared.name.Reference.{Reference}
 use Rattle.spx_core.specs.declared.program.Program.{Program}
 use Rattle.spx_core.specs.declared.subprogram.Sub.{Sub}
-use Rattle.spx_core.specs.Commands.{Set, Skip, Then, commands}
+use Rattle.spx_core.specs.Commands.{Set, commands}
 use Rattle.spx_core.specs.Dependency.{exports}
 use Rattle.spx_core.specs.Formals.{formals, locals}
 use Rattle.spx_core.specs.Places.{place_of}
@@ -29,7 +29,7 @@ use Rattle.spx_paths.specs.Checks.{checked_under, checks, in_type}
 use Rattle.spx_paths.specs.Conditions.{body_claims}
 use Rattle.spx_paths.specs.Prefixes.{entered}
 use Rattle.spx_paths.specs.Terms.{now, entry, now_term, term_of}
-use Rattle.spx_paths.specs.Walks.{assigned, checked_in, ending, entering, first_facts, import_facts, initializing, pre_facts, range_check, start_tree, starting_with, walk}
+use Rattle.spx_paths.specs.Walks.{assigned, checked_in, ending, entering, first_facts, import_facts, initializing, pre_facts, range_check, start_tree, starting_with}
 use Rattle.spx_arena.specs.declared.terms.TermId.{TermId}
 use Rattle.spx_arena.specs.Claims.{AreIds, AreLists, AreClaims, trees_at, claims_at}
 use Rattle.spx_arena.specs.Facts.{facts_at}
@@ -38,7 +38,7 @@ use Rattle.spx_vcg.specs.ConditionWalk.{forward}
 use Rattle.spx_vcg.specs.States.{AreValues, given, state_in}
 use Rattle.spx_vcg.specs.WalkSteps.{Evaluates, Goes, Keeps, Makes, MeanAll, Means, Walks, Whole, claims_from}
 use Rattle.spx_vcg.specs.Cuts.{Leaves, claims_anew, cuts_in}
-use Rattle.spx_vcg.specs.PathWalk.{Ends, Passes}
+use Rattle.spx_vcg.specs.PathWalk.{Ends, Passes, to_end}
 use Rattle.spx_vcg.proofs.ConditionForward.{forward_from_start}
 use Rattle.spx_vcg.proofs.SharedSteps.{goes_of, goes_twice, means_kept, walks_along, walks_not}
 
@@ -136,12 +136,12 @@ tidied [] = refl
 tidied (tree ∷ trees) = (λ i. forward_from_start tree i ++ tidied trees i) ∙ sym (map-append tidy (claims_of tree) (flat_map claims_of trees))
 
 pub all_claims : (a b i c d e f : Walk) (p : Program) (sub : Sub) → Starts a
-    → Goes a b (entering p sub (formals sub)) → Goes b i (initializing p (locals sub)) → Goes i c (assume_all (flat_map (import_facts p sub) (formals sub))) → Goes c d (assume_all (pre_facts p sub sub.pre)) → Ends p sub d e (Then (commands sub.statements) Skip)
-    → Leaves e f (cuts_in p sub (commands sub.statements) Skip) []
+    → Goes a b (entering p sub (formals sub)) → Goes b i (initializing p (locals sub)) → Goes i c (assume_all (flat_map (import_facts p sub) (formals sub))) → Goes c d (assume_all (pre_facts p sub sub.pre)) → Ends d e (to_end p sub (commands sub.statements) (ending p sub))
+    → Leaves e f (cuts_in p sub [] (commands sub.statements) (ending p sub)) []
     → claims_at f.terms f.facts.lists f.claims ≡ map tidy (body_claims p sub)
 all_claims a b i c d e f p sub starts enter initialize import require body others =
-    let rest = walk p sub (commands sub.statements) (ending p sub) (ending p sub) 0 in
-    let from_cuts = cuts_in p sub (commands sub.statements) Skip in
+    let rest = to_end p sub (commands sub.statements) (ending p sub) 0 in
+    let from_cuts = cuts_in p sub [] (commands sub.statements) (ending p sub) in
     let from_start : claims_at e.terms e.facts.lists e.claims ≡ map tidy (claims_of (start_tree p sub)) =
     sym (claims_end e)
     ∙ sym (body.same 0)

@@ -1,10 +1,12 @@
 -- What names stand for, and names of values on entry.
-use Rattle.std.specs.Prelude.{◌≡◌, not, ◌&&◌, if◌then◌else◌}
+use Rattle.std.specs.Prelude.{◌≡◌, Bool, true, not, ◌&&◌, if◌then◌else◌, Option, Some, None}
+use Rattle.std.specs.List.{list_all}
 use Rattle.spx_core.specs.declared.entity.VarId.{VarId}
 use Rattle.spx_core.specs.declared.expression.CoreExpr.{CoreExpr}
 use Rattle.spx_core.specs.declared.program.Program.{Program}
 use Rattle.spx_core.specs.declared.subprogram.Sub.{Sub}
 use Rattle.spx_core.specs.Dependency.{exports, imports}
+use Rattle.spx_core.specs.Effects.{Read, reads_of}
 use Rattle.spx_core.specs.Mirror.VarSets.{holds}
 use Rattle.spx_term.specs.declared.term.Name.{Name}
 use Rattle.spx_term.specs.declared.term.Term.{Term}
@@ -18,6 +20,19 @@ use Rattle.spx_vcg.specs.declared.entered.Interface.{Interface}
 pub record IsInterfaceOf (sub : Sub) (interface : Interface) : Type 0 where
   pub imports : (v : VarId) → holds interface.imports v ≡ imports v sub
   pub exports : (v : VarId) → holds interface.exports v ≡ exports v sub
+
+-- an import that is no export has one value all along
+abbrev pub stays : Interface → VarId → Bool
+stays interface v = holds interface.imports v && not (holds interface.exports v)
+
+-- so has what denotes no variable
+abbrev pub stays_if : Interface → Option VarId → Bool
+stays_if interface None = true
+stays_if interface (Some v) = stays interface v
+
+-- all that an expression reads has one value all along
+abbrev pub is_fixed_by : Interface → CoreExpr → Bool
+is_fixed_by interface e = list_all (λ (r : Read). stays interface r.1) (reads_of e)
 
 -- an import that is no export has its entry value always
 abbrev pub entry_name : Interface → Program → VarId → Name

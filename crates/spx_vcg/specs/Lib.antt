@@ -4,6 +4,8 @@ pub mod States
 pub mod WalkSteps
 pub mod PathWalk
 pub mod Following
+pub mod Enclosing
+pub mod Counting
 pub mod Cuts
 pub mod Largeness
 pub mod Functions

@@ -4,7 +4,7 @@ use Rattle.spx_core.specs.declared.expression.CoreExpr.{CoreExpr}
 use Rattle.spx_core.specs.declared.program.Program.{Program}
 use Rattle.spx_core.specs.declared.subprogram.Sub.{Sub}
 use Rattle.spx_core.specs.declared.statement.CoreChoice.{CoreChoice}
-use Rattle.spx_core.specs.Commands.{Command, Then, alternatives_of, has_own_cut}
+use Rattle.spx_core.specs.Commands.{Command, alternatives_of, has_own_cut}
 use Rattle.spx_term.specs.declared.term.Term.{Term}
 use Rattle.spx_term.specs.declared.term.Term.TheVariants.{Prefix}
 use Rattle.spx_term.specs.declared.term.TermPrefix.TheVariants.{Not}
@@ -18,13 +18,17 @@ use Rattle.spx_vcg.specs.declared.walk.Walk.{Walk}
 use Rattle.spx_vcg.specs.ConditionWalk.{State, applied}
 use Rattle.spx_vcg.specs.WalkSteps.{state, Whole, OnlyAdds, claims_from, Goes, MeanAll, Means, Walks}
 
--- the steps through a command and then to the end of the body
-abbrev pub to_end : Program → Sub → Command → ℕ → Tree
-to_end p sub c = walk p sub c (ending p sub) (ending p sub)
+-- the steps through a command and then along what follows it
+abbrev pub to_end : Program → Sub → Command → (following : ℕ → Tree) → ℕ → Tree
+to_end p sub c following = walk p sub c following (ending p sub)
 
--- the steps of a turn of a loop as far as its own cut, where this follows the loop
-abbrev pub turn_to_cut : Program → Sub → (body following : Command) → ℕ → Tree
-turn_to_cut p sub body following = as_far_as_cut (has_own_cut body) (walk p sub body (λ m. Cut) (to_end p sub following))
+-- the steps of a turn of a loop as far as its own cut
+abbrev pub turn_to_cut : Program → Sub → (body : Command) → ℕ → Tree
+turn_to_cut p sub body = as_far_as_cut (has_own_cut body) (walk p sub body (λ m. Cut) (ending p sub))
+
+-- a condition is true, and then this way
+abbrev pub where_true : Program → CoreExpr → (way : ℕ → Tree) → ℕ → Tree
+where_true p condition way made = assume_parts (term_of p (now_term p) condition) (way made)
 
 -- the walk of this subprogram has come along a command that goes on
 pub record Passes (p : Program) (sub : Sub) (old new : Walk) (c : Command) : Type 0 where
@@ -32,43 +36,43 @@ pub record Passes (p : Program) (sub : Sub) (old new : Walk) (c : Command) : Typ
   pub adds : OnlyAdds old new
   pub goes : Goes old new (λ rest. walk p sub c (λ made. rest) (ending p sub) 0)
 
--- the claims from the first walk and command on are those from the second
-pub record Comes (p : Program) (sub : Sub) (old new : Walk) (from to : Command) : Type 0 where
+-- the claims from the first walk and way on are those from the second
+pub record Comes (old new : Walk) (from to : ℕ → Tree) : Type 0 where
   pub whole : Whole new
   pub adds : OnlyAdds old new
-  pub same : (made : ℕ) → claims_from old (to_end p sub from made) ≡ claims_from new (to_end p sub to made)
+  pub same : (made : ℕ) → claims_from old (from made) ≡ claims_from new (to made)
 
--- the claims from the first walk and command on, up to the end of each path, are those of the second walk
-pub record Ends (p : Program) (sub : Sub) (old new : Walk) (from : Command) : Type 0 where
+-- the claims from the first walk and way on, up to the end of each path, are those of the second walk
+pub record Ends (old new : Walk) (from : ℕ → Tree) : Type 0 where
   pub whole : Whole new
   pub adds : OnlyAdds old new
-  pub same : (made : ℕ) → claims_from old (to_end p sub from made) ≡ claims_from new Cut
+  pub same : (made : ℕ) → claims_from old (from made) ≡ claims_from new Cut
 
 -- the walk has come from an arm to what is done where it is not taken
-abbrev pub PassesArm : Program → Sub → Walk → Walk → (Command → Command) → Command → Type 0
-PassesArm p sub old new arm following = (otherwise : Command) → Comes p sub old new (Then (arm otherwise) following) (Then otherwise following)
+abbrev pub PassesArm : Program → Sub → Walk → Walk → (Command → Command) → (following : ℕ → Tree) → Type 0
+PassesArm p sub old new arm following = (otherwise : Command) → Comes old new (to_end p sub (arm otherwise) following) (to_end p sub otherwise following)
 
--- the claims under a condition along a way are made, and values and facts are as they were
-pub record Takes (p : Program) (old new : Walk) (condition : CoreExpr) (way : ℕ → Tree) : Type 0 where
+-- the claims along a way are made, and values and facts are as they were
+pub record Takes (old new : Walk) (way : ℕ → Tree) : Type 0 where
   pub whole : Whole new
   pub adds : OnlyAdds old new
   pub kept : state new ≡ state old
-  pub goes : (made : ℕ) → Walks old new (Split (assume_parts (term_of p (now_term p) condition) (way made)))
+  pub goes : (made : ℕ) → Walks old new (Split (way made))
 
--- the claims under these facts are made, and values and facts are as they were
-pub record TakesUnder (p : Program) (sub : Sub) (old new : Walk) (facts : List TermId) (c : Command) : Type 0 where
+-- the claims along a way under these facts are made, and values and facts are as they were
+pub record TakesUnder (old new : Walk) (facts : List TermId) (way : ℕ → Tree) : Type 0 where
   pub whole : Whole new
   pub adds : OnlyAdds old new
   pub kept : state new ≡ state old
-  pub goes : (ts : List Term) → MeanAll old facts ts → (made : ℕ) → Walks old new (Split (assume_all ts (to_end p sub c made)))
+  pub goes : (ts : List Term) → MeanAll old facts ts → (made : ℕ) → Walks old new (Split (assume_all ts (way made)))
 
 -- the alternatives that are left for a value after earlier choices, each with what follows it; where none is left, nothing
-abbrev pub left_for : Program → Sub → Term → List Term → List (Option (List CoreChoice) × Command) → Command → ℕ → Tree
+abbrev pub left_for : Program → Sub → Term → List Term → List (Option (List CoreChoice) × Command) → (following : ℕ → Tree) → ℕ → Tree
 left_for p sub t earlier [] following made = Cut
-left_for p sub t earlier (first ∷ more) following made = walk_for p sub t earlier (alternatives_of first more) (to_end p sub following) (ending p sub) made
+left_for p sub t earlier (first ∷ more) following made = walk_for p sub t earlier (alternatives_of first more) following (ending p sub) made
 
 -- the claims of these alternatives are made, for what this id stands for
-pub record TakesEach (p : Program) (sub : Sub) (old new : Walk) (value : TermId) (alternatives : List (Option (List CoreChoice) × Command)) (following : Command) : Type 0 where
+pub record TakesEach (p : Program) (sub : Sub) (old new : Walk) (value : TermId) (alternatives : List (Option (List CoreChoice) × Command)) (following : ℕ → Tree) : Type 0 where
   pub whole : Whole new
   pub adds : OnlyAdds old new
   pub same : (t : Term) → Means old value t → (made : ℕ) → claims_from old (left_for p sub t [] alternatives following made) ≡ claims_from new Cut

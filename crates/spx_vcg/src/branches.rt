@@ -1,21 +1,25 @@
 // The walk through statements to the end of each path. What paths have in common is walked once.
 ghost use Rattle.std.specs.Prelude.{◌≡◌, ◌<◌, length, map, IfOk, OnOk};
 ghost use Rattle.spx_text.specs.declared.place.Place.{Place};
-ghost use Rattle.spx_core.specs.Commands.{Then, alternative, arm_before, arms_before, commands, loop_of, select};
+ghost use Rattle.spx_core.specs.Commands.{Counted, alternative, arm_before, arms_before, commands, head_of, loop_of, select};
 ghost use Rattle.spx_term.specs.declared.term.Term.{Term};
+ghost use Rattle.spx_paths.specs.Walks.{again, end_of_turn, entering_loop, past_loop, tested};
+ghost use Rattle.spx_vcg.specs.declared.branches.Rest.TheVariants as rest;
+ghost use Rattle.spx_vcg.specs.Counting.{along, into_next, into_range};
+ghost use Rattle.spx_vcg.specs.EntryNames.{IsInterfaceOf};
 ghost use Rattle.spx_vcg.specs.Following.{after, done_otherwise};
 ghost use Rattle.spx_vcg.specs.WalkSteps.{Keeps, Means, Walks, Whole};
 ghost use Rattle.spx_arena.specs.Claims.{AreIds};
-ghost use Rattle.spx_vcg.specs.PathWalk.{Ends, Marks, IsBack, Takes, TakesEach, TakesUnder, negated, PassesArm, to_end, turn_to_cut};
+ghost use Rattle.spx_vcg.specs.PathWalk.{Ends, Marks, IsBack, Takes, TakesEach, TakesUnder, negated, PassesArm, to_end, turn_to_cut, where_true};
 
 use crate::choices::alternative_facts;
-use crate::entered::Entered;
+use crate::entered::{Entered, Interface};
 use crate::ids::negated_id;
 use crate::steps::Body;
 use crate::values::Values;
 use crate::walk::Walk;
 use spx_arena::{FactsId, TermId};
-use spx_core::{CoreAlternative, CoreArm, CoreExpr, CoreScheme, CoreStmt, has_own_cut};
+use spx_core::{CoreAlternative, CoreArm, CoreCount, CoreExpr, CoreScheme, CoreStmt, has_own_cut};
 use spx_tree::AssertionKind;
 use sqlite_items::Items;
 use std::alloc::{AllocError, Global};
@@ -29,21 +33,29 @@ pub struct Mark {
     pub count: usize,
 }
 
-/// What follows some statements on the way to the end of the body: the statements after the one that they are part of, and
-/// what follows these.
+/// What follows some statements on the way to the end of the body.
 #[derive(Clone, Copy)]
 pub enum Rest<'a> {
     End,
+    /// The statements after the one that they are part of, and what follows these.
     After(&'a [CoreStmt], &'a Rest<'a>),
+    /// The end of a turn of a loop of this scheme over these statements, and what follows the loop.
+    Again(&'a CoreScheme, &'a [CoreStmt], &'a Rest<'a>),
 }
 
 impl<'a> Rest<'a> {
     /// These statements, and what follows them.
-    #[tactic(auto, unfolding(crate::specs::Following::after))]
-    pub fn more(first: &'a [CoreStmt], rest: &'a Rest<'a>) -> Rest<'a>
-        ensures { after result ≡ Then (commands first.now) (after rest.now) }
+    pub fn more(first: &'a [CoreStmt], following: &'a Rest<'a>) -> Rest<'a>
+        ensures { result ≡ rest.After first.entry following.entry }
     {
-        Rest::After(first, rest)
+        Rest::After(first, following)
+    }
+
+    /// The end of a turn of a loop, and what follows the loop.
+    pub fn again(scheme: &'a CoreScheme, stmts: &'a [CoreStmt], following: &'a Rest<'a>) -> Rest<'a>
+        ensures { result ≡ rest.Again scheme.entry stmts.entry following.entry }
+    {
+        Rest::Again(scheme, stmts, following)
     }
 }
 
@@ -89,7 +101,7 @@ impl Walk {
         rest: &Rest,
     ) -> Result<(), AllocError>
         requires { Whole self.old }
-        ensures { OnOk result (Takes body.now.program.now self.old self.new condition.now (to_end body.now.program.now body.now.sub.now (Then (commands stmts.now) (after rest.now)))) }
+        ensures { OnOk result (Takes self.old self.new (where_true body.now.program.now condition.now (to_end body.now.program.now body.now.sub.now (commands stmts.now) (after body.now.program.now body.now.sub.now rest.now)))) }
     {
         let mark = self.mark()?;
         self.assume_parts(alloc, body.program, &Entered::Present, condition)?;
@@ -120,7 +132,7 @@ impl Walk {
         rest: &Rest,
     ) -> Result<(), AllocError>
         requires { Whole self.old }
-        ensures { OnOk result (PassesArm body.now.program.now body.now.sub.now self.old self.new (arm_before arm.now) (after rest.now)) }
+        ensures { OnOk result (PassesArm body.now.program.now body.now.sub.now self.old self.new (arm_before arm.now) (after body.now.program.now body.now.sub.now rest.now)) }
     {
         let condition = self.checked_id(alloc, body.program, &[], &arm.condition)?;
         self.taken(alloc, body, &arm.condition, arm.body.as_slice(), rest)?;
@@ -139,7 +151,7 @@ impl Walk {
         rest: &Rest,
     ) -> Result<(), AllocError>
         requires { Whole self.old }
-        ensures { OnOk result (Ends body.now.program.now body.now.sub.now self.old self.new (Then (arms_before (commands otherwise.now) (map arm_before arms.now)) (after rest.now))) }
+        ensures { OnOk result (Ends self.old self.new (to_end body.now.program.now body.now.sub.now (arms_before (commands otherwise.now) (map arm_before arms.now)) (after body.now.program.now body.now.sub.now rest.now))) }
     {
         for arm in arms {
             self.arm(alloc, body, arm, rest)?;
@@ -160,7 +172,7 @@ impl Walk {
     ) -> Result<(), AllocError>
         requires whole { Whole self.old }
         requires within { AreIds (length self.old.terms) facts.now }
-        ensures { OnOk result (TakesUnder body.now.program.now body.now.sub.now self.old self.new facts.now (Then (commands stmts.now) (after rest.now))) }
+        ensures { OnOk result (TakesUnder self.old self.new facts.now (to_end body.now.program.now body.now.sub.now (commands stmts.now) (after body.now.program.now body.now.sub.now rest.now))) }
     {
         let mark = self.mark()?;
         self.assume_all(facts)?;
@@ -181,7 +193,7 @@ impl Walk {
     ) -> Result<(), AllocError>
         requires whole { Whole self.old }
         requires within { value.0 < length self.old.terms }
-        ensures { OnOk result (TakesEach body.now.program.now body.now.sub.now self.old self.new value (map alternative alternatives.now) (after rest.now)) }
+        ensures { OnOk result (TakesEach body.now.program.now body.now.sub.now self.old self.new value (map alternative alternatives.now) (after body.now.program.now body.now.sub.now rest.now)) }
     {
         let mut earlier = Items::new(alloc);
         for alternative in alternatives {
@@ -204,7 +216,7 @@ impl Walk {
         rest: &Rest,
     ) -> Result<(), AllocError>
         requires { Whole self.old }
-        ensures { OnOk result ((place : Place) → Ends body.now.program.now body.now.sub.now self.old self.new (Then (select place selector.now (map alternative alternatives.now)) (after rest.now))) }
+        ensures { OnOk result ((place : Place) → Ends self.old self.new (to_end body.now.program.now body.now.sub.now (select place selector.now (map alternative alternatives.now)) (after body.now.program.now body.now.sub.now rest.now))) }
     {
         if alternatives.is_empty() {
             self.follow(alloc, body, rest)?;
@@ -215,10 +227,28 @@ impl Walk {
         Ok(())
     }
 
-    /// A turn of a loop as far as the own cut of its body, where the condition is true. A body without one has a cut before it,
-    /// and no claim is made on the way there.
+    /// A turn of a loop as far as the own cut of its body. A body without one has a cut before it.
     #[cycle(path)]
     fn turn(
+        &mut self,
+        alloc: Global,
+        body: &Body,
+        stmts: &[CoreStmt],
+        rest: &Rest,
+    ) -> Result<(), AllocError>
+        requires { Whole self.old }
+        ensures { OnOk result (Ends self.old self.new (turn_to_cut body.now.program.now body.now.sub.now (commands stmts.now))) }
+    {
+        if has_own_cut(stmts) {
+            self.path(alloc, body, stmts, rest)?;
+            return Ok(());
+        }
+        Ok(())
+    }
+
+    /// A turn where this condition is true. The condition is a fact in it, and no longer after it.
+    #[cycle(path)]
+    fn tested_turn(
         &mut self,
         alloc: Global,
         body: &Body,
@@ -227,16 +257,131 @@ impl Walk {
         rest: &Rest,
     ) -> Result<(), AllocError>
         requires { Whole self.old }
-        ensures { OnOk result (Takes body.now.program.now self.old self.new condition.now (turn_to_cut body.now.program.now body.now.sub.now (commands stmts.now) (after rest.now))) }
+        ensures { OnOk result (Takes self.old self.new (where_true body.now.program.now condition.now (turn_to_cut body.now.program.now body.now.sub.now (commands stmts.now)))) }
     {
-        if has_own_cut(stmts) {
-            self.taken(alloc, body, condition, stmts, rest)?;
-            return Ok(());
-        }
+        let mark = self.mark()?;
+        self.assume_parts(alloc, body.program, &Entered::Present, condition)?;
+        self.turn(alloc, body, stmts, rest)?;
+        self.back_to(mark);
         Ok(())
     }
 
-    /// The head of a loop: a turn where its condition is true, and what follows the loop where it is not.
+    /// The test before a turn of a `while`: a turn where the condition is true, and what follows the loop where it is not.
+    #[cycle(path)]
+    fn tested(
+        &mut self,
+        alloc: Global,
+        body: &Body,
+        condition: &CoreExpr,
+        stmts: &[CoreStmt],
+        rest: &Rest,
+    ) -> Result<(), AllocError>
+        requires { Whole self.old }
+        ensures { OnOk result (Ends self.old self.new (tested body.now.program.now condition.now (turn_to_cut body.now.program.now body.now.sub.now (commands stmts.now)) (after body.now.program.now body.now.sub.now rest.now))) }
+    {
+        let value = self.checked_id(alloc, body.program, &[], condition)?;
+        self.tested_turn(alloc, body, condition, stmts, rest)?;
+        self.not_taken(value)?;
+        self.follow(alloc, body, rest)?;
+        Ok(())
+    }
+
+    /// The first turn of a loop that counts, where there is a value between its bounds.
+    #[cycle(path)]
+    fn first_turn(
+        &mut self,
+        alloc: Global,
+        body: &Body,
+        interface: &Interface,
+        count: &CoreCount,
+        stmts: &[CoreStmt],
+        rest: &Rest,
+    ) -> Result<(), AllocError>
+        requires whole { Whole self.old }
+        requires interface { IsInterfaceOf body.now.sub.now interface.now }
+        ensures { OnOk result (Takes self.old self.new (along (into_range body.now.program.now body.now.sub.now count.now) (turn_to_cut body.now.program.now body.now.sub.now (commands stmts.now)))) }
+    {
+        let mark = self.mark()?;
+        self.enter_range(body, interface, count)?;
+        self.turn(alloc, body, stmts, rest)?;
+        self.back_to(mark);
+        Ok(())
+    }
+
+    /// The next turn of a loop that counts, where its parameter has not come to the end.
+    #[cycle(path)]
+    fn next_turn(
+        &mut self,
+        alloc: Global,
+        body: &Body,
+        interface: &Interface,
+        count: &CoreCount,
+        stmts: &[CoreStmt],
+        rest: &Rest,
+    ) -> Result<(), AllocError>
+        requires whole { Whole self.old }
+        requires interface { IsInterfaceOf body.now.sub.now interface.now }
+        ensures { OnOk result (Takes self.old self.new (along (into_next body.now.program.now body.now.sub.now count.now) (turn_to_cut body.now.program.now body.now.sub.now (commands stmts.now)))) }
+    {
+        let mark = self.mark()?;
+        self.go_on(body, interface, count)?;
+        self.turn(alloc, body, stmts, rest)?;
+        self.back_to(mark);
+        Ok(())
+    }
+
+    /// The head of a loop that counts: its bounds, the first turn where there is a value between them, and what follows the loop
+    /// where there is none. Over a whole type there is always one.
+    #[cycle(path)]
+    fn counted(
+        &mut self,
+        alloc: Global,
+        body: &Body,
+        count: &CoreCount,
+        stmts: &[CoreStmt],
+        rest: &Rest,
+    ) -> Result<(), AllocError>
+        requires { Whole self.old }
+        ensures { OnOk result (Ends self.old self.new (entering_loop body.now.program.now body.now.sub.now (Counted count.now) (turn_to_cut body.now.program.now body.now.sub.now (commands stmts.now)) (past_loop body.now.program.now count.now (after body.now.program.now body.now.sub.now rest.now)))) }
+    {
+        let interface = Interface::of(alloc, body.sub)?;
+        match &count.bounds {
+            None => {
+                self.begin_count(body, &interface, count)?;
+                self.turn(alloc, body, stmts, rest)?;
+                Ok(())
+            }
+            Some(range) => {
+                self.bound(alloc, body, &interface, count, range)?;
+                self.first_turn(alloc, body, &interface, count, stmts, rest)?;
+                self.pass_range(body, &interface, count)?;
+                self.follow(alloc, body, rest)?;
+                Ok(())
+            }
+        }
+    }
+
+    /// The end of a turn of a loop that counts: the next turn, or what follows the loop.
+    #[cycle(path)]
+    fn counted_again(
+        &mut self,
+        alloc: Global,
+        body: &Body,
+        count: &CoreCount,
+        stmts: &[CoreStmt],
+        rest: &Rest,
+    ) -> Result<(), AllocError>
+        requires { Whole self.old }
+        ensures { OnOk result (Ends self.old self.new (again body.now.program.now body.now.sub.now (Counted count.now) (turn_to_cut body.now.program.now body.now.sub.now (commands stmts.now)) (past_loop body.now.program.now count.now (after body.now.program.now body.now.sub.now rest.now)))) }
+    {
+        let interface = Interface::of(alloc, body.sub)?;
+        self.next_turn(alloc, body, &interface, count, stmts, rest)?;
+        self.end_count(body, &interface, count)?;
+        self.follow(alloc, body, rest)?;
+        Ok(())
+    }
+
+    /// The head of a loop: a turn, or what follows the loop.
     #[cycle(path)]
     fn head(
         &mut self,
@@ -247,14 +392,40 @@ impl Walk {
         rest: &Rest,
     ) -> Result<(), AllocError>
         requires { Whole self.old }
-        ensures { OnOk result (Ends body.now.program.now body.now.sub.now self.old self.new (Then (loop_of scheme.now (commands stmts.now)) (after rest.now))) }
+        ensures { OnOk result (Ends self.old self.new (to_end body.now.program.now body.now.sub.now (loop_of scheme.now (commands stmts.now)) (after body.now.program.now body.now.sub.now rest.now))) }
     {
         match scheme {
             CoreScheme::While(_, condition) => {
-                let value = self.checked_id(alloc, body.program, &[], condition)?;
-                self.turn(alloc, body, condition, stmts, rest)?;
-                self.not_taken(value)?;
-                self.follow(alloc, body, rest)?;
+                self.tested(alloc, body, condition, stmts, rest)?;
+                Ok(())
+            }
+            CoreScheme::For(count) => {
+                self.counted(alloc, body, count, stmts, rest)?;
+                Ok(())
+            }
+        }
+    }
+
+    /// The end of a turn of a loop: the next turn, or what follows the loop.
+    #[cycle(path)]
+    fn turn_ended(
+        &mut self,
+        alloc: Global,
+        body: &Body,
+        scheme: &CoreScheme,
+        stmts: &[CoreStmt],
+        rest: &Rest,
+    ) -> Result<(), AllocError>
+        requires { Whole self.old }
+        ensures { OnOk result (Ends self.old self.new (end_of_turn body.now.program.now body.now.sub.now (head_of scheme.now) (commands stmts.now) (after body.now.program.now body.now.sub.now rest.now))) }
+    {
+        match scheme {
+            CoreScheme::While(_, condition) => {
+                self.tested(alloc, body, condition, stmts, rest)?;
+                Ok(())
+            }
+            CoreScheme::For(count) => {
+                self.counted_again(alloc, body, count, stmts, rest)?;
                 Ok(())
             }
         }
@@ -264,7 +435,7 @@ impl Walk {
     #[cycle(path)]
     pub fn follow(&mut self, alloc: Global, body: &Body, rest: &Rest) -> Result<(), AllocError>
         requires { Whole self.old }
-        ensures { OnOk result (Ends body.now.program.now body.now.sub.now self.old self.new (after rest.now)) }
+        ensures { OnOk result (Ends self.old self.new (after body.now.program.now body.now.sub.now rest.now)) }
     {
         match rest {
             Rest::End => {
@@ -273,6 +444,10 @@ impl Walk {
             }
             Rest::After(stmts, rest) => {
                 self.path(alloc, body, &*stmts, &*rest)?;
+                Ok(())
+            }
+            Rest::Again(scheme, stmts, rest) => {
+                self.turn_ended(alloc, body, &*scheme, &*stmts, &*rest)?;
                 Ok(())
             }
         }
@@ -288,7 +463,7 @@ impl Walk {
         rest: &Rest,
     ) -> Result<(), AllocError>
         requires { Whole self.old }
-        ensures { OnOk result (Ends body.now.program.now body.now.sub.now self.old self.new (Then (commands stmts.now) (after rest.now))) }
+        ensures { OnOk result (Ends self.old self.new (to_end body.now.program.now body.now.sub.now (commands stmts.now) (after body.now.program.now body.now.sub.now rest.now))) }
     {
         for (at, stmt) in stmts.iter().enumerate() {
             match stmt {

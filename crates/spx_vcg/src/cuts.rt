@@ -1,10 +1,11 @@
 // The walk from each cut of a body to the next ones, or to the end of the body.
-ghost use Rattle.std.specs.Prelude.{[], ◌++◌, map, OnOk};
+ghost use Rattle.std.specs.Prelude.{[], map, OnOk};
 ghost use Rattle.spx_tree.specs.declared.statement.AssertionKind.TheVariants.{Assert};
-ghost use Rattle.spx_core.specs.Commands.{Command, Then, alternative, arm_before, arms_before, command, commands, has_own_cut};
+ghost use Rattle.spx_core.specs.Commands.{Command, alternative, arm_before, arms_before, command, commands, has_own_cut};
 ghost use Rattle.spx_term.specs.Steps.{assume_all};
 ghost use Rattle.spx_paths.specs.Walks.{cut_facts, loop_cut, noted_cut};
-ghost use Rattle.spx_vcg.specs.Cuts.{BeginsAnew, Leaves, cuts_among, cuts_in};
+ghost use Rattle.spx_vcg.specs.Cuts.{BeginsAnew, Leaves, cuts_among, cuts_in, cuts_of_body};
+ghost use Rattle.spx_vcg.specs.Enclosing.{counts};
 ghost use Rattle.spx_vcg.specs.EntryNames.{IsInterfaceOf};
 ghost use Rattle.spx_vcg.specs.Following.{after};
 ghost use Rattle.spx_vcg.specs.PathWalk.{to_end};
@@ -15,11 +16,11 @@ use crate::entered::{Entered, Interface};
 use crate::steps::Body;
 use crate::values::Values;
 use crate::walk::Walk;
-use spx_core::{CoreAlternative, CoreArm, CoreExpr, CoreScheme, CoreStmt, has_own_cut};
+use crate::within::Within;
+use spx_core::{CoreAlternative, CoreArm, CoreExpr, CoreStmt, has_own_cut};
 use spx_term::Value;
 use spx_tree::AssertionKind;
 use std::alloc::{AllocError, Global};
-use std::slice;
 
 impl Walk {
     /// No name has a value, and nothing is known. Terms, lists of facts and claims stay.
@@ -32,19 +33,20 @@ impl Walk {
         self.facts.at = self.facts.lists.none();
     }
 
-    /// After a cut no name has a value, and what is known after each cut is known.
+    /// After a cut inside these loops that count no name has a value, and what is known after each such cut is known.
     fn after_cut(
         &mut self,
         alloc: Global,
         body: &Body,
         interface: &Interface,
+        within: &Within,
     ) -> Result<(), AllocError>
         requires whole { Whole self.old }
         requires interface { IsInterfaceOf body.now.sub.now interface.now }
-        ensures { OnOk result (BeginsAnew self.old self.new (assume_all (cut_facts body.now.program.now body.now.sub.now []))) }
+        ensures { OnOk result (BeginsAnew self.old self.new (assume_all (cut_facts body.now.program.now body.now.sub.now (counts within.now)))) }
     {
         self.begin_anew(alloc);
-        self.assume_known(alloc, body, interface)?;
+        self.assume_known(alloc, body, interface, within)?;
         Ok(())
     }
 
@@ -54,36 +56,38 @@ impl Walk {
         alloc: Global,
         body: &Body,
         condition: &CoreExpr,
+        within: &Within,
         rest: &Rest,
     ) -> Result<(), AllocError>
         requires { Whole self.old }
-        ensures { OnOk result (Leaves self.old self.new (noted_cut body.now.program.now body.now.sub.now [] Assert condition.now (to_end body.now.program.now body.now.sub.now (after rest.now) 0)) []) }
+        ensures { OnOk result (Leaves self.old self.new (noted_cut body.now.program.now body.now.sub.now (counts within.now) Assert condition.now (after body.now.program.now body.now.sub.now rest.now 0)) []) }
     {
         let interface = Interface::of(alloc, body.sub)?;
-        self.after_cut(alloc, body, &interface)?;
+        self.after_cut(alloc, body, &interface, within)?;
         let entered = Entered::OnEntry(&interface);
         self.assume_parts(alloc, body.program, &entered, condition)?;
         self.follow(alloc, body, rest)?;
         Ok(())
     }
 
-    /// The paths from the cut before the body of a loop, along the body and then from the head of the loop on. A body with its
-    /// own cut has none before it.
+    /// The paths from the cut before the body of a loop, along the body and then from the end of a turn on. A body with its own
+    /// cut has none before it.
     fn from_loop_cut(
         &mut self,
         alloc: Global,
         body: &Body,
         stmts: &[CoreStmt],
+        within: &Within,
         again: &Rest,
     ) -> Result<(), AllocError>
         requires { Whole self.old }
-        ensures { OnOk result (Leaves self.old self.new (loop_cut body.now.program.now body.now.sub.now [] (has_own_cut (commands stmts.now)) (to_end body.now.program.now body.now.sub.now (Then (commands stmts.now) (after again.now)) 0)) []) }
+        ensures { OnOk result (Leaves self.old self.new (loop_cut body.now.program.now body.now.sub.now (counts within.now) (has_own_cut (commands stmts.now)) (to_end body.now.program.now body.now.sub.now (commands stmts.now) (after body.now.program.now body.now.sub.now again.now) 0)) []) }
     {
         if has_own_cut(stmts) {
             return Ok(());
         }
         let interface = Interface::of(alloc, body.sub)?;
-        self.after_cut(alloc, body, &interface)?;
+        self.after_cut(alloc, body, &interface, within)?;
         let truth = self.static_id(Value::Truth(true))?;
         self.assume(truth)?;
         self.path(alloc, body, stmts, again)?;
@@ -97,14 +101,15 @@ impl Walk {
         alloc: Global,
         body: &Body,
         arms: &[CoreArm],
+        within: &Within,
         rest: &Rest,
     ) -> Result<(), AllocError>
         requires { Whole self.old }
         ensures whole { OnOk result (Whole self.new) }
-        ensures leaves { OnOk result ((otherwise : Command) → Leaves self.old self.new (cuts_in body.now.program.now body.now.sub.now (arms_before otherwise (map arm_before arms.now)) (after rest.now)) (cuts_in body.now.program.now body.now.sub.now otherwise (after rest.now))) }
+        ensures leaves { OnOk result ((otherwise : Command) → Leaves self.old self.new (cuts_in body.now.program.now body.now.sub.now (counts within.now) (arms_before otherwise (map arm_before arms.now)) (after body.now.program.now body.now.sub.now rest.now)) (cuts_in body.now.program.now body.now.sub.now (counts within.now) otherwise (after body.now.program.now body.now.sub.now rest.now))) }
     {
         for arm in arms {
-            self.cuts(alloc, body, arm.body.as_slice(), rest)?;
+            self.cuts(alloc, body, arm.body.as_slice(), within, rest)?;
         }
         Ok(())
     }
@@ -116,31 +121,33 @@ impl Walk {
         alloc: Global,
         body: &Body,
         alternatives: &[CoreAlternative],
+        within: &Within,
         rest: &Rest,
     ) -> Result<(), AllocError>
         requires { Whole self.old }
-        ensures { OnOk result (Leaves self.old self.new (cuts_among body.now.program.now body.now.sub.now (map alternative alternatives.now) (after rest.now)) []) }
+        ensures { OnOk result (Leaves self.old self.new (cuts_among body.now.program.now body.now.sub.now (counts within.now) (map alternative alternatives.now) (after body.now.program.now body.now.sub.now rest.now)) []) }
     {
         for alternative in alternatives {
-            self.cuts(alloc, body, alternative.body.as_slice(), rest)?;
+            self.cuts(alloc, body, alternative.body.as_slice(), within, rest)?;
         }
         Ok(())
     }
 
-    /// The paths from the cuts in a loop, each along the body and then from the head of the loop on.
+    /// The paths from the cuts in a loop, each along the body and then from the end of a turn on.
     #[cycle(cuts)]
     fn cuts_in_loop(
         &mut self,
         alloc: Global,
         body: &Body,
         stmts: &[CoreStmt],
+        within: &Within,
         again: &Rest,
     ) -> Result<(), AllocError>
         requires { Whole self.old }
-        ensures { OnOk result (Leaves self.old self.new (loop_cut body.now.program.now body.now.sub.now [] (has_own_cut (commands stmts.now)) (to_end body.now.program.now body.now.sub.now (Then (commands stmts.now) (after again.now)) 0) ++ cuts_in body.now.program.now body.now.sub.now (commands stmts.now) (after again.now)) []) }
+        ensures { OnOk result (Leaves self.old self.new (cuts_of_body body.now.program.now body.now.sub.now (counts within.now) (commands stmts.now) (after body.now.program.now body.now.sub.now again.now)) []) }
     {
-        self.from_loop_cut(alloc, body, stmts, again)?;
-        self.cuts(alloc, body, stmts, again)?;
+        self.from_loop_cut(alloc, body, stmts, within, again)?;
+        self.cuts(alloc, body, stmts, within, again)?;
         Ok(())
     }
 
@@ -151,10 +158,11 @@ impl Walk {
         alloc: Global,
         body: &Body,
         stmt: &CoreStmt,
+        within: &Within,
         rest: &Rest,
     ) -> Result<(), AllocError>
         requires { Whole self.old }
-        ensures { OnOk result (Leaves self.old self.new (cuts_in body.now.program.now body.now.sub.now (command stmt.now) (after rest.now)) []) }
+        ensures { OnOk result (Leaves self.old self.new (cuts_in body.now.program.now body.now.sub.now (counts within.now) (command stmt.now) (after body.now.program.now body.now.sub.now rest.now)) []) }
     {
         match stmt {
             CoreStmt::Null(_) => Ok(()),
@@ -162,31 +170,31 @@ impl Walk {
             CoreStmt::Assertion(kind, _, condition) => match kind {
                 AssertionKind::Check => Ok(()),
                 AssertionKind::Assert => {
-                    self.from_cut(alloc, body, condition, rest)?;
+                    self.from_cut(alloc, body, condition, within, rest)?;
                     Ok(())
                 }
             },
             CoreStmt::If(arms, otherwise, _) => {
-                self.cuts_in_arms(alloc, body, arms.as_slice(), rest)?;
+                self.cuts_in_arms(alloc, body, arms.as_slice(), within, rest)?;
                 match otherwise {
                     None => Ok(()),
                     Some(stmts) => {
-                        self.cuts(alloc, body, stmts.as_slice(), rest)?;
+                        self.cuts(alloc, body, stmts.as_slice(), within, rest)?;
                         Ok(())
                     }
                 }
             }
             CoreStmt::Case(_, _, alternatives, _) => {
-                self.cuts_in_alternatives(alloc, body, alternatives.as_slice(), rest)?;
+                self.cuts_in_alternatives(alloc, body, alternatives.as_slice(), within, rest)?;
                 Ok(())
             }
-            CoreStmt::Loop(scheme, _, repeated, _) => match scheme {
-                CoreScheme::While(_, _) => {
-                    let again = Rest::more(slice::from_ref(stmt), &*rest);
-                    self.cuts_in_loop(alloc, body, repeated.as_slice(), &again)?;
-                    Ok(())
-                }
-            },
+            CoreStmt::Loop(scheme, _, repeated, _) => {
+                let inner = Within::inside(&*within, scheme);
+                let repeated = repeated.as_slice();
+                let again = Rest::again(scheme, repeated, &*rest);
+                self.cuts_in_loop(alloc, body, repeated, &inner, &again)?;
+                Ok(())
+            }
         }
     }
 
@@ -197,14 +205,15 @@ impl Walk {
         alloc: Global,
         body: &Body,
         stmts: &[CoreStmt],
+        within: &Within,
         rest: &Rest,
     ) -> Result<(), AllocError>
         requires { Whole self.old }
-        ensures { OnOk result (Leaves self.old self.new (cuts_in body.now.program.now body.now.sub.now (commands stmts.now) (after rest.now)) []) }
+        ensures { OnOk result (Leaves self.old self.new (cuts_in body.now.program.now body.now.sub.now (counts within.now) (commands stmts.now) (after body.now.program.now body.now.sub.now rest.now)) []) }
     {
         for (at, stmt) in stmts.iter().enumerate() {
             let following = Rest::more(&stmts[at + 1..], &*rest);
-            self.cuts_of(alloc, body, stmt, &following)?;
+            self.cuts_of(alloc, body, stmt, within, &following)?;
         }
         Ok(())
     }

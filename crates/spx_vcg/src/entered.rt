@@ -1,9 +1,10 @@
 // What names stand for, and names of values on entry.
 ghost use Rattle.std.specs.Prelude.{◌≡◌, IfOk};
-ghost use Rattle.spx_vcg.specs.EntryNames.{IsInterfaceOf, entered_name, entry_name, present_name};
+ghost use Rattle.spx_core.specs.Uses.{variable_of};
+ghost use Rattle.spx_vcg.specs.EntryNames.{IsInterfaceOf, entered_name, entry_name, is_fixed_by, present_name, stays, stays_if};
 
 use crate::names::{entry, now};
-use spx_core::{Program, Sub, VarId, VarSet};
+use spx_core::{CoreExpr, Entity, Program, Sub, VarId, VarSet, variable_of};
 use spx_term::Name;
 use std::alloc::{AllocError, Global};
 
@@ -35,11 +36,28 @@ impl Interface {
         Ok(Interface { imports, exports })
     }
 
+    /// Whether a variable has one value all along.
+    fn keeps_value(&self, var: VarId) -> bool
+        ensures { result ≡ stays self.now var }
+    {
+        self.imports.contains(var) && !self.exports.contains(var)
+    }
+
+    /// Whether what is denoted has one value all along. Only a variable may have more.
+    fn keeps(&self, entity: Option<Entity>) -> bool
+        ensures { result ≡ stays_if self.now (variable_of entity) }
+    {
+        match variable_of(entity) {
+            Some(var) => self.keeps_value(var),
+            None => true,
+        }
+    }
+
     /// The name of the value on entry. An import that is no export has it always.
     fn entry_name(&self, program: &Program, var: VarId) -> Name
         ensures { result ≡ entry_name self.now program.now var }
     {
-        if self.imports.contains(var) && !self.exports.contains(var) {
+        if self.keeps_value(var) {
             return now(program, var);
         }
         entry(program, var)
@@ -64,6 +82,30 @@ pub fn entered_name(program: &Program, entered: &Entered, var: VarId) -> Name
         Entered::Present => now(program, var),
         Entered::OnEntry(interface) | Entered::AtEntry(interface) => {
             interface.entry_name(program, var)
+        }
+    }
+}
+
+/// Whether all that an expression reads has one value all along, so that the expression stands for its value.
+pub fn is_fixed(interface: &Interface, expr: &CoreExpr) -> bool
+    ensures { result ≡ is_fixed_by interface.now expr.now }
+{
+    match expr {
+        CoreExpr::Number(_, _) => true,
+        CoreExpr::Name(name) => interface.keeps(name.entity),
+        CoreExpr::Entry(name, _) => interface.keeps(name.entity),
+        CoreExpr::Attribute(_, _) => true,
+        CoreExpr::Applied(_, _, operand) => is_fixed(interface, operand.get()),
+        CoreExpr::Parenthesized(_, inner) => is_fixed(interface, inner.get()),
+        CoreExpr::Prefix(_, _, operand) => is_fixed(interface, operand.get()),
+        CoreExpr::Infix(_, _, left, right) => {
+            is_fixed(interface, left.get()) && is_fixed(interface, right.get())
+        }
+        CoreExpr::InType(_, _, tested, _) => is_fixed(interface, tested.get()),
+        CoreExpr::InRange(_, _, tested, low, high) => {
+            is_fixed(interface, tested.get())
+                && is_fixed(interface, low.get())
+                && is_fixed(interface, high.get())
         }
     }
 }

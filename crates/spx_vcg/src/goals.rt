@@ -3,6 +3,7 @@ ghost use Rattle.std.specs.Prelude.{◌≡◌, ◌<◌, [], ◌∷◌, length, I
 ghost use Rattle.spx_term.specs.declared.term.Term.TheVariants as term;
 ghost use Rattle.spx_term.specs.Goals.{goal_of};
 ghost use Rattle.spx_paths.specs.Checks.{guarded, in_range, in_type, under};
+ghost use Rattle.spx_paths.specs.Walks.{range_goal};
 ghost use Rattle.spx_arena.specs.Claims.{AreIds, trees_at};
 ghost use Rattle.spx_arena.specs.Sharing.{tree_at, Adds};
 ghost use Rattle.spx_vcg.specs.States.{AddsAll};
@@ -64,6 +65,26 @@ pub fn in_type(
         }
         Class::Boolean => Ok(Items::new(alloc)),
     }
+}
+
+/// That two bounds lie in a type where there is a value between them, as the only goal.
+pub fn range_goal(
+    alloc: Global,
+    terms: &mut Terms,
+    subtype: Subtype,
+    low: TermId,
+    high: TermId,
+) -> Result<Items<TermId>, AllocError>
+    requires { (low.0 < length terms.old) × (high.0 < length terms.old) }
+    ensures { IfOk result (λ goals. AddsAll terms.old terms.new goals (range_goal subtype (tree_at terms.old low) (tree_at terms.old high) ∷ [])) }
+{
+    let some = terms.infix(TermOp::LessOrEqual, low, high)?;
+    let first = with_number(terms, low, TermOp::GreaterOrEqual, subtype.first)?;
+    let last = with_number(terms, high, TermOp::LessOrEqual, subtype.last)?;
+    let both = terms.infix(TermOp::And, first, last)?;
+    let goal = terms.infix(TermOp::Implies, some, both)?;
+    let goals = Items::from_slice(alloc, &[goal])?;
+    Ok(goals)
 }
 
 /// One goal for several.

@@ -1,10 +1,11 @@
 // What is known after each cut of a body.
-ghost use Rattle.std.specs.Prelude.{◌&&◌, [], flat_map, OnOk};
+ghost use Rattle.std.specs.Prelude.{◌&&◌, flat_map, OnOk};
 ghost use Rattle.spx_core.specs.Formals.{formals};
 ghost use Rattle.spx_core.specs.Mirror.VarSets.{holds};
 ghost use Rattle.spx_term.specs.Steps.{assume_all};
-ghost use Rattle.spx_paths.specs.Walks.{cut_facts, entry_facts, pre_facts_on_entry, var_facts};
+ghost use Rattle.spx_paths.specs.Walks.{count_facts, cut_facts, entry_facts, pre_facts_on_entry, var_facts};
 ghost use Rattle.spx_vcg.specs.Cuts.{entry_known};
+ghost use Rattle.spx_vcg.specs.Enclosing.{counts};
 ghost use Rattle.spx_vcg.specs.EntryNames.{IsInterfaceOf};
 ghost use Rattle.spx_vcg.specs.WalkSteps.{Goes, Whole};
 
@@ -12,7 +13,9 @@ use crate::entered::{Entered, Interface};
 use crate::names::{entry, now};
 use crate::steps::Body;
 use crate::walk::Walk;
-use spx_core::{Program, VarId};
+use crate::within::Within;
+use spx_core::{CoreCount, Program, VarId};
+use spx_term::TermOp;
 use std::alloc::{AllocError, Global};
 
 impl Walk {
@@ -86,20 +89,63 @@ impl Walk {
         Ok(())
     }
 
-    /// What is known after each cut.
+    /// The parameter of a loop lies in its type and between its bounds.
+    fn assume_count(
+        &mut self,
+        alloc: Global,
+        body: &Body,
+        interface: &Interface,
+        count: &CoreCount,
+    ) -> Result<(), AllocError>
+        requires whole { Whole self.old }
+        requires interface { IsInterfaceOf body.now.sub.now interface.now }
+        ensures { OnOk result (Goes self.old self.new (assume_all (count_facts body.now.program.now body.now.sub.now count.now))) }
+    {
+        let parameter = count.parameter;
+        self.assume_value(alloc, body.program, parameter, now(body.program, parameter))?;
+        self.assume_low(body, interface, count, TermOp::GreaterOrEqual)?;
+        self.assume_high(body, interface, count, TermOp::LessOrEqual)?;
+        Ok(())
+    }
+
+    /// The same for each of these loops, the outermost first.
+    fn assume_counts(
+        &mut self,
+        alloc: Global,
+        body: &Body,
+        interface: &Interface,
+        within: &Within,
+    ) -> Result<(), AllocError>
+        requires whole { Whole self.old }
+        requires interface { IsInterfaceOf body.now.sub.now interface.now }
+        ensures { OnOk result (Goes self.old self.new (assume_all (flat_map (count_facts body.now.program.now body.now.sub.now) (counts within.now)))) }
+    {
+        match within {
+            Within::Outermost => Ok(()),
+            Within::Inside(outer, count) => {
+                self.assume_counts(alloc, body, interface, &*outer)?;
+                self.assume_count(alloc, body, interface, &*count)?;
+                Ok(())
+            }
+        }
+    }
+
+    /// What is known after each cut inside these loops that count.
     pub fn assume_known(
         &mut self,
         alloc: Global,
         body: &Body,
         interface: &Interface,
+        within: &Within,
     ) -> Result<(), AllocError>
         requires whole { Whole self.old }
         requires interface { IsInterfaceOf body.now.sub.now interface.now }
-        ensures { OnOk result (Goes self.old self.new (assume_all (cut_facts body.now.program.now body.now.sub.now []))) }
+        ensures { OnOk result (Goes self.old self.new (assume_all (cut_facts body.now.program.now body.now.sub.now (counts within.now)))) }
     {
         self.assume_values(alloc, body.program, body.sub.formals())?;
         self.assume_values(alloc, body.program, body.sub.locals())?;
         self.assume_entries(alloc, body, interface)?;
+        self.assume_counts(alloc, body, interface, within)?;
         self.assume_pre_on_entry(alloc, body, interface)?;
         Ok(())
     }

@@ -15,6 +15,7 @@ use crate::limit::has_large_claim;
 use crate::steps::Body;
 use crate::values::Values;
 use crate::walk::{Facts, Walk};
+use crate::within::Within;
 use indexmap::IndexSet;
 use spx_arena::{FactLists, SharedClaim, SharedClaims, TermId, Terms};
 use spx_core::{Program, Sub, SubId};
@@ -48,7 +49,7 @@ fn walked(alloc: Global, program: &Program, sub: &Sub) -> Result<SharedClaims, A
     let body = Body { program, sub };
     let stmts = sub.statements.as_slice();
     walk.path(alloc, &body, stmts, &Rest::End)?;
-    walk.cuts(alloc, &body, stmts, &Rest::End)?;
+    walk.cuts(alloc, &body, stmts, &Within::outermost(), &Rest::End)?;
     let Walk {
         terms,
         values: _,

@@ -11,9 +11,10 @@ use Rattle.spx_core.specs.declared.statement.CoreStmt.TheVariants.{Null, Assignm
 use Rattle.spx_core.specs.declared.statement.CoreArm.{CoreArm, out-CoreArm, fold_out-CoreArm}
 use Rattle.spx_core.specs.declared.statement.CoreAlternative.{CoreAlternative, out-CoreAlternative, fold_out-CoreAlternative}
 use Rattle.spx_core.specs.declared.statement.CoreChoice.{CoreChoice}
+use Rattle.spx_core.specs.declared.statement.CoreCount.{CoreCount}
 use Rattle.spx_core.specs.declared.statement.CoreScheme.{CoreScheme}
 use Rattle.spx_core.specs.declared.statement.CoreScheme.TheVariants as scheme
-use Rattle.spx_core.specs.Commands.{Command, Skip, Set, Choose, Assertion, Repeat, Tested, alternative, alternative_step, arm_before, arm_step, arms_before, command, commands, select, stmt_step}
+use Rattle.spx_core.specs.Commands.{Command, Skip, Set, Choose, Assertion, Repeat, Tested, Counted, alternative, alternative_step, arm_before, arm_step, arms_before, command, commands, loop_of, select, stmt_step}
 use Rattle.spx_core.specs.Effects.{choose, effect, effects, reads_of}
 
 -- choices, and what is done for them
@@ -41,10 +42,15 @@ command-If-else s arms o stmts closing is some = command_at s (CoreStmt-F.If arm
 pub command-Case : (s : CoreStmt) (place : Place) (selector : CoreExpr) (alternatives : List CoreAlternative) (closing : Closing) → s ≡ Case place selector alternatives closing → command s ≡ select place selector (map alternative alternatives)
 command-Case s place selector alternatives closing is = command_at s (CoreStmt-F.Case place selector alternatives closing) (ap out-CoreStmt is ∙ outs-Case place selector alternatives closing)
 
+pub command-Loop : (s : CoreStmt) (x : CoreScheme) (word : Place) (body : List CoreStmt) (closing : Closing) → s ≡ Loop x word body closing → command s ≡ loop_of x (commands body)
+command-Loop s x word body closing is = command_at s (CoreStmt-F.Loop x word body closing) (ap out-CoreStmt is ∙ outs-Loop x word body closing)
+
 pub command-While : (s : CoreStmt) (x : CoreScheme) (word : Place) (body : List CoreStmt) (closing : Closing) (place : Place) (condition : CoreExpr) → s ≡ Loop x word body closing → x ≡ scheme.While place condition
     → command s ≡ Repeat (Tested place condition) (commands body)
-command-While s x word body closing place condition is while =
-    command_at s (CoreStmt-F.Loop (scheme.While place condition) word body closing) (ap out-CoreStmt (is ∙ ap (λ y. Loop y word body closing) while) ∙ outs-Loop (scheme.While place condition) word body closing)
+command-While s x word body closing place condition is while = command-Loop s x word body closing is ∙ ap (λ y. loop_of y (commands body)) while
+
+pub command-For : (s : CoreStmt) (x : CoreScheme) (word : Place) (body : List CoreStmt) (closing : Closing) (c : CoreCount) → s ≡ Loop x word body closing → x ≡ scheme.For c → command s ≡ Repeat (Counted c) (commands body)
+command-For s x word body closing c is for = command-Loop s x word body closing is ∙ ap (λ y. loop_of y (commands body)) for
 
 pub command-Assertion : (kind : AssertionKind) (place : Place) (condition : CoreExpr) → command (stmt.Assertion kind place condition) ≡ Assertion kind place condition
 command-Assertion kind place condition = command_at (stmt.Assertion kind place condition) (CoreStmt-F.Assertion kind place condition) (outs-Assertion kind place condition)
@@ -52,7 +58,7 @@ command-Assertion kind place condition = command_at (stmt.Assertion kind place c
 pub command_arm : (arm : CoreArm) (otherwise : Command) → arm_before arm otherwise ≡ Choose (out-CoreArm arm).place (out-CoreArm arm).condition (commands (out-CoreArm arm).body) otherwise
 command_arm arm otherwise = ap (λ (f : Command → Command). f otherwise) (fold_out-CoreArm Command Chosen (Command → Command) stmt_step alternative_step arm_step arm)
 
-command_alternative : (a : CoreAlternative) → (alternative a).1 ≡ commands (out-CoreAlternative a).body
+pub command_alternative : (a : CoreAlternative) → (alternative a).1 ≡ commands (out-CoreAlternative a).body
 command_alternative a = ap (λ (chosen : Chosen). chosen.1) (fold_out-CoreAlternative Command Chosen (Command → Command) stmt_step alternative_step arm_step a)
 
 -- ---- the alternatives of a `case`

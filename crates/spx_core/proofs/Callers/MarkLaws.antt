@@ -7,7 +7,7 @@ use Rattle.spx_core.specs.declared.entity.VarId.{VarId}
 use Rattle.spx_core.specs.declared.entity.VarKind.{VarKind}
 use Rattle.spx_core.specs.declared.program.Program.{Program}
 use Rattle.spx_core.specs.declared.subprogram.Sub.{Sub}
-use Rattle.spx_core.specs.Formals.{is_formal, is_local}
+use Rattle.spx_core.specs.Formals.{is_formal, is_inner}
 use Rattle.spx_core.specs.Dependency.{exports}
 use Rattle.spx_core.specs.Uses.{is_same}
 use Rattle.spx_core.specs.Effects.{Effect, Read, nothing, assign, next, choose, observe, repeat, count, sets, reads, is_read, reads_in}
@@ -255,10 +255,10 @@ module _ (p : Program) (sub : Sub) (scoped : Scoped p sub) where
       absurd cc
 
   -- it is no variable of the subprogram
-  foreign : (is_formal (mark p) sub || is_local (mark p) sub) ≡ true → ⊥
+  foreign : (is_formal (mark p) sub || is_inner (mark p) sub) ≡ true → ⊥
   foreign h =
-      ⊎_elim (λ formal. let kind = scoped.formal_kinds (mark p) formal in no_kind _ kind.1) (λ local. let kind = scoped.local_kinds (mark p) local in no_kind _ kind.1)
-      (or_cases (is_formal (mark p) sub) (is_local (mark p) sub) h)
+      ⊎_elim (λ formal. let kind = scoped.formal_kinds (mark p) formal in no_kind _ kind.1) (λ inner. let kind = scoped.inner_kinds (mark p) inner in no_kind _ kind.1)
+      (or_cases (is_formal (mark p) sub) (is_inner (mark p) sub) h)
 
   pub mark_unset : sets (mark p) (body_effect sub) ≡ false
   mark_unset = false_from_ne_true _ (λ set. foreign (scoped.targets (mark p) set))
@@ -271,7 +271,7 @@ module _ (p : Program) (sub : Sub) (scoped : Scoped p sub) where
     λ h. ⊎_elim
         (λ flow.
         let same : mark p ≡ w = unread (body_effect sub) (mark p) w mark_unread flow in
-        absurd (foreign (or_left (is_formal (mark p) sub) (is_local (mark p) sub) (scoped.exported (mark p) (ap (λ v. exports v sub) same ∙ exported)))))
+        absurd (foreign (or_left (is_formal (mark p) sub) (is_inner (mark p) sub) (scoped.exported (mark p) (ap (λ v. exports v sub) same ∙ exported)))))
         (λ k. k.1)
         ((mark_law place (mark p) (body_effect sub) mark_unset (mark p) w).0 h),
     λ h. (mark_law place (mark p) (body_effect sub) mark_unset (mark p) w).1 (inr (refl, h)),

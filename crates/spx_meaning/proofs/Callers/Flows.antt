@@ -10,7 +10,8 @@ use Rattle.spx_core.specs.declared.name.Reference.{Reference}
 use Rattle.spx_core.specs.declared.expression.CoreExpr.{CoreExpr}
 use Rattle.spx_core.specs.declared.entity.Subtype.{Subtype}
 use Rattle.spx_core.specs.declared.statement.CoreRange.{CoreRange}
-use Rattle.spx_core.specs.Commands.{Command, Skip, Set, Then, Choose, Select, Count, Assertion, Repeat, Tested, Counted, Alternatives, Last, When}
+use Rattle.spx_core.specs.declared.statement.CoreCount.{CoreCount}
+use Rattle.spx_core.specs.Commands.{Command, Skip, Set, Then, Choose, Select, Assertion, Repeat, Tested, Counted, Alternatives, Last, When}
 use Rattle.spx_core.specs.Uses.{denotes, is_same, uses}
 use Rattle.spx_core.specs.Effects.{Effect, Read, choose, repeat, effect, effect_among, is_read, reads_in, reads_of, reads_of_range, sets}
 use Rattle.spx_core.specs.Flow.{MayFlow, Steps, stay, advance, Keeping, Turned}
@@ -44,7 +45,7 @@ kept_in_turns test body v each n s s' (stopped x gives is) = refl
 kept_in_turns test body v each n s s' (turned {n = k} {t = t} x gives is turn rest) = kept_in_turns test body v each k t s' rest ∙ each k s t turn
 
 -- what every turn of a loop that counts keeps, the loop keeps, unless it is the parameter
-module _ (c : Count) (body : ℕ → Store → Outcome) (v : VarId) (other : is_same v (Some c.parameter) ≡ false) (each : (n : ℕ) (s t : Store) → body n s ≡ Ended t → look t v ≡ look s v) where
+module _ (c : CoreCount) (body : ℕ → Store → Outcome) (v : VarId) (other : is_same v (Some c.parameter) ≡ false) (each : (n : ℕ) (s t : Store) → body n s ≡ Ended t → look t v ≡ look s v) where
   kept_in_count : (last : ℤ) (n : ℕ) (k : ℤ) (s s' : Store) → CountedOver c body last n k s s' → look s' v ≡ look s v
   kept_in_count last n k s s' (last_turn {n = i} is turn) = each i _ s' turn ∙ put_kept s c.parameter v (Some (Number k)) other
   kept_in_count last n k s s' (one_turn {n = i} {t = t} is turn rest) = kept_in_count last i (value_after c k) t s' rest ∙ each i _ t turn ∙ put_kept s c.parameter v (Some (Number k)) other
@@ -277,7 +278,7 @@ none_turned : (f : Frame) (n : ℕ) (s : Store) (of : Subtype) (bounds : Option 
 none_turned f n s of (Some range) low high ends value none R w = stay
 none_turned f n s of None low high ends value none R w = absurd (both_ways (int_le of.first of.last) (ap₂ int_le ends.0 ends.1 ∙ none) value)
 
-module _ (f g : Frame) (one : f.program ≡ g.program) (types : TypesHaveValues f.program) (c : Count) (body : Command) (each : (n m : ℕ) (s t : Store) → Pair (MayFlow (effect body)) s t (run f n s body) (run g m t body)) where
+module _ (f g : Frame) (one : f.program ≡ g.program) (types : TypesHaveValues f.program) (c : CoreCount) (body : Command) (each : (n m : ℕ) (s t : Store) → Pair (MayFlow (effect body)) s t (run f n s body) (run g m t body)) where
   abbrev counting : Command
   counting = Repeat (Counted c) body
 

@@ -8,7 +8,8 @@ use Rattle.spx_core.specs.declared.entity.VarId.{VarId}
 use Rattle.spx_core.specs.declared.program.Program.{Program}
 use Rattle.spx_core.specs.declared.expression.CoreExpr.{CoreExpr}
 use Rattle.spx_core.specs.declared.statement.CoreRange.{CoreRange}
-use Rattle.spx_core.specs.Commands.{Command, Skip, Set, Then, Choose, Select, Count, Assertion, Repeat, Tested, Counted, Alternatives, Last, When}
+use Rattle.spx_core.specs.declared.statement.CoreCount.{CoreCount}
+use Rattle.spx_core.specs.Commands.{Command, Skip, Set, Then, Choose, Select, Assertion, Repeat, Tested, Counted, Alternatives, Last, When}
 use Rattle.spx_core.specs.Places.{place_of}
 use Rattle.spx_core.specs.Uses.{variable_of}
 use Rattle.spx_term.specs.declared.value.Value.{Value}
@@ -73,12 +74,12 @@ stays_bounds f n s subtype (Some range) go more =
     (λ low. stays_use (eval f n s range.high) _
     (λ high. stays_then (in_bounds subtype (place_of range.low) (as_number low) (as_number high) s) _ (stays_demand _ Range (place_of range.low) s) (more (as_number low) (as_number high))))
 
-stays_counted : (c : Count) (body : ℕ → Store → Outcome) (last : ℤ) (n : ℕ) (k : ℤ) (s : Store) → Stays (counted c body last n k s)
+stays_counted : (c : CoreCount) (body : ℕ → Store → Outcome) (last : ℤ) (n : ℕ) (k : ℤ) (s : Store) → Stays (counted c body last n k s)
 stays_counted c body last zero k s = tt
 stays_counted c body last (suc n) k s =
     stays_turn (body n (put s c.parameter (Some (Number k)))) _ (λ t. stays_arm (int_eq k last) (Ended t) _ tt (stays_counted c body last n (value_after c k) t))
 
-stays_range : (c : Count) (body : ℕ → Store → Outcome) (n : ℕ) (low high : ℤ) (s : Store) → Stays (over_range c body n low high s)
+stays_range : (c : CoreCount) (body : ℕ → Store → Outcome) (n : ℕ) (low high : ℤ) (s : Store) → Stays (over_range c body n low high s)
 stays_range c body n low high s =
     stays_then _ (λ t. Ended (put t c.parameter None)) (stays_arm (int_le low high) _ (Ended s) (stays_counted c body (end_of c low high) n (start_of c low high) s) tt) (λ t. tt)
 
@@ -144,16 +145,16 @@ went f n s s' place condition body ended = loop_went (λ k t. eval f k t conditi
 -- ---- how a loop that counts went that has ended
 
 -- this was the last turn, or it made a turn and went on with the next value
-pub data CountedOver (c : Count) (body : ℕ → Store → Outcome) (last : ℤ) : ℕ → ℤ → Store → Store → Type 0 where
+pub data CountedOver (c : CoreCount) (body : ℕ → Store → Outcome) (last : ℤ) : ℕ → ℤ → Store → Store → Type 0 where
   last_turn : {n : ℕ} {k : ℤ} {s t : Store} → int_eq k last ≡ true → body n (put s c.parameter (Some (Number k))) ≡ Ended t → CountedOver c body last (suc n) k s t
   one_turn : {n : ℕ} {k : ℤ} {s t s' : Store} → int_eq k last ≡ false → body n (put s c.parameter (Some (Number k))) ≡ Ended t → CountedOver c body last n (value_after c k) t s' → CountedOver c body last (suc n) k s s'
 
 -- the turns for the values between two numbers, where there is one
-pub data RangeWent (c : Count) (body : ℕ → Store → Outcome) (low high : ℤ) : ℕ → Store → Store → Type 0 where
+pub data RangeWent (c : CoreCount) (body : ℕ → Store → Outcome) (low high : ℤ) : ℕ → Store → Store → Type 0 where
   some_turns : {n : ℕ} {s t : Store} → int_le low high ≡ true → CountedOver c body (end_of c low high) n (start_of c low high) s t → RangeWent c body low high n s t
   no_turns : {n : ℕ} {s : Store} → int_le low high ≡ false → RangeWent c body low high n s s
 
-module _ (c : Count) (body : ℕ → Store → Outcome) (stays : (n : ℕ) (s : Store) → Stays (body n s)) where
+module _ (c : CoreCount) (body : ℕ → Store → Outcome) (stays : (n : ℕ) (s : Store) → Stays (body n s)) where
   -- a turn with one value, after which it is the last one or not
   at_value : (last : ℤ) (n : ℕ) (k : ℤ) (s t s' : Store) → body n (put s c.parameter (Some (Number k))) ≡ Ended t → (counted c body last n (value_after c k) t ≡ Ended s' → CountedOver c body last n (value_after c k) t s')
       → (b : Bool) → int_eq k last ≡ b → (if b then Ended t else counted c body last n (value_after c k) t) ≡ Ended s' → CountedOver c body last (suc n) k s s'
@@ -192,7 +193,7 @@ bounds_ended f n s subtype (Some range) go t ended =
     (as_number first.0, as_number second.0, ((first.0, first.1, refl), (second.0, second.1, refl)), subst (λ z. go (as_number first.0) (as_number second.0) z ≡ Ended t) (sym here) checked.2)
 
 -- the turns between its ends, after which the parameter is unset
-pub record CountWent (f : Frame) (n : ℕ) (c : Count) (body : Command) (s s' : Store) : Type 0 where
+pub record CountWent (f : Frame) (n : ℕ) (c : CoreCount) (body : Command) (s s' : Store) : Type 0 where
   pub low : ℤ
   pub high : ℤ
   pub ends : HasEnds f n s (type_of f.program c.parameter) c.bounds low high
@@ -200,7 +201,7 @@ pub record CountWent (f : Frame) (n : ℕ) (c : Count) (body : Command) (s s' : 
   pub turns : RangeWent c (λ k t. run f k t body) low high n s end
   pub unset : put end c.parameter None ≡ s'
 
-pub count_went : (f : Frame) (n : ℕ) (s s' : Store) (c : Count) (body : Command) → run f n s (Repeat (Counted c) body) ≡ Ended s' → CountWent f n c body s s'
+pub count_went : (f : Frame) (n : ℕ) (s s' : Store) (c : CoreCount) (body : Command) → run f n s (Repeat (Counted c) body) ≡ Ended s' → CountWent f n c body s s'
 count_went f n s s' c body ended =
     let bounds = bounds_ended f n s (type_of f.program c.parameter) c.bounds (over_range c (λ k t. run f k t body) n) s' ended in
     let after = then_ended (if int_le bounds.0 bounds.1 then counted c (λ k t. run f k t body) (end_of c bounds.0 bounds.1) n (start_of c bounds.0 bounds.1) s else Ended s) (λ t. Ended (put t c.parameter None)) s' bounds.3 in

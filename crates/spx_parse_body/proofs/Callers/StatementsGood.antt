@@ -14,23 +14,25 @@ use Rattle.spx_tree.specs.declared.statement.Arm.{Arm, out-Arm}
 use Rattle.spx_tree.specs.declared.statement.AssertionKind.{AssertionKind}
 use Rattle.spx_tree.specs.declared.statement.AssertionKind.TheVariants as assertion
 use Rattle.spx_tree.specs.declared.statement.Scheme.{Scheme}
-use Rattle.spx_tree.specs.declared.statement.Scheme.TheVariants.{While}
+use Rattle.spx_tree.specs.declared.statement.Scheme.TheVariants.{While, For}
 use Rattle.spx_tree.specs.declared.statement.Stmt.{Stmt, Stmt-F, out-Stmt}
 use Rattle.spx_tree.specs.declared.statement.Stmt.TheVariants.{Null, Assignment, If, Case, Loop, Assertion, outs-Null, outs-Assignment, outs-If, outs-Case, outs-Loop, outs-Assertion}
 use Rattle.spx_tree.specs.Form.{Form, ItsPlace, bare, placed, keeps}
-use Rattle.spx_tree.specs.Written.{program, annotation, assertion_word, joined, optional, elsif_arms, all_arms, written_upper, written_choice, written_choices, written_scheme, written_expr, written_stmt, written_arm, written_alternative, written_stmts, separated}
-use Rattle.spx_tree.specs.Grammar.{OneOrMore, IfThere, OfLayer, IsArm, IsChoice, IsAlternative, IsScheme, IsFormed, Within, IsStmt}
+use Rattle.spx_tree.specs.Written.{program, annotation, assertion_word, joined, optional, elsif_arms, all_arms, written_upper, written_choice, written_choices, written_constraint, written_direction, written_range, written_scheme, written_expr, written_stmt, written_arm, written_alternative, written_stmts, separated}
+use Rattle.spx_tree.specs.Grammar.{OneOrMore, IfThere, OfLayer, IsArm, IsChoice, IsAlternative, IsRange, IsScheme, IsFormed, Within, IsStmt}
 use Rattle.spx_tree.proofs.WrittenLevels.{written_level, spelled_stmt, spelled_arm, spelled_alternative, elsif_joined}
 use Rattle.spx_parse_body.specs.Reading.{Reader, ◌>>=◌, ◌>>◌, pure, peek, sees, refuse, expect, item_step}
+use Rattle.spx_parse_body.specs.declared.statements.SchemeKind.{SchemeKind}
+use Rattle.spx_parse_body.specs.declared.statements.SchemeKind.TheVariants as schemes
 use Rattle.spx_parse_body.specs.declared.statements.StmtKind.{StmtKind}
 use Rattle.spx_parse_body.specs.declared.statements.StmtKind.TheVariants as kinds
 use Rattle.spx_parse_body.specs.Statements as read
-use Rattle.spx_parse_body.specs.Statements.{null_statement, assignment, upper, choice, more_choices, some_choices, choices_by, choices, arm, elsif_arm, if_statement, alternative, more_alternatives, alternatives, case_statement, while_scheme, loop_statement, assertion_statement, noted_stmt, stmt_of, next_stmt, stmt_by, stmt, sees_stmt, more_stmts, some_stmts, stmts_below, stmts}
+use Rattle.spx_parse_body.specs.Statements.{null_statement, assignment, upper, choice, more_choices, some_choices, choices_by, choices, arm, elsif_arm, if_statement, alternative, more_alternatives, alternatives, case_statement, range, constraint, constraint_below, while_scheme, direction, for_scheme, scheme, loop_statement, assertion_statement, noted_stmt, stmt_of, next_stmt, stmt_by, stmt, sees_stmt, more_stmts, some_stmts, stmts_below, stmts}
 use Rattle.spx_parse_body.proofs.Callers.Loops.{Shrinks}
 use Rattle.spx_parse_body.proofs.Callers.Lawful.{Ends, Any, Sees, Always, just}
-use Rattle.spx_parse_body.proofs.Callers.Good.{Good, Starts, Opens, Adds, no_level, good_bind, good_then, good_as, good_before, good_given, good_more, good_pure, good_refuse, good_expect, good_expect_place, good_choose, list_shrinks, opens_bind, opens_place, starts_bind, starts_choose, starts_deeper, starts_expect, starts_open, starts_place}
+use Rattle.spx_parse_body.proofs.Callers.Good.{Good, Starts, Opens, Adds, no_level, good_bind, good_then, good_as, good_before, good_given, good_more, good_pure, good_refuse, good_expect, good_expect_place, good_identifier, good_choose, list_shrinks, opens_bind, opens_place, starts_bind, starts_choose, starts_deeper, starts_expect, starts_open, starts_place}
 use Rattle.spx_parse_body.proofs.Callers.Separated.{all_added, good_if_seen, good_separated, good_some_items, items_shrinks, joined_added, sees_kind, separated_shrinks}
-use Rattle.spx_parse_body.proofs.Callers.ExpressionsGood.{name_starts, expression_good, predicate_after_starts, expression_below_good, simple_expression_below_good}
+use Rattle.spx_parse_body.proofs.Callers.ExpressionsGood.{name_good, name_starts, expression_good, predicate_after_starts, simple_expression_good, expression_below_good, simple_expression_below_good}
 
 -- ---- what is written and asked, by the last level
 
@@ -94,13 +96,18 @@ assertion_starts kind levels here =
 
 -- ---- what statements start with
 
+-- the word that a scheme starts with
+abbrev scheme_word : SchemeKind → Kind
+scheme_word schemes.While = k.While
+scheme_word schemes.For = k.For
+
 -- the next form has the kind that a statement starts with, in program text or in annotation text
 abbrev StartsAs : Option Kind → Option Kind → StmtKind → Type 0
 StartsAs kind noted kinds.Null = kind ≡ Some k.Null
 StartsAs kind noted kinds.Assignment = kind ≡ Some k.Identifier
 StartsAs kind noted kinds.If = kind ≡ Some k.If
 StartsAs kind noted kinds.Case = kind ≡ Some k.Case
-StartsAs kind noted kinds.While = kind ≡ Some k.While
+StartsAs kind noted (kinds.Loop scheme) = kind ≡ Some (scheme_word scheme)
 StartsAs kind noted (kinds.Assertion asserted) = noted ≡ Some (assertion_word asserted)
 
 starts_as : (kind noted : Option Kind) (found x : StmtKind) → StartsAs kind noted found → Some found ≡ Some x → StartsAs kind noted x
@@ -119,7 +126,8 @@ stmt_is (Some k.Null) noted x e = starts_as (Some k.Null) noted kinds.Null x ref
 stmt_is (Some k.Identifier) noted x e = starts_as (Some k.Identifier) noted kinds.Assignment x refl e
 stmt_is (Some k.If) noted x e = starts_as (Some k.If) noted kinds.If x refl e
 stmt_is (Some k.Case) noted x e = starts_as (Some k.Case) noted kinds.Case x refl e
-stmt_is (Some k.While) noted x e = starts_as (Some k.While) noted kinds.While x refl e
+stmt_is (Some k.While) noted x e = starts_as (Some k.While) noted (kinds.Loop schemes.While) x refl e
+stmt_is (Some k.For) noted x e = starts_as (Some k.For) noted (kinds.Loop schemes.For) x refl e
 stmt_is _ noted x e = noted_is _ noted x e
 
 -- what is seen where this statement comes next
@@ -172,6 +180,34 @@ made_alternative choices body = record { choices = choices; body = body }
 abbrev pub written_alternatives : List Alternative → List Form
 written_alternatives xs = joined (map written_alternative xs)
 
+-- ---- ranges
+
+range_good : {L P : Type 0} (levels : ℕ) → Good L P written_range (IsRange levels) [] Any (range levels) (range (suc levels))
+unfolding range
+range_good levels =
+    good_bind (simple_expression_good program levels) (λ low.
+    good_bind (good_expect program k.DoubleDot) (λ u.
+    good_bind (simple_expression_good program levels) (λ high.
+    good_pure (record { low = low; high = high }) (λ l w. simp append_assoc) (λ l w. record { low = w.0.0.1; high = w.1 }))))
+
+pub constraint_starts : {L P : Type 0} {on : List Form → Type 0} (levels : ℕ) → ((fs : List Form) → on fs → peek program fs ≡ Some k.Range) → Starts L P written_constraint (IsRange levels) [] on (constraint levels) (constraint (suc levels))
+unfolding constraint
+constraint_starts levels here = starts_bind (starts_expect program k.Range here refl) (λ u. good_as (λ l w x f. (refl, f)) (range_good levels))
+
+constraint_below_starts : {P : Type 0} {on : List Form → Type 0} (levels : ℕ) → ((fs : List Form) → on fs → peek program fs ≡ Some k.Range)
+    → Starts (0 < levels) P written_constraint (IsRange (levels - 1)) [] on (constraint_below levels) (constraint_below (suc levels))
+unfolding constraint_below
+constraint_below_starts {on = on} zero here =
+    let next : Starts ⊤ ⊤ written_constraint (IsRange 0) [] on (constraint 0) (constraint 1) = constraint_starts 0 here in
+    record {
+      good = record { law = λ l w. absurd (omega arith); scans = λ l. absurd (omega arith); scans' = next.good.scans tt; grows = λ l w. absurd (omega arith) };
+      takes = λ l fs on. absurd (omega arith);
+      takes' = λ fs on. next.takes tt fs on;
+    }
+constraint_below_starts {P} {on} (suc n) here =
+    let e : n ≡ suc n - 1 = omega arith in
+    subst (λ (j : ℕ). Starts (0 < suc n) P written_constraint (IsRange j) [] on (constraint n) (constraint (suc n))) e (constraint_starts n here)
+
 -- ---- the scheme of a loop
 
 while_opens : {P : Type 0} {on : List Form → Type 0} (levels : ℕ) → ((fs : List Form) → on fs → peek program fs ≡ Some k.While) → Opens (0 < levels) P written_scheme (IsScheme (levels - 1)) [] on (while_scheme levels) (while_scheme (suc levels))
@@ -180,6 +216,32 @@ while_opens levels here =
     opens_bind (opens_place program k.While here refl) (λ place.
     good_bind (expression_below_good program levels) (λ condition.
     good_pure (While place condition) (λ l w. refl) (λ l w. w.1)))
+
+direction_text : (seen : Option ⊤) → optional (just program k.Reverse) seen ≡ written_direction (is_some seen)
+direction_text None = refl
+direction_text (Some u) = refl
+
+direction_good : {L P : Type 0} → Good L P written_direction Always [] Any direction direction
+unfolding direction
+direction_good =
+    good_bind (good_if_seen (just program k.Reverse) Always program k.Reverse (starts_expect program k.Reverse (sees_kind program k.Reverse) refl)) (λ seen.
+    good_pure (is_some seen) (λ l w. direction_text seen) (λ l w. tt))
+
+for_opens : {P : Type 0} {on : List Form → Type 0} (levels : ℕ) → ((fs : List Form) → on fs → peek program fs ≡ Some k.For) → Opens (0 < levels) P written_scheme (IsScheme (levels - 1)) [] on (for_scheme levels) (for_scheme (suc levels))
+unfolding for_scheme
+for_opens levels here =
+    opens_bind (opens_place program k.For here refl) (λ place.
+    good_bind (good_identifier program) (λ subject.
+    good_bind (good_expect_place program k.In) (λ word.
+    good_bind direction_good (λ is_reverse.
+    good_bind (name_good program) (λ type_name.
+    good_bind (good_if_seen written_constraint (IsRange (levels - 1)) program k.Range (constraint_below_starts levels (sees_kind program k.Range))) (λ bounds.
+    good_pure (For (record { place = place; name = subject; word = word; is_reverse = is_reverse; type_name = type_name; bounds = bounds })) (λ l w. simp append_assoc) (λ l w. w.1)))))))
+
+scheme_opens : {P : Type 0} {on : List Form → Type 0} (kind : SchemeKind) (levels : ℕ) → ((fs : List Form) → on fs → peek program fs ≡ Some (scheme_word kind))
+    → Opens (0 < levels) P written_scheme (IsScheme (levels - 1)) [] on (scheme kind levels) (scheme kind (suc levels))
+scheme_opens schemes.While levels here = while_opens levels here
+scheme_opens schemes.For levels here = for_opens levels here
 
 -- ---- statements
 
@@ -285,10 +347,11 @@ module _ (inner inner' : Reader (List Stmt)) (levels : ℕ) (good : Good (0 < le
       → ((((written_scheme scheme ++ placed program k.Loop word ∷ []) ++ written_stmts body) ++ placed program k.End closing.end ∷ []) ++ placed program k.Loop closing.word ∷ []) ++ bare program k.Semicolon ∷ [] ≡ written_stmt (Loop scheme word body closing)
   loop_text scheme word body closing = let e = spelled_as (Loop scheme word body closing) _ (outs-Loop scheme word body closing) in simp (append_assoc, e)
 
-  loop_starts : {L P : Type 0} {on : List Form → Type 0} → ((fs : List Form) → on fs → peek program fs ≡ Some k.While) → Starts L P written_stmt (IsStmt levels) [] on (loop_statement inner levels) (loop_statement inner' (suc levels))
+  loop_starts : {L P : Type 0} {on : List Form → Type 0} (kind : SchemeKind) → ((fs : List Form) → on fs → peek program fs ≡ Some (scheme_word kind))
+      → Starts L P written_stmt (IsStmt levels) [] on (loop_statement inner levels kind) (loop_statement inner' (suc levels) kind)
   unfolding loop_statement
-  loop_starts here =
-      starts_deeper levels 0 (λ w. omega arith) (λ w. stmt_ends levels) (opens_bind (while_opens levels here) (λ scheme.
+  loop_starts kind here =
+      starts_deeper levels 0 (λ w. omega arith) (λ w. stmt_ends levels) (opens_bind (scheme_opens kind levels here) (λ scheme.
       good_bind (good_expect_place program k.Loop) (λ word.
       good_bind (good_given (λ l. l) (λ l w. tt) good) (λ body.
       good_bind (good_expect_place program k.End) (λ end.
@@ -302,7 +365,7 @@ module _ (inner inner' : Reader (List Stmt)) (levels : ℕ) (good : Good (0 < le
   begun_case kinds.Assignment = assignment_starts (next_is kinds.Assignment)
   begun_case kinds.If = if_starts (next_is kinds.If)
   begun_case kinds.Case = case_starts (next_is kinds.Case)
-  begun_case kinds.While = loop_starts (next_is kinds.While)
+  begun_case (kinds.Loop kind) = loop_starts kind (next_is (kinds.Loop kind))
   begun_case (kinds.Assertion kind) = assertion_starts kind levels (next_is (kinds.Assertion kind))
 
   stmt_case : {L P : Type 0} (x : Option StmtKind) → Good L P written_stmt (IsStmt levels) [] (Sees next_stmt x) (stmt_by inner levels x) (stmt_by inner' (suc levels) x)

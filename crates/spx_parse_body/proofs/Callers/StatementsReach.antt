@@ -1,5 +1,5 @@
 -- The forms of statements are read as those.
-use Rattle.std.proofs.Common.{◌≡◌, ℕ, zero, suc, ◌-◌, ◌<◌, true, false, List, [], ◌∷◌, ◌++◌, map, Option, Some, None, is_some, refl, sym, ap, ◌∙◌, append_assoc, arith}
+use Rattle.std.proofs.Common.{◌≡◌, ℕ, zero, suc, ◌-◌, ◌<◌, Bool, true, false, List, [], ◌∷◌, ◌++◌, map, Option, Some, None, is_some, refl, sym, ap, subst, ◌∙◌, append_assoc, arith}
 use Rattle.spx_text.specs.declared.place.Place.{Place}
 use Rattle.spx_tree.specs.declared.token.Kind.{Kind}
 use Rattle.spx_tree.specs.declared.token.Kind.TheVariants as k
@@ -13,22 +13,27 @@ use Rattle.spx_tree.specs.declared.statement.Alternative.{Alternative, out-Alter
 use Rattle.spx_tree.specs.declared.statement.Arm.{Arm, Arm-F, out-Arm, roll-out-Arm}
 use Rattle.spx_tree.specs.declared.statement.AssertionKind.{AssertionKind}
 use Rattle.spx_tree.specs.declared.statement.AssertionKind.TheVariants as assertion
-use Rattle.spx_tree.specs.declared.statement.Scheme.TheVariants.{While}
+use Rattle.spx_tree.specs.declared.declaration.Range.{Range}
+use Rattle.spx_tree.specs.declared.statement.Count.{Count}
+use Rattle.spx_tree.specs.declared.statement.Scheme.{Scheme}
+use Rattle.spx_tree.specs.declared.statement.Scheme.TheVariants.{While, For}
 use Rattle.spx_tree.specs.declared.statement.Stmt.{Stmt, Stmt-F, out-Stmt, roll-Stmt, roll-out-Stmt}
 use Rattle.spx_tree.specs.declared.statement.Stmt.TheVariants.{Null, Assignment, If, Case, Loop, Assertion, outs-Null, outs-Assignment, outs-If, outs-Case, outs-Loop, outs-Assertion}
-use Rattle.spx_tree.specs.Form.{Form, bare, placed}
-use Rattle.spx_tree.specs.Written.{program, assertion_word, optional, separated, following, written_name, written_expr, written_upper, written_choice, written_choices, written_scheme, elsif_arms, written_stmt, written_arm, written_alternative, written_stmts}
-use Rattle.spx_tree.specs.Grammar.{Each, OneOrMore, IfThere, OfLayer, IsExpr, IsFormed, Within, IsStmt}
+use Rattle.spx_tree.specs.Form.{Form, bare, placed, named}
+use Rattle.spx_tree.specs.Written.{program, assertion_word, optional, separated, following, written_name, written_expr, written_upper, written_choice, written_choices, written_range, written_constraint, written_direction, written_scheme, elsif_arms, written_stmt, written_arm, written_alternative, written_stmts}
+use Rattle.spx_tree.specs.Grammar.{Each, OneOrMore, IfThere, OfLayer, IsExpr, IsRange, IsScheme, IsFormed, Within, IsStmt}
 use Rattle.spx_tree.proofs.WrittenLevels.{written_level, spelled_stmt, spelled_arm, spelled_alternative, elsif_joined}
 use Rattle.spx_parse_body.specs.Reading.{Reader, ◌>>◌, peek, sees, expect, optional_by, if_seen, item_step}
 use Rattle.spx_parse_body.proofs.Callers.Shaped.{kind_self}
+use Rattle.spx_parse_body.specs.declared.statements.SchemeKind.{SchemeKind}
+use Rattle.spx_parse_body.specs.declared.statements.SchemeKind.TheVariants as schemes
 use Rattle.spx_parse_body.specs.declared.statements.StmtKind.TheVariants as kinds
 use Rattle.spx_parse_body.specs.Statements as read
-use Rattle.spx_parse_body.specs.Statements.{assignment, upper, choice, more_choices, some_choices, choices_by, choices, arm, elsif_arm, if_statement, alternative, more_alternatives, alternatives, case_statement, while_scheme, loop_statement, null_statement, assertion_statement, next_stmt, stmt_by, stmt, sees_stmt, more_stmts, some_stmts, stmts_below, stmts}
+use Rattle.spx_parse_body.specs.Statements.{assignment, upper, choice, more_choices, some_choices, choices, arm, elsif_arm, if_statement, alternative, more_alternatives, alternatives, case_statement, range, constraint, constraint_below, while_scheme, direction, for_scheme, scheme, loop_statement, null_statement, assertion_statement, next_stmt, stmt_by, stmt, sees_stmt, more_stmts, some_stmts, stmts_below, stmts}
 use Rattle.spx_parse_body.proofs.Callers.Loops.{Shrinks}
-use Rattle.spx_parse_body.proofs.Callers.Separated.{not_seen, sees_front, reaches_separated, reaches_some_items}
-use Rattle.spx_parse_body.proofs.Callers.Reaches.{Reaches, reaches_bind, reaches_pure, reaches_choose, reaches_deeper, reaches_expect, reaches_expect_place, reaches_is, reaches_items_before, peek_front}
-use Rattle.spx_parse_body.proofs.Callers.ExpressionsReach.{strength, Free, name_again, expression_again, predicate_after_again, expression_below_again, simple_expression_below_again, not_others, double_dot_free, bare_free, semicolon_free, sum_free, then_free}
+use Rattle.spx_parse_body.proofs.Callers.Separated.{Lacks, not_seen, sees_front, reaches_separated, reaches_some_items}
+use Rattle.spx_parse_body.proofs.Callers.Reaches.{Reaches, reaches_bind, reaches_pure, reaches_choose, reaches_deeper, reaches_expect, reaches_expect_place, reaches_identifier, reaches_is, reaches_items_before, peek_front}
+use Rattle.spx_parse_body.proofs.Callers.ExpressionsReach.{strength, Free, name_again, name_front, expression_again, predicate_after_again, simple_expression_again, expression_below_again, simple_expression_below_again, not_others, double_dot_free, bare_free, semicolon_free, sum_free, then_free}
 use Rattle.spx_parse_body.proofs.Callers.StatementsGood.{IsInner, FitsArm, FitsChoice, FitChoices, FitsAlternative, written_arms, written_alternatives, written_else, choices_shrinks, arms_shrinks, alternatives_shrinks, stmts_shrinks}
 
 -- statements with the same last level are the same
@@ -44,6 +49,14 @@ asserted_first : (kind : AssertionKind) (place : Place) (condition : Expr) (ws :
 asserted_first assertion.Assert place condition ws = refl
 asserted_first assertion.Check place condition ws = refl
 
+abbrev kind_of : Scheme → SchemeKind
+kind_of (While place condition) = schemes.While
+kind_of (For c) = schemes.For
+
+scheme_first : (x : Scheme) (fs ws : List Form) → next_stmt ((written_scheme x ++ fs) ++ ws) ≡ Some (kinds.Loop (kind_of x))
+scheme_first (While place condition) fs ws = refl
+scheme_first (For c) fs ws = refl
+
 arms_first : (levels : ℕ) (xs : List Arm) (ws : List Form) → OneOrMore (FitsArm levels) xs → next_stmt (written_arms xs ++ ws) ≡ Some kinds.If
 arms_first levels [] ws f = absurd f
 arms_first levels (x ∷ xs) ws f =
@@ -53,7 +66,7 @@ level_seen : (levels : ℕ) (y : Stmt-F Stmt Alternative Arm) (ws : List Form) �
 level_seen levels (Stmt-F.Null place) ws f = refl
 level_seen levels (Stmt-F.Assignment target value) ws f = ap is_some (target_first target _ ws)
 level_seen levels (Stmt-F.Case place selector xs closing) ws f = refl
-level_seen levels (Stmt-F.Loop (While place condition) word body closing) ws f = refl
+level_seen levels (Stmt-F.Loop scheme word body closing) ws f = ap is_some (scheme_first scheme _ ws)
 level_seen levels (Stmt-F.Assertion kind place condition) ws f = ap is_some (asserted_first kind place condition ws)
 level_seen levels (Stmt-F.If arms otherwise closing) ws f = ap sees_stmt (append_assoc (written_arms arms) _ ws) ∙ ap is_some (arms_first levels arms _ f.1)
 
@@ -136,6 +149,40 @@ module _ (levels : ℕ) (some : 0 < levels) where
       reaches_bind _ (reaches_choose (sees program k.Others) (optional_by (expect program k.Others)) false (ap (sees program k.Others) h ∙ no_others xs (from_arrow zs) f) (reaches_pure h)) (λ us a.
       reaches_bind _ (some_choices_again xs us zs f a) (λ vs b. reaches_pure b))
 
+-- ---- ranges
+
+range_again : (levels : ℕ) (x : Range) (fs zs : List Form) → IsRange levels x → Free layer.Sum (peek program zs) → fs ≡ written_range x ++ zs → Reaches (range levels) fs x zs
+unfolding range
+range_again levels x fs zs f free h =
+    let flat = h ∙ append_assoc (written_expr program x.low) (bare program k.DoubleDot ∷ written_expr program x.high) zs in
+    reaches_bind _ (simple_expression_again program levels x.low fs (bare program k.DoubleDot ∷ (written_expr program x.high ++ zs)) f.low (double_dot_free program (written_expr program x.high ++ zs)) flat) (λ us a.
+    reaches_bind _ (reaches_expect program k.DoubleDot a) (λ vs b.
+    reaches_bind _ (simple_expression_again program levels x.high vs zs f.high free b) (λ ws d. reaches_pure d)))
+
+pub constraint_again : (levels : ℕ) (x : Range) (fs zs : List Form) → IsRange levels x → Free layer.Sum (peek program zs) → fs ≡ written_constraint x ++ zs → Reaches (constraint levels) fs x zs
+unfolding constraint
+constraint_again levels x fs zs f free h = reaches_bind _ (reaches_expect program k.Range h) (λ us a. range_again levels x us zs f free a)
+
+constraint_below_again : (levels : ℕ) → 0 < levels → (x : Range) (fs zs : List Form) → IsRange (levels - 1) x → Free layer.Sum (peek program zs) → fs ≡ written_constraint x ++ zs → Reaches (constraint_below levels) fs x zs
+unfolding constraint_below
+constraint_below_again zero some x fs zs f free h = absurd (omega arith)
+constraint_below_again (suc n) some x fs zs f free h = let e : suc n - 1 ≡ n = omega arith in constraint_again n x fs zs (subst (λ (j : ℕ). IsRange j x) e f) free h
+
+-- what reads a constraint reads one that may be left out
+module _ (p : Reader Range) (fits : Range → Type 0) (again : (x : Range) (fs zs : List Form) → fits x → Free layer.Sum (peek program zs) → fs ≡ written_constraint x ++ zs → Reaches p fs x zs) where
+  option_again : (x : Option Range) (fs zs : List Form) → IfThere fits x → Free layer.Sum (peek program zs) → Lacks program k.Range zs → fs ≡ optional written_constraint x ++ zs → Reaches (if_seen program k.Range p) fs x zs
+  unfolding if_seen
+  option_again None fs zs f free over h = reaches_choose (sees program k.Range) (optional_by p) false (ap (sees program k.Range) h ∙ not_seen program k.Range zs over) (reaches_pure h)
+  option_again (Some x) fs zs f free over h = reaches_choose (sees program k.Range) (optional_by p) true (ap (sees program k.Range) h ∙ kind_self k.Range) (reaches_bind _ (again x fs zs f free h) (λ us a. reaches_pure a))
+
+pub constraint_option : (levels : ℕ) (x : Option Range) (fs zs : List Form) → IfThere (IsRange levels) x → Free layer.Sum (peek program zs) → Lacks program k.Range zs → fs ≡ optional written_constraint x ++ zs → Reaches (if_seen program k.Range (constraint levels)) fs x zs
+constraint_option levels x fs zs f free over h = option_again (constraint levels) (IsRange levels) (constraint_again levels) x fs zs f free over h
+
+-- what stands after the name of a type does not go on with it
+pub constraint_apart : (x : Option Range) (zs : List Form) → Free layer.Sum (peek program zs) → Lacks program k.Apostrophe (optional written_constraint x ++ zs)
+constraint_apart None zs free e = let s = ap strength e in omega arith
+constraint_apart (Some x) zs free e = cc
+
 -- ---- statements
 
 -- the last words of a case statement
@@ -158,9 +205,8 @@ from_end_loop closing zs = placed program k.End closing.end ∷ placed program k
 abbrev from_loop : Place → List Stmt → Closing → List Form → List Form
 from_loop word body closing zs = placed program k.Loop word ∷ (written_stmts body ++ from_end_loop closing zs)
 
-while_flat : (place : Place) (condition : Expr) (word : Place) (body : List Stmt) (closing : Closing) (zs : List Form)
-    → written_level (Stmt-F.Loop (While place condition) word body closing) ++ zs ≡ written_scheme (While place condition) ++ from_loop word body closing zs
-while_flat place condition word body closing zs = simp append_assoc
+loop_flat : (scheme : Scheme) (word : Place) (body : List Stmt) (closing : Closing) (zs : List Form) → written_level (Stmt-F.Loop scheme word body closing) ++ zs ≡ written_scheme scheme ++ from_loop word body closing zs
+loop_flat scheme word body closing zs = simp append_assoc
 
 while_again : (levels : ℕ) → 0 < levels → (place : Place) (condition : Expr) (fs zs : List Form) → IsExpr (levels - 1) condition → Free layer.Expression (peek program zs) → fs ≡ written_scheme (While place condition) ++ zs
     → Reaches (while_scheme levels) fs (While place condition) zs
@@ -168,6 +214,41 @@ unfolding while_scheme
 while_again levels some place condition fs zs f free h =
     reaches_bind _ (reaches_expect_place program k.While h) (λ us a.
     reaches_bind _ (expression_below_again program levels some condition us zs f free a) (λ vs b. reaches_pure b))
+
+direction_again : (is_reverse : Bool) (fs zs : List Form) → Lacks program k.Reverse zs → fs ≡ written_direction is_reverse ++ zs → Reaches direction fs is_reverse zs
+unfolding direction if_seen
+direction_again true fs zs over h =
+    reaches_bind _ (reaches_choose (sees program k.Reverse) (optional_by (expect program k.Reverse)) true (ap (sees program k.Reverse) h ∙ kind_self k.Reverse) (reaches_bind _ (reaches_expect program k.Reverse h) (λ us a. reaches_pure a))) (λ us a. reaches_pure a)
+direction_again false fs zs over h =
+    reaches_bind _ (reaches_choose (sees program k.Reverse) (optional_by (expect program k.Reverse)) false (ap (sees program k.Reverse) h ∙ not_seen program k.Reverse zs over) (reaches_pure h)) (λ us a. reaches_pure a)
+
+-- the type and the bounds of a loop, and a loop after the word "in"
+abbrev from_type : Count → List Form → List Form
+from_type c zs = written_name program c.type_name ++ (optional written_constraint c.bounds ++ zs)
+
+abbrev from_direction : Count → List Form → List Form
+from_direction c zs = written_direction c.is_reverse ++ from_type c zs
+
+for_flat : (c : Count) (zs : List Form) → written_scheme (For c) ++ zs ≡ placed program k.For c.place ∷ named program c.name ∷ placed program k.In c.word ∷ from_direction c zs
+for_flat c zs = simp append_assoc
+
+no_reverse : (x : Name) (zs : List Form) → Lacks program k.Reverse (written_name program x ++ zs)
+no_reverse x zs e = let first = name_front program x zs in cc
+
+for_again : (levels : ℕ) → 0 < levels → (c : Count) (fs zs : List Form) → IfThere (IsRange (levels - 1)) c.bounds → Free layer.Sum (peek program zs) → Lacks program k.Range zs → fs ≡ written_scheme (For c) ++ zs
+    → Reaches (for_scheme levels) fs (For c) zs
+unfolding for_scheme
+for_again levels some c fs zs f free over h =
+    reaches_bind _ (reaches_expect_place program k.For (h ∙ for_flat c zs)) (λ t1 a1.
+    reaches_bind _ (reaches_identifier program a1) (λ t2 a2.
+    reaches_bind _ (reaches_expect_place program k.In a2) (λ t3 a3.
+    reaches_bind _ (direction_again c.is_reverse t3 (from_type c zs) (no_reverse c.type_name (optional written_constraint c.bounds ++ zs)) a3) (λ t4 a4.
+    reaches_bind _ (name_again program c.type_name t4 (optional written_constraint c.bounds ++ zs) (constraint_apart c.bounds zs free) a4) (λ t5 a5.
+    reaches_bind _ (option_again (constraint_below levels) (IsRange (levels - 1)) (constraint_below_again levels some) c.bounds t5 zs f free over a5) (λ t6 a6. reaches_pure a6))))))
+
+scheme_again : (levels : ℕ) → 0 < levels → (x : Scheme) (fs zs : List Form) → IsScheme (levels - 1) x → Free layer.Expression (peek program zs) → Lacks program k.Range zs → fs ≡ written_scheme x ++ zs → Reaches (scheme (kind_of x) levels) fs x zs
+scheme_again levels some (While place condition) fs zs f free over h = while_again levels some place condition fs zs f free h
+scheme_again levels some (For c) fs zs f free over h = for_again levels some c fs zs f (sum_free (peek program zs) free) over h
 
 -- What reads statements one level down reads them before what begins none.
 module _ (inner : Reader (List Stmt)) (levels : ℕ) (stmt_shrinks : Shrinks sees_stmt (item_step (stmt inner levels))) (arm_shrinks : 0 < levels → Shrinks (sees program k.Elsif) (item_step (elsif_arm inner levels)))
@@ -286,13 +367,13 @@ module _ (inner : Reader (List Stmt)) (levels : ℕ) (stmt_shrinks : Shrinks see
         reaches_bind _ (reaches_expect_place program k.Case a5) (λ t6 a6.
         reaches_bind _ (reaches_expect program k.Semicolon a6) (λ t7 a7. reaches_pure a7))))))))
 
-    loop_again : (place : Place) (condition : Expr) (word : Place) (body : List Stmt) (closing : Closing) (fs zs : List Form) → IsExpr (levels - 1) condition → IsInner levels body
-        → fs ≡ written_level (Stmt-F.Loop (While place condition) word body closing) ++ zs → Reaches (loop_statement inner levels) fs (Loop (While place condition) word body closing) zs
+    loop_again : (scheme : Scheme) (word : Place) (body : List Stmt) (closing : Closing) (fs zs : List Form) → IsScheme (levels - 1) scheme → IsInner levels body
+        → fs ≡ written_level (Stmt-F.Loop scheme word body closing) ++ zs → Reaches (loop_statement inner levels (kind_of scheme)) fs (Loop scheme word body closing) zs
     unfolding loop_statement
-    loop_again place condition word body closing fs zs f g h =
+    loop_again scheme word body closing fs zs f g h =
         let ending : List Form = from_end_loop closing zs in
         reaches_deeper some
-        (reaches_bind _ (while_again levels some place condition fs (from_loop word body closing zs) f (loop_free word (written_stmts body ++ ending)) (h ∙ while_flat place condition word body closing zs)) (λ t1 a1.
+        (reaches_bind _ (scheme_again levels some scheme fs (from_loop word body closing zs) f (loop_free word (written_stmts body ++ ending)) (λ e. cc) (h ∙ loop_flat scheme word body closing zs)) (λ t1 a1.
         reaches_bind _ (reaches_expect_place program k.Loop a1) (λ t2 a2.
         reaches_bind _ (again some body t2 ending g refl a2) (λ t3 a3.
         reaches_bind _ (reaches_expect_place program k.End a3) (λ t4 a4.
@@ -316,9 +397,9 @@ module _ (inner : Reader (List Stmt)) (levels : ℕ) (stmt_shrinks : Shrinks see
   level_again x (Stmt-F.Case place selector xs closing) fs zs out f h =
       reaches_is (same_out x (Case place selector xs closing) _ out (outs-Case place selector xs closing))
       (reaches_choose next_stmt (stmt_by inner levels) (Some kinds.Case) (ap next_stmt h) (case_again f.0 place selector xs closing fs zs f.1 f.2 h))
-  level_again x (Stmt-F.Loop (While place condition) word body closing) fs zs out f h =
-      reaches_is (same_out x (Loop (While place condition) word body closing) _ out (outs-Loop (While place condition) word body closing))
-      (reaches_choose next_stmt (stmt_by inner levels) (Some kinds.While) (ap next_stmt h) (loop_again f.0 place condition word body closing fs zs f.1 f.2 h))
+  level_again x (Stmt-F.Loop scheme word body closing) fs zs out f h =
+      reaches_is (same_out x (Loop scheme word body closing) _ out (outs-Loop scheme word body closing))
+      (reaches_choose next_stmt (stmt_by inner levels) (Some (kinds.Loop (kind_of scheme))) (ap next_stmt h ∙ scheme_first scheme _ zs) (loop_again f.0 scheme word body closing fs zs f.1 f.2 h))
   level_again x (Stmt-F.Assertion kind place condition) fs zs out f h =
       reaches_is (same_out x (Assertion kind place condition) _ out (outs-Assertion kind place condition))
       (reaches_choose next_stmt (stmt_by inner levels) (Some (kinds.Assertion kind)) (ap next_stmt h ∙ asserted_first kind place condition zs)

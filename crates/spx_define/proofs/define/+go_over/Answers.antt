@@ -1,18 +1,16 @@
-use Rattle.std.proofs.Common.{◌≡◌, ◌+◌, ◌-◌, ◌<◌, arith, ap, drop, length, map, refl, rules, subst, sym, ◌∙◌}
+use Rattle.std.proofs.Common.{◌≡◌, ◌+◌, ◌-◌, ◌<◌, ◌||◌, Some, arith, ap, drop, length, map, option_map, refl, rules, subst, sym, ◌∙◌}
 use Rattle.std.proofs.lemmas.List.{drop_all, length-drop}
 use Rattle.std.proofs.lemmas.Result.{on_ok_weaker}
-use Rattle.spx_text.specs.declared.place.Place.{Place}
-use Rattle.spx_core.specs.declared.expression.CoreExpr.{CoreExpr}
+use Rattle.spx_core.specs.declared.entity.VarId.{VarId}
 use Rattle.spx_core.specs.declared.statement.CoreArm.{out-CoreArm}
 use Rattle.spx_core.specs.declared.statement.CoreAlternative.{out-CoreAlternative}
-use Rattle.spx_core.specs.declared.statement.CoreScheme.{CoreScheme}
-use Rattle.spx_core.specs.declared.statement.CoreScheme.TheVariants as scheme
 use Rattle.spx_core.specs.Commands.{Choose, Skip, alternative, arm_before, arms_before, command, commands, loop_of, select}
-use Rattle.spx_core.specs.Uses.{variable_of}
-use Rattle.spx_core.specs.Effects.{effect, effects, reads_of}
+use Rattle.spx_core.specs.Uses.{is_same, variable_of}
+use Rattle.spx_core.specs.Effects.{count as loop_over, effect, effects, reads_in, reads_of, reads_of_range}
+use Rattle.spx_core.specs.Mirror.VarSets.{holds}
 use Rattle.spx_define.specs.Passes.{Finds, Passes, PassesBefore}
 use Rattle.spx_core.proofs.Callers.CommandForms.{command-Assignment, command-Assertion, command-If, command-If-else, command_arm, select_last, select_more}
-use Rattle.spx_define.proofs.PassLaws.{passes_assign, passes_choose, passes_copied, passes_next, passes_nothing, passes_observe, passes_once, passes_repeat}
+use Rattle.spx_define.proofs.PassLaws.{passes_assign, passes_between, passes_choose, passes_copied, passes_next, passes_nothing, passes_observe, passes_once, passes_over, passes_repeat}
 use Rattle.spx_define.proofs.Elements.{left_before, left_last, left_of}
 use Rattle.spx_define.proofs.define.+go_over.Goals as goal
 
@@ -152,19 +150,44 @@ go_over_case-returns t c place =
     let last : c.loop-k.k ≡ 0 = omega arith in
     subst (λ n. Passes (effect (select place c.args.selector.now (map alternative (drop n c.args.alternatives.now)))) c.args.set.now c.loop-k.ends c.args.found.now.keys c.loop-k.found.keys) last (c.loop-k.invariant place)
 
--- each scheme is a `while`
-is_while : (s : CoreScheme) → (place : Place) × (condition : CoreExpr) × (s ≡ scheme.While place condition)
-is_while (scheme.While place condition) = (place, condition, refl)
-
-pub go_over_loop-returns : goal.go_over_loop-returns
-go_over_loop-returns t c =
+pub go_over_loop-returns-in_ok-go_over_all-in-While : goal.go_over_loop-returns-in_ok-go_over_all-in-While
+go_over_loop-returns-in_ok-go_over_all-in-While t c =
     let set = c.args.set.now in
     let body = effects c.args.body.now in
+    let here = c.in-While in
     let old = c.args.found.now.keys in
     let mid = c.add_unset_names.new.found.keys in
     let new = c.go_over_all.new.found.keys in
     let end = c.go_over_all.new.set in
-    let while = is_while c.args.scheme.now in
-    let finds : Finds set (reads_of while.1) old mid = rw while.2 at c.in_ok-add_unset_names.ensures in
-    let turn = passes_copied body set c.in_ok-turn.turn end mid new c.in_ok-turn.ensures c.in_ok-go_over_all.ensures in
-    subst (λ s. Passes (effect (loop_of s (commands c.args.body.now))) set set old new) (sym while.2) (passes_repeat (reads_of while.1) body while.0 set end old mid new finds turn)
+    let turn = passes_copied body set c.in_ok-turn-in-While.turn end mid new c.in_ok-turn-in-While.ensures c.in_ok-go_over_all-in-While.ensures in
+    subst (λ s. Passes (effect (loop_of s (commands c.args.body.now))) set set old new) (sym here.is) (passes_repeat (reads_of here.condition) body here.field-0 set end old mid new c.in_ok-add_unset_names-in-While.ensures turn)
+
+pub go_over_count-returns-in-None : goal.go_over_count-returns-in-None
+go_over_count-returns-in-None t c =
+    let count = c.args.count.now in
+    let set = c.args.set.now in
+    let body = effects c.args.body.now in
+    let old = c.args.found.now.keys in
+    let mid = c.add_unset_bounds.new.found.keys in
+    let new = c.go_over_all.new.found.keys in
+    let new_set = c.insert_others.new.self in
+    let finds = subst (λ bounds. Finds set (reads_in (option_map reads_of_range bounds)) old mid) c.in-None.is c.in_ok-add_unset_bounds.ensures in
+    let starts : (v : VarId) → holds c.insert.new.self v ≡ (is_same v (Some count.parameter) || holds set v) = λ v. c.in_ok-insert.ensures v ∙ ap (λ b. is_same v (Some count.parameter) || b) (c.in_ok-turn.ensures v) in
+    on_ok_weaker c.insert_others.result
+    (λ after. subst (λ bounds. Passes (loop_over count.parameter (option_map reads_of_range bounds) body count.place) set new_set old new) (sym c.in-None.is)
+    (passes_over count.parameter body count.place set c.insert.new.self c.go_over_all.new.set old mid new starts c.in_ok-go_over_all.ensures new_set finds after))
+    c.insert_others.ensures
+
+pub go_over_count-returns : goal.go_over_count-returns
+go_over_count-returns t c =
+    let count = c.args.count.now in
+    let set = c.args.set.now in
+    let body = effects c.args.body.now in
+    let old = c.args.found.now.keys in
+    let mid = c.add_unset_bounds.new.found.keys in
+    let new = c.go_over_all.new.found.keys in
+    let range = c.in-Some.field-0 in
+    let finds = subst (λ bounds. Finds set (reads_in (option_map reads_of_range bounds)) old mid) c.in-Some.is c.in_ok-add_unset_bounds.ensures in
+    let starts : (v : VarId) → holds c.insert.new.self v ≡ (is_same v (Some count.parameter) || holds set v) = λ v. c.in_ok-insert.ensures v ∙ ap (λ b. is_same v (Some count.parameter) || b) (c.in_ok-turn.ensures v) in
+    subst (λ bounds. Passes (loop_over count.parameter (option_map reads_of_range bounds) body count.place) set set old new) (sym c.in-Some.is)
+    (passes_between count.parameter body count.place set c.insert.new.self c.go_over_all.new.set old mid new starts c.in_ok-go_over_all.ensures (reads_of_range range) finds)

@@ -1,4 +1,4 @@
-use Rattle.std.proofs.Common.{◌≡◌, ◌+◌, ◌∷◌, [], ◌-◌, ◌<◌, ◌||◌, All, arith, ap, ap₂, ◌∙◌, drop, length, map, rules, subst, sym}
+use Rattle.std.proofs.Common.{◌≡◌, ◌+◌, ◌∷◌, [], ◌-◌, ◌<◌, ◌||◌, All, arith, ap, ap₂, ◌∙◌, drop, length, map, option_map, rules, subst, sym}
 use Rattle.std.proofs.lemmas.List.{drop_all, length-drop, nil_from_length}
 use Rattle.std.proofs.lemmas.List.Elements.{All-contains}
 use Rattle.spx_core.specs.declared.statement.CoreArm.{CoreArm, out-CoreArm}
@@ -6,18 +6,21 @@ use Rattle.spx_core.specs.declared.statement.CoreAlternative.{CoreAlternative, o
 use Rattle.spx_core.specs.declared.statement.CoreStmt.{the_lemmas}
 use Rattle.spx_core.specs.declared.entity.VarId.{VarId}
 use Rattle.spx_core.specs.Commands.{Skip, alternative, arm_before, arms_before, command, commands, select}
-use Rattle.spx_core.specs.Effects.{effect, effects, nothing, reads_of, sets}
+use Rattle.spx_core.specs.Effects.{effect, effects, nothing, reads_of, reads_of_range, sets}
 use Rattle.spx_core.specs.Mirror.VarSets.{holds}
 use Rattle.spx_flow.specs.Branches.{Arms, Done, Joins}
+use Rattle.spx_flow.specs.Flows.{AreRows}
 use Rattle.spx_flow.specs.Positions.{Covers}
 use Rattle.spx_flow.specs.BackwardSteps.{StepsBack}
 use Rattle.spx_flow.specs.Turns.{Carries}
 use Rattle.spx_core.proofs.Callers.CommandForms.{command-Null, command-Assignment, command-Case, command-Assertion, command-If, command-If-else, command_arm, select_last, select_more}
 use Rattle.spx_flow.proofs.CoversLaws.{alternatives_covered, arms_covered, body_covered, if_else_covered}
-use Rattle.spx_flow.proofs.PositionLaws.{covers_one}
+use Rattle.spx_flow.proofs.PositionLaws.{covers_one, place_stands}
 use Rattle.spx_flow.proofs.TargetLaws.{or_nothing}
 use Rattle.spx_flow.proofs.BranchLaws.{arm_done, arms_more, choice_done, left_last, left_of, only_done}
 use Rattle.spx_flow.proofs.BackwardLaws.{idle_null, idle_observed, steps_again, steps_copied, steps_next, test_chosen}
+use Rattle.spx_flow.proofs.BackwardCounts.{back_counted, begun_counted, marks_counted, turn_counted, turns_counted}
+use Rattle.spx_flow.proofs.Counts.{parameter_placed}
 use Rattle.spx_flow.proofs.LoopLaws.{back_repeated}
 use Rattle.spx_flow.proofs.backward.+before.Goals as goal
 
@@ -315,3 +318,54 @@ before_while-returns t c =
     let carried = subst (λ n. Carries n head.head inner test.mu c.carry.new.list) (long ∙ c.requires.size) (subst (λ list. Carries (length head.head) head.head list test.mu c.carry.new.list) c.as_slice.ensures c.in_ok-carry.ensures) in
     back_repeated vars (reads_of c.args.condition.now) body c.args.place c.requires.covers c.in_ok-targets.targets.keys c.in_ok-targets.ensures start.turns turn c.close_turns.new.turn inner mu test.mu c.carry.new.list itself size c.close_turns.ensures.pairs
     rho copy.last test.starts head.head pass copy.ensures.1 c.in_ok-before_test.ensures head.ensures.1 carried long
+
+-- ---- a loop over a parameter
+
+pub before_count-returns-in_default : goal.before_count-returns-in_default
+before_count-returns-in_default t c =
+    let k = c.args.count.now in
+    absurd (parameter_placed c.args.vars.now k.parameter (option_map reads_of_range k.bounds) (effects c.args.body.now) k.place c.requires.covers (sym c.in_default.ensures))
+
+pub before_count-before_bounds-requires-clause-parameter : goal.before_count-before_bounds-requires-clause-parameter
+before_count-before_bounds-requires-clause-parameter t c = place_stands c.args.vars.now c.args.count.now.parameter c.in-Some.parameter (sym c.in-Some.ensures)
+
+pub before_count-before_bounds-requires-clause-rows : goal.before_count-before_bounds-requires-clause-rows
+before_count-before_bounds-requires-clause-rows t c =
+    let long = c.in_ok-rest.ensures.0 ∙ c.clear_row-2.ensures.size ∙ c.requires.size in
+    subst (λ n. AreRows n c.carry.new.list) long c.in_ok-carry.ensures.rows
+
+pub before_count-returns : goal.before_count-returns
+before_count-returns t c =
+    let vars = c.args.vars.now in
+    let rho = c.args.rho.now in
+    let mu = c.args.mu.now in
+    let k = c.args.count.now in
+    let v = k.parameter in
+    let bounds = option_map reads_of_range k.bounds in
+    let body = effects c.args.body.now in
+    let covers = c.requires.covers in
+    let at = c.in-Some.parameter in
+    let here = place_stands vars v at (sym c.in-Some.ensures) in
+    let itself = c.in_ok-turn.turn in
+    let start = c.clear_row.new.self in
+    let one = c.before_all.new.rho in
+    let inner = c.before_all.new.mu in
+    let turn = c.add.new.self in
+    let last = c.clear_row-2.new.self in
+    let copy = c.in_ok-turns in
+    let turns = c.close_turns.new.turn in
+    let rest = c.in_ok-rest in
+    let mid = c.carry.new.list in
+    let head = c.in_ok-head in
+    let new = c.before_bounds.new in
+    let same = rw (c.size.ensures.size, c.requires.size) at c.in_ok-turn.ensures.1 in
+    let pass = subst (λ before. StepsBack vars body start one before inner) c.new-inner.ensures c.in_ok-before_all.ensures in
+    let shown = turn_counted vars covers.once v at here body itself start one turn inner same c.clear_row.ensures.pairs pass c.add.ensures.pairs in
+    let marks = marks_counted vars covers.once v at here body itself start one turn inner same c.clear_row.ensures.pairs pass c.add.ensures.pairs in
+    let size = copy.ensures.0 ∙ c.add.ensures.size ∙ pass.size ∙ c.clear_row.ensures.size ∙ c.in_ok-turn.ensures.0 ∙ c.size.ensures.size ∙ c.requires.size in
+    let many = turns_counted vars v bounds body k.place covers turn copy.turns turns last rest.rest shown copy.ensures.1 size c.close_turns.ensures.pairs rest.ensures.1 in
+    let begun = begun_counted vars v bounds body k.place covers turn copy.turns turns last rest.rest shown copy.ensures.1 size c.close_turns.ensures.pairs rest.ensures.1 bounds head.head head.ensures.1 in
+    let long = rest.ensures.0 ∙ c.clear_row-2.ensures.size in
+    let carried = subst (λ n. Carries n rest.rest inner mu mid) (long ∙ c.requires.size) (subst (λ list. Carries (length rest.rest) rest.rest list mu mid) c.as_slice.ensures c.in_ok-carry.ensures) in
+    back_counted vars v bounds body k.place covers at here c.in_ok-changed.changed.keys c.in_ok-changed.ensures rho last rest.rest head.head new.head inner mu mid new.mu c.clear_row-2.ensures.pairs marks pass.occurrences many begun carried
+    c.in_ok-before_bounds.ensures (c.in_ok-before_bounds.ensures.size ∙ head.ensures.0 ∙ long)

@@ -1,4 +1,4 @@
-use Rattle.std.proofs.Common.{◌≡◌, ◌∷◌, [], ◌+◌, ◌-◌, ◌<◌, ◌||◌, All, arith, ap, ap₂, ◌∙◌, drop, length, map, rules, subst, sym}
+use Rattle.std.proofs.Common.{◌≡◌, ◌∷◌, [], ◌+◌, ◌-◌, ◌<◌, ◌||◌, All, arith, ap, ap₂, ◌∙◌, drop, length, map, option_map, rules, subst, sym}
 use Rattle.std.proofs.lemmas.List.{drop_all, length-drop, nil_from_length}
 use Rattle.std.proofs.lemmas.List.Elements.{All-contains}
 use Rattle.spx_core.specs.declared.statement.CoreArm.{CoreArm, out-CoreArm}
@@ -6,15 +6,18 @@ use Rattle.spx_core.specs.declared.statement.CoreAlternative.{CoreAlternative, o
 use Rattle.spx_core.specs.declared.statement.CoreStmt.{the_lemmas}
 use Rattle.spx_core.specs.declared.entity.VarId.{VarId}
 use Rattle.spx_core.specs.Commands.{Skip, alternative, arm_before, arms_before, command, commands, select}
-use Rattle.spx_core.specs.Effects.{effect, effects, nothing, reads_of, sets}
+use Rattle.spx_core.specs.Effects.{effect, effects, nothing, reads_of, reads_of_range, sets}
 use Rattle.spx_core.specs.Mirror.VarSets.{holds}
 use Rattle.spx_flow.specs.Branches.{Arms, Done, Joins}
+use Rattle.spx_flow.specs.Flows.{AreRows}
 use Rattle.spx_flow.specs.Positions.{Covers}
 use Rattle.spx_flow.specs.ForwardSteps.{StepsForward}
 use Rattle.spx_flow.specs.Turns.{Carries}
 use Rattle.spx_core.proofs.Callers.CommandForms.{command-Null, command-Assignment, command-Case, command-Assertion, command-If, command-If-else, command_arm, select_last, select_more}
 use Rattle.spx_flow.proofs.CoversLaws.{alternatives_covered, arms_covered, body_covered, if_else_covered}
-use Rattle.spx_flow.proofs.PositionLaws.{covers_one}
+use Rattle.spx_flow.proofs.Counts.{parameter_placed}
+use Rattle.spx_flow.proofs.ForwardCounts.{forward_counted}
+use Rattle.spx_flow.proofs.PositionLaws.{covers_one, place_stands}
 use Rattle.spx_flow.proofs.TargetLaws.{or_nothing}
 use Rattle.spx_flow.proofs.BranchLaws.{arm_done, arms_more, choice_done, left_from, left_last, left_of, only_done}
 use Rattle.spx_flow.proofs.ForwardLaws.{Led, idle_null, idle_observed, led_end, led_next, led_start, steps_again, steps_copied, test_chosen}
@@ -316,3 +319,47 @@ after_while-returns t c =
     let carried = subst (λ n. Carries n head.head inner test.lambda c.carry.new.list) (head.ensures.0 ∙ c.requires.size) (subst (λ list. Carries (length head.head) head.head list test.lambda c.carry.new.list) c.as_slice.ensures c.in_ok-carry.ensures) in
     forward_repeated vars (reads_of c.args.condition.now) body c.args.place c.requires.covers c.in_ok-targets.targets.keys c.in_ok-targets.ensures start.turns turn c.close_turns.new.turn inner lambda test.lambda c.carry.new.list itself size
     c.close_turns.ensures.pairs state head.head copy.ends test.ends pass head.ensures.1 copy.ensures.1 c.in_ok-after_test.ensures carried (c.in_ok-after_test.ensures.size ∙ copy.ensures.0 ∙ head.ensures.0)
+
+-- ---- a loop that counts
+
+pub after_count-returns-in_default : goal.after_count-returns-in_default
+after_count-returns-in_default t c =
+    let count = c.args.count.now in
+    absurd (parameter_placed c.args.vars.now count.parameter (option_map reads_of_range count.bounds) (effects c.args.body.now) count.place c.requires.covers (sym c.position.ensures ∙ c.in_default.is))
+
+pub after_count-entered-requires-clause-parameter : goal.after_count-entered-requires-clause-parameter
+after_count-entered-requires-clause-parameter t c = place_stands c.args.vars.now c.args.count.now.parameter c.in-Some.parameter (sym c.in-Some.ensures)
+
+pub after_count-carry-requires-clause-inner : goal.after_count-carry-requires-clause-inner
+after_count-carry-requires-clause-inner t c =
+    subst (λ n. AreRows n c.as_slice.result.now) (sym (c.in_ok-head.ensures.0 ∙ c.in_ok-start.ensures.size))
+    (subst (AreRows (length c.args.vars.now)) (sym c.as_slice.ensures) c.in_ok-after_all.ensures.lambda_rows)
+
+pub after_count-carry-requires-clause-list : goal.after_count-carry-requires-clause-list
+after_count-carry-requires-clause-list t c = subst (λ n. AreRows n c.after_bounds.new.lambda) (sym (c.in_ok-head.ensures.0 ∙ c.in_ok-start.ensures.size)) c.in_ok-ends.ensures.rows
+
+pub after_count-returns : goal.after_count-returns
+after_count-returns t c =
+    let vars = c.args.vars.now in
+    let state = c.args.state.now in
+    let lambda = c.args.lambda.now in
+    let count = c.args.count.now in
+    let body = effects c.args.body.now in
+    let numbers = c.in_ok-targets.targets.keys in
+    let start = c.in_ok-turn in
+    let turn = c.after_all.new.state in
+    let inner = c.after_all.new.lambda in
+    let kept = c.keep_value in
+    let copy = c.in_ok-star in
+    let begin = c.in_ok-start in
+    let head = c.in_ok-head in
+    let left = c.in_ok-ends in
+    let mid = c.after_bounds.new.lambda in
+    let itself = rw (c.size.ensures.size, c.requires.size) at start.ensures.1 in
+    let pass = subst (λ before. StepsForward vars body start.turn turn before inner) c.new-inner.ensures c.in_ok-after_all.ensures in
+    let size = copy.ensures.0 ∙ kept.ensures.size ∙ c.in_ok-after_all.ensures.size ∙ start.ensures.0 ∙ c.size.ensures.size ∙ c.requires.size in
+    let carried = subst (λ n. Carries n head.head inner mid c.carry.new.list) (head.ensures.0 ∙ begin.ensures.size) (subst (λ list. Carries (length head.head) head.head list mid c.carry.new.list) c.as_slice.ensures c.in_ok-carry.ensures) in
+    forward_counted vars count.parameter (option_map reads_of_range count.bounds) body count.place c.requires.covers c.in-Some.parameter (place_stands vars count.parameter c.in-Some.parameter (sym c.in-Some.ensures))
+    start.turn turn copy.star c.close_turns.new.turn inner itself pass (λ a b. (λ h. (kept.ensures.pairs a b).0 ((copy.ensures.1 a b).0 h), λ h. (copy.ensures.1 a b).1 ((kept.ensures.pairs a b).1 h))) size c.close_turns.ensures.pairs
+    state begin.start head.head begin.ensures.rows head.ensures.1 (λ y. holds numbers y) c.in_ok-targets.ensures kept.new.turn left.ends c.clear_row.new.self (λ a b. ((copy.ensures.1 a b).1, (copy.ensures.1 a b).0))
+    lambda mid c.carry.new.list left.ensures.left c.clear_row.ensures.pairs carried (c.clear_row.ensures.size ∙ left.ensures.size ∙ sym c.requires.size)

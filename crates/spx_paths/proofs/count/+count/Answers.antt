@@ -1,15 +1,14 @@
 use Rattle.std.proofs.Common.{◌≡◌, ◌+◌, ◌<◌, map, ℕ, List, length, get_or, drop, add-one, drop-cons, refl, subst, sym, ap, ◌∙◌}
-use Rattle.spx_text.specs.declared.place.Place.{Place}
-use Rattle.spx_core.specs.declared.expression.CoreExpr.{CoreExpr}
 use Rattle.spx_core.specs.declared.statement.CoreAlternative.{CoreAlternative, out-CoreAlternative}
 use Rattle.spx_core.specs.declared.statement.CoreStmt.{CoreStmt}
 use Rattle.spx_core.specs.declared.statement.CoreArm.{CoreArm, out-CoreArm, fold_out-CoreArm}
-use Rattle.spx_core.specs.Commands.{Command, Assertion, Skip, Repeat, Tested, alternative, arm_before, arms_before, command, commands, select}
+use Rattle.spx_core.specs.Commands.{Command, Assertion, Skip, alternative, arm_before, arms_before, command, commands, head_of, loop_of, select}
+use Rattle.spx_core.proofs.Callers.CommandForms.{command-Loop}
 use Rattle.spx_paths.specs.Walks.{arrivals, cut_arrivals}
 use Rattle.spx_paths.specs.Counts.{arrivals_in, cut_arrivals_in, CountsBack}
 use Rattle.spx_paths.proofs.ArriveLaws.{alternative_is, assertion_is, case_is, from_one, none_left_is}
 use Rattle.spx_paths.proofs.CountLaws.{arrivals_select, counts_more, counts_of, counts_stop, cut_arrivals_select}
-use Rattle.spx_paths.proofs.LoopLaws.{counts_own_cut, loop_counts}
+use Rattle.spx_paths.proofs.LoopLaws.{counts_no_cut, counts_own_cut}
 use Rattle.spx_paths.proofs.count.+count.Goals as goal
 
 module _ (arms : List CoreArm) (i : ℕ) (arm : CoreArm) (last : Command) (rest leave : ℕ) (below : i < length arms) (is : arm ≡ get_or arms i arm) where
@@ -72,14 +71,18 @@ count_stmt-returns-in_default t c =
     subst (λ (cmd : Command). CountsBack cmd c.args.after c.count_alternatives.result) (sym is) (λ rest leave after.
     counts_of (c.count_alternatives.ensures rest leave after) (arrivals_select at.field-0 at.field-1 alternatives rest leave c.in_default.len_at_least) (cut_arrivals_select at.field-0 at.field-1 alternatives rest leave))
 
-pub count_while-returns-in-Some : goal.count_while-returns-in-Some
-count_while-returns-in-Some t c = λ place condition.
-    counts_own_cut place condition c.args.body.now c.args.after _ _ c.in-Some.cut c.split_at.result.0.now c.split_at.result.1.now c.count_stmts-entered.result c.count_stmts-turn-in-Some.result c.in-Some.ensures c.split_at.ensures.front c.split_at.ensures.back c.count_stmts-entered.ensures
-    c.capped_sum-before-in-Some.ensures c.count_stmts-turn-in-Some.ensures c.capped_sum-in-Some.ensures
+pub count_loop-returns-in-Some : goal.count_loop-returns-in-Some
+count_loop-returns-in-Some t c =
+    counts_own_cut (head_of c.args.scheme.now) c.args.body.now c.args.after c.count_past-past.result c.count_past-past.ensures c.in-Some.cut c.split_at.result.0.now c.split_at.result.1.now c.count_stmts-entered.result c.count_stmts-turn-in-Some.result _ _ _ c.in-Some.ensures c.split_at.ensures.front
+    c.split_at.ensures.back c.count_stmts-entered.ensures c.capped_sum-in-Some.ensures c.count_stmts-turn-in-Some.ensures c.capped_sum-in-Some-2.ensures c.capped_sum-in-Some-3.ensures
+
+pub count_loop-returns-in-None : goal.count_loop-returns-in-None
+count_loop-returns-in-None t c =
+    counts_no_cut (head_of c.args.scheme.now) c.args.body.now c.args.after c.count_past-past.result c.count_past-past.ensures c.count_stmts-turn.result _ _ _ c.in-None.ensures c.capped_sum.ensures c.count_stmts-turn.ensures c.capped_sum-in-None.ensures c.capped_sum-in-None-2.ensures
 
 pub count_stmt-returns-in-Loop : goal.count_stmt-returns-in-Loop
 count_stmt-returns-in-Loop t c =
     let at = c.in-Loop in
-    let counts = c.count_while.result in
-    loop_counts c.args.stmt.now at.scheme at.field-1 at.body at.field-3 c.args.after counts at.is
-    (subst (λ (xs : List CoreStmt). (place : Place) (condition : CoreExpr) → CountsBack (Repeat (Tested place condition) (commands xs)) c.args.after counts) c.as_slice-in-Loop.ensures c.count_while.ensures)
+    let is : command c.args.stmt.now ≡ loop_of at.scheme (commands c.as_slice-in-Loop.result.now)
+    = command-Loop c.args.stmt.now at.scheme at.field-1 at.body at.field-3 at.is ∙ ap (λ (xs : List CoreStmt). loop_of at.scheme (commands xs)) (sym c.as_slice-in-Loop.ensures) in
+    subst (λ (cmd : Command). CountsBack cmd c.args.after c.count_loop.result) (sym is) c.count_loop.ensures

@@ -6,14 +6,15 @@ use Rattle.spx_core.specs.declared.statement.CoreAlternative.{CoreAlternative, o
 use Rattle.spx_core.specs.declared.statement.CoreArm.{CoreArm}
 use Rattle.spx_core.specs.declared.statement.CoreStmt.{CoreStmt}
 use Rattle.spx_core.specs.declared.statement.CoreStmt.TheVariants as stmt
-use Rattle.spx_core.specs.Commands.{Command, Assertion, Set, Skip, alternative, command, commands, loop_of, select}
-use Rattle.spx_paths.specs.Prefixes.{Arrive, ArriveAlternatives, ArriveEach, Splits, Walked, after_each, with_arms}
+use Rattle.spx_core.specs.Commands.{Command, Assertion, Set, Skip, alternative, command, commands, head_of, loop_of, select}
+use Rattle.spx_core.proofs.Callers.CommandForms.{command-Loop}
+use Rattle.spx_paths.specs.Prefixes.{Arrive, ArriveAlternatives, ArriveEach, Walked, after_each, with_arms}
 use Rattle.spx_paths.proofs.PrefixLaws.{each_none}
 use Rattle.std.specs.Prelude.{IfOk}
 use Rattle.spx_term.specs.Steps.{assume_all}
 use Rattle.spx_paths.specs.Walks.{alternative_facts, walk}
 use Rattle.spx_paths.proofs.ArriveLaws.{alternatives_more, arm_arrives, arms_more, assertion_is, assignment_is, case_arrives, case_is, each_arrive, from_ended, from_on, from_one, if_alone_is, if_arrives, if_else_is, none_is, null_is}
-use Rattle.spx_paths.proofs.LoopLaws.{command_loop, is_while, while_arrives}
+use Rattle.spx_paths.proofs.HeadLaws.{loop_arrives, turn_passes, turn_passes_none}
 use Rattle.spx_paths.proofs.walk.+walk.Goals as goal
 
 pub walk_arm-returns : goal.walk_arm-returns
@@ -139,19 +140,18 @@ walk_stmt-returns-in-Case t c =
 
 pub walk_loop-returns : goal.walk_loop-returns
 walk_loop-returns t c =
-    let p = c.args.program.now in
-    let sub = c.args.sub.now in
-    let body = commands c.args.body.now in
-    let taken = c.in_ok-taken.taken in
-    let all = c.append.new.self.items in
-    let while = is_while c.args.scheme.now in
-    let splits : Splits p while.1 c.args.steps c.split.new.steps taken = rw while.2 at c.in_ok-taken.ensures in
-    subst (λ scheme. Arrive p sub (loop_of scheme body) c.args.steps all) (sym while.2)
-    (while_arrives p sub while.0 while.1 body c.args.steps _ taken c.in_ok-found.found.items c.in_ok-one.field-0.items all splits c.in_ok-found.ensures (c.in_ok-one.ensures p sub) c.in_ok-append.ensures.items)
+    loop_arrives c.args.program.now c.args.sub.now (commands c.args.body.now) c.in_ok-turn.turn (head_of c.args.scheme.now) c.args.steps c.in_ok-found.found.items c.in_ok-found.ensures c.in_ok-turn.ensures
+
+pub walk_turn-returns-in-None : goal.walk_turn-returns-in-None
+walk_turn-returns-in-None t c = turn_passes_none c.args.program.now c.args.sub.now (commands c.args.body.now) c.args.into c.args.past c.in_ok-found.found.items c.in-None.is c.in_ok-found.ensures
+
+pub walk_turn-returns-in_ok-push-in-Some : goal.walk_turn-returns-in_ok-push-in-Some
+walk_turn-returns-in_ok-push-in-Some t c =
+    turn_passes c.args.program.now c.args.sub.now (commands c.args.body.now) c.args.into c.args.past c.in_ok-found.found.items _ c.in-Some.steps c.in-Some.is c.in_ok-found.ensures c.in_ok-push-in-Some.ensures.items
 
 pub walk_stmt-returns-in-Loop : goal.walk_stmt-returns-in-Loop
 walk_stmt-returns-in-Loop t c =
     let at = c.in-Loop in
     let is : command c.args.stmt.now ≡ loop_of at.scheme (commands c.as_slice-in-Loop.result.now)
-    = command_loop c.args.stmt.now at.scheme at.field-1 at.body at.field-3 at.is ∙ ap (λ (xs : List CoreStmt). loop_of at.scheme (commands xs)) (sym c.as_slice-in-Loop.ensures) in
+    = command-Loop c.args.stmt.now at.scheme at.field-1 at.body at.field-3 at.is ∙ ap (λ (xs : List CoreStmt). loop_of at.scheme (commands xs)) (sym c.as_slice-in-Loop.ensures) in
     subst (λ (cmd : Command). IfOk c.walk_loop.result (λ found. Arrive c.args.program.now c.args.sub.now cmd c.args.steps found.items)) (sym is) c.walk_loop.ensures

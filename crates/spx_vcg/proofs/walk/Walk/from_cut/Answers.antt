@@ -2,6 +2,7 @@ use Rattle.std.proofs.Common.{subst}
 use Rattle.spx_term.specs.Conjuncts.{conjuncts}
 use Rattle.spx_term.specs.Steps.{assume_parts}
 use Rattle.spx_paths.specs.Terms.{entry_term, term_of}
+use Rattle.spx_vcg.specs.Enclosing.{counts}
 use Rattle.spx_vcg.specs.Following.{after}
 use Rattle.spx_vcg.specs.WalkSteps.{Walks}
 use Rattle.spx_vcg.proofs.CutSteps.{after_cut}
@@ -15,4 +16,4 @@ returns c =
     let e = c.args.condition.now in
     let at = entry_terms p sub c.in_ok-interface.interface c.in_ok-interface.ensures in
     let shown = subst (λ entries. Walks c.after_cut.new.self c.assume_parts.new.self (assume_parts (term_of p entries e))) at c.in_ok-assume_parts.ensures.walks in
-    after_cut p sub (conjuncts (term_of p (entry_term p sub) e)) (after c.args.rest.now) c.in_ok-after_cut.ensures shown c.in_ok-follow.ensures
+    after_cut p sub (counts c.args.within.now) (conjuncts (term_of p (entry_term p sub) e)) (after p sub c.args.rest.now) c.in_ok-after_cut.ensures shown c.in_ok-follow.ensures

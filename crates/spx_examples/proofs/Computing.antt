@@ -1,0 +1,204 @@
+-- Folds over expressions and terms, as recursions that compute where their arguments do: the terms and checks of names, numbers and operations, and the
+-- conditions of trees.
+use Rattle.std.proofs.Common.{◌≡◌, Bool, if◌then◌else◌, List, [], ◌∷◌, ◌++◌, map, refl, ap, ap₂, ◌∙◌}
+use Rattle.std.proofs.Math.Path.{fun_ext}
+use Rattle.std.specs.List.{filter_map, list_all}
+use denote.Hole.Carrier.{hidden}
+use Rattle.spx_text.specs.declared.place.Place.{Place}
+use Rattle.spx_core.specs.declared.entity.VarId.{VarId}
+use Rattle.spx_core.specs.declared.expression.CoreExpr.{CoreExpr, CoreExpr-F}
+use Rattle.spx_core.specs.declared.expression.CoreExpr.TheBlock.{hidden-the_row-CoreExpr-0}
+use Rattle.spx_core.specs.declared.expression.CoreExpr.TheVariants as expr
+use Rattle.spx_core.specs.declared.expression.CoreExpr.TheVariants.{outs-Infix, outs-Name, outs-Number}
+use Rattle.spx_core.specs.declared.name.CoreName.{CoreName}
+use Rattle.spx_core.specs.declared.program.Program.{Program}
+use Rattle.spx_core.specs.declared.rule.Typing.{Typing}
+use Rattle.spx_core.specs.declared.subprogram.Sub.{Sub}
+use Rattle.spx_core.specs.Effects.{read_of}
+use Rattle.spx_core.specs.Judged.{Judged, expr_step, judged}
+use Rattle.spx_core.specs.Places.{place_in, place_of}
+use Rattle.spx_core.specs.Reads.{names_read, names_step}
+use Rattle.spx_core.specs.Shapes as shape
+use Rattle.spx_core.specs.Uses.{variable_of}
+use Rattle.spx_core.proofs.Callers.Expressions.{fold-Infix, fold-Name, fold-Number}
+use Rattle.spx_term.specs.declared.term.Name.{Name}
+use Rattle.spx_term.specs.declared.term.Term.{Term}
+use Rattle.spx_term.specs.declared.term.Term.TheBlock.{hidden-the_row-Term-0}
+use Rattle.spx_term.specs.declared.term.Term.TheVariants as term
+use Rattle.spx_term.specs.Shapes.{infix_of, prefix_of}
+use Rattle.spx_term.specs.Steps.{Tree, Cut, Assume, Assign, Fresh, Prove, Split, Claim, claims_of, same_name, substituted, substituted_step, with_fact}
+use Rattle.spx_term.proofs.Terms as terms
+use Rattle.spx_meaning.specs.Evaluation.{term_op}
+use Rattle.spx_meaning.specs.Literals.{base_judged, literal_in}
+use Rattle.spx_paths.specs.Checks.{checks, checks-Infix, checks-Name, checks-Number, operation_check, right_lefts, unless_static}
+use Rattle.spx_paths.specs.Terms.{literal_or, named, now_term, term_of, term_with, term_with-Infix, term_with-Name, term_with-Number}
+use Rattle.spx_paths.specs.Walks.{is_fixed, keeps_value}
+
+-- ---- expressions
+
+abbrev pub judged_now : CoreExpr → Judged Typing
+judged_now (expr.Number n place) = expr_step (CoreExpr-F.Number n place)
+judged_now (expr.Name name) = expr_step (CoreExpr-F.Name name)
+judged_now (shape.infix_of op place a b) = expr_step (CoreExpr-F.Infix op place (judged_now a) (judged_now b))
+judged_now e = judged e
+
+pub judged_is : (e : CoreExpr) → judged e ≡ judged_now e
+unfolding hidden-the_row-CoreExpr-0 hidden
+judged_is (expr.Number n place) = fold-Number expr_step n place
+judged_is (expr.Name name) = fold-Name expr_step name
+judged_is (shape.infix_of op place a b) = fold-Infix expr_step op place a b ∙ ap₂ (λ j k. expr_step (CoreExpr-F.Infix op place j k)) (judged_is a) (judged_is b)
+judged_is (expr.Entry name allowed) = refl
+judged_is (expr.Attribute prefix designator) = refl
+judged_is (shape.applied_of function place a) = refl
+judged_is (shape.parenthesized_of place a) = refl
+judged_is (shape.prefix_of op place a) = refl
+judged_is (shape.in_type_of op place a name) = refl
+judged_is (shape.in_range_of op place a low high) = refl
+
+-- where an expression stands
+abbrev pub place_now : CoreExpr → Place
+place_now (expr.Number n place) = place
+place_now (expr.Name name) = name.name.place
+place_now (shape.infix_of op place a b) = place
+place_now e = place_of e
+
+pub place_is : (e : CoreExpr) → place_of e ≡ place_now e
+unfolding hidden-the_row-CoreExpr-0 hidden
+place_is (expr.Number n place) = ap place_in (outs-Number n place)
+place_is (expr.Name name) = ap place_in (outs-Name name)
+place_is (shape.infix_of op place a b) = ap place_in (outs-Infix op place a b)
+place_is (expr.Entry name allowed) = refl
+place_is (expr.Attribute prefix designator) = refl
+place_is (shape.applied_of function place a) = refl
+place_is (shape.parenthesized_of place a) = refl
+place_is (shape.prefix_of op place a) = refl
+place_is (shape.in_type_of op place a name) = refl
+place_is (shape.in_range_of op place a low high) = refl
+
+-- the names that it reads
+abbrev pub names_now : CoreExpr → List CoreName
+names_now (expr.Number n place) = []
+names_now (expr.Name name) = name ∷ []
+names_now (shape.infix_of op place a b) = names_now a ++ names_now b
+names_now e = names_read e
+
+pub names_are : (e : CoreExpr) → names_read e ≡ names_now e
+unfolding hidden-the_row-CoreExpr-0 hidden
+names_are (expr.Number n place) = fold-Number names_step n place
+names_are (expr.Name name) = fold-Name names_step name
+names_are (shape.infix_of op place a b) = fold-Infix names_step op place a b ∙ ap₂ (λ (x y : List CoreName). x ++ y) (names_are a) (names_are b)
+names_are (expr.Entry name allowed) = refl
+names_are (expr.Attribute prefix designator) = refl
+names_are (shape.applied_of function place a) = refl
+names_are (shape.parenthesized_of place a) = refl
+names_are (shape.prefix_of op place a) = refl
+names_are (shape.in_type_of op place a name) = refl
+names_are (shape.in_range_of op place a low high) = refl
+
+abbrev pub fixed_now : Sub → CoreExpr → Bool
+fixed_now sub e = list_all (λ r. keeps_value sub r.1) (filter_map read_of (names_now e))
+
+pub fixed_is : (sub : Sub) (e : CoreExpr) → is_fixed sub e ≡ fixed_now sub e
+fixed_is sub e = ap (λ names. list_all (λ r. keeps_value sub r.1) (filter_map read_of names)) (names_are e)
+
+-- ---- the terms of expressions
+
+module _ (present entered : VarId → Term) where
+  abbrev pub term_now : CoreExpr → Term
+  term_now (expr.Number n place) = term.Number n
+  term_now (expr.Name name) = literal_or (literal_in (judged_now (expr.Name name))) (named present (variable_of name.entity))
+  term_now (shape.infix_of op place a b) = literal_or (literal_in (judged_now (shape.infix_of op place a b))) (term.Infix (term_op op) (term_now a) (term_now b))
+  term_now e = term_with present entered e
+
+  pub term_is : (e : CoreExpr) → term_with present entered e ≡ term_now e
+  unfolding hidden-the_row-CoreExpr-0 hidden
+  term_is (expr.Number n place) = term_with-Number present entered n place
+  term_is (expr.Name name) = term_with-Name present entered name ∙ ap (λ j. literal_or (literal_in j) (named present (variable_of name.entity))) (judged_is (expr.Name name))
+  term_is (shape.infix_of op place a b) =
+      term_with-Infix present entered op place a b
+      ∙ ap₂ (λ j t. literal_or (literal_in j) t) (judged_is (shape.infix_of op place a b)) (ap₂ (term.Infix (term_op op)) (term_is a) (term_is b))
+  term_is (expr.Entry name allowed) = refl
+  term_is (expr.Attribute prefix designator) = refl
+  term_is (shape.applied_of function place a) = refl
+  term_is (shape.parenthesized_of place a) = refl
+  term_is (shape.prefix_of op place a) = refl
+  term_is (shape.in_type_of op place a name) = refl
+  term_is (shape.in_range_of op place a low high) = refl
+
+-- ---- their checks
+
+module _ (p : Program) (entered : VarId → Term) where
+  abbrev now : CoreExpr → Term
+  now = term_now (now_term p) entered
+
+  abbrev pub checks_now : List Term → CoreExpr → Tree → Tree
+  checks_now lefts (expr.Number n place) rest = rest
+  checks_now lefts (expr.Name name) rest = rest
+  checks_now lefts (shape.infix_of op place a b) rest =
+      unless_static (literal_in (judged_now (shape.infix_of op place a b))) rest
+      (checks_now lefts a (checks_now (right_lefts op lefts (now a)) b
+      (operation_check lefts op (base_judged (judged_now (shape.infix_of op place a b))) place (place_now b) (now b) (now (shape.infix_of op place a b)) rest)))
+  checks_now lefts e rest = checks p entered lefts e rest
+
+  pub checks_are : (lefts : List Term) (e : CoreExpr) (rest : Tree) → checks p entered lefts e rest ≡ checks_now lefts e rest
+  unfolding hidden-the_row-CoreExpr-0 hidden
+  checks_are lefts (expr.Number n place) rest = checks-Number p entered lefts n place rest
+  checks_are lefts (expr.Name name) rest = checks-Name p entered lefts name rest
+  checks_are lefts (shape.infix_of op place a b) rest =
+      let whole : CoreExpr = shape.infix_of op place a b in
+      let last : Judged Typing → Place → Term → Term → Tree = λ j at t u. operation_check lefts op (base_judged j) place at t u rest in
+      checks-Infix p entered lefts op place a b rest
+      ∙ ap₂ (λ (j : Judged Typing) (at : Place). unless_static (literal_in j) rest (checks p entered lefts a (checks p entered (right_lefts op lefts (term_of p entered a)) b (last j at (term_of p entered b) (term_of p entered whole)))))
+      (judged_is whole) (place_is b)
+      ∙ ap₂ (λ (t u : Term). unless_static (literal_in (judged_now whole)) rest (checks p entered lefts a (checks p entered (right_lefts op lefts (term_of p entered a)) b (last (judged_now whole) (place_now b) t u))))
+      (term_is (now_term p) entered b) (term_is (now_term p) entered whole)
+      ∙ ap (λ t. unless_static (literal_in (judged_now whole)) rest (checks p entered lefts a (checks p entered (right_lefts op lefts t) b (last (judged_now whole) (place_now b) (now b) (now whole)))))
+      (term_is (now_term p) entered a)
+      ∙ ap (λ tree. unless_static (literal_in (judged_now whole)) rest tree)
+      (checks_are lefts a _ ∙ ap (checks_now lefts a) (checks_are (right_lefts op lefts (now a)) b _))
+  checks_are lefts (expr.Entry name allowed) rest = refl
+  checks_are lefts (expr.Attribute prefix designator) rest = refl
+  checks_are lefts (shape.applied_of function place a) rest = refl
+  checks_are lefts (shape.parenthesized_of place a) rest = refl
+  checks_are lefts (shape.prefix_of op place a) rest = refl
+  checks_are lefts (shape.in_type_of op place a name) rest = refl
+  checks_are lefts (shape.in_range_of op place a low high) rest = refl
+
+-- ---- the conditions of trees
+
+-- a term with t in the place of x
+abbrev pub put : Name → Term → Term → Term
+put x t (term.Number n) = term.Number n
+put x t (term.Truth b) = term.Truth b
+put x t (term.Variable y) = if same_name x y then t else term.Variable y
+put x t (prefix_of op a) = term.Prefix op (put x t a)
+put x t (infix_of op a b) = term.Infix op (put x t a) (put x t b)
+
+put_is : (x : Name) (t u : Term) → substituted x t u ≡ put x t u
+unfolding hidden-the_row-Term-0 hidden
+put_is x t (term.Number n) = terms.fold-Number (substituted_step x t) n
+put_is x t (term.Truth b) = terms.fold-Truth (substituted_step x t) b
+put_is x t (term.Variable y) = terms.fold-Variable (substituted_step x t) y
+put_is x t (prefix_of op a) = terms.fold-Prefix (substituted_step x t) op a ∙ ap (term.Prefix op) (put_is x t a)
+put_is x t (infix_of op a b) = terms.fold-Infix (substituted_step x t) op a b ∙ ap₂ (term.Infix op) (put_is x t a) (put_is x t b)
+
+abbrev with_value_now : Name → Term → Claim → Claim
+with_value_now x t c = record c { hyps = map (put x t) c.hyps; goals = map (put x t) c.goals }
+
+abbrev pub claims_now : Tree → List Claim
+claims_now Cut = []
+claims_now (Assume t rest) = map (with_fact t) (claims_now rest)
+claims_now (Assign x t rest) = map (with_value_now x t) (claims_now rest)
+claims_now (Fresh x rest) = claims_now rest
+claims_now (Prove kind place goals rest) = record { kind = kind; place = place; hyps = []; goals = goals } ∷ claims_now rest
+claims_now (Split first second) = claims_now first ++ claims_now second
+
+pub claims_are : (tree : Tree) → claims_of tree ≡ claims_now tree
+claims_are Cut = refl
+claims_are (Assume t rest) = ap (map (with_fact t)) (claims_are rest)
+claims_are (Assign x t rest) =
+    ap (λ (f : Term → Term). map (λ (c : Claim). record c { hyps = map f c.hyps; goals = map f c.goals }) (claims_of rest)) (fun_ext (put_is x t))
+    ∙ ap (map (with_value_now x t)) (claims_are rest)
+claims_are (Fresh x rest) = claims_are rest
+claims_are (Prove kind place goals rest) = ap (λ (cs : List Claim). record { kind = kind; place = place; hyps = []; goals = goals } ∷ cs) (claims_are rest)
+claims_are (Split first second) = ap₂ (λ (cs ds : List Claim). cs ++ ds) (claims_are first) (claims_are second)

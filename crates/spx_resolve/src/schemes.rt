@@ -1,0 +1,84 @@
+// The schemes of loops, and the parameters that they declare (Ada 95 RM 5.5).
+ghost use Rattle.std.specs.Prelude.{◌≡◌, ◌∷◌, ◌++◌, [], IfOk, length, map};
+ghost use Rattle.spx_core.specs.declared.entity.VarKind.TheVariants.{LoopParameter};
+ghost use Rattle.spx_core.specs.Resolved.{declared_by_count, declared_by_scheme, declaring, declaring_all, defining, object_of, resolved_count, resolved_scheme, var_of, variable_at};
+ghost use Rattle.spx_scope.specs.Seen.{seen};
+
+use crate::expression::resolve_inside;
+use crate::meaning::object_of;
+use crate::names::declare;
+use crate::parts::{resolve_constraint, resolve_type_name};
+use crate::tables::add_variables;
+use spx_core::{CoreCount, CoreScheme, Defining, Entity, Reference, Var, VarId, VarKind};
+use spx_scope::{Region, Scope};
+use spx_tree::{Count, Identifier, Scheme};
+use sqlite_items::Items;
+use std::alloc::{AllocError, Global};
+use std::slice;
+
+/// Declares the parameter of a loop over values of this type, which comes after the variables before it.
+fn declare_parameter(
+    alloc: Global,
+    region: &mut Region,
+    vars: &mut Items<Var>,
+    outer: &Scope<'_>,
+    type_name: &Reference,
+    name: &Identifier,
+) -> Result<Defining, AllocError>
+    ensures { IfOk result (λ d. (d ≡ defining region.old (variable_at (length vars.old) (object_of LoopParameter type_name.now)) name.now) × (region.new ≡ declaring region.old d) × (vars.new ≡ vars.old ++ map var_of (d ∷ []))) }
+{
+    let object = object_of(VarKind::LoopParameter, type_name);
+    let entity = Entity::Variable(VarId(vars.len()), object);
+    let defined = declare(alloc, region, outer, entity, name)?;
+    add_variables(alloc, vars, slice::from_ref(&defined))?;
+    Ok(defined)
+}
+
+/// The parameter of a loop. Its name is hidden in what is said of it, and declared from then on.
+fn resolve_count(
+    alloc: Global,
+    count: &Count,
+    region: &mut Region,
+    vars: &mut Items<Var>,
+    outer: &Scope<'_>,
+) -> Result<CoreCount, AllocError>
+    ensures { IfOk result (λ c. (c ≡ resolved_count (seen outer.now) region.old (length vars.old) count.now) × (region.new ≡ declaring region.old (declared_by_count c)) × (vars.new ≡ vars.old ++ map var_of (declared_by_count c ∷ []))) }
+{
+    let parameter = VarId(vars.len());
+    let hidden = slice::from_ref(&count.name);
+    let type_name = resolve_type_name(alloc, region, outer, hidden, &count.type_name)?;
+    let bounds = resolve_constraint(alloc, region, outer, hidden, &count.bounds)?;
+    let defined = declare_parameter(alloc, region, vars, outer, &type_name, &count.name)?;
+    Ok(CoreCount {
+        place: count.place,
+        name: defined.name,
+        parameter,
+        again: defined.again,
+        word: count.word,
+        is_reverse: count.is_reverse,
+        type_name,
+        bounds,
+    })
+}
+
+/// How often the statements of a loop run. A parameter is declared in the region.
+pub fn resolve_scheme(
+    alloc: Global,
+    scheme: &Scheme,
+    region: &mut Region,
+    vars: &mut Items<Var>,
+    outer: &Scope<'_>,
+) -> Result<CoreScheme, AllocError>
+    ensures { IfOk result (λ r. (r ≡ resolved_scheme (seen outer.now) region.old (length vars.old) scheme.now) × (region.new ≡ declaring_all region.old (declared_by_scheme r)) × (vars.new ≡ vars.old ++ map var_of (declared_by_scheme r))) }
+{
+    match scheme {
+        Scheme::While(place, condition) => {
+            let condition = resolve_inside(alloc, condition, region, outer)?;
+            Ok(CoreScheme::While(*place, condition))
+        }
+        Scheme::For(count) => {
+            let count = resolve_count(alloc, count, region, vars, outer)?;
+            Ok(CoreScheme::For(count))
+        }
+    }
+}

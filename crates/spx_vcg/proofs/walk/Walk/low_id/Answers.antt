@@ -1,0 +1,12 @@
+use Rattle.std.proofs.Common.{rules}
+use Rattle.std.proofs.lemmas.Int.{to_z-of_z}
+use Rattle.std.specs.Int.{w128}
+use Rattle.spx_vcg.proofs.CountSteps.{least_is, low_is, makes_along}
+use Rattle.spx_vcg.proofs.walk.Walk.low_id.Goals as goal
+
+pub returns-in_ok-id-in-None-clause-makes : goal.returns-in_ok-id-in-None-clause-makes
+returns-in_ok-id-in-None-clause-makes c =
+    makes_along (least_is c.args.body.now.program.now c.args.body.now.sub.now c.args.count.now c.type_of-least.result _ c.in-None.is c.type_of-least.ensures (to_z-of_z w128 c.type_of-least.result.first (search rules))) c.in_ok-id-in-None.ensures.makes
+
+pub returns-in_ok-id-in-Some-clause-makes : goal.returns-in_ok-id-in-Some-clause-makes
+returns-in_ok-id-in-Some-clause-makes c = makes_along (low_is c.args.body.now.program.now c.args.body.now.sub.now c.args.count.now c.first_name-name.result c.in-Some.range c.in-Some.is c.first_name-name.ensures) c.in_ok-id-in-Some.ensures.makes
