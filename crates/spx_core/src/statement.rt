@@ -5,7 +5,7 @@ ghost use Rattle.spx_core.specs.Commands.{command, commands, has_own_cut, is_ass
 use crate::{CoreExpr, Defining, Reference, Span, VarId};
 use spx_text::Place;
 use spx_tree::{AssertionKind, Closing, Identifier};
-use sqlite_items::Items;
+use sqlite_items::{Boxed, Items};
 
 /// `low .. high`
 #[derive(Debug, Drop)]
@@ -60,7 +60,7 @@ pub enum CoreScheme {
     /// At the word `while`: again and again as long as the condition is true.
     While(Place, CoreExpr),
     /// Once for each value of a type, or of a range of it.
-    For(CoreCount),
+    For(Boxed<CoreCount>),
 }
 
 /// The parameter of a loop, at the word `for`, and the values that it takes (Ada 95 RM 5.5). Without bounds these are all

@@ -263,7 +263,7 @@ fn go_over_loop(
             go_over_all(alloc, body, &mut turn, found)?;
             Ok(())
         }
-        CoreScheme::For(count) => go_over_count(alloc, body, count, set, found),
+        CoreScheme::For(count) => go_over_count(alloc, body, count.get(), set, found),
     }
 }
 

@@ -374,7 +374,7 @@ fn before_loop(
             Ok(())
         }
         CoreScheme::For(count) => {
-            before_count(alloc, vars, body, count, rho, mu)?;
+            before_count(alloc, vars, body, count.get(), rho, mu)?;
             Ok(())
         }
     }

@@ -411,7 +411,7 @@ fn after_loop(
             Ok(())
         }
         CoreScheme::For(count) => {
-            after_count(alloc, vars, body, count, state, lambda)?;
+            after_count(alloc, vars, body, count.get(), state, lambda)?;
             Ok(())
         }
     }

@@ -70,7 +70,7 @@ fn add_targets(stmt: &CoreStmt, found: &mut Targets) -> Result<(), AllocError>
             }
             CoreScheme::For(count) => {
                 add_all_targets(body.as_slice(), found)?;
-                add_variable(found, count.parameter)?;
+                add_variable(found, count.get().parameter)?;
                 Ok(())
             }
         },

@@ -14,7 +14,7 @@ use spx_text::Place;
 use spx_tree::{
     Alternative, Arm, AssertionKind, Choice, Closing, Count, Expr, Kind, Range, Scheme, Stmt,
 };
-use sqlite_items::Items;
+use sqlite_items::{Boxed, Items};
 use std::alloc::Global;
 
 /// The statements, by what they start with.
@@ -343,14 +343,15 @@ fn for_scheme(alloc: Global, cursor: &mut Cursor<'_>, levels: u32) -> Result<Sch
     let is_reverse = direction(cursor)?;
     let type_name = name(alloc, cursor, PROGRAM)?;
     let bounds = optional_bounds(alloc, cursor, levels)?;
-    Ok(Scheme::For(Count {
+    let count = Count {
         place,
         name: subject,
         word,
         is_reverse,
         type_name,
         bounds,
-    }))
+    };
+    Ok(Scheme::For(Boxed::new(alloc, count)?))
 }
 
 // scheme = while_scheme | for_scheme

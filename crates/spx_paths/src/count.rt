@@ -144,7 +144,7 @@ fn count_past(scheme: &CoreScheme, after: u32) -> u32
 {
     match scheme {
         CoreScheme::While(_, _) => after,
-        CoreScheme::For(count) => match count.bounds {
+        CoreScheme::For(count) => match count.get().bounds {
             None => 0,
             Some(_) => after,
         },

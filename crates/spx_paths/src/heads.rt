@@ -241,7 +241,7 @@ pub(crate) fn enter_loop(
 {
     match scheme {
         CoreScheme::While(_, condition) => test(alloc, program, condition, steps),
-        CoreScheme::For(count) => enter_count(alloc, program, sub, count, steps),
+        CoreScheme::For(count) => enter_count(alloc, program, sub, count.get(), steps),
     }
 }
 
@@ -257,6 +257,6 @@ pub(crate) fn end_turn(
 {
     match scheme {
         CoreScheme::While(_, condition) => test(alloc, program, condition, steps),
-        CoreScheme::For(count) => count_on(alloc, program, sub, count, steps),
+        CoreScheme::For(count) => count_on(alloc, program, sub, count.get(), steps),
     }
 }

@@ -31,7 +31,7 @@ impl<'a> Within<'a> {
     {
         match scheme {
             CoreScheme::While(_, _) => *self,
-            CoreScheme::For(count) => Within::Inside(self, count),
+            CoreScheme::For(count) => Within::Inside(self, count.get()),
         }
     }
 }

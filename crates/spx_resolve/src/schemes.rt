@@ -12,7 +12,7 @@ use crate::tables::add_variables;
 use spx_core::{CoreCount, CoreScheme, Defining, Entity, Reference, Var, VarId, VarKind};
 use spx_scope::{Region, Scope};
 use spx_tree::{Count, Identifier, Scheme};
-use sqlite_items::Items;
+use sqlite_items::{Boxed, Items};
 use std::alloc::{AllocError, Global};
 use std::slice;
 
@@ -77,8 +77,8 @@ pub fn resolve_scheme(
             Ok(CoreScheme::While(*place, condition))
         }
         Scheme::For(count) => {
-            let count = resolve_count(alloc, count, region, vars, outer)?;
-            Ok(CoreScheme::For(count))
+            let count = resolve_count(alloc, count.get(), region, vars, outer)?;
+            Ok(CoreScheme::For(Boxed::new(alloc, count)?))
         }
     }
 }

@@ -4,7 +4,7 @@ ghost use Rattle.std.specs.Prelude.{◌≡◌, IfOk};
 use crate::declaration::copy_range;
 use crate::{Expr, Identifier, Name, Range};
 use spx_text::Place;
-use sqlite_items::Items;
+use sqlite_items::{Boxed, Items};
 use std::alloc::{AllocError, Global};
 
 /// A statement (Ada 95 RM 5), or an annotation among statements.
@@ -31,7 +31,7 @@ pub enum Scheme {
     /// At the word `while`: again and again as long as the condition is true.
     While(Place, Expr),
     /// Once for each value of a type, or of a range of it.
-    For(Count),
+    For(Boxed<Count>),
 }
 
 /// The parameter of a loop, at the word `for`, and the values that it takes (Ada 95 RM 5.5):
@@ -132,7 +132,7 @@ impl Scheme {
     {
         match self {
             Scheme::While(place, condition) => Ok(Scheme::While(*place, condition.copy(alloc)?)),
-            Scheme::For(count) => Ok(Scheme::For(count.copy(alloc)?)),
+            Scheme::For(count) => { Ok(Scheme::For(Boxed::new(alloc, count.get().copy(alloc)?)?)) }
         }
     }
 }

@@ -160,7 +160,7 @@ fn judge_stmt(stmt: &CoreStmt) -> Result<(), Breach>
             judge_stmts(body.as_slice())
         }
         CoreStmt::Loop(CoreScheme::For(count), _, body, _) => {
-            judge_count(count)?;
+            judge_count(count.get())?;
             judge_stmts(body.as_slice())
         }
         CoreStmt::Assertion(_, _, condition) => test(condition),

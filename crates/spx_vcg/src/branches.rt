@@ -400,7 +400,7 @@ impl Walk {
                 Ok(())
             }
             CoreScheme::For(count) => {
-                self.counted(alloc, body, count, stmts, rest)?;
+                self.counted(alloc, body, count.get(), stmts, rest)?;
                 Ok(())
             }
         }
@@ -425,7 +425,7 @@ impl Walk {
                 Ok(())
             }
             CoreScheme::For(count) => {
-                self.counted_again(alloc, body, count, stmts, rest)?;
+                self.counted_again(alloc, body, count.get(), stmts, rest)?;
                 Ok(())
             }
         }

@@ -29,7 +29,7 @@ impl<'a> Within<'a> {
     {
         match scheme {
             CoreScheme::While(_, _) => *outer,
-            CoreScheme::For(count) => Within::Inside(outer, count),
+            CoreScheme::For(count) => Within::Inside(outer, count.get()),
         }
     }
 }
