@@ -203,7 +203,7 @@ head-returns-in_ok-tested-in-While t c =
 
 pub head-returns-in_ok-counted-in-For : goal.head-returns-in_ok-counted-in-For
 head-returns-in_ok-counted-in-For t c =
-    at_head c.args.body.now.program.now c.args.body.now.sub.now c.args.scheme.now (commands c.args.stmts.now) (after c.args.body.now.program.now c.args.body.now.sub.now c.args.rest.now) (Counted c.in-For.count) (ap head_of c.in-For.is) c.in_ok-counted-in-For.ensures
+    at_head c.args.body.now.program.now c.args.body.now.sub.now c.args.scheme.now (commands c.args.stmts.now) (after c.args.body.now.program.now c.args.body.now.sub.now c.args.rest.now) (Counted c.get.result.now) (ap head_of c.in-For.is ∙ ap Counted (sym c.get.ensures)) c.in_ok-counted-in-For.ensures
 
 pub turn_ended-returns-in_ok-tested-in-While : goal.turn_ended-returns-in_ok-tested-in-While
 turn_ended-returns-in_ok-tested-in-While t c =
@@ -211,7 +211,7 @@ turn_ended-returns-in_ok-tested-in-While t c =
 
 pub turn_ended-returns-in_ok-counted_again-in-For : goal.turn_ended-returns-in_ok-counted_again-in-For
 turn_ended-returns-in_ok-counted_again-in-For t c =
-    at_turn_end c.args.body.now.program.now c.args.body.now.sub.now c.args.scheme.now (commands c.args.stmts.now) (after c.args.body.now.program.now c.args.body.now.sub.now c.args.rest.now) (Counted c.in-For.count) (ap head_of c.in-For.is) c.in_ok-counted_again-in-For.ensures
+    at_turn_end c.args.body.now.program.now c.args.body.now.sub.now c.args.scheme.now (commands c.args.stmts.now) (after c.args.body.now.program.now c.args.body.now.sub.now c.args.rest.now) (Counted c.get.result.now) (ap head_of c.in-For.is ∙ ap Counted (sym c.get.ensures)) c.in_ok-counted_again-in-For.ensures
 
 pub alternative-returns : goal.alternative-returns
 alternative-returns t c =
