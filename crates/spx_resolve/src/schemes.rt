@@ -77,7 +77,13 @@ pub fn resolve_scheme(
             Ok(CoreScheme::While(*place, condition))
         }
         Scheme::For(count) => {
-            let count = resolve_count(alloc, count.get(), region, vars, outer)?;
+            let count = count.get();
+            // Two calls keep `resolve_count` a function of its own. Compiled into `resolve_stmt`, which nests, it would
+            // take two fifths of the stack of each level.
+            let count = match &count.bounds {
+                Some(_) => resolve_count(alloc, count, region, vars, outer)?,
+                None => resolve_count(alloc, count, region, vars, outer)?,
+            };
             Ok(CoreScheme::For(Boxed::new(alloc, count)?))
         }
     }
