@@ -10,10 +10,10 @@ use Rattle.spx_tree.specs.declared.statement.Alternative.{Alternative}
 use Rattle.spx_tree.specs.declared.statement.AssertionKind.{AssertionKind}
 use Rattle.spx_tree.specs.declared.statement.AssertionKind.TheVariants as assertion
 use Rattle.spx_tree.specs.declared.statement.Scheme.{Scheme}
-use Rattle.spx_tree.specs.declared.statement.Scheme.TheVariants.{While, For}
+use Rattle.spx_tree.specs.declared.statement.Scheme.TheVariants.{While, For, Endless}
 use Rattle.spx_tree.specs.declared.declaration.Range.{Range}
 use Rattle.spx_tree.specs.declared.statement.Stmt.{Stmt}
-use Rattle.spx_tree.specs.declared.statement.Stmt.TheVariants.{Null, Assignment, If, Case, Loop, Assertion}
+use Rattle.spx_tree.specs.declared.statement.Stmt.TheVariants.{Null, Assignment, If, Case, Loop, Assertion, Exit}
 use Rattle.spx_tree.specs.Form.{Form}
 use Rattle.spx_tree.specs.Written.{program, annotation, assertion_word}
 use Rattle.spx_parse_body.specs.declared.statements.SchemeKind.{SchemeKind}
@@ -36,6 +36,18 @@ assertion_statement kind levels = do
   asserted ← predicate_after (assertion_word kind) levels
   pure (Assertion kind asserted.place asserted.condition)
 
+-- "when" expression
+unfoldable pub when_part : ℕ → Reader Expr
+when_part levels = expect program k.When >> expression program levels
+
+-- "exit" ["when" expression] ";"
+unfoldable pub exit_statement : ℕ → Reader Stmt
+exit_statement levels = do
+  place ← expect_place program k.Exit
+  condition ← if_seen program k.When (when_part levels)
+  expect program k.Semicolon
+  pure (Exit place condition)
+
 -- what a form of annotation text starts
 abbrev pub noted_stmt : Option Kind → Option StmtKind
 noted_stmt (Some k.Assert) = Some (kinds.Assertion assertion.Assert)
@@ -50,6 +62,8 @@ stmt_of (Some k.If) noted = Some kinds.If
 stmt_of (Some k.Case) noted = Some kinds.Case
 stmt_of (Some k.While) noted = Some (kinds.Loop schemes.While)
 stmt_of (Some k.For) noted = Some (kinds.Loop schemes.For)
+stmt_of (Some k.Loop) noted = Some (kinds.Loop schemes.Endless)
+stmt_of (Some k.Exit) noted = Some kinds.Exit
 stmt_of _ noted = noted_stmt noted
 
 -- the statement that comes next
@@ -132,10 +146,11 @@ for_scheme levels = do
   bounds ← if_seen program k.Range (constraint_below levels)
   pure (For (record { place = place; name = subject; word = word; is_reverse = is_reverse; type_name = type_name; bounds = bounds }))
 
--- the scheme that begins with this word
+-- the scheme of this kind, of which a plain loop has none
 abbrev pub scheme : SchemeKind → ℕ → Reader Scheme
 scheme schemes.While = while_scheme
 scheme schemes.For = for_scheme
+scheme schemes.Endless = λ levels. pure Endless
 
 -- What reads statements one level down is a parameter, and so is the number of levels that are left.
 module _ (inner : Reader (List Stmt)) (levels : ℕ) where
@@ -208,7 +223,7 @@ module _ (inner : Reader (List Stmt)) (levels : ℕ) where
     expect program k.Semicolon
     pure (Case place selector alternatives (record { end = end; word = word })))
 
-  -- scheme "loop" statements "end" "loop" ";"
+  -- [scheme] "loop" statements "end" "loop" ";"
   unfoldable pub loop_statement : SchemeKind → Reader Stmt
   loop_statement kind = deeper levels 0 (do
     scheme ← scheme kind levels
@@ -225,10 +240,11 @@ module _ (inner : Reader (List Stmt)) (levels : ℕ) where
   stmt_by (Some kinds.If) = if_statement
   stmt_by (Some kinds.Case) = case_statement
   stmt_by (Some (kinds.Loop kind)) = loop_statement kind
+  stmt_by (Some kinds.Exit) = exit_statement levels
   stmt_by (Some (kinds.Assertion kind)) = assertion_statement kind levels
   stmt_by None = refuse
 
-  -- null statement | assignment | if statement | case statement | loop statement | assertion statement
+  -- null statement | assignment | if statement | case statement | loop statement | exit statement | assertion statement
   unfoldable pub stmt : Reader Stmt
   stmt = λ fs. stmt_by (next_stmt fs) fs
 

@@ -25,15 +25,18 @@ pub enum StmtKind {
     If,
     Case,
     Loop(SchemeKind),
+    Exit,
     /// In annotation text.
     Assertion(AssertionKind),
 }
 
-/// The schemes of loops, by their first word.
+/// The schemes of loops, by the first word of the loop.
 #[derive(Clone, Copy, Debug, PartialEq, Eq)]
 pub enum SchemeKind {
     While,
     For,
+    /// None: the first word is `loop`.
+    Endless,
 }
 
 // null_statement = "null" ";"
@@ -354,7 +357,7 @@ fn for_scheme(alloc: Global, cursor: &mut Cursor<'_>, levels: u32) -> Result<Sch
     Ok(Scheme::For(Boxed::new(alloc, count)?))
 }
 
-// scheme = while_scheme | for_scheme
+// scheme = [while_scheme | for_scheme]
 fn scheme(
     alloc: Global,
     cursor: &mut Cursor<'_>,
@@ -367,6 +370,7 @@ fn scheme(
     match kind {
         SchemeKind::While => while_scheme(alloc, cursor, levels),
         SchemeKind::For => for_scheme(alloc, cursor, levels),
+        SchemeKind::Endless => Ok(Scheme::Endless),
     }
 }
 
@@ -391,6 +395,37 @@ fn loop_statement(
     let last = cursor.expect_place(PROGRAM, Kind::Loop)?;
     cursor.expect(PROGRAM, Kind::Semicolon)?;
     Ok(Stmt::Loop(scheme, word, stmts, Closing { end, word: last }))
+}
+
+// when_part = "when" expression
+#[tactic(auto, unfolding(crate::specs::Statements::when_part))]
+fn when_part(alloc: Global, cursor: &mut Cursor<'_>, levels: u32) -> Result<Expr, Stop>
+    ensures { Reads (read.when_part levels cursor.old) result cursor.new }
+{
+    cursor.expect(PROGRAM, Kind::When)?;
+    expression(alloc, cursor, levels, PROGRAM)
+}
+
+// [when_part]
+#[tactic(auto, unfolding(crate::specs::Reading::if_seen))]
+fn optional_when(alloc: Global, cursor: &mut Cursor<'_>, levels: u32) -> Result<Option<Expr>, Stop>
+    ensures { Reads (reading.if_seen program k.When (read.when_part levels) cursor.old) result cursor.new }
+{
+    if cursor.sees(PROGRAM, Kind::When) {
+        return Ok(Some(when_part(alloc, cursor, levels)?));
+    }
+    Ok(None)
+}
+
+// exit_statement = "exit" [when_part] ";"
+#[tactic(auto, unfolding(crate::specs::Statements::exit_statement))]
+fn exit_statement(alloc: Global, cursor: &mut Cursor<'_>, levels: u32) -> Result<Stmt, Stop>
+    ensures { Reads (read.exit_statement levels cursor.old) result cursor.new }
+{
+    let place = cursor.expect_place(PROGRAM, Kind::Exit)?;
+    let condition = optional_when(alloc, cursor, levels)?;
+    cursor.expect(PROGRAM, Kind::Semicolon)?;
+    Ok(Stmt::Exit(place, condition))
 }
 
 /// The word of an annotation among statements.
@@ -440,11 +475,14 @@ fn next_stmt(cursor: &Cursor<'_>) -> Option<StmtKind>
         Some(Kind::Case) => Some(StmtKind::Case),
         Some(Kind::While) => Some(StmtKind::Loop(SchemeKind::While)),
         Some(Kind::For) => Some(StmtKind::Loop(SchemeKind::For)),
+        Some(Kind::Loop) => Some(StmtKind::Loop(SchemeKind::Endless)),
+        Some(Kind::Exit) => Some(StmtKind::Exit),
         _ => noted_stmt(cursor.peek(ANNOTATION)),
     }
 }
 
-// stmt = null_statement | assignment | if_statement | case_statement | loop_statement | assertion_statement
+// stmt = null_statement | assignment | if_statement | case_statement | loop_statement | exit_statement
+//     | assertion_statement
 #[cycle(stmts)]
 #[tactic(auto, unfolding(crate::specs::Statements::stmt))]
 fn stmt(alloc: Global, cursor: &mut Cursor<'_>, levels: u32) -> Result<Stmt, Stop>
@@ -456,6 +494,7 @@ fn stmt(alloc: Global, cursor: &mut Cursor<'_>, levels: u32) -> Result<Stmt, Sto
         Some(StmtKind::If) => if_statement(alloc, cursor, levels),
         Some(StmtKind::Case) => case_statement(alloc, cursor, levels),
         Some(StmtKind::Loop(kind)) => loop_statement(alloc, cursor, levels, kind),
+        Some(StmtKind::Exit) => exit_statement(alloc, cursor, levels),
         Some(StmtKind::Assertion(kind)) => assertion_statement(alloc, cursor, levels, kind),
         None => Err(cursor.expected()),
     }

@@ -239,13 +239,15 @@ pub record IsChoice (levels : ℕ) (choice : Choice) : Type 0 where
 abbrev pub IsAlternative : ℕ → (Stmt → Type 0) → Alternative-F Stmt Alternative Arm → Type 0
 IsAlternative levels Inner alternative = IfThere (OneOrMore (IsChoice (levels - 1))) alternative.choices × OneOrMore Inner alternative.body
 
--- "while" expression | "for" identifier "in" ["reverse"] name ["range" range] (Ada 95 RM 5.5)
+-- "while" expression | "for" identifier "in" ["reverse"] name ["range" range] | nothing (Ada 95 RM 5.5)
 abbrev pub IsScheme : ℕ → Scheme → Type 0
 IsScheme levels (scheme.While place condition) = IsExpr levels condition
 IsScheme levels (scheme.For c) = IfThere (IsRange levels) c.bounds
+IsScheme levels scheme.Endless = ⊤
 
 -- one level: "null" ";" (Ada 95 RM 5.1) | name ":=" expression ";" (5.2) | "if" arm {"elsif" arm} ["else" statements] "end" "if" ";" (5.3)
--- | "case" expression "is" alternative {alternative} "end" "case" ";" (5.4) | scheme "loop" statements "end" "loop" ";" (5.5) | ("assert" | "check") predicate ";" (Barnes)
+-- | "case" expression "is" alternative {alternative} "end" "case" ";" (5.4) | scheme "loop" statements "end" "loop" ";" (5.5) | "exit" ["when" expression] ";" (5.7)
+-- | ("assert" | "check") predicate ";" (Barnes)
 abbrev pub IsFormed : ℕ → (Stmt → Type 0) → Stmt-F Stmt Alternative Arm → Type 0
 IsFormed levels Inner (Stmt-F.Null place) = ⊤
 IsFormed levels Inner (Stmt-F.Assignment target value) = IsExpr levels value
@@ -254,6 +256,7 @@ IsFormed levels Inner (Stmt-F.Case place selector alternatives closing) =
     (0 < levels) × IsExpr (levels - 1) selector × OneOrMore (λ alternative. IsAlternative levels Inner (out-Alternative alternative)) alternatives
 IsFormed levels Inner (Stmt-F.Loop scheme word body closing) = (0 < levels) × IsScheme (levels - 1) scheme × OneOrMore Inner body
 IsFormed levels Inner (Stmt-F.Assertion kind place condition) = IsCondition levels condition
+IsFormed levels Inner (Stmt-F.Exit place condition) = IfThere (IsExpr levels) condition
 
 -- a statement one level below a place where so many levels are left
 abbrev pub Within : ℕ → Stmt → Type 0

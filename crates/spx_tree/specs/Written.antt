@@ -268,18 +268,24 @@ written_direction false = []
 abbrev pub written_count : Count → List Form
 written_count c = placed program k.For c.place ∷ named program c.name ∷ placed program k.In c.word ∷ (written_direction c.is_reverse ++ (written_name program c.type_name ++ optional written_constraint c.bounds))
 
--- "while" expression | count
+-- "while" expression | count | nothing
 abbrev pub written_scheme : Scheme → List Form
 written_scheme (scheme.While place condition) = placed program k.While place ∷ written_expr program condition
 written_scheme (scheme.For c) = written_count c
+written_scheme scheme.Endless = []
 
 -- the word of an annotation among statements
 abbrev pub assertion_word : AssertionKind → Kind
 assertion_word assertion.Assert = k.Assert
 assertion_word assertion.Check = k.Check
 
+-- "when" expression
+abbrev pub written_when : Expr → List Form
+written_when condition = bare program k.When ∷ written_expr program condition
+
 -- one level, whose parts are written: "null" ";" | name ":=" expression ";" | "if" arm {"elsif" arm} ["else" statements] "end" "if" ";"
 -- | "case" expression "is" alternative {alternative} "end" "case" ";" | scheme "loop" statements "end" "loop" ";" | ("assert" | "check") predicate ";", in annotation text
+-- | "exit" ["when" expression] ";"
 abbrev pub stmt_step : Stmt-F (List Form) (List Form) (Kind → List Form) → List Form
 stmt_step (Stmt-F.Null place) = placed program k.Null place ∷ bare program k.Semicolon ∷ []
 stmt_step (Stmt-F.Assignment target value) = written_name program target ++ bare program k.Assignment ∷ (written_expr program value ++ bare program k.Semicolon ∷ [])
@@ -289,6 +295,7 @@ stmt_step (Stmt-F.Case place selector alternatives closing) =
 stmt_step (Stmt-F.Loop scheme word body closing) =
     written_scheme scheme ++ placed program k.Loop word ∷ (joined body ++ placed program k.End closing.end ∷ placed program k.Loop closing.word ∷ bare program k.Semicolon ∷ [])
 stmt_step (Stmt-F.Assertion kind place condition) = written_at (assertion_word kind) place condition
+stmt_step (Stmt-F.Exit place condition) = placed program k.Exit place ∷ (optional written_when condition ++ bare program k.Semicolon ∷ [])
 
 -- statement
 abbrev pub written_stmt : Stmt → List Form

@@ -23,6 +23,8 @@ pub enum Stmt {
     Loop(Scheme, Place, Items<Stmt>, Closing),
     /// At the word `assert` or `check`, in annotation text: what must be true there (Barnes).
     Assertion(AssertionKind, Place, Expr),
+    /// At the word `exit`: the loop around it is left, where the condition is true if there is one (Ada 95 RM 5.7).
+    Exit(Place, Option<Expr>),
 }
 
 /// How often the statements of a loop run (Ada 95 RM 5.5).
@@ -32,6 +34,8 @@ pub enum Scheme {
     While(Place, Expr),
     /// Once for each value of a type, or of a range of it.
     For(Boxed<Count>),
+    /// With no scheme: again and again.
+    Endless,
 }
 
 /// The parameter of a loop, at the word `for`, and the values that it takes (Ada 95 RM 5.5):
@@ -121,6 +125,10 @@ impl Stmt {
             Stmt::Assertion(kind, place, condition) => {
                 Ok(Stmt::Assertion(*kind, *place, condition.copy(alloc)?))
             }
+            Stmt::Exit(place, None) => Ok(Stmt::Exit(*place, None)),
+            Stmt::Exit(place, Some(condition)) => {
+                Ok(Stmt::Exit(*place, Some(condition.copy(alloc)?)))
+            }
         }
     }
 }
@@ -132,7 +140,11 @@ impl Scheme {
     {
         match self {
             Scheme::While(place, condition) => Ok(Scheme::While(*place, condition.copy(alloc)?)),
-            Scheme::For(count) => { Ok(Scheme::For(Boxed::new(alloc, count.get().copy(alloc)?)?)) }
+            Scheme::For(count) => {
+                let count = count.get().copy(alloc)?;
+                Ok(Scheme::For(Boxed::new(alloc, count)?))
+            }
+            Scheme::Endless => Ok(Scheme::Endless),
         }
     }
 }

@@ -14,20 +14,20 @@ use Rattle.spx_tree.specs.declared.statement.Arm.{Arm, out-Arm}
 use Rattle.spx_tree.specs.declared.statement.AssertionKind.{AssertionKind}
 use Rattle.spx_tree.specs.declared.statement.AssertionKind.TheVariants as assertion
 use Rattle.spx_tree.specs.declared.statement.Scheme.{Scheme}
-use Rattle.spx_tree.specs.declared.statement.Scheme.TheVariants.{While, For}
+use Rattle.spx_tree.specs.declared.statement.Scheme.TheVariants.{While, For, Endless}
 use Rattle.spx_tree.specs.declared.statement.Stmt.{Stmt, Stmt-F, out-Stmt}
-use Rattle.spx_tree.specs.declared.statement.Stmt.TheVariants.{Null, Assignment, If, Case, Loop, Assertion, outs-Null, outs-Assignment, outs-If, outs-Case, outs-Loop, outs-Assertion}
+use Rattle.spx_tree.specs.declared.statement.Stmt.TheVariants.{Null, Assignment, If, Case, Loop, Assertion, Exit, outs-Null, outs-Assignment, outs-If, outs-Case, outs-Loop, outs-Assertion, outs-Exit}
 use Rattle.spx_tree.specs.Form.{Form, ItsPlace, bare, placed, keeps}
-use Rattle.spx_tree.specs.Written.{program, annotation, assertion_word, joined, optional, elsif_arms, all_arms, written_upper, written_choice, written_choices, written_constraint, written_direction, written_range, written_scheme, written_expr, written_stmt, written_arm, written_alternative, written_stmts, separated}
-use Rattle.spx_tree.specs.Grammar.{OneOrMore, IfThere, OfLayer, IsArm, IsChoice, IsAlternative, IsRange, IsScheme, IsFormed, Within, IsStmt}
+use Rattle.spx_tree.specs.Written.{program, annotation, assertion_word, joined, optional, elsif_arms, all_arms, written_upper, written_choice, written_choices, written_constraint, written_direction, written_range, written_scheme, written_when, written_expr, written_stmt, written_arm, written_alternative, written_stmts, separated}
+use Rattle.spx_tree.specs.Grammar.{OneOrMore, IfThere, OfLayer, IsExpr, IsArm, IsChoice, IsAlternative, IsRange, IsScheme, IsFormed, Within, IsStmt}
 use Rattle.spx_tree.proofs.WrittenLevels.{written_level, spelled_stmt, spelled_arm, spelled_alternative, elsif_joined}
-use Rattle.spx_parse_body.specs.Reading.{Reader, ◌>>=◌, ◌>>◌, pure, peek, sees, refuse, expect, item_step}
+use Rattle.spx_parse_body.specs.Reading.{Reader, ◌>>=◌, ◌>>◌, pure, peek, sees, refuse, expect, expect_place, item_step}
 use Rattle.spx_parse_body.specs.declared.statements.SchemeKind.{SchemeKind}
 use Rattle.spx_parse_body.specs.declared.statements.SchemeKind.TheVariants as schemes
 use Rattle.spx_parse_body.specs.declared.statements.StmtKind.{StmtKind}
 use Rattle.spx_parse_body.specs.declared.statements.StmtKind.TheVariants as kinds
 use Rattle.spx_parse_body.specs.Statements as read
-use Rattle.spx_parse_body.specs.Statements.{null_statement, assignment, upper, choice, more_choices, some_choices, choices_by, choices, arm, elsif_arm, if_statement, alternative, more_alternatives, alternatives, case_statement, range, constraint, constraint_below, while_scheme, direction, for_scheme, scheme, loop_statement, assertion_statement, noted_stmt, stmt_of, next_stmt, stmt_by, stmt, sees_stmt, more_stmts, some_stmts, stmts_below, stmts}
+use Rattle.spx_parse_body.specs.Statements.{null_statement, assignment, upper, choice, more_choices, some_choices, choices_by, choices, arm, elsif_arm, if_statement, alternative, more_alternatives, alternatives, case_statement, range, constraint, constraint_below, while_scheme, direction, for_scheme, scheme, loop_statement, when_part, exit_statement, assertion_statement, noted_stmt, stmt_of, next_stmt, stmt_by, stmt, sees_stmt, more_stmts, some_stmts, stmts_below, stmts}
 use Rattle.spx_parse_body.proofs.Callers.Loops.{Shrinks}
 use Rattle.spx_parse_body.proofs.Callers.Lawful.{Ends, Any, Sees, Always, just}
 use Rattle.spx_parse_body.proofs.Callers.Good.{Good, Starts, Opens, Adds, no_level, good_bind, good_then, good_as, good_before, good_given, good_more, good_pure, good_refuse, good_expect, good_expect_place, good_identifier, good_choose, list_shrinks, opens_bind, opens_place, starts_bind, starts_choose, starts_deeper, starts_expect, starts_open, starts_place}
@@ -94,12 +94,25 @@ assertion_starts kind levels here =
     starts_bind (predicate_after_starts (assertion_word kind) levels (word_keeps kind) here) (λ x.
     good_pure (Assertion kind x.place x.condition) (λ l w. sym (spelled_as (Assertion kind x.place x.condition) _ (outs-Assertion kind x.place x.condition))) (λ l w. fits_as levels (Assertion kind x.place x.condition) _ (outs-Assertion kind x.place x.condition) w.1))
 
+when_starts : {L P : Type 0} (levels : ℕ) → Starts L P written_when (IsExpr levels) [] (Sees (sees program k.When) true) (when_part levels) (when_part (suc levels))
+unfolding when_part
+when_starts levels = starts_bind (starts_expect program k.When (sees_kind program k.When) refl) (λ u. good_as (λ l w x f. (refl, f)) (expression_good program levels))
+
+exit_starts : {L P : Type 0} {on : List Form → Type 0} (levels : ℕ) → ((fs : List Form) → on fs → peek program fs ≡ Some k.Exit) → Starts L P written_stmt (IsStmt levels) [] on (exit_statement levels) (exit_statement (suc levels))
+unfolding exit_statement
+exit_starts levels here =
+    starts_bind (starts_place program k.Exit here refl) (λ place.
+    good_bind (good_if_seen written_when (IsExpr levels) program k.When (when_starts levels)) (λ condition.
+    good_bind (good_expect program k.Semicolon) (λ u.
+    good_pure (Exit place condition) (λ l w. sym (spelled_as (Exit place condition) _ (outs-Exit place condition))) (λ l w. fits_as levels (Exit place condition) _ (outs-Exit place condition) w.0.1))))
+
 -- ---- what statements start with
 
--- the word that a scheme starts with
-abbrev scheme_word : SchemeKind → Kind
-scheme_word schemes.While = k.While
-scheme_word schemes.For = k.For
+-- the word that a loop starts with
+abbrev loop_word : SchemeKind → Kind
+loop_word schemes.While = k.While
+loop_word schemes.For = k.For
+loop_word schemes.Endless = k.Loop
 
 -- the next form has the kind that a statement starts with, in program text or in annotation text
 abbrev StartsAs : Option Kind → Option Kind → StmtKind → Type 0
@@ -107,7 +120,8 @@ StartsAs kind noted kinds.Null = kind ≡ Some k.Null
 StartsAs kind noted kinds.Assignment = kind ≡ Some k.Identifier
 StartsAs kind noted kinds.If = kind ≡ Some k.If
 StartsAs kind noted kinds.Case = kind ≡ Some k.Case
-StartsAs kind noted (kinds.Loop scheme) = kind ≡ Some (scheme_word scheme)
+StartsAs kind noted (kinds.Loop scheme) = kind ≡ Some (loop_word scheme)
+StartsAs kind noted kinds.Exit = kind ≡ Some k.Exit
 StartsAs kind noted (kinds.Assertion asserted) = noted ≡ Some (assertion_word asserted)
 
 starts_as : (kind noted : Option Kind) (found x : StmtKind) → StartsAs kind noted found → Some found ≡ Some x → StartsAs kind noted x
@@ -128,6 +142,8 @@ stmt_is (Some k.If) noted x e = starts_as (Some k.If) noted kinds.If x refl e
 stmt_is (Some k.Case) noted x e = starts_as (Some k.Case) noted kinds.Case x refl e
 stmt_is (Some k.While) noted x e = starts_as (Some k.While) noted (kinds.Loop schemes.While) x refl e
 stmt_is (Some k.For) noted x e = starts_as (Some k.For) noted (kinds.Loop schemes.For) x refl e
+stmt_is (Some k.Loop) noted x e = starts_as (Some k.Loop) noted (kinds.Loop schemes.Endless) x refl e
+stmt_is (Some k.Exit) noted x e = starts_as (Some k.Exit) noted kinds.Exit x refl e
 stmt_is _ noted x e = noted_is _ noted x e
 
 -- what is seen where this statement comes next
@@ -238,10 +254,9 @@ for_opens levels here =
     good_bind (good_if_seen written_constraint (IsRange (levels - 1)) program k.Range (constraint_below_starts levels (sees_kind program k.Range))) (λ bounds.
     good_pure (For (record { place = place; name = subject; word = word; is_reverse = is_reverse; type_name = type_name; bounds = bounds })) (λ l w. simp append_assoc) (λ l w. w.1)))))))
 
-scheme_opens : {P : Type 0} {on : List Form → Type 0} (kind : SchemeKind) (levels : ℕ) → ((fs : List Form) → on fs → peek program fs ≡ Some (scheme_word kind))
-    → Opens (0 < levels) P written_scheme (IsScheme (levels - 1)) [] on (scheme kind levels) (scheme kind (suc levels))
-scheme_opens schemes.While levels here = while_opens levels here
-scheme_opens schemes.For levels here = for_opens levels here
+-- what reads a loop after its scheme and the word "loop"
+abbrev turns_of : Reader (List Stmt) → Scheme → Place → Reader Stmt
+turns_of reads scheme word = reads >>= λ body. expect_place program k.End >>= λ end. expect_place program k.Loop >>= λ last. expect program k.Semicolon >>= λ u. pure (Loop scheme word body (record { end = end; word = last }))
 
 -- ---- statements
 
@@ -347,18 +362,34 @@ module _ (inner inner' : Reader (List Stmt)) (levels : ℕ) (good : Good (0 < le
       → ((((written_scheme scheme ++ placed program k.Loop word ∷ []) ++ written_stmts body) ++ placed program k.End closing.end ∷ []) ++ placed program k.Loop closing.word ∷ []) ++ bare program k.Semicolon ∷ [] ≡ written_stmt (Loop scheme word body closing)
   loop_text scheme word body closing = let e = spelled_as (Loop scheme word body closing) _ (outs-Loop scheme word body closing) in simp (append_assoc, e)
 
-  loop_starts : {L P : Type 0} {on : List Form → Type 0} (kind : SchemeKind) → ((fs : List Form) → on fs → peek program fs ≡ Some (scheme_word kind))
-      → Starts L P written_stmt (IsStmt levels) [] on (loop_statement inner levels kind) (loop_statement inner' (suc levels) kind)
-  unfolding loop_statement
-  loop_starts kind here =
-      starts_deeper levels 0 (λ w. omega arith) (λ w. stmt_ends levels) (opens_bind (scheme_opens kind levels here) (λ scheme.
-      good_bind (good_expect_place program k.Loop) (λ word.
+  turns_good : {P : Type 0} (scheme : Scheme) (word : Place) → (P → IsScheme (levels - 1) scheme) → Good (0 < levels) P written_stmt (IsStmt levels) (written_scheme scheme ++ placed program k.Loop word ∷ []) Any (turns_of inner scheme word) (turns_of inner' scheme word)
+  turns_good scheme word fits =
       good_bind (good_given (λ l. l) (λ l w. tt) good) (λ body.
       good_bind (good_expect_place program k.End) (λ end.
       good_bind (good_expect_place program k.Loop) (λ last.
       good_bind (good_expect program k.Semicolon) (λ u.
       good_pure (Loop scheme word body (record { end = end; word = last })) (λ l w. loop_text scheme word body (record { end = end; word = last }))
-      (λ l w. fits_as levels (Loop scheme word body (record { end = end; word = last })) _ (outs-Loop scheme word body (record { end = end; word = last })) (l, w.0.0.0.0.0.1, w.0.0.0.1)))))))))
+      (λ l w. fits_as levels (Loop scheme word body (record { end = end; word = last })) _ (outs-Loop scheme word body (record { end = end; word = last })) (l, fits w.0.0.0.0, w.0.0.0.1))))))
+
+  -- after a scheme
+  after_scheme : {P : Type 0} (scheme : Scheme) → Good (0 < levels) (P × IsScheme (levels - 1) scheme) written_stmt (IsStmt levels) (written_scheme scheme) Any (expect_place program k.Loop >>= turns_of inner scheme) (expect_place program k.Loop >>= turns_of inner' scheme)
+  after_scheme scheme = good_bind (good_expect_place program k.Loop) (λ word. turns_good scheme word (λ w. w.0.1))
+
+  -- a plain loop
+  plain_opens : {P : Type 0} {on : List Form → Type 0} → ((fs : List Form) → on fs → peek program fs ≡ Some k.Loop)
+      → Opens (0 < levels) P written_stmt (IsStmt levels) [] on (expect_place program k.Loop >>= turns_of inner Endless) (expect_place program k.Loop >>= turns_of inner' Endless)
+  plain_opens here = opens_bind (opens_place program k.Loop here refl) (λ word. turns_good Endless word (λ w. tt))
+
+  loop_opens : {P : Type 0} {on : List Form → Type 0} (kind : SchemeKind) → ((fs : List Form) → on fs → peek program fs ≡ Some (loop_word kind))
+      → Opens (0 < levels) P written_stmt (IsStmt levels) [] on (scheme kind levels >>= λ x. expect_place program k.Loop >>= turns_of inner x) (scheme kind (suc levels) >>= λ x. expect_place program k.Loop >>= turns_of inner' x)
+  loop_opens schemes.While here = opens_bind (while_opens levels here) (λ x. after_scheme x)
+  loop_opens schemes.For here = opens_bind (for_opens levels here) (λ x. after_scheme x)
+  loop_opens schemes.Endless here = plain_opens here
+
+  loop_starts : {L P : Type 0} {on : List Form → Type 0} (kind : SchemeKind) → ((fs : List Form) → on fs → peek program fs ≡ Some (loop_word kind))
+      → Starts L P written_stmt (IsStmt levels) [] on (loop_statement inner levels kind) (loop_statement inner' (suc levels) kind)
+  unfolding loop_statement
+  loop_starts kind here = starts_deeper levels 0 (λ w. omega arith) (λ w. stmt_ends levels) (loop_opens kind here)
 
   begun_case : {L P : Type 0} (x : StmtKind) → Starts L P written_stmt (IsStmt levels) [] (Sees next_stmt (Some x)) (stmt_by inner levels (Some x)) (stmt_by inner' (suc levels) (Some x))
   begun_case kinds.Null = null_starts levels (next_is kinds.Null)
@@ -366,6 +397,7 @@ module _ (inner inner' : Reader (List Stmt)) (levels : ℕ) (good : Good (0 < le
   begun_case kinds.If = if_starts (next_is kinds.If)
   begun_case kinds.Case = case_starts (next_is kinds.Case)
   begun_case (kinds.Loop kind) = loop_starts kind (next_is (kinds.Loop kind))
+  begun_case kinds.Exit = exit_starts levels (next_is kinds.Exit)
   begun_case (kinds.Assertion kind) = assertion_starts kind levels (next_is (kinds.Assertion kind))
 
   stmt_case : {L P : Type 0} (x : Option StmtKind) → Good L P written_stmt (IsStmt levels) [] (Sees next_stmt x) (stmt_by inner levels x) (stmt_by inner' (suc levels) x)

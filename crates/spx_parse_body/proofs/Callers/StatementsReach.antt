@@ -16,11 +16,11 @@ use Rattle.spx_tree.specs.declared.statement.AssertionKind.TheVariants as assert
 use Rattle.spx_tree.specs.declared.declaration.Range.{Range}
 use Rattle.spx_tree.specs.declared.statement.Count.{Count}
 use Rattle.spx_tree.specs.declared.statement.Scheme.{Scheme}
-use Rattle.spx_tree.specs.declared.statement.Scheme.TheVariants.{While, For}
+use Rattle.spx_tree.specs.declared.statement.Scheme.TheVariants.{While, For, Endless}
 use Rattle.spx_tree.specs.declared.statement.Stmt.{Stmt, Stmt-F, out-Stmt, roll-Stmt, roll-out-Stmt}
-use Rattle.spx_tree.specs.declared.statement.Stmt.TheVariants.{Null, Assignment, If, Case, Loop, Assertion, outs-Null, outs-Assignment, outs-If, outs-Case, outs-Loop, outs-Assertion}
+use Rattle.spx_tree.specs.declared.statement.Stmt.TheVariants.{Null, Assignment, If, Case, Loop, Assertion, Exit, outs-Null, outs-Assignment, outs-If, outs-Case, outs-Loop, outs-Assertion, outs-Exit}
 use Rattle.spx_tree.specs.Form.{Form, bare, placed, named}
-use Rattle.spx_tree.specs.Written.{program, assertion_word, optional, separated, following, written_name, written_expr, written_upper, written_choice, written_choices, written_range, written_constraint, written_direction, written_scheme, elsif_arms, written_stmt, written_arm, written_alternative, written_stmts}
+use Rattle.spx_tree.specs.Written.{program, assertion_word, optional, separated, following, written_name, written_expr, written_upper, written_choice, written_choices, written_range, written_constraint, written_direction, written_scheme, written_when, elsif_arms, written_stmt, written_arm, written_alternative, written_stmts}
 use Rattle.spx_tree.specs.Grammar.{Each, OneOrMore, IfThere, OfLayer, IsExpr, IsRange, IsScheme, IsFormed, Within, IsStmt}
 use Rattle.spx_tree.proofs.WrittenLevels.{written_level, spelled_stmt, spelled_arm, spelled_alternative, elsif_joined}
 use Rattle.spx_parse_body.specs.Reading.{Reader, ◌>>◌, peek, sees, expect, optional_by, if_seen, item_step}
@@ -29,7 +29,7 @@ use Rattle.spx_parse_body.specs.declared.statements.SchemeKind.{SchemeKind}
 use Rattle.spx_parse_body.specs.declared.statements.SchemeKind.TheVariants as schemes
 use Rattle.spx_parse_body.specs.declared.statements.StmtKind.TheVariants as kinds
 use Rattle.spx_parse_body.specs.Statements as read
-use Rattle.spx_parse_body.specs.Statements.{assignment, upper, choice, more_choices, some_choices, choices, arm, elsif_arm, if_statement, alternative, more_alternatives, alternatives, case_statement, range, constraint, constraint_below, while_scheme, direction, for_scheme, scheme, loop_statement, null_statement, assertion_statement, next_stmt, stmt_by, stmt, sees_stmt, more_stmts, some_stmts, stmts_below, stmts}
+use Rattle.spx_parse_body.specs.Statements.{assignment, upper, choice, more_choices, some_choices, choices, arm, elsif_arm, if_statement, alternative, more_alternatives, alternatives, case_statement, range, constraint, constraint_below, while_scheme, direction, for_scheme, scheme, loop_statement, when_part, exit_statement, null_statement, assertion_statement, next_stmt, stmt_by, stmt, sees_stmt, more_stmts, some_stmts, stmts_below, stmts}
 use Rattle.spx_parse_body.proofs.Callers.Loops.{Shrinks}
 use Rattle.spx_parse_body.proofs.Callers.Separated.{Lacks, not_seen, sees_front, reaches_separated, reaches_some_items}
 use Rattle.spx_parse_body.proofs.Callers.Reaches.{Reaches, reaches_bind, reaches_pure, reaches_choose, reaches_deeper, reaches_expect, reaches_expect_place, reaches_identifier, reaches_is, reaches_items_before, peek_front}
@@ -52,10 +52,12 @@ asserted_first assertion.Check place condition ws = refl
 abbrev kind_of : Scheme → SchemeKind
 kind_of (While place condition) = schemes.While
 kind_of (For c) = schemes.For
+kind_of Endless = schemes.Endless
 
-scheme_first : (x : Scheme) (fs ws : List Form) → next_stmt ((written_scheme x ++ fs) ++ ws) ≡ Some (kinds.Loop (kind_of x))
-scheme_first (While place condition) fs ws = refl
-scheme_first (For c) fs ws = refl
+loop_first : (x : Scheme) (word : Place) (fs ws : List Form) → next_stmt ((written_scheme x ++ placed program k.Loop word ∷ fs) ++ ws) ≡ Some (kinds.Loop (kind_of x))
+loop_first (While place condition) word fs ws = refl
+loop_first (For c) word fs ws = refl
+loop_first Endless word fs ws = refl
 
 arms_first : (levels : ℕ) (xs : List Arm) (ws : List Form) → OneOrMore (FitsArm levels) xs → next_stmt (written_arms xs ++ ws) ≡ Some kinds.If
 arms_first levels [] ws f = absurd f
@@ -66,7 +68,8 @@ level_seen : (levels : ℕ) (y : Stmt-F Stmt Alternative Arm) (ws : List Form) �
 level_seen levels (Stmt-F.Null place) ws f = refl
 level_seen levels (Stmt-F.Assignment target value) ws f = ap is_some (target_first target _ ws)
 level_seen levels (Stmt-F.Case place selector xs closing) ws f = refl
-level_seen levels (Stmt-F.Loop scheme word body closing) ws f = ap is_some (scheme_first scheme _ ws)
+level_seen levels (Stmt-F.Loop scheme word body closing) ws f = ap is_some (loop_first scheme word _ ws)
+level_seen levels (Stmt-F.Exit place condition) ws f = refl
 level_seen levels (Stmt-F.Assertion kind place condition) ws f = ap is_some (asserted_first kind place condition ws)
 level_seen levels (Stmt-F.If arms otherwise closing) ws f = ap sees_stmt (append_assoc (written_arms arms) _ ws) ∙ ap is_some (arms_first levels arms _ f.1)
 
@@ -249,6 +252,28 @@ for_again levels some c fs zs f free over h =
 scheme_again : (levels : ℕ) → 0 < levels → (x : Scheme) (fs zs : List Form) → IsScheme (levels - 1) x → Free layer.Expression (peek program zs) → Lacks program k.Range zs → fs ≡ written_scheme x ++ zs → Reaches (scheme (kind_of x) levels) fs x zs
 scheme_again levels some (While place condition) fs zs f free over h = while_again levels some place condition fs zs f free h
 scheme_again levels some (For c) fs zs f free over h = for_again levels some c fs zs f (sum_free (peek program zs) free) over h
+scheme_again levels some Endless fs zs f free over h = reaches_pure h
+
+-- the end of an exit
+abbrev from_semicolon : List Form → List Form
+from_semicolon zs = bare program k.Semicolon ∷ zs
+
+when_again : (levels : ℕ) (x : Option Expr) (fs zs : List Form) → IfThere (IsExpr levels) x → fs ≡ optional written_when x ++ from_semicolon zs → Reaches (if_seen program k.When (when_part levels)) fs x (from_semicolon zs)
+unfolding if_seen when_part
+when_again levels None fs zs f h = reaches_choose (sees program k.When) (optional_by (when_part levels)) false (ap (sees program k.When) h ∙ not_seen program k.When (from_semicolon zs) (λ e. cc)) (reaches_pure h)
+when_again levels (Some x) fs zs f h =
+    reaches_choose (sees program k.When) (optional_by (when_part levels)) true (ap (sees program k.When) h ∙ kind_self k.When)
+    (reaches_bind _ (reaches_bind _ (reaches_expect program k.When h) (λ us a. expression_again program levels x us (from_semicolon zs) f (semicolon_free program zs) a)) (λ us a. reaches_pure a))
+
+exit_flat : (place : Place) (condition : Option Expr) (zs : List Form) → written_level (Stmt-F.Exit place condition) ++ zs ≡ placed program k.Exit place ∷ (optional written_when condition ++ from_semicolon zs)
+exit_flat place condition zs = simp append_assoc
+
+exit_again : (levels : ℕ) (place : Place) (condition : Option Expr) (fs zs : List Form) → IfThere (IsExpr levels) condition → fs ≡ written_level (Stmt-F.Exit place condition) ++ zs → Reaches (exit_statement levels) fs (Exit place condition) zs
+unfolding exit_statement
+exit_again levels place condition fs zs f h =
+    reaches_bind _ (reaches_expect_place program k.Exit (h ∙ exit_flat place condition zs)) (λ us a.
+    reaches_bind _ (when_again levels condition us zs f a) (λ vs b.
+    reaches_bind _ (reaches_expect program k.Semicolon b) (λ ws d. reaches_pure d)))
 
 -- What reads statements one level down reads them before what begins none.
 module _ (inner : Reader (List Stmt)) (levels : ℕ) (stmt_shrinks : Shrinks sees_stmt (item_step (stmt inner levels))) (arm_shrinks : 0 < levels → Shrinks (sees program k.Elsif) (item_step (elsif_arm inner levels)))
@@ -399,7 +424,10 @@ module _ (inner : Reader (List Stmt)) (levels : ℕ) (stmt_shrinks : Shrinks see
       (reaches_choose next_stmt (stmt_by inner levels) (Some kinds.Case) (ap next_stmt h) (case_again f.0 place selector xs closing fs zs f.1 f.2 h))
   level_again x (Stmt-F.Loop scheme word body closing) fs zs out f h =
       reaches_is (same_out x (Loop scheme word body closing) _ out (outs-Loop scheme word body closing))
-      (reaches_choose next_stmt (stmt_by inner levels) (Some (kinds.Loop (kind_of scheme))) (ap next_stmt h ∙ scheme_first scheme _ zs) (loop_again f.0 scheme word body closing fs zs f.1 f.2 h))
+      (reaches_choose next_stmt (stmt_by inner levels) (Some (kinds.Loop (kind_of scheme))) (ap next_stmt h ∙ loop_first scheme word _ zs) (loop_again f.0 scheme word body closing fs zs f.1 f.2 h))
+  level_again x (Stmt-F.Exit place condition) fs zs out f h =
+      reaches_is (same_out x (Exit place condition) _ out (outs-Exit place condition))
+      (reaches_choose next_stmt (stmt_by inner levels) (Some kinds.Exit) (ap next_stmt h) (exit_again levels place condition fs zs f h))
   level_again x (Stmt-F.Assertion kind place condition) fs zs out f h =
       reaches_is (same_out x (Assertion kind place condition) _ out (outs-Assertion kind place condition))
       (reaches_choose next_stmt (stmt_by inner levels) (Some (kinds.Assertion kind)) (ap next_stmt h ∙ asserted_first kind place condition zs)
