@@ -46,7 +46,7 @@ use Rattle.spx_core.specs.Scopes.{object_declared, object_in}
 use Rattle.spx_core.proofs.RegionLaws.{AllHold, HasRow, Holds, HoldsIn, row_at, declaring_all_holds, hidden_holds, root_holds, predefined_have_rows, standard_holds, subtype_holds}
 use Rattle.spx_core.proofs.Callers.ListTests.{each_append, each_split}
 use Rattle.spx_core.proofs.Callers.Variables.{same_var}
-use Rattle.spx_core.proofs.ResolvedParts.{IsStmt, null, assignment, if_then, if_else, case_of, loop, assertion, IsArm, arm, IsAlternative, alternative, AreStmts, no_stmts, more_stmts, AreArms, no_arms, more_arms, AreAlternatives, no_alternatives, more_alternatives}
+use Rattle.spx_core.proofs.ResolvedParts.{IsStmt, null, assignment, if_then, if_else, case_of, loop, assertion, exit, IsArm, arm, IsAlternative, alternative, AreStmts, no_stmts, more_stmts, AreArms, no_arms, more_arms, AreAlternatives, no_alternatives, more_alternatives}
 
 -- these declare variables of such a kind, at this position and the next ones
 abbrev pub Consecutive : (Object → Type 0) → ℕ → List Defining → Type 0
@@ -221,6 +221,7 @@ module _ (more : List TypeRow) where
 
     scheme_consecutive : (region : Region) (position : ℕ) (x : Scheme) → HoldsIn (HasRow more) Any region → Consecutive (IsLoopParameter more) position (declared_by_scheme (resolved_scheme outer region position x))
     scheme_consecutive region position (scheme.While place condition) own = tt
+    scheme_consecutive region position scheme.Endless own = tt
     scheme_consecutive region position (scheme.For c) own =
         ((object_of LoopParameter (resolved_reference (around_names outer region (c.name ∷ [])) c.type_name), (refl, type_has_row region (c.name ∷ []) c.type_name own), refl), tt)
 
@@ -238,6 +239,7 @@ module _ (more : List TypeRow) where
             let along = declaring_all_holds (HasRow more) Any region declared own (consecutive_known (HasRow more) (IsLoopParameter more) position declared first) in
             consecutive_append (IsLoopParameter more) position declared ds first (stmts_consecutive are along)
         stmt_consecutive (assertion region position kind place condition) own = tt
+        stmt_consecutive (exit region position place condition) own = tt
 
         arm_consecutive : {region : Region} {position : ℕ} {a : Arm} {c : CoreArm} {ds : List Defining} → IsArm items outer region position a c ds → HoldsIn (HasRow more) Any region → Consecutive (IsLoopParameter more) position ds
         arm_consecutive (arm region position place condition stmts body ds are) own = stmts_consecutive are own

@@ -43,7 +43,7 @@ use Rattle.spx_core.specs.Judged.{breach_in}
 use Rattle.spx_core.specs.Statements.{Typed, first_name_breach, judged_program}
 use Rattle.spx_core.proofs.Callers.Bodies.{all_are_units}
 use Rattle.spx_core.proofs.Judgements.{unbroken}
-use Rattle.spx_core.proofs.ResolvedParts.{IsStmt, null, assignment, if_then, if_else, case_of, loop, assertion, IsArm, arm, IsAlternative, alternative, AreStmts, no_stmts, more_stmts, AreArms, no_arms, more_arms, AreAlternatives, no_alternatives, more_alternatives, stmts_are}
+use Rattle.spx_core.proofs.ResolvedParts.{IsStmt, null, assignment, if_then, if_else, case_of, loop, assertion, exit, IsArm, arm, IsAlternative, alternative, AreStmts, no_stmts, more_stmts, AreArms, no_arms, more_arms, AreAlternatives, no_alternatives, more_alternatives, stmts_are}
 use Rattle.spx_core.specs.Resolved as resolved
 use Rattle.spx_core.specs.Resolved.{after_formals, around_body, around_formals, around_names, at_start, counted, counted_sub, Counts, declared_by, declaring, declaring_all, defining, defining_all, exported_names, formal_names, is_changed_by, items_for, meant_at, place_of_null, resolved_choice, resolved_decl, resolved_decls, resolved_derives, resolved_expr, resolved_formal_part, resolved_function, resolved_in, resolved_item, resolved_name, resolved_param, resolved_params, resolved_predicate, resolved_range, resolved_reference, resolved_scheme, resolved_sub, resolved_subs, resolved_type, unit_name, own_region, declared_before, resolved_count}
 
@@ -150,6 +150,7 @@ module _ (outer : Regions) where
   kept_scheme : (region : Region) (position : ℕ) (written : Scheme) → erased_scheme (resolved_scheme outer region position written) ≡ written
   kept_scheme region position (scheme.While place condition) = ap (scheme.While place) (kept_expr (region ∷ outer) condition)
   kept_scheme region position (scheme.For c) = ap scheme.For (kept_count region position c)
+  kept_scheme region position scheme.Endless = refl
 
 module _ (items : List CoreDerivesItem) (outer : Regions) where
   mutual
@@ -168,6 +169,8 @@ module _ (items : List CoreDerivesItem) (outer : Regions) where
         erased_stmt_at (CoreStmt-F.Loop (resolved_scheme outer region position scheme) word body closing) ∙ ap₂ (λ (x : Scheme) (b : List Stmt). stmt.Loop x word b closing) (kept_scheme outer region position scheme) (kept_stmts are)
     kept_stmt (assertion region position kind place condition) =
         erased_stmt_at (CoreStmt-F.Assertion kind place (resolved_in items (region ∷ outer) condition)) ∙ ap (stmt.Assertion kind place) (kept_in items (region ∷ outer) condition)
+    kept_stmt (exit region position place condition) =
+        erased_stmt_at (CoreStmt-F.Exit place (option_map (resolved_expr (region ∷ outer)) condition)) ∙ ap (stmt.Exit place) (kept_if_there erased_expr (resolved_expr (region ∷ outer)) (kept_expr (region ∷ outer)) condition)
 
     kept_arm : {region : Region} {position : ℕ} {a : Arm} {c : CoreArm} {ds : List Defining} → IsArm items outer region position a c ds → erased_arm c ≡ a
     kept_arm (arm region position place condition stmts body ds are) =

@@ -22,7 +22,7 @@ use Rattle.spx_core.specs.declared.statement.CoreAlternative.{CoreAlternative}
 use Rattle.spx_core.specs.Regions.{Region, Regions}
 use Rattle.spx_core.specs.Resolved as resolved
 use Rattle.spx_core.specs.Resolved.{Part, declared_by_scheme, declaring_all, in_order, parameters_by, parameters_by_alternative, parameters_by_arm, parameters_by_stmts, resolved_alternative, resolved_arm, resolved_choice, resolved_expr, resolved_in, resolved_reference, resolved_scheme, resolved_stmt, resolved_stmts}
-use Rattle.spx_core.proofs.Callers.LoopParameters.{parameters-Null, parameters-Assignment, parameters-If, parameters-If-else, parameters-Case, parameters-Loop, parameters-Assertion, parameters-arm, parameters-alternative}
+use Rattle.spx_core.proofs.Callers.LoopParameters.{parameters-Null, parameters-Assignment, parameters-If, parameters-If-else, parameters-Case, parameters-Loop, parameters-Assertion, parameters-Exit, parameters-arm, parameters-alternative}
 
 -- In this innermost region and from this position on, the written part is resolved to the other, and its loops have these parameters.
 mutual
@@ -41,6 +41,8 @@ mutual
         → IsStmt items outer region position (written.Loop scheme word stmts closing) (stmt.Loop (resolved_scheme outer region position scheme) word body closing) (declared_by_scheme (resolved_scheme outer region position scheme) ++ ds)
     assertion : (region : Region) (position : ℕ) (kind : AssertionKind) (place : Place) (condition : Expr)
         → IsStmt items outer region position (written.Assertion kind place condition) (stmt.Assertion kind place (resolved_in items (region ∷ outer) condition)) []
+    exit : (region : Region) (position : ℕ) (place : Place) (condition : Option Expr)
+        → IsStmt items outer region position (written.Exit place condition) (stmt.Exit place (option_map (resolved_expr (region ∷ outer)) condition)) []
 
   pub data IsArm (items : List CoreDerivesItem) (outer : Regions) : Region → ℕ → Arm → CoreArm → List Defining → Type 0 where
     arm : (region : Region) (position : ℕ) (place : Place) (condition : Expr) (stmts : List Stmt) (body : List CoreStmt) (ds : List Defining) → AreStmts items outer region position stmts body ds
@@ -193,6 +195,8 @@ module _ (items : List CoreDerivesItem) (outer : Regions) where
       (after_both position (position + length (declared_by_scheme x)) _ (declared_by_scheme x) _ refl inside.1)
   stmt_at_layer (Stmt-F.Assertion kind place condition) region position =
       settled (λ n c ds. IsStmt items outer region n (written.Assertion kind place condition) c ds) parameters_by position _ _ [] (assertion region position kind place condition) (parameters-Assertion kind place _) (omega arith)
+  stmt_at_layer (Stmt-F.Exit place condition) region position =
+      settled (λ n c ds. IsStmt items outer region n (written.Exit place condition) c ds) parameters_by position _ _ [] (exit region position place condition) (parameters-Exit place _) (omega arith)
 
   stmt_layer : (y : Stmt-F StmtShown AlternativeShown ArmShown) → StmtIs (roll-Stmt (bare_stmt y))
   stmt_layer y region position =

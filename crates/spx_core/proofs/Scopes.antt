@@ -44,14 +44,14 @@ use Rattle.spx_core.specs.declared.program.Var.{Var}
 use Rattle.spx_core.specs.declared.program.Program.{Program}
 use Rattle.spx_core.specs.declared.subprogram.CorePredicate.{CorePredicate}
 use Rattle.spx_core.specs.declared.subprogram.Sub.{Sub}
-use Rattle.spx_core.specs.Commands.{Command, Skip, Set, Then, Choose, Select, Assertion, Repeat, Tested, Counted, Alternatives, Last, When, alternatives_of, arm_before, arms_before, command, commands, select}
+use Rattle.spx_core.specs.Commands.{Command, Skip, Set, Then, Choose, Select, Assertion, Repeat, Leave, Tested, Counted, Endless, Alternatives, Last, When, alternatives_of, arm_before, arms_before, command, commands, leaves, select}
 use Rattle.spx_core.specs.Commands as commands_of
 use Rattle.spx_core.specs.Reads.{names_read}
 use Rattle.spx_core.specs.Uses.{denotes, mentions, uses, is_same}
 use Rattle.spx_core.specs.Dependency.{items_of}
 use Rattle.spx_core.specs.Mirror.DerivesItems.{has_export, has_import}
 use Rattle.spx_core.specs.Formals.{is_formal, is_local, mode_in, mode_of, stands_in, inner, is_inner, is_loop_parameter}
-use Rattle.spx_core.specs.Effects.{Read, counts, effect, effect_among, is_read, reads, reads_of, sets, assigns, reads_in, reads_of_range}
+use Rattle.spx_core.specs.Effects.{Effect, Read, chosen, counts, effect, effect_among, is_read, reads, reads_of, sets, assigns, reads_in, reads_of_range}
 use Rattle.spx_core.specs.Obeyed.{mode_denoted}
 use Rattle.spx_core.specs.Regions.{Region, Regions}
 use Rattle.spx_core.specs.Resolved.{after_formals, around_body, at_start, counted_sub, Counts, declaring, declaring_all, exported_names, formal_names, items_for, local_names, local_variables, own_types, own_vars, resolved_derives, resolved_expr, resolved_in, resolved_item, resolved_predicate, resolved_reference, resolved_sub, resolved_subs, standard_types, unit_name, var_of, around_names, declared_by_count, loop_names, object_of, positions, resolved_choice, resolved_count, resolved_range}
@@ -60,11 +60,11 @@ use Rattle.spx_core.specs.Erased.{Visible, erased}
 use Rattle.spx_core.specs.Scopes.{AllAreAsDeclared, AllHaveTheirModes, AreAsDeclared, HasItsMode, HaveTheirModes, IsAsDeclared, Scoped, TargetsHaveTheirModes, kind_of, object_declared, object_in, IsInnerKind, LoopsDiffer, names_in_bounds}
 use Rattle.spx_core.proofs.Callers.Pairs.{exports_are, imports_are}
 use Rattle.spx_core.proofs.Callers.ListTests.{each_append, some_mapped, each_split}
-use Rattle.spx_core.proofs.Callers.FlowLaws.{reads_uses, sets_by}
+use Rattle.spx_core.proofs.Callers.FlowLaws.{assigns_chosen, counts_chosen, reads_chosen, reads_uses, sets_by}
 use Rattle.spx_core.proofs.Callers.Variables.{same_var}
-use Rattle.spx_core.proofs.Callers.CommandForms.{command-Null, command-Assignment, command-If, command-If-else, command-Case, command-While, command-For, command-Assertion, command_arm, command_alternative}
+use Rattle.spx_core.proofs.Callers.CommandForms.{command-Null, command-Assignment, command-If, command-If-else, command-Case, command-While, command-For, command-Endless, command-Assertion, command-Exit, command_arm, command_alternative}
 use Rattle.spx_core.proofs.RegionLaws.{AllHold, HasRow, Holds, HoldsIn, around_holds, inside_holds, mentioned_variable, predefined_have_rows, read_known, reference_variable, root_holds, used_variable, declaring_all_holds, hidden_holds}
-use Rattle.spx_core.proofs.ResolvedParts.{IsStmt, null, assignment, if_then, if_else, case_of, loop, assertion, IsArm, arm, IsAlternative, alternative, AreStmts, no_stmts, more_stmts, AreArms, no_arms, more_arms, AreAlternatives, no_alternatives, more_alternatives, stmts_are}
+use Rattle.spx_core.proofs.ResolvedParts.{IsStmt, null, assignment, if_then, if_else, case_of, loop, assertion, exit, IsArm, arm, IsAlternative, alternative, AreStmts, no_stmts, more_stmts, AreArms, no_arms, more_arms, AreAlternatives, no_alternatives, more_alternatives, stmts_are}
 use Rattle.spx_core.proofs.Consecutive.{Any, Consecutive, Known, positions_differ, IsFormal, IsLocal, at_position, decls_known, first_positions, formals_consecutive, formals_known, is_at, last_positions, rows, IsLocalKind, IsLoopParameter, consecutive_known, stmts_consecutive}
 
 mode_in_row : (kind : VarKind) (row : Option Var) → option_map (λ (var : Var). var.kind) row ≡ Some kind → option_and_then (λ (var : Var). mode_in var.kind) row ≡ mode_in kind
@@ -115,6 +115,8 @@ module _ (T : Subtype → Type 0) (P : VarId → Object → Type 0) where
     Resolves low (Assertion kind place condition) = IsValue condition
     Resolves low (Repeat (Tested place condition) body) = IsValue condition × Resolves low body
     Resolves low (Repeat (Counted c) body) = (low ≤ c.parameter.0) × P c.parameter (object_of LoopParameter c.type_name) × AreValues c.bounds × Resolves (c.parameter.0 + 1) body
+    Resolves low (Repeat Endless body) = Resolves low body
+    Resolves low (Leave place) = ⊤
 
     AllResolve : ℕ → Alternatives → Type 0
     AllResolve low (Last choices a) = Resolves low a
@@ -156,6 +158,11 @@ module _ (T : Subtype → Type 0) (P : VarId → Object → Type 0) where
           let inside = declaring_all_holds T P region (d ∷ []) own (all.0, tt) in
           let bounds = bounds_are_values around (hidden_holds T P (written.name ∷ []), (own, known)) written.bounds in
           subst (Resolves low) (sym (command-For (stmt.Loop x word body closing) x word body closing c refl refl)) (at, all.0, bounds, stmts_resolve (position + 1) are (omega arith) inside all.1)
+      stmt_resolves low (loop region position scheme.Endless word stmts closing body ds are) at own all =
+          subst (Resolves low) (sym (command-Endless (stmt.Loop core_scheme.Endless word body closing) core_scheme.Endless word body closing refl refl)) (stmts_resolve low are (omega (arith, at)) own all)
+      stmt_resolves low (exit region position place None) at own all = subst (Resolves low) (sym (command-Exit place None)) tt
+      stmt_resolves low (exit region position place (Some condition)) at own all =
+          subst (Resolves low) (sym (command-Exit place (Some (resolved_expr (region ∷ outer) condition)))) (value_in region own condition, tt, tt)
       stmt_resolves low (assertion region position kind place condition) at own all =
           subst (Resolves low) (sym (command-Assertion kind place (resolved_in items (region ∷ outer) condition))) (region ∷ outer, items, condition, (own, known), refl)
 
@@ -229,9 +236,12 @@ module _ (T : Subtype → Type 0) (P : VarId → Object → Type 0) where
       counted_variable low Skip written h = absurd cc
       counted_variable low (Set target value) written h = absurd cc
       counted_variable low (Then a b) written h = ⊎_elim (counted_variable low a written.0) (counted_variable low b written.1) (or_cases (counts v (effect a)) (counts v (effect b)) h)
-      counted_variable low (Choose place condition a b) written h = ⊎_elim (counted_variable low a written.1) (counted_variable low b written.2) (or_cases (counts v (effect a)) (counts v (effect b)) h)
+      counted_variable low (Choose place condition a b) written h =
+          ⊎_elim (counted_variable low a written.1) (counted_variable low b written.2) (or_cases (counts v (effect a)) (counts v (effect b)) (sym (counts_chosen v (leaves a) (reads_of condition) (effect a) (effect b) place) ∙ h))
       counted_variable low (Select place selector alternatives) written h = counted_among low (reads_of selector) place alternatives written.1 h
       counted_variable low (Assertion kind place condition) written h = absurd cc
+      counted_variable low (Repeat Endless body) written h = counted_variable low body written h
+      counted_variable low (Leave place) written h = absurd cc
       counted_variable low (Repeat (Tested place condition) body) written h = counted_variable low body written.1 h
       counted_variable low (Repeat (Counted c) body) written h =
           elim (or_cases (is_same v (Some c.parameter)) (counts v (effect body)) h) [
@@ -245,7 +255,8 @@ module _ (T : Subtype → Type 0) (P : VarId → Object → Type 0) where
           → (low ≤ v.0) × ((object : Object) × (object.kind ≡ LoopParameter) × P v object)
       counted_among low tests place (Last choices a) written h = ⊎_elim (counted_variable low a written) (counted_variable low a written) (or_cases (counts v (effect a)) (counts v (effect a)) h)
       counted_among low tests place (When choices a rest) written h =
-          ⊎_elim (counted_variable low a written.0) (counted_among low tests place rest written.1) (or_cases (counts v (effect a)) (counts v (effect_among tests place rest)) h)
+          ⊎_elim (counted_variable low a written.0) (counted_among low tests place rest written.1)
+          (or_cases (counts v (effect a)) (counts v (effect_among tests place rest)) (sym (counts_chosen v (leaves a) tests (effect a) (effect_among tests place rest) place) ∙ h))
 
     mutual
       assigned_variable : (low : ℕ) (c : Command) → Resolves low c → assigns v (effect c) ≡ true → (object : Object) × P v object
@@ -253,16 +264,20 @@ module _ (T : Subtype → Type 0) (P : VarId → Object → Type 0) where
       assigned_variable low (Set target value) written h =
           let known = reference_variable T P written.0.0 written.0.2 v written.0.1 (ap (λ (name : Reference). denotes v name.root) (sym written.0.3) ∙ h) in (known.0, known.2)
       assigned_variable low (Then a b) written h = ⊎_elim (assigned_variable low a written.0) (assigned_variable low b written.1) (or_cases (assigns v (effect a)) (assigns v (effect b)) h)
-      assigned_variable low (Choose place condition a b) written h = ⊎_elim (assigned_variable low a written.1) (assigned_variable low b written.2) (or_cases (assigns v (effect a)) (assigns v (effect b)) h)
+      assigned_variable low (Choose place condition a b) written h =
+          ⊎_elim (assigned_variable low a written.1) (assigned_variable low b written.2) (or_cases (assigns v (effect a)) (assigns v (effect b)) (sym (assigns_chosen v (leaves a) (reads_of condition) (effect a) (effect b) place) ∙ h))
       assigned_variable low (Select place selector alternatives) written h = assigned_among low (reads_of selector) place alternatives written.1 h
       assigned_variable low (Assertion kind place condition) written h = absurd cc
+      assigned_variable low (Repeat Endless body) written h = assigned_variable low body written h
+      assigned_variable low (Leave place) written h = absurd cc
       assigned_variable low (Repeat (Tested place condition) body) written h = assigned_variable low body written.1 h
       assigned_variable low (Repeat (Counted c) body) written h = assigned_variable (c.parameter.0 + 1) body written.3 h
 
       assigned_among : (low : ℕ) (tests : List Read) (place : Place) (alternatives : Alternatives) → AllResolve low alternatives → assigns v (effect_among tests place alternatives) ≡ true → (object : Object) × P v object
       assigned_among low tests place (Last choices a) written h = ⊎_elim (assigned_variable low a written) (assigned_variable low a written) (or_cases (assigns v (effect a)) (assigns v (effect a)) h)
       assigned_among low tests place (When choices a rest) written h =
-          ⊎_elim (assigned_variable low a written.0) (assigned_among low tests place rest written.1) (or_cases (assigns v (effect a)) (assigns v (effect_among tests place rest)) h)
+          ⊎_elim (assigned_variable low a written.0) (assigned_among low tests place rest written.1)
+          (or_cases (assigns v (effect a)) (assigns v (effect_among tests place rest)) (sym (assigns_chosen v (leaves a) tests (effect a) (effect_among tests place rest) place) ∙ h))
 
     set_variable : (low : ℕ) (c : Command) → Resolves low c → sets v (effect c) ≡ true → (object : Object) × P v object
     set_variable low c written h = ⊎_elim (assigned_variable low c written) (λ counted. let one = (counted_variable low c written counted).1 in (one.0, one.2)) (sets_by v (effect c) h)
@@ -275,9 +290,11 @@ module _ (T : Subtype → Type 0) (P : VarId → Object → Type 0) where
       read_variable low (Choose place condition a b) written h =
           ⊎_elim (value_variable condition written.0)
           (λ arms. ⊎_elim (read_variable low a written.1) (read_variable low b written.2) (or_cases (reads v (effect a)) (reads v (effect b)) arms))
-          (or_cases (is_read v (reads_of condition)) (reads v (effect a) || reads v (effect b)) h)
+          (or_cases (is_read v (reads_of condition)) (reads v (effect a) || reads v (effect b)) (sym (reads_chosen v (leaves a) (reads_of condition) (effect a) (effect b) place) ∙ h))
       read_variable low (Select place selector alternatives) written h = read_among low (reads_of selector) place (value_variable selector written.0) alternatives written.1 h
       read_variable low (Assertion kind place condition) written h = value_variable condition written h
+      read_variable low (Repeat Endless body) written h = read_variable low body written h
+      read_variable low (Leave place) written h = absurd cc
       read_variable low (Repeat (Tested place condition) body) written h =
           ⊎_elim (value_variable condition written.0) (read_variable low body written.1) (or_cases (is_read v (reads_of condition)) (reads v (effect body)) h)
       read_variable low (Repeat (Counted c) body) written h =
@@ -291,18 +308,24 @@ module _ (T : Subtype → Type 0) (P : VarId → Object → Type 0) where
           (or_cases (is_read v tests) (reads v (effect a) || reads v (effect a)) h)
       read_among low tests place tested (When choices a rest) written h =
           ⊎_elim tested (λ arms. ⊎_elim (read_variable low a written.0) (read_among low tests place tested rest written.1) (or_cases (reads v (effect a)) (reads v (effect_among tests place rest)) arms))
-          (or_cases (is_read v tests) (reads v (effect a) || reads v (effect_among tests place rest)) h)
+          (or_cases (is_read v tests) (reads v (effect a) || reads v (effect_among tests place rest)) (sym (reads_chosen v (leaves a) tests (effect a) (effect_among tests place rest) place) ∙ h))
 
   -- ---- loops in loops
+
+  either_differ : (l : Bool) (tests : List Read) (a b : Effect) (place : Place) → LoopsDiffer a → LoopsDiffer b → LoopsDiffer (chosen l tests a b place)
+  either_differ true tests a b place first second = (first, second)
+  either_differ false tests a b place first second = (first, second)
 
   mutual
     loops_differ : (low : ℕ) (c : Command) → Resolves low c → LoopsDiffer (effect c)
     loops_differ low Skip written = tt
     loops_differ low (Set target value) written = tt
     loops_differ low (Then a b) written = (loops_differ low a written.0, loops_differ low b written.1)
-    loops_differ low (Choose place condition a b) written = (loops_differ low a written.1, loops_differ low b written.2)
+    loops_differ low (Choose place condition a b) written = either_differ (leaves a) (reads_of condition) (effect a) (effect b) place (loops_differ low a written.1) (loops_differ low b written.2)
     loops_differ low (Select place selector alternatives) written = loops_differ_among low (reads_of selector) place alternatives written.1
     loops_differ low (Assertion kind place condition) written = tt
+    loops_differ low (Repeat Endless body) written = loops_differ low body written
+    loops_differ low (Leave place) written = tt
     loops_differ low (Repeat (Tested place condition) body) written = loops_differ low body written.1
     loops_differ low (Repeat (Counted c) body) written =
         let next = c.parameter.0 + 1 in (
@@ -312,7 +335,8 @@ module _ (T : Subtype → Type 0) (P : VarId → Object → Type 0) where
 
     loops_differ_among : (low : ℕ) (tests : List Read) (place : Place) (alternatives : Alternatives) → AllResolve low alternatives → LoopsDiffer (effect_among tests place alternatives)
     loops_differ_among low tests place (Last choices a) written = (loops_differ low a written, loops_differ low a written)
-    loops_differ_among low tests place (When choices a rest) written = (loops_differ low a written.0, loops_differ_among low tests place rest written.1)
+    loops_differ_among low tests place (When choices a rest) written =
+        either_differ (leaves a) tests (effect a) (effect_among tests place rest) place (loops_differ low a written.0) (loops_differ_among low tests place rest written.1)
 
 -- ---- what is declared of the variables that names denote
 
@@ -339,6 +363,8 @@ module _ (p : Program) (T : Subtype → Type 0) (P : VarId → Object → Type 0
     targets_have_modes low (Choose place condition a b) written = (targets_have_modes low a written.1, targets_have_modes low b written.2)
     targets_have_modes low (Select place selector alternatives) written = all_have_modes low alternatives written.1
     targets_have_modes low (Assertion kind place condition) written = tt
+    targets_have_modes low (Repeat Endless body) written = targets_have_modes low body written
+    targets_have_modes low (Leave place) written = tt
     targets_have_modes low (Repeat (Tested place condition) body) written = targets_have_modes low body written.1
     targets_have_modes low (Repeat (Counted c) body) written = targets_have_modes (c.parameter.0 + 1) body written.3
 
@@ -373,6 +399,8 @@ module _ (p : Program) (T : Subtype → Type 0) (P : VarId → Object → Type 0
     command_as_declared low (Choose place condition a b) written = (read_as_declared condition written.0, (command_as_declared low a written.1, command_as_declared low b written.2))
     command_as_declared low (Select place selector alternatives) written = (read_as_declared selector written.0, alternatives_as_declared low alternatives written.1)
     command_as_declared low (Assertion kind place condition) written = read_as_declared condition written
+    command_as_declared low (Repeat Endless body) written = (tt, command_as_declared low body written)
+    command_as_declared low (Leave place) written = tt
     command_as_declared low (Repeat (Tested place condition) body) written = (read_as_declared condition written.0, command_as_declared low body written.1)
     command_as_declared low (Repeat (Counted c) body) written =
         ((bounds_as_declared c.bounds written.2, row c.parameter (object_of LoopParameter c.type_name) written.1), command_as_declared (c.parameter.0 + 1) body written.3)

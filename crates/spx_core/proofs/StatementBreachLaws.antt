@@ -18,7 +18,7 @@ use Rattle.spx_core.specs.declared.rule.ExprType.{ExprType}
 use Rattle.spx_core.specs.declared.rule.ExprType.TheVariants.{Of}
 use Rattle.spx_core.specs.declared.rule.Typing.{Typing}
 use Rattle.spx_core.specs.declared.statement.CoreCount.{CoreCount}
-use Rattle.spx_core.specs.Commands.{Command, Skip, Set, Then, Choose, Select, Assertion, Repeat, Tested, Counted, Alternatives, Last, When, bodies_in, choices_in, has_others, has_others_last, listed, spans_of}
+use Rattle.spx_core.specs.Commands.{Command, Skip, Set, Then, Choose, Select, Assertion, Repeat, Leave, Tested, Counted, Endless, Alternatives, Last, When, bodies_in, choices_in, has_others, has_others_last, listed, spans_of}
 use Rattle.spx_core.specs.HasType.{HasType}
 use Rattle.spx_core.specs.Extents.{extent}
 use Rattle.spx_core.specs.Judged.{Judged, ◌>>=◌, if_there, judged, keeps, named_target, operand_of, referred_target, referred_type}
@@ -181,6 +181,8 @@ mutual
       (λ k. by_test (BreaksCommand (Select at selector alternatives)) N17 at _ b k (λ wrong. broken.bad_choices at selector alternatives (wrong_choices selector alternatives wrong))) (λ _ _ h.
       by_part (selected selector) _ b h (selected_found at selector alternatives b) (λ of is e. alternatives_at at selector alternatives b of is (alternatives_found alternatives of b e)))
   command_found (Assertion kind at e) b h = broken.asserted kind at e b.rule b.place (condition_found e b h)
+  command_found (Repeat Endless body) b h = broken.body Endless body b.rule b.place (command_found body b h)
+  command_found (Leave place) b h = absurd cc
   command_found (Repeat (Tested at e) body) b h =
       by_part (test e) (λ _. judged_command body) b h (λ is. broken.turned at e body b.rule b.place (condition_found e b is)) (λ _ _ is. broken.body (Tested at e) body b.rule b.place (command_found body b is))
   command_found (Repeat (Counted c) body) b h =
@@ -334,4 +336,5 @@ no_command _ _ _ (broken.asserted kind at e rule place h) ok = no_condition e ru
 no_command _ _ _ (broken.turned at e body rule place h) ok = no_condition e rule place h (bound (test e) (λ _. judged_command body) tt ok).1
 no_command _ _ _ (broken.counted c body rule place h) ok = no_count c rule place h (bound (judged_count c) (λ _. judged_command body) tt ok).1
 no_command _ _ _ (broken.body (Tested at e) body rule place h) ok = no_command body rule place h (bound (test e) (λ _. judged_command body) tt ok).2
+no_command _ _ _ (broken.body Endless body rule place h) ok = no_command body rule place h ok
 no_command _ _ _ (broken.body (Counted c) body rule place h) ok = no_command body rule place h (bound (judged_count c) (λ _. judged_command body) tt ok).2

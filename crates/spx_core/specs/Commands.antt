@@ -20,6 +20,8 @@ pub data Head : Type 0 where
   Tested : Place → CoreExpr → Head
   -- once for each value
   Counted : CoreCount → Head
+  -- again and again
+  Endless : Head
 
 mutual
   pub data Command : Type 0 where
@@ -35,8 +37,10 @@ mutual
     Select : Place → CoreExpr → Alternatives → Command
     -- at the word `assert` or `check`: nothing, where the condition is true
     Assertion : AssertionKind → Place → CoreExpr → Command
-    -- the body, as often as the head says
+    -- the body, as often as the head says, if it is not left before
     Repeat : Head → Command → Command
+    -- at the word `exit`: the loop around it is left (Ada 95 RM 5.7)
+    Leave : Place → Command
 
   -- no choices: `others`
   pub data Alternatives : Type 0 where
@@ -79,10 +83,16 @@ select place selector (first ∷ rest) = Select place selector (alternatives_of 
 abbrev pub head_of : CoreScheme → Head
 head_of (scheme.While place condition) = Tested place condition
 head_of (scheme.For c) = Counted c
+head_of scheme.Endless = Endless
 
 -- a loop over its body
 abbrev pub loop_of : CoreScheme → Command → Command
 loop_of scheme body = Repeat (head_of scheme) body
+
+-- `exit when` is a choice between the exit and nothing
+abbrev pub exit_where : Place → Option CoreExpr → Command
+exit_where place None = Leave place
+exit_where place (Some condition) = Choose place condition (Leave place) Skip
 
 abbrev pub stmt_step : CoreStmt-F Command (Option (List CoreChoice) × Command) (Command → Command) → Command
 stmt_step (CoreStmt-F.Null place) = Skip
@@ -91,6 +101,7 @@ stmt_step (CoreStmt-F.If arms otherwise closing) = arms_before (or_skip otherwis
 stmt_step (CoreStmt-F.Case place selector alternatives closing) = select place selector alternatives
 stmt_step (CoreStmt-F.Loop scheme word body closing) = loop_of scheme (chain body)
 stmt_step (CoreStmt-F.Assertion kind place condition) = Assertion kind place condition
+stmt_step (CoreStmt-F.Exit place condition) = exit_where place condition
 
 abbrev pub command : CoreStmt → Command
 command = fold-CoreStmt Command (Option (List CoreChoice) × Command) (Command → Command) stmt_step alternative_step arm_step
@@ -120,6 +131,23 @@ is_assert _ = false
 abbrev pub has_own_cut : Command → Bool
 has_own_cut (Then a b) = is_assert a || has_own_cut b
 has_own_cut _ = false
+
+-- ---- exits
+
+abbrev pub is_skip : Command → Bool
+is_skip Skip = true
+is_skip _ = false
+
+-- the command itself is an exit: as an arm, `exit when`
+abbrev pub is_leave : Command → Bool
+is_leave (Leave place) = true
+is_leave _ = false
+
+-- one of the statements in a row is an exit
+abbrev pub leaves : Command → Bool
+leaves (Leave place) = true
+leaves (Then a b) = leaves a || leaves b
+leaves _ = false
 
 -- ---- choices
 

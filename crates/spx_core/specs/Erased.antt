@@ -104,6 +104,7 @@ erased_count c = record { place = c.place; name = c.name; word = c.word; is_reve
 abbrev pub erased_scheme : CoreScheme → Scheme
 erased_scheme (core_scheme.While place condition) = scheme.While place (erased_expr condition)
 erased_scheme (core_scheme.For c) = scheme.For (erased_count c)
+erased_scheme core_scheme.Endless = scheme.Endless
 
 abbrev pub erased_alternative_step : CoreAlternative-F Stmt Alternative Arm → Alternative
 erased_alternative_step alternative = record { choices = option_map (map erased_choice) alternative.choices; body = alternative.body }
@@ -118,6 +119,7 @@ erased_stmt_step (CoreStmt-F.If arms otherwise closing) = stmt.If arms otherwise
 erased_stmt_step (CoreStmt-F.Case place selector alternatives closing) = stmt.Case place (erased_expr selector) alternatives closing
 erased_stmt_step (CoreStmt-F.Loop scheme word body closing) = stmt.Loop (erased_scheme scheme) word body closing
 erased_stmt_step (CoreStmt-F.Assertion kind place condition) = stmt.Assertion kind place (erased_expr condition)
+erased_stmt_step (CoreStmt-F.Exit place condition) = stmt.Exit place (option_map erased_expr condition)
 
 abbrev pub erased_stmt : CoreStmt → Stmt
 erased_stmt = fold-CoreStmt Stmt Alternative Arm erased_stmt_step erased_alternative_step erased_arm_step

@@ -5,6 +5,7 @@ pub mod Uses
 pub mod Dependency
 pub mod Formals
 pub mod Commands
+pub mod Exits
 pub mod Effects
 pub mod Flow
 pub mod Marks

@@ -233,10 +233,12 @@ declared_by_count c = record { name = c.name; entity = entity.Variable c.paramet
 abbrev pub declared_by_scheme : CoreScheme → List Defining
 declared_by_scheme (core_scheme.While place condition) = []
 declared_by_scheme (core_scheme.For c) = declared_by_count c ∷ []
+declared_by_scheme core_scheme.Endless = []
 
 abbrev pub resolved_scheme : Regions → Region → ℕ → Scheme → CoreScheme
 resolved_scheme outer region position (scheme.While place condition) = core_scheme.While place (resolved_expr (region ∷ outer) condition)
 resolved_scheme outer region position (scheme.For c) = core_scheme.For (resolved_count outer region position c)
+resolved_scheme outer region position scheme.Endless = core_scheme.Endless
 
 -- ---- parts of a body
 
@@ -285,6 +287,7 @@ stmt_step items outer (Stmt-F.Case place selector alternatives closing) =
     made_of (λ region xs. stmt.Case place (resolved_expr (region ∷ outer) selector) xs closing) (in_order alternatives)
 stmt_step items outer (Stmt-F.Loop scheme word body closing) = λ region position. loop_with word closing (in_order body) (resolved_scheme outer region position scheme) region position
 stmt_step items outer (Stmt-F.Assertion kind place condition) = plain (λ region. stmt.Assertion kind place (resolved_in items (region ∷ outer) condition))
+stmt_step items outer (Stmt-F.Exit place condition) = plain (λ region. stmt.Exit place (option_map (resolved_expr (region ∷ outer)) condition))
 
 abbrev pub resolved_stmt : List CoreDerivesItem → Regions → Stmt → Part CoreStmt
 resolved_stmt items outer = fold-Stmt (Part CoreStmt) (Part CoreAlternative) (Part CoreArm) (stmt_step items outer) (alternative_step outer) (arm_step outer)
@@ -317,6 +320,7 @@ parameters_step (CoreStmt-F.If arms (Some stmts) closing) = all_of arms ++ all_o
 parameters_step (CoreStmt-F.Case place selector alternatives closing) = all_of alternatives
 parameters_step (CoreStmt-F.Loop scheme word body closing) = declared_by_scheme scheme ++ all_of body
 parameters_step (CoreStmt-F.Assertion kind place condition) = []
+parameters_step (CoreStmt-F.Exit place condition) = []
 
 abbrev pub parameters_by : CoreStmt → List Defining
 parameters_by = fold-CoreStmt (List Defining) (List Defining) (List Defining) parameters_step parameters_in_alternative parameters_in_arm

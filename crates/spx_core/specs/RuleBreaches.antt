@@ -13,8 +13,10 @@ use Rattle.spx_core.specs.declared.subprogram.CorePredicate.{CorePredicate}
 use Rattle.spx_core.specs.declared.subprogram.Sub.{Sub}
 use Rattle.spx_core.specs.declared.program.Program.{Program}
 use Rattle.spx_core.specs.declared.rule.RuleName.{RuleName}
-use Rattle.spx_core.specs.declared.rule.RuleName.TheVariants.{U2, U7, U8, U11}
-use Rattle.spx_core.specs.Commands.{Command, Skip, Set, Then, Choose, Select, Assertion, Repeat, Alternatives, Last, When, commands}
+use Rattle.spx_core.specs.declared.rule.RuleName.TheVariants.{U2, U4, U7, U8, U11}
+use Rattle.spx_core.specs.declared.statement.Around.TheVariants as around
+use Rattle.spx_core.specs.Commands.{Command, Skip, Set, Then, Choose, Select, Assertion, Repeat, Leave, Alternatives, Last, When, commands}
+use Rattle.spx_core.specs.Exits.{HasBadExit}
 use Rattle.spx_core.specs.Reads.{names_read}
 use Rattle.spx_core.specs.Uses.{variable_of}
 use Rattle.spx_core.specs.Dependency.{exports, imports, relation, variables}
@@ -69,6 +71,7 @@ abbrev mutual
   Assigns (Select place selector alternatives) target = OneAssigns alternatives target
   Assigns (Assertion kind place condition) target = ⊥
   Assigns (Repeat head body) target = Assigns body target
+  Assigns (Leave place) target = ⊥
 
   pub OneAssigns : Alternatives → Reference → Type 0
   OneAssigns (Last choices a) target = Assigns a target
@@ -82,4 +85,5 @@ pub data BreaksRule (p : Program) (sub : Sub) : RuleName → Place → Type 0 wh
   not_imported : (pre : CorePredicate) (name : CoreName) (v : VarId) → sub.pre ≡ Some pre → Contains (names_read pre.condition) name → IsVariable name v → imports v sub ≡ false → BreaksRule p sub U11 name.name.place
   no_formal_after : (post : CorePredicate) (name : CoreName) (v : VarId) → sub.post ≡ Some post → Contains (names_read post.condition) name → IsVariable name v → is_formal v sub ≡ false → BreaksRule p sub U11 name.name.place
   constant_assigned : (target : Reference) → Assigns (commands sub.statements) target → is_constant target.root.entity ≡ true → BreaksRule p sub U2 target.root.name.place
+  bad_exit : (place : Place) → HasBadExit around.Other (commands sub.statements) place → BreaksRule p sub U4 place
   input_assigned : (target : Reference) → Assigns (commands sub.statements) target → mode_named target.root ≡ Some In → BreaksRule p sub U2 target.root.name.place

@@ -17,12 +17,12 @@ use Rattle.spx_core.specs.declared.program.TypeRow.{TypeRow}
 use Rattle.spx_core.specs.declared.program.Var.{Var}
 use Rattle.spx_core.specs.declared.program.Program.{Program}
 use Rattle.spx_core.specs.declared.subprogram.Sub.{Sub}
-use Rattle.spx_core.specs.Commands.{Command, Skip, Set, Then, Choose, Select, Head, Assertion, Repeat, Tested, Counted, Alternatives, Last, When, commands}
+use Rattle.spx_core.specs.Commands.{Command, Skip, Set, Then, Choose, Select, Head, Assertion, Repeat, Leave, Tested, Counted, Endless, Alternatives, Last, When, commands}
 use Rattle.spx_core.specs.Reads.{names_read}
 use Rattle.spx_core.specs.Uses.{denotes}
 use Rattle.spx_core.specs.Dependency.{exports, imports, relation}
 use Rattle.spx_core.specs.Formals.{is_formal, is_inner, is_local, is_loop_parameter, mode_of}
-use Rattle.spx_core.specs.Effects.{Effect, nothing, assign, next, choose, observe, repeat, count, counts, defines, effects, reads, sets}
+use Rattle.spx_core.specs.Effects.{Effect, nothing, assign, next, choose, observe, repeat, count, endless, exit, counts, defines, effects, reads, sets}
 use Rattle.spx_core.specs.Obeyed.{mode_named}
 use Rattle.spx_core.specs.Resolved.{object_of}
 use Rattle.spx_core.specs.Types.{is_between}
@@ -48,6 +48,7 @@ abbrev mutual
   TargetsHaveTheirModes p (Select place selector alternatives) = AllHaveTheirModes p alternatives
   TargetsHaveTheirModes p (Assertion kind place condition) = ⊤
   TargetsHaveTheirModes p (Repeat head body) = TargetsHaveTheirModes p body
+  TargetsHaveTheirModes p (Leave place) = ⊤
 
   pub AllHaveTheirModes : Program → Alternatives → Type 0
   AllHaveTheirModes p (Last choices a) = TargetsHaveTheirModes p a
@@ -82,6 +83,7 @@ HeadIsAsDeclared p (Tested place condition) = All (IsAsDeclared p) (names_read c
 HeadIsAsDeclared p (Counted c) =
     All (IsAsDeclared p) (names_in_bounds c.bounds)
     × (object_declared p c.parameter ≡ Some (object_of LoopParameter c.type_name))
+HeadIsAsDeclared p Endless = ⊤
 
 -- so does each name of a command that is evaluated or assigned to; choices are static
 abbrev mutual
@@ -93,6 +95,7 @@ abbrev mutual
   AreAsDeclared p (Select place selector alternatives) = All (IsAsDeclared p) (names_read selector) × AllAreAsDeclared p alternatives
   AreAsDeclared p (Assertion kind place condition) = All (IsAsDeclared p) (names_read condition)
   AreAsDeclared p (Repeat head body) = HeadIsAsDeclared p head × AreAsDeclared p body
+  AreAsDeclared p (Leave place) = ⊤
 
   pub AllAreAsDeclared : Program → Alternatives → Type 0
   AllAreAsDeclared p (Last choices a) = AreAsDeclared p a
@@ -107,6 +110,8 @@ LoopsDiffer (choose tests a b place) = LoopsDiffer a × LoopsDiffer b
 LoopsDiffer (observe values) = ⊤
 LoopsDiffer (repeat tests body place) = LoopsDiffer body
 LoopsDiffer (count parameter bounds body place) = (counts parameter body ≡ false) × LoopsDiffer body
+LoopsDiffer (endless body) = LoopsDiffer body
+LoopsDiffer (exit tests a b place) = LoopsDiffer a × LoopsDiffer b
 
 -- nor does any statement in a loop set its parameter
 abbrev pub KeepsParameters : Effect → Type 0
@@ -117,6 +122,8 @@ KeepsParameters (choose tests a b place) = KeepsParameters a × KeepsParameters 
 KeepsParameters (observe values) = ⊤
 KeepsParameters (repeat tests body place) = KeepsParameters body
 KeepsParameters (count parameter bounds body place) = (sets parameter body ≡ false) × KeepsParameters body
+KeepsParameters (endless body) = KeepsParameters body
+KeepsParameters (exit tests a b place) = KeepsParameters a × KeepsParameters b
 
 pub record Scoped (p : Program) (sub : Sub) : Type 0 where
   pub targets : (v : VarId) → defines v sub.statements ≡ true → (is_formal v sub || is_inner v sub) ≡ true

@@ -26,7 +26,7 @@ use Rattle.spx_core.specs.declared.function.Span.{Span}
 use Rattle.spx_core.specs.declared.rule.ExprType.{ExprType}
 use Rattle.spx_core.specs.declared.rule.Typing.{Typing}
 use Rattle.spx_core.specs.declared.statement.CoreCount.{CoreCount}
-use Rattle.spx_core.specs.Commands.{Command, Skip, Set, Then, Choose, Select, Assertion, Repeat, Tested, Counted, Alternatives, Last, When, choices_in, commands, has_others, has_others_last, listed, spans_of}
+use Rattle.spx_core.specs.Commands.{Command, Skip, Set, Then, Choose, Select, Assertion, Repeat, Leave, Tested, Counted, Endless, Alternatives, Last, When, choices_in, commands, has_others, has_others_last, listed, spans_of}
 use Rattle.spx_core.specs.Dependency.{relation}
 use Rattle.spx_core.specs.Judged.{Judged, ◌>>=◌, breach_in, condition, each, if_there, judged, keeps, operand_of, referred_object, referred_target, referred_type}
 use Rattle.spx_core.specs.Extents.{extent}
@@ -198,6 +198,8 @@ abbrev mutual
   judged_command (Assertion kind place condition) = test condition
   judged_command (Repeat (Tested place condition) body) = test condition >>= λ _. judged_command body
   judged_command (Repeat (Counted c) body) = judged_count c >>= λ _. judged_command body
+  judged_command (Repeat Endless body) = judged_command body
+  judged_command (Leave place) = Ok tt
 
   pub judged_alternatives : ExprType → Alternatives → Judged ⊤
   judged_alternatives of (Last choices a) = judged_choices of choices >>= λ _. judged_command a

@@ -31,8 +31,8 @@ pub use name::{CoreName, Defining, Reference, Step};
 pub use program::{CoreUnit, Program, TypeRow, Var};
 pub use rule::{Breach, ExprType, RuleName, Typing};
 pub use statement::{
-    CoreAlternative, CoreArm, CoreChoice, CoreCount, CoreDecl, CoreRange, CoreScheme, CoreStmt,
-    CoreTypeDef, has_own_cut,
+    Around, CoreAlternative, CoreArm, CoreChoice, CoreCount, CoreDecl, CoreRange, CoreScheme,
+    CoreStmt, CoreTypeDef, has_own_cut, has_own_exit,
 };
 pub use subprogram::{CoreFormalPart, CoreParam, CorePredicate, Sub};
 pub use vars::VarSet;

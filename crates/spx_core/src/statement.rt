@@ -1,6 +1,6 @@
 // Resolved declarations and statements (Ada 95 RM 3.3, 5).
 ghost use Rattle.std.specs.Prelude.{◌≡◌};
-ghost use Rattle.spx_core.specs.Commands.{command, commands, has_own_cut, is_assert, is_cut};
+ghost use Rattle.spx_core.specs.Commands.{command, commands, has_own_cut, is_assert, is_cut, leaves};
 
 use crate::{CoreExpr, Defining, Reference, Span, VarId};
 use spx_text::Place;
@@ -52,6 +52,8 @@ pub enum CoreStmt {
     Loop(CoreScheme, Place, Items<CoreStmt>, Closing),
     /// At the word `assert` or `check`: what must be true there (Barnes).
     Assertion(AssertionKind, Place, CoreExpr),
+    /// At the word `exit`: the loop around it is left, where the condition is true if there is one (Ada 95 RM 5.7).
+    Exit(Place, Option<CoreExpr>),
 }
 
 /// How often the statements of a loop run (Ada 95 RM 5.5).
@@ -61,6 +63,8 @@ pub enum CoreScheme {
     While(Place, CoreExpr),
     /// Once for each value of a type, or of a range of it.
     For(Boxed<CoreCount>),
+    /// With no scheme: again and again.
+    Endless,
 }
 
 /// The parameter of a loop, at the word `for`, and the values that it takes (Ada 95 RM 5.5). Without bounds these are all
@@ -105,6 +109,17 @@ pub struct CoreChoice {
     pub span: Span,
 }
 
+/// What a statement stands in, as far as exits go (Barnes).
+#[derive(Clone, Copy, Debug, PartialEq, Eq)]
+pub enum Around {
+    /// Directly in a loop.
+    Loop,
+    /// At the end of the arm of an `if` that has neither `elsif` nor `else` and stands directly in a loop.
+    Arm,
+    /// Elsewhere.
+    Other,
+}
+
 /// Whether paths end and begin at the annotation.
 fn is_cut(kind: AssertionKind) -> bool
     ensures { result ≡ is_cut kind }
@@ -126,6 +141,7 @@ fn is_assert(stmt: &CoreStmt) -> bool
         CoreStmt::Case(_, _, _, _) => false,
         CoreStmt::Loop(_, _, _, _) => false,
         CoreStmt::Assertion(kind, _, _) => is_cut(*kind),
+        CoreStmt::Exit(_, _) => false,
     }
 }
 
@@ -135,6 +151,47 @@ pub fn has_own_cut(stmts: &[CoreStmt]) -> bool
 {
     for stmt in stmts {
         if is_assert(stmt) {
+            return true;
+        }
+    }
+    false
+}
+
+/// Whether the statement itself is an exit without a condition.
+#[cycle(has_own_exit)]
+fn is_exit(stmt: &CoreStmt) -> bool
+    ensures { result ≡ leaves (command stmt.now) }
+{
+    match stmt {
+        CoreStmt::Null(_) => false,
+        CoreStmt::Assignment(_, _) => false,
+        CoreStmt::If(arms, otherwise, _) => match otherwise {
+            None => false,
+            Some(stmts) => {
+                if arms.as_slice().is_empty() {
+                    has_own_exit(stmts.as_slice())
+                } else {
+                    false
+                }
+            }
+        },
+        CoreStmt::Case(_, _, _, _) => false,
+        CoreStmt::Loop(_, _, _, _) => false,
+        CoreStmt::Assertion(_, _, _) => false,
+        CoreStmt::Exit(_, condition) => match condition {
+            None => true,
+            Some(_) => false,
+        },
+    }
+}
+
+/// Whether one of the statements is itself an exit without a condition. Then the loop around them is left there (Barnes).
+#[cycle(has_own_exit)]
+pub fn has_own_exit(stmts: &[CoreStmt]) -> bool
+    ensures { result ≡ leaves (commands stmts.now) }
+{
+    for stmt in stmts {
+        if is_exit(stmt) {
             return true;
         }
     }

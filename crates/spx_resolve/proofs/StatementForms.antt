@@ -37,6 +37,7 @@ taken_step false d region e = rw e (take-append_seam region (d ∷ []))
 taken_back : (region : Region) (x : CoreScheme) → take (length region) (declaring_all region (declared_by_scheme x)) ≡ region
 taken_back region (core_scheme.While place condition) = ap (take (length region)) (sym (append-nil region)) ∙ take-append_seam region []
 taken_back region (core_scheme.For c) = taken_step _ _ region refl
+taken_back region core_scheme.Endless = ap (take (length region)) (sym (append-nil region)) ∙ take-append_seam region []
 
 -- ---- statements
 

@@ -86,5 +86,6 @@ pub fn resolve_scheme(
             };
             Ok(CoreScheme::For(Boxed::new(alloc, count)?))
         }
+        Scheme::Endless => Ok(CoreScheme::Endless),
     }
 }

@@ -133,6 +133,24 @@ fn resolve_assertion(
     Ok(CoreStmt::Assertion(kind, place, condition))
 }
 
+fn resolve_exit(
+    alloc: Global,
+    place: Place,
+    condition: &Option<Expr>,
+    region: &Region,
+    outer: &Scope<'_>,
+) -> Result<CoreStmt, AllocError>
+    ensures { IfOk result (λ r. r ≡ stmt.Exit place (option_map (resolved_expr (region.now ∷ seen outer.now)) condition.now)) }
+{
+    match condition {
+        Some(condition) => {
+            let condition = resolve_inside(alloc, condition, region, outer)?;
+            Ok(CoreStmt::Exit(place, Some(condition)))
+        }
+        None => Ok(CoreStmt::Exit(place, None)),
+    }
+}
+
 #[cycle(resolve_stmt)]
 fn resolve_stmt(
     alloc: Global,
@@ -179,6 +197,9 @@ fn resolve_stmt(
         }
         Stmt::Assertion(kind, place, condition) => {
             Ok(resolve_assertion(alloc, *kind, *place, condition, changed, region, outer)?)
+        }
+        Stmt::Exit(place, condition) => {
+            Ok(resolve_exit(alloc, *place, condition, region, outer)?)
         }
     }
 }

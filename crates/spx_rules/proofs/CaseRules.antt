@@ -3,6 +3,8 @@ use Rattle.std.proofs.Common.{◌≡◌, ℕ, ◌+◌, ◌<◌, List, [], ◌∷
 use Rattle.std.specs.Prelude.{⊤}
 use Rattle.spx_text.specs.declared.place.Place.{Place}
 use Rattle.spx_core.specs.declared.expression.CoreExpr.{CoreExpr}
+use Rattle.spx_core.specs.declared.statement.Around.{Around}
+use Rattle.spx_core.specs.declared.statement.Around.TheVariants.{Other}
 use Rattle.spx_core.specs.declared.statement.CoreAlternative.{CoreAlternative}
 use Rattle.spx_core.specs.declared.statement.CoreStmt.{CoreStmt}
 use Rattle.spx_core.specs.Commands.{alternative, command, select}
@@ -16,19 +18,19 @@ and_no_more (Ok x) = refl
 and_no_more (Err breach) = refl
 
 alternatives_obeyed : (a : CoreAlternative) (rest : List CoreAlternative)
-    → obeyed_alternatives (alternatives_in (a ∷ rest)) ≡ (obeyed_command (done_in a) >>= λ _. obeyed_alternatives (alternatives_in rest))
-alternatives_obeyed a [] = and_no_more (obeyed_command (done_in a))
+    → obeyed_alternatives (alternatives_in (a ∷ rest)) ≡ (obeyed_command Other (done_in a) >>= λ _. obeyed_alternatives (alternatives_in rest))
+alternatives_obeyed a [] = and_no_more (obeyed_command Other (done_in a))
 alternatives_obeyed a (b ∷ rest) = refl
 
 pub obeyed_at : (alternatives : List CoreAlternative) (i : ℕ) (a : CoreAlternative) → i < length alternatives → a ≡ get_or alternatives i a
-    → obeyed_alternatives (alternatives_in (drop i alternatives)) ≡ (obeyed_command (done_in a) >>= λ _. obeyed_alternatives (alternatives_in (drop (i + 1) alternatives)))
+    → obeyed_alternatives (alternatives_in (drop i alternatives)) ≡ (obeyed_command Other (done_in a) >>= λ _. obeyed_alternatives (alternatives_in (drop (i + 1) alternatives)))
 obeyed_at alternatives i a within is = ap (λ rest. obeyed_alternatives (alternatives_in rest)) (front alternatives i a within is) ∙ alternatives_obeyed a (drop (i + 1) alternatives)
 
-selection_obeyed : (place : Place) (selector : CoreExpr) (alternatives : List CoreAlternative)
-    → obeyed_command (select place selector (map alternative alternatives)) ≡ obeyed_alternatives (alternatives_in alternatives)
-selection_obeyed place selector [] = refl
-selection_obeyed place selector (a ∷ rest) = refl
+selection_obeyed : (here : Around) (place : Place) (selector : CoreExpr) (alternatives : List CoreAlternative)
+    → obeyed_command here (select place selector (map alternative alternatives)) ≡ obeyed_alternatives (alternatives_in alternatives)
+selection_obeyed here place selector [] = refl
+selection_obeyed here place selector (a ∷ rest) = refl
 
-pub case_obeyed : (s : CoreStmt) (place : Place) (selector : CoreExpr) (alternatives : List CoreAlternative) → command s ≡ select place selector (map alternative alternatives)
-    → obeyed_command (command s) ≡ obeyed_alternatives (alternatives_in alternatives)
-case_obeyed s place selector alternatives is = ap obeyed_command is ∙ selection_obeyed place selector alternatives
+pub case_obeyed : (here : Around) (s : CoreStmt) (place : Place) (selector : CoreExpr) (alternatives : List CoreAlternative) → command s ≡ select place selector (map alternative alternatives)
+    → obeyed_command here (command s) ≡ obeyed_alternatives (alternatives_in alternatives)
+case_obeyed here s place selector alternatives is = ap (obeyed_command here) is ∙ selection_obeyed here place selector alternatives

@@ -1,3 +1,4 @@
 mod CaseRules
 mod Elements
+mod ExitRules
 mod NamedOnceLaws

@@ -1,3 +1,4 @@
 pub mod Allowed
+pub mod Arms
 pub mod NamedOnce
 pub mod SetsOfSub

@@ -1,4 +1,4 @@
-//! The static rules on the use of variables, in the order of the text (Barnes, High Integrity Software).
+//! The static rules on the use of variables and on exits, in the order of the text (Barnes, High Integrity Software).
 //!
 //! Each function mirrors the definition that its contract cites: `Ok` where no rule is broken, `Err` with the rule that
 //! is broken first. Variables are looked up in sets and not in lists of names.

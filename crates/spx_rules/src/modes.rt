@@ -1,16 +1,19 @@
-// U8, U2: the mode of a formal agrees with the relation, and no formal of mode `in` and no constant is assigned.
-ghost use Rattle.std.specs.Prelude.{◌≡◌};
-ghost use Rattle.spx_core.specs.Commands.{command, commands};
+// U8, U2, U4: the mode of a formal agrees with the relation, no formal of mode `in` and no constant is assigned, and exits have
+// the forms that a loop may be left by.
+ghost use Rattle.std.specs.Prelude.{◌≡◌, map};
+ghost use Rattle.spx_core.specs.declared.statement.Around.TheVariants.{Other};
+ghost use Rattle.spx_core.specs.Commands.{arm_before, arms_before, command, commands};
+ghost use Rattle.spx_core.specs.Exits as exits;
 ghost use Rattle.spx_core.specs.Formals.{mode_in};
 ghost use Rattle.spx_core.specs.Judged.{each};
 ghost use Rattle.spx_core.specs.Obeyed as rules;
-ghost use Rattle.spx_types.specs.Arms.{FoundInArms};
+ghost use Rattle.spx_rules.specs.Arms.{FoundInArms};
 ghost use Rattle.spx_types.specs.Choices.{alternatives_in, done_in};
 
 use crate::tables::Tables;
 use spx_core::{
-    Breach, CoreAlternative, CoreArm, CoreDerivesItem, CoreName, CoreStmt, Entity, Mode, Reference,
-    RuleName, VarKind, variable_of,
+    Around, Breach, CoreAlternative, CoreArm, CoreDerivesItem, CoreName, CoreStmt, Entity, Mode,
+    Reference, RuleName, VarKind, variable_of,
 };
 use spx_types::keeps;
 
@@ -144,29 +147,80 @@ fn is_constant(entity: Option<Entity>) -> bool
     }
 }
 
-/// The first assignment to a formal of mode `in`, or to a constant, among statements.
-#[cycle(obey_stmt)]
-pub fn obey_stmts(stmts: &[CoreStmt]) -> Result<(), Breach>
-    ensures { result ≡ rules.obeyed_command (commands stmts.now) }
+/// Whether an exit with a condition may stand here.
+fn is_loop(around: Around) -> bool
+    ensures { result ≡ exits.is_loop around }
 {
-    for stmt in stmts {
-        obey_stmt(stmt)?;
+    matches!(around, Around::Loop)
+}
+
+/// Whether an exit without a condition may stand here.
+fn is_end_of_arm(around: Around) -> bool
+    ensures { result ≡ exits.is_end_of_arm around }
+{
+    matches!(around, Around::Arm)
+}
+
+/// What a statement stands in that others follow.
+fn followed(around: Around) -> Around
+    ensures { result ≡ exits.followed around }
+{
+    match around {
+        Around::Loop => Around::Loop,
+        Around::Arm | Around::Other => Around::Other,
+    }
+}
+
+/// What a statement stands in, before these others.
+fn first_in(around: Around, others: &[CoreStmt]) -> Around
+    ensures { result ≡ exits.first_in around (commands others.now) }
+{
+    if others.is_empty() {
+        around
+    } else {
+        followed(around)
+    }
+}
+
+/// What an arm of an `if` stands in, before these arms and the statements after `else`.
+fn arm_in(around: Around, arms: &[CoreArm], otherwise: &[CoreStmt]) -> Around
+    ensures { result ≡ exits.arm_in around (arms_before (commands otherwise.now) (map arm_before arms.now)) }
+{
+    if is_loop(around) && arms.is_empty() && otherwise.is_empty() {
+        Around::Arm
+    } else {
+        Around::Other
+    }
+}
+
+/// The first assignment to a formal of mode `in`, or to a constant, among statements, or the first exit in another form than
+/// those that a loop may be left by.
+#[cycle(obey_stmt)]
+pub fn obey_stmts(around: Around, stmts: &[CoreStmt]) -> Result<(), Breach>
+    ensures { result ≡ rules.obeyed_command around (commands stmts.now) }
+{
+    for (at, stmt) in stmts.iter().enumerate() {
+        obey_stmt(first_in(around, &stmts[at + 1..]), stmt)?;
     }
     Ok(())
 }
 
-/// The first such assignment in arms, whatever stands after them.
+/// The first such breach in the arms of an `if`, or else what the statements after `else` stand in: without arms they are the
+/// whole `if`.
 #[cycle(obey_stmt)]
-fn obey_arms(arms: &[CoreArm]) -> Result<(), Breach>
-    ensures { FoundInArms rules.obeyed_command arms.now result }
+fn obey_arms(around: Around, arms: &[CoreArm], otherwise: &[CoreStmt]) -> Result<Around, Breach>
+    ensures { FoundInArms around arms.now (commands otherwise.now) result }
 {
-    for arm in arms {
-        obey_stmts(arm.body.as_slice())?;
+    let mut here = around;
+    for (at, arm) in arms.iter().enumerate() {
+        let inside = arm_in(here, &arms[at + 1..], otherwise);
+        obey_stmts(inside, arm.body.as_slice())?;
+        here = Around::Other;
     }
-    Ok(())
+    Ok(here)
 }
 
-/// The first such assignment in alternatives.
+/// The first such breach in alternatives.
 #[cycle(obey_stmt)]
 fn obey_alternatives(alternatives: &[CoreAlternative]) -> Result<(), Breach>
     ensures { result ≡ rules.obeyed_alternatives (alternatives_in alternatives.now) }
@@ -179,14 +233,14 @@ fn obey_alternatives(alternatives: &[CoreAlternative]) -> Result<(), Breach>
 
 #[cycle(obey_stmt)]
 fn obey_chosen(alternative: &CoreAlternative) -> Result<(), Breach>
-    ensures { result ≡ rules.obeyed_command (done_in alternative.now) }
+    ensures { result ≡ rules.obeyed_command Other (done_in alternative.now) }
 {
-    obey_stmts(alternative.body.as_slice())
+    obey_stmts(Around::Other, alternative.body.as_slice())
 }
 
 #[cycle(obey_stmt)]
-fn obey_stmt(stmt: &CoreStmt) -> Result<(), Breach>
-    ensures { result ≡ rules.obeyed_command (command stmt.now) }
+fn obey_stmt(around: Around, stmt: &CoreStmt) -> Result<(), Breach>
+    ensures { result ≡ rules.obeyed_command around (command stmt.now) }
 {
     match stmt {
         CoreStmt::Null(_) => Ok(()),
@@ -195,13 +249,19 @@ fn obey_stmt(stmt: &CoreStmt) -> Result<(), Breach>
                 && !is_constant(target.root.entity);
             keeps(RuleName::U2, target.root.name.place, kept)
         }
-        CoreStmt::If(arms, None, _) => obey_arms(arms.as_slice()),
+        CoreStmt::If(arms, None, _) => {
+            obey_arms(around, arms.as_slice(), &[])?;
+            Ok(())
+        }
         CoreStmt::If(arms, Some(stmts), _) => {
-            obey_arms(arms.as_slice())?;
-            obey_stmts(stmts.as_slice())
+            let stmts = stmts.as_slice();
+            let after = obey_arms(around, arms.as_slice(), stmts)?;
+            obey_stmts(after, stmts)
         }
         CoreStmt::Case(_, _, alternatives, _) => obey_alternatives(alternatives.as_slice()),
-        CoreStmt::Loop(_, _, body, _) => obey_stmts(body.as_slice()),
+        CoreStmt::Loop(_, _, body, _) => obey_stmts(Around::Loop, body.as_slice()),
         CoreStmt::Assertion(_, _, _) => Ok(()),
+        CoreStmt::Exit(place, None) => keeps(RuleName::U4, *place, is_end_of_arm(around)),
+        CoreStmt::Exit(place, Some(_)) => keeps(RuleName::U4, *place, is_loop(around)),
     }
 }

@@ -11,7 +11,8 @@ use crate::modes::{obey_item, obey_stmts};
 use crate::relation::{is_right_relation, obey_relation};
 use crate::tables::{Allowed, Tables};
 use spx_core::{
-    Breach, CoreDerivesItem, CoreExpr, CoreName, CorePredicate, Program, RuleName, Sub, variable_of,
+    Around, Breach, CoreDerivesItem, CoreExpr, CoreName, CorePredicate, Program, RuleName, Sub,
+    variable_of,
 };
 use spx_types::keeps;
 use std::alloc::{AllocError, Global};
@@ -88,7 +89,7 @@ fn obey_parts(tables: &Tables, right_relation: bool) -> Result<(), Breach>
     obey_items(tables, sub.relation())?;
     obey_predicate(tables, Allowed::Imports, &sub.pre)?;
     obey_predicate(tables, Allowed::Formals, &sub.post)?;
-    obey_stmts(sub.statements.as_slice())
+    obey_stmts(Around::Other, sub.statements.as_slice())
 }
 
 fn obey_sub(alloc: Global, sub: &Sub) -> Result<Option<Breach>, AllocError>

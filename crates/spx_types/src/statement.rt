@@ -1,4 +1,4 @@
-// The rules on annotations and statements (Ada 95 RM 5.2 to 5.5, 8.3).
+// The rules on annotations and statements (Ada 95 RM 5.2 to 5.7, 8.3).
 ghost use Rattle.std.specs.Prelude.{◌≡◌};
 ghost use Rattle.spx_core.specs.declared.statement.CoreArm.{out-CoreArm};
 ghost use Rattle.spx_core.specs.Commands.{command, commands};
@@ -163,6 +163,9 @@ fn judge_stmt(stmt: &CoreStmt) -> Result<(), Breach>
             judge_count(count.get())?;
             judge_stmts(body.as_slice())
         }
+        CoreStmt::Loop(CoreScheme::Endless, _, body, _) => judge_stmts(body.as_slice()),
         CoreStmt::Assertion(_, _, condition) => test(condition),
+        CoreStmt::Exit(_, None) => Ok(()),
+        CoreStmt::Exit(_, Some(condition)) => test(condition),
     }
 }

@@ -7,15 +7,15 @@ use Rattle.spx_core.specs.declared.name.Reference.{Reference}
 use Rattle.spx_core.specs.declared.expression.CoreExpr.{CoreExpr}
 use Rattle.spx_core.specs.declared.statement.CoreStmt.{CoreStmt, CoreStmt-F, out-CoreStmt, map-CoreStmt, fold_out-CoreStmt}
 use Rattle.spx_core.specs.declared.statement.CoreStmt.TheVariants as stmt
-use Rattle.spx_core.specs.declared.statement.CoreStmt.TheVariants.{Null, Assignment, If, Case, Loop, outs-Null, outs-Assignment, outs-If, outs-Case, outs-Loop, outs-Assertion}
+use Rattle.spx_core.specs.declared.statement.CoreStmt.TheVariants.{Null, Assignment, If, Case, Loop, outs-Null, outs-Assignment, outs-If, outs-Case, outs-Loop, outs-Assertion, outs-Exit}
 use Rattle.spx_core.specs.declared.statement.CoreArm.{CoreArm, out-CoreArm, fold_out-CoreArm}
 use Rattle.spx_core.specs.declared.statement.CoreAlternative.{CoreAlternative, out-CoreAlternative, fold_out-CoreAlternative}
 use Rattle.spx_core.specs.declared.statement.CoreChoice.{CoreChoice}
 use Rattle.spx_core.specs.declared.statement.CoreCount.{CoreCount}
 use Rattle.spx_core.specs.declared.statement.CoreScheme.{CoreScheme}
 use Rattle.spx_core.specs.declared.statement.CoreScheme.TheVariants as scheme
-use Rattle.spx_core.specs.Commands.{Command, Skip, Set, Choose, Assertion, Repeat, Tested, Counted, alternative, alternative_step, arm_before, arm_step, arms_before, command, commands, loop_of, select, stmt_step}
-use Rattle.spx_core.specs.Effects.{choose, effect, effects, reads_of}
+use Rattle.spx_core.specs.Commands.{Command, Skip, Set, Choose, Assertion, Repeat, Tested, Counted, Endless, alternative, alternative_step, arm_before, arm_step, arms_before, command, commands, exit_where, leaves, loop_of, select, stmt_step}
+use Rattle.spx_core.specs.Effects.{choose, chosen, effect, effects, reads_of}
 
 -- choices, and what is done for them
 abbrev Chosen : Type 0
@@ -52,6 +52,12 @@ command-While s x word body closing place condition is while = command-Loop s x 
 pub command-For : (s : CoreStmt) (x : CoreScheme) (word : Place) (body : List CoreStmt) (closing : Closing) (c : CoreCount) → s ≡ Loop x word body closing → x ≡ scheme.For c → command s ≡ Repeat (Counted c) (commands body)
 command-For s x word body closing c is for = command-Loop s x word body closing is ∙ ap (λ y. loop_of y (commands body)) for
 
+pub command-Endless : (s : CoreStmt) (x : CoreScheme) (word : Place) (body : List CoreStmt) (closing : Closing) → s ≡ Loop x word body closing → x ≡ scheme.Endless → command s ≡ Repeat Endless (commands body)
+command-Endless s x word body closing is endless = command-Loop s x word body closing is ∙ ap (λ y. loop_of y (commands body)) endless
+
+pub command-Exit : (place : Place) (condition : Option CoreExpr) → command (stmt.Exit place condition) ≡ exit_where place condition
+command-Exit place condition = command_at (stmt.Exit place condition) (CoreStmt-F.Exit place condition) (outs-Exit place condition)
+
 pub command-Assertion : (kind : AssertionKind) (place : Place) (condition : CoreExpr) → command (stmt.Assertion kind place condition) ≡ Assertion kind place condition
 command-Assertion kind place condition = command_at (stmt.Assertion kind place condition) (CoreStmt-F.Assertion kind place condition) (outs-Assertion kind place condition)
 
@@ -72,4 +78,4 @@ select_last place selector a = ap (λ k. choose (reads_of selector) (effect k) (
 pub select_more : (place : Place) (selector : CoreExpr) (a : CoreAlternative) (rest : List CoreAlternative) → 0 < length rest
     → effect (select place selector (map alternative (a ∷ rest))) ≡ effect (Choose place selector (commands (out-CoreAlternative a).body) (select place selector (map alternative rest)))
 select_more place selector a [] some = absurd (omega arith)
-select_more place selector a (b ∷ rest) some = ap (λ k. choose (reads_of selector) (effect k) (effect (select place selector (map alternative (b ∷ rest)))) place) (command_alternative a)
+select_more place selector a (b ∷ rest) some = ap (λ k. chosen (leaves k) (reads_of selector) (effect k) (effect (select place selector (map alternative (b ∷ rest)))) place) (command_alternative a)

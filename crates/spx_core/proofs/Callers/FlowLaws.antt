@@ -16,9 +16,9 @@ use Rattle.spx_core.specs.Uses.{denotes, is_same, uses, variable_of}
 use Rattle.spx_core.specs.Reads.{names_read}
 use Rattle.spx_core.specs.Formals.{stands_in}
 use Rattle.spx_core.specs.Dependency.{imports}
-use Rattle.spx_core.specs.Effects.{Effect, Read, nothing, assign, next, choose, observe, repeat, count, effect, effects, assigns, counts, sets, reads, is_read, reads_in, read_of, reads_of, defines}
-use Rattle.spx_core.specs.Flow.{MayFlow, Steps, stay, advance, Keeping, Turned, FlowsCompose, FlowsKeep}
-use Rattle.spx_core.specs.Ways.{Ways, Free, Goes, TurnsWithin, forgetting, no_turn}
+use Rattle.spx_core.specs.Effects.{Effect, Read, nothing, assign, next, choose, observe, repeat, count, endless, exit, chosen, effect, effects, assigns, counts, sets, reads, is_read, reads_in, read_of, reads_of, defines, has_exit}
+use Rattle.spx_core.specs.Flow.{MayFlow, Leaves, ExitTests, Exited, Steps, stay, advance, Keeping, Turned, FlowsCompose, FlowsKeep}
+use Rattle.spx_core.specs.Ways.{Ways, Exits, Free, Follow, Goes, Turns, TurnsWithin, forgetting, no_turn, turn}
 use Rattle.spx_core.specs.FlowRules.{left, ExportsAreSet}
 
 -- ---- reads
@@ -34,6 +34,24 @@ read_names v (name ∷ names) = read_first v name.name.place (variable_of name.e
 -- an expression reads the variables that it uses
 pub reads_uses : (v : VarId) (e : CoreExpr) → is_read v (reads_of e) ≡ uses v e
 reads_uses v e = read_names v (names_read e)
+
+-- ---- a choice of two arms, whether the first ends with an exit or not
+
+pub sets_chosen : (v : VarId) (l : Bool) (tests : List Read) (a b : Effect) (place : Place) → sets v (chosen l tests a b place) ≡ (sets v a || sets v b)
+sets_chosen v true tests a b place = refl
+sets_chosen v false tests a b place = refl
+
+pub assigns_chosen : (v : VarId) (l : Bool) (tests : List Read) (a b : Effect) (place : Place) → assigns v (chosen l tests a b place) ≡ (assigns v a || assigns v b)
+assigns_chosen v true tests a b place = refl
+assigns_chosen v false tests a b place = refl
+
+pub counts_chosen : (v : VarId) (l : Bool) (tests : List Read) (a b : Effect) (place : Place) → counts v (chosen l tests a b place) ≡ (counts v a || counts v b)
+counts_chosen v true tests a b place = refl
+counts_chosen v false tests a b place = refl
+
+pub reads_chosen : (v : VarId) (l : Bool) (tests : List Read) (a b : Effect) (place : Place) → reads v (chosen l tests a b place) ≡ (is_read v tests || (reads v a || reads v b))
+reads_chosen v true tests a b place = refl
+reads_chosen v false tests a b place = refl
 
 -- ---- lists of statements
 
@@ -92,69 +110,182 @@ turned_here : (bounds : Option (List Read)) (R : VarId → VarId → Type 0) (w 
 turned_here (Some reads) R w here = stay
 turned_here None R w here = (w, here, stay)
 
+-- ---- exits
+
+-- to a variable that neither a turn nor an exit sets an exit leads from itself
+pub exited_to : (R L : VarId → VarId → Type 0) (T : VarId → Type 0) (is_set : Bool) (w : VarId) → is_set ≡ false → ((v : VarId) → R v w → v ≡ w) → ((v : VarId) → L v w → v ≡ w) → (u : VarId) → Exited (Steps R) L T is_set u w → u ≡ w
+exited_to R L T is_set w none only leave u h = ⊎_elim (λ l. steps_to R w only u (subst (Steps R u) (leave h.0 l) h.1)) (λ t. absurd (both_ways is_set none t.0)) h.2
+
+-- from a variable that neither a turn nor an exit reads an exit leads to itself
+pub exited_from : (R L : VarId → VarId → Type 0) (T : VarId → Type 0) (is_set : Bool) (u : VarId) → ((v : VarId) → R u v → u ≡ v) → ((w : VarId) → L u w → u ≡ w) → ¬ T u → (w : VarId) → Exited (Steps R) L T is_set u w → u ≡ w
+exited_from R L T is_set u only leave none w h =
+    let here : u ≡ h.0 = steps_from R u only h.0 h.1 in
+    ⊎_elim (λ l. leave w (subst (λ x. L x w) (sym here) l)) (λ t. absurd (none (subst T (sym here) t.1))) h.2
+
 -- ---- what is kept
 
-pub keeps : FlowsKeep
-keeps nothing u w none = (λ h. h, λ h. h)
-keeps (assign target values place) u w none = (
-  λ h. ⊎_elim (λ p. absurd (both_ways (is_same w target) none p.0)) (λ p. p.1) h,
-  λ e. inr (none, e),
-)
-keeps (next a b) u w none =
-    let parts = or_parts (sets w a) (sets w b) none in (
-      λ h. let last = (keeps b h.0 w parts.1).0 h.2 in (keeps a u w parts.0).0 (subst (λ x. MayFlow a u x) last h.1),
-      λ e. (w, (keeps a u w parts.0).1 e, (keeps b w w parts.1).1 refl),
-    )
-keeps (choose tests a b place) u w none =
-    let parts = or_parts (sets w a) (sets w b) none in (
-      λ h. ⊎_elim (λ first. (keeps a u w parts.0).0 first) (λ more. ⊎_elim (λ second. (keeps b u w parts.1).0 second) (λ tested. absurd (both_ways (sets w a || sets w b) none tested.0)) more) h,
-      λ e. inl ((keeps a u w parts.0).1 e),
-    )
-keeps (observe values) u w none = (λ h. h, λ h. h)
-keeps (repeat tests body place) u w none = (
-  λ h. ⊎_elim (λ turns. steps_to (MayFlow body) w (λ v flow. (keeps body v w none).0 flow) u turns) (λ tested. absurd (both_ways (sets w body) none tested.0)) h,
-  λ e. inl (subst (Steps (MayFlow body) u) e stay),
-)
-keeps (count parameter bounds body place) u w none =
-    let parts = or_parts (is_same w (Some parameter)) (sets w body) none in
-    let only : (v : VarId) → Keeping parameter (MayFlow body) v w → v ≡ w = λ v turn. ⊎_elim (λ same. same.1) (λ other. (keeps body v w parts.1).0 other.1) turn in (
-      λ h. ⊎_elim
-          (λ turns.
-          let here : turns.0 ≡ w = turned_to bounds (Keeping parameter (MayFlow body)) w only turns.0 turns.2 in
-          ⊎_elim (λ given. absurd (both_ways (is_same w (Some parameter)) parts.0 (ap (λ x. is_same x (Some parameter)) (sym here) ∙ given.0))) (λ kept. kept.1 ∙ here) turns.1)
-          (λ tested. absurd (both_ways (sets w body) parts.1 tested.0)) h.1,
-      λ e. (parts.0, inl (w, inr (parts.0, e), turned_here bounds (Keeping parameter (MayFlow body)) w (inr (parts.0, (keeps body w w parts.1).1 refl)))),
-    )
+-- what is left at its exits alone, or never
+endless_keeps : (body : Effect) (u w : VarId) → u ≡ w → (b : Bool) → has_exit body ≡ b → (has_exit body ≡ true → Leaves body w w) → MayFlow (endless body) u w
+endless_keeps body u w e true is here = inr (u, stay, inl (subst (λ x. Leaves body x w) (sym e) (here is)))
+endless_keeps body u w e false is here = inl (is, subst (Steps (MayFlow body) u) e stay)
 
--- what is not read flows to itself only
-pub unread : (e : Effect) (u w : VarId) → reads u e ≡ false → MayFlow e u w → u ≡ w
-unread nothing u w none flow = flow
-unread (assign target values place) u w none flow = ⊎_elim (λ p. absurd (both_ways (is_read u values) none p.1)) (λ p. p.1) flow
-unread (next a b) u w none flow =
-    let parts = or_parts (reads u a) (reads u b) none in
-    let here : u ≡ flow.0 = unread a u flow.0 parts.0 flow.1 in
-    unread b u w parts.1 (subst (λ v. MayFlow b v w) (sym here) flow.2)
-unread (choose tests a b place) u w none flow =
-    let parts = or_parts (is_read u tests) (reads u a || reads u b) none in
-    let arms = or_parts (reads u a) (reads u b) parts.1 in
-    ⊎_elim (λ first. unread a u w arms.0 first) (λ more. ⊎_elim (λ second. unread b u w arms.1 second) (λ tested. absurd (both_ways (is_read u tests) parts.0 tested.1)) more) flow
-unread (observe values) u w none flow = flow
-unread (repeat tests body place) u w none flow =
-    let parts = or_parts (is_read u tests) (reads u body) none in
-    let only : (v : VarId) → MayFlow body u v → u ≡ v = λ v. unread body u v parts.1 in
-    ⊎_elim (λ turns. steps_from (MayFlow body) u only w turns)
-    (λ tested.
-    let here : u ≡ tested.1 = steps_from (MayFlow body) u only tested.1 tested.2 in
-    absurd (both_ways (is_read u tests) parts.0 (ap (λ v. is_read v tests) here ∙ tested.3)))
-    flow
-unread (count parameter bounds body place) u w none flow =
-    let parts = or_parts (is_read u (reads_in bounds)) (reads u body) none in
-    let only : (v : VarId) → Keeping parameter (MayFlow body) u v → u ≡ v = λ v turn. ⊎_elim (λ same. same.1) (λ other. unread body u v parts.1 other.1) turn in
-    ⊎_elim
-    (λ turns.
-    let here : u ≡ turns.0 = ⊎_elim (λ given. absurd (both_ways (is_read u (reads_in bounds)) parts.0 given.1)) (λ kept. kept.1) turns.1 in
-    turned_from bounds (Keeping parameter (MayFlow body)) u only w (subst (λ v. Turned bounds (Keeping parameter (MayFlow body)) v w) (sym here) turns.2))
-    (λ tested. absurd (both_ways (is_read u (reads_in bounds)) parts.0 tested.1)) flow.1
+mutual
+  pub keeps : FlowsKeep
+  keeps nothing u w none = (λ h. h, λ h. h)
+  keeps (assign target values place) u w none = (
+    λ h. ⊎_elim (λ p. absurd (both_ways (is_same w target) none p.0)) (λ p. p.1) h,
+    λ e. inr (none, e),
+  )
+  keeps (next a b) u w none =
+      let parts = or_parts (sets w a) (sets w b) none in (
+        λ h. let last = (keeps b h.0 w parts.1).0 h.2 in (keeps a u w parts.0).0 (subst (λ x. MayFlow a u x) last h.1),
+        λ e. (w, (keeps a u w parts.0).1 e, (keeps b w w parts.1).1 refl),
+      )
+  keeps (choose tests a b place) u w none =
+      let parts = or_parts (sets w a) (sets w b) none in (
+        λ h. ⊎_elim (λ first. (keeps a u w parts.0).0 first) (λ more. ⊎_elim (λ second. (keeps b u w parts.1).0 second) (λ tested. absurd (both_ways (sets w a || sets w b) none tested.0)) more) h,
+        λ e. inl ((keeps a u w parts.0).1 e),
+      )
+  keeps (observe values) u w none = (λ h. h, λ h. h)
+  keeps (repeat tests body place) u w none =
+      let only : (v : VarId) → MayFlow body v w → v ≡ w = λ v flow. (keeps body v w none).0 flow in (
+        λ h. ⊎_elim
+            (λ at_head. ⊎_elim (λ turns. steps_to (MayFlow body) w only u turns) (λ tested. absurd (both_ways (sets w body) none tested.0)) at_head)
+            (λ left. exited_to (MayFlow body) (Leaves body) (ExitTests body) (sets w body) w none only (λ v. leaves_keep body v w none) u left) h,
+        λ e. inl (inl (subst (Steps (MayFlow body) u) e stay)),
+      )
+  keeps (count parameter bounds body place) u w none =
+      let parts = or_parts (is_same w (Some parameter)) (sets w body) none in
+      let R = Keeping parameter (MayFlow body) in
+      let only : (v : VarId) → R v w → v ≡ w = λ v turn. ⊎_elim (λ same. same.1) (λ other. (keeps body v w parts.1).0 other.1) turn in (
+        λ h. ⊎_elim
+            (λ turns.
+            let here : turns.0 ≡ w = ⊎_elim (λ over. turned_to bounds R w only turns.0 over) (λ left. exited_to R (Leaves body) (ExitTests body) (sets w body) w parts.1 only (λ v. leaves_keep body v w parts.1) turns.0 left) turns.2 in
+            ⊎_elim (λ given. absurd (both_ways (is_same w (Some parameter)) parts.0 (ap (λ x. is_same x (Some parameter)) (sym here) ∙ given.0))) (λ kept. kept.1 ∙ here) turns.1)
+            (λ tested. absurd (both_ways (sets w body) parts.1 tested.0)) h.1,
+        λ e. (parts.0, inl (w, inr (parts.0, e), inl (turned_here bounds R w (inr (parts.0, (keeps body w w parts.1).1 refl))))),
+      )
+  keeps (endless body) u w none = (
+    λ h. ⊎_elim
+        (λ on. steps_to (MayFlow body) w (λ v flow. (keeps body v w none).0 flow) u on.1)
+        (λ left. exited_to (MayFlow body) (Leaves body) (ExitTests body) (sets w body) w none (λ v flow. (keeps body v w none).0 flow) (λ v. leaves_keep body v w none) u left) h,
+    λ e. endless_keeps body u w e (has_exit body) refl (leaves_here body w none),
+  )
+  keeps (exit tests a b place) u w none = keeps b u w (or_parts (sets w a) (sets w b) none).1
+
+  -- where a loop is left, a variable that is not set comes from itself alone
+  pub leaves_keep : (e : Effect) (u w : VarId) → sets w e ≡ false → Leaves e u w → u ≡ w
+  leaves_keep nothing u w none h = absurd h
+  leaves_keep (assign target values place) u w none h = absurd h
+  leaves_keep (next a b) u w none h =
+      let parts = or_parts (sets w a) (sets w b) none in
+      ⊎_elim (λ first. leaves_keep a u w parts.0 first) (λ q. (keeps a u w parts.0).0 (subst (MayFlow a u) (leaves_keep b q.0 w parts.1 q.2) q.1)) h
+  leaves_keep (choose tests a b place) u w none h =
+      let parts = or_parts (sets w a) (sets w b) none in
+      ⊎_elim (λ first. leaves_keep a u w parts.0 first) (λ second. leaves_keep b u w parts.1 second) h
+  leaves_keep (observe values) u w none h = absurd h
+  leaves_keep (repeat tests body place) u w none h = absurd h
+  leaves_keep (count parameter bounds body place) u w none h = absurd h
+  leaves_keep (endless body) u w none h = absurd h
+  leaves_keep (exit tests a b place) u w none h =
+      let parts = or_parts (sets w a) (sets w b) none in
+      ⊎_elim (λ flow. (keeps a u w parts.0).0 flow) (λ second. leaves_keep b u w parts.1 second) h
+
+  -- where there is an exit, a variable that is not set comes from itself
+  pub leaves_here : (e : Effect) (w : VarId) → sets w e ≡ false → has_exit e ≡ true → Leaves e w w
+  leaves_here nothing w none is = absurd cc
+  leaves_here (assign target values place) w none is = absurd cc
+  leaves_here (next a b) w none is =
+      let parts = or_parts (sets w a) (sets w b) none in
+      ⊎_elim (λ first. inl (leaves_here a w parts.0 first)) (λ second. inr (w, (keeps a w w parts.0).1 refl, leaves_here b w parts.1 second)) (or_cases (has_exit a) (has_exit b) is)
+  leaves_here (choose tests a b place) w none is =
+      let parts = or_parts (sets w a) (sets w b) none in
+      ⊎_elim (λ first. inl (leaves_here a w parts.0 first)) (λ second. inr (leaves_here b w parts.1 second)) (or_cases (has_exit a) (has_exit b) is)
+  leaves_here (observe values) w none is = absurd cc
+  leaves_here (repeat tests body place) w none is = absurd cc
+  leaves_here (count parameter bounds body place) w none is = absurd cc
+  leaves_here (endless body) w none is = absurd cc
+  leaves_here (exit tests a b place) w none is = inl ((keeps a w w (or_parts (sets w a) (sets w b) none).0).1 refl)
+
+mutual
+  -- what is not read flows to itself only
+  pub unread : (e : Effect) (u w : VarId) → reads u e ≡ false → MayFlow e u w → u ≡ w
+  unread nothing u w none flow = flow
+  unread (assign target values place) u w none flow = ⊎_elim (λ p. absurd (both_ways (is_read u values) none p.1)) (λ p. p.1) flow
+  unread (next a b) u w none flow =
+      let parts = or_parts (reads u a) (reads u b) none in
+      let here : u ≡ flow.0 = unread a u flow.0 parts.0 flow.1 in
+      unread b u w parts.1 (subst (λ v. MayFlow b v w) (sym here) flow.2)
+  unread (choose tests a b place) u w none flow =
+      let parts = or_parts (is_read u tests) (reads u a || reads u b) none in
+      let arms = or_parts (reads u a) (reads u b) parts.1 in
+      ⊎_elim (λ first. unread a u w arms.0 first) (λ more. ⊎_elim (λ second. unread b u w arms.1 second) (λ tested. absurd (both_ways (is_read u tests) parts.0 tested.1)) more) flow
+  unread (observe values) u w none flow = flow
+  unread (repeat tests body place) u w none flow =
+      let parts = or_parts (is_read u tests) (reads u body) none in
+      let only : (v : VarId) → MayFlow body u v → u ≡ v = λ v. unread body u v parts.1 in
+      ⊎_elim
+      (λ at_head. ⊎_elim (λ turns. steps_from (MayFlow body) u only w turns)
+      (λ tested.
+      let here : u ≡ tested.1 = steps_from (MayFlow body) u only tested.1 tested.2 in
+      absurd (both_ways (is_read u tests) parts.0 (ap (λ v. is_read v tests) here ∙ tested.3)))
+      at_head)
+      (λ left. exited_from (MayFlow body) (Leaves body) (ExitTests body) (sets w body) u only (λ v. unread_leaving body u v parts.1) (unread_by_tests body u parts.1) w left)
+      flow
+  unread (count parameter bounds body place) u w none flow =
+      let parts = or_parts (is_read u (reads_in bounds)) (reads u body) none in
+      let R = Keeping parameter (MayFlow body) in
+      let only : (v : VarId) → R u v → u ≡ v = λ v turn. ⊎_elim (λ same. same.1) (λ other. unread body u v parts.1 other.1) turn in
+      ⊎_elim
+      (λ turns.
+      let here : u ≡ turns.0 = ⊎_elim (λ given. absurd (both_ways (is_read u (reads_in bounds)) parts.0 given.1)) (λ kept. kept.1) turns.1 in
+      ⊎_elim (λ over. turned_from bounds R u only w (subst (λ v. Turned bounds R v w) (sym here) over))
+      (λ left. exited_from R (Leaves body) (ExitTests body) (sets w body) u only (λ v. unread_leaving body u v parts.1) (unread_by_tests body u parts.1) w (subst (λ v. Exited (Steps R) (Leaves body) (ExitTests body) (sets w body) v w) (sym here) left))
+      turns.2)
+      (λ tested. absurd (both_ways (is_read u (reads_in bounds)) parts.0 tested.1)) flow.1
+  unread (endless body) u w none flow =
+      ⊎_elim (λ on. steps_from (MayFlow body) u (λ v. unread body u v none) w on.1)
+      (λ left. exited_from (MayFlow body) (Leaves body) (ExitTests body) (sets w body) u (λ v. unread body u v none) (λ v. unread_leaving body u v none) (unread_by_tests body u none) w left) flow
+  unread (exit tests a b place) u w none flow =
+      unread b u w (or_parts (reads u a) (reads u b) (or_parts (is_read u tests) (reads u a || reads u b) none).1).1 flow
+
+  -- the same where a loop is left
+  unread_leaving : (e : Effect) (u w : VarId) → reads u e ≡ false → Leaves e u w → u ≡ w
+  unread_leaving nothing u w none h = absurd h
+  unread_leaving (assign target values place) u w none h = absurd h
+  unread_leaving (next a b) u w none h =
+      let parts = or_parts (reads u a) (reads u b) none in
+      ⊎_elim (λ first. unread_leaving a u w parts.0 first)
+      (λ q. unread_leaving b u w parts.1 (subst (λ v. Leaves b v w) (sym (unread a u q.0 parts.0 q.1)) q.2)) h
+  unread_leaving (choose tests a b place) u w none h =
+      let arms = or_parts (reads u a) (reads u b) (or_parts (is_read u tests) (reads u a || reads u b) none).1 in
+      ⊎_elim (λ first. unread_leaving a u w arms.0 first) (λ second. unread_leaving b u w arms.1 second) h
+  unread_leaving (observe values) u w none h = absurd h
+  unread_leaving (repeat tests body place) u w none h = absurd h
+  unread_leaving (count parameter bounds body place) u w none h = absurd h
+  unread_leaving (endless body) u w none h = absurd h
+  unread_leaving (exit tests a b place) u w none h =
+      let arms = or_parts (reads u a) (reads u b) (or_parts (is_read u tests) (reads u a || reads u b) none).1 in
+      ⊎_elim (λ flow. unread a u w arms.0 flow) (λ second. unread_leaving b u w arms.1 second) h
+
+  -- and it comes to no condition of an exit
+  unread_by_tests : (e : Effect) (u : VarId) → reads u e ≡ false → ¬ ExitTests e u
+  unread_by_tests nothing u none h = h
+  unread_by_tests (assign target values place) u none h = h
+  unread_by_tests (next a b) u none h =
+      let parts = or_parts (reads u a) (reads u b) none in
+      ⊎_elim (λ first. unread_by_tests a u parts.0 first)
+      (λ q. unread_by_tests b u parts.1 (subst (ExitTests b) (sym (unread a u q.0 parts.0 q.1)) q.2)) h
+  unread_by_tests (choose tests a b place) u none h =
+      let arms = or_parts (reads u a) (reads u b) (or_parts (is_read u tests) (reads u a || reads u b) none).1 in
+      ⊎_elim (λ first. unread_by_tests a u arms.0 first) (λ second. unread_by_tests b u arms.1 second) h
+  unread_by_tests (observe values) u none h = h
+  unread_by_tests (repeat tests body place) u none h = h
+  unread_by_tests (count parameter bounds body place) u none h = h
+  unread_by_tests (endless body) u none h = h
+  unread_by_tests (exit tests a b place) u none h =
+      let parts = or_parts (is_read u tests) (reads u a || reads u b) none in
+      ⊎_elim (λ tested. both_ways (is_read u tests) parts.0 tested) (λ second. unread_by_tests b u (or_parts (reads u a) (reads u b) parts.1).1 second) h
 
 one_of_two : (a b c d : Bool) → ((a ≡ true) ⊎ (b ≡ true)) ⊎ ((c ≡ true) ⊎ (d ≡ true)) → ((a || b) ≡ true) ⊎ ((c || d) ≡ true)
 one_of_two a b c d h = ⊎_elim (λ x. inl (⊎_elim (or_left a b) (or_right a b) x)) (λ x. inr (⊎_elim (or_left c d) (or_right c d) x)) h
@@ -174,6 +305,10 @@ sets_by v (repeat tests body place) h = sets_by v body h
 sets_by v (count parameter bounds body place) h =
     ⊎_elim (λ same. inr (or_left (is_same v (Some parameter)) (counts v body) same))
     (λ later. ⊎_elim (λ one. inl one) (λ two. inr (or_right (is_same v (Some parameter)) (counts v body) two)) (sets_by v body later)) (or_cases (is_same v (Some parameter)) (sets v body) h)
+sets_by v (endless body) h = sets_by v body h
+sets_by v (exit tests a b place) h =
+    ⊎_elim (λ first. one_of_two (assigns v a) (assigns v b) (counts v a) (counts v b) (⊎_elim (λ x. inl (inl x)) (λ x. inr (inl x)) (sets_by v a first)))
+    (λ second. one_of_two (assigns v a) (assigns v b) (counts v a) (counts v b) (⊎_elim (λ x. inl (inr x)) (λ x. inr (inr x)) (sets_by v b second))) (or_cases (sets v a) (sets v b) h)
 
 -- ---- ways
 
@@ -181,7 +316,7 @@ sets_by v (count parameter bounds body place) h =
 pub without : (v : VarId) (front back : List VarId) → stands_in v front ≡ false → stands_in v back ≡ false → stands_in v (front ++ back) ≡ false
 without v front back f b = list_any-append (λ (w : VarId). w.0 == v.0) front back ∙ ap₂ ◌||◌ f b
 
-without_target : (v : VarId) (target : Option VarId) → is_same v target ≡ false → stands_in v (option_to_list target) ≡ false
+pub without_target : (v : VarId) (target : Option VarId) → is_same v target ≡ false → stands_in v (option_to_list target) ≡ false
 without_target v (Some w) none = ap (λ b. b || false) none
 without_target v None none = refl
 
@@ -202,21 +337,56 @@ pub turns_free : {A : Ways} (bounds : Option (List Read)) (v : VarId) → Free A
 turns_free (Some reads) v one = ([], no_turn, refl)
 turns_free None v one = (one.0 ++ [], (one.0, [], refl, one.1, no_turn), without v one.0 [] one.2 refl)
 
--- some way goes on without a variable that is not set
-pub goes_free : (e : Effect) (v : VarId) → sets v e ≡ false → Free (Goes e) v
-goes_free nothing v none = ([], refl, refl)
-goes_free (assign target values place) v none = (option_to_list target, refl, without_target v target none)
-goes_free (next a b) v none =
-    let parts = or_parts (sets v a) (sets v b) none in
-    let first = goes_free a v parts.0 in
-    let second = goes_free b v parts.1 in
-    (first.0 ++ second.0, (first.0, second.0, refl, first.1, second.1), without v first.0 second.0 first.2 second.2)
-goes_free (choose tests a b place) v none =
-    let first = goes_free a v (or_parts (sets v a) (sets v b) none).0 in
-    (first.0, inl first.1, first.2)
-goes_free (observe values) v none = ([], refl, refl)
-goes_free (repeat tests body place) v none = ([], no_turn, refl)
-goes_free (count parameter bounds body place) v none = let inner = turns_free bounds v (goes_free body v (or_parts (is_same v (Some parameter)) (sets v body) none).1) in (forgetting parameter inner.0, (inner.0, inner.1, refl), forgotten parameter v inner.0 inner.2)
+-- no turn sets a variable that none of the ways sets
+turns_unset : {A : Ways} (v : VarId) → ((way : List VarId) → A way → stands_in v way ≡ false) → (way : List VarId) → Turns A way → stands_in v way ≡ false
+turns_unset v none way no_turn = refl
+turns_unset v none way (turn {front = front} {back = back} first rest) = without v front back (none front first) (turns_unset v none back rest)
+
+within_unset : {A : Ways} (bounds : Option (List Read)) (v : VarId) → ((way : List VarId) → A way → stands_in v way ≡ false) → (way : List VarId) → TurnsWithin bounds A way → stands_in v way ≡ false
+within_unset (Some reads) v none way turns = turns_unset v none way turns
+within_unset None v none way h = subst (λ w. stands_in v w ≡ false) (sym h.2) (without v h.0 h.1 (none h.0 h.3) (turns_unset v none h.1 h.4))
+
+-- nor does one after some turns
+left_unset : {A B : Ways} (v : VarId) → ((way : List VarId) → A way → stands_in v way ≡ false) → ((way : List VarId) → B way → stands_in v way ≡ false) → (way : List VarId) → Follow (Turns A) B way → stands_in v way ≡ false
+left_unset v none last way h = subst (λ w. stands_in v w ≡ false) (sym h.2) (without v h.0 h.1 (turns_unset v none h.0 h.3) (last h.1 h.4))
+
+mutual
+  -- no way sets a variable that is not set
+  pub goes_unset : (e : Effect) (v : VarId) → sets v e ≡ false → (way : List VarId) → Goes e way → stands_in v way ≡ false
+  goes_unset nothing v none way h = subst (λ w. stands_in v w ≡ false) (sym h) refl
+  goes_unset (assign target values place) v none way h = subst (λ w. stands_in v w ≡ false) (sym h) (without_target v target none)
+  goes_unset (next a b) v none way h =
+      let parts = or_parts (sets v a) (sets v b) none in
+      subst (λ w. stands_in v w ≡ false) (sym h.2) (without v h.0 h.1 (goes_unset a v parts.0 h.0 h.3) (goes_unset b v parts.1 h.1 h.4))
+  goes_unset (choose tests a b place) v none way h =
+      let parts = or_parts (sets v a) (sets v b) none in
+      ⊎_elim (λ first. goes_unset a v parts.0 way first) (λ second. goes_unset b v parts.1 way second) h
+  goes_unset (observe values) v none way h = subst (λ w. stands_in v w ≡ false) (sym h) refl
+  goes_unset (repeat tests body place) v none way h = ⊎_elim (λ turns. turns_unset v (goes_unset body v none) way turns) (λ left. left_unset v (goes_unset body v none) (exits_unset body v none) way left) h
+  goes_unset (count parameter bounds body place) v none way h =
+      let inner = (or_parts (is_same v (Some parameter)) (sets v body) none).1 in
+      subst (λ w. stands_in v w ≡ false) (sym h.2)
+      (forgotten parameter v h.0 (⊎_elim (λ turns. within_unset bounds v (goes_unset body v inner) h.0 turns) (λ left. left_unset v (goes_unset body v inner) (exits_unset body v inner) h.0 left) h.1))
+  goes_unset (endless body) v none way h = left_unset v (goes_unset body v none) (exits_unset body v none) way h
+  goes_unset (exit tests a b place) v none way h = goes_unset b v (or_parts (sets v a) (sets v b) none).1 way h
+
+  pub exits_unset : (e : Effect) (v : VarId) → sets v e ≡ false → (way : List VarId) → Exits e way → stands_in v way ≡ false
+  exits_unset nothing v none way h = absurd h
+  exits_unset (assign target values place) v none way h = absurd h
+  exits_unset (next a b) v none way h =
+      let parts = or_parts (sets v a) (sets v b) none in
+      ⊎_elim (λ first. exits_unset a v parts.0 way first)
+      (λ q. subst (λ w. stands_in v w ≡ false) (sym q.2) (without v q.0 q.1 (goes_unset a v parts.0 q.0 q.3) (exits_unset b v parts.1 q.1 q.4))) h
+  exits_unset (choose tests a b place) v none way h =
+      let parts = or_parts (sets v a) (sets v b) none in
+      ⊎_elim (λ first. exits_unset a v parts.0 way first) (λ second. exits_unset b v parts.1 way second) h
+  exits_unset (observe values) v none way h = absurd h
+  exits_unset (repeat tests body place) v none way h = absurd h
+  exits_unset (count parameter bounds body place) v none way h = absurd h
+  exits_unset (endless body) v none way h = absurd h
+  exits_unset (exit tests a b place) v none way h =
+      let parts = or_parts (sets v a) (sets v b) none in
+      ⊎_elim (λ flow. goes_unset a v parts.0 way flow) (λ second. exits_unset b v parts.1 way second) h
 
 -- ---- what is set
 
@@ -227,5 +397,6 @@ set_where false true none = refl
 set_where false false none = absurd (none (refl, refl))
 
 pub exports_are_set : ExportsAreSet
-exports_are_set p sub none v exported =
-    set_where (imports v sub) (defines v sub.statements) (λ unset. none.none_unset sub.end v (left exported unset.0 (goes_free (effects sub.statements) v unset.1)))
+exports_are_set p sub none ended v exported =
+    set_where (imports v sub) (defines v sub.statements)
+    (λ unset. none.none_unset sub.end v (left exported unset.0 (ended.0, ended.1, goes_unset (effects sub.statements) v unset.1 ended.0 ended.1)))

@@ -12,7 +12,7 @@ use Rattle.spx_core.specs.declared.expression.CoreExpr.{CoreExpr}
 use Rattle.spx_core.specs.declared.dependency.CoreDerivesItem.{CoreDerivesItem}
 use Rattle.spx_core.specs.declared.statement.CoreStmt.{CoreStmt, CoreStmt-F, out-CoreStmt, map-CoreStmt, fold_out-CoreStmt}
 use Rattle.spx_core.specs.declared.statement.CoreStmt.TheVariants as stmt
-use Rattle.spx_core.specs.declared.statement.CoreStmt.TheVariants.{Null, Assignment, If, Case, Loop, outs-Null, outs-Assignment, outs-If, outs-Case, outs-Loop, outs-Assertion}
+use Rattle.spx_core.specs.declared.statement.CoreStmt.TheVariants.{Null, Assignment, If, Case, Loop, outs-Null, outs-Assignment, outs-If, outs-Case, outs-Loop, outs-Assertion, outs-Exit}
 use Rattle.spx_core.specs.declared.statement.CoreArm.{CoreArm, out-CoreArm, fold_out-CoreArm}
 use Rattle.spx_core.specs.declared.statement.CoreAlternative.{CoreAlternative, out-CoreAlternative, fold_out-CoreAlternative}
 use Rattle.spx_core.specs.declared.statement.CoreCount.{CoreCount}
@@ -83,6 +83,12 @@ parameters-For s x word body closing c is for = parameters-Loop s x word body cl
 
 pub parameters-Assertion : (kind : AssertionKind) (place : Place) (condition : CoreExpr) → parameters_by (stmt.Assertion kind place condition) ≡ []
 parameters-Assertion kind place condition = parameters_at (stmt.Assertion kind place condition) (CoreStmt-F.Assertion kind place condition) (outs-Assertion kind place condition)
+
+pub parameters-Endless : (s : CoreStmt) (x : CoreScheme) (word : Place) (body : List CoreStmt) (closing : Closing) → s ≡ Loop x word body closing → x ≡ scheme.Endless → parameters_by s ≡ parameters_by_stmts body
+parameters-Endless s x word body closing is endless = parameters-Loop s x word body closing is ∙ ap (λ y. declared_by_scheme y ++ parameters_by_stmts body) endless
+
+pub parameters-Exit : (place : Place) (condition : Option CoreExpr) → parameters_by (stmt.Exit place condition) ≡ []
+parameters-Exit place condition = parameters_at (stmt.Exit place condition) (CoreStmt-F.Exit place condition) (outs-Exit place condition)
 
 -- ---- of arms, alternatives and statements in a row
 
