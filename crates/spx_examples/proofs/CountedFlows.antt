@@ -54,20 +54,20 @@ from_none flow = not_from (subst (λ e. MayFlow e i y) loop_effect flow)
 -- ---- ways
 
 pub past_bounds : Free (Goes (effect (each false up_to_x taking_i))) y
-past_bounds = (skips_is y (effect (each false up_to_x taking_i))).0 refl
+past_bounds = (skips_is y (effect (each false up_to_x taking_i)) refl).0 refl
 
 pub not_past : ¬ Free (Goes (effect (each false None taking_i))) y
-not_past h = absurd (let skipped = (skips_is y (effect (each false None taking_i))).1 h in cc)
+not_past h = absurd (let skipped = (skips_is y (effect (each false None taking_i)) refl).1 h in cc)
 
 -- the only read before I is set is that of X
 not_among : ¬ Among {A = Read} ((place 5 33, x) ∷ []) (place 6 12, i)
 not_among h = ⊎_elim (λ is. let other : 0 ≡ 2 = ap (λ (r : Read). r.1.0) is in absurd (cc)) (λ none. none) h
 
 pub read_in : ¬ Free (Reaches (effect (each false up_to_x taking_i)) (place 6 12) i) i
-read_in h = not_among ((first_reads_are (up_to taking) (place 6 12) i).1 (subst (λ e. Free (Reaches e (place 6 12) i) i) loop_effect h))
+read_in h = not_among ((first_reads_are (up_to taking) refl (place 6 12) i).1 (subst (λ e. Free (Reaches e (place 6 12) i) i) loop_effect h))
 
 pub unset_after : Free (Goes (effect (each false None taking_i))) i
-unset_after = (skips_is i (effect (each false None taking_i))).0 refl
+unset_after = (skips_is i (effect (each false None taking_i)) refl).0 refl
 
 -- ---- occurrences
 

@@ -1,5 +1,5 @@
 -- What is found of the flow of the variants of `Inc` and `Flag`.
-use Rattle.std.proofs.Common.{◌≡◌, ℤ, pos, List, [], ◌∷◌, ◌++◌, Option, Some, None, refl, ap, ap₂, ◌∙◌}
+use Rattle.std.proofs.Common.{◌≡◌, ℤ, pos, false, List, [], ◌∷◌, ◌++◌, Option, Some, None, refl, ap, ap₂, ◌∙◌}
 use Rattle.std.specs.List.{filter_map}
 use denote.Hole.Carrier.{roll}
 use Rattle.spx_text.specs.declared.place.Place.{Place}
@@ -13,8 +13,8 @@ use Rattle.spx_core.specs.declared.statement.CoreStmt.{CoreStmt, CoreStmt-F, rol
 use Rattle.spx_core.specs.declared.statement.CoreStmt.TheVariants as stmt
 use Rattle.spx_core.specs.declared.statement.CoreArm.{fold-roll-CoreArm}
 use Rattle.spx_core.specs.declared.statement.CoreChoice.{CoreChoice}
-use Rattle.spx_core.specs.Commands.{Command, Skip, Set, Then, Choose, Assertion, alternative_step, arm_step, stmt_step, commands}
-use Rattle.spx_core.specs.Effects.{Effect, assign, choose, effect, effects, next, nothing, observe, read_of}
+use Rattle.spx_core.specs.Commands.{Command, Skip, Set, Then, Choose, Assertion, alternative_step, arm_step, stmt_step, commands, leaves}
+use Rattle.spx_core.specs.Effects.{Effect, assign, choose, effect, effects, next, nothing, observe, read_of, chosen}
 use Rattle.spx_core.specs.FlowRules.{body_effect, HasNoFlowFinding}
 use Rattle.spx_core.specs.Reads.{names_read, names_step}
 use Rattle.spx_core.specs.Uses.{variable_of}
@@ -58,10 +58,11 @@ module _ (rest : List CoreStmt) where
   stepping = first_effect step (Set (x_named 6 4) (successor 6 9)) (assignment_is (x_named 6 4) (successor 6 9)) ∙ ap (λ e. next e (effects rest)) (step_effect 6 4 9)
 
   -- an `if` whose condition reads these names
-  choosing : (s : CoreStmt) (at : Place) (condition : CoreExpr) (a b : Command) (names : List CoreName) → commands (s ∷ []) ≡ Then (Choose at condition a b) Skip → names_read condition ≡ names → effects (s ∷ rest) ≡ next (choose (filter_map read_of names) (effect a) (effect b) at) (effects rest)
-  choosing s at condition a b names is are =
+  choosing : (s : CoreStmt) (at : Place) (condition : CoreExpr) (a b : Command) (names : List CoreName) → commands (s ∷ []) ≡ Then (Choose at condition a b) Skip → names_read condition ≡ names → leaves a ≡ false
+      → effects (s ∷ rest) ≡ next (choose (filter_map read_of names) (effect a) (effect b) at) (effects rest)
+  choosing s at condition a b names is are stays =
       first_effect s (Choose at condition a b) is
-      ∙ ap (λ names. next (choose (filter_map read_of names) (effect a) (effect b) at) (effects rest)) are
+      ∙ ap₂ (λ names left. next (chosen left (filter_map read_of names) (effect a) (effect b) at) (effects rest)) are stays
 
   -- a `check` whose condition reads these names
   looking : (at : Place) (condition : CoreExpr) (names : List CoreName) → names_read condition ≡ names → effects (stmt.Assertion assertion.Check at condition ∷ rest) ≡ next (observe (filter_map read_of names)) (effects rest)
@@ -108,7 +109,7 @@ decides_effect : body_effect decides_nothing ≡ next (where_positive (next noth
 decides_effect =
     let rest = gives (y_at 8 4) (Name (in_flag.x_at 8 9)) ∷ [] in
     let body = stmt.Null (place 6 7) ∷ [] in
-    choosing rest (stmt.If (arm (place 5 4) positive body ∷ []) None closing) (place 5 4) positive (commands body) Skip _ (if_is (place 5 4) positive body closing) condition_reads
+    choosing rest (stmt.If (arm (place 5 4) positive body ∷ []) None closing) (place 5 4) positive (commands body) Skip _ (if_is (place 5 4) positive body closing) condition_reads (ap leaves (null_is (place 6 7)))
     ∙ ap₂ (λ body after. next (where_positive body nothing) after) (ap effect (null_is (place 6 7))) (giving_name [] (y_at 8 4) (in_flag.x_at 8 9))
 
 both_effect : body_effect sets_in_both ≡ next (where_positive (next (assign (Some y) [] (place 6 7)) nothing) (next (assign (Some y) [] (place 8 7)) nothing)) nothing
@@ -116,7 +117,7 @@ both_effect =
     let first = setting ∷ [] in
     let second = gives (y_at 8 7) (Number (pos 0) (place 8 12)) ∷ [] in
     let closing : Closing = record { end = place 9 4; word = place 9 8 } in
-    choosing [] (stmt.If (arm (place 5 4) positive first ∷ []) (Some second) closing) (place 5 4) positive (commands first) (commands second) _ (if_else_is (place 5 4) positive first second closing) condition_reads
+    choosing [] (stmt.If (arm (place 5 4) positive first ∷ []) (Some second) closing) (place 5 4) positive (commands first) (commands second) _ (if_else_is (place 5 4) positive first second closing) condition_reads (ap leaves (assignment_is (named (y_at 6 7)) (Number (pos 1) (place 6 12))))
     ∙ ap₂ (λ one other. next (where_positive one other) nothing) (giving_number [] (y_at 6 7) (pos 1) (place 6 12)) (giving_number [] (y_at 8 7) (pos 0) (place 8 12))
 
 arm_effect : body_effect reads_after_arm ≡ next (choose ((place 6 7, x) ∷ []) (next (assign (Some y) [] (place 7 7)) nothing) nothing (place 6 4)) (next (assign (Some x) ((place 9 9, y) ∷ []) (place 9 4)) nothing)
@@ -125,7 +126,7 @@ arm_effect =
     let rest = gives (x_at 9 4) (Name (local_y_at 9 9)) ∷ [] in
     let closing : Closing = record { end = place 8 4; word = place 8 8 } in
     let test = fold-Infix names_step op.Greater (place 6 9) (Name (x_at 6 7)) (Number (pos 0) (place 6 11)) ∙ ap₂ (λ (a b : List CoreName). a ++ b) (fold-Name names_step (x_at 6 7)) (fold-Number names_step (pos 0) (place 6 11)) in
-    choosing rest (stmt.If (arm (place 6 4) (positive_at 6) body ∷ []) None closing) (place 6 4) (positive_at 6) (commands body) Skip _ (if_is (place 6 4) (positive_at 6) body closing) test
+    choosing rest (stmt.If (arm (place 6 4) (positive_at 6) body ∷ []) None closing) (place 6 4) (positive_at 6) (commands body) Skip _ (if_is (place 6 4) (positive_at 6) body closing) test (ap leaves (assignment_is (named (local_y_at 7 7)) (Number (pos 1) (place 7 12))))
     ∙ ap₂ (λ one after. next (choose ((place 6 7, x) ∷ []) one nothing (place 6 4)) after) (giving_number [] (local_y_at 7 7) (pos 1) (place 7 12)) (giving_name [] (x_at 9 4) (local_y_at 9 9))
 
 unset_effect : body_effect gives_unset ≡ next (assign (Some x) ((place 6 9, y) ∷ []) (place 6 4)) nothing

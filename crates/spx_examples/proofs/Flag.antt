@@ -9,6 +9,7 @@ use Rattle.spx_core.specs.declared.rule.ExprType.TheVariants.{Universal, Of}
 use Rattle.spx_core.specs.Commands.{Command, Skip, Set, Then, Choose, commands}
 use Rattle.spx_core.specs.Judged.{◌>>=◌, condition, expr_step, judged, operand_of, typing}
 use Rattle.spx_core.specs.Statements.{Typed, judged_command}
+use Rattle.spx_core.specs.declared.statement.Around.TheVariants.{Other}
 use Rattle.spx_core.specs.Obeyed.{Obeys, obeyed_command}
 use Rattle.spx_core.specs.Reads.{names_read, names_step}
 use Rattle.spx_core.specs.Effects.{assign, choose, effect, next, nothing, read_of}
@@ -53,7 +54,7 @@ typed =
     ∙ ap₂ (λ test right. and_no_more (and_no_more (and_no_more ((test >>= λ t. condition t) >>= λ _. and_no_more (right >>= λ v. operand_of INTEGER v) >>= λ _. Ok tt)))) judged_positive judged_one
 
 pub obeys : Obeys flag_program
-obeys = ap (λ body. and_no_more (obeyed_command body)) flag_command
+obeys = ap (λ body. and_no_more (obeyed_command Other body)) flag_command
 
 -- ---- flow
 

@@ -18,7 +18,7 @@ use Rattle.spx_core.specs.FlowRules.{body_effect, mark, Missing, Unused, Ineffec
 use Rattle.spx_core.specs.Marks.{marked}
 use Rattle.spx_examples.specs.Found.{Found, Finds, nothing_found}
 use Rattle.spx_examples.proofs.Lists.{same, turned, chain, both, not_is, and_is, Among, only, those, of_both, of_each, of_one, of_those, contains_is, in_target, stands_is, stands_any}
-use Rattle.spx_examples.proofs.EffectLists.{has_loop, marked_loops, sources, sources_are, occurrences, occurrences_are, skips, skips_is, first_reads, first_reads_are}
+use Rattle.spx_examples.proofs.EffectLists.{has_loop, marked_loops, sources, sources_are, occurrences, occurrences_are, no_exits, skips, skips_is, first_reads, first_reads_are}
 
 -- ---- lists
 
@@ -140,31 +140,31 @@ module _ (p : Program) (sub : Sub) where
       ))
 
   -- a read, or at the end
-  unset_by : (at : Place) (v : VarId) → MayBeUnset p sub at v → Among (reads_unset body) (at, v) ⊎ Among (left_unset body) (at, v)
-  unset_by at v (read unset way) = inl ((of_those (λ (r : Read). not (starts_set p sub r.1)) (first_reads body) (at, v)).1 ((not_is (starts_set p sub v)).1 unset, (first_reads_are body at v).1 way))
-  unset_by at v (left exported unset way) =
-      let test = (and_is (not (imports v sub)) (skips v body)).1 ((not_is (imports v sub)).1 unset, (skips_is v body).1 way) in
+  unset_by : has_loop body ≡ false → (at : Place) (v : VarId) → MayBeUnset p sub at v → Among (reads_unset body) (at, v) ⊎ Among (left_unset body) (at, v)
+  unset_by no_loop at v (read unset way) = inl ((of_those (λ (r : Read). not (starts_set p sub r.1)) (first_reads body) (at, v)).1 ((not_is (starts_set p sub v)).1 unset, (first_reads_are body (no_exits body no_loop) at v).1 way))
+  unset_by no_loop at v (left exported unset way) =
+      let test = (and_is (not (imports v sub)) (skips v body)).1 ((not_is (imports v sub)).1 unset, (skips_is v body (no_exits body no_loop)).1 way) in
       inr ((of_each (λ w. only (is_left body w) ((sub.end, w) ∷ [])) (exports_of sub) (sub.end, v)).1 (v, (exports_are sub v).0 exported, (of_one (is_left body v) (sub.end, v) (sub.end, v)).1 (test, refl)))
 
-  is_read : (at : Place) (v : VarId) → Among (reads_unset body) (at, v) → MayBeUnset p sub at v
-  is_read at v h = let r = (of_those (λ (q : Read). not (starts_set p sub q.1)) (first_reads body) (at, v)).0 h in read ((not_is (starts_set p sub v)).0 r.0) ((first_reads_are body at v).0 r.1)
+  is_read : has_loop body ≡ false → (at : Place) (v : VarId) → Among (reads_unset body) (at, v) → MayBeUnset p sub at v
+  is_read no_loop at v h = let r = (of_those (λ (q : Read). not (starts_set p sub q.1)) (first_reads body) (at, v)).0 h in read ((not_is (starts_set p sub v)).0 r.0) ((first_reads_are body (no_exits body no_loop) at v).0 r.1)
 
-  is_at_end : (at : Place) (v : VarId) → Among (left_unset body) (at, v) → MayBeUnset p sub at v
-  is_at_end at v h =
+  is_at_end : has_loop body ≡ false → (at : Place) (v : VarId) → Among (left_unset body) (at, v) → MayBeUnset p sub at v
+  is_at_end no_loop at v h =
       let r = (of_each (λ w. only (is_left body w) ((sub.end, w) ∷ [])) (exports_of sub) (at, v)).0 h in
       let o = (of_one (is_left body r.0) (sub.end, r.0) (at, v)).0 r.2 in
       let tests = (and_is (not (imports r.0 sub)) (skips r.0 body)).0 o.0 in
-      subst (λ (q : Read). MayBeUnset p sub q.0 q.1) o.1 (left ((exports_are sub r.0).1 r.1) ((not_is (imports r.0 sub)).0 tests.0) ((skips_is r.0 body).0 tests.1))
+      subst (λ (q : Read). MayBeUnset p sub q.0 q.1) o.1 (left ((exports_are sub r.0).1 r.1) ((not_is (imports r.0 sub)).0 tests.0) ((skips_is r.0 body (no_exits body no_loop)).0 tests.1))
 
-  unset_are : (at : Place) (v : VarId) → MayBeUnset p sub at v ↔ Among (findings body).unset (at, v)
-  unset_are at v = chain (unset_by at v, λ h. ⊎_elim (is_read at v) (is_at_end at v) h) (turned (of_both (reads_unset body) (left_unset body) (at, v)))
+  unset_are : has_loop body ≡ false → (at : Place) (v : VarId) → MayBeUnset p sub at v ↔ Among (findings body).unset (at, v)
+  unset_are no_loop at v = chain (unset_by no_loop at v, λ h. ⊎_elim (is_read no_loop at v) (is_at_end no_loop at v) h) (turned (of_both (reads_unset body) (left_unset body) (at, v)))
 
   all_found : has_loop body ≡ false → Finds p sub (findings body)
   all_found no_loop = record {
     missing = λ u v. chain (missing_are no_loop u v) (turned (contains_is (findings body).missing (u, v)));
     unused = λ u v. chain (unused_are no_loop u v) (turned (contains_is (findings body).unused (u, v)));
     ineffective = λ at. chain (ineffective_are no_loop at) (turned (contains_is (findings body).ineffective at));
-    unset = λ at v. chain (unset_are at v) (turned (contains_is (findings body).unset (at, v)));
+    unset = λ at v. chain (unset_are no_loop at v) (turned (contains_is (findings body).unset (at, v)));
   }
 
   -- what is found is computed from the effect of the body

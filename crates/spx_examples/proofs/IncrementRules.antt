@@ -8,6 +8,7 @@ use Rattle.spx_core.specs.declared.rule.Typing.{Typing}
 use Rattle.spx_core.specs.Judged.{Judged, ◌>>=◌, condition, each}
 use Rattle.spx_core.specs.Commands.{Skip, Then, commands}
 use Rattle.spx_core.specs.Statements.{Typed, judged_command}
+use Rattle.spx_core.specs.declared.statement.Around.TheVariants.{Other}
 use Rattle.spx_core.specs.Obeyed.{Obeys, obeyed_command, reads_import}
 use Rattle.spx_core.specs.Reads.{names_read, names_step}
 use Rattle.spx_core.proofs.Callers.Expressions.{fold-Name, fold-Attribute, fold-Infix}
@@ -34,4 +35,4 @@ reads =
     ∙ ap₂ (λ (a b : List CoreName). a ++ b) (fold-Name names_step (x_at 3 9)) (fold-Attribute names_step (integer_at 3 13) (word (codes "Last") 3 21)))
 
 pub obeys : Obeys increment
-obeys = ap₂ (λ (pre : Judged ⊤) body. and_no_more (pre >>= λ _. obeyed_command body)) reads inc_command
+obeys = ap₂ (λ (pre : Judged ⊤) body. and_no_more (pre >>= λ _. obeyed_command Other body)) reads inc_command

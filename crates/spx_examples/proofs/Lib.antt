@@ -55,6 +55,10 @@ mod Loops
 mod LoopFlows
 mod LoopCuts
 mod LoopText
+mod Exits
+mod ExitFlows
+mod ExitPaths
+mod ExitText
 mod CountedLoops
 mod CountedFlows
 mod CountedCuts

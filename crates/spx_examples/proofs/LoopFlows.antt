@@ -78,13 +78,17 @@ turns_stay u v is stay = is
 turns_stay u v is (advance {v = w} step more) = turns_stay w v (turn_stays w (subst (λ a. MayFlow (last setting) a w) (sym is) step)) more
 
 y_comes : (v : VarId) → MayFlow (where_positive (last setting)) y v → (v ≡ x) ⊎ (v ≡ y)
-y_comes v (inl turns) = inr (sym (turns_stay y v refl turns))
-y_comes v (inr tested) = inl (sym ((same_is x v).0 (sym (or_none (0 == v.0)) ∙ tested.0)))
+y_comes v (inl (inl turns)) = inr (sym (turns_stay y v refl turns))
+y_comes v (inl (inr tested)) = inl (sym ((same_is x v).0 (sym (or_none (0 == v.0)) ∙ tested.0)))
+y_comes v (inr (u, turns, inl (inl none))) = absurd none
+y_comes v (inr (u, turns, inl (inr later))) = absurd later.2
+y_comes v (inr (u, turns, inr (set, inl none))) = absurd none
+y_comes v (inr (u, turns, inr (set, inr later))) = absurd later.2
 
 pub decides : (v : VarId) → MayFlow (effect deciding) y v ↔ ((v ≡ x) ⊎ (v ≡ y))
 decides v = subst (λ e. MayFlow e y v ↔ ((v ≡ x) ⊎ (v ≡ y))) (sym deciding_effect) (
   y_comes v,
-  λ h. ⊎_elim (λ is. subst (MayFlow (where_positive (last setting)) y) (sym is) (inr (refl, y, stay, refl))) (λ is. subst (MayFlow (where_positive (last setting)) y) (sym is) (inl stay)) h,
+  λ h. ⊎_elim (λ is. subst (MayFlow (where_positive (last setting)) y) (sym is) (inl (inr (refl, y, stay, refl)))) (λ is. subst (MayFlow (where_positive (last setting)) y) (sym is) (inl (inl stay))) h,
 )
 
 -- from Z to X there is no flow in one turn
@@ -101,22 +105,22 @@ y_to_x : (reads : List Read) → MayFlow (passing_from reads) y x
 y_to_x reads = (x, inl (refl, refl), (x, inr (refl, refl), refl))
 
 pub two_turns : MayFlow (effect passing_turn_by_turn) z x
-two_turns = subst (λ e. MayFlow e z x) (sym turns_effect) (inl (advance (z, inr (refl, refl), (y, inl (refl, refl), refl)) (advance (y_to_x ((place 7 12, z) ∷ [])) stay)))
+two_turns = subst (λ e. MayFlow e z x) (sym turns_effect) (inl (inl (advance (z, inr (refl, refl), (y, inl (refl, refl), refl)) (advance (y_to_x ((place 7 12, z) ∷ [])) stay))))
 
 pub mark_arrives : MayFlow (marked (place 7 7) m (effect passing_turn_by_turn)) m x
-mark_arrives = subst (λ e. MayFlow (marked (place 7 7) m e) m x) (sym turns_effect) (inl (advance (m, inr (refl, refl), (y, inl (refl, refl), refl)) (advance (y_to_x ((place 7 7, m) ∷ (place 7 12, z) ∷ [])) stay)))
+mark_arrives = subst (λ e. MayFlow (marked (place 7 7) m e) m x) (sym turns_effect) (inl (inl (advance (m, inr (refl, refl), (y, inl (refl, refl), refl)) (advance (y_to_x ((place 7 7, m) ∷ (place 7 12, z) ∷ [])) stay))))
 
 -- ---- ways
 
 pub past : Free (Goes (effect deciding)) x
-past = subst (λ e. Free (Goes e) x) (sym deciding_effect) ((skips_is x (where_positive (last setting))).0 refl)
+past = subst (λ e. Free (Goes e) x) (sym deciding_effect) ((skips_is x (where_positive (last setting)) refl).0 refl)
 
 pub read_after : Free (Reaches (effect copying_after) (place 8 9) x) x
-read_after = subst (λ e. Free (Reaches e (place 8 9) x) x) (sym after_effect) ((first_reads_are (next (where_positive (last setting)) (last (assign (Some y) ((place 8 9, x) ∷ []) (place 8 4)))) (place 8 9) x).0 (inr (inl refl)))
+read_after = subst (λ e. Free (Reaches e (place 8 9) x) x) (sym after_effect) ((first_reads_are (next (where_positive (last setting)) (last (assign (Some y) ((place 8 9, x) ∷ []) (place 8 4)))) refl (place 8 9) x).0 (inr (inl refl)))
 
 -- the only read before X is set is that of Y
 not_among : ¬ Among {A = Read} ((place 5 10, y) ∷ []) (place 7 12, x)
 not_among h = ⊎_elim (λ is. let other : 1 ≡ 0 = ap (λ (r : Read). r.1.0) is in absurd (cc)) (λ none. none) h
 
 pub read_in : ¬ Free (Reaches (effect copying_in) (place 7 12) x) x
-read_in h = not_among ((first_reads_are (where_positive (next setting (last (assign (Some y) ((place 7 12, x) ∷ []) (place 7 7))))) (place 7 12) x).1 (subst (λ e. Free (Reaches e (place 7 12) x) x) in_effect h))
+read_in h = not_among ((first_reads_are (where_positive (next setting (last (assign (Some y) ((place 7 12, x) ∷ []) (place 7 7))))) refl (place 7 12) x).1 (subst (λ e. Free (Reaches e (place 7 12) x) x) in_effect h))

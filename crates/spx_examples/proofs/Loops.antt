@@ -39,8 +39,12 @@ module _ (f : Frame) (s : Store) where
   given n = ap (λ a. use_value a (assign f.program (place_of (Number (pos 98) (place 8 9))) (Some x) s)) (eval-Number f n s (pos 98) (place 8 9))
 
 -- around a run from 98
-abbrev from_98 : Frame
+abbrev pub from_98 : Frame
 from_98 = around increment_without_pre inc_without_pre (x_is (pos 98))
+
+-- and from 99
+abbrev pub from_99 : Frame
+from_99 = around increment_without_pre inc_without_pre (x_is (pos 99))
 
 pub ended : runs_from 2 (pos 98) counting ≡ Ended (x_is (pos 100))
 unfolding value_of_op

@@ -38,13 +38,13 @@ module _ (subs : List Sub) where
   abbrev p : Program
   p = program_with subs
 
-  term_of_below : term_of p (now_term p) below_hundred ≡ below_now
+  pub term_of_below : term_of p (now_term p) below_hundred ≡ below_now
   term_of_below =
       term_of_operation p (now_term p) op.Less (place 5 9) 5 7 (expr.Number (pos 100) (place 5 11)) below_is_not
       ∙ ap (term.Infix sign.Less now_x) (term_with-Number (now_term p) (now_term p) (pos 100) (place 5 11))
 
   -- the condition asks for nothing
-  checks_below : (rest : Tree) → checks p (now_term p) [] below_hundred rest ≡ rest
+  pub checks_below : (rest : Tree) → checks p (now_term p) [] below_hundred rest ≡ rest
   checks_below rest =
       let hundred : CoreExpr = expr.Number (pos 100) (place 5 11) in
       checks-Infix p (now_term p) [] op.Less (place 5 9) (expr.Name (x_at 5 7)) hundred rest

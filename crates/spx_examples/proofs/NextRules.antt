@@ -9,6 +9,7 @@ use Rattle.spx_core.specs.declared.rule.Typing.{Typing}
 use Rattle.spx_core.specs.Commands.{Command, Skip, Then, Choose, commands}
 use Rattle.spx_core.specs.Judged.{Judged, ◌>>=◌, condition, expr_step, judged, typing}
 use Rattle.spx_core.specs.Statements.{Typed, judged_command}
+use Rattle.spx_core.specs.declared.statement.Around.TheVariants.{Other}
 use Rattle.spx_core.specs.Obeyed.{Obeys, obeyed_command}
 use Rattle.spx_core.proofs.Callers.Expressions.{fold-Number, fold-Infix}
 use Rattle.spx_meaning.specs.Literals.{literal, literal_in}
@@ -44,4 +45,4 @@ typed =
     ∙ ap₂ (λ test body. and_no_more (and_no_more (and_no_more (branch_judged test body)))) judged_below (step_typed 6 7 12)
 
 pub obeys : Obeys next_program
-obeys = ap (λ body. and_no_more (obeyed_command body)) next_command
+obeys = ap (λ body. and_no_more (obeyed_command Other body)) next_command

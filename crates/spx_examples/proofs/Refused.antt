@@ -2,6 +2,7 @@
 use Rattle.std.proofs.Common.{◌≡◌, ℕ, zero, suc, refl, ap, subst, ◌∙◌}
 use Rattle.std.specs.Prelude.{IsTrue, IsSome, IfSome}
 use Rattle.spx_core.specs.declared.entity.VarId.{VarId}
+use Rattle.spx_core.specs.declared.statement.Around.TheVariants.{Other}
 use Rattle.spx_core.specs.Obeyed.{Obeys, obeyed_command}
 use Rattle.spx_core.specs.Statements.{Typed, judged_command}
 use Rattle.spx_term.specs.Meaning.{value_of_op}
@@ -22,7 +23,7 @@ pub typed : Typed increment_without_pre
 typed = ap (λ body. and_no_more (and_no_more (judged_command body))) inc_command ∙ ap and_no_more (ap and_no_more (ap and_no_more (step_typed 6 4 9)))
 
 pub obeys : Obeys increment_without_pre
-obeys = ap (λ body. and_no_more (obeyed_command body)) inc_command
+obeys = ap (λ body. and_no_more (obeyed_command Other body)) inc_command
 
 -- each variable that has a value has one of its type
 in_type : (k : ℕ) → let v : VarId = record { 0 = k } in IfSome (look x_is_last v) (λ y. IsTrue (is_in (type_of increment_without_pre v) y))

@@ -92,6 +92,16 @@ module _ (items : List CoreDerivesItem) (outer : Regions) (region : Region) (pos
   unfolding roll-Stmt roll
   resolved_for c loop_word body closing = ap here (stmt_of items outer (Stmt-F.Loop (written_scheme.For c) loop_word body closing))
 
+  pub resolved_endless : (loop_word : Place) (body : List Stmt) (closing : Closing)
+      → here (resolved_stmt items outer (written_stmt.Loop written_scheme.Endless loop_word body closing))
+      ≡ (stmt.Loop scheme.Endless loop_word (resolved_stmts items outer body region (position + 0)).0 closing, (resolved_stmts items outer body region (position + 0)).1)
+  unfolding roll-Stmt roll
+  resolved_endless loop_word body closing = ap here (stmt_of items outer (Stmt-F.Loop written_scheme.Endless loop_word body closing))
+
+  pub resolved_exit : (at : Place) (condition : Expr) → here (resolved_stmt items outer (written_stmt.Exit at (Some condition))) ≡ (stmt.Exit at (Some (resolved_expr around condition)), position)
+  unfolding roll-Stmt roll
+  resolved_exit at condition = ap here (stmt_of items outer (Stmt-F.Exit at (Some condition)))
+
   pub resolved_assertion : (kind : AssertionKind) (at : Place) (condition : Expr)
       → here (resolved_stmt items outer (written_stmt.Assertion kind at condition)) ≡ (stmt.Assertion kind at (resolved_in items around condition), position)
   unfolding roll-Stmt roll

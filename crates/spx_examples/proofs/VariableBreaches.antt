@@ -12,6 +12,7 @@ use Rattle.spx_core.specs.declared.subprogram.Sub.{Sub}
 use Rattle.spx_core.specs.Commands.{Command, Skip, Then, Choose, Set, commands}
 use Rattle.spx_core.specs.Dependency.{relation}
 use Rattle.spx_core.specs.Judged.{Judged, ◌>>=◌, breach_in, each, if_there}
+use Rattle.spx_core.specs.declared.statement.Around.TheVariants.{Other}
 use Rattle.spx_core.specs.Obeyed.{first_rule_breach, obeyed_command, obeyed_item, obeyed_post, obeyed_pre, obeyed_relation, obeyed_sub, reads_formal, reads_import}
 use Rattle.spx_core.specs.Reads.{names_read, names_step}
 use Rattle.spx_core.proofs.Callers.Expressions.{fold-Name, fold-Number, fold-Infix}
@@ -44,7 +45,7 @@ sub_with sub pre post body = do
   _ ← each (obeyed_item sub) (relation sub)
   _ ← pre
   _ ← post
-  obeyed_command body
+  obeyed_command Other body
 
 -- the first breach in this procedure, and the others after it
 abbrev pub breach_with : Sub → List Sub → (pre post : Judged ⊤) → Command → Option Breach

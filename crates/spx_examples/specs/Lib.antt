@@ -20,6 +20,8 @@ pub mod Assertions
 pub mod AssertionText
 pub mod Loops
 pub mod LoopText
+pub mod Exits
+pub mod ExitText
 pub mod CountedLoops
 pub mod Doubling
 pub mod DoublingText

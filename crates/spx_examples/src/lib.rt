@@ -8,6 +8,7 @@ pub mod branch_laws;
 pub mod call_laws;
 pub mod count_laws;
 pub mod declaration_laws;
+pub mod exit_laws;
 pub mod flow_laws;
 pub mod laws;
 pub mod loop_laws;

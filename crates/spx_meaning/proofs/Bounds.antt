@@ -6,7 +6,7 @@ use Rattle.spx_core.specs.declared.entity.Subtype.{Subtype}
 use Rattle.spx_core.specs.declared.expression.CoreExpr.{CoreExpr}
 use Rattle.spx_core.specs.declared.statement.CoreRange.{CoreRange}
 use Rattle.spx_core.specs.declared.statement.CoreCount.{CoreCount}
-use Rattle.spx_core.specs.Commands.{Command, Skip, Set, Then, Choose, Select, Assertion, Repeat, Tested, Counted, Alternatives, Last, When, commands}
+use Rattle.spx_core.specs.Commands.{Command, Skip, Set, Then, Choose, Select, Assertion, Repeat, Leave, Tested, Counted, Endless, Alternatives, Last, When, commands}
 use Rattle.spx_core.specs.Places.{place_of}
 use Rattle.spx_core.specs.Uses.{variable_of}
 use Rattle.spx_term.specs.declared.value.Value.{Value}
@@ -15,7 +15,7 @@ use Rattle.spx_term.specs.Meaning.{as_number, as_truth}
 use Rattle.spx_meaning.specs.Stores.{Store, put, type_of}
 use Rattle.spx_meaning.specs.Frames.{Frame, around}
 use Rattle.spx_meaning.specs.Evaluation.{Answer, Gives, Fails, Waits, eval}
-use Rattle.spx_meaning.specs.Runs.{Outcome, Ended, Left, Bad, Later, then_do, use_value, after_turn, assign, demand_pre, entry_of, has_value, turns, in_bounds, with_bounds, start_of, end_of, value_after, counted, over_range, run, run_for, run_body}
+use Rattle.spx_meaning.specs.Runs.{Outcome, Ended, Left, Bad, Later, then_do, use_value, after_turn, assign, demand_pre, entry_of, has_value, turns, in_bounds, with_bounds, start_of, end_of, value_after, always, counted, over_range, run, run_for, run_body}
 use Rattle.spx_meaning.specs.Laws.{CallsAreSettled, RunsAreSettled}
 use Rattle.spx_meaning.proofs.Callers.Evaluation.{eval_same}
 
@@ -109,6 +109,8 @@ mutual
   runs_kept f n m less s (Repeat (Counted c) body) =
       bounds_kept f n m s (type_of f.program c.parameter) c.bounds (over_range c (λ k t. run f k t body) n) (over_range c (λ k t. run f k t body) m)
       (range_kept c (λ k t. run f k t body) (λ k j less t. runs_kept f k j less t body) n m less)
+  runs_kept f n m less s (Repeat Endless body) = turns_kept always (λ k t. run f k t body) (λ k j t. refl) (λ k j less t. runs_kept f k j less t body) n m less s
+  runs_kept f n m less s (Leave place) = λ there. refl
 
   one_kept : (x : Value) (f : Frame) (n m : ℕ) → n ≤ m → (s : Store) (alternatives : Alternatives) → Kept (run_for x f n s alternatives) (run_for x f m s alternatives)
   one_kept x f n m less s (Last choices a) = runs_kept f n m less s a

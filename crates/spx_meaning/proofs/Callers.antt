@@ -3,7 +3,9 @@ pub mod Stores
 pub mod Types
 pub mod Evaluation
 pub mod Runs
-pub mod Loops
+pub mod Exits
+pub mod Kept
+pub mod Pairs
 pub mod Flows
 pub mod Entries
 pub mod Scopes

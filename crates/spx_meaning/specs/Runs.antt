@@ -14,7 +14,7 @@ use Rattle.spx_core.specs.declared.subprogram.Sub.{Sub}
 use Rattle.spx_tree.specs.declared.statement.AssertionKind.{AssertionKind}
 use Rattle.spx_tree.specs.declared.statement.AssertionKind.TheVariants as assertion
 use Rattle.spx_core.specs.declared.statement.CoreCount.{CoreCount}
-use Rattle.spx_core.specs.Commands.{Command, Skip, Set, Then, Choose, Select, Assertion, Repeat, Tested, Counted, Alternatives, Last, When, commands, spans_of}
+use Rattle.spx_core.specs.Commands.{Command, Skip, Set, Then, Choose, Select, Assertion, Repeat, Leave, Tested, Counted, Endless, Alternatives, Last, When, commands, spans_of}
 use Rattle.spx_core.specs.declared.entity.Subtype.{Subtype}
 use Rattle.spx_core.specs.declared.rule.ExprType.TheVariants.{Of}
 use Rattle.spx_core.specs.declared.statement.CoreChoice.{CoreChoice}
@@ -25,7 +25,7 @@ use Rattle.spx_core.specs.Types.{is_chosen}
 use Rattle.spx_core.specs.Uses.{variable_of}
 use Rattle.spx_core.specs.Dependency.{exports}
 use Rattle.spx_term.specs.declared.value.Value.{Value}
-use Rattle.spx_term.specs.declared.value.Value.TheVariants.{Number}
+use Rattle.spx_term.specs.declared.value.Value.TheVariants.{Number, Truth}
 use Rattle.spx_meaning.specs.declared.bad.BadKind.{BadKind}
 use Rattle.spx_meaning.specs.declared.bad.BadKind.TheVariants as bad
 use Rattle.spx_meaning.specs.Stores.{Store, look, put, declared, type_of, is_in}
@@ -82,6 +82,10 @@ after_turn (Left s) go = Ended s
 after_turn (Bad kind place) go = Bad kind place
 after_turn Later go = Later
 
+-- the test of a loop that has none
+abbrev pub always : ℕ → Store → Answer
+always n s = Gives (Truth true)
+
 -- The turns of a loop as long as its test is true (Ada 95 RM 5.5). A turn and the rest of the loop have one less of the bound; at 0 there is none.
 abbrev pub turns : (test : ℕ → Store → Answer) → (body : ℕ → Store → Outcome) → ℕ → Store → Outcome
 turns test body zero s = use_value (test zero s) (λ x. if as_truth x then Later else Ended s)
@@ -133,6 +137,8 @@ abbrev mutual
   run f n s (Assertion kind place condition) = demand (truth f s condition) (untrue kind) place s
   run f n s (Repeat (Tested place condition) body) = turns (λ k t. eval f k t condition) (λ k t. run f k t body) n s
   run f n s (Repeat (Counted c) body) = with_bounds f n s (type_of f.program c.parameter) c.bounds (over_range c (λ k t. run f k t body) n)
+  run f n s (Repeat Endless body) = turns always (λ k t. run f k t body) n s
+  run f n s (Leave place) = Left s
 
   -- the alternative for this value: that with the last choices has all values that are left
   pub run_for : Value → Frame → ℕ → Store → Alternatives → Outcome

@@ -14,7 +14,7 @@ use Rattle.spx_core.specs.declared.expression.CoreExpr.{CoreExpr}
 use Rattle.spx_core.specs.declared.rule.ExprType.{ExprType}
 use Rattle.spx_core.specs.declared.rule.ExprType.TheVariants.{Of}
 use Rattle.spx_core.specs.declared.statement.CoreCount.{CoreCount}
-use Rattle.spx_core.specs.Commands.{has_own_cut, Command, Skip, Set, Then, Choose, commands, Select, Head, Assertion, Repeat, Tested, Counted, Alternatives, Last, When}
+use Rattle.spx_core.specs.Commands.{has_own_cut, Command, Skip, Set, Then, Choose, commands, Select, Head, Assertion, Repeat, Leave, Tested, Counted, Endless, Alternatives, Last, When, is_leave}
 use Rattle.spx_core.specs.Places.{place_of}
 use Rattle.spx_core.specs.Dependency.{exports, imports}
 use Rattle.spx_core.specs.Formals.{formals, initial_of, locals}
@@ -50,7 +50,7 @@ use Rattle.spx_sound.proofs.Typings.{test_typed, right_side, IsTyped, both_typed
 use Rattle.spx_sound.proofs.SortedTerms.{HasSortOf, now_sorted, entry_sorted, boolean_sort, right_sort, sorted_with, ordered_sort, literal_of_type}
 use Rattle.spx_sound.proofs.NeverBadTrees.{each_flat_map, each_without_doubles}
 use Rattle.spx_sound.proofs.NeverBadStores.{same_name-Decides}
-use Rattle.spx_sound.proofs.SortedTrees.{IsFormula, AreFormulas, IsSortedTree, IsSortedCount, HeadIsSorted, head_sorted, into_loop_sorted, again_sorted, leaving_sorted, count_facts_sorted, assume_sorted, in_type_sorted, goal_sorted, checks_sorted, test_sorted, tested_sorted, asserted_sorted, assigned_sorted, facts_sorted, these_sorted}
+use Rattle.spx_sound.proofs.SortedTrees.{IsFormula, AreFormulas, IsSortedTree, IsSortedCount, HeadIsSorted, head_sorted, into_loop_sorted, again_sorted, leaving_sorted, count_facts_sorted, assume_sorted, in_type_sorted, goal_sorted, checks_sorted, test_sorted, decided_sorted, asserted_sorted, assigned_sorted, facts_sorted, these_sorted}
 
 -- ---- commands
 
@@ -82,7 +82,7 @@ module _ (p : Program) (sub : Sub) where
         walk_sorted a (walk p sub b rest leave) leave parts.0 declared.0 (walk_sorted b rest leave parts.1 declared.1 k l) l made
     walk_sorted (Choose place e a b) rest leave typed declared k l made =
         let parts = arms_typed place e a b typed in
-        tested_sorted p e (walk p sub a rest leave) (walk p sub b rest leave) made parts.0 declared.0 (walk_sorted a rest leave parts.1 declared.1.0 k l made) (walk_sorted b rest leave parts.2 declared.1.1 k l made)
+        decided_sorted p e (is_leave a) (walk p sub a rest leave) (walk p sub b rest leave) made parts.0 declared.0 (walk_sorted a rest leave parts.1 declared.1.0 k l made) (walk_sorted b rest leave parts.2 declared.1.1 k l made)
     walk_sorted (Select place selector alternatives) rest leave typed declared k l made =
         let select = select_typed place selector alternatives typed in
         let t = term_of p (now_term p) selector in
@@ -98,6 +98,7 @@ module _ (p : Program) (sub : Sub) where
         let after : AreSortedTrees out = λ m. leaving_sorted p sub head rest m parts.0 (k m) in
         let first = walk p sub body ends out in
         into_loop_sorted p sub head (as_far_as_cut (has_own_cut body) first) out made parts.0 (as_far_sorted (has_own_cut body) first (walk_sorted body ends out parts.1 declared.1 (λ m. tt) after) made) (after made)
+    walk_sorted (Leave place) rest leave typed declared k l made = l made
 
     walk_for_sorted : (t : Term) → HasSortOf Integer t → (earlier : List Term) → AreFormulas earlier → (of : ExprType) (alternatives : Alternatives) (rest leave : ℕ → Tree) → AreTyped of alternatives → AllAreAsDeclared p alternatives
         → AreSortedTrees rest → AreSortedTrees leave → AreSortedTrees (walk_for p sub t earlier alternatives rest leave)
@@ -124,6 +125,7 @@ AreSortedCounts p within = AllByRecursion (IsSortedCount p) within
 inside_sorted : (p : Program) (within : List CoreCount) (head : Head) → AreSortedCounts p within → HeadIsSorted p head → AreSortedCounts p (inside within head)
 inside_sorted p within (Tested place e) around sorted = around
 inside_sorted p within (Counted c) around sorted = each_append (IsSortedCount p) within (c ∷ []) around (sorted, tt)
+inside_sorted p within Endless around sorted = around
 
 both_sorted : (a b : List Tree) → AllSorted a → AllSorted b → AllSorted (a ++ b)
 both_sorted a b h k = each_append IsSortedTree a b h k
@@ -174,6 +176,7 @@ module _ (p : Program) (sub : Sub) (known_sorted : (within : List CoreCount) →
         let turn = walk p sub body end out 0 in
         both_sorted (loop_cut p sub here (has_own_cut body) turn) (cuts p sub here body end out) (loop_cut_sorted here (has_own_cut body) turn known (walk_sorted p sub body end out parts.1 declared.1 again after 0))
         (cuts_sorted here body end out known parts.1 declared.1 again after)
+    cuts_sorted within (Leave place) rest leave around typed declared k l = tt
 
     cuts_for_sorted : (within : List CoreCount) (of : ExprType) (alternatives : Alternatives) (rest leave : ℕ → Tree) → AreSortedCounts p within → AreTyped of alternatives → AllAreAsDeclared p alternatives → AreSortedTrees rest → AreSortedTrees leave
         → AllSorted (cuts_for p sub within alternatives rest leave)

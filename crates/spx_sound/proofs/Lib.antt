@@ -11,6 +11,9 @@ pub mod NeverBadStores
 pub mod NeverBadLoops
 pub mod NeverBadCounts
 pub mod NeverBadBodies
+pub mod UnsetReads
+pub mod ExitPlaces
+pub mod UnsetWays
 pub mod NeverUnset
 pub mod NeverBad
 pub mod SortedTrees

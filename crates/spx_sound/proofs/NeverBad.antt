@@ -26,6 +26,7 @@ use Rattle.spx_core.specs.Rules.{ObeysRules}
 use Rattle.spx_core.specs.Scopes.{Scoped, StartsInType, TypesHaveValues, kind_of, object_declared, object_in}
 use Rattle.spx_core.specs.Effects.{counts, defines, effect, reads}
 use Rattle.spx_core.specs.Types.{has_truths, is_between, is_true}
+use Rattle.spx_core.specs.Ways.{Goes}
 use Rattle.spx_term.specs.declared.condition.CondKind.TheVariants.{Post as PostCondition}
 use Rattle.spx_term.specs.declared.term.Sort.{Sort}
 use Rattle.spx_term.specs.declared.term.Sort.TheVariants.{Integer, Boolean}
@@ -64,7 +65,8 @@ use Rattle.spx_sound.proofs.Extents.{AreInTypes}
 use Rattle.spx_sound.proofs.NeverBadStores.{same_name-Decides, Fits, Reaches, Spares, asserted_good}
 use Rattle.spx_sound.proofs.NeverBadLoops.{Began}
 use Rattle.spx_sound.proofs.NeverBadBodies.{walk_good}
-use Rattle.spx_sound.proofs.NeverUnset.{CountsUnset, IsClear, KeepsUnset, Passes, never_unset, reaches_reads}
+use Rattle.spx_sound.proofs.UnsetWays.{CountsUnset, IsClear, KeepsUnset, Passes, reaches_reads}
+use Rattle.spx_sound.proofs.NeverUnset.{never_unset}
 
 -- ---- the valuation of a store
 
@@ -389,14 +391,14 @@ module _ (p : Program) (sub : Sub) (scoped : Scoped p sub) (initial : StartsInTy
         flows.none_unset place x (read (ap₂ ◌||◌ (counts_no_import x unset) (counts_no_initial x unset (reaches_reads (body_effect sub) place x way.0 way.1))) way)
 
     -- at the end each export is set
-    export_set : HasNoFinding p sub → (t : Store) → Passes IsParameter (body_effect sub) first t → (x : VarId) → exports x sub ≡ true → is_some (look t x) ≡ true
+    export_set : HasNoFinding p sub → (t : Store) → Passes (CountsUnset IsParameter) (Goes (body_effect sub)) first t → (x : VarId) → exports x sub ≡ true → is_some (look t x) ≡ true
     export_set flows t passes x export = by_value (look t x) refl
       where
         by_value : (o : Option Value) → look t x ≡ o → is_some o ≡ true
         by_value (Some w) is = refl
-        by_value None is = let unset = passes x is in absurd (flows.none_unset sub.end x (left export (counts_no_import x unset.0) unset.1))
+        by_value None is = let unset = passes.unset x (inl is) in absurd (flows.none_unset sub.end x (left export (counts_no_import x unset.0) (passes.way, passes.gone, unset.1)))
 
-    exports_good : HasNoFinding p sub → (t : Store) → Passes IsParameter (body_effect sub) first t → (vars : List VarId) → list_all (λ v. not (exports v sub) || is_some (look t v)) vars ≡ true
+    exports_good : HasNoFinding p sub → (t : Store) → Passes (CountsUnset IsParameter) (Goes (body_effect sub)) first t → (vars : List VarId) → list_all (λ v. not (exports v sub) || is_some (look t v)) vars ≡ true
     exports_good flows t passes [] = refl
     exports_good flows t passes (x ∷ vars) = ap₂ ◌&&◌ (by_export (exports x sub) refl) (exports_good flows t passes vars)
       where
@@ -411,13 +413,13 @@ module _ (p : Program) (sub : Sub) (scoped : Scoped p sub) (initial : StartsInTy
 
     -- at the end
     abbrev IsDone : Store → Type 0
-    IsDone t = Reaches frame [] (ending p sub) t × Passes IsParameter (body_effect sub) first t
+    IsDone t = Reaches frame [] (ending p sub) t × Passes (CountsUnset IsParameter) (Goes (body_effect sub)) first t
 
     body_good : HasNoFinding p sub → TypedSub sub → HasValidConditions p sub → (n : ℕ) → Good Never (body_run n) IsDone Nowhere
     body_good flows typed valid n =
-        joined (body_run n) (Reaches frame [] (ending p sub)) (Passes IsParameter (body_effect sub) first) (Reaches frame [] (ending p sub)) Nowhere
+        joined (body_run n) (Reaches frame [] (ending p sub)) (Passes (CountsUnset IsParameter) (Goes (body_effect sub)) first) (Reaches frame [] (ending p sub)) Nowhere
         (walk_good frame first_began (commands sub.statements) [] n (ending p sub) (ending p sub) 0 first first_valuation typed.statements scoped.body_names import_is_spared obeys.loops_keep_them (λ v respects. (safe_sub p sub valid v respects).1) first_fits (body_safe valid))
-        (never_unset frame types (commands sub.statements) IsParameter parameters_keep n first (first_clear flows))
+        (never_unset frame types (commands sub.statements) obeys.exits IsParameter parameters_keep n first (first_clear flows))
 
     pre_good : (pre : Option CorePredicate) → pre_holds frame pre first ≡ true → demand_pre frame pre first ≡ Ended first
     pre_good None h = refl

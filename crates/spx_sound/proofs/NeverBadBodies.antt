@@ -9,7 +9,7 @@ use Rattle.spx_core.specs.declared.name.Reference.{Reference}
 use Rattle.spx_core.specs.declared.expression.CoreExpr.{CoreExpr}
 use Rattle.spx_core.specs.declared.rule.ExprType.{ExprType}
 use Rattle.spx_core.specs.declared.statement.CoreChoice.{CoreChoice}
-use Rattle.spx_core.specs.Commands.{Command, Skip, Set, Then, Choose, Select, Assertion, Repeat, Tested, Counted, Alternatives, Last, When, has_others_last}
+use Rattle.spx_core.specs.Commands.{Command, Skip, Set, Then, Choose, Select, Assertion, Repeat, Leave, Tested, Counted, Endless, Alternatives, Last, When, has_others_last, is_leave, leaves}
 use Rattle.spx_core.specs.Effects.{Read, effect, effect_among, reads_of, sets}
 use Rattle.spx_core.specs.Extents.{extent}
 use Rattle.spx_core.specs.Places.{place_of}
@@ -34,8 +34,8 @@ use Rattle.spx_sound.proofs.NeverBadRuns.{IsUnset, Good, good_then, good_use, go
 use Rattle.spx_sound.proofs.NeverBadExpressions.{eval_good}
 use Rattle.spx_sound.proofs.Extents.{lies_in_extent}
 use Rattle.spx_sound.proofs.Selections.{AllFail, HaveValue, each_has_one, facts_hold, and_these_fail, last_has, one_of_rest}
-use Rattle.spx_sound.proofs.NeverBadStores.{Counting, Fits, Reaches, Spares, is_held, past_range, put_value_fits, within}
-use Rattle.spx_sound.proofs.NeverBadLoops.{AlwaysSafe, Began, GoesOn, always_parts, assertion_good, tested_good, while_good}
+use Rattle.spx_sound.proofs.NeverBadStores.{Counting, Fits, Reaches, Spares, is_held, kept_in_arms, past_range, put_value_fits, spares_arms, within}
+use Rattle.spx_sound.proofs.NeverBadLoops.{AlwaysSafe, Began, GoesOn, always_parts, assertion_good, decided_good, endless_good, while_good}
 use Rattle.spx_sound.proofs.NeverBadCounts.{count_good}
 
 -- ---- commands
@@ -79,11 +79,12 @@ module _ (f : Frame) (began : Began f) where
   choose_good : (at : List Counting) (place : Place) (e : CoreExpr) (a b : Command) (n : ℕ) → GoesOn f at a n → GoesOn f at b n → GoesOn f at (Choose place e a b) n
   choose_good at place e a b n first second rest leave made s v typed declared spares kept from_cuts fits safe =
       let parts = arms_typed place e a b typed in
-      let apart : (x : VarId) → is_held f.sub at x ≡ true → (sets x (effect a) ≡ false) × (sets x (effect b) ≡ false) = λ x h. or_parts (sets x (effect a)) (sets x (effect b)) (spares x h) in
+      let apart = spares_arms f.sub at (leaves a) (reads_of e) (effect a) (effect b) place spares in
+      let keep = kept_in_arms (leaves a) (reads_of e) (effect a) (effect b) place kept in
       let trees = always_parts (cuts f.program f.sub (within at) a rest leave) (cuts f.program f.sub (within at) b rest leave) from_cuts in
-      tested_good f at n e (walk f.program f.sub a rest leave) (walk f.program f.sub b rest leave) made s v (run f n s a) (run f n s b) (Reaches f at rest) (Reaches f at leave) parts.0 declared.0 fits safe
-      (λ more. first rest leave made s v parts.1 declared.1.0 (λ x h. (apart x h).0) kept.0 trees.0 fits more)
-      (λ more. second rest leave made s v parts.2 declared.1.1 (λ x h. (apart x h).1) kept.1 trees.1 fits more)
+      decided_good f at n e (is_leave a) (walk f.program f.sub a rest leave) (walk f.program f.sub b rest leave) made s v (run f n s a) (run f n s b) (Reaches f at rest) (Reaches f at leave) parts.0 declared.0 fits safe
+      (λ more. first rest leave made s v parts.1 declared.1.0 apart.0 keep.0 trees.0 fits more)
+      (λ more. second rest leave made s v parts.2 declared.1.1 apart.1 keep.1 trees.1 fits more)
 
   -- so do alternatives for a number, after choices that have it not
   abbrev GoOn : List Counting → Alternatives → ℕ → Type 0
@@ -99,16 +100,17 @@ module _ (f : Frame) (began : Began f) where
 
   when_good : (at : List Counting) (choices : Option (List CoreChoice)) (a : Command) (more : Alternatives) (n : ℕ) → GoesOn f at a n → GoOn at more n → GoOn at (When choices a more) n
   when_good at choices a more n go further tests place t earlier of k rest leave made s v typed others declared spares kept from_cuts fits is fail have safe =
-      let apart : (x : VarId) → is_held f.sub at x ≡ true → (sets x (effect a) ≡ false) × (sets x (effect_among tests place more) ≡ false) = λ x h. or_parts (sets x (effect a)) (sets x (effect_among tests place more)) (spares x h) in
+      let apart = spares_arms f.sub at (leaves a) tests (effect a) (effect_among tests place more) place spares in
+      let keep = kept_in_arms (leaves a) tests (effect a) (effect_among tests place more) place kept in
       let parts = when_typed of choices a more typed in
       let trees = always_parts (cuts f.program f.sub (within at) a rest leave) (cuts_for f.program f.sub (within at) more rest leave) from_cuts in
       let some = and_parts (is_some choices) (has_others_last more) others in
       good_if IsUnset (has_value choices (value.Number k)) (run f n s a) (run_for (value.Number k) f n s more) (Reaches f at rest) (Reaches f at leave)
       (λ has.
-      go rest leave made s v parts.1 declared.0 (λ x h. (apart x h).0) kept.0 trees.0 fits
+      go rest leave made s v parts.1 declared.0 apart.0 keep.0 trees.0 fits
       (assumed (alternative_facts t earlier choices) (walk f.program f.sub a rest leave made) v (facts_hold v t k is earlier choices fail has) safe.0))
       (λ fails.
-      further tests place t (and_these t earlier choices) of k rest leave made s v parts.2 some.1 declared.1 (λ x h. (apart x h).1) kept.1 trees.1 fits is (and_these_fail v t k is earlier choices fail fails) (one_of_rest choices a more k some.0 fails have) safe.1)
+      further tests place t (and_these t earlier choices) of k rest leave made s v parts.2 some.1 declared.1 apart.1 keep.1 trees.1 fits is (and_these_fail v t k is earlier choices fail fails) (one_of_rest choices a more k some.0 fails have) safe.1)
 
   select_good : (at : List Counting) (place : Place) (selector : CoreExpr) (alternatives : Alternatives) (n : ℕ) → GoOn at alternatives n → GoesOn f at (Select place selector alternatives) n
   select_good at place selector alternatives n go rest leave made s v typed declared spares kept from_cuts fits safe =
@@ -145,6 +147,9 @@ module _ (f : Frame) (began : Began f) where
         while_good f began at place e body (walk_good body at) n rest leave made s v typed declared spares kept from_cuts fits safe
     walk_good (Repeat (Counted c) body) at n rest leave made s v typed declared spares kept from_cuts fits safe =
         count_good f began at c body (walk_good body) n rest leave made s v typed declared spares kept from_cuts fits safe
+    walk_good (Repeat Endless body) at n rest leave made s v typed declared spares kept from_cuts fits safe =
+        endless_good f began at body (walk_good body at) n rest leave made s v typed declared spares kept from_cuts fits safe
+    walk_good (Leave place) at n rest leave made s v typed declared spares kept from_cuts fits safe = record { valuation = v; made = made; fits = fits; safe = safe }
 
     walk_for_good : (alternatives : Alternatives) (at : List Counting) (n : ℕ) → GoOn at alternatives n
     walk_for_good (Last choices a) at n = last_good at choices a n (walk_good a at n)

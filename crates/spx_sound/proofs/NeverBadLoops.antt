@@ -16,7 +16,7 @@ use Rattle.spx_core.specs.Dependency.{exports, imports}
 use Rattle.spx_core.specs.Effects.{effect}
 use Rattle.spx_core.specs.Reads.{names_read}
 use Rattle.spx_core.specs.declared.subprogram.CorePredicate.{CorePredicate}
-use Rattle.spx_core.specs.Commands.{Command, Head, Assertion, Repeat, Tested, has_own_cut}
+use Rattle.spx_core.specs.Commands.{Command, Head, Assertion, Repeat, Tested, Endless, has_own_cut}
 use Rattle.spx_core.specs.Formals.{formals, locals}
 use Rattle.spx_core.specs.Scopes.{AreAsDeclared, IsAsDeclared, KeepsParameters, TypesHaveValues}
 use Rattle.spx_core.specs.Statements.{test}
@@ -29,7 +29,7 @@ use Rattle.spx_term.specs.declared.value.Value.{Value}
 use Rattle.spx_term.specs.declared.value.Value.TheVariants as value
 use Rattle.spx_term.specs.Conjuncts.{conjuncts}
 use Rattle.spx_term.specs.Meaning.{as_truth, Respects, Valuation, value_of_op, value_step, value_of, Holds}
-use Rattle.spx_term.specs.Steps.{Tree, Assume, Split, assume_parts, Cut}
+use Rattle.spx_term.specs.Steps.{Tree, Assume, assume_parts, Cut}
 use Rattle.spx_term.proofs.ConjunctLaws.{parts_hold}
 use Rattle.spx_term.specs.declared.condition.CondKind.TheVariants.{Assert as AssertCondition, Check as CheckCondition}
 use Rattle.spx_term.proofs.Terms.{fold-Infix, fold-Prefix, fold-Truth}
@@ -37,11 +37,11 @@ use Rattle.spx_meaning.specs.Frames.{Frame}
 use Rattle.spx_meaning.specs.Evaluation.{eval}
 use Rattle.spx_meaning.specs.declared.bad.BadKind.TheVariants.{Assert as AssertBad, Check as CheckBad}
 use Rattle.spx_meaning.specs.Stores.{Store, declared, first_of_class, first_value, is_in, is_within, look, reading, seen, type_of}
-use Rattle.spx_meaning.specs.Runs.{Outcome, Ended, Later, after_turn, demand, pre_holds, run, turns, use_value}
+use Rattle.spx_meaning.specs.Runs.{Outcome, Ended, Later, after_turn, always, demand, pre_holds, run, turns, use_value}
 use Rattle.spx_meaning.proofs.Callers.Types.{type_has_value}
 use Rattle.spx_paths.specs.Terms.{now_term, entry, entry_term, term_of}
 use Rattle.spx_paths.specs.Checks.{in_type}
-use Rattle.spx_paths.specs.Walks.{as_far_as_cut, count_facts, cut_facts, cuts, end_of_turn, entry_facts, from_cut, high_term, leaving, loop_cut, low_term, pre_facts_on_entry, tested, var_facts, walk}
+use Rattle.spx_paths.specs.Walks.{as_far_as_cut, count_facts, cut_facts, cuts, end_of_turn, entry_facts, from_cut, high_term, leaving, loop_cut, low_term, pre_facts_on_entry, decided, one_before, var_facts, walk}
 use Rattle.spx_paths.proofs.CutOff.{cut_off}
 use Rattle.spx_sound.proofs.Typings.{IsTyped, loop_typed, test_typed}
 use Rattle.spx_sound.proofs.NeverBadTrees.{AllHold, AllSafe, assumed, each_flat_map, Safe}
@@ -154,21 +154,28 @@ assertion_good f began at assertion.Check place e n rest leave made s v typed de
 
 -- ---- conditions
 
+-- both trees are safe, whichever comes first
+both_safe : (is_exit : Bool) (a b : Tree) (v : Valuation) → Safe (one_before is_exit a b) v → Safe a v × Safe b v
+both_safe false a b v safe = safe
+both_safe true a b v safe = (safe.1, safe.0)
+
 -- where a condition is true the steps there are safe, and so are the others where it is not
-pub tested_good : (f : Frame) (at : List Counting) (n : ℕ) (e : CoreExpr) (holds fails : ℕ → Tree) (made : ℕ) (s : Store) (v : Valuation) (first second : Outcome) (P L : Store → Type 0) → test e ≡ Ok tt → All (IsAsDeclared f.program) (names_read e)
-    → Fits f at s v → Safe (tested f.program e holds fails made) v → (Safe (holds made) v → Good IsUnset first P L) → (Safe (fails made) v → Good IsUnset second P L)
+pub decided_good : (f : Frame) (at : List Counting) (n : ℕ) (e : CoreExpr) (is_exit : Bool) (holds fails : ℕ → Tree) (made : ℕ) (s : Store) (v : Valuation) (first second : Outcome) (P L : Store → Type 0) → test e ≡ Ok tt → All (IsAsDeclared f.program) (names_read e)
+    → Fits f at s v → Safe (decided f.program e is_exit holds fails made) v → (Safe (holds made) v → Good IsUnset first P L) → (Safe (fails made) v → Good IsUnset second P L)
     → Good IsUnset (use_value (eval f n s e) (λ x. if as_truth x then first else second)) P L
-tested_good f at n e holds fails made s v first second P L typed declared fits safe go other =
+decided_good f at n e is_exit holds fails made s v first second P L typed declared fits safe go other =
     let t = term_of f.program (now_term f.program) e in
     let w = value_of v t in
-    let arms = Split (assume_parts t (holds made)) (Assume (term.Prefix Not t) (fails made)) in
+    let first_arm = assume_parts t (holds made) in
+    let second_arm = Assume (term.Prefix Not t) (fails made) in
+    let arms = one_before is_exit first_arm second_arm in
     let of = test_typed e typed in
     good_use IsUnset (eval f n s e) (λ x. if as_truth x then first else second) w (Safe arms v) P L
     (eval_good f n s v fits.agrees fits.respects e of.0 of.1 (recursion_from_All (IsAsDeclared f.program) (names_read e) declared) [] tt arms safe)
     (λ more.
     good_if IsUnset (as_truth w) first second P L
-    (λ is. go (assumed (conjuncts t) (holds made) v (parts_hold v t (truth_from w is)) more.0))
-    (λ is. other (more.1 (fold-Prefix (value_step v) Not t ∙ false_holds w is))))
+    (λ is. go (assumed (conjuncts t) (holds made) v (parts_hold v t (truth_from w is)) (both_safe is_exit first_arm second_arm v more).0))
+    (λ is. other ((both_safe is_exit first_arm second_arm v more).1 (fold-Prefix (value_step v) Not t ∙ false_holds w is))))
 
 -- ---- loops
 
@@ -203,12 +210,12 @@ module _ (f : Frame) (began : Began f) (at : List Counting) (place : Place) (e :
   loop_good : ((n : ℕ) → GoesOn f at body n) → IsTyped loop → AreAsDeclared f.program loop → Spares f.sub at (effect loop) → KeepsParameters (effect loop) → AlwaysSafe (cuts f.program f.sub (within at) loop rest leave)
       → (n made : ℕ) (s : Store) (v : Valuation) → Fits f at s v → Safe (again_tree made) v → Good IsUnset (turns_from n s) (Reaches f at rest) (Reaches f at leave)
   loop_good go typed declared spares kept from_cuts zero made s v fits safe =
-      tested_good f at 0 e (first_part f began head body rest (has_own_cut body)) rest made s v Later (Ended s) (Reaches f at rest) (Reaches f at leave) (loop_typed place e body typed).0 declared.0 fits safe
+      decided_good f at 0 e false (first_part f began head body rest (has_own_cut body)) rest made s v Later (Ended s) (Reaches f at rest) (Reaches f at leave) (loop_typed place e body typed).0 declared.0 fits safe
       (λ more. tt) (λ more. record { valuation = v; made = made; fits = fits; safe = more })
   loop_good go typed declared spares kept from_cuts (suc n) made s v fits safe =
       let parts = loop_typed place e body typed in
       let trees = always_parts (loop_cut f.program f.sub (within at) (has_own_cut body) (turn_tree f began head body rest 0)) (cuts f.program f.sub (within at) body again_tree rest) from_cuts in
-      tested_good f at (suc n) e (first_part f began head body rest (has_own_cut body)) rest made s v (after_turn (run f n s body) (turns_from n)) (Ended s) (Reaches f at rest) (Reaches f at leave) parts.0 declared.0 fits safe
+      decided_good f at (suc n) e false (first_part f began head body rest (has_own_cut body)) rest made s v (after_turn (run f n s body) (turns_from n)) (Ended s) (Reaches f at rest) (Reaches f at leave) parts.0 declared.0 fits safe
       (λ more.
       let turn = turn_safe f began head body rest at s v fits made (has_own_cut body) refl trees.0 more in
       good_after IsUnset (run f n s body) (turns_from n) (Reaches f at again_tree) (Reaches f at rest) (Reaches f at leave) (go n again_tree rest turn.0 s v parts.1 declared.1 spares kept trees.1 fits turn.1)
@@ -217,3 +224,26 @@ module _ (f : Frame) (began : Began f) (at : List Counting) (place : Place) (e :
 
 pub while_good : (f : Frame) → Began f → (at : List Counting) (place : Place) (e : CoreExpr) (body : Command) → ((n : ℕ) → GoesOn f at body n) → (n : ℕ) → GoesOn f at (Repeat (Tested place e) body) n
 while_good f began at place e body go n rest leave made s v typed declared spares kept from_cuts fits safe = loop_good f began at place e body rest leave go typed declared spares kept from_cuts n made s v fits safe
+
+-- so is a loop that has no head: a turn is followed by the next
+module _ (f : Frame) (began : Began f) (at : List Counting) (body : Command) (rest leave : ℕ → Tree) where
+  abbrev endless : Command
+  endless = Repeat Endless body
+
+  abbrev next_tree : ℕ → Tree
+  next_tree = walk f.program f.sub endless rest leave
+
+  abbrev turns_on : ℕ → Store → Outcome
+  turns_on = turns always (λ k t. run f k t body)
+
+  turns_good : ((n : ℕ) → GoesOn f at body n) → IsTyped endless → AreAsDeclared f.program endless → Spares f.sub at (effect endless) → KeepsParameters (effect endless) → AlwaysSafe (cuts f.program f.sub (within at) endless rest leave)
+      → (n made : ℕ) (s : Store) (v : Valuation) → Fits f at s v → Safe (next_tree made) v → Good IsUnset (turns_on n s) (Reaches f at rest) (Reaches f at leave)
+  turns_good go typed declared spares kept from_cuts zero made s v fits safe = tt
+  turns_good go typed declared spares kept from_cuts (suc n) made s v fits safe =
+      let trees = always_parts (loop_cut f.program f.sub (within at) (has_own_cut body) (turn_tree f began Endless body rest 0)) (cuts f.program f.sub (within at) body next_tree rest) from_cuts in
+      let turn = turn_safe f began Endless body rest at s v fits made (has_own_cut body) refl trees.0 safe in
+      good_after IsUnset (run f n s body) (turns_on n) (Reaches f at next_tree) (Reaches f at rest) (Reaches f at leave) (go n next_tree rest turn.0 s v typed declared.1 spares kept trees.1 fits turn.1)
+      (λ t there. turns_good go typed declared spares kept from_cuts n there.made t there.valuation there.fits there.safe)
+
+pub endless_good : (f : Frame) → Began f → (at : List Counting) (body : Command) → ((n : ℕ) → GoesOn f at body n) → (n : ℕ) → GoesOn f at (Repeat Endless body) n
+endless_good f began at body go n rest leave made s v typed declared spares kept from_cuts fits safe = turns_good f began at body rest leave go typed declared spares kept from_cuts n made s v fits safe

@@ -1,7 +1,7 @@
 -- Valuations that stand for stores, values that are checked, and annotations that are shown.
 use Rattle.std.proofs.Common.{◌≡◌, ℕ, ℤ, Bool, true, false, not, ◌||◌, ◌==◌, if◌then◌else◌, List, [], ◌∷◌, map, Option, Some, None, refl, sym, ap, ap₂, ◌∙◌, subst, int_le, inl, inr, ⊎_elim, Decides}
 use Rattle.std.specs.List.{AllByRecursion, list_all, list_any}
-use Rattle.std.proofs.lemmas.Bool.{and_parts, both_ways, eq-eqb, eqb-true, false_from_ne_true, or_cases, or_left, or_right}
+use Rattle.std.proofs.lemmas.Bool.{and_parts, both_ways, eq-eqb, eqb-true, false_from_ne_true, or_cases, or_left, or_parts, or_right}
 use Rattle.std.proofs.lemmas.Bool.Decides.{eqb_tells}
 use Rattle.spx_text.specs.declared.place.Place.{Place}
 use Rattle.spx_core.specs.declared.entity.Class.{Class}
@@ -13,10 +13,10 @@ use Rattle.spx_core.specs.declared.subprogram.Sub.{Sub}
 use Rattle.spx_core.specs.declared.expression.CoreExpr.{CoreExpr}
 use Rattle.spx_core.specs.declared.statement.CoreRange.{CoreRange}
 use Rattle.spx_core.specs.declared.statement.CoreCount.{CoreCount}
-use Rattle.spx_core.specs.Commands.{}
-use Rattle.spx_core.specs.Effects.{Effect, Read, is_read, reads_of, sets}
+use Rattle.spx_core.specs.Effects.{Effect, Read, chosen, is_read, reads_of, sets}
+use Rattle.spx_core.specs.Scopes.{KeepsParameters}
 use Rattle.spx_core.specs.Uses.{uses}
-use Rattle.spx_core.proofs.Callers.FlowLaws.{reads_uses}
+use Rattle.spx_core.proofs.Callers.FlowLaws.{reads_uses, sets_chosen}
 use Rattle.spx_term.specs.declared.condition.CondKind.{CondKind}
 use Rattle.spx_term.specs.declared.condition.CondKind.TheVariants.{Range as RangeCheck}
 use Rattle.spx_term.specs.declared.term.Sort.TheVariants.{Integer, Boolean}
@@ -91,6 +91,16 @@ is_held sub at y = keeps_value sub y || is_parameter at y
 -- the effect sets none of those that do
 abbrev pub Spares : Sub → List Counting → Effect → Type 0
 Spares sub at e = (x : VarId) → is_held sub at x ≡ true → sets x e ≡ false
+
+-- nor does either arm of a choice that sets none
+pub spares_arms : (sub : Sub) (at : List Counting) (is_left : Bool) (tests : List Read) (a b : Effect) (place : Place) → Spares sub at (chosen is_left tests a b place) → Spares sub at a × Spares sub at b
+spares_arms sub at is_left tests a b place spares =
+    let parts : (x : VarId) → is_held sub at x ≡ true → (sets x a ≡ false) × (sets x b ≡ false) = λ x h. or_parts (sets x a) (sets x b) (sym (sets_chosen x is_left tests a b place) ∙ spares x h) in
+    (λ x h. (parts x h).0, λ x h. (parts x h).1)
+
+pub kept_in_arms : (is_left : Bool) (tests : List Read) (a b : Effect) (place : Place) → KeepsParameters (chosen is_left tests a b place) → KeepsParameters a × KeepsParameters b
+kept_in_arms true tests a b place kept = kept
+kept_in_arms false tests a b place kept = kept
 
 -- a variable that is held is none that is not
 other_held : (sub : Sub) (at : List Counting) (x y : VarId) → is_held sub at x ≡ false → is_held sub at y ≡ true → x.0 ≡ y.0 → ⊥
