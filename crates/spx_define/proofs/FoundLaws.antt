@@ -1,5 +1,5 @@
--- Reads of variables that are not in a set.
-use Rattle.std.proofs.Common.{◌≡◌, ◌≢◌, ◌↔◌, ◌⊎◌, ℕ, Bool, true, false, List, [], ◌∷◌, ◌++◌, Option, Some, None, option_map, refl, sym, ap, ap₂, ◌∙◌, subst, inl, inr, ⊎_elim, true≢false}
+-- Reads of variables that may be unset.
+use Rattle.std.proofs.Common.{◌≡◌, ◌≢◌, ◌↔◌, ◌⊎◌, Bool, true, false, List, [], ◌∷◌, ◌++◌, Option, Some, None, option_map, refl, sym, ap, ap₂, ◌∙◌, subst, inl, inr, ⊎_elim, true≢false}
 use Rattle.std.specs.Prelude.{Contains, ◌&&◌, ◌==◌, if◌then◌else◌}
 use Rattle.std.specs.Bool.{Decides}
 use Rattle.std.specs.List.{AllPairs, IsDistinct, filter_map, list_any}
@@ -18,34 +18,25 @@ use Rattle.spx_core.specs.Effects.{Read, read_of, reads_of}
 use Rattle.spx_core.specs.Reads.{names_read}
 use Rattle.spx_core.specs.Uses.{denotes, is_same, mentions, variable_of}
 use Rattle.spx_core.specs.Mirror.DerivesItems.{has_export}
-use Rattle.spx_core.specs.Mirror.VarSets.{holds}
 use Rattle.spx_core.specs.Marks.{same_place}
 use Rattle.spx_core.proofs.Callers.Variables.{same_var}
 use Rattle.spx_core.proofs.Callers.MarkLaws.{same_place_is, same_place_itself}
 use Rattle.spx_text.specs.contracts.place.PlacePartialEq.TheImpl as place_impl
 use Rattle.spx_core.specs.contracts.entity.VarIdPartialEq.TheImpl as var_impl
-use Rattle.spx_define.specs.Passes.{Finds, exports_at, read_at, reads_at}
+use Rattle.spx_define.specs.declared.reached.Reached.{Reached}
+use Rattle.spx_define.specs.Passes.{Finds, exports_at, is_unset, read_at, reads_at}
+use Rattle.spx_define.proofs.Additions.{adds_as, adds_both, adds_nothing}
 use Rattle.spx_define.proofs.Elements.{no_element, only_element, in_flat_map}
 
-pub finds_none : (set : List ℕ) (found : List Read) → Finds set [] found found
-finds_none set found = record { exact = λ place v. (λ h. inl h, λ h. ⊎_elim (λ old. old) (λ k. absurd (no_element (place, v) k.1)) h) }
+pub finds_none : (here : Reached) (found : List Read) → Finds here [] found found
+finds_none here found = record { exact = λ place v. adds_nothing (λ is. no_element (place, v) is) }
 
-pub finds_both : (set : List ℕ) (first second old mid new : List Read) → Finds set first old mid → Finds set second mid new → Finds set (first ++ second) old new
-finds_both set first second old mid new f s = record {
-  exact = λ place v. (
-    λ h. ⊎_elim
-        (λ m. ⊎_elim (λ o. inl o) (λ k. inr (k.0, Contains-append_left first second (place, v) k.1)) ((f.exact place v).0 m))
-        (λ k. inr (k.0, Contains-append_right first second (place, v) k.1))
-        ((s.exact place v).0 h),
-    λ h. ⊎_elim
-        (λ o. (s.exact place v).1 (inl ((f.exact place v).1 (inl o))))
-        (λ k. ⊎_elim
-        (λ one. (s.exact place v).1 (inl ((f.exact place v).1 (inr (k.0, one)))))
-        (λ two. (s.exact place v).1 (inr (k.0, two)))
-        (Contains-append_cases first second (place, v) k.1))
-        h,
-  );
-}
+-- what stands in two lists, one after the other
+in_both : (first second : List Read) (r : Read) → Contains (first ++ second) r ↔ (Contains first r ⊎ Contains second r)
+in_both first second r = (λ h. Contains-append_cases first second r h, λ h. ⊎_elim (λ one. Contains-append_left first second r one) (λ two. Contains-append_right first second r two) h)
+
+pub finds_both : (here : Reached) (first second old mid new : List Read) → Finds here first old mid → Finds here second mid new → Finds here (first ++ second) old new
+finds_both here first second old mid new f s = record { exact = λ place v. adds_as (in_both first second (place, v)) (adds_both (f.exact place v) (s.exact place v)) }
 
 abbrev pub read_eq : Read → Read → Bool
 read_eq a b = (place_impl.ghosts).eq a.0 b.0 && (var_impl.ghosts).eq a.1 b.1
@@ -76,12 +67,12 @@ module _ (eq : Read → Read → Bool) (same : (a b : Read) → eq a b ≡ true 
       by true is = inl is
       by false is = Contains-push_cases keys r x is
 
-  pub finds_inserted : (set : List ℕ) (r : Read) (old new : List Read) → holds set r.1 ≡ false → new ≡ insert_key eq old r → Finds set (r ∷ []) old new
-  finds_inserted set r old new none is = record {
+  pub finds_inserted : (here : Reached) (r : Read) (old new : List Read) → is_unset here r.1 ≡ true → new ≡ insert_key eq old r → Finds here (r ∷ []) old new
+  finds_inserted here r old new none is = record {
     exact = λ place v. (
       λ h. ⊎_elim
           (λ o. inl o)
-          (λ e. inr (ap (λ (q : Read). holds set q.1) (sym e) ∙ none, subst (Contains (r ∷ [])) e (Contains-push [] r)))
+          (λ e. inr (ap (λ (q : Read). is_unset here q.1) (sym e) ∙ none, subst (Contains (r ∷ [])) e (Contains-push [] r)))
           (inserted_cases old r (place, v) (subst (λ keys. Contains keys (place, v)) is h)),
       λ h. subst (λ keys. Contains keys (place, v)) (sym is) (⊎_elim
           (λ o. inserted_kept old r (place, v) o)

@@ -1,23 +1,25 @@
 // Reads of variables that may be unset (Bergeretti and Carré, TOPLAS 1985).
-ghost use Rattle.std.specs.Prelude.{◌≡◌, ◌≢◌, ◌<◌, ◌||◌, [], ◌∷◌, Some, is_some, length, not, filter, map, option_map, slice_get, IfOk, OnOk};
+ghost use Rattle.std.specs.Prelude.{◌≡◌, ◌≢◌, ◌<◌, ◌&&◌, [], ◌∷◌, Some, is_some, length, not, filter, map, option_map, slice_get, IfOk, OnOk};
 ghost use Rattle.std.specs.List.{AllPairs};
 ghost use Rattle.std.specs.Option.{option_to_list};
 ghost use Rattle.spx_text.specs.declared.place.Place.{Place};
 ghost use Rattle.spx_core.specs.declared.entity.VarId.{VarId};
 ghost use Rattle.spx_core.specs.declared.subprogram.Sub.{Sub};
-ghost use Rattle.spx_core.specs.Commands.{Choose, Counted, Repeat, alternative, arm_before, arms_before, command, commands, loop_of, select};
+ghost use Rattle.spx_core.specs.Commands.{Choose, Counted, Repeat, alternative, arm_before, arms_before, command, commands, exit_where, loop_of, select};
 ghost use Rattle.spx_core.specs.Effects.{effect, effects, reads_in, reads_of, reads_of_range};
 ghost use Rattle.spx_core.specs.Formals.{initial_of};
 ghost use Rattle.spx_core.specs.Uses.{denotes};
 ghost use Rattle.spx_core.specs.Mirror.VarSets.{holds};
-ghost use Rattle.spx_define.specs.Passes.{Finds, Passes, PassesBefore, exports_at, read_at, reads_at};
+ghost use Rattle.spx_define.specs.declared.reached.Reached.{Reached};
+ghost use Rattle.spx_define.specs.Passes.{Finds, Passes, PassesBefore, exports_at, is_unset, read_at, reads_at};
 ghost use Rattle.spx_define.specs.UnsetReads.{AreUnsetReads};
 
-use crate::assigned::Assigned;
+use crate::reached::Reached;
 use indexmap::IndexSet;
 use spx_core::{
     CoreAlternative, CoreArm, CoreCount, CoreDerivesItem, CoreExpr, CoreRange, CoreScheme,
-    CoreStmt, Entity, Program, Reference, Sub, SubId, VarId, VarKind, VarSet, variable_of,
+    CoreStmt, Entity, Program, Reference, Sub, SubId, VarId, VarKind, VarSet, has_own_exit,
+    variable_of,
 };
 use spx_text::Place;
 use std::alloc::{AllocError, Global};
@@ -26,193 +28,226 @@ use std::alloc::{AllocError, Global};
 type Reads = IndexSet<(Place, VarId)>;
 
 fn add_unset_variable(
-    set: &Assigned,
+    here: &Reached,
     place: Place,
     var: VarId,
     found: &mut Reads,
 ) -> Result<(), AllocError>
-    ensures { OnOk result (Finds set.now ((place, var) ∷ []) found.old.keys found.new.keys) }
+    ensures { OnOk result (Finds here.now ((place, var) ∷ []) found.old.keys found.new.keys) }
 {
-    if !set.contains(var) {
+    if here.is_unset(var) {
         found.insert((place, var))?;
     }
     Ok(())
 }
 
-/// Adds a read of what is denoted, if it is a variable that is not in the set.
+/// Adds a read of what is denoted, if it is a variable that may be unset.
 fn add_unset(
-    set: &Assigned,
+    here: &Reached,
     place: Place,
     entity: Option<Entity>,
     found: &mut Reads,
 ) -> Result<(), AllocError>
-    ensures { OnOk result (Finds set.now (option_to_list (read_at place entity)) found.old.keys found.new.keys) }
+    ensures { OnOk result (Finds here.now (option_to_list (read_at place entity)) found.old.keys found.new.keys) }
 {
     match variable_of(entity) {
-        Some(var) => add_unset_variable(set, place, var, found),
+        Some(var) => add_unset_variable(here, place, var, found),
         None => Ok(()),
     }
 }
 
-/// Adds what an expression reads of variables that are not in the set.
+/// Adds what an expression reads of variables that may be unset.
 #[cycle(add_unset_names)]
-fn add_unset_names(set: &Assigned, expr: &CoreExpr, found: &mut Reads) -> Result<(), AllocError>
-    ensures { OnOk result (Finds set.now (reads_of expr.now) found.old.keys found.new.keys) }
+fn add_unset_names(here: &Reached, expr: &CoreExpr, found: &mut Reads) -> Result<(), AllocError>
+    ensures { OnOk result (Finds here.now (reads_of expr.now) found.old.keys found.new.keys) }
 {
     match expr {
         CoreExpr::Number(_, _) => Ok(()),
-        CoreExpr::Name(name) => add_unset(set, name.name.place, name.entity, found),
-        CoreExpr::Entry(name, _) => add_unset(set, name.name.place, name.entity, found),
+        CoreExpr::Name(name) => add_unset(here, name.name.place, name.entity, found),
+        CoreExpr::Entry(name, _) => add_unset(here, name.name.place, name.entity, found),
         CoreExpr::Attribute(_, _) => Ok(()),
-        CoreExpr::Applied(_, _, operand) => add_unset_names(set, operand.get(), found),
-        CoreExpr::Parenthesized(_, inner) => add_unset_names(set, inner.get(), found),
-        CoreExpr::Prefix(_, _, operand) => add_unset_names(set, operand.get(), found),
+        CoreExpr::Applied(_, _, operand) => add_unset_names(here, operand.get(), found),
+        CoreExpr::Parenthesized(_, inner) => add_unset_names(here, inner.get(), found),
+        CoreExpr::Prefix(_, _, operand) => add_unset_names(here, operand.get(), found),
         CoreExpr::Infix(_, _, left, right) => {
-            add_unset_names(set, left.get(), found)?;
-            add_unset_names(set, right.get(), found)
+            add_unset_names(here, left.get(), found)?;
+            add_unset_names(here, right.get(), found)
         }
-        CoreExpr::InType(_, _, tested, _) => add_unset_names(set, tested.get(), found),
+        CoreExpr::InType(_, _, tested, _) => add_unset_names(here, tested.get(), found),
         CoreExpr::InRange(_, _, tested, low, high) => {
-            add_unset_names(set, tested.get(), found)?;
-            add_unset_names(set, low.get(), found)?;
-            add_unset_names(set, high.get(), found)
+            add_unset_names(here, tested.get(), found)?;
+            add_unset_names(here, low.get(), found)?;
+            add_unset_names(here, high.get(), found)
         }
     }
 }
 
-/// Adds what the bounds of a loop read of variables that are not in the set, where they are written.
+/// Adds what the bounds of a loop read of variables that may be unset, where they are written.
 fn add_unset_bounds(
-    set: &Assigned,
+    here: &Reached,
     bounds: &Option<CoreRange>,
     found: &mut Reads,
 ) -> Result<(), AllocError>
-    ensures { OnOk result (Finds set.now (reads_in (option_map reads_of_range bounds.now)) found.old.keys found.new.keys) }
+    ensures { OnOk result (Finds here.now (reads_in (option_map reads_of_range bounds.now)) found.old.keys found.new.keys) }
 {
     match bounds {
         None => Ok(()),
         Some(range) => {
-            add_unset_names(set, &range.low, found)?;
-            add_unset_names(set, &range.high, found)
+            add_unset_names(here, &range.low, found)?;
+            add_unset_names(here, &range.high, found)
         }
     }
 }
 
 fn add_unset_references(
-    set: &Assigned,
+    here: &Reached,
     place: Place,
     names: &[Reference],
     found: &mut Reads,
 ) -> Result<(), AllocError>
-    ensures { OnOk result (Finds set.now (reads_at place names.now) found.old.keys found.new.keys) }
+    ensures { OnOk result (Finds here.now (reads_at place names.now) found.old.keys found.new.keys) }
 {
     for name in names {
-        add_unset(set, place, name.root.entity, found)?;
+        add_unset(here, place, name.root.entity, found)?;
     }
     Ok(())
 }
 
-/// Adds each export that is not in the set, at the place.
+/// Adds each export that may be unset, at the place.
 fn add_unset_exports(
-    set: &Assigned,
+    here: &Reached,
     place: Place,
     items: &[CoreDerivesItem],
     found: &mut Reads,
 ) -> Result<(), AllocError>
-    ensures { OnOk result (Finds set.now (exports_at place items.now) found.old.keys found.new.keys) }
+    ensures { OnOk result (Finds here.now (exports_at place items.now) found.old.keys found.new.keys) }
 {
     for item in items {
-        add_unset_references(set, place, item.exports.as_slice(), found)?;
+        add_unset_references(here, place, item.exports.as_slice(), found)?;
     }
     Ok(())
 }
 
-/// Adds the variable that is assigned to.
-fn set_target(set: &mut Assigned, target: &Reference) -> Result<(), AllocError>
-    ensures { OnOk result ((v : VarId) → holds set.new v ≡ (denotes v target.now.root || holds set.old v)) }
+/// The variable that is assigned to is set from here on.
+fn set_target(here: &mut Reached, target: &Reference) -> Result<(), AllocError>
+    ensures { OnOk result ((v : VarId) → is_unset here.new v ≡ (not (denotes v target.now.root) && is_unset here.old v)) }
 {
     match variable_of(target.root.entity) {
-        Some(var) => set.insert(var),
+        Some(var) => here.insert(var),
         None => Ok(()),
     }
 }
 
-/// Goes over a statement. A variable is set only after the right side is read, after an `if` or a `case` only where each of
-/// its arms or alternatives sets it, and after a loop only where it was set before, or a turn sets it that has to be run.
+/// Goes over an exit. One with a condition may leave the loop here, and the other ends its arm, which counts there.
+fn go_over_exit(
+    alloc: Global,
+    condition: &Option<CoreExpr>,
+    here: &Reached,
+    exits: &mut Reached,
+    found: &mut Reads,
+) -> Result<(), AllocError>
+    ensures { OnOk result ((place : Place) → Passes (effect (exit_where place condition.now)) here.now here.now exits.old exits.new found.old.keys found.new.keys) }
+{
+    match condition {
+        None => Ok(()),
+        Some(test) => {
+            add_unset_names(here, test, found)?;
+            *exits = exits.joined(alloc, here)?;
+            Ok(())
+        }
+    }
+}
+
+/// Goes over a statement. A variable is set only after the right side is read, after an `if` or a `case` only where each arm
+/// or alternative that goes on sets it, and after a loop only where each way out of it does. `exits` are the ways to where
+/// the loop around the statement is left.
 #[cycle(go_over)]
 fn go_over(
     alloc: Global,
     stmt: &CoreStmt,
-    set: &mut Assigned,
+    here: &mut Reached,
+    exits: &mut Reached,
     found: &mut Reads,
 ) -> Result<(), AllocError>
-    ensures { OnOk result (Passes (effect (command stmt.now)) set.old set.new found.old.keys found.new.keys) }
+    ensures { OnOk result (Passes (effect (command stmt.now)) here.old here.new exits.old exits.new found.old.keys found.new.keys) }
 {
     match stmt {
         CoreStmt::Null(_) => Ok(()),
         CoreStmt::Assignment(target, value) => {
-            add_unset_names(set, value, found)?;
-            set_target(set, target)
+            add_unset_names(here, value, found)?;
+            set_target(here, target)
         }
         CoreStmt::If(arms, otherwise, _) => match otherwise {
             None => {
-                let mut ends = set.copy(alloc)?;
-                go_over_arms(alloc, arms.as_slice(), set, &mut ends, found)?;
-                *set = ends;
+                let mut ends = here.copy(alloc)?;
+                go_over_arms(alloc, arms.as_slice(), here, &mut ends, exits, found)?;
+                *here = ends;
                 Ok(())
             }
             Some(stmts) => {
-                let mut ends = set.copy(alloc)?;
-                go_over_all(alloc, stmts.as_slice(), &mut ends, found)?;
-                go_over_arms(alloc, arms.as_slice(), set, &mut ends, found)?;
-                *set = ends;
+                let mut ends = here.copy(alloc)?;
+                go_over_all(alloc, stmts.as_slice(), &mut ends, exits, found)?;
+                go_over_arms(alloc, arms.as_slice(), here, &mut ends, exits, found)?;
+                *here = ends;
                 Ok(())
             }
         },
         CoreStmt::Case(_, selector, alternatives, _) => {
-            go_over_case(alloc, alternatives.as_slice(), selector, set, found)
+            go_over_case(alloc, alternatives.as_slice(), selector, here, exits, found)
         }
         CoreStmt::Loop(scheme, _, body, _) => {
-            go_over_loop(alloc, body.as_slice(), scheme, set, found)
+            go_over_loop(alloc, body.as_slice(), scheme, here, found)
         }
-        CoreStmt::Assertion(_, _, condition) => add_unset_names(set, condition, found),
+        CoreStmt::Assertion(_, _, condition) => add_unset_names(here, condition, found),
+        CoreStmt::Exit(_, condition) => go_over_exit(alloc, condition, here, exits, found),
     }
 }
 
-/// Goes over what is done where a test passes: `ends` are the variables that are set at the end where it fails, and then
-/// those that are set at the end of both.
+/// Goes over what is done where a test passes: `ends` are the ways to the end where it fails, and then to the end of both.
+/// An arm that ends with an exit goes on to where the loop is left.
 #[cycle(go_over)]
 fn go_over_branch(
     alloc: Global,
     body: &[CoreStmt],
     test: &CoreExpr,
-    set: &Assigned,
-    ends: &mut Assigned,
+    here: &Reached,
+    ends: &mut Reached,
+    exits: &mut Reached,
     found: &mut Reads,
 ) -> Result<(), AllocError>
-    ensures { OnOk result ((place : Place) → PassesBefore (λ otherwise. Choose place test.now (commands body.now) otherwise) set.now ends.old ends.new found.old.keys found.new.keys) }
+    ensures { OnOk result ((place : Place) → PassesBefore (λ otherwise. Choose place test.now (commands body.now) otherwise) here.now ends.old ends.new exits.old exits.new found.old.keys found.new.keys) }
 {
-    let mut end = set.copy(alloc)?;
-    add_unset_names(set, test, found)?;
-    go_over_all(alloc, body, &mut end, found)?;
-    *ends = ends.common(alloc, &end)?;
-    Ok(())
+    let mut end = here.copy(alloc)?;
+    add_unset_names(here, test, found)?;
+    if has_own_exit(body) {
+        let mut inner = Reached::NoWay;
+        go_over_all(alloc, body, &mut end, &mut inner, found)?;
+        *exits = exits.joined(alloc, &end)?;
+        Ok(())
+    } else {
+        go_over_all(alloc, body, &mut end, exits, found)?;
+        *ends = ends.joined(alloc, &end)?;
+        Ok(())
+    }
 }
 
-/// Goes over the arms from the last to the first: `ends` are the variables that are set at the end of what is done where
-/// all conditions are false, and then those that are set at the end of each arm too.
+/// Goes over the arms from the last to the first: `ends` are the ways to the end of what is done where all conditions are
+/// false, and then also those to the end of each arm.
 #[cycle(go_over)]
 fn go_over_arms(
     alloc: Global,
     arms: &[CoreArm],
-    set: &Assigned,
-    ends: &mut Assigned,
+    here: &Reached,
+    ends: &mut Reached,
+    exits: &mut Reached,
     found: &mut Reads,
 ) -> Result<(), AllocError>
-    ensures { OnOk result (PassesBefore (λ otherwise. arms_before otherwise (map arm_before arms.now)) set.now ends.old ends.new found.old.keys found.new.keys) }
+    ensures { OnOk result (PassesBefore (λ otherwise. arms_before otherwise (map arm_before arms.now)) here.now ends.old ends.new exits.old exits.new found.old.keys found.new.keys) }
 {
     for k in (0..arms.len()).rev() {
         let arm = &arms[k];
-        go_over_branch(alloc, arm.body.as_slice(), &arm.condition, set, ends, found)?;
+        let body = arm.body.as_slice();
+        go_over_branch(alloc, body, &arm.condition, here, ends, exits, found)?;
     }
     Ok(())
 }
@@ -224,67 +259,86 @@ fn go_over_case(
     alloc: Global,
     alternatives: &[CoreAlternative],
     selector: &CoreExpr,
-    set: &mut Assigned,
+    here: &mut Reached,
+    exits: &mut Reached,
     found: &mut Reads,
 ) -> Result<(), AllocError>
-    ensures { OnOk result ((place : Place) → Passes (effect (select place selector.now (map alternative alternatives.now))) set.old set.new found.old.keys found.new.keys) }
+    ensures { OnOk result ((place : Place) → Passes (effect (select place selector.now (map alternative alternatives.now))) here.old here.new exits.old exits.new found.old.keys found.new.keys) }
 {
     if alternatives.is_empty() {
         return Ok(());
     }
     let last = alternatives.len() - 1;
-    let mut ends = set.copy(alloc)?;
-    add_unset_names(set, selector, found)?;
-    go_over_all(alloc, alternatives[last].body.as_slice(), &mut ends, found)?;
+    let mut ends = here.copy(alloc)?;
+    add_unset_names(here, selector, found)?;
+    go_over_all(
+        alloc,
+        alternatives[last].body.as_slice(),
+        &mut ends,
+        exits,
+        found,
+    )?;
     for k in (0..last).rev() {
         let body = alternatives[k].body.as_slice();
-        go_over_branch(alloc, body, selector, set, &mut ends, found)?;
+        go_over_branch(alloc, body, selector, here, &mut ends, exits, found)?;
     }
-    *set = ends;
+    *here = ends;
     Ok(())
 }
 
 /// Goes over a loop: what stands at its head, and one turn of its body, since later turns find nothing that the first does
-/// not. After a `while` the set is as it was, since no turn need be run.
+/// not. Past a `while` all is as it was before, since no turn need be run, and past a loop with no head is what its exits
+/// lead to. It leaves no loop around it.
 #[cycle(go_over)]
 fn go_over_loop(
     alloc: Global,
     body: &[CoreStmt],
     scheme: &CoreScheme,
-    set: &mut Assigned,
+    here: &mut Reached,
     found: &mut Reads,
 ) -> Result<(), AllocError>
-    ensures { OnOk result (Passes (effect (loop_of scheme.now (commands body.now))) set.old set.new found.old.keys found.new.keys) }
+    ensures { OnOk result ((exits : Reached) → Passes (effect (loop_of scheme.now (commands body.now))) here.old here.new exits exits found.old.keys found.new.keys) }
 {
     match scheme {
         CoreScheme::While(_, condition) => {
-            let mut turn = set.copy(alloc)?;
-            add_unset_names(set, condition, found)?;
-            go_over_all(alloc, body, &mut turn, found)?;
+            let mut turn = here.copy(alloc)?;
+            let mut left = Reached::NoWay;
+            add_unset_names(here, condition, found)?;
+            go_over_all(alloc, body, &mut turn, &mut left, found)?;
             Ok(())
         }
-        CoreScheme::For(count) => go_over_count(alloc, body, count.get(), set, found),
+        CoreScheme::For(count) => go_over_count(alloc, body, count.get(), here, found),
+        CoreScheme::Endless => {
+            let mut left = Reached::NoWay;
+            go_over_all(alloc, body, here, &mut left, found)?;
+            *here = left;
+            Ok(())
+        }
     }
 }
 
 /// Goes over a loop over a parameter, which is set in its turns. Between bounds that are written no turn need be run, and
-/// else there is one. After the loop the parameter is set only where it was set before.
+/// else there is one, which ends or is left. After the loop the parameter is set only where it was set before.
 #[cycle(go_over)]
 fn go_over_count(
     alloc: Global,
     body: &[CoreStmt],
     count: &CoreCount,
-    set: &mut Assigned,
+    here: &mut Reached,
     found: &mut Reads,
 ) -> Result<(), AllocError>
-    ensures { OnOk result (Passes (effect (Repeat (Counted count.now) (commands body.now))) set.old set.new found.old.keys found.new.keys) }
+    ensures { OnOk result ((exits : Reached) → Passes (effect (Repeat (Counted count.now) (commands body.now))) here.old here.new exits exits found.old.keys found.new.keys) }
 {
-    add_unset_bounds(set, &count.bounds, found)?;
-    let mut turn = set.copy(alloc)?;
+    add_unset_bounds(here, &count.bounds, found)?;
+    let mut turn = here.copy(alloc)?;
+    let mut left = Reached::NoWay;
     turn.insert(count.parameter)?;
-    go_over_all(alloc, body, &mut turn, found)?;
+    go_over_all(alloc, body, &mut turn, &mut left, found)?;
     match &count.bounds {
-        None => set.insert_others(&turn, count.parameter),
+        None => {
+            let ends = turn.joined(alloc, &left)?;
+            here.go_past(count.parameter, &ends)
+        }
         Some(_) => Ok(()),
     }
 }
@@ -293,13 +347,14 @@ fn go_over_count(
 fn go_over_all(
     alloc: Global,
     stmts: &[CoreStmt],
-    set: &mut Assigned,
+    here: &mut Reached,
+    exits: &mut Reached,
     found: &mut Reads,
 ) -> Result<(), AllocError>
-    ensures { OnOk result (Passes (effects stmts.now) set.old set.new found.old.keys found.new.keys) }
+    ensures { OnOk result (Passes (effects stmts.now) here.old here.new exits.old exits.new found.old.keys found.new.keys) }
 {
     for stmt in stmts {
-        go_over(alloc, stmt, set, found)?;
+        go_over(alloc, stmt, here, exits, found)?;
     }
     Ok(())
 }
@@ -347,11 +402,18 @@ fn unset_reads_of(
     ensures { IfOk result (λ found. AreUnsetReads program.now sub.now found.items) }
 {
     let imports = VarSet::imports(alloc, sub)?;
-    let mut set = Assigned::new(alloc);
+    let mut here = Reached::start(alloc);
+    let mut exits = Reached::NoWay;
     let mut found = IndexSet::new(alloc);
-    go_over_all(alloc, sub.statements.as_slice(), &mut set, &mut found)?;
+    go_over_all(
+        alloc,
+        sub.statements.as_slice(),
+        &mut here,
+        &mut exits,
+        &mut found,
+    )?;
     leave_out_initialized(program, &mut found);
-    add_unset_exports(&set, sub.end, sub.relation(), &mut found)?;
+    add_unset_exports(&here, sub.end, sub.relation(), &mut found)?;
     listed(alloc, &imports, &found)
 }
 

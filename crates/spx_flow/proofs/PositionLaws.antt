@@ -22,20 +22,18 @@ use Rattle.spx_core.specs.declared.name.CoreName.{CoreName}
 use Rattle.spx_core.specs.declared.name.Reference.{Reference}
 use Rattle.spx_core.specs.declared.expression.CoreExpr.{CoreExpr}
 use Rattle.spx_core.specs.declared.statement.CoreRange.{CoreRange}
-use Rattle.spx_core.specs.declared.statement.CoreStmt.{CoreStmt}
 use Rattle.spx_core.specs.declared.expression.CoreExpr.TheVariants.{Number, Name, Entry, Attribute, Applied, Parenthesized, Prefix, Infix, InType, InRange}
 use Rattle.spx_core.specs.Uses.{denotes, is_same, variable_of}
 use Rattle.spx_core.specs.Reads.{names_read, names_step}
-use Rattle.spx_core.specs.Effects.{Effect, Read, effect, effects, is_read, reads, reads_of, reads_of_range, sets}
-use Rattle.spx_core.specs.Commands.{command}
-use Rattle.spx_core.specs.Flow.{MayFlow}
+use Rattle.spx_core.specs.Effects.{Effect, Read, is_read, reads_of, reads_of_range, sets}
 use Rattle.spx_core.specs.Mirror.VarSets.{holds, place_in_set}
+use Rattle.spx_flow.specs.declared.frame.Frame.{Frame}
 use Rattle.spx_flow.specs.Positions.{Covers, Stands, position_named, positions_read}
 use Rattle.spx_flow.specs.Targets.{positions_in}
 use Rattle.spx_core.proofs.Callers.Expressions.{fold-Number, fold-Name, fold-Entry, fold-Attribute, fold-Applied, fold-Parenthesized, fold-Prefix, fold-Infix, fold-InType, fold-InRange}
-use Rattle.spx_core.proofs.Callers.FlowLaws.{keeps, reads_any, reads_uses, sets_any}
+use Rattle.spx_core.proofs.Callers.FlowLaws.{reads_uses}
 use Rattle.spx_core.proofs.Callers.ListTests.{found, passes}
-use Rattle.spx_core.proofs.Callers.Variables.{same_itself, same_var}
+use Rattle.spx_core.proofs.Callers.Variables.{same_var}
 
 -- ---- what an expression reads, at each form of it
 
@@ -221,39 +219,8 @@ held_stands set v is =
     let one = found (λ n. v.0 == n) set is in
     (one.1.0, slice_get-get_or set one.1.0 one.0 one.1.1 ∙ ap Some (one.1.2 ∙ sym (eqb-true v.0 one.0 one.2)))
 
--- what covers statements covers each of them
-pub covers_one : (set : List ℕ) (stmts : List CoreStmt) (s : CoreStmt) → Covers set (effects stmts) → Contains stmts s → Covers set (effect (command s))
-covers_one set stmts s covers is = record {
-  once = covers.once;
-  targets = λ v h. covers.targets v (sets_any v stmts ∙ passes (λ t. sets v (effect (command t))) stmts s is h);
-  read = λ v h. covers.read v (reads_any v stmts ∙ passes (λ t. reads v (effect (command t))) stmts s is h);
-}
-
 -- a variable that is set has a position
-pub target_placed : (set : List ℕ) (e : Effect) (v : VarId) → Covers set e → sets v e ≡ true → place_in_set set v ≡ None → ⊥
-target_placed set e v covers is none =
-    let held = held_stands set v (covers.targets v is) in
-    not_both (place_in_set set v) held.0 none (place_of_standing set v held.0 covers.once held.1)
-
--- a variable to which a flow leads from the set is in the set
-pub led_stands : (set : List ℕ) (e : Effect) → Covers set e → (a : ℕ) (x z : VarId) → Stands set a x → MayFlow e x z → (k : ℕ) × Stands set k z
-led_stands set e covers a x z at flow =
-    elim (cases_Bool (sets z e)) [
-      | inl is ↦ held_stands set z (covers.targets z is)
-      | inr none ↦ (a, subst (Stands set a) ((keeps e x z none).0 flow) at)
-    ]
-
--- ---- whether a variable is the target of an assignment shows at its position
-
-module _ (set : List ℕ) (once : IsDistinct ◌==◌ set) (v : VarId) (to : ℕ) (at : Stands set to v) where
-  pub target_at : (a : ℕ) (x : VarId) → Stands set a x → is_same x (Some v) ≡ true → to ≡ a
-  target_at a x stands is = one_place set to a v once at (subst (Stands set a) (sym (same_var v x (eqb-true v.0 x.0 is))) stands)
-
-  pub at_target : (a : ℕ) (x : VarId) → Stands set a x → to ≡ a → is_same x (Some v) ≡ true
-  at_target a x stands e = ap (λ w. is_same w (Some v)) (one_var set a x v stands (subst (λ k. Stands set k v) e at)) ∙ same_itself v
-
-  pub other_at : (a : ℕ) (x : VarId) → Stands set a x → to ≢ a → is_same x (Some v) ≡ false
-  other_at a x stands differ = elim (cases_Bool (is_same x (Some v))) [ inl is ↦ absurd (differ (target_at a x stands is)) | inr is ↦ is ]
-
-  pub differ_at : (a : ℕ) (x : VarId) → Stands set a x → is_same x (Some v) ≡ false → to ≢ a
-  differ_at a x stands other e = both_ways (is_same x (Some v)) other (at_target a x stands e)
+pub target_placed : (frame : Frame) (e : Effect) (v : VarId) → Covers frame e → sets v e ≡ true → place_in_set frame.vars v ≡ None → ⊥
+target_placed frame e v covers is none =
+    let held = held_stands frame.vars v (covers.targets v is) in
+    not_both (place_in_set frame.vars v) held.0 none (place_of_standing frame.vars v held.0 covers.once held.1)

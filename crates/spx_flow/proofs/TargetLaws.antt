@@ -8,9 +8,10 @@ use Rattle.spx_core.specs.declared.statement.CoreArm.{CoreArm, out-CoreArm}
 use Rattle.spx_core.specs.declared.statement.CoreAlternative.{CoreAlternative}
 use Rattle.spx_text.specs.declared.place.Place.{Place}
 use Rattle.spx_core.specs.declared.expression.CoreExpr.{CoreExpr}
-use Rattle.spx_core.specs.Commands.{Command, Skip, alternative, alternatives_of, arm_before, arms_before, command, commands, select}
+use Rattle.spx_core.specs.Commands.{Command, Skip, alternative, alternatives_of, arm_before, arms_before, command, commands, leaves, select}
 use Rattle.spx_core.specs.Effects.{effect, effect_among, effects, reads_of, sets}
 use Rattle.spx_flow.specs.Targets.{alternatives_set, arm_sets, arms_set}
+use Rattle.spx_core.proofs.Callers.FlowLaws.{sets_chosen}
 use Rattle.spx_core.proofs.Callers.CommandForms.{command-Case, command-If, command-If-else, command_arm}
 
 pub or_assoc : (a b c : Bool) → ((a || b) || c) ≡ (a || (b || c))
@@ -22,7 +23,9 @@ or_nothing true = refl
 or_nothing false = refl
 
 pub sets_before : (arm : CoreArm) (otherwise : Command) (v : VarId) → sets v (effect (arm_before arm otherwise)) ≡ (sets v (effects (out-CoreArm arm).body) || sets v (effect otherwise))
-sets_before arm otherwise v = ap (λ k. sets v (effect k)) (command_arm arm otherwise)
+sets_before arm otherwise v =
+    let a = out-CoreArm arm in
+    ap (λ k. sets v (effect k)) (command_arm arm otherwise) ∙ sets_chosen v (leaves (commands a.body)) (reads_of a.condition) (effects a.body) (effect otherwise) a.place
 
 pub arm_sets_is : (v : VarId) (arm : CoreArm) → arm_sets v arm ≡ sets v (effects (out-CoreArm arm).body)
 arm_sets_is v arm = sets_before arm Skip v ∙ or_nothing (sets v (effects (out-CoreArm arm).body))
@@ -45,7 +48,9 @@ or_same false = refl
 module _ (place : Place) (selector : CoreExpr) (v : VarId) where
   sets_among : (a : CoreAlternative) (rest : List CoreAlternative) → sets v (effect_among (reads_of selector) place (alternatives_of (alternative a) (map alternative rest))) ≡ alternatives_set v (a ∷ rest)
   sets_among a [] = let one = sets v (effect (alternative a).1) in or_same one ∙ sym (or_nothing one)
-  sets_among a (b ∷ rest) = ap (λ more. sets v (effect (alternative a).1) || more) (sets_among b rest)
+  sets_among a (b ∷ rest) =
+      sets_chosen v (leaves (alternative a).1) (reads_of selector) (effect (alternative a).1) (effect_among (reads_of selector) place (alternatives_of (alternative b) (map alternative rest))) place
+      ∙ ap (λ more. sets v (effect (alternative a).1) || more) (sets_among b rest)
 
   sets_select : (alternatives : List CoreAlternative) → sets v (effect (select place selector (map alternative alternatives))) ≡ alternatives_set v alternatives
   sets_select [] = refl

@@ -1,7 +1,7 @@
 pub mod Positions
+pub mod Points
 pub mod Flows
-pub mod BackwardSteps
-pub mod ForwardSteps
+pub mod Steps
 pub mod Targets
 pub mod Branches
-pub mod Turns
+pub mod Loops

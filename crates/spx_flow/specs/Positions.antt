@@ -1,5 +1,5 @@
 -- Variables by their position in a set, and matrices over these positions.
-use Rattle.std.specs.Prelude.{◌≡◌, ◌==◌, ℕ, true, Option, Some, List, slice_get}
+use Rattle.std.specs.Prelude.{◌≡◌, ◌==◌, ℕ, Bool, true, false, ◌&&◌, ◌||◌, Option, Some, List, slice_get}
 use Rattle.std.specs.List.{IsDistinct, filter_map}
 use Rattle.std.specs.Option.{option_and_then}
 use Rattle.spx_core.specs.declared.entity.VarId.{VarId}
@@ -7,23 +7,40 @@ use Rattle.spx_core.specs.declared.name.CoreName.{CoreName}
 use Rattle.spx_core.specs.declared.expression.CoreExpr.{CoreExpr}
 use Rattle.spx_core.specs.Uses.{variable_of}
 use Rattle.spx_core.specs.Reads.{names_read}
-use Rattle.spx_core.specs.Mirror.VarSets.{holds, place_in_set}
-use Rattle.spx_core.specs.Effects.{Effect, sets, reads}
-use Rattle.spx_rows.specs.Relations.{Matrix, Holds}
+use Rattle.spx_core.specs.FlowRules.{body_effect}
+use Rattle.spx_core.specs.declared.subprogram.Sub.{Sub}
+use Rattle.spx_core.specs.Mirror.VarSets.{holds, place_in_set, positions_of}
+use Rattle.spx_core.specs.Effects.{Effect, nothing, assign, next, choose, observe, repeat, count, endless, exit, sets, reads}
+use Rattle.spx_flow.specs.declared.frame.Frame.{Frame}
 
 -- the variable at position k of the set, from 0
 abbrev pub Stands : List ℕ → ℕ → VarId → Type 0
 Stands set k v = slice_get set k ≡ Some v.0
 
--- the set has each variable that the statements set and read
-pub record Covers (set : List ℕ) (e : Effect) : Type 0 where
-  pub once : IsDistinct ◌==◌ set
-  pub targets : (v : VarId) → sets v e ≡ true → holds set v ≡ true
-  pub read : (v : VarId) → reads v e ≡ true → holds set v ≡ true
+-- ---- exits
 
--- R leads to a variable whose row has b
-abbrev pub Leads : List ℕ → (VarId → Type 0) → Matrix → ℕ → Type 0
-Leads set R m b = (c : ℕ) × (z : VarId) × Stands set c z × R z × Holds m c b
+-- one of the statements is an exit from the loop around them, or, where `deep`, from one of the loops in them
+abbrev pub exits_in : Bool → Effect → Bool
+exits_in deep nothing = false
+exits_in deep (assign target values place) = false
+exits_in deep (next a b) = exits_in deep a || exits_in deep b
+exits_in deep (choose tests a b place) = exits_in deep a || exits_in deep b
+exits_in deep (observe values) = false
+exits_in deep (repeat tests body place) = deep && exits_in deep body
+exits_in deep (count parameter bounds body place) = deep && exits_in deep body
+exits_in deep (endless body) = deep && exits_in deep body
+exits_in deep (exit tests a b place) = true
+
+-- the frame has each variable that the statements set and read, and has exits where they have some
+pub record Covers (frame : Frame) (e : Effect) : Type 0 where
+  pub once : IsDistinct ◌==◌ frame.vars
+  pub targets : (v : VarId) → sets v e ≡ true → holds frame.vars v ≡ true
+  pub read : (v : VarId) → reads v e ≡ true → holds frame.vars v ≡ true
+  pub exits : exits_in true e ≡ true → frame.has_exits ≡ true
+
+-- the variables of a subprogram cover its body
+abbrev pub BodyCovered : Sub → Type 0
+BodyCovered sub = Covers (record { vars = positions_of sub.vars; has_exits = exits_in true (body_effect sub) }) (body_effect sub)
 
 -- ---- the variables that expressions read
 

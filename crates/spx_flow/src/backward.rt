@@ -1,25 +1,32 @@
-// Backward through statements: what leads from each variable before them, and from each occurrence in them, to the
-// variables after them.
-ghost use Rattle.std.specs.Prelude.{◌≡◌, ◌↔◌, ◌==◌, ◌≤◌, ℕ, All, length, map, option_map, IfOk, OnOk};
+// Backward through statements: what leads from each point before them, and from each occurrence in them, to the points after
+// them.
+ghost use Rattle.std.specs.Prelude.{◌≡◌, ◌==◌, ◌≤◌, true, false, [], All, length, map, option_map, IfOk, OnOk, Some};
 ghost use Rattle.std.specs.List.{IsDistinct};
+ghost use Rattle.spx_text.specs.declared.place.Place.{Place};
 ghost use Rattle.spx_core.specs.declared.statement.CoreArm.{CoreArm};
-ghost use Rattle.spx_core.specs.Commands.{Set, Skip, Repeat, Counted, Tested, alternative, arm_before, arms_before, command, commands, loop_of, select};
-ghost use Rattle.spx_core.specs.Effects.{effect, effects, is_read, reads_of, reads_of_range};
+ghost use Rattle.spx_core.specs.Commands.{Set, Skip, Repeat, Counted, Endless, Tested, alternative, arm_before, arms_before, command, commands, exit_where, loop_of, select};
+ghost use Rattle.spx_core.specs.Effects.{choose, effect, effects, reads_of, reads_of_range};
+ghost use Rattle.spx_core.specs.Marks.{Occurs};
 ghost use Rattle.spx_core.specs.Mirror.VarSets.{holds};
-ghost use Rattle.spx_rows.specs.Relations.{Holds};
-ghost use Rattle.spx_flow.specs.Branches.{Arms, Joins, Spreads};
+ghost use Rattle.spx_flow.specs.Branches.{Arm, Arms, Done};
 ghost use Rattle.spx_flow.specs.Positions.{Covers, Stands};
-ghost use Rattle.spx_flow.specs.Flows.{AreRows};
-ghost use Rattle.spx_flow.specs.BackwardSteps.{Begun, Enters, LeadOn, StepsBack};
+ghost use Rattle.spx_flow.specs.Points.{FlowTo, KeptTo, MarkTo, Other, on_variables, size_of};
+ghost use Rattle.spx_flow.specs.Flows.{AreRows, LeadOn};
+ghost use Rattle.spx_flow.specs.Loops.{Enters, OneTurn};
+ghost use Rattle.spx_flow.specs.Steps.{StepsBack};
 
+use crate::cut::{first_occurrences, first_pairs};
+use crate::exits::have_exits;
 use crate::flow::Occurrence;
+use crate::frame::{Frame, size_of};
 use crate::positions::{bounds_read, position_named, positions_read};
-use crate::targets::{Targets, add_all_targets, all_targets, target_positions};
-use crate::turns::{carry, close_turns, composed};
+use crate::rows::{before_end, reached, replace, spread, ways_out};
+use crate::targets::{Targets, add_all_targets, all_targets};
+use crate::turns::{Turn, begun, turned};
 use indexmap::IndexSet;
 use spx_core::{
-    CoreAlternative, CoreArm, CoreCount, CoreExpr, CoreRange, CoreScheme, CoreStmt, Reference,
-    VarSet,
+    CoreAlternative, CoreArm, CoreCount, CoreExpr, CoreScheme, CoreStmt, Reference, VarId,
+    has_own_exit,
 };
 use spx_rows::Relation;
 use spx_text::Place;
@@ -38,20 +45,20 @@ pub(crate) struct BackwardFlow {
 /// Goes backward over an assignment.
 fn before_assignment(
     alloc: Global,
-    vars: &VarSet,
+    frame: &Frame,
     target: &Reference,
     value: &CoreExpr,
     rho: &mut Relation,
     mu: &mut Items<Occurrence>,
 ) -> Result<(), AllocError>
-    requires covers { Covers vars.now (effect (Set target.now value.now)) }
-    requires size { length rho.old ≡ length vars.now }
-    requires rows { AreRows (length vars.now) mu.old }
-    ensures { OnOk result (StepsBack vars.now (effect (Set target.now value.now)) rho.old rho.new mu.old mu.new) }
+    requires covers { Covers frame.now (effect (Set target.now value.now)) }
+    requires size { length rho.old ≡ size_of frame.now }
+    requires rows { AreRows (size_of frame.now) mu.old }
+    ensures { OnOk result (StepsBack frame.now (effect (Set target.now value.now)) rho.old rho.new mu.old mu.new) }
 {
-    match position_named(vars, &target.root) {
+    match position_named(&frame.vars, &target.root) {
         Some(position) => {
-            let from = positions_read(alloc, vars, value)?;
+            let from = positions_read(alloc, frame, value)?;
             mu.push(Occurrence {
                 place: target.root.name.place,
                 vars: rho.row(alloc, position)?,
@@ -63,113 +70,133 @@ fn before_assignment(
     }
 }
 
-/// Goes backward over a statement: `rho` leads from the variables after it, and then from those before it.
+/// Goes backward over a statement: `rho` leads from the points after it, and then from those before it.
 #[cycle(before)]
 fn before(
     alloc: Global,
-    vars: &VarSet,
+    frame: &Frame,
     stmt: &CoreStmt,
     rho: &mut Relation,
     mu: &mut Items<Occurrence>,
 ) -> Result<(), AllocError>
-    requires covers { Covers vars.now (effect (command stmt.now)) }
-    requires size { length rho.old ≡ length vars.now }
-    requires rows { AreRows (length vars.now) mu.old }
-    ensures { OnOk result (StepsBack vars.now (effect (command stmt.now)) rho.old rho.new mu.old mu.new) }
+    requires covers { Covers frame.now (effect (command stmt.now)) }
+    requires size { length rho.old ≡ size_of frame.now }
+    requires rows { AreRows (size_of frame.now) mu.old }
+    ensures { OnOk result (StepsBack frame.now (effect (command stmt.now)) rho.old rho.new mu.old mu.new) }
 {
     match stmt {
         CoreStmt::Null(_) => Ok(()),
         CoreStmt::Assignment(target, value) => {
-            before_assignment(alloc, vars, target, value, rho, mu)?;
+            before_assignment(alloc, frame, target, value, rho, mu)?;
             Ok(())
         }
         CoreStmt::If(arms, otherwise, _) => match otherwise {
             None => {
-                before_if(alloc, vars, arms.as_slice(), rho, mu)?;
+                before_if(alloc, frame, arms.as_slice(), rho, mu)?;
                 Ok(())
             }
             Some(stmts) => {
-                let mut starts = rho.copy(alloc)?;
                 let mut targets = IndexSet::new(alloc);
-                before_all(alloc, vars, stmts.as_slice(), &mut starts, mu)?;
-                add_all_targets(stmts.as_slice(), &mut targets)?;
-                before_arms(
-                    alloc,
-                    vars,
-                    arms.as_slice(),
-                    rho,
-                    &mut starts,
-                    &mut targets,
-                    mu,
-                )?;
+                let stmts = stmts.as_slice();
+                let mut starts = before_otherwise(alloc, frame, stmts, rho, &mut targets, mu)?;
+                let arms = arms.as_slice();
+                before_arms(alloc, frame, arms, rho, &mut starts, &mut targets, mu)?;
                 *rho = starts;
                 Ok(())
             }
         },
         CoreStmt::Case(place, selector, alternatives, _) => {
             let alternatives = alternatives.as_slice();
-            before_case(alloc, vars, alternatives, *place, selector, rho, mu)?;
+            before_case(alloc, frame, alternatives, *place, selector, rho, mu)?;
             Ok(())
         }
         CoreStmt::Loop(scheme, _, body, _) => {
-            before_loop(alloc, vars, body.as_slice(), scheme, rho, mu)?;
+            before_loop(alloc, frame, body.as_slice(), scheme, rho, mu)?;
             Ok(())
         }
         CoreStmt::Assertion(_, _, _) => Ok(()),
+        CoreStmt::Exit(place, condition) => {
+            before_exit(alloc, frame, *place, condition, rho, mu)?;
+            Ok(())
+        }
     }
 }
 
-/// Goes backward over a condition or a selector, where `starts` is what leads on from before all that it chooses from, and
-/// `targets` what this sets. From what is read leads on what leads on from all of these targets.
-fn before_test(
+/// Goes backward over one arm: to `starts` is added what leads on from before it, and to `targets` what it sets. From what its
+/// condition reads leads on what leads on from all targets, or, if the arm is an exit, from the conditions of exits.
+#[cycle(before)]
+fn before_arm(
     alloc: Global,
-    vars: &VarSet,
+    frame: &Frame,
+    body: &[CoreStmt],
     place: Place,
     test: &CoreExpr,
-    rho: &Relation,
-    starts: &mut Relation,
-    targets: &Targets,
-    mu: &mut Items<Occurrence>,
-) -> Result<(), AllocError>
-    requires once { IsDistinct ◌==◌ vars.now }
-    requires size { length rho.now ≡ length vars.now }
-    requires starts { length starts.old ≡ length vars.now }
-    requires rows { AreRows (length vars.now) mu.old }
-    ensures { OnOk result (Spreads vars.now (λ w. holds targets.now.keys w) (λ x. is_read x (reads_of test.now)) place rho.now starts.old starts.new mu.old mu.new) }
-{
-    let from = positions_read(alloc, vars, test)?;
-    let to = target_positions(alloc, vars, targets)?;
-    let reached = rho.union_of(alloc, to.as_slice())?;
-    starts.add_rows_to(from.as_slice(), rho, to.as_slice());
-    mu.push(Occurrence {
-        place,
-        vars: reached,
-    })?;
-    Ok(())
-}
-
-/// Goes backward over what is done on one way: to `starts` is added what leads on from before it, and to `targets` what it
-/// sets.
-#[cycle(before)]
-fn before_branch(
-    alloc: Global,
-    vars: &VarSet,
-    body: &[CoreStmt],
+    is_exit: bool,
     rho: &Relation,
     starts: &mut Relation,
     targets: &mut Targets,
     mu: &mut Items<Occurrence>,
 ) -> Result<(), AllocError>
-    requires covers { Covers vars.now (effects body.now) }
-    requires size { length rho.now ≡ length vars.now }
-    requires starts { length starts.old ≡ length vars.now }
-    requires rows { AreRows (length vars.now) mu.old }
-    ensures { OnOk result (Joins (λ e. StepsBack vars.now e rho.now) vars.now (effects body.now) starts.old starts.new targets.old.keys targets.new.keys mu.old mu.new) }
+    requires covers { Covers frame.now (effects body.now) }
+    requires exits { is_exit ≡ true → frame.now.has_exits ≡ true }
+    requires size { length rho.now ≡ size_of frame.now }
+    requires starts { length starts.old ≡ size_of frame.now }
+    requires rows { AreRows (size_of frame.now) mu.old }
+    ensures { OnOk result (Arm (λ e. StepsBack frame.now e rho.now) frame.now is_exit (reads_of test.now) (effects body.now) place starts.old starts.new targets.old.keys targets.new.keys mu.old mu.new) }
 {
-    let mut start = rho.copy(alloc)?;
-    before_all(alloc, vars, body, &mut start, mu)?;
+    let mut start = before_end(alloc, frame, is_exit, rho)?;
+    before_all(alloc, frame, body, &mut start, mu)?;
     add_all_targets(body, targets)?;
     starts.union_with(&start);
+    let from = positions_read(alloc, frame, test)?;
+    let to = reached(alloc, frame, is_exit, targets, rho.size())?;
+    spread(
+        alloc,
+        frame,
+        place,
+        to.as_slice(),
+        from.as_slice(),
+        rho,
+        starts,
+        mu,
+    )?;
+    Ok(())
+}
+
+/// Goes backward over an exit: with a condition it is an arm that does nothing before the loop is left.
+fn before_exit(
+    alloc: Global,
+    frame: &Frame,
+    place: Place,
+    condition: &Option<CoreExpr>,
+    rho: &mut Relation,
+    mu: &mut Items<Occurrence>,
+) -> Result<(), AllocError>
+    requires covers { Covers frame.now (effect (exit_where place condition.now)) }
+    requires size { length rho.old ≡ size_of frame.now }
+    requires rows { AreRows (size_of frame.now) mu.old }
+    ensures { OnOk result (StepsBack frame.now (effect (exit_where place condition.now)) rho.old rho.new mu.old mu.new) }
+{
+    let Some(test) = condition else {
+        return Ok(());
+    };
+    let mut starts = rho.copy(alloc)?;
+    let left = before_end(alloc, frame, true, rho)?;
+    starts.union_with(&left);
+    let targets = IndexSet::new(alloc);
+    let from = positions_read(alloc, frame, test)?;
+    let to = reached(alloc, frame, true, &targets, rho.size())?;
+    spread(
+        alloc,
+        frame,
+        place,
+        to.as_slice(),
+        from.as_slice(),
+        rho,
+        &mut starts,
+        mu,
+    )?;
+    *rho = starts;
     Ok(())
 }
 
@@ -177,21 +204,43 @@ fn before_branch(
 #[cycle(before)]
 fn before_if(
     alloc: Global,
-    vars: &VarSet,
+    frame: &Frame,
     arms: &[CoreArm],
     rho: &mut Relation,
     mu: &mut Items<Occurrence>,
 ) -> Result<(), AllocError>
-    requires covers { Covers vars.now (effect (arms_before Skip (map arm_before arms.now))) }
-    requires size { length rho.old ≡ length vars.now }
-    requires rows { AreRows (length vars.now) mu.old }
-    ensures { OnOk result (StepsBack vars.now (effect (arms_before Skip (map arm_before arms.now))) rho.old rho.new mu.old mu.new) }
+    requires covers { Covers frame.now (effect (arms_before Skip (map arm_before arms.now))) }
+    requires size { length rho.old ≡ size_of frame.now }
+    requires rows { AreRows (size_of frame.now) mu.old }
+    ensures { OnOk result (StepsBack frame.now (effect (arms_before Skip (map arm_before arms.now))) rho.old rho.new mu.old mu.new) }
 {
     let mut starts = rho.copy(alloc)?;
     let mut targets = IndexSet::new(alloc);
-    before_arms(alloc, vars, arms, rho, &mut starts, &mut targets, mu)?;
+    before_arms(alloc, frame, arms, rho, &mut starts, &mut targets, mu)?;
     *rho = starts;
     Ok(())
+}
+
+/// Goes backward over what is done where no condition before it holds; `targets` becomes what this sets.
+#[cycle(before)]
+fn before_otherwise(
+    alloc: Global,
+    frame: &Frame,
+    stmts: &[CoreStmt],
+    rho: &Relation,
+    targets: &mut Targets,
+    mu: &mut Items<Occurrence>,
+) -> Result<Relation, AllocError>
+    requires covers { Covers frame.now (effects stmts.now) }
+    requires size { length rho.now ≡ size_of frame.now }
+    requires none { targets.old.keys ≡ [] }
+    requires rows { AreRows (size_of frame.now) mu.old }
+    ensures { IfOk result (λ starts. Done (λ e. StepsBack frame.now e rho.now) (effects stmts.now) starts targets.new.keys mu.old mu.new) }
+{
+    let mut starts = rho.copy(alloc)?;
+    before_all(alloc, frame, stmts, &mut starts, mu)?;
+    add_all_targets(stmts, targets)?;
+    Ok(starts)
 }
 
 /// Goes backward over the alternatives of a `case`, from the last to the first: the last one as what stands after `else`, and
@@ -199,157 +248,253 @@ fn before_if(
 #[cycle(before)]
 fn before_case(
     alloc: Global,
-    vars: &VarSet,
+    frame: &Frame,
     alternatives: &[CoreAlternative],
     place: Place,
     selector: &CoreExpr,
     rho: &mut Relation,
     mu: &mut Items<Occurrence>,
 ) -> Result<(), AllocError>
-    requires covers { Covers vars.now (effect (select place selector.now (map alternative alternatives.now))) }
-    requires size { length rho.old ≡ length vars.now }
-    requires rows { AreRows (length vars.now) mu.old }
-    ensures { OnOk result (StepsBack vars.now (effect (select place selector.now (map alternative alternatives.now))) rho.old rho.new mu.old mu.new) }
+    requires covers { Covers frame.now (effect (select place selector.now (map alternative alternatives.now))) }
+    requires size { length rho.old ≡ size_of frame.now }
+    requires rows { AreRows (size_of frame.now) mu.old }
+    ensures { OnOk result (StepsBack frame.now (effect (select place selector.now (map alternative alternatives.now))) rho.old rho.new mu.old mu.new) }
 {
     if alternatives.is_empty() {
         return Ok(());
     }
     let last = alternatives.len() - 1;
-    let mut starts = rho.copy(alloc)?;
     let mut targets = IndexSet::new(alloc);
     let body = alternatives[last].body.as_slice();
-    before_all(alloc, vars, body, &mut starts, mu)?;
-    add_all_targets(body, &mut targets)?;
-    before_test(alloc, vars, place, selector, rho, &mut starts, &targets, mu)?;
+    let mut starts = before_last(alloc, frame, body, place, selector, rho, &mut targets, mu)?;
     for k in (0..last).rev() {
         let body = alternatives[k].body.as_slice();
-        before_branch(alloc, vars, body, rho, &mut starts, &mut targets, mu)?;
-        before_test(alloc, vars, place, selector, rho, &mut starts, &targets, mu)?;
+        let exit = has_own_exit(body);
+        before_arm(
+            alloc,
+            frame,
+            body,
+            place,
+            selector,
+            exit,
+            rho,
+            &mut starts,
+            &mut targets,
+            mu,
+        )?;
     }
     *rho = starts;
     Ok(())
 }
 
-/// Goes backward over a `while` loop, and once over its body. From the head, any number of turns leads on to a last reading
-/// of the condition; what leads on from an occurrence in the body to the end of a turn leads on from the head again.
+/// Goes backward over the last alternative of a `case`, which is both arms of a choice.
+#[cycle(before)]
+fn before_last(
+    alloc: Global,
+    frame: &Frame,
+    body: &[CoreStmt],
+    place: Place,
+    selector: &CoreExpr,
+    rho: &Relation,
+    targets: &mut Targets,
+    mu: &mut Items<Occurrence>,
+) -> Result<Relation, AllocError>
+    requires covers { Covers frame.now (effects body.now) }
+    requires size { length rho.now ≡ size_of frame.now }
+    requires none { targets.old.keys ≡ [] }
+    requires rows { AreRows (size_of frame.now) mu.old }
+    ensures { IfOk result (λ starts. Done (λ e. StepsBack frame.now e rho.now) (choose (reads_of selector.now) (effects body.now) (effects body.now) place) starts targets.new.keys mu.old mu.new) }
+{
+    let mut starts = before_otherwise(alloc, frame, body, rho, targets, mu)?;
+    let from = positions_read(alloc, frame, selector)?;
+    let to = reached(alloc, frame, false, targets, rho.size())?;
+    spread(
+        alloc,
+        frame,
+        place,
+        to.as_slice(),
+        from.as_slice(),
+        rho,
+        &mut starts,
+        mu,
+    )?;
+    Ok(starts)
+}
+
+/// Goes backward over one turn of a loop, from each point at its end to itself.
+#[cycle(before)]
+fn turn_before(
+    alloc: Global,
+    frame: &Frame,
+    body: &[CoreStmt],
+    size: usize,
+) -> Result<Turn, AllocError>
+    requires covers { Covers frame.now (effects body.now) }
+    requires size { size ≡ size_of frame.now }
+    requires limit { size ≤ 65536 }
+    ensures { IfOk result (λ turn. OneTurn frame.now (λ x z. FlowTo (effects body.now) x z) (λ p z. MarkTo (effects body.now) p z) (λ p. Occurs (effects body.now) p) turn.flow turn.inner) }
+{
+    let mut flow = Relation::identity(alloc, size)?;
+    let mut inner = Items::new(alloc);
+    before_all(alloc, frame, body, &mut flow, &mut inner)?;
+    Ok(Turn { flow, inner })
+}
+
+/// Goes backward over a `while` loop, and once over its body. Any number of turns leads on to a last reading of the condition, or to
+/// an exit.
 #[cycle(before)]
 fn before_while(
     alloc: Global,
-    vars: &VarSet,
+    frame: &Frame,
     body: &[CoreStmt],
     place: Place,
     condition: &CoreExpr,
     rho: &mut Relation,
     mu: &mut Items<Occurrence>,
 ) -> Result<(), AllocError>
-    requires covers { Covers vars.now (effect (Repeat (Tested place condition.now) (commands body.now))) }
-    requires size { length rho.old ≡ length vars.now }
-    requires rows { AreRows (length vars.now) mu.old }
-    ensures { OnOk result (StepsBack vars.now (effect (Repeat (Tested place condition.now) (commands body.now))) rho.old rho.new mu.old mu.new) }
+    requires covers { Covers frame.now (effect (Repeat (Tested place condition.now) (commands body.now))) }
+    requires size { length rho.old ≡ size_of frame.now }
+    requires rows { AreRows (size_of frame.now) mu.old }
+    ensures { OnOk result (StepsBack frame.now (effect (Repeat (Tested place condition.now) (commands body.now))) rho.old rho.new mu.old mu.new) }
 {
-    let mut turns = Relation::identity(alloc, rho.size())?;
-    let mut inner = Items::new(alloc);
-    before_all(alloc, vars, body, &mut turns, &mut inner)?;
-    close_turns(&mut turns);
     let targets = all_targets(alloc, body)?;
-    let mut last = rho.copy(alloc)?;
-    before_test(alloc, vars, place, condition, rho, &mut last, &targets, mu)?;
-    let head = composed(alloc, &turns, &last)?;
-    carry(alloc, inner.as_slice(), &head, mu)?;
-    *rho = head;
+    let from = positions_read(alloc, frame, condition)?;
+    let to = reached(alloc, frame, false, &targets, rho.size())?;
+    let mut last = ways_out(alloc, frame, true, &targets, rho)?;
+    spread(
+        alloc,
+        frame,
+        place,
+        to.as_slice(),
+        from.as_slice(),
+        rho,
+        &mut last,
+        mu,
+    )?;
+    let turn = turn_before(alloc, frame, body, rho.size())?;
+    let head = turned(alloc, &turn, &last, mu)?;
+    replace(frame, &head, rho);
     Ok(())
 }
 
-/// Goes back to before the first turn of a loop over a parameter, where `rest` leads on from before some number of turns:
-/// where no bounds are written there is one at least.
-fn before_turns(
+/// Goes backward over a loop of no head, and once over its body. Where there are exits, the loop is left at these alone.
+#[cycle(before)]
+fn before_endless(
     alloc: Global,
-    bounds: &Option<CoreRange>,
-    turn: &Relation,
-    rest: Relation,
-) -> Result<Relation, AllocError>
-    requires { length turn.now ≡ length rest }
-    ensures { IfOk result (λ head. (length head ≡ length rest) × ((a b : ℕ) → Holds head a b ↔ Begun (option_map reads_of_range bounds.now) (Holds turn.now) (Holds rest) a b)) }
+    frame: &Frame,
+    body: &[CoreStmt],
+    rho: &mut Relation,
+    mu: &mut Items<Occurrence>,
+) -> Result<(), AllocError>
+    requires covers { Covers frame.now (effect (Repeat Endless (commands body.now))) }
+    requires size { length rho.old ≡ size_of frame.now }
+    requires rows { AreRows (size_of frame.now) mu.old }
+    ensures { OnOk result (StepsBack frame.now (effect (Repeat Endless (commands body.now))) rho.old rho.new mu.old mu.new) }
 {
-    match bounds {
-        Some(_) => Ok(rest),
-        None => {
-            let head = composed(alloc, turn, &rest)?;
-            Ok(head)
-        }
-    }
+    let targets = all_targets(alloc, body)?;
+    let stays = !have_exits(false, body);
+    let last = ways_out(alloc, frame, stays, &targets, rho)?;
+    let turn = turn_before(alloc, frame, body, rho.size())?;
+    let head = turned(alloc, &turn, &last, mu)?;
+    replace(frame, &head, rho);
+    Ok(())
+}
+
+/// Goes backward over one turn of a loop over a parameter. What the body makes of the parameter leads on to nothing, since each
+/// turn begins with a value of the loop's own.
+#[cycle(before)]
+fn kept_turn_before(
+    alloc: Global,
+    frame: &Frame,
+    body: &[CoreStmt],
+    parameter: VarId,
+    position: usize,
+    size: usize,
+) -> Result<Turn, AllocError>
+    requires covers { Covers frame.now (effects body.now) }
+    requires parameter { Stands frame.now.vars position parameter }
+    requires size { size ≡ size_of frame.now }
+    requires limit { size ≤ 65536 }
+    ensures { IfOk result (λ turn. OneTurn frame.now (λ x z. KeptTo parameter (effects body.now) x z) (λ p z. Other parameter z × MarkTo (effects body.now) p z) (λ p. Occurs (effects body.now) p) turn.flow turn.inner) }
+{
+    let mut flow = Relation::identity(alloc, size)?;
+    flow.clear_row(position);
+    let mut inner = Items::new(alloc);
+    before_all(alloc, frame, body, &mut flow, &mut inner)?;
+    flow.add(position, position);
+    Ok(Turn { flow, inner })
 }
 
 /// Goes backward over the bounds of a loop, where they are written. What leads on from the first value of the parameter, and
-/// from all that the body sets, leads on from what they read; `last` leads on from after the loop. The parameter has no
+/// from all that the body sets, leads on from what they read; `past` leads on from after the loop. The parameter has no
 /// value before.
 fn before_bounds(
     alloc: Global,
-    vars: &VarSet,
+    frame: &Frame,
     count: &CoreCount,
-    parameter: usize,
-    last: &Relation,
+    position: usize,
+    past: &Relation,
     head: &mut Relation,
     targets: &Targets,
     mu: &mut Items<Occurrence>,
 ) -> Result<(), AllocError>
-    requires once { IsDistinct ◌==◌ vars.now }
-    requires parameter { Stands vars.now parameter count.now.parameter }
-    requires size { length last.now ≡ length vars.now }
-    requires head { length head.old ≡ length vars.now }
-    requires rows { AreRows (length vars.now) mu.old }
-    ensures { OnOk result (Enters vars.now count.now.parameter (option_map reads_of_range count.now.bounds) (λ w. holds targets.now.keys w) count.now.place last.now head.old head.new mu.old mu.new) }
+    requires once { IsDistinct ◌==◌ frame.now.vars }
+    requires parameter { Stands frame.now.vars position count.now.parameter }
+    requires size { length past.now ≡ size_of frame.now }
+    requires head { length head.old ≡ size_of frame.now }
+    requires rows { AreRows (size_of frame.now) mu.old }
+    ensures { OnOk result (Enters frame.now count.now.parameter (option_map reads_of_range count.now.bounds) (λ x. on_variables (λ v. holds targets.now.keys v) x) count.now.place past.now head.old head.new mu.old mu.new) }
 {
-    let from = bounds_read(alloc, vars, &count.bounds)?;
-    let to = target_positions(alloc, vars, targets)?;
-    let reached = last.union_of(alloc, to.as_slice())?;
-    head.spread_row(parameter, from.as_slice());
-    head.add_rows_to(from.as_slice(), last, to.as_slice());
+    let from = bounds_read(alloc, frame, &count.bounds)?;
+    head.spread_row(position, from.as_slice());
     match &count.bounds {
         Some(_) => {
-            mu.push(Occurrence {
-                place: count.place,
-                vars: reached,
-            })?;
+            let to = reached(alloc, frame, false, targets, past.size())?;
+            spread(
+                alloc,
+                frame,
+                count.place,
+                to.as_slice(),
+                from.as_slice(),
+                past,
+                head,
+                mu,
+            )?;
             Ok(())
         }
         None => Ok(()),
     }
 }
 
-/// Goes backward over a loop over a parameter, and once over its body. What the body makes of the parameter leads on to
-/// nothing, since each turn begins with a value of the loop's own; after the loop the parameter is gone.
+/// Goes backward over a loop over a parameter, and once over its body. After the loop the parameter is gone.
 #[cycle(before)]
 fn before_count(
     alloc: Global,
-    vars: &VarSet,
+    frame: &Frame,
     body: &[CoreStmt],
     count: &CoreCount,
     rho: &mut Relation,
     mu: &mut Items<Occurrence>,
 ) -> Result<(), AllocError>
-    requires covers { Covers vars.now (effect (Repeat (Counted count.now) (commands body.now))) }
-    requires size { length rho.old ≡ length vars.now }
-    requires rows { AreRows (length vars.now) mu.old }
-    ensures { OnOk result (StepsBack vars.now (effect (Repeat (Counted count.now) (commands body.now))) rho.old rho.new mu.old mu.new) }
+    requires covers { Covers frame.now (effect (Repeat (Counted count.now) (commands body.now))) }
+    requires size { length rho.old ≡ size_of frame.now }
+    requires rows { AreRows (size_of frame.now) mu.old }
+    ensures { OnOk result (StepsBack frame.now (effect (Repeat (Counted count.now) (commands body.now))) rho.old rho.new mu.old mu.new) }
 {
-    let Some(parameter) = vars.position(count.parameter) else {
+    let Some(position) = frame.vars.position(count.parameter) else {
         return Ok(());
     };
-    let mut turn = Relation::identity(alloc, rho.size())?;
-    turn.clear_row(parameter);
-    let mut inner = Items::new(alloc);
-    before_all(alloc, vars, body, &mut turn, &mut inner)?;
-    turn.add(parameter, parameter);
-    rho.clear_row(parameter);
-    let mut turns = turn.copy(alloc)?;
-    close_turns(&mut turns);
-    let rest = composed(alloc, &turns, rho)?;
-    carry(alloc, inner.as_slice(), &rest, mu)?;
-    let mut head = before_turns(alloc, &count.bounds, &turn, rest)?;
-    let changed = all_targets(alloc, body)?;
-    before_bounds(alloc, vars, count, parameter, rho, &mut head, &changed, mu)?;
-    *rho = head;
+    let targets = all_targets(alloc, body)?;
+    let mut past = rho.copy(alloc)?;
+    past.clear_row(position);
+    let last = ways_out(alloc, frame, true, &targets, &past)?;
+    let turn = kept_turn_before(alloc, frame, body, count.parameter, position, rho.size())?;
+    let rest = turned(alloc, &turn, &last, mu)?;
+    let mut head = begun(alloc, &count.bounds, &turn.flow, rest)?;
+    before_bounds(
+        alloc, frame, count, position, &past, &mut head, &targets, mu,
+    )?;
+    replace(frame, &head, rho);
     Ok(())
 }
 
@@ -357,24 +502,28 @@ fn before_count(
 #[cycle(before)]
 fn before_loop(
     alloc: Global,
-    vars: &VarSet,
+    frame: &Frame,
     body: &[CoreStmt],
     scheme: &CoreScheme,
     rho: &mut Relation,
     mu: &mut Items<Occurrence>,
 ) -> Result<(), AllocError>
-    requires covers { Covers vars.now (effect (loop_of scheme.now (commands body.now))) }
-    requires size { length rho.old ≡ length vars.now }
-    requires rows { AreRows (length vars.now) mu.old }
-    ensures { OnOk result (StepsBack vars.now (effect (loop_of scheme.now (commands body.now))) rho.old rho.new mu.old mu.new) }
+    requires covers { Covers frame.now (effect (loop_of scheme.now (commands body.now))) }
+    requires size { length rho.old ≡ size_of frame.now }
+    requires rows { AreRows (size_of frame.now) mu.old }
+    ensures { OnOk result (StepsBack frame.now (effect (loop_of scheme.now (commands body.now))) rho.old rho.new mu.old mu.new) }
 {
     match scheme {
         CoreScheme::While(place, condition) => {
-            before_while(alloc, vars, body, *place, condition, rho, mu)?;
+            before_while(alloc, frame, body, *place, condition, rho, mu)?;
             Ok(())
         }
         CoreScheme::For(count) => {
-            before_count(alloc, vars, body, count.get(), rho, mu)?;
+            before_count(alloc, frame, body, count.get(), rho, mu)?;
+            Ok(())
+        }
+        CoreScheme::Endless => {
+            before_endless(alloc, frame, body, rho, mu)?;
             Ok(())
         }
     }
@@ -384,24 +533,27 @@ fn before_loop(
 #[cycle(before)]
 fn before_arms(
     alloc: Global,
-    vars: &VarSet,
+    frame: &Frame,
     arms: &[CoreArm],
     rho: &Relation,
     starts: &mut Relation,
     targets: &mut Targets,
     mu: &mut Items<Occurrence>,
 ) -> Result<(), AllocError>
-    requires covers { All (λ (arm : CoreArm). Covers vars.now (effect (arm_before arm Skip))) arms.now }
-    requires size { length rho.now ≡ length vars.now }
-    requires starts { length starts.old ≡ length vars.now }
-    requires rows { AreRows (length vars.now) mu.old }
-    ensures { OnOk result (Arms (λ e. StepsBack vars.now e rho.now) vars.now (λ otherwise. arms_before otherwise (map arm_before arms.now)) starts.old starts.new targets.old.keys targets.new.keys mu.old mu.new) }
+    requires covers { All (λ (arm : CoreArm). Covers frame.now (effect (arm_before arm Skip))) arms.now }
+    requires size { length rho.now ≡ size_of frame.now }
+    requires starts { length starts.old ≡ size_of frame.now }
+    requires rows { AreRows (size_of frame.now) mu.old }
+    ensures { OnOk result (Arms (λ e. StepsBack frame.now e rho.now) frame.now (λ otherwise. arms_before otherwise (map arm_before arms.now)) starts.old starts.new targets.old.keys targets.new.keys mu.old mu.new) }
 {
     for k in (0..arms.len()).rev() {
         let arm = &arms[k];
-        before_branch(alloc, vars, arm.body.as_slice(), rho, starts, targets, mu)?;
+        let body = arm.body.as_slice();
+        let exit = has_own_exit(body);
         let test = &arm.condition;
-        before_test(alloc, vars, arm.place, test, rho, starts, targets, mu)?;
+        before_arm(
+            alloc, frame, body, arm.place, test, exit, rho, starts, targets, mu,
+        )?;
     }
     Ok(())
 }
@@ -410,18 +562,18 @@ fn before_arms(
 #[cycle(before)]
 fn before_all(
     alloc: Global,
-    vars: &VarSet,
+    frame: &Frame,
     stmts: &[CoreStmt],
     rho: &mut Relation,
     mu: &mut Items<Occurrence>,
 ) -> Result<(), AllocError>
-    requires covers { Covers vars.now (effects stmts.now) }
-    requires size { length rho.old ≡ length vars.now }
-    requires rows { AreRows (length vars.now) mu.old }
-    ensures { OnOk result (StepsBack vars.now (effects stmts.now) rho.old rho.new mu.old mu.new) }
+    requires covers { Covers frame.now (effects stmts.now) }
+    requires size { length rho.old ≡ size_of frame.now }
+    requires rows { AreRows (size_of frame.now) mu.old }
+    ensures { OnOk result (StepsBack frame.now (effects stmts.now) rho.old rho.new mu.old mu.new) }
 {
     for k in (0..stmts.len()).rev() {
-        before(alloc, vars, &stmts[k], rho, mu)?;
+        before(alloc, frame, &stmts[k], rho, mu)?;
     }
     Ok(())
 }
@@ -429,15 +581,17 @@ fn before_all(
 /// What leads on to the variables after the statements.
 pub(crate) fn backward(
     alloc: Global,
-    vars: &VarSet,
+    frame: &Frame,
     stmts: &[CoreStmt],
 ) -> Result<BackwardFlow, AllocError>
-    requires covers { Covers vars.now (effects stmts.now) }
-    requires size { length vars.now ≤ 65536 }
-    ensures { IfOk result (λ back. LeadOn vars.now (effects stmts.now) back.rho back.mu) }
+    requires covers { Covers frame.now (effects stmts.now) }
+    requires size { length frame.now.vars ≤ 4096 }
+    ensures { IfOk result (λ back. LeadOn frame.now.vars (effects stmts.now) back.rho back.mu) }
 {
-    let mut rho = Relation::identity(alloc, vars.len())?;
-    let mut mu = Items::new(alloc);
-    before_all(alloc, vars, stmts, &mut rho, &mut mu)?;
+    let size = size_of(frame);
+    let turn = turn_before(alloc, frame, stmts, size)?;
+    let count = frame.vars.len();
+    let rho = first_pairs(alloc, turn.flow, count)?;
+    let mu = first_occurrences(alloc, turn.inner, size, count)?;
     Ok(BackwardFlow { rho, mu })
 }

@@ -5,14 +5,16 @@ ghost use Rattle.spx_core.specs.declared.entity.VarId.{VarId};
 ghost use Rattle.spx_core.specs.declared.subprogram.Sub.{Sub};
 ghost use Rattle.spx_core.specs.Erased.{Visible};
 ghost use Rattle.spx_core.specs.Effects.{defines};
-ghost use Rattle.spx_core.specs.Mirror.VarSets.{holds, positions_of};
-ghost use Rattle.spx_core.specs.FlowRules.{body_effect, is_wide};
-ghost use Rattle.spx_flow.specs.Positions.{Covers};
+ghost use Rattle.spx_core.specs.Mirror.VarSets.{holds};
+ghost use Rattle.spx_core.specs.FlowRules.{is_wide};
+ghost use Rattle.spx_flow.specs.Positions.{BodyCovered};
 ghost use Rattle.spx_flow.specs.Flows.{IsFaultOf, IsFlow};
 
 use crate::backward::backward;
+use crate::exits::have_exits;
 use crate::fault::{FlowFault, MOST_VARIABLES};
 use crate::forward::forward;
+use crate::frame::Frame;
 use crate::targets::all_targets;
 use spx_core::laws::names_are_scoped;
 use spx_core::{CoreStmt, Program, Sub, SubId, VarId, VarSet};
@@ -57,14 +59,16 @@ fn defined(alloc: Global, stmts: &[CoreStmt]) -> Result<VarSet, AllocError>
 /// The flow of a body whose variables are the subprogram's.
 fn flow_in(alloc: Global, sub: &Sub) -> Result<Flow, AllocError>
     requires once { IsDistinct (λ (v : VarId) (w : VarId). w.0 == v.0) sub.now.vars }
-    requires covers { Covers (positions_of sub.now.vars) (body_effect sub.now) }
-    requires size { length sub.now.vars ≤ 65536 }
+    requires covers { BodyCovered sub.now }
+    requires size { length sub.now.vars ≤ 4096 }
     ensures { IfOk result (IsFlow sub.now) }
 {
     let vars = VarSet::of(alloc, sub.vars.as_slice())?;
     let stmts = sub.statements.as_slice();
-    let back = backward(alloc, &vars, stmts)?;
-    let lambda = forward(alloc, &vars, stmts)?;
+    let has_exits = have_exits(true, stmts);
+    let frame = Frame { vars, has_exits };
+    let back = backward(alloc, &frame, stmts)?;
+    let lambda = forward(alloc, &frame, stmts)?;
     let defines = defined(alloc, stmts)?;
     Ok(Flow {
         lambda,

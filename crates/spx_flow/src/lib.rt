@@ -4,17 +4,22 @@
 //! variables by their position in the subprogram's list and occurrences by their place, in two passes over the body. An
 //! assignment costs a union of rows for each variable that it reads. An arm costs a copy and a union of relations, and a
 //! union of rows for each pair of a variable that its condition reads and one that it or an arm after it sets. A loop costs
-//! a closure and a composition of relations, or two where it is over all values of a type, unions of rows for its condition
-//! or its bounds as for an arm, and one for each variable that an occurrence in its body is listed with; a pass goes over a
-//! body once, however many loops it is in. It refuses a subprogram exactly where that has more than `MOST_VARIABLES`
-//! variables, or where memory runs out.
+//! a closure and a few compositions of relations, unions of rows for its condition or its bounds as for an arm, and one for
+//! each variable that an occurrence in its body is listed with; a pass goes over a body once, however many loops it is in.
+//! Where loops are left by exits, relations have twice as many rows and one more: a variable where the loop is left is a
+//! point of its own, and so are the conditions of exits. `flow_of` refuses a subprogram exactly where that has more than
+//! `MOST_VARIABLES` variables, or where memory runs out.
 #![tactic(auto)]
 
 mod backward;
+mod cut;
+mod exits;
 mod fault;
 mod flow;
 mod forward;
+mod frame;
 mod positions;
+mod rows;
 mod targets;
 mod turns;
 

@@ -1,10 +1,12 @@
 // The variables that expressions read, by their position.
-ghost use Rattle.std.specs.Prelude.{◌≡◌, ◌==◌, ◌↔◌, [], ◌++◌, ℕ, ◌<◌, All, Contains, IfOk, IsTrue, OnOk, length, option_map};
+ghost use Rattle.std.specs.Prelude.{◌≡◌, ◌==◌, [], ◌++◌, ◌<◌, All, IfOk, OnOk, option_map};
 ghost use Rattle.std.specs.List.{IsDistinct, cons_option};
-ghost use Rattle.spx_core.specs.declared.entity.VarId.{VarId};
-ghost use Rattle.spx_core.specs.Effects.{is_read, reads_in, reads_of, reads_of_range};
-ghost use Rattle.spx_flow.specs.Positions.{Stands, position_named, positions_read};
+ghost use Rattle.spx_core.specs.Effects.{reads_in, reads_of, reads_of_range};
+ghost use Rattle.spx_flow.specs.Positions.{position_named, positions_read};
+ghost use Rattle.spx_flow.specs.Points.{Places, size_of};
+ghost use Rattle.spx_flow.specs.Loops.{read_points};
 
+use crate::frame::Frame;
 use spx_core::{CoreExpr, CoreName, CoreRange, VarSet, variable_of};
 use std::alloc::{AllocError, Global};
 
@@ -64,46 +66,46 @@ fn add_positions(vars: &VarSet, value: &CoreExpr, found: &mut Vec<usize>) -> Res
 /// The positions of the variables that the expression reads.
 pub(crate) fn positions_read(
     alloc: Global,
-    vars: &VarSet,
+    frame: &Frame,
     value: &CoreExpr,
 ) -> Result<Vec<usize>, AllocError>
-    requires { IsDistinct ◌==◌ vars.now }
-    ensures within { IfOk result (λ found. All (λ k. k < length vars.now) found.items) }
-    ensures exact { IfOk result (λ found. (k : ℕ) (v : VarId) → Stands vars.now k v → Contains found.items k ↔ IsTrue (is_read v (reads_of value.now))) }
+    requires { IsDistinct ◌==◌ frame.now.vars }
+    ensures within { IfOk result (λ found. All (λ k. k < size_of frame.now) found.items) }
+    ensures exact { IfOk result (λ found. Places frame.now found.items (read_points (reads_of value.now))) }
 {
     let mut found = Vec::new(alloc);
-    add_positions(vars, value, &mut found)?;
+    add_positions(&frame.vars, value, &mut found)?;
     Ok(found)
 }
 
 /// The positions of the variables that a range reads.
 pub(crate) fn range_read(
     alloc: Global,
-    vars: &VarSet,
+    frame: &Frame,
     range: &CoreRange,
 ) -> Result<Vec<usize>, AllocError>
-    requires { IsDistinct ◌==◌ vars.now }
-    ensures within { IfOk result (λ found. All (λ k. k < length vars.now) found.items) }
-    ensures exact { IfOk result (λ found. (k : ℕ) (v : VarId) → Stands vars.now k v → Contains found.items k ↔ IsTrue (is_read v (reads_of_range range.now))) }
+    requires { IsDistinct ◌==◌ frame.now.vars }
+    ensures within { IfOk result (λ found. All (λ k. k < size_of frame.now) found.items) }
+    ensures exact { IfOk result (λ found. Places frame.now found.items (read_points (reads_of_range range.now))) }
 {
     let mut found = Vec::new(alloc);
-    add_positions(vars, &range.low, &mut found)?;
-    add_positions(vars, &range.high, &mut found)?;
+    add_positions(&frame.vars, &range.low, &mut found)?;
+    add_positions(&frame.vars, &range.high, &mut found)?;
     Ok(found)
 }
 
 /// The positions of the variables that the bounds of a loop read, where they are written.
 pub(crate) fn bounds_read(
     alloc: Global,
-    vars: &VarSet,
+    frame: &Frame,
     bounds: &Option<CoreRange>,
 ) -> Result<Vec<usize>, AllocError>
-    requires { IsDistinct ◌==◌ vars.now }
-    ensures within { IfOk result (λ found. All (λ k. k < length vars.now) found.items) }
-    ensures exact { IfOk result (λ found. (k : ℕ) (v : VarId) → Stands vars.now k v → Contains found.items k ↔ IsTrue (is_read v (reads_in (option_map reads_of_range bounds.now)))) }
+    requires { IsDistinct ◌==◌ frame.now.vars }
+    ensures within { IfOk result (λ found. All (λ k. k < size_of frame.now) found.items) }
+    ensures exact { IfOk result (λ found. Places frame.now found.items (read_points (reads_in (option_map reads_of_range bounds.now)))) }
 {
     match bounds {
-        Some(range) => range_read(alloc, vars, range),
+        Some(range) => range_read(alloc, frame, range),
         None => Ok(Vec::new(alloc)),
     }
 }

@@ -73,8 +73,13 @@ fn add_targets(stmt: &CoreStmt, found: &mut Targets) -> Result<(), AllocError>
                 add_variable(found, count.get().parameter)?;
                 Ok(())
             }
+            CoreScheme::Endless => {
+                add_all_targets(body.as_slice(), found)?;
+                Ok(())
+            }
         },
         CoreStmt::Assertion(_, _, _) => Ok(()),
+        CoreStmt::Exit(_, _) => Ok(()),
     }
 }
 

@@ -1,10 +1,13 @@
 // The turns of a loop, which both passes make of one turn.
-ghost use Rattle.std.specs.Prelude.{◌≡◌, ◌↔◌, ℕ, ◌<◌, IfOk, OnOk, length};
-ghost use Rattle.spx_rows.specs.Relations.{Holds, Star, Then};
+ghost use Rattle.std.specs.Prelude.{◌≡◌, ◌↔◌, ℕ, ◌<◌, IfOk, OnOk, length, option_map};
+ghost use Rattle.spx_core.specs.Effects.{reads_of_range};
+ghost use Rattle.spx_rows.specs.Relations.{Holds, Star};
 ghost use Rattle.spx_flow.specs.Flows.{AreRows};
-ghost use Rattle.spx_flow.specs.Turns.{Carries};
+ghost use Rattle.spx_flow.specs.Loops.{Begun, Carries, Turns};
 
 use crate::flow::Occurrence;
+use crate::rows::composed;
+use spx_core::CoreRange;
 use spx_rows::{Relation, Steps};
 use sqlite_items::Items;
 use std::alloc::{AllocError, Global};
@@ -31,20 +34,6 @@ pub(crate) fn close_turns(turn: &mut Relation)
     close_counted::<Brand>(turn, Blank::new(1));
 }
 
-/// One relation and then the other.
-pub(crate) fn composed(
-    alloc: Global,
-    first: &Relation,
-    second: &Relation,
-) -> Result<Relation, AllocError>
-    requires { length first.now ≡ length second.now }
-    ensures { IfOk result (λ both. (length both ≡ length second.now) × ((a b : ℕ) → Holds both a b ↔ Then (Holds first.now) (Holds second.now) a b)) }
-{
-    let mut both = Relation::with_size(alloc, second.size())?;
-    both.compose_into(first, second);
-    Ok(both)
-}
-
 /// Adds occurrences, each with the union of the rows at what it is listed with.
 pub(crate) fn carry(
     alloc: Global,
@@ -64,4 +53,52 @@ pub(crate) fn carry(
         })?;
     }
     Ok(())
+}
+
+/// One turn of a loop.
+#[derive(Drop)]
+pub(crate) struct Turn {
+    /// From its beginning to its end.
+    pub(crate) flow: Relation,
+    /// The occurrences in it.
+    pub(crate) inner: Items<Occurrence>,
+}
+
+/// Any number of turns, and then `last`. The occurrences in a turn are carried through both.
+pub(crate) fn turned(
+    alloc: Global,
+    turn: &Turn,
+    last: &Relation,
+    list: &mut Items<Occurrence>,
+) -> Result<Relation, AllocError>
+    requires size { length turn.now.flow ≡ length last.now }
+    requires inner { AreRows (length last.now) turn.now.inner }
+    requires list { AreRows (length last.now) list.old }
+    ensures { IfOk result (λ head. Turns turn.now.flow turn.now.inner last.now head list.old list.new) }
+{
+    let mut turns = turn.flow.copy(alloc)?;
+    close_turns(&mut turns);
+    let head = composed(alloc, &turns, last)?;
+    carry(alloc, turn.inner.as_slice(), &head, list)?;
+    Ok(head)
+}
+
+/// What leads on from before a loop over a parameter, or has come to its end, where `rest` stands for some number of turns: where no
+/// bounds are written there is one turn more.
+pub(crate) fn begun(
+    alloc: Global,
+    bounds: &Option<CoreRange>,
+    turn: &Relation,
+    rest: Relation,
+) -> Result<Relation, AllocError>
+    requires { length turn.now ≡ length rest }
+    ensures { IfOk result (λ head. (length head ≡ length rest) × ((a b : ℕ) → Holds head a b ↔ Begun (option_map reads_of_range bounds.now) (Holds turn.now) (Holds rest) a b)) }
+{
+    match bounds {
+        Some(_) => Ok(rest),
+        None => {
+            let head = composed(alloc, turn, &rest)?;
+            Ok(head)
+        }
+    }
 }

@@ -8,16 +8,16 @@ use Rattle.spx_define.proofs.define.add_unset_bounds.Goals as goal
 pub returns-in-None : goal.returns-in-None
 returns-in-None c =
     let found = c.args.found.now.keys in
-    subst (λ bounds. Finds c.args.set.now (reads_in (option_map reads_of_range bounds)) found found) (sym c.in-None.is) (finds_none c.args.set.now found)
+    subst (λ bounds. Finds c.args.here.now (reads_in (option_map reads_of_range bounds)) found found) (sym c.in-None.is) (finds_none c.args.here.now found)
 
 pub returns-in_ok-add_unset_names-in-Some : goal.returns-in_ok-add_unset_names-in-Some
 returns-in_ok-add_unset_names-in-Some c =
     let range = c.in-Some.range in
-    let set = c.args.set.now in
+    let here = c.args.here.now in
     let old = c.args.found.now.keys in
     let mid = c.add_unset_names.new.found.keys in
     let new = c.add_unset_names-in-Some.new.found.keys in
     on_ok_weaker c.add_unset_names-in-Some.result
-    (λ high. subst (λ bounds. Finds set (reads_in (option_map reads_of_range bounds)) old new) (sym c.in-Some.is)
-    (finds_both set (reads_of range.low) (reads_of range.high) old mid new c.in_ok-add_unset_names-in-Some.ensures high))
+    (λ high. subst (λ bounds. Finds here (reads_in (option_map reads_of_range bounds)) old new) (sym c.in-Some.is)
+    (finds_both here (reads_of range.low) (reads_of range.high) old mid new c.in_ok-add_unset_names-in-Some.ensures high))
     c.add_unset_names-in-Some.ensures

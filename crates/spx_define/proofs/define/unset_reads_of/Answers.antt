@@ -1,6 +1,7 @@
-use Rattle.std.proofs.Common.{[], subst, sym}
+use Rattle.std.proofs.Common.{subst, sym}
 use Rattle.std.proofs.lemmas.Result.{IfOk-weaker}
 use Rattle.spx_core.specs.Effects.{effects}
+use Rattle.spx_define.specs.declared.reached.Reached.TheVariants as reached
 use Rattle.spx_define.specs.Passes.{Finds, Passes, exports_at}
 use Rattle.spx_define.specs.UnsetReads.{AreUnsetReads}
 use Rattle.spx_define.proofs.UnsetReads.{are_unset}
@@ -11,14 +12,14 @@ returns c =
     let p = c.args.program.now in
     let sub = c.args.sub.now in
     let imported = c.in_ok-imports.imports in
-    let set = c.go_over_all.new.set in
-    let read = c.go_over_all.new.found.keys in
+    let start = c.start-here.result in
+    let after = c.go_over_all.new in
+    let read = after.found.keys in
     let kept = c.leave_out_initialized.new.found.keys in
     let found = c.add_unset_exports.new.found.keys in
-    let body = subst (λ keys. Passes (effects sub.statements) [] set keys read) c.new-found.ensures.empty
-    (subst (λ start. Passes (effects sub.statements) start set c.new-found.result.keys read) c.new-set.ensures
-    (subst (λ stmts. Passes (effects stmts) c.new-set.result c.go_over_all.new.set c.new-found.result.keys read) c.as_slice.ensures c.in_ok-go_over_all.ensures)) in
-    let end = subst (λ items. Finds set (exports_at sub.end items) kept found) c.relation.ensures c.in_ok-add_unset_exports.ensures in
+    let body = subst (λ keys. Passes (effects sub.statements) start after.here reached.NoWay after.exits keys read) c.new-found.ensures.empty
+    (subst (λ stmts. Passes (effects stmts) start after.here reached.NoWay after.exits c.new-found.result.keys read) c.as_slice.ensures c.in_ok-go_over_all.ensures) in
+    let end = subst (λ items. Finds after.here (exports_at sub.end items) kept found) c.relation.ensures c.in_ok-add_unset_exports.ensures in
     IfOk-weaker c.listed.result _ (λ v. AreUnsetReads p sub v.items)
-    (λ v is. subst (AreUnsetReads p sub) (sym is) (are_unset p sub imported set read kept found c.in_ok-imports.ensures body c.leave_out_initialized.ensures end c.listed.ensures.once))
+    (λ v is. subst (AreUnsetReads p sub) (sym is) (are_unset p sub imported read kept found c.in_ok-imports.ensures c.start-here.ensures body c.leave_out_initialized.ensures end c.listed.ensures.once))
     c.listed.ensures.items

@@ -1,33 +1,18 @@
-use Rattle.std.proofs.Common.{option_map, subst, sym, ◌∙◌}
-use Rattle.spx_core.specs.Effects.{is_read, reads_of_range}
+use Rattle.std.proofs.Common.{option_map, refl, subst, sym}
+use Rattle.spx_core.specs.Effects.{reads_of_range}
 use Rattle.spx_core.specs.Mirror.VarSets.{holds}
-use Rattle.spx_flow.specs.ForwardSteps.{IsLeft}
-use Rattle.spx_flow.proofs.ForwardCounts.{spreads_copied}
+use Rattle.spx_flow.specs.Loops.{IsLeft, read_points}
+use Rattle.spx_flow.specs.Points.{on_variables}
 use Rattle.spx_flow.proofs.forward.after_bounds.Goals as goal
 
-pub returns-in_ok-spread-in-Some-clause-size : goal.returns-in_ok-spread-in-Some-clause-size
-returns-in_ok-spread-in-Some-clause-size c =
-    let range = c.in-Some.range in
-    let spread = c.in_ok-spread-in-Some.ensures (λ z. is_read z (reads_of_range range)) (rw (sym c.as_slice-from.ensures.value) at c.in_ok-from-in-Some.ensures.exact) in
-    spread.size ∙ c.in_ok-ends-in-Some.ensures.0 ∙ c.requires.head
+pub returns-in-None : goal.returns-in-None
+returns-in-None c =
+    let keys = c.args.targets.now.keys in
+    subst (λ b. IsLeft c.args.frame.now (option_map reads_of_range b) (λ x. on_variables (λ v. holds keys v) x) c.args.count.now.place c.args.state.now c.args.ends.now c.args.ends.now c.args.lambda.now c.args.lambda.now) (sym c.in-None.is) (refl, refl)
 
-pub returns-in_ok-spread-in-Some-clause-rows : goal.returns-in_ok-spread-in-Some-clause-rows
-returns-in_ok-spread-in-Some-clause-rows c =
+pub returns-in_ok-spread-in-Some : goal.returns-in_ok-spread-in-Some
+returns-in_ok-spread-in-Some c =
+    let keys = c.args.targets.now.keys in
     let range = c.in-Some.range in
-    let spread = c.in_ok-spread-in-Some.ensures (λ z. is_read z (reads_of_range range)) (rw (sym c.as_slice-from.ensures.value) at c.in_ok-from-in-Some.ensures.exact) in
-    spread.rows
-
-pub returns-in_ok-spread-in-Some-clause-left : goal.returns-in_ok-spread-in-Some-clause-left
-returns-in_ok-spread-in-Some-clause-left c =
-    let vars = c.args.vars.now in
-    let state = c.args.state.now in
-    let head = c.args.head.now in
-    let place = c.args.count.now.place in
-    let numbers = c.args.targets.now.keys in
-    let before = c.args.lambda.now in
-    let new = c.spread.new in
-    let copy = c.in_ok-ends-in-Some in
-    let range = c.in-Some.range in
-    let spread = c.in_ok-spread-in-Some.ensures (λ z. is_read z (reads_of_range range)) (rw (sym c.as_slice-from.ensures.value) at c.in_ok-from-in-Some.ensures.exact) in
-    subst (λ bounds. IsLeft vars (option_map reads_of_range bounds) (λ y. holds numbers y) place c.args.turn.now head state new.ends before new.lambda) (sym c.in-Some.is)
-    (spreads_copied vars (λ z. is_read z (reads_of_range range)) (λ y. holds numbers y) place state head copy.ends new.ends before new.lambda copy.ensures.0 copy.ensures.1 spread)
+    let test = c.in_ok-spread-in-Some.ensures (read_points (reads_of_range range)) (on_variables (λ v. holds keys v)) (rw (sym c.as_slice.ensures.value) at c.in_ok-from-in-Some.ensures.exact) (rw (sym c.as_slice-in-Some.ensures.value) at c.in_ok-to-in-Some.ensures.exact) in
+    subst (λ b. IsLeft c.args.frame.now (option_map reads_of_range b) (λ x. on_variables (λ v. holds keys v) x) c.args.count.now.place c.args.state.now c.args.ends.now c.spread.new.rows c.args.lambda.now c.spread.new.list) (sym c.in-Some.is) test
