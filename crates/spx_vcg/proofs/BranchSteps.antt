@@ -1,5 +1,5 @@
 -- What arms add, and statements up to the end of each path.
-use Rattle.std.proofs.Common.{◌≡◌, ℕ, ◌+◌, ◌<◌, ◌≤◌, List, [], ◌∷◌, ◌++◌, length, take, drop, get_or, map, refl, sym, ap, ◌∙◌, subst, arith, add-one, drop-cons, length-append, append_assoc}
+use Rattle.std.proofs.Common.{◌≡◌, false, true, ℕ, ◌+◌, ◌<◌, ◌≤◌, List, [], ◌∷◌, ◌++◌, length, take, drop, get_or, map, Option, refl, sym, ap, ◌∙◌, subst, arith, add-one, drop-cons, length-append, append_assoc}
 use Rattle.std.proofs.lemmas.List.{at_drop_all}
 use Rattle.std.proofs.Math.ListN.{get_or-append}
 use Rattle.std.proofs.Math.Seq.{take-append_seam}
@@ -11,13 +11,13 @@ use Rattle.spx_core.specs.declared.program.Program.{Program}
 use Rattle.spx_core.specs.declared.statement.CoreArm.{CoreArm}
 use Rattle.spx_core.specs.declared.statement.CoreStmt.{CoreStmt}
 use Rattle.spx_core.specs.declared.subprogram.Sub.{Sub}
-use Rattle.spx_core.specs.Commands.{Command, Skip, Set, Then, Choose, Assertion, arm_before, arms_before, command, commands}
+use Rattle.spx_core.specs.Commands.{Command, Skip, Set, Then, Choose, Assertion, arm_before, arms_before, command, commands, exit_where, is_leave}
 use Rattle.spx_term.specs.declared.term.Term.{Term}
 use Rattle.spx_term.specs.declared.term.Term.TheVariants.{Prefix}
 use Rattle.spx_term.specs.declared.term.TermPrefix.TheVariants.{Not}
-use Rattle.spx_term.specs.Steps.{Tree, Assume, Split, assume_parts}
+use Rattle.spx_term.specs.Steps.{Tree, Assume, Cut, Split, assume_parts}
 use Rattle.spx_paths.specs.Terms.{now_term, term_of}
-use Rattle.spx_paths.specs.Walks.{ending, tested}
+use Rattle.spx_paths.specs.Walks.{decided, tested}
 use Rattle.spx_arena.specs.declared.facts.FactsId.{FactsId}
 use Rattle.spx_arena.specs.declared.terms.TermId.{TermId}
 use Rattle.spx_arena.specs.Claims.{AreIds, AreLists, AreClaims, trees_at, claims_at}
@@ -28,12 +28,13 @@ use Rattle.spx_vcg.specs.declared.branches.Mark.{Mark}
 use Rattle.spx_vcg.specs.declared.walk.Walk.{Walk}
 use Rattle.spx_vcg.specs.ConditionWalk.{State, applied, forward}
 use Rattle.spx_vcg.specs.Counting.{along}
+use Rattle.spx_vcg.specs.Following.{Continuation, continued}
 use Rattle.spx_vcg.specs.States.{AreValues, state_in}
 use Rattle.spx_vcg.specs.WalkSteps.{state, Longer, OnlyAdds, OnlyTerms, Keeps, Goes, Walks, Means, Whole, claims_from, Evaluates}
-use Rattle.spx_vcg.specs.PathWalk.{Passes, Comes, Ends, PassesArm, Takes, negated, Marks, IsBack, to_end, where_true}
+use Rattle.spx_vcg.specs.PathWalk.{Passes, Comes, Ends, PassesArm, Takes, TakesUnless, negated, Marks, IsBack, to_end, where_true}
 use Rattle.spx_vcg.proofs.ConditionTerms.{applied-Prefix}
 use Rattle.spx_vcg.proofs.SharedIds.{state_kept}
-use Rattle.spx_vcg.proofs.SharedSteps.{adds_twice, longer_not, only_means, only_walks, walks_twice, wider_values}
+use Rattle.spx_vcg.proofs.SharedSteps.{adds_not, adds_twice, longer_not, only_means, only_walks, walks_twice, wider_values}
 use Rattle.spx_vcg.proofs.StartSteps.{claims_end, no_lefts}
 
 -- ---- relations between walks
@@ -42,6 +43,27 @@ comes_twice l r = record { whole = r.whole; adds = adds_twice l.adds r.adds; sam
 
 pub comes_ends : {a b c : Walk} {e f : ℕ → Tree} → Comes a b e f → Ends b c f → Ends a c e
 comes_ends l r = record { whole = r.whole; adds = adds_twice l.adds r.adds; same = λ made. l.same made ∙ r.same made }
+
+-- the first walk was made along steps, and then along a way
+pub goes_ends : {a b c : Walk} {steps : Tree → Tree} (way : ℕ → Tree) → Goes a b steps → Ends b c way → Ends a c (along steps way)
+goes_ends way goes ends = record { whole = ends.whole; adds = adds_twice goes.adds ends.adds; same = λ made. goes.same (way made) ∙ ends.same made }
+
+-- there is nothing more
+pub ends_here : (w : Walk) → Whole w → Ends w w (λ made. Cut)
+ends_here w whole = record { whole = whole; adds = adds_not w; same = λ made. refl }
+
+-- what follows is the same
+pub ends_along : {a b : Walk} {k l : Continuation} (way : Continuation → ℕ → Tree) → k ≡ l → Ends a b (way k) → Ends a b (way l)
+ends_along {a} {b} way is ends = subst (λ (k : Continuation). Ends a b (way k)) is ends
+
+pub takes_along : {a b : Walk} {k l : Continuation} (way : Continuation → ℕ → Tree) → k ≡ l → Takes a b (way k) → Takes a b (way l)
+takes_along {a} {b} way is takes = subst (λ (k : Continuation). Takes a b (way k)) is takes
+
+pub on_along : {a b : Walk} {k l : Continuation} → k ≡ l → Ends a b l.rest → Ends a b k.rest
+on_along is ends = ends_along (λ (k : Continuation). k.rest) (sym is) ends
+
+pub out_along : {a b : Walk} {k l : Continuation} → k ≡ l → Ends a b l.leave → Ends a b k.leave
+out_along is ends = ends_along (λ (k : Continuation). k.leave) (sym is) ends
 
 -- ---- a negated condition
 pub after_negation : {old mid new : Walk} {condition negation : TermId} (t : Term) → Whole old → OnlyTerms old mid → Adds old.terms mid.terms negation (Prefix Not (tree_at old.terms condition)) → Means old condition t
@@ -116,6 +138,18 @@ taken_back {old} {mid} {last} {new} {steps} {way} m whole marks goes ends back =
       goes = λ made. back_walks m whole ends.whole adds marks back (steps (way made)) (goes.same (way made) ∙ ends.same made ∙ claims_end last);
     }
 
+-- a way where a condition is false, to its end
+pub unless_back : {old mid last new : Walk} {condition : TermId} {way : ℕ → Tree} (m : Mark) → Whole old → Marks old m → Keeps old mid → ((t : Term) → Means old condition t → Walks old mid (negated t)) → Ends mid last way
+    → IsBack last new m → TakesUnless old new condition way
+unless_back {old} {mid} {last} {new} {condition} {way} m whole marks keeps walks ends back =
+    let adds = adds_twice keeps.adds ends.adds in
+    record {
+      whole = back_whole m whole ends.whole adds marks back;
+      adds = back_adds m whole ends.whole adds marks back;
+      kept = back_state m whole ends.whole adds marks back;
+      goes = λ t means made. back_walks m whole ends.whole adds marks back (negated t (way made)) ((walks t means).same (way made) ∙ ends.same made ∙ claims_end last);
+    }
+
 -- ---- conditions
 module _ {p : Program} {w x y z : Walk} {id : TermId} (e : CoreExpr) (way : ℕ → Tree) (checked : Keeps w x) (within : id.0 < length x.terms) (v : Evaluates p [] w x e id) (k : Takes x y (where_true p e way)) (last : Keeps y z) (n : (t : Term) → Means y id t → Walks y z (negated t)) where
   abbrev t : Term
@@ -136,14 +170,31 @@ module _ {p : Program} {w x y z : Walk} {id : TermId} (e : CoreExpr) (way : ℕ 
       ∙ (k.goes made).same (negated t (fails made))
       ∙ (n t condition_stays).same (fails made)
 
+-- past an exit the claims where it goes on are made, and those where it leads out are left
+pub after_exit : {p : Program} {w x y z : Walk} {id : TermId} (e : CoreExpr) (out on : ℕ → Tree) → Keeps w x → Evaluates p [] w x e id → TakesUnless x y id on → Ends y z (where_true p e out) → Ends w z (decided p e true out on)
+after_exit {p} {w} e out on checked v stays ends =
+    let t = term_of p (now_term p) e in
+    let m = v.makes [] (no_lefts w) in
+    record {
+      whole = ends.whole;
+      adds = adds_twice checked.adds (adds_twice stays.adds ends.adds);
+      same = λ made. m.walks.same (Split (negated t (on made)) (assume_parts t (out made))) ∙ (stays.goes t m.means made).same (assume_parts t (out made)) ∙ ends.same made;
+    }
+
+-- at an exit, with a condition or none
+pub at_exit : {a b : Walk} (p : Program) (sub : Sub) (place : Place) (condition : Option CoreExpr) (following : Continuation) {same : Option CoreExpr} → condition ≡ same → Ends a b (to_end p sub (exit_where place same) following)
+    → Ends a b (to_end p sub (exit_where place condition) following)
+at_exit {a} {b} p sub place condition following is ends = subst (λ (o : Option CoreExpr). Ends a b (to_end p sub (exit_where place o) following)) (sym is) ends
+
 -- ---- arms
-pub after_arm : {p : Program} {w x y z : Walk} {id : TermId} (sub : Sub) (e : CoreExpr) (c : Command) (following : ℕ → Tree) → Keeps w x → id.0 < length x.terms → Evaluates p [] w x e id → Takes x y (where_true p e (to_end p sub c following)) → Keeps y z
+pub after_arm : {p : Program} {w x y z : Walk} {id : TermId} (sub : Sub) (e : CoreExpr) (c : Command) (following : Continuation) → is_leave c ≡ false → Keeps w x → id.0 < length x.terms → Evaluates p [] w x e id → Takes x y (where_true p e (to_end p sub c following)) → Keeps y z
     → ((t : Term) → Means y id t → Walks y z (negated t)) → (arm : Command → Command) (place : Place) → ((otherwise : Command) → arm otherwise ≡ Choose place e c otherwise) → PassesArm p sub w z arm following
-after_arm {p} {w} sub e c following checked within v k last n arm place is otherwise = record {
+after_arm {p} {w} sub e c following goes_on checked within v k last n arm place is otherwise = record {
   whole = last.whole;
   adds = test_adds e (to_end p sub c following) checked within v k last n;
   same = λ made.
       ap (λ d. claims_from w (to_end p sub d following made)) (is otherwise)
+      ∙ ap (λ b. claims_from w (decided p e b (to_end p sub c following) (to_end p sub otherwise following) made)) goes_on
       ∙ after_test e (to_end p sub c following) checked within v k last n (to_end p sub otherwise following) made;
 }
 
@@ -151,7 +202,7 @@ after_arm {p} {w} sub e c following checked within v k last n arm place is other
 here_along : {a b : Walk} {e f g : ℕ → Tree} → f ≡ g → Comes a b e f → Comes a b e g
 here_along {a} {b} {e} is c = subst (Comes a b e) is c
 
-module _ (p : Program) (sub : Sub) {a b c : Walk} (o : Command) (following : ℕ → Tree) (arms : List CoreArm) (i : ℕ) where
+module _ (p : Program) (sub : Sub) {a b c : Walk} (o : Command) (following : Continuation) (arms : List CoreArm) (i : ℕ) where
   pub next_arm : (arm : CoreArm) → i < length arms → arm ≡ get_or arms i arm
       → Comes a b (to_end p sub (arms_before o (map arm_before arms)) following) (to_end p sub (arms_before o (map arm_before (drop i arms))) following)
       → PassesArm p sub b c (arm_before arm) following
@@ -170,7 +221,7 @@ module _ (p : Program) (sub : Sub) {a b c : Walk} (o : Command) (following : ℕ
 pub here_is : (stmts : List CoreStmt) (i : ℕ) (stmt : CoreStmt) → i < length stmts → stmt ≡ get_or stmts i stmt → commands (drop i stmts) ≡ Then (command stmt) (commands (drop (i + 1) stmts))
 here_is stmts i stmt within is = ap commands (drop-cons stmts i stmt within ∙ (λ k. sym is k ∷ drop (sym (add-one i) k) stmts))
 
-module _ (p : Program) (sub : Sub) {a b : Walk} (start following : ℕ → Tree) (stmts : List CoreStmt) (i : ℕ) (stmt : CoreStmt) (within : i < length stmts) (is : stmt ≡ get_or stmts i stmt)
+module _ (p : Program) (sub : Sub) {a b : Walk} (start : ℕ → Tree) (following : Continuation) (stmts : List CoreStmt) (i : ℕ) (stmt : CoreStmt) (within : i < length stmts) (is : stmt ≡ get_or stmts i stmt)
     (before : Comes a b start (to_end p sub (commands (drop i stmts)) following)) where
   abbrev next : Command
   next = commands (drop (i + 1) stmts)
@@ -184,20 +235,20 @@ module _ (p : Program) (sub : Sub) {a b : Walk} (start following : ℕ → Tree)
   pub after_set : {c : Walk} (target : Reference) (value : CoreExpr) → command stmt ≡ Set target value → Passes p sub b c (Set target value) → Comes a c start (to_end p sub next following)
   after_set {c} target value e passes =
       let here = at_statement (Set target value) e in
-      record { whole = passes.whole; adds = adds_twice here.adds passes.adds; same = λ made. here.same made ∙ passes.goes.same (to_end p sub next following made) }
+      record { whole = passes.whole; adds = adds_twice here.adds passes.adds; same = λ made. here.same made ∙ (passes.goes following.leave).same (to_end p sub next following made) }
 
   pub after_check : {c : Walk} (place : Place) (condition : CoreExpr) → command stmt ≡ Assertion Check place condition → Passes p sub b c (Assertion Check place condition) → Comes a c start (to_end p sub next following)
   after_check {c} place condition e passes =
       let here = at_statement (Assertion Check place condition) e in
-      record { whole = passes.whole; adds = adds_twice here.adds passes.adds; same = λ made. here.same made ∙ passes.goes.same (to_end p sub next following made) }
+      record { whole = passes.whole; adds = adds_twice here.adds passes.adds; same = λ made. here.same made ∙ (passes.goes following.leave).same (to_end p sub next following made) }
 
   -- at an `assert` the path ends
-  pub after_assert : {c : Walk} (place : Place) (condition : CoreExpr) → command stmt ≡ Assertion Assert place condition → Ends b c (to_end p sub (Assertion Assert place condition) (ending p sub)) → Ends a c start
+  pub after_assert : {c : Walk} (place : Place) (condition : CoreExpr) → command stmt ≡ Assertion Assert place condition → Ends b c (to_end p sub (Assertion Assert place condition) following) → Ends a c start
   after_assert {c} place condition e ends =
       let here = at_statement (Assertion Assert place condition) e in
       record { whole = ends.whole; adds = adds_twice here.adds ends.adds; same = λ made. here.same made ∙ ends.same made }
 
-  pub after_branch : {c : Walk} (d : Command) (then : ℕ → Tree) → command stmt ≡ d → then ≡ to_end p sub next following → Ends b c (to_end p sub d then) → Ends a c start
+  pub after_branch : {c : Walk} (d : Command) (then : Continuation) → command stmt ≡ d → then ≡ continued p sub next following → Ends b c (to_end p sub d then) → Ends a c start
   after_branch {c} d then e f ends =
       let here = at_statement d e in
       record {
@@ -207,7 +258,8 @@ module _ (p : Program) (sub : Sub) {a b : Walk} (start following : ℕ → Tree)
       }
 
 -- after the last statement
-pub at_end : {a b : Walk} (p : Program) (sub : Sub) (start following : ℕ → Tree) (stmts : List CoreStmt) (i : ℕ) → length stmts ≤ i → Comes a b start (to_end p sub (commands (drop i stmts)) following) → Comes a b start following
+pub at_end : {a b : Walk} (p : Program) (sub : Sub) (start : ℕ → Tree) (following : Continuation) (stmts : List CoreStmt) (i : ℕ) → length stmts ≤ i → Comes a b start (to_end p sub (commands (drop i stmts)) following)
+    → Comes a b start following.rest
 at_end p sub start following stmts i end before =
     let here = here_along (at_drop_all (λ (ss : List CoreStmt). to_end p sub (commands ss) following) stmts i end) before in
     record { whole = here.whole; adds = here.adds; same = here.same }

@@ -19,6 +19,7 @@ use Rattle.spx_arena.proofs.Ids.{kept_ids}
 use Rattle.spx_vcg.specs.declared.branches.Mark.{Mark}
 use Rattle.spx_vcg.specs.declared.walk.Walk.{Walk}
 use Rattle.spx_vcg.specs.ConditionWalk.{State, applied, forward}
+use Rattle.spx_vcg.specs.Following.{Continuation}
 use Rattle.spx_vcg.specs.States.{AddsAll}
 use Rattle.spx_vcg.specs.WalkSteps.{state, Evaluates, Keeps, MeanAll, Means, Walks, Whole, claims_from}
 use Rattle.spx_vcg.specs.PathWalk.{Ends, IsBack, Marks, TakesEach, TakesUnder, left_for, to_end}
@@ -44,7 +45,7 @@ after_under {old} {mid} {last} {new} facts way m whole marks keeps walks ends ba
 
 -- ---- one after the other
 -- The walk is at these alternatives of all, and the ids stand for the choices of earlier ones.
-pub record IsAt (p : Program) (sub : Sub) (old new : Walk) (ids : List TermId) (all those : List Part) (following : ℕ → Tree) (t : Term) : Type 0 where
+pub record IsAt (p : Program) (sub : Sub) (old new : Walk) (ids : List TermId) (all those : List Part) (following : Continuation) (t : Term) : Type 0 where
   pub earlier : List Term
   pub mean : MeanAll new ids earlier
   pub same : (made : ℕ) → claims_from old (left_for p sub t [] all following made) ≡ claims_from new (left_for p sub t earlier those following made)
@@ -53,7 +54,7 @@ split_last : (w : Walk) (tree : Tree) → claims_from w (Split tree Cut) ≡ cla
 unfolding claims_from
 split_last w tree = ap (λ cs. claims_at w.terms w.facts.lists w.claims ++ cs) (append-nil (forward (state w) (trees_at w.terms w.facts.present.keys) tree))
 
-one_taken : {w y : Walk} (p : Program) (sub : Sub) (t : Term) (earlier : List Term) (choices : Option (List CoreChoice)) (c : Command) (more : List Part) (following : ℕ → Tree) (made : ℕ)
+one_taken : {w y : Walk} (p : Program) (sub : Sub) (t : Term) (earlier : List Term) (choices : Option (List CoreChoice)) (c : Command) (more : List Part) (following : Continuation) (made : ℕ)
     → Walks w y (Split (assume_all (alternative_facts t earlier choices) (to_end p sub c following made)))
     → claims_from w (left_for p sub t earlier ((choices, c) ∷ more) following made) ≡ claims_from y (left_for p sub t (and_these t earlier choices) more following made)
 one_taken {w} {y} p sub t earlier choices c [] following made walks = sym (split_last w (assume_all (alternative_facts t earlier choices) (to_end p sub c following made))) ∙ walks.same Cut
@@ -64,7 +65,7 @@ pub here_alternative : (alternatives : List CoreAlternative) (i : ℕ) (a : Core
 here_alternative alternatives i a within is =
     ap (map alternative) (drop-cons alternatives i a within ∙ (λ k. sym is k ∷ drop (sym (add-one i) k) alternatives)) ∙ ap (λ x. x ∷ map alternative (drop (i + 1) alternatives)) (alternative_is a)
 
-module _ {p : Program} {sub : Sub} {first w y : Walk} {terms : List Term} {value : TermId} {ids facts same more : List TermId} {choices : Option (List CoreChoice)} {c : Command} {following : ℕ → Tree} {all those rest : List Part} (whole : Whole w) (t : Term) (m : Means w value t)
+module _ {p : Program} {sub : Sub} {first w y : Walk} {terms : List Term} {value : TermId} {ids facts same more : List TermId} {choices : Option (List CoreChoice)} {c : Command} {following : Continuation} {all those rest : List Part} (whole : Whole w) (t : Term) (m : Means w value t)
     (at : IsAt p sub first w ids all those following t) (here : those ≡ (choices, c) ∷ rest)
     (known : AddsAll w.terms terms facts (alternative_facts (tree_at w.terms value) (trees_at w.terms ids) choices)) (added : AddsAll w.terms terms more (and_these (tree_at w.terms value) (trees_at w.terms ids) choices))
     (is : same ≡ facts) (takes : TakesUnder (record w { terms = terms }) y same (to_end p sub c following)) where
@@ -92,11 +93,11 @@ module _ {p : Program} {sub : Sub} {first w y : Walk} {terms : List Term} {value
   }
 
 -- ---- all of them
-pub no_case : {w y : Walk} (p : Program) (sub : Sub) (e : CoreExpr) (alternatives : List CoreAlternative) (following : ℕ → Tree) → (length alternatives == 0) ≡ true → Ends w y following → (place : Place) → Ends w y (to_end p sub (select place e (map alternative alternatives)) following)
+pub no_case : {w y : Walk} (p : Program) (sub : Sub) (e : CoreExpr) (alternatives : List CoreAlternative) (following : Continuation) → (length alternatives == 0) ≡ true → Ends w y following.rest → (place : Place) → Ends w y (to_end p sub (select place e (map alternative alternatives)) following)
 no_case p sub e [] following none ends place = record { whole = ends.whole; adds = ends.adds; same = ends.same }
 no_case p sub e (a ∷ alternatives) following none ends place = let empty = (Decides-eqb (length (a ∷ alternatives)) 0).0 none in absurd (omega (arith, empty))
 
-pub after_case : {p : Program} {sub : Sub} {w x y : Walk} {id : TermId} (e : CoreExpr) (alternatives : List CoreAlternative) (following : ℕ → Tree) → (length alternatives == 0) ≡ false → Keeps w x → Evaluates p [] w x e id → TakesEach p sub x y id (map alternative alternatives) following
+pub after_case : {p : Program} {sub : Sub} {w x y : Walk} {id : TermId} (e : CoreExpr) (alternatives : List CoreAlternative) (following : Continuation) → (length alternatives == 0) ≡ false → Keeps w x → Evaluates p [] w x e id → TakesEach p sub x y id (map alternative alternatives) following
     → (place : Place) → Ends w y (to_end p sub (select place e (map alternative alternatives)) following)
 after_case e [] following some checked v takes place = absurd (true≢false (sym ((Decides-eqb 0 0).1 refl) ∙ some))
 after_case {p} {sub} {w} e (a ∷ alternatives) following some checked v takes place = record {

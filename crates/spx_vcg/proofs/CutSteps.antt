@@ -13,13 +13,14 @@ use Rattle.spx_term.specs.declared.term.Name.{Name}
 use Rattle.spx_term.specs.declared.term.Term.{Term}
 use Rattle.spx_term.specs.declared.term.Term.TheVariants.{Truth, Variable}
 use Rattle.spx_term.specs.Steps.{Claim, Tree, Cut, assume_all}
-use Rattle.spx_paths.specs.Walks.{cut_facts, cuts_for, ending, from_cut, loop_cut}
+use Rattle.spx_paths.specs.Walks.{cut_facts, cuts_for, from_cut, loop_cut}
 use Rattle.spx_arena.specs.declared.terms.TermId.{TermId}
 use Rattle.spx_arena.specs.Claims.{AreClaims, AreIds, AreLists, claims_at, trees_at}
 use Rattle.spx_arena.specs.Facts.{facts_at}
 use Rattle.spx_vcg.specs.declared.walk.Walk.{Walk}
 use Rattle.spx_vcg.specs.ConditionWalk.{forward}
 use Rattle.spx_vcg.specs.Cuts.{BeginsAnew, Leaves, claims_anew, claims_over, cuts_among, cuts_in}
+use Rattle.spx_vcg.specs.Following.{Continuation, continued}
 use Rattle.spx_vcg.specs.States.{AreValues, given, state_in}
 use Rattle.spx_vcg.specs.WalkSteps.{Goes, Walks, Whole, claims_from}
 use Rattle.spx_vcg.specs.PathWalk.{Ends, to_end}
@@ -95,7 +96,7 @@ after_cut {a} {b} {c} {d} p sub within known following begins walks ends =
     }
 
 -- that before the body of a loop
-pub after_loop_cut : {a b c d : Walk} (p : Program) (sub : Sub) (within : List CoreCount) (body : Command) (again : ℕ → Tree) → has_own_cut body ≡ false → BeginsAnew a b (assume_all (cut_facts p sub within)) → Walks b c (assume_all (Truth true ∷ []))
+pub after_loop_cut : {a b c d : Walk} (p : Program) (sub : Sub) (within : List CoreCount) (body : Command) (again : Continuation) → has_own_cut body ≡ false → BeginsAnew a b (assume_all (cut_facts p sub within)) → Walks b c (assume_all (Truth true ∷ []))
     → Ends c d (to_end p sub body again) → Leaves a d (loop_cut p sub within (has_own_cut body) (to_end p sub body again 0)) []
 after_loop_cut {a} {b} {c} {d} p sub within body again none begins walks ends =
     subst (λ own. Leaves a d (loop_cut p sub within own (to_end p sub body again 0)) []) (sym none) (after_cut p sub within (Truth true ∷ []) (to_end p sub body again) begins walks ends)
@@ -105,8 +106,8 @@ pub no_loop_cut : {w : Walk} (p : Program) (sub : Sub) (within : List CoreCount)
 no_loop_cut {w} p sub within body rest own whole = subst (λ b. Leaves w w (loop_cut p sub within b rest) []) (sym own) (record { whole = whole; same = refl })
 
 -- ---- statements
-module _ (p : Program) (sub : Sub) (around : List CoreCount) {a b c : Walk} {all : List Tree} (following : ℕ → Tree) where
-  pub next_statement : {more : ℕ → Tree} (stmts : List CoreStmt) (i : ℕ) (stmt : CoreStmt) → i < length stmts → stmt ≡ get_or stmts i stmt → more ≡ to_end p sub (commands (drop (i + 1) stmts)) following
+module _ (p : Program) (sub : Sub) (around : List CoreCount) {a b c : Walk} {all : List Tree} (following : Continuation) where
+  pub next_statement : {more : Continuation} (stmts : List CoreStmt) (i : ℕ) (stmt : CoreStmt) → i < length stmts → stmt ≡ get_or stmts i stmt → more ≡ continued p sub (commands (drop (i + 1) stmts)) following
       → Leaves a b all (cuts_in p sub around (commands (drop i stmts)) following) → Leaves b c (cuts_in p sub around (command stmt) more) [] → Leaves a c all (cuts_in p sub around (commands (drop (i + 1) stmts)) following)
   next_statement {more} stmts i stmt within is e before step =
       let next = cuts_in p sub around (commands (drop (i + 1) stmts)) following in
@@ -122,11 +123,11 @@ module _ (p : Program) (sub : Sub) (around : List CoreCount) {a b c : Walk} {all
       (ap (λ xs. cuts_in p sub around (arms_before otherwise (map arm_before xs)) following) (drop-cons arms i arm within ∙ (λ k. sym is k ∷ drop (sym (add-one i) k) arms)) ∙ ap (λ d. cuts_in p sub around d following) (arm_is arm next)) before step
 
 -- those of a `case` are those in its alternatives
-among_is : (p : Program) (sub : Sub) (within : List CoreCount) (first : Part) (more : List Part) (following : ℕ → Tree) → cuts_for p sub within (alternatives_of first more) following (ending p sub) ≡ cuts_among p sub within (first ∷ more) following
+among_is : (p : Program) (sub : Sub) (within : List CoreCount) (first : Part) (more : List Part) (following : Continuation) → cuts_for p sub within (alternatives_of first more) following.rest following.leave ≡ cuts_among p sub within (first ∷ more) following
 among_is p sub within first [] following = sym (append-nil (cuts_in p sub within first.1 following))
 among_is p sub within first (second ∷ more) following = ap (λ ts. cuts_in p sub within first.1 following ++ ts) (among_is p sub within second more following)
 
-pub case_cuts : (p : Program) (sub : Sub) (within : List CoreCount) (place : Place) (selector : CoreExpr) (alternatives : List Part) (following : ℕ → Tree)
+pub case_cuts : (p : Program) (sub : Sub) (within : List CoreCount) (place : Place) (selector : CoreExpr) (alternatives : List Part) (following : Continuation)
     → cuts_in p sub within (select place selector alternatives) following ≡ cuts_among p sub within alternatives following
 case_cuts p sub within place selector [] following = refl
 case_cuts p sub within place selector (first ∷ more) following = among_is p sub within first more following

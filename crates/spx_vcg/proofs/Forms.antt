@@ -1,5 +1,5 @@
 -- The commands of statements, of arms and of what follows, at each form.
-use Rattle.std.proofs.Common.{◌≡◌, ℕ, List, [], ◌∷◌, ◌++◌, map, Option, Some, None, refl, sym, ap, ◌∙◌}
+use Rattle.std.proofs.Common.{◌≡◌, false, List, [], ◌∷◌, ◌++◌, map, Option, Some, None, refl, sym, ap, ◌∙◌}
 use denote.Bor.{Bor}
 use Rattle.spx_text.specs.declared.place.Place.{Place}
 use Rattle.spx_tree.specs.declared.statement.AssertionKind.{AssertionKind}
@@ -13,19 +13,16 @@ use Rattle.spx_core.specs.declared.statement.CoreChoice.{CoreChoice}
 use Rattle.spx_core.specs.declared.statement.CoreCount.{CoreCount}
 use Rattle.spx_core.specs.declared.statement.CoreScheme.{CoreScheme}
 use Rattle.spx_core.specs.declared.statement.CoreStmt.{CoreStmt, CoreStmt-F, out-CoreStmt, map-CoreStmt, fold_out-CoreStmt}
-use Rattle.spx_core.specs.declared.statement.CoreStmt.TheVariants.{Null, Assignment, If, Case, Loop, Assertion as AssertionStmt, outs-Null, outs-Assignment, outs-If, outs-Case, outs-Assertion}
+use Rattle.spx_core.specs.declared.statement.CoreStmt.TheVariants.{Null, Assignment, If, Case, Loop, Assertion as AssertionStmt, Exit, outs-Null, outs-Assignment, outs-If, outs-Case, outs-Assertion, outs-Exit}
 use Rattle.spx_core.specs.declared.subprogram.Sub.{Sub}
-use Rattle.spx_core.specs.Commands.{Command, Skip, Set, Choose, Assertion, alternative, alternative_step, arm_before, arm_step, arms_before, command, commands, head_of, loop_of, select, stmt_step}
+use Rattle.spx_core.specs.Commands.{Command, Skip, Set, Choose, Assertion, alternative, alternative_step, arm_before, arm_step, arms_before, command, commands, exit_where, head_of, is_leave, loop_of, select, stmt_step}
 use Rattle.spx_core.proofs.Callers.CommandForms.{command-Loop}
-use Rattle.spx_term.specs.Steps.{Tree}
-use Rattle.spx_paths.specs.Walks.{end_of_turn, ending}
 use Rattle.spx_vcg.specs.declared.branches.Rest.{Rest, Rest-F, out-Rest, map-Rest, fold-Rest, fold_out-Rest}
-use Rattle.spx_vcg.specs.declared.branches.Rest.TheVariants.{End, After, Again, outs-End, outs-After, outs-Again}
+use Rattle.spx_vcg.specs.declared.branches.Rest.TheVariants.{End, After, Turn, Again, outs-End, outs-After, outs-Turn, outs-Again}
 use Rattle.spx_vcg.specs.declared.within.Within.{Within, Within-F, out-Within, map-Within, fold-Within, fold_out-Within}
 use Rattle.spx_vcg.specs.declared.within.Within.TheVariants.{Outermost, Inside, outs-Outermost, outs-Inside}
 use Rattle.spx_vcg.specs.Enclosing.{counts, counts_step}
-use Rattle.spx_vcg.specs.Following.{after, after_step, done_otherwise}
-use Rattle.spx_vcg.specs.PathWalk.{to_end}
+use Rattle.spx_vcg.specs.Following.{Continuation, after, continued, done_otherwise, finished, following, following_step, turned, within_turn}
 
 -- the choices of an alternative and what is done in it
 abbrev pub Part : Type 0
@@ -62,6 +59,14 @@ pub loop_is : (s : CoreStmt) (scheme : CoreScheme) (word : Place) (body : List C
     → (ss : List CoreStmt) → ss ≡ body → command s ≡ loop_of scheme (commands ss)
 loop_is s scheme word body closing is ss e = command-Loop s scheme word body closing is ∙ ap (λ xs. loop_of scheme (commands xs)) (sym e)
 
+pub exit_is : (s : CoreStmt) (place : Place) (condition : Option CoreExpr) → s ≡ Exit place condition → command s ≡ exit_where place condition
+exit_is s place condition is = at_layer s (CoreStmt-F.Exit place condition) (ap out-CoreStmt is ∙ outs-Exit place condition)
+
+-- statements in a row are no exit by themselves
+pub no_leave : (stmts : List CoreStmt) → is_leave (commands stmts) ≡ false
+no_leave [] = refl
+no_leave (s ∷ stmts) = refl
+
 pub alternative_is : (a : CoreAlternative) → alternative a ≡ ((out-CoreAlternative a).choices, commands (out-CoreAlternative a).body)
 alternative_is a = rw (fold_out-CoreAlternative) refl
 
@@ -69,18 +74,21 @@ pub arm_is : (arm : CoreArm) (otherwise : Command) → arm_before arm otherwise 
 arm_is arm otherwise = rw (fold_out-CoreArm) refl
 
 module _ (p : Program) (sub : Sub) where
-  rest_at : (r : Rest) (layer : Rest-F Rest) → out-Rest r ≡ layer → after p sub r ≡ after_step p sub (map-Rest Rest (ℕ → Tree) (after p sub) layer)
-  unfolding after
-  rest_at r layer is = fold_out-Rest (ℕ → Tree) (after_step p sub) r ∙ ap (λ x. after_step p sub (map-Rest Rest (ℕ → Tree) (fold-Rest (ℕ → Tree) (after_step p sub)) x)) is
+  rest_at : (r : Rest) (layer : Rest-F Rest) → out-Rest r ≡ layer → following p sub r ≡ following_step p sub (map-Rest Rest Continuation (following p sub) layer)
+  unfolding following
+  rest_at r layer is = fold_out-Rest Continuation (following_step p sub) r ∙ ap (λ x. following_step p sub (map-Rest Rest Continuation (fold-Rest Continuation (following_step p sub)) x)) is
 
-  pub nothing_follows : (r : Rest) → r ≡ End → after p sub r ≡ ending p sub
+  pub nothing_follows : (r : Rest) → r ≡ End → following p sub r ≡ finished p sub
   nothing_follows r is = rest_at r Rest-F.End (ap out-Rest is ∙ outs-End)
 
-  pub follows_is : (r : Rest) (stmts : Bor (List CoreStmt)) (rest : Bor Rest) → r ≡ After stmts rest → after p sub r ≡ to_end p sub (commands stmts.now) (after p sub rest.now)
+  pub follows_is : (r : Rest) (stmts : Bor (List CoreStmt)) (rest : Bor Rest) → r ≡ After stmts rest → following p sub r ≡ continued p sub (commands stmts.now) (following p sub rest.now)
   follows_is r stmts rest is = rest_at r (Rest-F.After stmts rest) (ap out-Rest is ∙ outs-After stmts rest)
 
+  pub turn_is : (r : Rest) (scheme : Bor CoreScheme) (rest : Bor Rest) → r ≡ Turn scheme rest → following p sub r ≡ within_turn p (head_of scheme.now) (after p sub rest.now)
+  turn_is r scheme rest is = rest_at r (Rest-F.Turn scheme rest) (ap out-Rest is ∙ outs-Turn scheme rest)
+
   pub again_is : (r : Rest) (scheme : Bor CoreScheme) (stmts : Bor (List CoreStmt)) (rest : Bor Rest) → r ≡ Again scheme stmts rest
-      → after p sub r ≡ end_of_turn p sub (head_of scheme.now) (commands stmts.now) (after p sub rest.now)
+      → following p sub r ≡ turned p sub (head_of scheme.now) (commands stmts.now) (after p sub rest.now)
   again_is r scheme stmts rest is = rest_at r (Rest-F.Again scheme stmts rest) (ap out-Rest is ∙ outs-Again scheme stmts rest)
 
 -- ---- loops around a statement

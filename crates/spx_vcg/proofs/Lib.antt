@@ -20,7 +20,6 @@ pub mod CountSteps
 pub mod Sizes
 pub mod Subs
 pub mod BranchSteps
-pub mod LoopLaws
 pub mod LoopSteps
 pub mod Remaining
 pub mod CutSteps

@@ -7,9 +7,9 @@ use Rattle.spx_core.specs.declared.statement.CoreAlternative.{CoreAlternative, o
 use Rattle.spx_core.specs.declared.statement.CoreArm.{CoreArm, out-CoreArm}
 use Rattle.spx_core.specs.declared.statement.CoreScheme.{CoreScheme}
 use Rattle.spx_core.specs.declared.statement.CoreStmt.{CoreStmt}
-use Rattle.spx_core.specs.Commands.{Command, Skip, Set, Then, Choose, Select, Assertion, Repeat, Alternatives, Last, When, alternative, alternatives_of, arm_before, arms_before, command, commands, loop_of, select}
+use Rattle.spx_core.specs.Commands.{Command, Skip, Set, Then, Choose, Select, Assertion, Repeat, Leave, Alternatives, Last, When, alternative, alternatives_of, arm_before, arms_before, command, commands, loop_of, select}
 use Rattle.spx_vcg.specs.declared.branches.Rest.{Rest, Rest-F, out-Rest, map-Rest, fold-Rest, fold_out-Rest}
-use Rattle.spx_vcg.specs.declared.branches.Rest.TheVariants.{After, Again, outs-After, outs-Again}
+use Rattle.spx_vcg.specs.declared.branches.Rest.TheVariants.{After, Turn, Again, outs-After, outs-Turn, outs-Again}
 use Rattle.spx_vcg.proofs.BranchSteps.{here_is}
 use Rattle.spx_vcg.proofs.Forms.{Part, alternative_is, arm_is}
 
@@ -22,7 +22,8 @@ abbrev mutual
   size (Choose place condition a b) = 1 + (size a + size b)
   size (Select place selector alternatives) = 1 + size_for alternatives
   size (Assertion kind place condition) = 1
-  size (Repeat head body) = 1 + size body
+  size (Repeat head body) = 2 + size body
+  size (Leave place) = 1
 
   pub size_for : Alternatives → ℕ
   size_for (Last choices a) = 1 + size a
@@ -37,7 +38,8 @@ sizes (a ∷ more) = 1 + (size a.1 + sizes more)
 abbrev left_step : Rest-F ℕ → ℕ
 left_step Rest-F.End = 0
 left_step (Rest-F.After stmts rest) = size (commands stmts.now) + rest.now
-left_step (Rest-F.Again scheme stmts rest) = 2 + (size (commands stmts.now) + rest.now)
+left_step (Rest-F.Turn scheme rest) = 1 + rest.now
+left_step (Rest-F.Again scheme stmts rest) = 3 + (size (commands stmts.now) + rest.now)
 
 unfoldable pub left : Rest → ℕ
 left = fold-Rest ℕ left_step
@@ -49,7 +51,10 @@ left_at r layer is = fold_out-Rest ℕ left_step r ∙ ap (λ x. left_step (map-
 pub left_after : (r : Rest) (stmts : Bor (List CoreStmt)) (rest : Bor Rest) → r ≡ After stmts rest → left r ≡ size (commands stmts.now) + left rest.now
 left_after r stmts rest is = left_at r (Rest-F.After stmts rest) (ap out-Rest is ∙ outs-After stmts rest)
 
-pub left_again : (r : Rest) (scheme : Bor CoreScheme) (stmts : Bor (List CoreStmt)) (rest : Bor Rest) → r ≡ Again scheme stmts rest → left r ≡ 2 + (size (commands stmts.now) + left rest.now)
+pub left_turn : (r : Rest) (scheme : Bor CoreScheme) (rest : Bor Rest) → r ≡ Turn scheme rest → left r ≡ 1 + left rest.now
+left_turn r scheme rest is = left_at r (Rest-F.Turn scheme rest) (ap out-Rest is ∙ outs-Turn scheme rest)
+
+pub left_again : (r : Rest) (scheme : Bor CoreScheme) (stmts : Bor (List CoreStmt)) (rest : Bor Rest) → r ≡ Again scheme stmts rest → left r ≡ 3 + (size (commands stmts.now) + left rest.now)
 left_again r scheme stmts rest is = left_at r (Rest-F.Again scheme stmts rest) (ap out-Rest is ∙ outs-Again scheme stmts rest)
 
 pub size_positive : (c : Command) → 0 < size c
@@ -60,6 +65,7 @@ size_positive (Choose place condition a b) = omega arith
 size_positive (Select place selector alternatives) = omega arith
 size_positive (Assertion kind place condition) = omega arith
 size_positive (Repeat head body) = omega arith
+size_positive (Leave place) = omega arith
 
 arm_size : (arm : CoreArm) (otherwise : Command) → size (arm_before arm otherwise) ≡ 1 + (size (commands (out-CoreArm arm).body) + size otherwise)
 arm_size arm otherwise = ap size (arm_is arm otherwise)
@@ -84,7 +90,7 @@ pub select_size : (place : Place) (selector : CoreExpr) (alternatives : List Par
 select_size place selector [] = refl
 select_size place selector (first ∷ more) = ap (λ n. 1 + n) (sizes_are first more)
 
-pub loop_size : (s : CoreScheme) (body : Command) → size (loop_of s body) ≡ 1 + size body
+pub loop_size : (s : CoreScheme) (body : Command) → size (loop_of s body) ≡ 2 + size body
 loop_size s body = refl
 
 -- what is done in an alternative
@@ -113,5 +119,13 @@ follow_smaller stmts following = let w = size_positive stmts in omega arith
 pub follows_smaller : (next : Command) (following more : ℕ) → following ≡ size next + more → 4 * (size next + more) < 4 * following + 1
 follows_smaller next following more e = omega (arith, e)
 
-pub again_smaller : (body : Command) (following more : ℕ) → following ≡ 2 + (size body + more) → 4 * (size body + more) + 6 < 4 * following + 1
+pub again_smaller : (body : Command) (following more : ℕ) → following ≡ 3 + (size body + more) → 4 * (size body + more) + 8 < 4 * following + 1
 again_smaller body following more e = omega (arith, e)
+
+-- a turn of a loop, of which so much is left
+pub turn_smaller : (body : Command) (following more : ℕ) → following ≡ 1 + more → 4 * (size body + following) + 2 < 4 * (size body + more) + 7
+turn_smaller body following more e = omega (arith, e)
+
+-- where the loop around the statements is left
+pub leave_smaller : (stmts : Command) (following more : ℕ) → following ≡ size stmts + more → 4 * more + 1 < 4 * following + 1
+leave_smaller stmts following more e = let w = size_positive stmts in omega (arith, e)

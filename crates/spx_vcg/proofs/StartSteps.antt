@@ -29,7 +29,7 @@ use Rattle.spx_paths.specs.Checks.{checked_under, checks, in_type}
 use Rattle.spx_paths.specs.Conditions.{body_claims}
 use Rattle.spx_paths.specs.Prefixes.{entered}
 use Rattle.spx_paths.specs.Terms.{now, entry, now_term, term_of}
-use Rattle.spx_paths.specs.Walks.{assigned, checked_in, ending, entering, first_facts, import_facts, initializing, pre_facts, range_check, start_tree, starting_with}
+use Rattle.spx_paths.specs.Walks.{assigned, checked_in, entering, first_facts, import_facts, initializing, pre_facts, range_check, start_tree, starting_with}
 use Rattle.spx_arena.specs.declared.terms.TermId.{TermId}
 use Rattle.spx_arena.specs.Claims.{AreIds, AreLists, AreClaims, trees_at, claims_at}
 use Rattle.spx_arena.specs.Facts.{facts_at}
@@ -38,6 +38,7 @@ use Rattle.spx_vcg.specs.ConditionWalk.{forward}
 use Rattle.spx_vcg.specs.States.{AreValues, given, state_in}
 use Rattle.spx_vcg.specs.WalkSteps.{Evaluates, Goes, Keeps, Makes, MeanAll, Means, Walks, Whole, claims_from}
 use Rattle.spx_vcg.specs.Cuts.{Leaves, claims_anew, cuts_in}
+use Rattle.spx_vcg.specs.Following.{finished}
 use Rattle.spx_vcg.specs.PathWalk.{Ends, Passes, to_end}
 use Rattle.spx_vcg.proofs.ConditionForward.{forward_from_start}
 use Rattle.spx_vcg.proofs.SharedSteps.{goes_of, goes_twice, means_kept, walks_along, walks_not}
@@ -61,7 +62,7 @@ after_assignment {w} {x} {y} {id} p sub e place target k v at a =
     let m = v.makes [] (no_lefts w) in
     let along : Goes w y (λ rest. checks p (now_term p) [] e (assigned p (place_of e) (variable_of target.root.entity) t rest)) =
     subst (λ q. Goes w y (λ rest. checks p (now_term p) [] e (assigned p q (variable_of target.root.entity) t rest))) at (goes_twice (goes_of k m.walks) (a t m.means)) in
-    record { whole = along.whole; adds = along.adds; goes = along }
+    record { whole = along.whole; adds = along.adds; goes = λ leave. along }
 
 pub as_numbers : {w x : Walk} (subtype : Subtype) (place : Place) (t : Term) → (subtype.base.class ≡ class.Integer) ⊎ (subtype.base.class ≡ class.Enumeration) → Walks w x (checked_under [] Range place (in_type subtype t)) → Walks w x (range_check subtype place t)
 as_numbers {w} {x} subtype place t (inl is) walks = walks_along (λ rest. ap (λ (c : Class). checked_in c subtype place t rest) is) walks
@@ -136,12 +137,12 @@ tidied [] = refl
 tidied (tree ∷ trees) = (λ i. forward_from_start tree i ++ tidied trees i) ∙ sym (map-append tidy (claims_of tree) (flat_map claims_of trees))
 
 pub all_claims : (a b i c d e f : Walk) (p : Program) (sub : Sub) → Starts a
-    → Goes a b (entering p sub (formals sub)) → Goes b i (initializing p (locals sub)) → Goes i c (assume_all (flat_map (import_facts p sub) (formals sub))) → Goes c d (assume_all (pre_facts p sub sub.pre)) → Ends d e (to_end p sub (commands sub.statements) (ending p sub))
-    → Leaves e f (cuts_in p sub [] (commands sub.statements) (ending p sub)) []
+    → Goes a b (entering p sub (formals sub)) → Goes b i (initializing p (locals sub)) → Goes i c (assume_all (flat_map (import_facts p sub) (formals sub))) → Goes c d (assume_all (pre_facts p sub sub.pre)) → Ends d e (to_end p sub (commands sub.statements) (finished p sub))
+    → Leaves e f (cuts_in p sub [] (commands sub.statements) (finished p sub)) []
     → claims_at f.terms f.facts.lists f.claims ≡ map tidy (body_claims p sub)
 all_claims a b i c d e f p sub starts enter initialize import require body others =
-    let rest = to_end p sub (commands sub.statements) (ending p sub) 0 in
-    let from_cuts = cuts_in p sub [] (commands sub.statements) (ending p sub) in
+    let rest = to_end p sub (commands sub.statements) (finished p sub) 0 in
+    let from_cuts = cuts_in p sub [] (commands sub.statements) (finished p sub) in
     let from_start : claims_at e.terms e.facts.lists e.claims ≡ map tidy (claims_of (start_tree p sub)) =
     sym (claims_end e)
     ∙ sym (body.same 0)

@@ -1,5 +1,5 @@
 -- The trees from the cuts of a body, each walked from no values and no facts.
-use Rattle.std.specs.Prelude.{◌≡◌, if◌then◌else◌, ℕ, Bool, List, [], ◌++◌, flat_map, Option}
+use Rattle.std.specs.Prelude.{◌≡◌, if◌then◌else◌, Bool, List, [], ◌++◌, flat_map, Option}
 use Rattle.spx_core.specs.declared.entity.VarId.{VarId}
 use Rattle.spx_core.specs.declared.program.Program.{Program}
 use Rattle.spx_core.specs.declared.subprogram.Sub.{Sub}
@@ -12,10 +12,11 @@ use Rattle.spx_term.specs.Steps.{Claim, Tree}
 use Rattle.spx_meaning.specs.Stores.{type_of}
 use Rattle.spx_paths.specs.Checks.{in_type}
 use Rattle.spx_paths.specs.Terms.{entry}
-use Rattle.spx_paths.specs.Walks.{cuts, ending, loop_cut}
+use Rattle.spx_paths.specs.Walks.{cuts, loop_cut}
 use Rattle.spx_arena.specs.Claims.{claims_at}
 use Rattle.spx_vcg.specs.declared.walk.Walk.{Walk}
 use Rattle.spx_vcg.specs.ConditionWalk.{forward}
+use Rattle.spx_vcg.specs.Following.{Continuation}
 use Rattle.spx_vcg.specs.PathWalk.{to_end}
 use Rattle.spx_vcg.specs.WalkSteps.{Whole, claims_from}
 
@@ -38,15 +39,15 @@ pub record Leaves (old new : Walk) (all left : List Tree) : Type 0 where
   pub same : claims_over old all ≡ claims_over new left
 
 -- the trees from the cuts in a command inside these loops that count, each along what follows the command
-abbrev pub cuts_in : Program → Sub → List CoreCount → Command → (following : ℕ → Tree) → List Tree
-cuts_in p sub within c following = cuts p sub within c following (ending p sub)
+abbrev pub cuts_in : Program → Sub → List CoreCount → Command → Continuation → List Tree
+cuts_in p sub within c following = cuts p sub within c following.rest following.leave
 
 -- those in alternatives
-abbrev pub cuts_among : Program → Sub → List CoreCount → List (Option (List CoreChoice) × Command) → (following : ℕ → Tree) → List Tree
+abbrev pub cuts_among : Program → Sub → List CoreCount → List (Option (List CoreChoice) × Command) → Continuation → List Tree
 cuts_among p sub within alternatives following = flat_map (λ a. cuts_in p sub within a.1 following) alternatives
 
 -- those in the body of a loop, and the one before it where it has none of its own
-abbrev pub cuts_of_body : Program → Sub → List CoreCount → Command → (following : ℕ → Tree) → List Tree
+abbrev pub cuts_of_body : Program → Sub → List CoreCount → Command → Continuation → List Tree
 cuts_of_body p sub within body following = loop_cut p sub within (has_own_cut body) (to_end p sub body following 0) ++ cuts_in p sub within body following
 
 -- the value on entry of an import that is exported too lies in its type

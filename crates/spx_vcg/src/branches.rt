@@ -1,16 +1,16 @@
 // The walk through statements to the end of each path. What paths have in common is walked once.
-ghost use Rattle.std.specs.Prelude.{◌≡◌, ◌<◌, length, map, IfOk, OnOk};
+ghost use Rattle.std.specs.Prelude.{◌≡◌, ◌<◌, true, length, map, IfOk, OnOk};
 ghost use Rattle.spx_text.specs.declared.place.Place.{Place};
-ghost use Rattle.spx_core.specs.Commands.{Counted, alternative, arm_before, arms_before, commands, head_of, loop_of, select};
+ghost use Rattle.spx_core.specs.Commands.{Counted, alternative, arm_before, arms_before, commands, exit_where, head_of, loop_of, select};
 ghost use Rattle.spx_term.specs.declared.term.Term.{Term};
-ghost use Rattle.spx_paths.specs.Walks.{again, end_of_turn, entering_loop, past_loop, tested};
+ghost use Rattle.spx_paths.specs.Walks.{again, decided, end_of_turn, entering_loop, leaving, past_loop, tested};
 ghost use Rattle.spx_vcg.specs.declared.branches.Rest.TheVariants as rest;
 ghost use Rattle.spx_vcg.specs.Counting.{along, into_next, into_range};
 ghost use Rattle.spx_vcg.specs.EntryNames.{IsInterfaceOf};
-ghost use Rattle.spx_vcg.specs.Following.{after, done_otherwise};
+ghost use Rattle.spx_vcg.specs.Following.{after, done_otherwise, following, leave_after};
 ghost use Rattle.spx_vcg.specs.WalkSteps.{Keeps, Means, Walks, Whole};
 ghost use Rattle.spx_arena.specs.Claims.{AreIds};
-ghost use Rattle.spx_vcg.specs.PathWalk.{Ends, Marks, IsBack, Takes, TakesEach, TakesUnder, negated, PassesArm, to_end, turn_to_cut, where_true};
+ghost use Rattle.spx_vcg.specs.PathWalk.{Ends, Marks, IsBack, Takes, TakesEach, TakesUnder, TakesUnless, negated, PassesArm, to_end, turn_to_cut, where_true};
 
 use crate::choices::alternative_facts;
 use crate::entered::{Entered, Interface};
@@ -39,6 +39,8 @@ pub enum Rest<'a> {
     End,
     /// The statements after the one that they are part of, and what follows these.
     After(&'a [CoreStmt], &'a Rest<'a>),
+    /// Within a turn of a loop of this scheme, which comes to the own cut of the loop: what follows the loop.
+    Turn(&'a CoreScheme, &'a Rest<'a>),
     /// The end of a turn of a loop of this scheme over these statements, and what follows the loop.
     Again(&'a CoreScheme, &'a [CoreStmt], &'a Rest<'a>),
 }
@@ -49,6 +51,13 @@ impl<'a> Rest<'a> {
         ensures { result ≡ rest.After first.entry following.entry }
     {
         Rest::After(first, following)
+    }
+
+    /// Within a turn of a loop, and what follows the loop.
+    fn turn(scheme: &'a CoreScheme, following: &'a Rest<'a>) -> Rest<'a>
+        ensures { result ≡ rest.Turn scheme.entry following.entry }
+    {
+        Rest::Turn(scheme, following)
     }
 
     /// The end of a turn of a loop, and what follows the loop.
@@ -101,7 +110,7 @@ impl Walk {
         rest: &Rest,
     ) -> Result<(), AllocError>
         requires { Whole self.old }
-        ensures { OnOk result (Takes self.old self.new (where_true body.now.program.now condition.now (to_end body.now.program.now body.now.sub.now (commands stmts.now) (after body.now.program.now body.now.sub.now rest.now)))) }
+        ensures { OnOk result (Takes self.old self.new (where_true body.now.program.now condition.now (to_end body.now.program.now body.now.sub.now (commands stmts.now) (following body.now.program.now body.now.sub.now rest.now)))) }
     {
         let mark = self.mark()?;
         self.assume_parts(alloc, body.program, &Entered::Present, condition)?;
@@ -132,7 +141,7 @@ impl Walk {
         rest: &Rest,
     ) -> Result<(), AllocError>
         requires { Whole self.old }
-        ensures { OnOk result (PassesArm body.now.program.now body.now.sub.now self.old self.new (arm_before arm.now) (after body.now.program.now body.now.sub.now rest.now)) }
+        ensures { OnOk result (PassesArm body.now.program.now body.now.sub.now self.old self.new (arm_before arm.now) (following body.now.program.now body.now.sub.now rest.now)) }
     {
         let condition = self.checked_id(alloc, body.program, &[], &arm.condition)?;
         self.taken(alloc, body, &arm.condition, arm.body.as_slice(), rest)?;
@@ -151,7 +160,7 @@ impl Walk {
         rest: &Rest,
     ) -> Result<(), AllocError>
         requires { Whole self.old }
-        ensures { OnOk result (Ends self.old self.new (to_end body.now.program.now body.now.sub.now (arms_before (commands otherwise.now) (map arm_before arms.now)) (after body.now.program.now body.now.sub.now rest.now))) }
+        ensures { OnOk result (Ends self.old self.new (to_end body.now.program.now body.now.sub.now (arms_before (commands otherwise.now) (map arm_before arms.now)) (following body.now.program.now body.now.sub.now rest.now))) }
     {
         for arm in arms {
             self.arm(alloc, body, arm, rest)?;
@@ -172,7 +181,7 @@ impl Walk {
     ) -> Result<(), AllocError>
         requires whole { Whole self.old }
         requires within { AreIds (length self.old.terms) facts.now }
-        ensures { OnOk result (TakesUnder self.old self.new facts.now (to_end body.now.program.now body.now.sub.now (commands stmts.now) (after body.now.program.now body.now.sub.now rest.now))) }
+        ensures { OnOk result (TakesUnder self.old self.new facts.now (to_end body.now.program.now body.now.sub.now (commands stmts.now) (following body.now.program.now body.now.sub.now rest.now))) }
     {
         let mark = self.mark()?;
         self.assume_all(facts)?;
@@ -193,7 +202,7 @@ impl Walk {
     ) -> Result<(), AllocError>
         requires whole { Whole self.old }
         requires within { value.0 < length self.old.terms }
-        ensures { OnOk result (TakesEach body.now.program.now body.now.sub.now self.old self.new value (map alternative alternatives.now) (after body.now.program.now body.now.sub.now rest.now)) }
+        ensures { OnOk result (TakesEach body.now.program.now body.now.sub.now self.old self.new value (map alternative alternatives.now) (following body.now.program.now body.now.sub.now rest.now)) }
     {
         let mut earlier = Items::new(alloc);
         for alternative in alternatives {
@@ -216,7 +225,7 @@ impl Walk {
         rest: &Rest,
     ) -> Result<(), AllocError>
         requires { Whole self.old }
-        ensures { OnOk result ((place : Place) → Ends self.old self.new (to_end body.now.program.now body.now.sub.now (select place selector.now (map alternative alternatives.now)) (after body.now.program.now body.now.sub.now rest.now))) }
+        ensures { OnOk result ((place : Place) → Ends self.old self.new (to_end body.now.program.now body.now.sub.now (select place selector.now (map alternative alternatives.now)) (following body.now.program.now body.now.sub.now rest.now))) }
     {
         if alternatives.is_empty() {
             self.follow(alloc, body, rest)?;
@@ -227,7 +236,7 @@ impl Walk {
         Ok(())
     }
 
-    /// A turn of a loop as far as the own cut of its body. A body without one has a cut before it.
+    /// A turn of a loop as far as the own cut of its body, or to where the loop is left. A body without one has a cut before it.
     #[cycle(path)]
     fn turn(
         &mut self,
@@ -237,7 +246,7 @@ impl Walk {
         rest: &Rest,
     ) -> Result<(), AllocError>
         requires { Whole self.old }
-        ensures { OnOk result (Ends self.old self.new (turn_to_cut body.now.program.now body.now.sub.now (commands stmts.now))) }
+        ensures { OnOk result (Ends self.old self.new (turn_to_cut body.now.program.now body.now.sub.now (commands stmts.now) (leave_after body.now.program.now body.now.sub.now rest.now))) }
     {
         if has_own_cut(stmts) {
             self.path(alloc, body, stmts, rest)?;
@@ -257,7 +266,7 @@ impl Walk {
         rest: &Rest,
     ) -> Result<(), AllocError>
         requires { Whole self.old }
-        ensures { OnOk result (Takes self.old self.new (where_true body.now.program.now condition.now (turn_to_cut body.now.program.now body.now.sub.now (commands stmts.now)))) }
+        ensures { OnOk result (Takes self.old self.new (where_true body.now.program.now condition.now (turn_to_cut body.now.program.now body.now.sub.now (commands stmts.now) (leave_after body.now.program.now body.now.sub.now rest.now)))) }
     {
         let mark = self.mark()?;
         self.assume_parts(alloc, body.program, &Entered::Present, condition)?;
@@ -272,15 +281,17 @@ impl Walk {
         &mut self,
         alloc: Global,
         body: &Body,
+        scheme: &CoreScheme,
         condition: &CoreExpr,
         stmts: &[CoreStmt],
         rest: &Rest,
     ) -> Result<(), AllocError>
         requires { Whole self.old }
-        ensures { OnOk result (Ends self.old self.new (tested body.now.program.now condition.now (turn_to_cut body.now.program.now body.now.sub.now (commands stmts.now)) (after body.now.program.now body.now.sub.now rest.now))) }
+        ensures { OnOk result (Ends self.old self.new (tested body.now.program.now condition.now (turn_to_cut body.now.program.now body.now.sub.now (commands stmts.now) (leaving body.now.program.now (head_of scheme.now) (after body.now.program.now body.now.sub.now rest.now))) (after body.now.program.now body.now.sub.now rest.now))) }
     {
+        let inner = Rest::turn(&*scheme, &*rest);
         let value = self.checked_id(alloc, body.program, &[], condition)?;
-        self.tested_turn(alloc, body, condition, stmts, rest)?;
+        self.tested_turn(alloc, body, condition, stmts, &inner)?;
         self.not_taken(value)?;
         self.follow(alloc, body, rest)?;
         Ok(())
@@ -299,7 +310,7 @@ impl Walk {
     ) -> Result<(), AllocError>
         requires whole { Whole self.old }
         requires interface { IsInterfaceOf body.now.sub.now interface.now }
-        ensures { OnOk result (Takes self.old self.new (along (into_range body.now.program.now body.now.sub.now count.now) (turn_to_cut body.now.program.now body.now.sub.now (commands stmts.now)))) }
+        ensures { OnOk result (Takes self.old self.new (along (into_range body.now.program.now body.now.sub.now count.now) (turn_to_cut body.now.program.now body.now.sub.now (commands stmts.now) (leave_after body.now.program.now body.now.sub.now rest.now)))) }
     {
         let mark = self.mark()?;
         self.enter_range(body, interface, count)?;
@@ -321,7 +332,7 @@ impl Walk {
     ) -> Result<(), AllocError>
         requires whole { Whole self.old }
         requires interface { IsInterfaceOf body.now.sub.now interface.now }
-        ensures { OnOk result (Takes self.old self.new (along (into_next body.now.program.now body.now.sub.now count.now) (turn_to_cut body.now.program.now body.now.sub.now (commands stmts.now)))) }
+        ensures { OnOk result (Takes self.old self.new (along (into_next body.now.program.now body.now.sub.now count.now) (turn_to_cut body.now.program.now body.now.sub.now (commands stmts.now) (leave_after body.now.program.now body.now.sub.now rest.now)))) }
     {
         let mark = self.mark()?;
         self.go_on(body, interface, count)?;
@@ -337,23 +348,25 @@ impl Walk {
         &mut self,
         alloc: Global,
         body: &Body,
+        scheme: &CoreScheme,
         count: &CoreCount,
         stmts: &[CoreStmt],
         rest: &Rest,
     ) -> Result<(), AllocError>
         requires { Whole self.old }
-        ensures { OnOk result (Ends self.old self.new (entering_loop body.now.program.now body.now.sub.now (Counted count.now) (turn_to_cut body.now.program.now body.now.sub.now (commands stmts.now)) (past_loop body.now.program.now count.now (after body.now.program.now body.now.sub.now rest.now)))) }
+        ensures { OnOk result (Ends self.old self.new (entering_loop body.now.program.now body.now.sub.now (Counted count.now) (turn_to_cut body.now.program.now body.now.sub.now (commands stmts.now) (leaving body.now.program.now (head_of scheme.now) (after body.now.program.now body.now.sub.now rest.now))) (past_loop body.now.program.now count.now (after body.now.program.now body.now.sub.now rest.now)))) }
     {
         let interface = Interface::of(alloc, body.sub)?;
+        let inner = Rest::turn(&*scheme, &*rest);
         match &count.bounds {
             None => {
                 self.begin_count(body, &interface, count)?;
-                self.turn(alloc, body, stmts, rest)?;
+                self.turn(alloc, body, stmts, &inner)?;
                 Ok(())
             }
             Some(range) => {
                 self.bound(alloc, body, &interface, count, range)?;
-                self.first_turn(alloc, body, &interface, count, stmts, rest)?;
+                self.first_turn(alloc, body, &interface, count, stmts, &inner)?;
                 self.pass_range(body, &interface, count)?;
                 self.follow(alloc, body, rest)?;
                 Ok(())
@@ -367,17 +380,37 @@ impl Walk {
         &mut self,
         alloc: Global,
         body: &Body,
+        scheme: &CoreScheme,
         count: &CoreCount,
         stmts: &[CoreStmt],
         rest: &Rest,
     ) -> Result<(), AllocError>
         requires { Whole self.old }
-        ensures { OnOk result (Ends self.old self.new (again body.now.program.now body.now.sub.now (Counted count.now) (turn_to_cut body.now.program.now body.now.sub.now (commands stmts.now)) (past_loop body.now.program.now count.now (after body.now.program.now body.now.sub.now rest.now)))) }
+        ensures { OnOk result (Ends self.old self.new (again body.now.program.now body.now.sub.now (Counted count.now) (turn_to_cut body.now.program.now body.now.sub.now (commands stmts.now) (leaving body.now.program.now (head_of scheme.now) (after body.now.program.now body.now.sub.now rest.now))) (past_loop body.now.program.now count.now (after body.now.program.now body.now.sub.now rest.now)))) }
     {
         let interface = Interface::of(alloc, body.sub)?;
-        self.next_turn(alloc, body, &interface, count, stmts, rest)?;
+        let inner = Rest::turn(&*scheme, &*rest);
+        self.next_turn(alloc, body, &interface, count, stmts, &inner)?;
         self.end_count(body, &interface, count)?;
         self.follow(alloc, body, rest)?;
+        Ok(())
+    }
+
+    /// A turn of a loop with no head.
+    #[cycle(path)]
+    fn endless(
+        &mut self,
+        alloc: Global,
+        body: &Body,
+        scheme: &CoreScheme,
+        stmts: &[CoreStmt],
+        rest: &Rest,
+    ) -> Result<(), AllocError>
+        requires { Whole self.old }
+        ensures { OnOk result (Ends self.old self.new (turn_to_cut body.now.program.now body.now.sub.now (commands stmts.now) (leaving body.now.program.now (head_of scheme.now) (after body.now.program.now body.now.sub.now rest.now)))) }
+    {
+        let inner = Rest::turn(&*scheme, &*rest);
+        self.turn(alloc, body, stmts, &inner)?;
         Ok(())
     }
 
@@ -392,15 +425,19 @@ impl Walk {
         rest: &Rest,
     ) -> Result<(), AllocError>
         requires { Whole self.old }
-        ensures { OnOk result (Ends self.old self.new (to_end body.now.program.now body.now.sub.now (loop_of scheme.now (commands stmts.now)) (after body.now.program.now body.now.sub.now rest.now))) }
+        ensures { OnOk result (Ends self.old self.new (to_end body.now.program.now body.now.sub.now (loop_of scheme.now (commands stmts.now)) (following body.now.program.now body.now.sub.now rest.now))) }
     {
         match scheme {
             CoreScheme::While(_, condition) => {
-                self.tested(alloc, body, condition, stmts, rest)?;
+                self.tested(alloc, body, scheme, condition, stmts, rest)?;
                 Ok(())
             }
             CoreScheme::For(count) => {
-                self.counted(alloc, body, count.get(), stmts, rest)?;
+                self.counted(alloc, body, scheme, count.get(), stmts, rest)?;
+                Ok(())
+            }
+            CoreScheme::Endless => {
+                self.endless(alloc, body, scheme, stmts, rest)?;
                 Ok(())
             }
         }
@@ -421,17 +458,21 @@ impl Walk {
     {
         match scheme {
             CoreScheme::While(_, condition) => {
-                self.tested(alloc, body, condition, stmts, rest)?;
+                self.tested(alloc, body, scheme, condition, stmts, rest)?;
                 Ok(())
             }
             CoreScheme::For(count) => {
-                self.counted_again(alloc, body, count.get(), stmts, rest)?;
+                self.counted_again(alloc, body, scheme, count.get(), stmts, rest)?;
+                Ok(())
+            }
+            CoreScheme::Endless => {
+                self.endless(alloc, body, scheme, stmts, rest)?;
                 Ok(())
             }
         }
     }
 
-    /// What follows, to the end of each path.
+    /// What follows, to the end of each path. A turn has come to its cut before.
     #[cycle(path)]
     pub fn follow(&mut self, alloc: Global, body: &Body, rest: &Rest) -> Result<(), AllocError>
         requires { Whole self.old }
@@ -446,8 +487,144 @@ impl Walk {
                 self.path(alloc, body, &*stmts, &*rest)?;
                 Ok(())
             }
+            Rest::Turn(_, _) => Ok(()),
             Rest::Again(scheme, stmts, rest) => {
                 self.turn_ended(alloc, body, &*scheme, &*stmts, &*rest)?;
+                Ok(())
+            }
+        }
+    }
+
+    /// A loop of this scheme is left, and what follows it.
+    #[cycle(path)]
+    fn leave_loop(
+        &mut self,
+        alloc: Global,
+        body: &Body,
+        scheme: &CoreScheme,
+        rest: &Rest,
+    ) -> Result<(), AllocError>
+        requires { Whole self.old }
+        ensures { OnOk result (Ends self.old self.new (leaving body.now.program.now (head_of scheme.now) (after body.now.program.now body.now.sub.now rest.now))) }
+    {
+        match scheme {
+            CoreScheme::While(_, _) => {
+                self.follow(alloc, body, rest)?;
+                Ok(())
+            }
+            CoreScheme::For(count) => {
+                self.leave_behind(body.program, count.get())?;
+                self.follow(alloc, body, rest)?;
+                Ok(())
+            }
+            CoreScheme::Endless => {
+                self.follow(alloc, body, rest)?;
+                Ok(())
+            }
+        }
+    }
+
+    /// The loop around the statements is left, and what follows it, to the end of each path.
+    #[cycle(path)]
+    fn leave(&mut self, alloc: Global, body: &Body, rest: &Rest) -> Result<(), AllocError>
+        requires { Whole self.old }
+        ensures { OnOk result (Ends self.old self.new (leave_after body.now.program.now body.now.sub.now rest.now)) }
+    {
+        match rest {
+            Rest::End => {
+                self.finish(alloc, body)?;
+                Ok(())
+            }
+            Rest::After(_, rest) => {
+                self.leave(alloc, body, &*rest)?;
+                Ok(())
+            }
+            Rest::Turn(scheme, rest) => {
+                self.leave_loop(alloc, body, &*scheme, &*rest)?;
+                Ok(())
+            }
+            Rest::Again(scheme, _, rest) => {
+                self.leave_loop(alloc, body, &*scheme, &*rest)?;
+                Ok(())
+            }
+        }
+    }
+
+    /// The way on past an exit: the negation of its condition is a fact on it, and no longer after it.
+    #[cycle(path)]
+    fn stay(
+        &mut self,
+        alloc: Global,
+        body: &Body,
+        condition: TermId,
+        rest: &Rest,
+    ) -> Result<(), AllocError>
+        requires whole { Whole self.old }
+        requires within { condition.0 < length self.old.terms }
+        ensures { OnOk result (TakesUnless self.old self.new condition (after body.now.program.now body.now.sub.now rest.now)) }
+    {
+        let mark = self.mark()?;
+        self.not_taken(condition)?;
+        self.follow(alloc, body, rest)?;
+        self.back_to(mark);
+        Ok(())
+    }
+
+    /// The way out at an exit, where its condition is true.
+    #[cycle(path)]
+    fn go_out(
+        &mut self,
+        alloc: Global,
+        body: &Body,
+        condition: &CoreExpr,
+        rest: &Rest,
+    ) -> Result<(), AllocError>
+        requires { Whole self.old }
+        ensures { OnOk result (Ends self.old self.new (where_true body.now.program.now condition.now (leave_after body.now.program.now body.now.sub.now rest.now))) }
+    {
+        let present = Entered::Present;
+        self.assume_parts(alloc, body.program, &present, condition)?;
+        self.leave(alloc, body, rest)?;
+        Ok(())
+    }
+
+    /// An exit where a condition is true: first the way on, and then the way out.
+    #[cycle(path)]
+    fn exit_when(
+        &mut self,
+        alloc: Global,
+        body: &Body,
+        condition: &CoreExpr,
+        rest: &Rest,
+    ) -> Result<(), AllocError>
+        requires { Whole self.old }
+        ensures { OnOk result (Ends self.old self.new (decided body.now.program.now condition.now true (leave_after body.now.program.now body.now.sub.now rest.now) (after body.now.program.now body.now.sub.now rest.now))) }
+    {
+        let value = self.checked_id(alloc, body.program, &[], condition)?;
+        self.stay(alloc, body, value, rest)?;
+        self.go_out(alloc, body, condition, rest)?;
+        Ok(())
+    }
+
+    /// An exit, and what follows it where it goes on.
+    #[cycle(path)]
+    fn exit(
+        &mut self,
+        alloc: Global,
+        body: &Body,
+        condition: &Option<CoreExpr>,
+        rest: &Rest,
+    ) -> Result<(), AllocError>
+        requires { Whole self.old }
+        ensures { OnOk result ((place : Place) → Ends self.old self.new (to_end body.now.program.now body.now.sub.now (exit_where place condition.now) (following body.now.program.now body.now.sub.now rest.now))) }
+    {
+        match condition {
+            None => {
+                self.leave(alloc, body, rest)?;
+                Ok(())
+            }
+            Some(condition) => {
+                self.exit_when(alloc, body, condition, rest)?;
                 Ok(())
             }
         }
@@ -463,7 +640,7 @@ impl Walk {
         rest: &Rest,
     ) -> Result<(), AllocError>
         requires { Whole self.old }
-        ensures { OnOk result (Ends self.old self.new (to_end body.now.program.now body.now.sub.now (commands stmts.now) (after body.now.program.now body.now.sub.now rest.now))) }
+        ensures { OnOk result (Ends self.old self.new (to_end body.now.program.now body.now.sub.now (commands stmts.now) (following body.now.program.now body.now.sub.now rest.now))) }
     {
         for (at, stmt) in stmts.iter().enumerate() {
             match stmt {
@@ -498,6 +675,11 @@ impl Walk {
                     let following = Rest::more(&stmts[at + 1..], &*rest);
                     let repeated = repeated.as_slice();
                     self.head(alloc, body, scheme, repeated, &following)?;
+                    return Ok(());
+                }
+                CoreStmt::Exit(_, condition) => {
+                    let following = Rest::more(&stmts[at + 1..], &*rest);
+                    self.exit(alloc, body, condition, &following)?;
                     return Ok(());
                 }
             }

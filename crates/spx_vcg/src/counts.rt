@@ -352,7 +352,7 @@ impl Walk {
     }
 
     /// After a loop its parameter counts as the first value of its type.
-    fn leave_behind(&mut self, program: &Program, count: &CoreCount) -> Result<(), AllocError>
+    pub fn leave_behind(&mut self, program: &Program, count: &CoreCount) -> Result<(), AllocError>
         requires { Whole self.old }
         ensures { OnOk result (Goes self.old self.new (left_behind program.now count.now)) }
     {

@@ -7,7 +7,7 @@ ghost use Rattle.spx_paths.specs.Walks.{cut_facts, loop_cut, noted_cut};
 ghost use Rattle.spx_vcg.specs.Cuts.{BeginsAnew, Leaves, cuts_among, cuts_in, cuts_of_body};
 ghost use Rattle.spx_vcg.specs.Enclosing.{counts};
 ghost use Rattle.spx_vcg.specs.EntryNames.{IsInterfaceOf};
-ghost use Rattle.spx_vcg.specs.Following.{after};
+ghost use Rattle.spx_vcg.specs.Following.{after, following};
 ghost use Rattle.spx_vcg.specs.PathWalk.{to_end};
 ghost use Rattle.spx_vcg.specs.WalkSteps.{Whole};
 
@@ -81,7 +81,7 @@ impl Walk {
         again: &Rest,
     ) -> Result<(), AllocError>
         requires { Whole self.old }
-        ensures { OnOk result (Leaves self.old self.new (loop_cut body.now.program.now body.now.sub.now (counts within.now) (has_own_cut (commands stmts.now)) (to_end body.now.program.now body.now.sub.now (commands stmts.now) (after body.now.program.now body.now.sub.now again.now) 0)) []) }
+        ensures { OnOk result (Leaves self.old self.new (loop_cut body.now.program.now body.now.sub.now (counts within.now) (has_own_cut (commands stmts.now)) (to_end body.now.program.now body.now.sub.now (commands stmts.now) (following body.now.program.now body.now.sub.now again.now) 0)) []) }
     {
         if has_own_cut(stmts) {
             return Ok(());
@@ -106,7 +106,7 @@ impl Walk {
     ) -> Result<(), AllocError>
         requires { Whole self.old }
         ensures whole { OnOk result (Whole self.new) }
-        ensures leaves { OnOk result ((otherwise : Command) → Leaves self.old self.new (cuts_in body.now.program.now body.now.sub.now (counts within.now) (arms_before otherwise (map arm_before arms.now)) (after body.now.program.now body.now.sub.now rest.now)) (cuts_in body.now.program.now body.now.sub.now (counts within.now) otherwise (after body.now.program.now body.now.sub.now rest.now))) }
+        ensures leaves { OnOk result ((otherwise : Command) → Leaves self.old self.new (cuts_in body.now.program.now body.now.sub.now (counts within.now) (arms_before otherwise (map arm_before arms.now)) (following body.now.program.now body.now.sub.now rest.now)) (cuts_in body.now.program.now body.now.sub.now (counts within.now) otherwise (following body.now.program.now body.now.sub.now rest.now))) }
     {
         for arm in arms {
             self.cuts(alloc, body, arm.body.as_slice(), within, rest)?;
@@ -125,7 +125,7 @@ impl Walk {
         rest: &Rest,
     ) -> Result<(), AllocError>
         requires { Whole self.old }
-        ensures { OnOk result (Leaves self.old self.new (cuts_among body.now.program.now body.now.sub.now (counts within.now) (map alternative alternatives.now) (after body.now.program.now body.now.sub.now rest.now)) []) }
+        ensures { OnOk result (Leaves self.old self.new (cuts_among body.now.program.now body.now.sub.now (counts within.now) (map alternative alternatives.now) (following body.now.program.now body.now.sub.now rest.now)) []) }
     {
         for alternative in alternatives {
             self.cuts(alloc, body, alternative.body.as_slice(), within, rest)?;
@@ -144,7 +144,7 @@ impl Walk {
         again: &Rest,
     ) -> Result<(), AllocError>
         requires { Whole self.old }
-        ensures { OnOk result (Leaves self.old self.new (cuts_of_body body.now.program.now body.now.sub.now (counts within.now) (commands stmts.now) (after body.now.program.now body.now.sub.now again.now)) []) }
+        ensures { OnOk result (Leaves self.old self.new (cuts_of_body body.now.program.now body.now.sub.now (counts within.now) (commands stmts.now) (following body.now.program.now body.now.sub.now again.now)) []) }
     {
         self.from_loop_cut(alloc, body, stmts, within, again)?;
         self.cuts(alloc, body, stmts, within, again)?;
@@ -162,11 +162,15 @@ impl Walk {
         rest: &Rest,
     ) -> Result<(), AllocError>
         requires { Whole self.old }
-        ensures { OnOk result (Leaves self.old self.new (cuts_in body.now.program.now body.now.sub.now (counts within.now) (command stmt.now) (after body.now.program.now body.now.sub.now rest.now)) []) }
+        ensures { OnOk result (Leaves self.old self.new (cuts_in body.now.program.now body.now.sub.now (counts within.now) (command stmt.now) (following body.now.program.now body.now.sub.now rest.now)) []) }
     {
         match stmt {
             CoreStmt::Null(_) => Ok(()),
             CoreStmt::Assignment(_, _) => Ok(()),
+            CoreStmt::Exit(_, condition) => match condition {
+                None => Ok(()),
+                Some(_) => Ok(()),
+            },
             CoreStmt::Assertion(kind, _, condition) => match kind {
                 AssertionKind::Check => Ok(()),
                 AssertionKind::Assert => {
@@ -209,7 +213,7 @@ impl Walk {
         rest: &Rest,
     ) -> Result<(), AllocError>
         requires { Whole self.old }
-        ensures { OnOk result (Leaves self.old self.new (cuts_in body.now.program.now body.now.sub.now (counts within.now) (commands stmts.now) (after body.now.program.now body.now.sub.now rest.now)) []) }
+        ensures { OnOk result (Leaves self.old self.new (cuts_in body.now.program.now body.now.sub.now (counts within.now) (commands stmts.now) (following body.now.program.now body.now.sub.now rest.now)) []) }
     {
         for (at, stmt) in stmts.iter().enumerate() {
             let following = Rest::more(&stmts[at + 1..], &*rest);

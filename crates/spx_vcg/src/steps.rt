@@ -1,12 +1,14 @@
 // Assignments and annotations.
 ghost use Rattle.std.specs.Prelude.{◌≡◌, ◌<◌, length, OnOk};
 ghost use Rattle.spx_core.specs.Commands.{Assertion, Set};
-ghost use Rattle.spx_tree.specs.declared.statement.AssertionKind.TheVariants.{Assert, Check};
+ghost use Rattle.spx_tree.specs.declared.statement.AssertionKind.TheVariants.{Check};
 ghost use Rattle.spx_core.specs.Uses.{variable_of};
+ghost use Rattle.spx_term.specs.declared.condition.CondKind.TheVariants.{Assert};
 ghost use Rattle.spx_term.specs.declared.term.Term.{Term};
+ghost use Rattle.spx_term.specs.Steps.{Cut};
 ghost use Rattle.spx_paths.specs.Terms.{entry_term, term_of};
 ghost use Rattle.spx_paths.specs.Walks.{asserted, assigned, ending, range_check};
-ghost use Rattle.spx_vcg.specs.PathWalk.{Ends, Passes, to_end};
+ghost use Rattle.spx_vcg.specs.PathWalk.{Ends, Passes};
 ghost use Rattle.spx_vcg.specs.WalkSteps.{Goes, Keeps, Means, Walks, Whole};
 
 use crate::entered::{Entered, Interface};
@@ -133,7 +135,7 @@ impl Walk {
         condition: &CoreExpr,
     ) -> Result<(), AllocError>
         requires { Whole self.old }
-        ensures { OnOk result (Ends self.old self.new (to_end body.now.program.now body.now.sub.now (Assertion Assert place condition.now) (ending body.now.program.now body.now.sub.now))) }
+        ensures { OnOk result (Ends self.old self.new (λ made. asserted Assert place (term_of body.now.program.now (entry_term body.now.program.now body.now.sub.now) condition.now) Cut)) }
     {
         self.show(alloc, body, CondKind::Assert, place, condition)?;
         Ok(())

@@ -28,7 +28,7 @@ impl<'a> Within<'a> {
         ensures { counts result ≡ inside (counts outer.now) (head_of scheme.now) }
     {
         match scheme {
-            CoreScheme::While(_, _) => *outer,
+            CoreScheme::While(_, _) | CoreScheme::Endless => *outer,
             CoreScheme::For(count) => Within::Inside(outer, count.get()),
         }
     }

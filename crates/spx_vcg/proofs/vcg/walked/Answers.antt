@@ -2,10 +2,9 @@ use Rattle.std.proofs.Common.{[], List, refl, subst}
 use Rattle.spx_core.specs.declared.statement.CoreCount.{CoreCount}
 use Rattle.spx_core.specs.declared.statement.CoreStmt.{CoreStmt}
 use Rattle.spx_core.specs.Commands.{commands}
-use Rattle.spx_paths.specs.Walks.{ending}
 use Rattle.spx_vcg.specs.declared.branches.Rest.TheVariants.{End}
 use Rattle.spx_vcg.specs.Cuts.{Leaves, cuts_in}
-use Rattle.spx_vcg.specs.Following.{after}
+use Rattle.spx_vcg.specs.Following.{finished, following}
 use Rattle.spx_vcg.specs.PathWalk.{Ends, to_end}
 use Rattle.spx_vcg.proofs.Forms.{nothing_follows}
 use Rattle.spx_vcg.proofs.StartSteps.{all_claims}
@@ -22,7 +21,7 @@ returns-clause-claims c =
     all_claims (record { terms = c.new.result; values = c.new-2.result; facts = record { present = c.new-3.result; lists = c.new-lists.result; at = c.none.result }; claims = c.new-4.result }) c.enter_all.new.self c.initialize_all.new.self c.assume_imports.new.self before first last p sub
     (record { values = c.new-2.ensures; keys = c.new-3.ensures.empty; lists = c.new-lists.ensures; at = c.none.ensures.first; claims = c.new-4.ensures })
     c.in_ok-enter_all.ensures c.in_ok-initialize_all.ensures c.in_ok-assume_imports.ensures c.in_ok-assume_pre.ensures
-    (subst (λ (ss : List CoreStmt). Ends before first (to_end p sub (commands ss) (ending p sub))) c.as_slice-stmts.ensures (subst (λ way. Ends before first (to_end p sub (commands c.as_slice-stmts.result.now) way)) end c.in_ok-path.ensures))
-    (subst (λ (ss : List CoreStmt). Leaves first last (cuts_in p sub [] (commands ss) (ending p sub)) []) c.as_slice-stmts.ensures
+    (subst (λ (ss : List CoreStmt). Ends before first (to_end p sub (commands ss) (finished p sub))) c.as_slice-stmts.ensures (subst (λ way. Ends before first (to_end p sub (commands c.as_slice-stmts.result.now) way)) end c.in_ok-path.ensures))
+    (subst (λ (ss : List CoreStmt). Leaves first last (cuts_in p sub [] (commands ss) (finished p sub)) []) c.as_slice-stmts.ensures
     (subst (λ way. Leaves first last (cuts_in p sub [] (commands c.as_slice-stmts.result.now) way) []) end
-    (subst (λ (around : List CoreCount). Leaves first last (cuts_in p sub around (commands c.as_slice-stmts.result.now) (after p sub End)) []) c.outermost.ensures c.in_ok-cuts.ensures)))
+    (subst (λ (around : List CoreCount). Leaves first last (cuts_in p sub around (commands c.as_slice-stmts.result.now) (following p sub End)) []) c.outermost.ensures c.in_ok-cuts.ensures)))
