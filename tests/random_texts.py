@@ -52,7 +52,8 @@ PIECES = tuple(piece.encode('ascii') for piece in (
     'Integer (', "Integer'(", "Hue'Succ (", "'Pos", "'Val (1)", ' := 5', '   V : Integer := 5;\n', '<->', ' -> X = X', ' <-> X = X', 'X~', '~',
     'check', 'post', 'assert', '\n--# check X = X;\n', '\n--# assert X = X;\n', '\n--# post X = X;\n', '\n--# check X~ = X;\n', '(X = X -> X = X)',
     'while', 'loop', 'end loop', 'while X > 0 loop', 'end loop;', '   while X > 0 loop X := X - 1; end loop;\n', 'for', 'reverse', 'for I in Integer range 1 .. 5 loop', 'for I in reverse Natural loop',
-    '   for I in Integer range 1 .. X loop X := I; end loop;\n', ' I'))
+    '   for I in Integer range 1 .. X loop X := I; end loop;\n', ' I',
+    'exit', 'exit;', ' exit when X > 0;', '   loop exit when X > 5; X := X + 1; end loop;\n', ' if X > 5 then exit; end if;'))
 # Bytes that are apt to end a lexeme, a line or a text.
 EDGES = b'\0\t\n\v\f\r -#0A_\x80\xa0\xff'
 
@@ -296,6 +297,28 @@ class Count(Branch):
     is_reverse: bool = False
 
 
+@dataclass
+class Plain(Branch):
+    """A plain loop, as an arm with no condition and its statements."""
+
+
+@dataclass
+class Leave:
+    """An exit, with its condition, if it has one."""
+    condition: str = ''
+
+
+def way_out(statement):
+    """The condition and the statements of an exit from the loop around a statement, if it is one."""
+    if isinstance(statement, Leave):
+        return statement.condition, []
+    if type(statement) is Branch and len(statement.arms) == 1 and statement.otherwise is None:
+        (condition, body), = statement.arms
+        if body and body[-1] == Leave():
+            return condition, body[:-1]
+    return None
+
+
 # Around the condition of an `assert` or a `check`, which is on a line of its own in the end.
 ASSERT, CHECK, END_OF_CHECK = '\3', '\1', '\2'
 
@@ -311,7 +334,7 @@ def assignments(statements):
         if isinstance(statement, Branch):
             for body in statement.bodies():
                 yield from assignments(body)
-        else:
+        elif not isinstance(statement, Leave):
             yield statement
 
 
@@ -326,53 +349,61 @@ def levels(statements):
                default=0)
 
 
-def sources_after(statements, sources):
-    """The formals that the value of each variable comes from after statements, where these are those before."""
+def sources_after(statements, sources, out=None):
+    """The formals that the value of each variable comes from after statements, where these are those before; and the same at each exit
+    from the loop around them, with those of its condition, is added to a list.
+    """
     for statement in statements:
-        if isinstance(statement, Loop):
+        way = way_out(statement)
+        if way:
+            if out is not None:
+                out.append((sources_after(way[1], sources), sources_of(way[0], sources)))
+        elif isinstance(statement, (Loop, Count, Plain)):
             sources = sources_after_loop(statement, sources)
-        elif isinstance(statement, Count):
-            sources = sources_after_count(statement, sources)
         elif isinstance(statement, Branch):
             conditions = set().union(*(sources_of(test, sources) for test in statement.tests()))
             changed = {target for target, _ in assignments([statement])}
             ends = [sources_after(body, sources) for body in statement.bodies()]
-            sources = {name: set().union(*(end[name] for end in ends)) | (conditions if name in changed else set())
-                       for name in sources}
+            sources = joined(ends, conditions, changed)
         else:
             target, value = statement
             sources = sources | {target: sources_of(value, sources)}
     return sources
 
 
+def joined(ways, conditions, changed):
+    """On one of several ways; what is changed comes from the conditions too."""
+    names = set.intersection(*map(set, ways))
+    return {name: set().union(*(way[name] for way in ways)) | (conditions if name in changed else set()) for name in names}
+
+
 def sources_after_loop(loop, sources):
-    """The same after some number of turns."""
-    (condition, body), = loop.arms
-    end = sources_after(body, sources)
-    more = {name: sources[name] | end[name] for name in sources}
-    if more != sources:
-        return sources_after_loop(loop, more)
-    changed, conditions = {target for target, _ in assignments(body)}, sources_of(condition, sources)
-    return {name: sources[name] | (conditions if name in changed else set()) for name in sources}
-
-
-def sources_after_count(loop, sources):
-    """The same after turns, of which there is one at least where there are no bounds."""
-    (bounds, body), = loop.arms
-    read = sources_of(bounds, sources)
-    turned = turn_of_count(loop, sources | {loop.parameter: read})
-    begun = sources | {loop.parameter: read} if bounds else turned
-    while begun != turned:
+    """The same after turns: at the head, where a loop may be left there, or at an exit."""
+    (test, body), = loop.arms
+    is_count = isinstance(loop, Count)
+    bounds = sources_of(test, sources) if is_count else set()
+    begun = sources | {loop.parameter: bounds} if is_count else sources
+    first = begun
+    turned = turn_of(loop, begun)
+    while any(turned[name] - begun[name] for name in begun):
         begun = {name: begun[name] | turned[name] for name in begun}
-        turned = turn_of_count(loop, begun)
-        turned = {name: begun[name] | turned[name] for name in begun}
-    changed = {target for target, _ in assignments(body)}
-    return {name: begun[name] | (read if name in changed else set()) for name in sources}
+        turned = turn_of(loop, begun)
+    out = []
+    sources_after(body, begun, out)
+    conditions = bounds.union(*(read for _, read in out), sources_of(test, begun) if isinstance(loop, Loop) else set())
+    ways = [way for way, _ in out]
+    if is_count and not test:
+        ways.append({name: turn_of(loop, first)[name] | turned[name] for name in begun})
+    elif not isinstance(loop, Plain) or not out:
+        ways.append(begun)
+    found = joined(ways, conditions, {target for target, _ in assignments(body)})
+    return {name: found[name] for name in sources if name in found}
 
 
-def turn_of_count(loop, sources):
-    """The same after one turn, in which the parameter stays what it is."""
-    return sources_after(loop.arms[0][1], sources) | {loop.parameter: sources[loop.parameter]}
+def turn_of(loop, sources):
+    """The same after one turn, in which a parameter stays what it is."""
+    after = sources_after(loop.arms[0][1], sources)
+    return after | {loop.parameter: sources[loop.parameter]} if isinstance(loop, Count) else after
 
 
 def sources_of(value, sources):
@@ -588,7 +619,7 @@ class Writer:
             at = self.random.randrange(len(found) + 1)
             after = min(len(found), at + self.random.choice((0, 1, 1, 2)))
             if self.random.random() < 0.4:
-                make = self.random.choice((self.loop, self.count))
+                make = self.random.choice((self.loop, self.count, self.plain))
                 tried = found[:after] + [make(found[at:after], formals, locals_)] + found[after:]
             else:
                 tried = found[:at] + [self.branch(found[at:after], formals, locals_)] + found[after:]
@@ -622,7 +653,29 @@ class Writer:
         if not body and self.random.random() < 0.95:
             target = self.random.choice(formals)
             body = [(target, self.right_side(readable, target, target))]
-        return Loop([(self.condition(readable), body)])
+        return Loop([(self.condition(readable), self.with_exits(body, formals, readable, 0.3))])
+
+    def plain(self, statements, formals, locals_):
+        """A plain loop, mostly with an exit, in which what the statements before it set is set once more, or some formal."""
+        readable = formals + tuple(local for local in locals_ if self.random.random() < 0.2)
+        body = [self.other(statement, readable) for statement in statements]
+        if not body and self.random.random() < 0.95:
+            target = self.random.choice(formals)
+            body = [(target, self.right_side(readable, target, target))]
+        return Plain([('', self.with_exits(body, formals, readable, 0.93))])
+
+    def with_exits(self, body, formals, readable, share):
+        """The statements of a loop with exits among them, in so many cases; rarely with one where none may stand."""
+        found = list(body)
+        while self.random.random() < share:
+            share *= 0.35
+            condition = self.condition(readable)
+            way = Leave(condition) if self.random.random() < 0.55 else Branch([(condition, self.some(formals, readable) + [Leave()])])
+            found.insert(self.random.randrange(len(found) + 1), way)
+        if self.random.random() < 0.02:
+            odd = self.random.choice((Leave(), Branch([(self.condition(readable), [Leave(self.condition(readable))])]), Branch([(self.condition(readable), [Leave()])], self.some(formals, readable))))
+            found.insert(self.random.randrange(len(found) + 1), odd)
+        return found
 
     def count(self, statements, formals, locals_):
         """A `for` in which what the statements before it set is set once more, or some formal; often from its parameter."""
@@ -641,7 +694,7 @@ class Writer:
             body = [(target, parameter if self.base_of(target) == found.base and self.random.random() < 0.5 else self.right_side(inside, target, target))]
         if self.random.random() < 0.01:
             body.append((parameter, parameter))
-        return Count([(bounds, body)], None, parameter, found.name, found.base, self.random.random() < 0.4)
+        return Count([(bounds, self.with_exits(body, formals, inside, 0.3))], None, parameter, found.name, found.base, self.random.random() < 0.4)
 
     def end_of(self, found, readable):
         """A bound of a range of a type."""
@@ -724,7 +777,7 @@ class Writer:
 
     def other(self, statement, readable):
         """A statement that sets what this one sets, with another value."""
-        if isinstance(statement, Branch):
+        if isinstance(statement, (Branch, Leave)):
             return statement
         target, _ = statement
         return (target, self.right_side(readable, target, target))
@@ -837,8 +890,9 @@ class Writer:
 
     def spelled(self, statements):
         """Each statement as it is written, with `null` between them at times, and where there are none."""
-        found = [self.spelled_branch(statement) if isinstance(statement, Branch) else f'{statement[0]} := {statement[1]}'
-                 for statement in statements] or ['null']
+        found = [self.spelled_one(statement) for statement in statements] or ['null']
+        if Leave() in statements and self.random.random() < 0.9:
+            return found
         while self.random.random() < 0.1:
             found.insert(self.random.randrange(len(found) + 1), 'null')
         while self.readable and self.random.random() < 0.12:
@@ -846,12 +900,20 @@ class Writer:
             found.insert(self.random.randrange(len(found) + 1), f'{word}{self.predicate(self.readable)}{END_OF_CHECK}')
         return found
 
+    def spelled_one(self, statement):
+        """One statement as it is written."""
+        if isinstance(statement, Leave):
+            return f'exit when {statement.condition}' if statement.condition else 'exit'
+        if isinstance(statement, Branch):
+            return self.spelled_branch(statement)
+        return f'{statement[0]} := {statement[1]}'
+
     def spelled_branch(self, branch):
         """An `if` in one line or in several."""
         gap = self.random.choice((' ', ' ', '\n      '))
         if isinstance(branch, Selection):
             return self.spelled_selection(branch, gap)
-        if isinstance(branch, Loop):
+        if isinstance(branch, (Loop, Plain)):
             return self.spelled_loop(branch, gap)
         if isinstance(branch, Count):
             return self.spelled_count(branch, gap)
@@ -863,13 +925,14 @@ class Writer:
         return text + 'end if'
 
     def spelled_loop(self, loop, gap):
-        """A `while`, often with an `assert` of its condition or of something else."""
+        """A `while` or a plain loop, often with an `assert` of its condition or of something else."""
         (condition, body), = loop.arms
         pieces = self.spelled(body)
         if self.readable and self.random.random() < 0.5:
-            known = condition if self.random.random() < 0.6 else self.predicate(self.readable)
+            known = condition if condition and self.random.random() < 0.6 else self.predicate(self.readable)
             pieces.insert(0 if self.random.random() < 0.7 else self.random.randrange(len(pieces) + 1), f'{ASSERT}{known}{END_OF_CHECK}')
-        return f'while {condition} loop{gap}' + ''.join(f'{piece};{gap}' for piece in pieces) + 'end loop'
+        head = f'while {condition} loop' if condition else 'loop'
+        return f'{head}{gap}' + ''.join(f'{piece};{gap}' for piece in pieces) + 'end loop'
 
     def spelled_count(self, loop, gap):
         """A `for`, often with an `assert`, in which the parameter may be named."""

@@ -94,6 +94,7 @@ TEXTS = {
     'N17': 'choice not given once',
     'N18': 'entry value not allowed',
     'U2': 'target cannot be assigned',
+    'U4': 'bad exit',
     'U7': 'bad derives annotation',
     'U8': 'mode disagrees with derives',
     'U11': 'name not allowed in this annotation',
@@ -582,9 +583,23 @@ class For(Loop):
 
 
 @dataclass(frozen=True, eq=False)
+class Plain(Loop):
+    """`loop statements end loop;`, which stands at its first word."""
+    place: Place
+    statements: list
+
+
+@dataclass(frozen=True)
+class Exit:
+    """`exit;`, or with `when condition` after the word, at which it stands."""
+    place: Place
+    condition: Optional[Expression]
+
+
+@dataclass(frozen=True, eq=False)
 class TurnEnd:
-    """The end of a turn of a loop over a parameter: one more turn, or the end of the loop."""
-    loop: For
+    """The end of a turn of a loop: one more turn, or the end of the loop. What follows it follows the loop."""
+    loop: Loop
 
 
 @dataclass(frozen=True)
@@ -698,6 +713,9 @@ PRODUCTS = ('*', '/', 'mod', 'rem')
 LOGICAL = {'and': 'then', 'or': 'else', 'xor': None}
 SHORT_CIRCUIT = ('and then', 'or else')
 CONNECTIVES = ('->', '<->')
+
+# The words with which statements begin.
+STATEMENTS = ('null', 'identifier', 'if', 'case', 'while', 'for', 'loop', 'exit')
 
 
 class Parser:
@@ -880,21 +898,23 @@ class Parser:
     def statements(self, above):
         """statement {statement}, under so many levels"""
         statements = [self.statement(above)]
-        while any(self.next_is(kind, marked=True) for kind in ('assert', 'check')) or any(self.next_is(kind) for kind in ('null', 'identifier', 'if', 'case', 'while', 'for')):
+        while any(self.next_is(kind, marked=True) for kind in ('assert', 'check')) or any(self.next_is(kind) for kind in STATEMENTS):
             statements.append(self.statement(above))
         return statements
 
     def statement(self, above):
-        """"null" ";" | name ":=" expression ";" | an `if` | a `case` | a loop | ("assert" | "check") predicate ";" in annotation text"""
+        """"null" ";" | name ":=" expression ";" | an `if` | a `case` | a loop | an exit | ("assert" | "check") predicate ";" in annotation text"""
         asserted = self.asserted('assert', above) or self.asserted('check', above)
         if asserted:
             return asserted
         if self.take_if('null'):
             self.take(';')
             return Null()
-        word = self.opening(('if', 'case', 'while', 'for'), False, above + 1)
+        if self.next_is('exit'):
+            return self.exit(above)
+        word = self.opening(('if', 'case', 'while', 'for', 'loop'), False, above + 1)
         if word:
-            read = {'if': self.branching, 'case': self.selection, 'while': self.looping, 'for': self.counting}[word.kind]
+            read = {'if': self.branching, 'case': self.selection, 'while': self.looping, 'for': self.counting, 'loop': self.plain}[word.kind]
             return read(word, above + 1)
         target = self.name()
         self.take(':=')
@@ -938,9 +958,24 @@ class Parser:
         low, high = self.range(above) if self.take_if('range') else (None, None)
         return For(word.place, name, is_reverse, type_mark, low, high, self.turn(above))
 
+    def plain(self, word, above):
+        """"loop" statement {statement} "end" "loop" ";" after the first word"""
+        return Plain(word.place, self.turns(above))
+
+    def exit(self, above):
+        """"exit" ["when" expression] ";" """
+        word = self.take_if('exit')
+        condition = self.expression(False, above) if self.take_if('when') else None
+        self.take(';')
+        return Exit(word.place, condition)
+
     def turn(self, above):
         """"loop" statement {statement} "end" "loop" ";" """
         self.take('loop')
+        return self.turns(above)
+
+    def turns(self, above):
+        """statement {statement} "end" "loop" ";" """
         statements = self.statements(above)
         for kind in ('end', 'loop', ';'):
             self.take(kind)
@@ -1540,7 +1575,7 @@ class Resolver:
         return Item(exports, item.star, imports)
 
     def condition(self, tree):
-        """N10: a precondition, and the condition of an `if` or a `while`, is Boolean."""
+        """N10: a precondition, and the condition of an `if`, a `while` or an exit, is Boolean."""
         found = self.expression(tree)
         require('N10', found.place, found.kind is BOOLEAN)
         return found
@@ -1576,6 +1611,10 @@ class Resolver:
             return While(tree.place, condition, self.statements(tree.statements))
         if isinstance(tree, For):
             return self.counting(tree)
+        if isinstance(tree, Plain):
+            return Plain(tree.place, self.statements(tree.statements))
+        if isinstance(tree, Exit):
+            return Exit(tree.place, tree.condition and self.condition(tree.condition))
         target, value = self.variable(tree.target, 'constant'), self.expression(tree.value)
         must_match(value, target.kind)
         return Assignment(target, value)
@@ -1840,11 +1879,30 @@ def u11(procedure, relation):
         require('U11', name.place, name.word in formals)
 
 
-def u2(procedure):
-    """U2: no target is a formal of mode `in`, nor a constant, nor the parameter of a loop."""
+def u2_u4(procedure):
+    """U2: no target is a formal of mode `in`, nor a constant, nor the parameter of a loop. U4: exits stand right."""
     read_only = {formal.word for formal in procedure.formals if formal.mode == 'in'} | set(procedure.constants) | set(procedure.parameters)
-    for statement in assignments(procedure.statements):
-        require('U2', statement.target.place, statement.target.word not in read_only)
+    require_statements(procedure.statements, read_only, False, False)
+
+
+def require_statements(statements, read_only, in_loop, in_arm):
+    """U2 and U4 of statements, in the order of the text. These stand directly in a loop, or they are the arm of an `if` that has no
+    other one and stands directly in a loop, or neither.
+
+    An exit with a condition stands directly in a loop; one without is the last statement of such an arm.
+    """
+    for at, statement in enumerate(statements):
+        if isinstance(statement, Assignment):
+            require('U2', statement.target.place, statement.target.word not in read_only)
+        elif isinstance(statement, Exit):
+            is_last = at == len(statements) - 1
+            require('U4', statement.place, in_loop if statement.condition else in_arm and is_last)
+        elif isinstance(statement, Loop):
+            require_statements(statement.statements, read_only, True, False)
+        elif isinstance(statement, (If, Case)):
+            is_lone = isinstance(statement, If) and len(statement.arms) == 1 and not statement.otherwise
+            for branch in statement.branches():
+                require_statements(branch, read_only, False, in_loop and is_lone)
 
 
 def require_rules(procedure):
@@ -1853,7 +1911,7 @@ def require_rules(procedure):
     u7(procedure, relation)
     u8(procedure, relation)
     u11(procedure, relation)
-    u2(procedure)
+    u2_u4(procedure)
 
 
 # ---------------------------------------------------------------- flow
@@ -1870,13 +1928,32 @@ def are_read(words, expression):
     return any(name.word in words for name in reads(expression))
 
 
+@dataclass(frozen=True)
+class Leaving:
+    """A way out of a loop: where its condition is true, these statements and then what follows the loop."""
+    place: Place
+    condition: Expression
+    statements: list
+
+
+def leaving(statement):
+    """The way out of the loop around it that a statement is: `exit when`, or an `if` with one arm that ends with an exit."""
+    if isinstance(statement, Exit):
+        return Leaving(statement.place, statement.condition, [])
+    is_lone = isinstance(statement, If) and len(statement.arms) == 1 and not statement.otherwise
+    last = statement.arms[0].statements[-1] if is_lone else None
+    if isinstance(last, Exit) and last.condition is None:
+        return Leaving(statement.arms[0].place, statement.arms[0].condition, statement.arms[0].statements[:-1])
+    return None
+
+
 def tests_of(tree):
     """What chooses among the branches of an `if` or a `case`, or whether there is one more turn of a loop: each with its place, and
     the targets that it chooses among.
     """
     if isinstance(tree, If):
         return [(arm.condition, arm.place, choice) for arm, choice in zip(tree.arms, choices(tree))]
-    if isinstance(tree, For):
+    if isinstance(tree, (For, Plain)):
         return []
     test = tree.condition if isinstance(tree, While) else tree.selector
     return [(test, tree.place, targets_in([tree]))]
@@ -1897,13 +1974,15 @@ def choices(tree):
 
 
 def carried(statements, words):
-    """The variables to which flows lead through statements from these ones.
+    """The variables to which flows lead through statements from these ones, where the statements go on.
 
     A target has what its right side reads, and nothing else. Of an `if` or a `case` each branch may be run; and what a
     condition or a selector reads comes to all that it chooses among. A loop has any number of turns, and its condition chooses
-    among all targets in it, before each turn.
+    among all targets in it, before each turn. Past an exit nothing changes.
     """
     for statement in statements:
+        if leaving(statement):
+            continue
         if isinstance(statement, Assignment):
             rest = words - {statement.target.word}
             words = rest | {statement.target.word} if are_read(words, statement.value) else rest
@@ -1911,13 +1990,28 @@ def carried(statements, words):
             branches = [carried(branch, words) for branch in statement.branches()]
             chosen = [choice for test, _, choice in tests_of(statement) if are_read(words, test)]
             words = set().union(*branches, *chosen)
-        elif isinstance(statement, While):
-            words = through_loop(statement, frozenset(words))
         elif isinstance(statement, For):
-            words = through_count(statement, frozenset(words))
-        elif isinstance(statement, TurnEnd):
-            words = after_turns(statement.loop, frozenset(words)) - {statement.loop.word}
+            words = through_count(statement, words)
+        elif isinstance(statement, Loop):
+            words = from_turns(statement, frozenset(words))
     return words
+
+
+def carried_out(statements, words):
+    """The variables to which flows lead from these ones where an exit among the statements is taken, and whether its condition reads one."""
+    out, is_tested = set(), False
+    for at, statement in enumerate(statements):
+        way = leaving(statement)
+        if way:
+            here = carried(statements[:at], words)
+            out |= carried(way.statements, here)
+            is_tested = is_tested or are_read(here, way.condition)
+    return out, is_tested
+
+
+def has_exit(loop):
+    """Whether one of the statements of a loop is an exit from it."""
+    return any(leaving(statement) for statement in loop.statements)
 
 
 def through_count(loop, words):
@@ -1928,13 +2022,14 @@ def through_count(loop, words):
     """
     are_bounds = any(are_read(words, bound) for bound in loop.tested())
     begin = words - {loop.word} | ({loop.word} if are_bounds else set())
-    if not loop.low:
-        begin = after_turn(loop, begin)
-    return (after_turns(loop, frozenset(begin)) - {loop.word}) | (targets_in(loop.statements) if are_bounds else set())
+    ended = after_turns(loop, frozenset(begin if loop.low else after_turn(loop, begin)))
+    return ((ended | out_of_turns(loop, frozenset(begin))) - {loop.word}) | (targets_in(loop.statements) if are_bounds else set())
 
 
 def after_turn(loop, words):
     """After a turn the parameter has the sources that it had before it."""
+    if not isinstance(loop, For):
+        return set(carried(loop.statements, set(words)))
     return (set(carried(loop.statements, set(words))) - {loop.word}) | (words & {loop.word})
 
 
@@ -1946,12 +2041,23 @@ def after_turns(loop, words):
 
 
 @lru_cache(maxsize=4096)
-def through_loop(loop, words):
-    """The variables to which flows lead through a loop from these ones: any number of turns, and what the condition reads."""
-    more = words | carried(loop.statements, words)
-    if more != words:
-        return through_loop(loop, more)
-    return words.union(*[chosen for test, _, chosen in tests_of(loop) if are_read(words, test)])
+def out_of_turns(loop, words):
+    """After any number of turns and an exit; and all targets, where the condition of an exit reads what then comes to it."""
+    out, is_tested = carried_out(loop.statements, set(after_turns(loop, words)))
+    return out | targets_in(loop.statements) if is_tested else out
+
+
+@lru_cache(maxsize=4096)
+def from_turns(loop, words):
+    """The variables to which flows lead through a loop from these ones, which hold where a turn begins or would begin.
+
+    After any number of turns a loop may end, but for a plain one that has an exit.
+    """
+    if isinstance(loop, For):
+        return (after_turns(loop, words) | out_of_turns(loop, words)) - {loop.word}
+    before = after_turns(loop, words)
+    ended = set() if isinstance(loop, Plain) and has_exit(loop) else set(before)
+    return ended.union(out_of_turns(loop, words), *[chosen for test, _, chosen in tests_of(loop) if are_read(before, test)])
 
 
 def f1_f2(procedure, relation):
@@ -1964,71 +2070,107 @@ def f1_f2(procedure, relation):
             yield Finding(rule, relation.place(to), text)
 
 
-def occurrences(statements, after):
-    """Each right side, condition and selector: its place, the variables that it gives a value, and the statements after that.
-
-    The last are those of the same list, and then these others; after a statement of a loop, the loop itself comes too.
+def marks(statements):
+    """Each right side, condition, selector and pair of bounds by its place, with the variables to which flows lead from what it gives a
+    value: where the statements go on, and where an exit among them is taken; and whether they come to the condition of an exit.
     """
     for at, statement in enumerate(statements):
-        rest = statements[at + 1:] + after
-        if isinstance(statement, Assignment):
-            yield statement.target.place, {statement.target.word}, rest
-        elif isinstance(statement, (If, Case, Loop)):
-            for _, place, choice in tests_of(statement):
-                yield place, choice, rest
-            if isinstance(statement, For) and statement.low:
-                yield statement.place, targets_in(statement.statements), rest
-            for branch in statement.branches():
-                yield from occurrences(branch, turn_end(statement) + rest)
+        rest = statements[at + 1:]
+        for place, words, out, is_tested in marks_in(statement):
+            more, is_tested_later = carried_out(rest, words)
+            yield place, carried(rest, words), out | more, is_tested or is_tested_later
 
 
-def turn_end(statement):
-    """What comes after the statements of a branch, before what comes after the whole: the end of a turn."""
-    if isinstance(statement, For):
-        return [TurnEnd(statement)]
-    return [statement] if isinstance(statement, While) else []
+def marks_in(statement):
+    """The same of one statement."""
+    way = leaving(statement)
+    if way:
+        yield way.place, set(), set(), True
+        for place, words, _, _ in marks(way.statements):
+            yield place, set(), words, False
+    elif isinstance(statement, Assignment):
+        yield statement.target.place, {statement.target.word}, set(), False
+    elif isinstance(statement, (If, Case)):
+        for _, place, choice in tests_of(statement):
+            yield place, choice, set(), False
+        for branch in statement.branches():
+            yield from marks(branch)
+    elif isinstance(statement, Loop):
+        targets = targets_in(statement.statements)
+        if isinstance(statement, While) or (isinstance(statement, For) and statement.low):
+            yield statement.place, targets, set(), False
+        for place, words, out, is_tested in marks(statement.statements):
+            if isinstance(statement, For):
+                words, out = words - {statement.word}, out - {statement.word}
+            yield place, from_turns(statement, frozenset(words)) | out | (targets if is_tested else set()), set(), False
 
 
 def f3(procedure, relation):
     """F3: from what a right side or a condition gives a value, there is a flow to an export."""
-    for place, given, rest in occurrences(procedure.statements, []):
-        if not carried(rest, given) & relation.exported:
+    for place, words, _, _ in marks(procedure.statements):
+        if not words & relation.exported:
             yield finding('F3', place)
 
 
 def f4(procedure, relation):
     """F4: what is read is an import, has an initial value or is assigned before it on each way, and so is each export at the end."""
     unset_reads = []
-    is_set = set_after(procedure.statements, relation.imported | set(procedure.initial), unset_reads)
+    is_set = set_after(procedure.statements, relation.imported | set(procedure.initial), unset_reads, [])
     for name in unset_reads:
         yield unset(procedure, name.word, name.place)
-    for export in relation.exported - is_set:
+    for export in relation.exported - is_set if is_set is not None else []:
         yield unset(procedure, export, procedure.end)
 
 
-def set_after(statements, is_set, unset_reads):
-    """The variables that are set after statements, whatever way is taken; and reads of others are added to the list.
+def set_after(statements, is_set, unset_reads, exits):
+    """The variables that are set after statements, whatever way is taken, or none where no way leads there; reads of others are added
+    to one list, and what is set at each exit from the loop around the statements to another.
 
-    After an `if` or a `case` those are set that each of its branches leaves set. A loop may have no turn, but for one over a whole
-    type, and the parameter of a loop is set in it alone.
+    After an `if` or a `case` those are set that each of its branches leaves set. A loop may have no turn, but for a plain one and one
+    over a whole type; a plain one is left at its exits alone. The parameter of a loop is set in it alone.
     """
+    def look(expression):
+        if is_set is not None:
+            unset_reads.extend(name for name in reads(expression) if name.word not in is_set)
+
     for statement in statements:
-        if isinstance(statement, Assignment):
-            unset_reads += [name for name in reads(statement.value) if name.word not in is_set]
-            is_set = is_set | {statement.target.word}
+        way = leaving(statement)
+        if way:
+            look(way.condition)
+            exits.append(set_after(way.statements, is_set, unset_reads, []))
+        elif isinstance(statement, Assignment):
+            look(statement.value)
+            is_set = is_set if is_set is None else is_set | {statement.target.word}
         elif isinstance(statement, Asserted):
-            unset_reads += [name for name in reads(statement.condition) if name.word not in is_set]
+            look(statement.condition)
         elif isinstance(statement, (If, Case)):
-            unset_reads += [name for test, _, _ in tests_of(statement) for name in reads(test) if name.word not in is_set]
-            is_set = set.intersection(*[set_after(branch, is_set, unset_reads) for branch in statement.branches()])
-        elif isinstance(statement, While):
-            unset_reads += [name for name in reads(statement.condition) if name.word not in is_set]
-            set_after(statement.statements, is_set, unset_reads)
-        elif isinstance(statement, For):
-            unset_reads += [name for bound in statement.tested() for name in reads(bound) if name.word not in is_set]
-            is_set_inside = set_after(statement.statements, is_set | {statement.word}, unset_reads)
-            is_set = is_set if statement.low else is_set_inside - {statement.word}
+            for test, _, _ in tests_of(statement):
+                look(test)
+            is_set = on_each_way([set_after(branch, is_set, unset_reads, exits) for branch in statement.branches()])
+        elif isinstance(statement, Loop):
+            is_set = set_after_loop(statement, is_set, unset_reads, look)
     return is_set
+
+
+def set_after_loop(loop, is_set, unset_reads, look):
+    """The same of a loop."""
+    for test in [] if isinstance(loop, Plain) else loop.tested():
+        look(test)
+    parameter = {loop.word} if isinstance(loop, For) else set()
+    exits = []
+    inside = set_after(loop.statements, is_set if is_set is None else is_set | parameter, unset_reads, exits)
+    if isinstance(loop, While) or (isinstance(loop, For) and loop.low):
+        exits.append(is_set)
+    elif isinstance(loop, For):
+        exits.append(inside)
+    found = on_each_way(exits)
+    return found if found is None else found - parameter
+
+
+def on_each_way(ways):
+    """What is set on each of the ways, if there is one; none leads from where no way leads."""
+    there = [is_set for is_set in ways if is_set is not None]
+    return set.intersection(*map(set, there)) if there else None
 
 
 def unset(procedure, word, place):
@@ -2336,8 +2478,9 @@ class Walk:
         A target stands for its term after its assignment.
         """
         for at, statement in enumerate(statements):
-            if isinstance(statement, (If, Case, Loop, TurnEnd)):
-                part = {If: self.part, Case: self.select, While: self.turn, For: self.count, TurnEnd: self.end_of_turn}[type(statement)]
+            if isinstance(statement, (If, Case, Loop, Exit, TurnEnd)):
+                part = {If: self.part, Case: self.select, While: self.turn, For: self.count, Plain: self.first_turn,
+                        Exit: self.exit, TurnEnd: self.end_of_turn}[type(statement)]
                 part(statement, statements[at + 1:], facts, values)
                 return
             if isinstance(statement, Assignment):
@@ -2361,7 +2504,7 @@ class Walk:
                 for branch in statement.branches():
                     self.go_from_cuts(branch, rest, within)
             elif isinstance(statement, Loop):
-                again = turn_end(statement) + rest
+                again = [TurnEnd(statement)] + rest
                 inside = within + ((statement,) if isinstance(statement, For) else ())
                 if not statement.has_own_cut():
                     self.go_anew(statement.statements + again, inside, lambda values: (truth(True),))
@@ -2386,8 +2529,7 @@ class Walk:
         Where the condition does not hold, the rest.
         """
         facts = self.show(checks_of(loop.condition, values), facts)
-        if loop.has_own_cut():
-            self.go(loop.statements, with_facts(facts, facts_of(loop.condition, values)), values)
+        self.next_turn(loop, with_facts(facts, facts_of(loop.condition, values)), values, rest)
         self.go(rest, with_facts(facts, (negation(term_of(loop.condition, values)),)), values)
 
     def count(self, loop, rest, facts, values):
@@ -2409,14 +2551,35 @@ class Walk:
         if loop.low:
             self.go(rest, with_facts(facts, (outside,)), values)
 
+    def first_turn(self, loop, rest, facts, values):
+        """A plain loop begins with a turn."""
+        self.next_turn(loop, facts, values, rest)
+
+    def exit(self, statement, rest, facts, values):
+        """What follows the loop around an exit; first the rest of the turn, where there is a condition and it does not hold."""
+        ends = [at for at, later in enumerate(rest) if isinstance(later, TurnEnd)]
+        after = rest[ends[0] + 1:]
+        if statement.condition is None:
+            self.go(after, facts, values)
+            return
+        facts = self.show(checks_of(statement.condition, values), facts)
+        self.go(rest, with_facts(facts, (negation(term_of(statement.condition, values)),)), values)
+        self.go(after, with_facts(facts, facts_of(statement.condition, values)), values)
+
     def next_turn(self, loop, facts, values, rest):
         """A turn of a loop as far as its own cut; a loop without one has a cut before its statements."""
         if loop.has_own_cut():
-            self.go(loop.statements + turn_end(loop) + rest, facts, values)
+            self.go(loop.statements + [TurnEnd(loop)] + rest, facts, values)
 
     def end_of_turn(self, end, rest, facts, values):
-        """One more turn, with the next value, where there is one; else the rest."""
+        """One more turn, with the next value, where there is one; else the rest. A plain loop has one more turn."""
         loop = end.loop
+        if isinstance(loop, While):
+            self.turn(loop, rest, facts, values)
+            return
+        if isinstance(loop, Plain):
+            self.next_turn(loop, facts, values, rest)
+            return
         low, high = self.bounds(loop, values)
         last, before, step = (low, '>', '-') if loop.is_reverse else (high, '<', '+')
         parameter = values[loop.word]
@@ -2454,44 +2617,50 @@ def conditions_of(procedure):
     return walk.found
 
 
-def paths_before(statements, after):
-    """The number of ways from the first of the statements to a cut, or on along what has so many after it."""
+def paths_before(statements, after, out):
+    """The number of ways from the first of the statements to a cut, or on along what has so many after it, or out of the loop around
+    them along what has so many.
+    """
     for statement in reversed(statements):
         if isinstance(statement, Asserted) and statement.is_cut():
             after = 1
+        elif isinstance(statement, Exit):
+            after = out + (after if statement.condition else 0)
         elif isinstance(statement, (If, Case)):
-            after = sum(paths_before(branch, after) for branch in statement.branches())
+            after = sum(paths_before(branch, after, out) for branch in statement.branches())
         elif isinstance(statement, Loop):
-            is_passed = isinstance(statement, While) or statement.low
-            after = turns_before(statement) + (after if is_passed else 0)
+            is_passed = isinstance(statement, While) or (isinstance(statement, For) and statement.low)
+            after = turns_before(statement, after) + (after if is_passed else 0)
     return after
 
 
-def turns_before(loop):
-    """The number of ways from the begin of a turn to the first cut in it."""
-    return paths_before(loop.statements, 1) if loop.has_own_cut() else 1
+def turns_before(loop, out):
+    """The number of ways from the begin of a turn to the first cut in it, or out of the loop along what has so many after it."""
+    return paths_before(loop.statements, 1, out) if loop.has_own_cut() else 1
 
 
-def paths_from_cuts(statements, after):
-    """The number of ways from the cuts in statements, each to the next cut, or on along what has so many after it."""
+def paths_from_cuts(statements, after, out):
+    """The number of ways from the cuts in statements, each to the next cut, or on along what has so many after it, or out of the loop
+    around them along what has so many.
+    """
     found = 0
     for statement in reversed(statements):
-        before = paths_before([statement], after)
+        before = paths_before([statement], after, out)
         if isinstance(statement, Asserted) and statement.is_cut():
             found += after
         elif isinstance(statement, (If, Case)):
-            found += sum(paths_from_cuts(branch, after) for branch in statement.branches())
+            found += sum(paths_from_cuts(branch, after, out) for branch in statement.branches())
         elif isinstance(statement, Loop):
-            end = turns_before(statement) + after
-            found += paths_from_cuts(statement.statements, end)
-            found += 0 if statement.has_own_cut() else paths_before(statement.statements, end)
+            end = turns_before(statement, after) + (0 if isinstance(statement, Plain) else after)
+            found += paths_from_cuts(statement.statements, end, after)
+            found += 0 if statement.has_own_cut() else paths_before(statement.statements, end, after)
         after = before
     return found
 
 
 def require_few_paths(procedure):
     """No procedure has more paths than one may have."""
-    if paths_before(procedure.statements, 1) + paths_from_cuts(procedure.statements, 1) > MOST_PATHS:
+    if paths_before(procedure.statements, 1, 1) + paths_from_cuts(procedure.statements, 1, 1) > MOST_PATHS:
         raise TooManyPaths
 
 

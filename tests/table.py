@@ -107,6 +107,7 @@ TEXTS = {
     'N17': 'choice not given once',
     'N18': 'entry value not allowed',
     'U2': 'target cannot be assigned',
+    'U4': 'bad exit',
     'U7': 'bad derives annotation',
     'U8': 'mode disagrees with derives',
     'U11': 'name not allowed in this annotation',
@@ -600,8 +601,8 @@ MISSING = {'in': ('U8', 'import'), 'out': ('U8', 'export'), 'import': ('U8', 'ex
            'word_constant': lambda name, text: accepted(name, text, 1, named='Dcl'),
            # a target and `is`; a `case` and `;`
            'case': 2, 'end_of_a_case': 2,
-           # the condition begins as a target does
-           'while': 2, 'word_for': 2,
+           # the condition begins as a target does; a loop in the loop
+           'while': 2, 'word_for': 2, 'end_of_a_loop': 2,
            # the values from the first on
            'reverse': lambda name, text: accepted(name, text, 2, named='Cnt'),
            'type_of_a_constant': lambda name, text: accepted(name, text, 1, named='Dcl'),
@@ -609,11 +610,14 @@ MISSING = {'in': ('U8', 'import'), 'out': ('U8', 'export'), 'import': ('U8', 'ex
            'sign': None, 'sign_in_pre': None, 'first_held_operand': None}
 # What a text is with a token doubled: which token after the second one is unexpected, if not that one.
 DOUBLED = {'parenthesis_in_pre': 6, 'parenthesis': 3, 'parenthesis_of_a_sum': 7,
-           'parenthesis_of_a_conversion': 3}
+           'parenthesis_of_a_conversion': 3,
+           # a loop in the loop: the name stands where the end of the outer one would go on
+           'loop': 9, 'loop_after_bounds': 9}
 # What a text is with another token instead: which token after it is unexpected, if not itself; or a finding, and the
 # token at which it stands. `on` is the type where `in` was, and another parameter may come after `;`.
 EXCHANGED = {'type': ('N1', 'type'), 'left_of_the_relation': ('N10', 'relation'), 'prefix': ('N3', 'prefix'),
-             'designator': ('N3', 'prefix'), 'end_name': ('N5', 'end_name'), 'in': 1, 'closing_parenthesis': 1}
+             'designator': ('N3', 'prefix'), 'end_name': ('N5', 'end_name'), 'in': 1, 'closing_parenthesis': 1,
+           'null_without_formals': ('U4', 'null_without_formals')}
 SPOILED = {'opening_parenthesis': bad_byte, 'parenthesis_of_a_conversion': bad_byte, 'parenthesis': bad_byte, 'parenthesis_that_closes': bad_byte,
            'right_operand': bad_number}
 
@@ -2348,13 +2352,14 @@ def documented():
                   'F1 missing: X from X', 'F4 unset: X')
     yield refused('limit_with_an_arm_that_does_nothing.adb', at_end(limit.replace('X := 100', 'null')),
                   'F1 missing: X from X', 'F4 unset: X')
-    for name, total, named in (('swap', 4, 'Swap'), ('clamp', 8, 'Clamp'), ('blend', 9, 'Blend')):
+    for name, total, named in (('swap', 4, 'Swap'), ('clamp', 8, 'Clamp'), ('blend', 9, 'Blend'), ('level', 6, 'Raise_By'), ('signal', 4, 'Signal')):
         yield accepted(f'{name}.adb', (TOP / 'examples' / f'{name}.adb').read_text(encoding='utf-8'), total, named=named)
     share = (TOP / 'examples' / 'guard.adb').read_text(encoding='utf-8')
     yield accepted('guard.adb', share, 1, named='Share')
     yield left_at('guard_by_and.adb', share.replace('and then Whole', 'and Whole <1d>').replace('<1d> ', '<1d>'), 1, named='Share')
     yield from worked_types()
     yield from worked_loops()
+    yield from worked_programs()
     yield bad_number('inc_with_a_bad_number.adb', procedure('X + 1_', pre=BELOW), at=(6, 13))
     yield unexpected('inc_with_two_operators.adb', procedure('X + * 1', pre=BELOW), at=(6, 13))
     yield unexpected('inc_without_end.adb', INC.replace('end Inc;\n', ''), at=(7, 1))
@@ -2413,7 +2418,7 @@ def left_in(name, text, named, total, **left):
 def worked_loops():
     """The worked examples of loops, and each without its assertion."""
     texts = {name: (TOP / 'examples' / f'{name}.adb').read_text(encoding='utf-8') 
-             for name in ('count_down', 'integer_root', 'divide', 'sum_to', 'squares', 'pressure_bands')}
+             for name in ('count_down', 'integer_root', 'divide', 'sum_to', 'squares', 'pressure_bands', 'square_search', 'settle', 'locate', 'hold')}
     without = {name: re.sub('.*--# assert.*\n', '', text) for name, text in texts.items()}
     yield accepted('count_down.adb', texts['count_down'], 6, named='Count_Down')
     yield left_in('count_down_without_its_assertion.adb', without['count_down'], 'Count_Down', 4, range_3='- 1;')
@@ -2424,6 +2429,43 @@ def worked_loops():
     yield left_in('sum_to.adb', texts['sum_to'], 'Sum_To', 10, overflow_7='+ Number;', assert_9='assert 2', post_10='post 2')
     yield left_in('squares.adb', texts['squares'], 'Square_Of', 14, overflow_11='+ (2 * Root - 1);', assert_13='assert Square', post_14='post Square')
     yield accepted('pressure_bands.adb', texts['pressure_bands'], 171, named='Pressure_Bands')
+    yield accepted('square_search.adb', texts['square_search'], 7, named='Square_Search')
+    yield accepted('settle.adb', texts['settle'], 5, named='Settle')
+    yield accepted('locate.adb', texts['locate'], 21, named='Locate')
+    yield accepted('hold.adb', texts['hold'], 8, named='Hold')
+    yield accepted('hold_without_its_assertion.adb', without['hold'], 4, named='Hold')
+
+
+# The rule on leap years, from the years that are multiples of 4 and from those of 400.
+RULE_FROM_4 = """   if Year mod 4 /= 0 then
+      Leap := False;
+   elsif Year mod 100 /= 0 then
+      Leap := True;
+   else
+      Leap := Year mod 400 = 0;
+"""
+RULE_FROM_400 = """   if Year mod 400 = 0 then
+      Leap := True;
+   elsif Year mod 100 = 0 then
+      Leap := False;
+   else
+      Leap := Year mod 4 = 0;
+"""
+
+
+def worked_programs():
+    """The worked examples from control software, and each with a change."""
+    for name, named, total, piece, instead, fewer, left in (
+            ('controller', 'Regulate', 38, '   elsif Integral < -500 then\n      Integral := -500;\n', '', 27, {'post_24': 'post Integral', 'post_26': 'post Integral', 'post_27': 'post Integral'}),
+            ('square_root', 'Square_Root', 14, '      exit when Tried >= 46_340;\n', '', 12, {'range_9': '+ 1;'}),
+            ('debounce', 'Debounce', 7, 'Count < 4 then', 'Count < 5 then', 7, {'post_5': 'post Count'}),
+            ('checksum', 'Checksum', 16, '(Low + Number mod 255) mod 255;', 'Low + Number mod 255;', 15, {'range_8': '+ Number'}),
+            ('leap_year', 'Leap_Year', 15, RULE_FROM_4, RULE_FROM_400, 15, {'post_3': 'post (Leap'}),
+            ('door', 'Door', 35, ' and not Blocked', '', 35, {'post_19': 'post State'})):
+        text = (TOP / 'examples' / f'{name}.adb').read_text(encoding='utf-8')
+        assert piece in text, name
+        yield accepted(f'{name}.adb', text, total, named=named)
+        yield left_in(f'{name}_with_a_change.adb', text.replace(piece, instead), named, fewer, **left)
 
 
 def assigned(value, pre=None):
@@ -5424,10 +5466,9 @@ def syntax_of_loops():
             'two_conditions': 'while X > 0@, X < 5 loop X := 0; end loop', 'then': 'while X > 0 @then X := 0; end loop', 'do': 'while X > 0 @do X := 0; end loop',
             'no_word_loop': 'while X > 0 @X := 0; end loop', 'end_while': 'while X > 0 loop X := 0; end @while', 'end_if': 'while X > 0 loop X := 0; end @if',
             'end_alone': 'while X > 0 loop X := 0; end @', 'name_at_the_end': 'while X > 0 loop X := 0; end loop @X', 'else': 'while X > 0 loop X := 0; @else X := 1; end loop',
-            'elsif': 'while X > 0 loop X := 0; @elsif X > 1 then X := 1; end loop', 'exit': 'while X > 0 loop X := 0; @exit; end loop',
-            'exit_when': 'while X > 0 loop @exit when X > 5; X := 0; end loop', 'return': 'while X > 0 loop @return; end loop', 'begin': 'while X > 0 @begin X := 0; end loop',
+            'elsif': 'while X > 0 loop X := 0; @elsif X > 1 then X := 1; end loop', 'return': 'while X > 0 loop @return; end loop', 'begin': 'while X > 0 @begin X := 0; end loop',
             'is': 'while X > 0 @is loop X := 0; end loop', 'semicolon_after_the_condition': 'while X > 0@; loop X := 0; end loop', 'label': 'L @: while X > 0 loop X := 0; end loop L',
-            'arrow': 'while X > 0 @=> X := 0; end loop', 'no_scheme': '@loop X := 0; end loop', 'for': 'for I in @1 .. 5 loop X := 0; end loop', 'until': 'while X > 0 loop X := 0; @until X = 0; end loop',
+            'arrow': 'while X > 0 @=> X := 0; end loop', 'for': 'for I in @1 .. 5 loop X := 0; end loop', 'until': 'while X > 0 loop X := 0; @until X = 0; end loop',
             'condition_for_a_statement': 'while X > 0 loop X @> 0; end loop', 'implication': 'while X > 0 -@> X > 5 loop X := 0; end loop'}.items():
         yield unexpected(f'while_with_{name}.adb', longer(X, 'X from X', statement))
     for name, statement in {'a_marked_while': '--# @while X > 0 loop', 'a_marked_loop': 'while X > 0\n--# @loop\nX := 0; end loop',
@@ -5734,6 +5775,157 @@ def paths_of_counts():
     yield too_many_paths('eleven_ifs_in_a_for_over_a_subtype.adb', longer(A_AND_X, 'X from X, A', counting('I in Small', *ifs * 11), declared=[TO_THREE]))
 
 
+# ---------------------------------------------------------------- exits
+
+def plain(*statements):
+    """A plain loop over these statements."""
+    return f'loop {"; ".join(statements)}; end loop'
+
+
+def leaving(condition, *statements):
+    """An `if` that leaves the loop around it after these statements."""
+    return f'if {condition} then {"; ".join([*statements, "exit"])}; end if'
+
+
+def syntax_of_exits():
+    """Where plain loops and exits may stand, tokens with which none goes on, and the levels that they open."""
+    yield accepted('plain_loop.adb', longer(X, 'X from X', plain('exit when X > 5', 'X := 0')), 1)
+    yield accepted('exit_in_an_arm.adb', longer(X, 'X from X', plain(leaving('X > 5'), 'X := 0')), 1)
+    yield accepted('exit_after_statements_of_an_arm.adb', longer(X, 'X from X', plain(leaving('X > 5', 'X := 1'), 'X := 0')), 2)
+    yield accepted('exit_in_a_while.adb', longer(X, 'X from X', looping('X > 0', 'exit when X > 5', 'X := 0')), 1)
+    yield accepted('exit_in_a_for.adb', longer(X, 'X from X', counting('I in Integer range 1 .. 5', 'exit when X > 5', 'X := I')), 2)
+    yield accepted('exits_of_both_loops.adb', longer(X, 'X from X', plain('exit when X > 9', plain('exit when X > 5', 'X := 6'), 'X := X')), 2)
+    yield accepted('plain_loop_on_several_lines.adb', longer(X, 'X from X', 'LOOP\nEXIT -- leave\nWHEN\nX > 5;\nX := 0;\nEND\nLoop'), 1)
+    for name, statement in {
+            'no_semicolon': 'loop exit when X > 5 @X := 0; end loop', 'no_condition': 'loop exit when @; X := 0; end loop', 'a_label': 'loop exit @L when X > 5; X := 0; end loop',
+            'if': 'loop exit @if X > 5; X := 0; end loop', 'a_condition_alone': 'loop exit @X > 5; X := 0; end loop', 'two_conditions': 'loop exit when X > 5 @when X > 6; X := 0; end loop',
+            'an_assignment': 'loop exit when X @:= 5; X := 0; end loop', 'an_implication': 'loop exit when X > 0 -@> X > 5; X := 0; end loop', 'loop': 'loop exit @loop; X := 0; end loop',
+            'its_condition_first': 'loop @when X > 5 exit; X := 0; end loop', 'a_parenthesis': 'loop exit @(X > 5); X := 0; end loop'}.items():
+        yield unexpected(f'exit_with_{name}.adb', longer(X, 'X from X', statement))
+    for name, statement in {
+            'no_statement': 'loop @end loop', 'end_alone': 'loop exit when X > 5; end @', 'end_if': 'loop exit when X > 5; end @if', 'name_at_the_end': 'loop exit when X > 5; end loop @X',
+            'word_loop_twice': 'loop loop exit when X > 5; end loop; @', 'semicolon': 'loop @; exit when X > 5; end loop', 'else': 'loop exit when X > 5; @else null; end loop'}.items():
+        yield unexpected(f'plain_loop_with_{name}.adb', longer(X, 'X from X', statement))
+    for name, statement in {'a_marked_plain_loop': '--# @loop', 'a_marked_exit': 'loop\n--# @exit when X > 5;\nX := 0; end loop', 'a_marked_when_of_an_exit': 'loop exit\n--# @when X > 5;\nX := 0; end loop'}.items():
+        yield unexpected(f'{name}.adb', longer(X, 'X from X', statement))
+    yield bad_byte('value_on_entry_in_an_exit.adb', longer(X, 'X from X', 'loop exit when X@~ > 5; X := 0; end loop'))
+    yield unexpected('exit_among_declarations.adb', longer(X, 'X from X', 'X := X', declared=['@exit']))
+    yield unexpected('plain_loop_among_declarations.adb', longer(X, 'X from X', 'X := X', declared=['@loop null; end loop']))
+    yield accepted('condition_of_an_exit_of_200_levels.adb', longer(X, 'X from X', plain(f'exit when {nested(198, "X > 5")}', 'X := 0')), 1)
+    yield too_nested('condition_of_an_exit_of_201_levels.adb', longer(X, 'X from X', plain(f'exit when {nested(199, "X > 5")}', 'X := 0')))
+    yield accepted('plain_loops_of_200_levels.adb', longer(X, 'X from X', 'loop ' * 200 + 'exit when True; X := X; ' + 'end loop; exit when True; ' * 199 + 'end loop'), 1)
+    yield too_nested('value_with_a_level_in_200_plain_loops.adb', longer(X, 'X from X', 'loop ' * 200 + 'X := (0); ' + 'end loop; ' * 199 + 'end loop'))
+
+
+def rules_of_exits():
+    """The condition of an exit is Boolean; an exit stands in one of two forms."""
+    yield refused('number_for_the_condition_of_an_exit.adb', longer(X, 'X from X', plain('exit when @X', 'X := 0')), 'N10')
+    yield refused('undeclared_in_the_condition_of_an_exit.adb', longer(X, 'X from X', plain('exit when @Y > 0', 'X := Z')), 'N1')
+    yield refused('type_in_the_condition_of_an_exit.adb', longer(X, 'X from X', plain('exit when @Integer > 0', 'X := 0')), 'N3')
+    yield refused('static_fault_in_the_condition_of_an_exit.adb', longer(X, 'X from X', plain('exit when X > 1 @/ 0', 'X := 0')), 'N12')
+    yield refused('statement_of_a_plain_loop_that_fails.adb', longer(X, 'X from X', plain('exit when X > 0', 'X := @Z')), 'N1')
+    yield refused('case_in_a_plain_loop_that_misses_values.adb', longer(X, 'X from X', plain('exit when X > 0', '@case X is when 1 => X := 0; end case')), 'N17')
+    for name, statement in {
+            'exit_outside_loops': '@exit', 'exit_when_outside_loops': '@exit when X > 0', 'exit_in_an_arm_outside_loops': 'if X > 0 then @exit; end if', 'exit_after_a_loop': 'while X > 0 loop X := 0; end loop; @exit when X > 0',
+            'exit_without_condition_in_a_loop': 'loop X := 0; @exit; end loop', 'exit_without_condition_in_a_while': 'while X > 0 loop X := 0; @exit; end loop',
+            'exit_when_in_an_arm': 'loop if X > 0 then @exit when X > 5; end if; X := 0; end loop', 'exit_in_an_if_with_else': 'loop if X > 0 then X := 0; @exit; else X := 1; end if; end loop',
+            'exit_after_else': 'loop if X > 0 then X := 0; else @exit; end if; end loop', 'exit_in_an_if_with_elsif': 'loop if X > 0 then @exit; elsif X < 0 then X := 0; end if; end loop',
+            'exit_after_elsif': 'loop if X > 0 then X := 0; elsif X < 0 then @exit; end if; end loop', 'exit_that_is_not_last': 'loop if X > 0 then @exit; X := 0; end if; end loop',
+            'two_exits_in_an_arm': 'loop if X > 0 then @exit; exit; end if; X := 0; end loop', 'exit_in_an_alternative': 'loop case X is when 1 => @exit; when others => X := 0; end case; end loop',
+            'exit_when_in_an_alternative': 'loop case X is when 1 => @exit when X > 0; when others => X := 0; end case; end loop',
+            'exit_in_an_inner_if': 'loop if X > 0 then if X > 5 then @exit; end if; end if; X := 0; end loop', 'exit_when_before_the_exit_of_an_arm': 'loop if X > 0 then @exit when X > 5; exit; end if; X := 0; end loop'}.items():
+        yield refused(f'{name}.adb', longer(X, 'X from X', statement), 'U4')
+    yield accepted('exit_in_a_loop_in_an_arm.adb', longer(X, 'X from X', f'if X > 0 then {plain(leaving("X > 5"), "X := 6")}; end if'), 1)
+    yield accepted('exit_in_a_loop_in_an_alternative.adb', longer(A_AND_X, 'X from X, A', f'case A is when 1 => {plain("exit when X > 5", "X := 6")}; when others => null; end case'), 1)
+    yield refused('exit_past_the_end_of_an_inner_loop.adb', longer(X, 'X from X', plain(f'if X > 0 then {plain("exit when X > 5", "X := 6")}; @exit when X > 7; end if', 'exit when X > 8')), 'U4')
+    yield refused('target_before_a_bad_exit.adb', longer(A_TO_X, 'X from A', 'X := A', plain('@A := 0', 'exit')), 'U2')
+    yield refused('bad_exit_before_a_target.adb', longer(A_TO_X, 'X from A', 'X := A', plain('@exit', 'A := 0')), 'U4')
+    yield refused('relation_before_a_bad_exit.adb', longer(A_TO_X, '@A from X', 'X := A', plain('exit')), 'U8')
+    yield refused('name_before_a_bad_exit.adb', longer(X, 'X from X', plain('exit'), 'X := @Y'), 'N1')
+    yield refused('bad_exit_before_a_flow.adb', longer(A_AND_X, 'X from X & null from A', plain('X := A', '@exit')), 'U4')
+
+
+def flow_of_exits():
+    """What the condition of an exit reads comes to all that the loop sets; a plain loop that has an exit is left nowhere else."""
+    AB_X, AB_N, ABXY = 'A, B : in Integer; X : in out Integer', 'A, B : in Boolean; N : out Integer', 'A, B : in Integer; X, Y : in out Integer'
+    A_XY = 'A : in Integer; X, Y : in out Integer'
+    seek = 'procedure Seek (A, B : in Boolean; N : out Integer)\n--# derives @N from A & null from B;\nis\nbegin\n   N := 0;\n   loop\n      exit when A;\n      N := N + 1;\n      exit when B;\n      N := N + 1;\n   end loop;\nend Seek;\n'
+    yield refused('seek.adb', seek, 'F1 missing: N from B')
+    yield left_at('seek_with_both.adb', longer(AB_N, 'N from A, B', 'N := 0', plain('exit when A', 'N := N <2o>+ 1', 'exit when B', 'N := N <4o>+ 1')), 5)
+    yield refused('missing_flow_of_an_exit.adb', longer(A_AND_X, '@X from X & null from A', plain('exit when A > 0', 'X := 0')), 'F1 missing: X from A')
+    yield refused('missing_flow_of_an_exit_in_an_arm.adb', longer(A_AND_X, '@X from X & null from A', plain(leaving('A > 0'), 'X := 0')), 'F1 missing: X from A')
+    yield accepted('flow_of_statements_before_an_exit.adb', longer('A, B : in Integer; X : out Integer', 'X from A, B', plain(leaving('A > 0', 'X := B'), 'null')), 1)
+    yield refused('missing_flow_of_statements_before_an_exit.adb', longer('A, B : in Integer; X : out Integer', '@X from A & null from B', plain(leaving('A > 0', 'X := B'), 'null')), 'F1 missing: X from B')
+    yield refused('overwritten_before_its_exit.adb', longer('A, B : in Integer; X : out Integer', 'X from A, B', plain(leaving('A > 0', 'X := B'), '@X := 0')), 'F3')
+    yield refused('plain_loop_is_not_left_at_its_head.adb', longer(A_AND_X, '@X from X, A', plain('X := A', 'exit when A > 0')), 'F2 unused: X from X')
+    yield accepted('while_may_be_left_at_its_head.adb', longer(A_AND_X, 'X from X, A', looping('A > 0', 'X := A', 'exit when A > 5')), 1)
+    yield accepted('exit_after_some_turns.adb', longer(A_XY, 'X from X, A & Y from Y, X, A', plain('exit when A > 0', 'Y := X', 'X := A')), 2)
+    yield refused('missing_flow_through_a_turn_and_an_exit.adb', longer(A_XY, 'X from X, A & @Y from Y, A', plain('exit when A > 0', 'Y := X', 'X := A')), 'F1 missing: Y from X')
+    yield accepted('exit_of_a_loop_inside.adb', longer(ABXY, 'X from X, A, B & Y from Y, A', plain('exit when A > 0', plain('exit when B > 0', 'X := A'), 'Y := 1')), 2)
+    yield refused('exit_of_a_loop_inside_past_its_targets.adb', longer(ABXY, 'X from X, A, B & @Y from Y, A, B', plain('exit when A > 0', plain('exit when B > 0', 'X := A'), 'Y := 1')), 'F2 unused: Y from B')
+    yield accepted('while_with_the_flow_of_an_exit.adb', longer(AB_X, 'X from X, A, B', looping('A > 0', 'exit when B > 0', 'X := 0')), 1)
+    yield accepted('for_over_a_subtype_with_an_exit.adb', longer(A_AND_X, 'X from X, A', counting('I in Small', 'exit when A > 0', 'X := I'), declared=[TO_THREE]), 1)
+    yield accepted('exit_over_a_parameter_and_a_bound.adb', longer(AB_X, 'X from X, A, B', counting('I in Integer range 1 .. A', 'exit when I > B', 'X := I')), 2)
+    yield refused('flow_of_a_bound_to_an_exit.adb', longer(AB_X, '@X from X, B & null from A', counting('I in Integer range 1 .. A', 'exit when I > B', 'X := I')), 'F1 missing: X from A')
+    yield accepted('value_for_an_exit.adb', longer(A_AND_X, 'X from X, A', 'T := A', plain('exit when T > 0', 'X := 0'), declared=T), 2)
+    yield accepted('value_for_the_next_exit.adb', longer(A_AND_X, 'X from X, A', 'T := 0', plain('exit when T > 0', 'X := 0', 'T := A'), declared=T), 3)
+    yield refused('exit_of_a_loop_over_nothing.adb', longer(X, 'X from X', plain('@exit when X > 0', 'null'), 'X := X'), 'F3')
+    yield refused('exit_in_an_arm_of_a_loop_over_nothing.adb', longer(X, 'X from X', plain('@' + leaving('X > 0'), 'null'), 'X := X'), 'F3')
+    yield refused('value_that_is_lost_at_an_exit.adb', longer(X, 'X from X', plain(leaving('X > 0', '@T := 1'), 'X := 1'), declared=T), 'F3')
+    yield accepted('loop_without_exit.adb', longer(X, 'X from X', plain('X := X')), 1)
+    yield refused('missing_flow_of_a_loop_without_exit.adb', longer(A_TO_X, '@X from A', plain('X := A')), 'F1 missing: X from X')
+
+
+def unset_at_exits():
+    """After a loop is set what is set at each of its exits; behind a loop that no way leaves nothing is unset."""
+    yield accepted('set_before_an_exit.adb', longer(A_TO_X, 'X from A', plain('X := A', 'exit when A > 0')), 1)
+    yield refused('unset_at_an_exit.adb', longer('A, B : in Integer; X : out Integer', '@X from A, B', plain('exit when A > 0', 'X := B')).replace('end Inc', '@end Inc'), 'F1 missing: X from X', 'F4 unset: X')
+    yield accepted('local_set_before_an_exit.adb', longer(A_TO_X, 'X from A', plain('T := A', 'exit when A > 0'), 'X := T', declared=T), 2)
+    yield refused('local_set_after_an_exit.adb', longer(A_TO_X, 'X from A', plain('exit when A > 0', 'T := A'), 'X := @T', declared=T), 'F4 unset: T')
+    yield accepted('local_set_in_the_arm_of_an_exit.adb', longer(A_TO_X, 'X from A', plain(leaving('A > 0', 'T := 1'), 'null'), 'X := T', declared=T), 2)
+    yield refused('local_set_at_one_exit_of_two.adb', longer(A_TO_X, 'X from A', plain(leaving('A > 0', 'T := 1'), 'exit when A < 0'), 'X := @T', declared=T), 'F4 unset: T')
+    yield accepted('local_set_at_both_exits.adb', longer(A_TO_X, 'X from A', plain(leaving('A > 0', 'T := 1'), 'T := 2', 'exit when A < 0'), 'X := T', declared=T), 4)
+    yield refused('local_set_in_a_while_before_its_exit.adb', longer(A_TO_X, 'X from A', looping('A > 0', 'T := A', 'exit when A > 5'), 'X := @T', declared=T), 'F4 unset: T')
+    yield refused('local_set_in_a_for_after_its_exit.adb', longer(A_TO_X, 'X from A', counting('I in Small', 'exit when A > 0', 'T := I'), 'X := @T', declared=[TO_THREE, *T]), 'F4 unset: T')
+    yield accepted('local_set_in_a_for_before_its_exit.adb', longer(A_TO_X, 'X from A', counting('I in Small', 'T := I', 'exit when A > 0'), 'X := T', declared=[TO_THREE, *T]), 3)
+    yield refused('unset_in_the_condition_of_an_exit.adb', longer(X, 'X from X', plain('exit when @T > 0', 'T := X', 'X := 0'), declared=T), 'F4 unset: T')
+    yield refused('unset_in_a_plain_loop.adb', longer(OUT_X, '@X from', plain('X := @T'), declared=T), 'F1 missing: X from X', 'F4 unset: T')
+    yield refused('export_behind_a_loop_that_is_not_left.adb', longer(OUT_X, '@X from', plain('null')), 'F1 missing: X from X')
+    yield accepted('read_behind_a_loop_that_is_not_left.adb', longer(OUT_X, 'X from', plain('null'), 'X := T', declared=T), 0)
+    yield refused('read_before_a_loop_that_is_not_left.adb', longer(OUT_X, 'X from', 'X := @T', plain('null'), declared=T), 'F4 unset: T')
+    yield accepted('loop_that_is_not_left_in_an_arm.adb', longer(A_TO_X, 'X from A', f'if A > 0 then {plain("null")}; else T := A; end if', 'X := T', declared=T), 2)
+
+
+def conditions_of_exits():
+    """The condition of an exit is false past it and true behind the loop; at `exit when` what goes on comes first."""
+    left = plain('exit when X > 5', 'X := 0')
+    yield accepted('fact_of_an_exit.adb', longer(X, 'X from X', left, '--# check X > 5', 'X := X'), 3)
+    yield accepted('fact_past_an_exit.adb', longer(X, 'X from X', plain('exit when X > 5', 'X := X + 1')), 2)
+    yield left_at('exit_of_the_other_condition.adb', longer(X, 'X from X', plain('exit when X <= 5', 'X := X <1o>+ 1')), 2)
+    yield accepted('fact_past_an_exit_in_an_arm.adb', longer(X, 'X from X', plain(leaving('X > 5'), 'X := X + 1')), 2)
+    yield examined('order_at_exit_when.adb', longer(X, 'X from X', left, '--# @check X = 0', 'X := X'), ('Inc', 3, (2, 'check')))
+    yield examined('order_at_an_exit_in_an_arm.adb', longer(X, 'X from X', plain(leaving('X > 5'), 'X := 0'), '--# @check X = 0', 'X := X'), ('Inc', 3, (1, 'check')))
+    yield accepted('statements_before_an_exit.adb', longer(X, 'X from X', plain(leaving('X > 5', 'X := 1'), 'X := 0'), '--# check X = 1', 'X := X'), 4)
+    yield accepted('assertion_before_an_exit.adb', longer(X, 'X from X', 'loop\n--# assert X >= 0;\nexit when X > 5; X := X + 1; end loop', pre='X >= 0'), 4)
+    yield accepted('assertion_after_an_exit.adb', longer(X, 'X from X', 'loop exit when X > 5;\n--# assert X <= 5;\nX := X + 1; end loop', '--# check X > 5', 'X := X'), 8)
+    yield left_at('checks_of_the_condition_of_an_exit.adb', longer(X, 'X from X', plain('exit when X <1o>- 1 > 0', 'X := 0')), 2)
+    yield examined('exit_of_a_for.adb', longer(A_AND_X, 'X from X, A', counting('I in Integer range 1 .. A', 'exit when X > 5', 'X := 0'), '--# @@check X > 5', 'X := X'), ('Inc', 8, (2, 'check'), (5, 'check')))
+    yield accepted('exit_of_the_loop_inside_only.adb', longer(X, 'X from X', 'loop exit when X > 9; loop exit when X > 5; X := 6; end loop;\n--# check X > 5;\nX := X; end loop'), 3)
+    yield examined('fact_before_a_plain_loop_is_lost.adb', longer(A_AND_X, 'X from X, A', plain('exit when A > 0', 'X := 0'), '--# @check X > 5', 'X := X', pre='X > 5'), ('Inc', 3, (2, 'check')))
+    yield accepted('plain_loop_with_no_way_behind_it.adb', longer(X, 'X from X', plain('X := X'), '--# check X = 0', 'X := X'), 1)
+    yield accepted('half_a_turn.adb', longer(X, 'X from X', plain('X := X', 'exit when X > 4', 'X := 5'), '--# check X > 4', 'X := X'), 4)
+
+
+def paths_of_exits():
+    """An exit has a path out of the loop, and one on where it has a condition; a plain loop has no other path behind it."""
+    ifs = ['if A > 0 then X := A; end if']
+    yield accepted('ten_ifs_before_an_exit.adb', longer(A_AND_X, 'X from X, A', plain(*ifs * 10, 'exit when A > 0')), 1023)
+    yield too_many_paths('eleven_ifs_before_an_exit.adb', longer(A_AND_X, 'X from X, A', plain(*ifs * 11, 'exit when A > 0')))
+    yield accepted('eleven_ifs_after_an_exit.adb', longer(A_AND_X, 'X from X, A', plain('exit when A > 0', 'X := A'), *ifs * 11), 2048)
+    yield too_many_paths('twelve_ifs_after_an_exit.adb', longer(A_AND_X, 'X from X, A', plain('exit when A > 0', 'X := A'), *ifs * 12))
+    yield accepted('twenty_ifs_behind_a_loop_that_is_not_left.adb', longer(A_AND_X, 'X from X, A', plain('X := A'), *ifs * 20), 1)
+
+
 # ---------------------------------------------------------------- the table
 
 GROUPS = (form, relations, simplifier, numbers, places, words, layout, comments, marks, other_bytes, tokens, grammar,
@@ -5755,7 +5947,8 @@ GROUPS = (form, relations, simplifier, numbers, places, words, layout, comments,
           places_of_checks, syntax_of_checks, syntax_of_predicates, cut_and_spoiled, rules_of_predicates, flow_of_checks,
           conditions_of_annotations, places_of_assertions, rules_of_assertions, facts_after_cuts, order_of_cuts,
           syntax_of_loops, rules_of_loops, flow_of_loops, unset_in_loops, conditions_of_loops, paths_of_loops,
-          syntax_of_counts, rules_of_counts, flow_of_counts, unset_in_counts, conditions_of_counts, paths_of_counts)
+          syntax_of_counts, rules_of_counts, flow_of_counts, unset_in_counts, conditions_of_counts, paths_of_counts,
+          syntax_of_exits, rules_of_exits, flow_of_exits, unset_at_exits, conditions_of_exits, paths_of_exits)
 CASES = tuple(case for group in GROUPS for case in group())
 
 

@@ -24,6 +24,7 @@ fn breach_text(rule: RuleName) -> &'static [u8]
         RuleName::N17 => b"choice not given once",
         RuleName::N18 => b"entry value not allowed",
         RuleName::U2 => b"target cannot be assigned",
+        RuleName::U4 => b"bad exit",
         RuleName::U7 => b"bad derives annotation",
         RuleName::U8 => b"mode disagrees with derives",
         RuleName::U11 => b"name not allowed in this annotation",

@@ -69,6 +69,7 @@ pub(crate) fn code(rule: RuleName) -> &'static [u8]
         RuleName::N17 => b"N17",
         RuleName::N18 => b"N18",
         RuleName::U2 => b"U2",
+        RuleName::U4 => b"U4",
         RuleName::U7 => b"U7",
         RuleName::U8 => b"U8",
         RuleName::U11 => b"U11",
