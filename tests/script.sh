@@ -1,0 +1,577 @@
+#!/bin/sh
+# Tests of the script spx and of the commands that README.md prints. Nothing is built: small programs stand in for the examiner and for
+# the toolchain's command rt. The examples are run by the examiner where it is built, and else by the second reading of the rules in
+# tests/reading.py, which needs Python. The last line is `N passed, M failed`.
+set -u
+LC_ALL=C
+export LC_ALL
+unset CDPATH
+
+here=$(readlink -f -- "$0") && top=$(dirname "$(dirname "$here")") || exit 2
+room=$(mktemp -d) || exit 2
+trap 'rm -rf "$room"' EXIT
+trap 'exit 2' HUP INT TERM
+umask 022
+# Nothing of this machine's own cache is read or written.
+XDG_CACHE_HOME=$room/cache
+export XDG_CACHE_HOME
+
+passed=0
+failed=0
+what=
+
+pass() { passed=$((passed + 1)); }
+fail() {
+    failed=$((failed + 1))
+    printf 'FAILED: %s: %s\n' "$what" "$1"
+}
+skip() { printf 'skipped: %s\n' "$1"; }
+
+# Runs a command and keeps its output and its status.
+run() {
+    "$@" >"$room/out" 2>"$room/err" </dev/null
+    status=$?
+}
+
+ends() { if [ "$status" -eq "$1" ]; then pass; else fail "ended with $status and not $1; it said: $(head -c 300 "$room/err")"; fi; }
+prints() { if printf "$@" | cmp -s - "$room/out"; then pass; else fail "printed: $(head -c 300 "$room/out")"; fi; }
+says() { if grep -qF -- "$1" "$room/err"; then pass; else fail "said '$(head -c 300 "$room/err")' and not '$1'"; fi; }
+says_nothing() { if [ ! -s "$room/err" ]; then pass; else fail "said: $(head -c 300 "$room/err")"; fi; }
+says_one_line() { if [ "$(wc -l <"$room/err")" -eq 1 ]; then pass; else fail "said not one line: $(head -c 300 "$room/err")"; fi; }
+is() { if [ "$1" = "$2" ]; then pass; else fail "'$1' and not '$2'"; fi; }
+
+# ---------------------------------------------------------------- a tree of its own, with programs that stand in
+
+tree="$room/a tree"
+program="$tree/crates/spx_cli/out/spx_cli"
+
+# A program that prints its words and its input, and ends with SPX_STATUS.
+write_program() {
+    cat >"$1" <<'END'
+#!/bin/sh
+for word; do printf '<%s>\n' "$word"; done
+[ -z "${SPX_READS-}" ] || cat
+exit "${SPX_STATUS:-0}"
+END
+    chmod +x "$1"
+}
+
+# A new tree, with the program built last, unless the word is `unbuilt`.
+new_tree() {
+    rm -rf "$tree" "$room/cache"
+    mkdir -p "$tree/crates/spx_cli/src" "$tree/crates/spx_cli/specs"
+    cp -p "$top/spx" "$top/VERSION" "$top/crates.txt" "$tree" && cp -Rp "$top/docs" "$tree"
+    echo 'fn main() {}' >"$tree/crates/spx_cli/src/main.rt"
+    find "$tree" -exec touch -t 202001010000 {} +
+    [ "${1-}" != unbuilt ] || return
+    mkdir "$tree/crates/spx_cli/out"
+    write_program "$program"
+}
+
+# rt on a PATH of its own: it has one version, and a run leaves the program, unless RT_FAILS is set.
+mkdir "$room/bin" && write_program "$room/bin/built" && cat >"$room/bin/rt" <<END
+#!/bin/sh
+case \$1 in
+    version) echo 'kit of the tests' ;;
+    run)
+        echo run >>'$room/runs'
+        [ -z "\${RT_SLEEPS-}" ] || sleep "\$RT_SLEEPS"
+        [ -n "\${RT_FAILS-}" ] || { mkdir -p out && cp '$room/bin/built' out/spx_cli; }
+        exit 2
+        ;;
+esac
+END
+chmod +x "$room/bin/rt"
+# A PATH with the usual tools and without rt.
+mkdir "$room/tools"
+for tool in sh awk cat cp date find flock git grep mkdir mv readlink rm sleep touch wc; do
+    at=$(command -v "$tool") && case $at in /*) ln -s "$at" "$room/tools/$tool" ;; esac
+done
+
+# Runs a command with these tools; words of the form NAME=VALUE before it are set for it.
+with_rt() { env "PATH=$room/bin:$room/tools" "$@"; }
+without_rt() { env "PATH=$room/tools" "$@"; }
+
+# ---------------------------------------------------------------- words, output and status are the program's
+
+new_tree
+cp "$top/examples/inc.adb" "$room/inc.adb"
+cp "$top/examples/inc.adb" "$room/two words.adb"
+
+what='words reach the program as they are'
+run "$tree/spx" check 'a  b' '' '*' "it's" 'x\n'
+prints '<check>\n<a  b>\n<>\n<*>\n<it'"'"'s>\n<x\\n>\n'
+run "$tree/spx"
+prints ''
+ends 0
+says_nothing
+run "$tree/spx" --help
+prints '<--help>\n'
+for word in conditions run workload -- -h Build; do
+    run "$tree/spx" "$word" y
+    prints '<%s>\n<y>\n' "$word"
+done
+
+what='the status is the program'"'"'s'
+for number in 0 1 2 3 4 5 6 7 8 42 99; do
+    run env SPX_STATUS=$number "$tree/spx" check "$room/inc.adb"
+    ends "$number"
+    prints '<check>\n<%s>\n' "$room/inc.adb"
+done
+
+what='nothing is said where the report says all'
+for number in 0 1 2 7 8; do
+    run env SPX_STATUS=$number "$tree/spx" check "$room/two words.adb"
+    says_nothing
+done
+
+what='standard input is the program'"'"'s'
+printf 'a\nb' | env SPX_READS=1 "$tree/spx" check - >"$room/out" 2>"$room/err"
+prints '<check>\n<->\na\nb'
+
+what='it runs from any folder and by a link'
+ln -s "$tree/spx" "$room/link" && ln -s link "$room/link to a link"
+for start in "$room/link" "$room/link to a link" "$tree/spx"; do
+    run "$start" check "$room/inc.adb"
+    prints '<check>\n<%s>\n' "$room/inc.adb"
+    ends 0
+done
+(cd "$tree/docs" && ../spx check x >"$room/out" 2>"$room/err")
+prints '<check>\n<x>\n'
+(cd "$tree" && sh spx check x >"$room/out" 2>"$room/err")
+prints '<check>\n<x>\n'
+(cd "$tree" && PATH=".:$PATH" spx check x >"$room/out" 2>"$room/err")
+prints '<check>\n<x>\n'
+(cd "$room" && 'a tree/spx' check x >"$room/out" 2>"$room/err")
+prints '<check>\n<x>\n'
+
+# ---------------------------------------------------------------- what a status does not say
+
+what='why a file cannot be read'
+run env SPX_STATUS=3 "$tree/spx" check "$room/no such file"
+ends 3
+says "spx: cannot read $room/no such file: no such file"
+says_one_line
+run env SPX_STATUS=3 "$tree/spx" check "$room"
+says "spx: cannot read $room: it is a directory"
+says_one_line
+ln -s nothing "$room/dangling"
+run env SPX_STATUS=3 "$tree/spx" check "$room/dangling"
+says 'it is a symbolic link to no file'
+run env SPX_STATUS=3 "$tree/spx" check ''
+says 'no such file'
+run env SPX_STATUS=3 "$tree/spx" check "$room/inc.adb"
+says "spx: cannot read $room/inc.adb"
+says_one_line
+cp "$room/inc.adb" "$room/closed.adb" && chmod 0 "$room/closed.adb"
+mkdir "$room/closed" && cp "$room/inc.adb" "$room/closed" && chmod 0 "$room/closed"
+# To root nothing is closed.
+drop='env'
+if [ "$(id -u)" -eq 0 ]; then
+    drop='setpriv --reuid=65534 --regid=65534 --clear-groups'
+    chmod 711 "$room"
+fi
+# shellcheck disable=SC2086
+if $drop true 2>/dev/null; then
+    run $drop env SPX_STATUS=3 "$tree/spx" check "$room/closed.adb"
+    says "spx: cannot read $room/closed.adb: permission denied"
+    run $drop env SPX_STATUS=3 "$tree/spx" check "$room/closed/inc.adb"
+    says "permission denied in $room/closed"
+    ends 3
+else
+    skip 'root may read every file, and there is no setpriv'
+fi
+chmod 700 "$room/closed"
+
+what='that the output, the memory or a limit ends the work'
+run env SPX_STATUS=4 "$tree/spx" check "$room/inc.adb"
+says 'could not be written'
+says_one_line
+run env SPX_STATUS=5 "$tree/spx" check "$room/inc.adb"
+says 'out of memory'
+says_one_line
+run env SPX_STATUS=6 "$tree/spx" check "$room/inc.adb"
+says 'a limit is passed'
+says_one_line
+
+# ---------------------------------------------------------------- bytes that end a line for some compilers
+
+what='bytes that end a line for some Ada compilers'
+for bytes in '\r' '\v' '\f' '\032' '\302\205' '\342\200\250' '\342\200\251'; do
+    printf -- "-- a comment${bytes}X := 1;\n" >"$room/odd bytes.adb"
+    run "$tree/spx" check "$room/odd bytes.adb"
+    says "spx: warning: $room/odd bytes.adb has a byte that ends a line"
+    says_one_line
+    ends 0
+    prints '<check>\n<%s>\n' "$room/odd bytes.adb"
+done
+what='bytes that end no line'
+printf -- '-- a comment\r\n-- \303\251 \342\200\246 \302\240 \205 \250\tx\r\n' >"$room/even.adb"
+run "$tree/spx" check "$room/even.adb"
+says_nothing
+if command -v mkfifo >/dev/null && mkfifo "$room/pipe"; then
+    what='a pipe is read by the program only'
+    run "$tree/spx" check "$room/pipe"
+    ends 0
+else
+    skip 'there is no mkfifo'
+fi
+
+# ---------------------------------------------------------------- the time that the script takes
+
+# The least time of some runs of a command, in nanoseconds.
+least() {
+    best=
+    for _ in 1 2 3 4 5 6 7 8 9 10; do
+        began=$(date +%s%N)
+        "$@" >/dev/null 2>&1
+        spent=$(($(date +%s%N) - began))
+        [ -n "$best" ] && [ "$best" -le "$spent" ] || best=$spent
+    done
+}
+
+what='a check takes less than 20 ms beyond the program'
+case $(date +%N) in
+    '' | *[!0-9]*) skip 'this date counts no nanoseconds' ;;
+    *)
+        # With all sources, which it compares with the program.
+        for crate in "$top"/crates/*; do
+            mkdir -p "$tree/crates/${crate##*/}"
+            for part in src specs; do
+                [ ! -d "$crate/$part" ] || cp -Rp "$crate/$part" "$tree/crates/${crate##*/}"
+            done
+        done
+        find "$tree/crates" -exec touch -t 202001010000 {} +
+        touch "$program"
+        # On a machine with other work one round may be slow.
+        beyond=20000000
+        for _ in 1 2 3 4 5 6 7 8; do
+            least "$program" check "$room/inc.adb"
+            program_took=$best
+            least "$tree/spx" check "$room/inc.adb"
+            [ $((best - program_took)) -ge "$beyond" ] || beyond=$((best - program_took))
+            [ "$beyond" -ge 20000000 ] || break
+        done
+        # A slow machine is no fault of the script.
+        if [ "$beyond" -lt 20000000 ]; then pass; else skip 'it took longer on this machine'; fi
+        printf 'the script takes %s microseconds beyond the program\n' "$((beyond / 1000))"
+        ;;
+esac
+new_tree
+
+# ---------------------------------------------------------------- a program that is out of date, or not there
+
+what='a program that is out of date is run'
+run with_rt "$tree/spx" check x
+says_nothing
+echo '// more' >>"$tree/crates/spx_cli/src/main.rt"
+touch -t 203001010000 "$tree/crates/spx_cli/src/main.rt"
+run with_rt "$tree/spx" check x
+prints '<check>\n<x>\n'
+ends 0
+says 'out of date'
+says './spx build'
+says_one_line
+
+what='a build brings it up to date'
+touch -t 201901010000 "$program"
+touch "$tree/crates/spx_cli/src/main.rt"
+run with_rt "$tree/spx" build
+ends 0
+says 'building the program'
+says 'may take an hour'
+says 'built in'
+prints ''
+touch -t 202001010000 "$tree/crates/spx_cli/src/main.rt" "$tree/crates/spx_cli/src"
+run with_rt "$tree/spx" check x
+says_nothing
+run with_rt "$tree/spx" build
+ends 0
+says 'up to date'
+run with_rt "$tree/spx" version
+is "$(sed -n 2p "$room/out")" 'kit of the tests'
+
+what='a build that fails leaves the program'
+touch -t 203001010000 "$tree/crates/spx_cli/src/main.rt"
+run with_rt RT_FAILS=1 "$tree/spx" build
+ends 125
+says 'not built: see '
+says 'on this machine the last time'
+run with_rt "$tree/spx" check x
+ends 0
+prints '<check>\n<x>\n'
+says 'out of date'
+
+what='while a build is under way or was broken off, the earlier program is run'
+mv "$program" "$tree/crates/spx_cli/out/spx.earlier"
+run with_rt "$tree/spx" check x
+prints '<check>\n<x>\n'
+says 'out of date'
+
+what='where there is no program one is built'
+new_tree unbuilt
+run without_rt "$tree/spx" check x
+ends 125
+prints ''
+says 'rt is not on PATH'
+says_one_line
+run with_rt RT_FAILS=1 "$tree/spx" check x
+ends 125
+prints ''
+run with_rt "$tree/spx" check x
+ends 0
+prints '<check>\n<x>\n'
+says 'building the program'
+rm "$program"
+run with_rt SPX_STATUS=1 "$tree/spx" check x
+ends 1
+says 'on this machine the last time'
+run with_rt "$tree/spx" check x
+says_nothing
+
+what='of two builds at a time one waits for the other'
+if command -v flock >/dev/null; then
+    new_tree unbuilt
+    rm -f "$room/runs"
+    with_rt RT_SLEEPS=1 "$tree/spx" check x >"$room/other" 2>/dev/null </dev/null &
+    run with_rt RT_SLEEPS=1 "$tree/spx" check x
+    wait
+    ends 0
+    prints '<check>\n<x>\n'
+    is "$(cat "$room/other")" "$(cat "$room/out")"
+    is "$(grep -c . "$room/runs")" 1
+else
+    skip 'there is no flock, so that builds at a time are not kept apart'
+fi
+
+# ---------------------------------------------------------------- the script's own words
+
+new_tree
+what='version'
+run with_rt "$tree/spx" version
+ends 0
+prints 'spx %s\nkit of the tests\ncommit unknown: no git clone\n' "$(cat "$top/VERSION")"
+run without_rt "$tree/spx" version
+ends 0
+is "$(sed -n 2p "$room/out")" 'toolchain unknown: rt is not on PATH'
+if [ -e "$top/.git" ] && commit=$(git -C "$top" rev-parse HEAD 2>/dev/null); then
+    # Also in a hook of another repository, where git sets its variables.
+    for folder in "$top/.git" "$room/no repository"; do
+        run env GIT_DIR="$folder" "$top/spx" version
+        case $(sed -n 3p "$room/out") in
+            "commit $(printf '%.12s' "$commit")"*) pass ;;
+            *) fail "$(sed -n 3p "$room/out") is not commit $commit" ;;
+        esac
+    done
+else
+    skip 'this is no git clone'
+fi
+
+what='help'
+run "$tree/spx" help
+ends 0
+for word in check explain build version help; do
+    is "$(grep -c "spx $word" "$room/out")" 1
+done
+
+what='words of the script with too many words'
+for word in build version help; do
+    run with_rt "$tree/spx" "$word" more
+    ends 2
+    says_one_line
+done
+
+what='explain has each rule that the program can print, and no other'
+sources=$top/crates/spx_report/src
+run "$tree/spx" explain
+ends 0
+says_nothing
+cp "$room/out" "$room/rules"
+sed 's/ .*//' "$room/rules" | sort >"$room/explained"
+sed -n 's/.*RuleName::\([A-Z]*[0-9]*\) => b"\1",.*/\1/p' "$sources/report.rt" | sort >"$room/printed"
+is "$(wc -l <"$room/printed")" "$(wc -l <"$room/explained")"
+if cmp -s "$room/printed" "$room/explained"; then pass; else fail "$(diff "$room/printed" "$room/explained")"; fi
+# With their texts: those of the sources, and those in what is expected of the table of texts.
+sed -n 's/.*RuleName::\([A-Z]*[0-9]*\) => b"\([^"]* [^"]*\)",.*/\1 \2/p' "$sources/refusals.rt" >"$room/texts"
+sed -n 's/^[^ ]*:[0-9]*:[0-9]*: \([LPNU][0-9]*\) \(.*\)/\1 \2/p; s/^[^ ]*:[0-9]*:[0-9]*: \(F[0-9]\) \(.*\)/\1 \2/p' "$top/crates/spx_table/stdout" |
+    sed 's/^\(F[12] [a-z]*:\) .* from .*/\1 Y from X/; s/^\(F4 unset:\) .*/\1 X/' >>"$room/texts"
+sort -u "$room/texts" | sed 's/ /|/' | sort >"$room/wanted"
+sed 's/  */|/' "$room/rules" | grep -v '^V1|' | sort -u >"$room/has"
+if diff "$room/wanted" "$room/has" >"$room/diff"; then pass; else fail "$(cat "$room/diff")"; fi
+if grep -q '^V1   unproved: NAME KIND$' "$room/rules"; then pass; else fail 'V1 has another text'; fi
+
+what='explain prints a section with all its parts'
+while read -r rule text; do
+    run "$tree/spx" explain "$rule"
+    ends 0
+    is "$(sed -n 1p "$room/out")" "### $rule $text"
+    is "$(grep -c '^##' "$room/out")" 1
+    for part in When Place Example 'What to do'; do
+        is "$rule $part: $(grep -c "^\*\*$part\*\*:" "$room/out")" "$rule $part: 1"
+    done
+    if grep -q "^    .*: $rule " "$room/out"; then pass; else fail "$rule has no example"; fi
+done <"$room/rules"
+run "$tree/spx" explain u7 V1
+is "$(grep -c '^### ' "$room/out")" 2
+for word in U99 N U 7 '' '.*' U7x; do
+    run "$tree/spx" explain "$word"
+    ends 2
+    says_one_line
+    prints ''
+done
+
+# ---------------------------------------------------------------- the documents
+
+what='README.md'
+lines=$(wc -l <"$top/README.md")
+if [ "$lines" -lt 250 ]; then pass; else fail "it has $lines lines"; fi
+
+what='links in documents'
+for document in "$top"/README.md "$top"/docs/*.md "$top"/examples/*.md; do
+    [ -e "$document" ] || continue
+    grep -o '](\([^)]*\))' "$document" | sed 's/^](//; s/)$//' | sort -u >"$room/links"
+    while read -r link; do
+        case $link in
+            http*) continue ;;
+            '#'*) target=$document ;;
+            *) target=$(dirname "$document")/${link%%#*} ;;
+        esac
+        if [ -e "$target" ]; then pass; else fail "${document##*/}: no $link" && continue; fi
+        case $link in *'#'*) ;; *) continue ;; esac
+        # A heading in lower case, without what is no letter, digit, hyphen or space, and with hyphens for spaces.
+        if sed -n 's/^##* //p' "$target" | tr '[:upper:]' '[:lower:]' | sed 's/[^a-z0-9 _-]//g; s/ /-/g' | grep -qxF -- "${link#*#}"; then
+            pass
+        else
+            fail "${document##*/}: no heading $link"
+        fi
+    done <"$room/links"
+done
+
+what='docs/problem-matcher.json'
+matcher=$top/docs/problem-matcher.json
+pattern=$(sed -n 's/.*"regexp": "\(.*\)",*$/\1/p' "$matcher" | sed 's/\\\\d/[0-9]/g')
+if printf '%s\n' 'examples/inc.adb:5:11: V1 unproved: Inc.1 overflow' | grep -qE -- "$pattern"; then pass; else fail "it does not match a finding: $pattern"; fi
+for line in 'Inc: 2 conditions, 2 simplified, 0 scripted, 0 open' accepted 'refused: 1' 'limit: paths, at most 4096'; do
+    if printf '%s\n' "$line" | grep -qE -- "$pattern"; then fail "it matches '$line'"; else pass; fi
+done
+
+what='JSON in README.md and docs'
+if command -v python3 >/dev/null; then
+    awk '/^```json$/ { inside = 1; next } /^```/ { inside = 0 } inside' "$top/README.md" >"$room/task.json"
+    for file in "$matcher" "$room/task.json"; do
+        if python3 -m json.tool "$file" >/dev/null 2>"$room/err"; then pass; else fail "$file: $(cat "$room/err")"; fi
+    done
+else
+    skip 'there is no Python to read JSON with'
+fi
+is "$(grep -o '"regexp": "[^"]*"' "$top/README.md")" "$(grep -o '"regexp": "[^"]*"' "$matcher")"
+
+# ---------------------------------------------------------------- commands of README.md, and the examples
+
+cp -Rp "$top/examples" "$top/README.md" "$tree"
+examiner=
+if [ -x "$top/crates/spx_cli/out/spx_cli" ]; then
+    cp "$top/crates/spx_cli/out/spx_cli" "$program" && examiner=built
+elif command -v python3 >/dev/null && python3 -c 'import dataclasses' 2>/dev/null; then
+    examiner=second
+    printf '#!/bin/sh\nexec python3 -B - "$@" <<END\n' >"$program"
+    printf 'import sys\nsys.path.insert(0, "%s/tests")\n' "$top" >>"$program"
+    cat >>"$program" <<'OUTER'
+from reading import USAGE, examine
+words = sys.argv[1:]
+if len(words) != 2 or words[0] != 'check':
+    report, status = USAGE, 2
+else:
+    try:
+        with open(words[1], 'rb') as file:
+            answer = examine(words[1], file.read())
+        report, status = answer.report, answer.status
+    except OSError:
+        report, status = '', 3
+sys.stdout.write(report)
+sys.exit(status)
+END
+OUTER
+    skip 'the examiner is not built: the second reading in tests/reading.py stands in for it'
+else
+    skip 'the examiner is not built, and there is no Python for the second reading: no example is run'
+fi
+
+# Each block ```console has commands after `$ `, each with what it prints; the commands of a block are run by one shell.
+sessions() {
+    awk -v room="$room" '/^```console$/ { inside = 1; count++; next }
+        /^```/ { inside = 0 }
+        inside { print > (room "/session." count) }' "$top/README.md"
+    for session in "$room"/session.*; do
+        what="README.md: $(sed -n 1p "$session")"
+        sed -n 's/^\$ //p' "$session" >"$room/commands"
+        {
+            echo 'exec 2>&1'
+            while read -r command; do
+                printf 'cat <<"END"\n$ %s\nEND\n%s\n' "$command" "$command"
+            done <"$room/commands"
+        } >"$room/commands.sh"
+        (cd "$tree" && sh "$room/commands.sh") >"$room/out" 2>&1 </dev/null
+        if cmp -s "$session" "$room/out"; then pass; else fail "$(diff "$session" "$room/out")"; fi
+    done
+}
+
+# Each line of a block ```sh is a command; those that take long or need a network are only looked for.
+commands() {
+    awk '/^```sh$/ { inside = 1; next } /^```/ { inside = 0 } inside' "$top/README.md" >"$room/lines"
+    while read -r command; do
+        what="README.md: $command"
+        case $command in
+            '' | '#'*) ;;
+            'git clone '* | 'cd '*) pass ;;
+            .ci/run | './spx build') if [ -x "$top/${command%% *}" ]; then pass; else fail 'it is not there'; fi ;;
+            *)
+                (cd "$tree" && sh -c "$command") >"$room/out" 2>"$room/err" </dev/null
+                status=$?
+                if [ "$status" -le 1 ]; then pass; else fail "ended with $status: $(cat "$room/err")"; fi
+                ;;
+        esac
+    done <"$room/lines"
+}
+
+# The step of a workflow, on the examples: some of them have findings.
+steps() {
+    what='README.md: the step of a workflow'
+    step=$(sed -n 's/^- run: for file in src/for file in examples/p' "$top/README.md")
+    (cd "$tree" && sh -c "$step") >"$room/out" 2>"$room/err" </dev/null
+    status=$?
+    ends 1
+    is "$(grep -c '^refused' "$room/out")" 3
+}
+
+# Each example of the findings and of the guide has its report beside it.
+reports() {
+    for text in examples/findings/*.adb examples/guide/*.adb; do
+        what=$text
+        (cd "$tree" && ./spx check "$text") >"$room/out" 2>"$room/err" </dev/null
+        if cmp -s "$tree/${text%.adb}.report" "$room/out"; then pass; else fail "printed: $(cat "$room/out")"; fi
+    done
+}
+
+# Each other example is a text of the table, by its name, with what is printed on it.
+rows() {
+    for text in examples/*.adb; do
+        what=$text
+        name=${text##*/}
+        awk -v head="%% $name" '/^%[%-] / { inside = $0 == head; next } inside' "$top/crates/spx_table/stdout" | sed '$d' >"$room/report"
+        (cd "$tree/examples" && ../spx check "$name") >"$room/out" 2>"$room/err" </dev/null
+        if [ -s "$room/report" ] && cmp -s "$room/report" "$room/out"; then pass; else fail "printed: $(cat "$room/out")"; fi
+    done
+}
+
+cd "$top" || exit 2
+if [ -n "$examiner" ]; then
+    sessions
+    commands
+    steps
+    rows
+fi
+[ "$examiner" != built ] || reports
+
+printf '%s passed, %s failed\n' "$passed" "$failed"
+[ "$failed" -eq 0 ]
