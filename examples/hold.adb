@@ -1,5 +1,5 @@
 -- A loop without an exit, as of a controller that runs as long as there is power: its Drive follows the Target. All conditions are proved. What
--- would stand behind the loop is never reached, and a call of this procedure never ends.
+-- would come after the loop is never reached, and a call of this procedure never ends.
 procedure Hold (Target : in Natural; Drive : in out Natural)
 --# derives Drive from *, Target;
 --# pre Drive <= 1000;

@@ -1,5 +1,5 @@
 -- A loop with half a turn at its end: the exit stands between what each turn begins with and what only a further turn needs. All conditions are
--- proved: behind the exit the value is known to be 100 or more.
+-- proved: after the exit the value is known to be 100 or more.
 procedure Settle (Value : in out Natural)
 --# derives Value from Value;
 --# post Value < 100;

@@ -1,5 +1,5 @@
 -- A search with two exits: Root is the root of a square number, or Found is false. All conditions are proved: each exit sets Found, and what its
--- `if` tests is known behind the loop. Without `exit when` in the second place Root + 1 would not stay in its type.
+-- `if` tests is known after the loop. Without `exit when` in the second place Root + 1 would not stay in its type.
 procedure Square_Search (Number : in Natural; Root : out Natural; Found : out Boolean)
 --# derives Root, Found from Number;
 --# post Found -> Root * Root = Number;

@@ -12,7 +12,7 @@ use Rattle.spx_core.specs.Effects.{Effect, Read, assign, effect, endless, exit, 
 use Rattle.spx_core.specs.Flow.{MayFlow, Steps, stay, advance}
 use Rattle.spx_core.specs.Ways.{Exits, Free, Goes, Reaches, Turns, no_turn}
 use Rattle.spx_core.proofs.Callers.Expressions.{fold-Name, fold-Number}
-use Rattle.spx_examples.specs.Exits.{behind, exit_first, exit_last, never_left, set_and_exit}
+use Rattle.spx_examples.specs.Exits.{after_never_left, exit_first, exit_last, never_left, set_and_exit}
 use Rattle.spx_examples.specs.Flag.{y}
 use Rattle.spx_examples.specs.Increment.{place, x, x_at}
 use Rattle.spx_examples.specs.Loops.{z_at}
@@ -52,8 +52,8 @@ own_with test value = endless (next (exit (filter_map read_of test) (next (assig
 own_effect : effect set_and_exit ≡ own_with (y_at 5 10 ∷ []) (z_at 7 15 ∷ [])
 own_effect = ap₂ own_with (test_reads (place 5 12) (place 5 14) (y_at 5 10)) (fold-Name names_step (z_at 7 15))
 
-behind_effect : effect behind ≡ next (endless (next nothing nothing)) (next (assign (Some y) ((place 8 9, x) ∷ []) (place 8 4)) nothing)
-behind_effect = ap (λ names. next (endless (next nothing nothing)) (next (assign (Some y) (filter_map read_of names) (place 8 4)) nothing)) (fold-Name names_step (x_at 8 9))
+after_never_left_effect : effect after_never_left ≡ next (endless (next nothing nothing)) (next (assign (Some y) ((place 8 9, x) ∷ []) (place 8 4)) nothing)
+after_never_left_effect = ap (λ names. next (endless (next nothing nothing)) (next (assign (Some y) (filter_map read_of names) (place 8 4)) nothing)) (fold-Name names_step (x_at 8 9))
 
 -- ---- flow
 
@@ -95,7 +95,7 @@ set_in_part front middle back is =
     ∙ ap (λ m. stands_in x front || stands_in x (m ++ back)) is
     ∙ or-true (stands_in x front)
 
--- each exit is behind the statement that sets X
+-- each exit is after the statement that sets X
 sets_on_exit : (way : List VarId) → Goes (endless last_body) way → stands_in x way ≡ true
 sets_on_exit way (front, back, is, turns, inl none) = absurd none
 sets_on_exit way (front, back, is, turns, inr (set, rest, parts, first, more)) = ap (stands_in x) (is ∙ ap (λ b. front ++ b) parts) ∙ set_in_part front set rest first
@@ -109,10 +109,10 @@ pub no_way : (way : List VarId) → ¬ Goes (effect never_left) way
 no_way way (front, back, is, turns, inl none) = none
 no_way way (front, back, is, turns, inr later) = later.4
 
-no_read_behind : (way : List VarId) → ¬ Reaches (next (endless (next nothing nothing)) (next (assign (Some y) ((place 8 9, x) ∷ []) (place 8 4)) nothing)) (place 8 9) x way
-no_read_behind way (inl (front, back, is, turns, inl none)) = none
-no_read_behind way (inl (front, back, is, turns, inr later)) = later.4
-no_read_behind way (inr (front, back, is, past, read)) = no_way front past
+no_read_after : (way : List VarId) → ¬ Reaches (next (endless (next nothing nothing)) (next (assign (Some y) ((place 8 9, x) ∷ []) (place 8 4)) nothing)) (place 8 9) x way
+no_read_after way (inl (front, back, is, turns, inl none)) = none
+no_read_after way (inl (front, back, is, turns, inr later)) = later.4
+no_read_after way (inr (front, back, is, past, read)) = no_way front past
 
-pub no_read : ¬ Free (Reaches (effect behind) (place 8 9) x) x
-no_read h = let way = subst (λ e. Free (Reaches e (place 8 9) x) x) behind_effect h in no_read_behind way.0 way.1
+pub no_read : ¬ Free (Reaches (effect after_never_left) (place 8 9) x) x
+no_read h = let way = subst (λ e. Free (Reaches e (place 8 9) x) x) after_never_left_effect h in no_read_after way.0 way.1

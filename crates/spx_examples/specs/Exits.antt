@@ -60,8 +60,8 @@ abbrev pub set_and_exit : Command
 set_and_exit = loop (only (Choose (place 6 7) y_is_positive (Then (Set (x_named 7 10) (expr.Name (z_at 7 15))) (only (Leave (place 8 10)))) Skip))
 
 -- `loop null; end loop; Y := X`
-abbrev pub behind : Command
-behind = Then never_left (only (Set (named (y_at 8 4)) (expr.Name (x_at 8 9))))
+abbrev pub after_never_left : Command
+after_never_left = Then never_left (only (Set (named (y_at 8 4)) (expr.Name (x_at 8 9))))
 
 -- ---- rules
 

@@ -16,7 +16,7 @@ ghost use Rattle.spx_meaning.specs.Frames.{Frame};
 ghost use Rattle.spx_meaning.specs.Runs.{Ended, Later, run};
 ghost use Rattle.spx_meaning.specs.Stores.{Store};
 ghost use Rattle.spx_paths.specs.Walks.{arrivals, cut_arrivals, walk};
-ghost use Rattle.spx_examples.specs.Exits.{behind, exit_alone, exit_below, exit_first, exit_in_each, exit_last, first_breach, half_turn, loop, never_left, past_exit, set_and_exit, step_and_exit, where_below};
+ghost use Rattle.spx_examples.specs.Exits.{after_never_left, exit_alone, exit_below, exit_first, exit_in_each, exit_last, first_breach, half_turn, loop, never_left, past_exit, set_and_exit, step_and_exit, where_below};
 ghost use Rattle.spx_examples.specs.ExitText.{exit_bytes, exit_command, exit_program, exit_sub, exit_tokens, exit_units};
 ghost use Rattle.spx_examples.specs.Flag.{y};
 ghost use Rattle.spx_examples.specs.Increment.{place, x};
@@ -41,13 +41,13 @@ pub fn a_loop_without_an_exit_is_later()
     ensures { (f : Frame) (n : ℕ) (s : Store) → run f n s never_left ≡ Later }
 {}
 
-/// What the condition of an exit reads comes to what the loop sets. What is set before the exit comes to what holds behind the loop.
+/// What the condition of an exit reads comes to what the loop sets. What is set before the exit comes to what holds after the loop.
 pub fn exits_flow()
     ensures from_test { MayFlow (effect exit_first) y x }
     ensures own { MayFlow (effect set_and_exit) z x }
 {}
 
-/// A loop without a head is left by an exit alone: where X is set before that, what it had before comes to nothing, and it is set behind the loop. Where the exit
+/// A loop without a head is left by an exit alone: where X is set before that, what it had before comes to nothing, and it is set after the loop. Where the exit
 /// comes first, it may be unset.
 pub fn a_loop_is_left_by_its_exits_alone()
     ensures gone { (v : VarId) → ¬ MayFlow (effect exit_last) x v }
@@ -55,10 +55,10 @@ pub fn a_loop_is_left_by_its_exits_alone()
     ensures unset { Free (Goes (effect exit_first)) x }
 {}
 
-/// Behind a loop that no way leaves nothing is read, so that nothing unset is.
-pub fn nothing_is_behind_a_loop_without_an_exit()
+/// After a loop that no way leaves nothing is read, so that nothing unset is.
+pub fn nothing_is_read_after_a_loop_without_an_exit()
     ensures no_way { (way : List VarId) → ¬ Goes (effect never_left) way }
-    ensures no_read { ¬ Free (Reaches (effect behind) (place 8 9) x) x }
+    ensures no_read { ¬ Free (Reaches (effect after_never_left) (place 8 9) x) x }
 {}
 
 /// Past `exit when` the way that goes on comes first; past an `if` with an exit, its arm.
@@ -67,7 +67,7 @@ pub fn the_way_past_an_exit_comes_first()
     ensures arm { (rest leave : ℕ → Tree) (made : ℕ) → walk increment_without_pre inc_without_pre (where_below (only exit_alone)) rest leave made ≡ forked (leave made) (rest made) }
 {}
 
-/// Before a loop without a head there is the path to its cut alone. From the cut there is one back to it, and through each exit those behind the loop, here seven.
+/// Before a loop without a head there is the path to its cut alone. From the cut there is one back to it, and through each exit those after the loop, here seven.
 pub fn paths_of_exits_are_counted()
     ensures before { arrivals half_turn 7 9 ≡ 1 }
     ensures from_cut { cut_arrivals half_turn 7 9 ≡ 8 }
