@@ -9,3 +9,4 @@ pub mod Pairs
 pub mod Flows
 pub mod Entries
 pub mod Scopes
+pub mod Annotations

@@ -1,15 +1,19 @@
 -- What holds of the runs of an accepted program.
-use Rattle.std.specs.Prelude.{◌≡◌, ◌≢◌, ℕ, ◌≤◌, false, IsTrue, IsSome, IfSome, All}
+use Rattle.std.specs.Prelude.{◌≡◌, ◌≢◌, ℕ, ◌≤◌, false, Some, IsTrue, IsSome, IfSome, All}
 use Rattle.spx_text.specs.declared.place.Place.{Place}
 use Rattle.spx_core.specs.declared.entity.VarId.{VarId}
 use Rattle.spx_core.specs.declared.program.Program.{Program}
 use Rattle.spx_core.specs.declared.subprogram.Sub.{Sub}
 use Rattle.spx_core.specs.Commands.{Command}
+use Rattle.spx_core.specs.declared.expression.CoreExpr.{CoreExpr}
 use Rattle.spx_core.specs.Formals.{is_inner}
 use Rattle.spx_core.specs.Dependency.{derives, exports, imports}
+use Rattle.spx_term.specs.declared.value.Value.{Value}
 use Rattle.spx_meaning.specs.declared.bad.BadKind.{BadKind}
 use Rattle.spx_meaning.specs.Stores.{Store, look, type_of, is_in}
 use Rattle.spx_meaning.specs.Frames.{Frame, around}
+use Rattle.spx_meaning.specs.Annotations.{meant}
+use Rattle.spx_meaning.specs.Bits.{computed}
 use Rattle.spx_meaning.specs.Runs.{Outcome, Ended, Bad, Later, run, pre_holds, entry_of, call}
 
 -- a result other than Later is the same at every greater bound
@@ -54,3 +58,7 @@ OthersAreKept p sub =
 pub record TwoRuns (p : Program) : Type 0 where
   pub derived : All (AreDerived p) p.subs
   pub kept : All (OthersAreKept p) p.subs
+
+-- a value of an annotation that is computed in 128 bits is the one that the annotation has
+abbrev pub ComputedAreMeant : Type 0
+ComputedAreMeant = (f : Frame) (s : Store) (e : CoreExpr) (x : Value) → computed f s e ≡ Some x → meant f s e ≡ x

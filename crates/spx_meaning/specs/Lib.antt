@@ -4,4 +4,6 @@ pub mod Literals
 pub mod Evaluation
 pub mod Annotations
 pub mod Runs
+pub mod Bits
+pub mod Limits
 pub mod Laws

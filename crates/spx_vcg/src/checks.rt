@@ -15,11 +15,12 @@ ghost use Rattle.spx_arena.specs.Claims.{AreIds};
 ghost use Rattle.spx_vcg.specs.WalkSteps.{Evaluates, Keeps, Makes, MeanAll, Means, Walks, Whole};
 
 use crate::goals::{in_range, one_goal};
-use crate::ids::{self, negated_id, shift_of, subtype_of, term_op};
+use crate::ids::{self, negated_id, shift_of};
 use crate::walk::Walk;
 use spx_arena::TermId;
 use spx_core::{BaseType, Breach, CoreExpr, Mapping, Program, Shift, Span};
-use spx_paths::{base_of, literal};
+use spx_meaning::term_op;
+use spx_static::{base_of, literal, subtype_of};
 use spx_term::{CondKind, TermOp, Value};
 use spx_text::Place;
 use spx_tree::{InfixOp, MemberOp, PrefixOp};

@@ -16,7 +16,7 @@ use crate::values::Values;
 use crate::walk::Walk;
 use spx_arena::{TermId, Terms};
 use spx_core::{CoreExpr, Program, Shift};
-use spx_paths::literal;
+use spx_static::literal;
 use spx_term::CondKind;
 use spx_text::Place;
 use spx_tree::{InfixOp, PrefixOp};

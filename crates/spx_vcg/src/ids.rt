@@ -1,12 +1,10 @@
 // Terms of expressions, by ids.
 ghost use Rattle.std.specs.Prelude.{◌≡◌, ◌<◌, length, IfOk};
-ghost use Rattle.spx_core.specs.Resolved.{subtype_of};
 ghost use Rattle.spx_core.specs.Uses.{variable_of};
 ghost use Rattle.spx_core.specs.Judged.{application};
 ghost use Rattle.spx_term.specs.declared.term.Term.TheVariants as term;
 ghost use Rattle.spx_term.specs.declared.term.TermPrefix.TheVariants.{Not};
 ghost use Rattle.spx_term.specs.Folding.{term_of as static_term};
-ghost use Rattle.spx_meaning.specs.Evaluation.{term_op};
 ghost use Rattle.spx_paths.specs.Terms.{between, member_term, moved_term, named, signed_term};
 ghost use Rattle.spx_arena.specs.Sharing.{tree_at, Adds};
 ghost use Rattle.spx_vcg.specs.ConditionWalk.{applied};
@@ -17,49 +15,13 @@ ghost use Rattle.spx_vcg.specs.States.{state_in, AreValues};
 use crate::entered::{Entered, entered_name, present_name};
 use crate::values::Values;
 use spx_arena::{Node, TermId, Terms};
-use spx_core::{CoreExpr, CoreFunction, Entity, Program, Shift, Subtype, UNIVERSAL, variable_of};
-use spx_paths::literal;
+use spx_core::{CoreExpr, CoreFunction, Entity, Program, Shift, variable_of};
+use spx_meaning::term_op;
+use spx_static::{literal, subtype_of};
 use spx_term::{Name, TermOp, TermPrefix, Value};
-use spx_tree::{InfixOp, MemberOp, PrefixOp};
+use spx_tree::{MemberOp, PrefixOp};
 use spx_types::application;
 use std::alloc::AllocError;
-
-pub fn term_op(op: InfixOp) -> TermOp
-    ensures { result ≡ term_op op }
-{
-    match op {
-        InfixOp::Add => TermOp::Add,
-        InfixOp::Subtract => TermOp::Subtract,
-        InfixOp::Multiply => TermOp::Multiply,
-        InfixOp::Divide => TermOp::Divide,
-        InfixOp::Mod => TermOp::Mod,
-        InfixOp::Rem => TermOp::Rem,
-        InfixOp::Power => TermOp::Power,
-        InfixOp::Equal => TermOp::Equal,
-        InfixOp::NotEqual => TermOp::NotEqual,
-        InfixOp::Less => TermOp::Less,
-        InfixOp::LessOrEqual => TermOp::LessOrEqual,
-        InfixOp::Greater => TermOp::Greater,
-        InfixOp::GreaterOrEqual => TermOp::GreaterOrEqual,
-        InfixOp::And => TermOp::And,
-        InfixOp::Or => TermOp::Or,
-        InfixOp::Xor => TermOp::NotEqual,
-        InfixOp::AndThen => TermOp::And,
-        InfixOp::OrElse => TermOp::Or,
-        InfixOp::Implies => TermOp::Implies,
-        InfixOp::Equivalent => TermOp::Equivalent,
-    }
-}
-
-/// The subtype that a name denotes. What denotes none counts as that of universal numbers.
-pub fn subtype_of(entity: Option<Entity>) -> Subtype
-    ensures { result ≡ subtype_of entity }
-{
-    match entity {
-        Some(Entity::TypeName(subtype)) => subtype,
-        _ => UNIVERSAL,
-    }
-}
 
 /// The id of a variable.
 fn variable_id(terms: &mut Terms, name: Name) -> Result<TermId, AllocError>

@@ -1,4 +1,4 @@
-// What is known of expressions from their types (Ada 95 RM 4.9).
+// The values and the base types of expressions.
 ghost use Rattle.std.specs.Prelude.{◌≡◌};
 ghost use Rattle.spx_meaning.specs.Literals.{base_in, base_of, literal, value_of};
 
