@@ -1,0 +1,5 @@
+pub mod SlotLaws
+pub mod BitLaws
+pub mod BoundLaws
+pub mod EvalLaws
+pub mod RunForms

@@ -1,0 +1,3 @@
+pub mod Rooms
+pub mod Results
+pub mod Calls

@@ -1,0 +1,128 @@
+-- What the answers of this crate say of evaluations and runs.
+use Rattle.std.specs.Prelude.{◌≡◌, ℕ, ℤ, int_le, Bool, true, false, if◌then◌else◌, List, [], ◌∷◌, map, Option, Some, None, Result, Ok, Err}
+use Rattle.spx_text.specs.declared.place.Place.{Place}
+use Rattle.spx_core.specs.declared.expression.CoreExpr.{CoreExpr}
+use Rattle.spx_core.specs.declared.entity.Class.TheVariants.{Integer}
+use Rattle.spx_core.specs.declared.function.Span.{Span}
+use Rattle.spx_core.specs.declared.statement.CoreAlternative.{CoreAlternative}
+use Rattle.spx_core.specs.declared.statement.CoreCount.{CoreCount}
+use Rattle.spx_core.specs.declared.subprogram.CorePredicate.{CorePredicate}
+use Rattle.spx_core.specs.declared.program.Program.{Program}
+use Rattle.spx_core.specs.declared.subprogram.Sub.{Sub}
+use Rattle.spx_core.specs.Commands.{Command, Alternatives, Head, Tested, Counted, Endless, alternative, alternatives_of}
+use Rattle.spx_num.specs.declared.arithmetic.TooWide.{TooWide}
+use Rattle.spx_term.specs.declared.value.Value.{Value}
+use Rattle.spx_term.specs.declared.value.Value.TheVariants.{Truth}
+use Rattle.spx_term.specs.Meaning.{as_truth}
+use Rattle.spx_meaning.specs.declared.bad.BadKind.{BadKind}
+use Rattle.spx_meaning.specs.declared.bad.BadKind.TheVariants as bad
+use Rattle.spx_meaning.specs.declared.bad.Bad.{Bad}
+use Rattle.spx_meaning.specs.Stores.{Store, is_within}
+use Rattle.spx_meaning.specs.Frames.{Frame, around}
+use Rattle.spx_meaning.specs.Evaluation.{Answer, Gives, Fails, Waits, eval}
+use Rattle.spx_meaning.specs.Annotations.{truth}
+use Rattle.spx_meaning.specs.Runs as runs
+use Rattle.spx_meaning.specs.Bits.{is_too_large}
+use Rattle.spx_interp.specs.declared.body.Body.{Body}
+use Rattle.spx_interp.specs.declared.step.Step.{Step}
+use Rattle.spx_interp.specs.declared.step.Step.TheVariants as step
+use Rattle.spx_meaning.specs.Limits.{where_ended, passes, passes_for, passes_in_count, passes_in_predicate, body_passes, call_passes}
+
+abbrev pub frame_of : Body → Frame
+frame_of b = around b.program.now b.sub.now b.entry.now
+
+-- the answer that a result of code is
+abbrev pub answered : Result Value Bad → Answer
+answered (Ok x) = Gives x
+answered (Err fault) = Fails fault.kind fault.place
+
+-- the value, if it is a number between these; one that 128 bits do not hold is not
+abbrev pub bounded : (first last : ℤ) → BadKind → Place → Option Value → Answer
+bounded first last kind place (Some x) = if is_within Integer first last x then Gives x else Fails kind place
+bounded first last kind place None = Fails kind place
+
+-- the result of a test is the truth of the answer
+abbrev pub truth_answered : Result Bool Bad → Answer → Type 0
+truth_answered (Ok b) (Gives x) = b ≡ as_truth x
+truth_answered (Ok b) (Fails kind place) = ⊥
+truth_answered (Ok b) Waits = ⊥
+truth_answered (Err fault) answer = answer ≡ Fails fault.kind fault.place
+
+-- how a run has ended, with the store that it has left
+abbrev pub outcome_of : Step → Store → runs.Outcome
+outcome_of step.Ended s = runs.Ended s
+outcome_of step.Left s = runs.Left s
+outcome_of (step.Failed fault) s = runs.Bad fault.kind fault.place
+outcome_of step.Later s = runs.Later
+
+-- an outcome, if the run does not pass the limit
+abbrev pub limited : Bool → runs.Outcome → Option runs.Outcome
+limited true outcome = None
+limited false outcome = Some outcome
+
+abbrev pub done : Result Step TooWide → Store → Option runs.Outcome
+done (Ok step) s = Some (outcome_of step s)
+done (Err fault) s = None
+
+-- the run of a command under the limit
+unfoldable pub ran : Frame → ℕ → Store → Command → Option runs.Outcome
+ran f n s c = limited (passes f n s c) (runs.run f n s c)
+
+unfoldable pub ran_for : Value → Frame → ℕ → Store → Alternatives → Option runs.Outcome
+ran_for x f n s alternatives = limited (passes_for x f n s alternatives) (runs.run_for x f n s alternatives)
+
+-- ---- loops
+
+-- the test before a turn; a loop without a condition has one that is true
+abbrev pub test_of : Frame → ℕ → Store → Head → Answer
+test_of f n s (Tested place condition) = eval f n s condition
+test_of f n s (Counted c) = Gives (Truth true)
+test_of f n s Endless = Gives (Truth true)
+
+-- what follows the bounds of a loop
+abbrev pub on_bounds : Result Span Bad → Store → ((low high : ℤ) → Store → runs.Outcome) → runs.Outcome
+on_bounds (Ok span) s go = go span.first span.last s
+on_bounds (Err fault) s go = runs.Bad fault.kind fault.place
+
+abbrev pub where_bounds : Result Span Bad → Store → ((low high : ℤ) → Store → Bool) → Bool
+where_bounds (Ok span) s test = test span.first span.last s
+where_bounds (Err fault) s test = false
+
+-- the last value comes after the first one, or is the first one
+abbrev pub IsWay : CoreCount → Span → Type 0
+IsWay c way = (if c.is_reverse then int_le way.last way.first else int_le way.first way.last) ≡ true
+
+unfoldable pub ran_count : Frame → CoreCount → Command → (last : ℤ) → ℕ → ℤ → Store → Option runs.Outcome
+ran_count f c body last n k s =
+    limited (passes_in_count c (λ i t. runs.run f i t body) (λ i t. passes f i t body) last n k s) (runs.counted c (λ i t. runs.run f i t body) last n k s)
+
+-- ---- alternatives
+
+abbrev pub ran_alternatives : Value → Frame → ℕ → Store → List CoreAlternative → Option runs.Outcome
+ran_alternatives x f n s [] = Some (runs.Ended s)
+ran_alternatives x f n s (a ∷ rest) = ran_for x f n s (alternatives_of (alternative a) (map alternative rest))
+
+-- ---- annotations
+
+-- an annotation that is false is bad, if 128 bits hold its numbers
+abbrev pub looked_at : Frame → Store → BadKind → Place → CoreExpr → Option runs.Outcome
+looked_at f s kind place annotation = limited (is_too_large f s annotation) (runs.demand (truth f s annotation) kind place s)
+
+abbrev pub predicate_looked_at : Frame → Store → BadKind → Option CorePredicate → Option runs.Outcome
+predicate_looked_at f s kind (Some predicate) = looked_at f s kind predicate.place predicate.condition
+predicate_looked_at f s kind None = Some (runs.Ended s)
+
+-- ---- bodies
+
+-- what is looked at after the statements
+abbrev pub body_ended : Frame → Store → Option runs.Outcome
+body_ended f t =
+    limited
+    (where_ended (runs.demand (runs.exports_set f.sub t) bad.Unset f.sub.end t) (λ u. passes_in_predicate f f.sub.post u))
+    (runs.then_do (runs.demand (runs.exports_set f.sub t) bad.Unset f.sub.end t) (λ u. runs.demand_post f f.sub.post u))
+
+unfoldable pub body_ran : Frame → ℕ → Option runs.Outcome
+body_ran f n = limited (body_passes f n) (runs.run_body f n)
+
+abbrev pub call_ran : Program → ℕ → Sub → Store → Option runs.Outcome
+call_ran p n sub s = limited (call_passes p n sub s) (runs.call p n sub s)

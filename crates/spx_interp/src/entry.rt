@@ -1,0 +1,46 @@
+// The values with which a body begins (Ada 95 RM 3.3.1, 6.4).
+ghost use Rattle.std.specs.Prelude.{◌≡◌, length, slice_get};
+ghost use Rattle.spx_meaning.specs.Runs.{cleared, is_new_kind, is_new_var, starts_new};
+ghost use Rattle.spx_interp.specs.Rooms.{VarsHaveRoom};
+
+use crate::slots::put;
+use spx_core::{Mode, Program, Var, VarId, VarKind};
+use spx_meaning::{Value, initial_value};
+
+/// `out` formals and what is declared in a body take nothing over from the caller.
+fn is_new_kind(kind: VarKind) -> bool
+    ensures { result ≡ is_new_kind kind }
+{
+    match kind {
+        VarKind::Formal(mode) => match mode {
+            Mode::In | Mode::InOut => false,
+            Mode::Out => true,
+        },
+        VarKind::Local | VarKind::Initialized(_) | VarKind::LoopParameter => true,
+    }
+}
+
+/// Whether a variable of a subprogram has no value from before its body.
+fn starts_new(program: &Program, var: VarId) -> bool
+    ensures { result ≡ starts_new program.now var }
+{
+    match program.vars.get(var.0) {
+        Some(var) => is_new_kind(var.kind),
+        None => false,
+    }
+}
+
+/// Gives those of the variables that are new the values with which they are declared, and no others.
+pub(crate) fn clear(program: &Program, store: &mut [Option<Value>], vars: &[VarId])
+    requires { VarsHaveRoom (length store.old) vars.now }
+    ensures { store.new ≡ cleared program.now store.old vars.now }
+{
+    let mut left = vars.len();
+    while left > 0 {
+        left -= 1;
+        let var = vars[left];
+        if starts_new(program, var) {
+            put(store, var, initial_value(program, var));
+        }
+    }
+}

@@ -1,0 +1,270 @@
+// The value of an expression in code, or the first check that fails.
+ghost use Rattle.std.specs.Prelude.{◌≡◌, pos, int_lt, if◌then◌else◌, IsSome, Some};
+ghost use Rattle.spx_core.specs.declared.entity.Class.TheVariants.{Integer};
+ghost use Rattle.spx_term.specs.declared.value.Value.{Value};
+ghost use Rattle.spx_term.specs.declared.value.Value.TheVariants as value;
+ghost use Rattle.spx_term.specs.Meaning.{as_number, same_value};
+ghost use Rattle.spx_meaning.specs.declared.bad.BadKind.TheVariants as bad;
+ghost use Rattle.spx_core.specs.Judged.{application};
+ghost use Rattle.spx_core.specs.Places.{place_of};
+ghost use Rattle.spx_meaning.specs.Evaluation.{Gives, Fails, checked, decided, eval, in_base, mapping_checked, read, signed, static_or, within_bounds};
+ghost use Rattle.spx_meaning.specs.Literals.{base_of, literal};
+ghost use Rattle.spx_meaning.specs.Stores.{is_in, is_within};
+ghost use Rattle.spx_meaning.specs.Bits.{held};
+ghost use Rattle.spx_interp.specs.Results.{answered, bounded, frame_of, truth_answered};
+
+use crate::body::Body;
+use crate::literals::{base_of, first_in, last_in, literal};
+use crate::numbers::{as_number, as_truth, same_value};
+use crate::operations::{applied, member, moved, signed};
+use crate::slots::look;
+use spx_core::{BaseType, Class, CoreExpr, CoreFunction, Span, Subtype, VarId, variable_of};
+use spx_meaning::{Bad, BadKind, Value};
+use spx_text::Place;
+use spx_tree::{InfixOp, PrefixOp};
+use spx_types::application;
+
+/// Whether a value is one of the class, and between these, if it is a number.
+fn is_within(class: Class, first: i128, last: i128, value: Value) -> bool
+    ensures { result ≡ is_within class first last value }
+{
+    match class {
+        Class::Integer | Class::Enumeration => match value {
+            Value::Number(number) => first <= number && number <= last,
+            Value::Truth(_) => false,
+        },
+        Class::Boolean => match value {
+            Value::Number(_) => false,
+            Value::Truth(_) => true,
+        },
+    }
+}
+
+/// Whether a value is one of the type.
+pub(crate) fn is_in(subtype: Subtype, value: Value) -> bool
+    ensures { result ≡ is_in subtype value }
+{
+    is_within(subtype.base.class, subtype.first, subtype.last, value)
+}
+
+/// The value, if it is a number between these. What 128 bits do not hold is not.
+fn bounded(first: i128, last: i128, bad: Bad, found: Option<Value>) -> Result<Value, Bad>
+    ensures { answered result ≡ bounded first last bad.kind bad.place found }
+{
+    match found {
+        Some(value) => {
+            if is_within(Class::Integer, first, last, value) {
+                Ok(value)
+            } else {
+                Err(bad)
+            }
+        }
+        None => Err(bad),
+    }
+}
+
+/// The value that this is where 128 bits hold it, if it is a number between these.
+fn held_within(first: i128, last: i128, bad: Bad, found: Option<Value>) -> Result<Value, Bad>
+    ensures { (x : Value) → found ≡ held x → answered result ≡ (if is_within Integer first last x then Gives x else Fails bad.kind bad.place) }
+{
+    bounded(first, last, bad, found)
+}
+
+/// The value of an operation, if it lies in the range of the base type.
+fn in_base(base: BaseType, place: Place, found: Option<Value>) -> Result<Value, Bad>
+    ensures { (x : Value) → found ≡ held x → answered result ≡ in_base base place x }
+{
+    let bad = Bad {
+        kind: BadKind::Overflow,
+        place,
+    };
+    held_within(base.first, base.last, bad, found)
+}
+
+/// The value of an operation, which 128 bits hold.
+fn exactly(found: Option<Value>) -> Result<Value, Bad>
+    requires { IsSome found }
+    ensures { (x : Value) → found ≡ held x → answered result ≡ Gives x }
+{
+    Ok(found.unwrap())
+}
+
+fn is_zero(divisor: Value) -> bool
+    ensures { result ≡ same_value divisor (value.Number (pos 0)) }
+{
+    same_value(divisor, Value::Number(0))
+}
+
+fn is_negative(exponent: Value) -> bool
+    ensures { result ≡ int_lt (as_number exponent) (pos 0) }
+{
+    as_number(exponent) < 0
+}
+
+/// The result of an operation of this base type, whose right operand is at the second place.
+#[tactic(auto, using(crate::proofs::BitLaws::operation_laws))]
+fn checked(
+    op: InfixOp,
+    base: BaseType,
+    place: Place,
+    right_place: Place,
+    left: Value,
+    right: Value,
+) -> Result<Value, Bad>
+    ensures { answered result ≡ checked op base place right_place left right }
+{
+    let value = applied(op, left, right);
+    match op {
+        InfixOp::Add | InfixOp::Subtract | InfixOp::Multiply => in_base(base, place, value),
+        InfixOp::Divide if is_zero(right) => division(place),
+        InfixOp::Divide => in_base(base, place, value),
+        InfixOp::Mod | InfixOp::Rem if is_zero(right) => division(place),
+        InfixOp::Mod | InfixOp::Rem => exactly(value),
+        InfixOp::Power if is_negative(right) => out_of_range(right_place),
+        InfixOp::Power => in_base(base, place, value),
+        _ => exactly(value),
+    }
+}
+
+/// The divisor of the operation at the place is 0.
+fn division(place: Place) -> Result<Value, Bad>
+    ensures { answered result ≡ Fails bad.Division place }
+{
+    Err(Bad {
+        kind: BadKind::Division,
+        place,
+    })
+}
+
+/// The value at the place does not lie where it must.
+fn out_of_range(place: Place) -> Result<Value, Bad>
+    ensures { answered result ≡ Fails bad.Range place }
+{
+    Err(Bad {
+        kind: BadKind::Range,
+        place,
+    })
+}
+
+/// The result of an operation on one operand, of this base type.
+#[tactic(auto, using(crate::proofs::BitLaws::operation_laws))]
+fn sign_checked(op: PrefixOp, base: BaseType, place: Place, operand: Value) -> Result<Value, Bad>
+    ensures { answered result ≡ signed op base place operand }
+{
+    let value = signed(op, operand);
+    match op {
+        PrefixOp::Plus | PrefixOp::Not => exactly(value),
+        PrefixOp::Minus | PrefixOp::Abs => in_base(base, place, value),
+    }
+}
+
+/// The result of a function, if it lies in its bounds.
+fn within_bounds(bounds: Span, place: Place, found: Option<Value>) -> Result<Value, Bad>
+    ensures { (x : Value) → found ≡ held x → answered result ≡ within_bounds (Some bounds) place x }
+{
+    let bad = Bad {
+        kind: BadKind::Range,
+        place,
+    };
+    held_within(bounds.first, bounds.last, bad, found)
+}
+
+/// The result of a function of an operand at the place. A function without bounds gives its operand.
+fn mapping_checked(function: &CoreFunction, place: Place, operand: Value) -> Result<Value, Bad>
+    ensures { answered result ≡ mapping_checked (application function.now) place operand }
+{
+    match application(function) {
+        Ok(mapping) => match mapping.bounds {
+            Some(bounds) => within_bounds(bounds, place, moved(mapping.shift, operand)),
+            None => exactly(moved(mapping.shift, operand)),
+        },
+        Err(_) => Ok(operand),
+    }
+}
+
+/// The value of a short-circuit form whose left operand decides it (Ada 95 RM 4.5.1).
+fn decided(op: InfixOp, left: Value) -> Option<Value>
+    ensures { result ≡ decided op left }
+{
+    match op {
+        InfixOp::AndThen if !as_truth(left) => Some(Value::Truth(false)),
+        InfixOp::OrElse if as_truth(left) => Some(Value::Truth(true)),
+        _ => None,
+    }
+}
+
+/// A read of what is denoted at the place. What denotes no variable counts as 0.
+fn read(store: &[Option<Value>], place: Place, var: Option<VarId>) -> Result<Value, Bad>
+    ensures { answered result ≡ read store.now place var }
+{
+    let Some(var) = var else {
+        return Ok(Value::Number(0));
+    };
+    look(store, var).ok_or(Bad {
+        kind: BadKind::Unset,
+        place,
+    })
+}
+
+/// The value of an expression within a bound. A static one stands for its value.
+#[cycle(eval)]
+#[tactic(auto, using(crate::proofs::EvalLaws::eval_laws))]
+pub(crate) fn eval(
+    body: &Body,
+    turns: u64,
+    store: &[Option<Value>],
+    expr: &CoreExpr,
+) -> Result<Value, Bad>
+    ensures { answered result ≡ eval (frame_of body.now) turns store.now expr.now }
+{
+    if let Some(value) = literal(expr) {
+        return Ok(value);
+    }
+    match expr {
+        CoreExpr::Number(number, _) => Ok(Value::Number(*number)),
+        CoreExpr::Name(name) => read(store, name.name.place, variable_of(name.entity)),
+        CoreExpr::Entry(name, _) => read(store, name.name.place, variable_of(name.entity)),
+        CoreExpr::Attribute(_, _) => Ok(Value::Number(0)),
+        CoreExpr::Applied(function, _, operand) => {
+            let value = eval(body, turns, store, operand.get())?;
+            mapping_checked(function, operand.get().place(), value)
+        }
+        CoreExpr::Parenthesized(_, inner) => eval(body, turns, store, inner.get()),
+        CoreExpr::Prefix(op, place, operand) => {
+            let value = eval(body, turns, store, operand.get())?;
+            sign_checked(*op, base_of(expr), *place, value)
+        }
+        CoreExpr::Infix(op, place, left, right) => {
+            let first = eval(body, turns, store, left.get())?;
+            if let Some(value) = decided(*op, first) {
+                return Ok(value);
+            }
+            let second = eval(body, turns, store, right.get())?;
+            let right_place = right.get().place();
+            checked(*op, base_of(expr), *place, right_place, first, second)
+        }
+        CoreExpr::InType(op, _, tested, name) => {
+            let value = eval(body, turns, store, tested.get())?;
+            Ok(member(*op, value, first_in(name), last_in(name)))
+        }
+        CoreExpr::InRange(op, _, tested, low, high) => {
+            let value = eval(body, turns, store, tested.get())?;
+            let first = eval(body, turns, store, low.get())?;
+            let last = eval(body, turns, store, high.get())?;
+            Ok(member(*op, value, first, last))
+        }
+    }
+}
+
+/// Whether a condition is true.
+pub(crate) fn is_true(
+    body: &Body,
+    turns: u64,
+    store: &[Option<Value>],
+    condition: &CoreExpr,
+) -> Result<bool, Bad>
+    ensures { truth_answered result (eval (frame_of body.now) turns store.now condition.now) }
+{
+    let value = eval(body, turns, store, condition)?;
+    Ok(as_truth(value))
+}

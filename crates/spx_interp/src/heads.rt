@@ -1,0 +1,82 @@
+// What loops look at before a turn, and after it (Ada 95 RM 5.5).
+ghost use Rattle.std.specs.Prelude.{◌≡◌, ◌||◌, ◌&&◌, ℤ, Bool, not, int_le};
+ghost use Rattle.spx_core.specs.Commands.{head_of};
+ghost use Rattle.spx_term.specs.declared.value.Value.TheVariants.{Number};
+ghost use Rattle.spx_meaning.specs.Stores.{Store, is_in, type_of};
+ghost use Rattle.spx_meaning.specs.Runs.{Outcome, end_of, start_of, with_bounds};
+ghost use Rattle.spx_meaning.specs.Limits.{passes_after_bounds};
+ghost use Rattle.spx_interp.specs.Results.{frame_of, on_bounds, test_of, truth_answered, where_bounds};
+
+use crate::body::Body;
+use crate::evaluation::{eval, is_in, is_true};
+use crate::numbers::as_number;
+use spx_core::{CoreCount, CoreScheme, Span, Subtype};
+use spx_meaning::{Bad, BadKind, Value, type_of};
+
+/// Whether a loop takes another turn, as far as its condition says. One without a condition does.
+pub(crate) fn goes_on(
+    body: &Body,
+    turns: u64,
+    store: &[Option<Value>],
+    scheme: &CoreScheme,
+) -> Result<bool, Bad>
+    ensures { truth_answered result (test_of (frame_of body.now) turns store.now (head_of scheme.now)) }
+{
+    match scheme {
+        CoreScheme::While(_, condition) => is_true(body, turns, store, condition),
+        CoreScheme::For(_) | CoreScheme::Endless => Ok(true),
+    }
+}
+
+/// Whether both bounds lie in the type, where there is a value between them.
+fn are_in_type(subtype: Subtype, bounds: Span) -> bool
+    ensures { result ≡ (not (int_le bounds.first bounds.last) || (is_in subtype (Number bounds.first) && is_in subtype (Number bounds.last))) }
+{
+    bounds.first > bounds.last
+        || is_in(subtype, Value::Number(bounds.first)) && is_in(subtype, Value::Number(bounds.last))
+}
+
+/// The bounds of a loop that counts. Where none are written, they are the ends of the type.
+pub(crate) fn bounds_of(
+    body: &Body,
+    turns: u64,
+    store: &[Option<Value>],
+    count: &CoreCount,
+) -> Result<Span, Bad>
+    ensures runs { (go : (low high : ℤ) → Store → Outcome) → with_bounds (frame_of body.now) turns store.now (type_of body.now.program.now count.now.parameter) count.now.bounds go ≡ on_bounds result store.now go }
+    ensures passes { (test : (low high : ℤ) → Store → Bool) → passes_after_bounds (frame_of body.now) turns store.now (type_of body.now.program.now count.now.parameter) count.now.bounds test ≡ where_bounds result store.now test }
+{
+    let subtype = type_of(body.program, count.parameter);
+    let Some(range) = &count.bounds else {
+        return Ok(Span {
+            first: subtype.first,
+            last: subtype.last,
+        });
+    };
+    let first = as_number(eval(body, turns, store, &range.low)?);
+    let last = as_number(eval(body, turns, store, &range.high)?);
+    let bounds = Span { first, last };
+    if are_in_type(subtype, bounds) {
+        Ok(bounds)
+    } else {
+        Err(Bad {
+            kind: BadKind::Range,
+            place: range.low.place(),
+        })
+    }
+}
+
+/// The values of the parameter in the first turn and in the last one.
+pub(crate) fn way_of(count: &CoreCount, bounds: Span) -> Span
+    ensures first { result.first ≡ start_of count.now bounds.first bounds.last }
+    ensures last { result.last ≡ end_of count.now bounds.first bounds.last }
+{
+    if count.is_reverse {
+        Span {
+            first: bounds.last,
+            last: bounds.first,
+        }
+    } else {
+        bounds
+    }
+}

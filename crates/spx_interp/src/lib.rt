@@ -1,0 +1,25 @@
+//! Runs of subprograms: what a call does within a bound, by the definitions of `spx_meaning`.
+//!
+//! A layer above may rely on these calls. `call` gives exactly how the bounded call of a subprogram ends, and changes the store only where
+//! it has ended. `elaborate` gives the store that a program begins with. A number that an annotation computes has at most 128 bits: the
+//! answer is `TooLarge` exactly where a run passes this limit before it ends (`call_passes`).
+#![tactic(auto)]
+
+mod annotation;
+mod body;
+mod calling;
+mod entry;
+mod evaluation;
+mod fault;
+mod heads;
+mod literals;
+mod numbers;
+mod operations;
+mod slots;
+mod statements;
+mod step;
+#[cfg(test)]
+mod tests;
+
+pub use calling::{call, elaborate};
+pub use fault::{Finish, RunFault, RunLimit};
