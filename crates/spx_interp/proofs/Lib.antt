@@ -1,4 +1,3 @@
-pub mod SlotLaws
 pub mod BitLaws
 pub mod BoundLaws
 pub mod EvalLaws

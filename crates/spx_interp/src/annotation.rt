@@ -1,27 +1,18 @@
 // The values of annotations. They have one always, and only their numbers have a limit.
 ghost use Rattle.std.specs.Prelude.{◌≡◌, option_map};
 ghost use Rattle.spx_term.specs.Meaning.{as_truth};
-ghost use Rattle.spx_meaning.specs.Stores.{first_value, reading, reading_of, seen};
+ghost use Rattle.spx_meaning.specs.Stores.{reading, reading_of, seen};
 ghost use Rattle.spx_meaning.specs.Bits.{computed};
 ghost use Rattle.spx_interp.specs.Results.{frame_of};
 
 use crate::body::Body;
-use crate::literals::{first_in, last_in, literal};
+use crate::evaluation::{first_in, last_in};
 use crate::numbers::as_truth;
 use crate::operations::{applied, mapped, member, signed};
 use crate::slots::look;
-use spx_core::{Class, CoreExpr, Program, Subtype, VarId, variable_of};
-use spx_meaning::{Value, type_of};
-
-/// The first value of a type.
-fn first_value(subtype: Subtype) -> Value
-    ensures { result ≡ first_value subtype }
-{
-    match subtype.base.class {
-        Class::Integer | Class::Enumeration => Value::Number(subtype.first),
-        Class::Boolean => Value::Truth(false),
-    }
-}
+use spx_core::{CoreExpr, Program, VarId, variable_of};
+use spx_meaning::{Value, first_value, type_of};
+use spx_static::literal;
 
 /// What a variable counts as. An unset one counts as the first value of its type.
 fn reading(program: &Program, store: &[Option<Value>], var: VarId) -> Value

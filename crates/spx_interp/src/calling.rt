@@ -17,7 +17,7 @@ ghost use Rattle.spx_interp.specs.Rooms.{HasRoom, VarsHaveRoom};
 use crate::body::Body;
 use crate::entry::clear;
 use crate::fault::{Finish, RunFault};
-use crate::slots::{keep, look, slots_of};
+use crate::slots::look;
 use crate::statements::{look_at, run_stmts};
 use crate::step::Step;
 use spx_core::{CorePredicate, Program, Sub, SubId, VarSet};
@@ -114,7 +114,7 @@ fn run_sub(
     ensures limit { (limit : RunLimit) → result ≡ Err (TooLarge limit) → call_ran program.now turns sub.now store.now ≡ None }
 {
     let exports = VarSet::exports(alloc, sub)?;
-    let mut entry = slots_of(alloc, store, program.vars.len())?;
+    let mut entry = Vec::from_slice(alloc, store.as_slice())?;
     clear(program, &mut entry, sub.vars.as_slice());
     let mut slots = Vec::from_slice(alloc, entry.as_slice())?;
     let body = Body {
@@ -144,7 +144,7 @@ pub fn call(
     let run = run_sub(alloc, program, sub, store, turns)?;
     match run.step {
         Step::Ended | Step::Left => {
-            keep(store, run.slots.as_slice());
+            *store = Store::from_values(run.slots);
             Ok(Finish::Ended)
         }
         Step::Failed(bad) => Ok(Finish::Faulted(bad)),

@@ -7,44 +7,35 @@ ghost use Rattle.spx_term.specs.Meaning.{as_number, same_value};
 ghost use Rattle.spx_meaning.specs.declared.bad.BadKind.TheVariants as bad;
 ghost use Rattle.spx_core.specs.Judged.{application};
 ghost use Rattle.spx_core.specs.Places.{place_of};
-ghost use Rattle.spx_meaning.specs.Evaluation.{Gives, Fails, checked, decided, eval, in_base, mapping_checked, read, signed, static_or, within_bounds};
+ghost use Rattle.spx_meaning.specs.Evaluation.{Gives, Fails, checked, decided, eval, first_in, in_base, last_in, mapping_checked, read, signed, static_or, within_bounds};
 ghost use Rattle.spx_meaning.specs.Literals.{base_of, literal};
-ghost use Rattle.spx_meaning.specs.Stores.{is_in, is_within};
+ghost use Rattle.spx_meaning.specs.Stores.{is_within};
 ghost use Rattle.spx_meaning.specs.Bits.{held};
 ghost use Rattle.spx_interp.specs.Results.{answered, bounded, frame_of, truth_answered};
 
 use crate::body::Body;
-use crate::literals::{base_of, first_in, last_in, literal};
 use crate::numbers::{as_number, as_truth, same_value};
 use crate::operations::{applied, member, moved, signed};
 use crate::slots::look;
-use spx_core::{BaseType, Class, CoreExpr, CoreFunction, Span, Subtype, VarId, variable_of};
-use spx_meaning::{Bad, BadKind, Value};
+use spx_core::{BaseType, Class, CoreExpr, CoreFunction, Reference, Span, VarId, variable_of};
+use spx_meaning::{Bad, BadKind, Value, is_within};
+use spx_static::{base_of, literal, subtype_of};
 use spx_text::Place;
 use spx_tree::{InfixOp, PrefixOp};
 use spx_types::application;
 
-/// Whether a value is one of the class, and between these, if it is a number.
-fn is_within(class: Class, first: i128, last: i128, value: Value) -> bool
-    ensures { result ≡ is_within class first last value }
+/// The first value of the type that a name denotes.
+pub(crate) fn first_in(name: &Reference) -> Value
+    ensures { result ≡ first_in name.now }
 {
-    match class {
-        Class::Integer | Class::Enumeration => match value {
-            Value::Number(number) => first <= number && number <= last,
-            Value::Truth(_) => false,
-        },
-        Class::Boolean => match value {
-            Value::Number(_) => false,
-            Value::Truth(_) => true,
-        },
-    }
+    Value::Number(subtype_of(name.root.entity).first)
 }
 
-/// Whether a value is one of the type.
-pub(crate) fn is_in(subtype: Subtype, value: Value) -> bool
-    ensures { result ≡ is_in subtype value }
+/// Its last value.
+pub(crate) fn last_in(name: &Reference) -> Value
+    ensures { result ≡ last_in name.now }
 {
-    is_within(subtype.base.class, subtype.first, subtype.last, value)
+    Value::Number(subtype_of(name.root.entity).last)
 }
 
 /// The value, if it is a number between these. What 128 bits do not hold is not.

@@ -8,10 +8,10 @@ ghost use Rattle.spx_meaning.specs.Limits.{passes_after_bounds};
 ghost use Rattle.spx_interp.specs.Results.{frame_of, on_bounds, test_of, truth_answered, where_bounds};
 
 use crate::body::Body;
-use crate::evaluation::{eval, is_in, is_true};
+use crate::evaluation::{eval, is_true};
 use crate::numbers::as_number;
 use spx_core::{CoreCount, CoreScheme, Span, Subtype};
-use spx_meaning::{Bad, BadKind, Value, type_of};
+use spx_meaning::{Bad, BadKind, Value, is_in, type_of};
 
 /// Whether a loop takes another turn, as far as its condition says. One without a condition does.
 pub(crate) fn goes_on(

@@ -12,14 +12,11 @@ mod entry;
 mod evaluation;
 mod fault;
 mod heads;
-mod literals;
 mod numbers;
 mod operations;
 mod slots;
 mod statements;
 mod step;
-#[cfg(test)]
-mod tests;
 
 pub use calling::{call, elaborate};
 pub use fault::{Finish, RunFault, RunLimit};

@@ -9,7 +9,7 @@ ghost use Rattle.spx_interp.specs.Rooms.{AlternativesHaveRoom, ArmsHaveRoom, Has
 
 use crate::annotation::truth;
 use crate::body::Body;
-use crate::evaluation::{eval, is_in, is_true};
+use crate::evaluation::{eval, is_true};
 use crate::heads::{bounds_of, goes_on, way_of};
 use crate::numbers::as_number;
 use crate::slots::put;
@@ -18,7 +18,7 @@ use spx_core::{
     CoreAlternative, CoreArm, CoreChoice, CoreCount, CoreExpr, CoreScheme, CoreStmt, Reference,
     Span, VarId, variable_of,
 };
-use spx_meaning::{Bad, BadKind, Value, type_of};
+use spx_meaning::{Bad, BadKind, Value, is_in, type_of};
 use spx_num::TooWide;
 use spx_text::Place;
 use spx_tree::AssertionKind;

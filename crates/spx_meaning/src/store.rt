@@ -51,6 +51,22 @@ impl Store {
         })
     }
 
+    /// A store with these values, by the variables' positions. None is that of an unset variable.
+    pub fn from_values(values: Vec<Option<Value>>) -> Store
+        ensures { result ≡ values.items }
+    {
+        Store {
+            values: Items::from_vec(values),
+        }
+    }
+
+    /// The values, by the variables' positions. None is that of an unset variable.
+    pub fn as_slice(&self) -> &[Option<Value>]
+        ensures { result.now ≡ self.now }
+    {
+        self.values.as_slice()
+    }
+
     /// The value of a variable, if it is set.
     #[tactic(auto, using(crate::proofs::StoreValues::look_is))]
     pub fn get(&self, var: VarId) -> Option<Value>
