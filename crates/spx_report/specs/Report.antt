@@ -43,9 +43,13 @@ code rule.V1 = codes "V1"
 abbrev pub name_of : List (List ℕ) → ℕ → List ℕ
 name_of names file = slice_index_or names file []
 
+-- `FILE:LINE:COLUMN`
+unfoldable pub spot_text : List (List ℕ) → Place → List ℕ
+spot_text names place = name_of names place.file ++ (codes ":" ++ (decimal place.line ++ (codes ":" ++ decimal place.column)))
+
 -- `FILE:LINE:COLUMN: `
 unfoldable pub place_text : List (List ℕ) → Place → List ℕ
-place_text names place = name_of names place.file ++ (codes ":" ++ (decimal place.line ++ (codes ":" ++ (decimal place.column ++ codes ": "))))
+place_text names place = spot_text names place ++ codes ": "
 
 -- `FILE:LINE:COLUMN: RULE TEXT`
 unfoldable pub finding_line : List (List ℕ) → Finding → List ℕ

@@ -20,6 +20,8 @@ pub enum LimitName {
     Paths,
     /// The nodes of a verification condition.
     Nodes,
+    /// The bits of a number that an annotation computes in a run.
+    Bits,
 }
 
 impl LimitName {
@@ -34,6 +36,7 @@ impl LimitName {
             LimitName::Variables => b"limit: variables, at most 4096\n",
             LimitName::Paths => b"limit: paths, at most 4096\n",
             LimitName::Nodes => b"limit: nodes, at most 1000000\n",
+            LimitName::Bits => b"limit: bits, at most 128\n",
         }
     }
 }

@@ -36,13 +36,15 @@ pub struct Findings {
     pub subs: Items<SubRow>,
 }
 
-fn put(out: &mut Vec<u8>, text: &[u8]) -> Result<(), AllocError>
+/// Adds a text.
+pub fn put(out: &mut Vec<u8>, text: &[u8]) -> Result<(), AllocError>
     ensures { OnOk result (out.new.items ≡ out.old.items ++ text.now) }
 {
     out.extend_from_slice(text)
 }
 
-fn put_number(alloc: Global, out: &mut Vec<u8>, number: u64) -> Result<(), AllocError>
+/// Adds a number in decimal.
+pub fn put_number(alloc: Global, out: &mut Vec<u8>, number: u64) -> Result<(), AllocError>
     ensures { OnOk result (out.new.items ≡ out.old.items ++ decimal number) }
 {
     put(out, decimal(alloc, i128::from(number))?.as_slice())
@@ -91,9 +93,26 @@ fn name_of(files: &[String], file: u32) -> &[u8]
     }
 }
 
+/// `FILE:LINE:COLUMN`
+#[tactic(auto, using(crate::proofs::Texts::texts), unfolding(crate::specs::Report::spot_text))]
+pub fn put_spot(
+    alloc: Global,
+    out: &mut Vec<u8>,
+    files: &[String],
+    place: Place,
+) -> Result<(), AllocError>
+    ensures { OnOk result (out.new.items ≡ out.old.items ++ spec.spot_text (names files.now) place) }
+{
+    put(out, name_of(files, place.file))?;
+    put(out, b":")?;
+    put_number(alloc, out, u64::from(place.line))?;
+    put(out, b":")?;
+    put_number(alloc, out, u64::from(place.column))
+}
+
 /// `FILE:LINE:COLUMN: `
 #[tactic(auto, using(crate::proofs::Texts::texts), unfolding(crate::specs::Report::place_text))]
-fn put_place(
+pub fn put_place(
     alloc: Global,
     out: &mut Vec<u8>,
     files: &[String],
@@ -101,11 +120,7 @@ fn put_place(
 ) -> Result<(), AllocError>
     ensures { OnOk result (out.new.items ≡ out.old.items ++ spec.place_text (names files.now) place) }
 {
-    put(out, name_of(files, place.file))?;
-    put(out, b":")?;
-    put_number(alloc, out, u64::from(place.line))?;
-    put(out, b":")?;
-    put_number(alloc, out, u64::from(place.column))?;
+    put_spot(alloc, out, files, place)?;
     put(out, b": ")
 }
 
@@ -207,7 +222,7 @@ fn put_rows(
 
 /// The last line, by the number of findings.
 #[tactic(auto, using(crate::proofs::Texts::texts), unfolding(crate::specs::Report::verdict))]
-fn put_verdict(alloc: Global, out: &mut Vec<u8>, count: usize) -> Result<(), AllocError>
+pub fn put_verdict(alloc: Global, out: &mut Vec<u8>, count: usize) -> Result<(), AllocError>
     ensures { OnOk result (out.new.items ≡ out.old.items ++ spec.verdict count) }
 {
     if count == 0 {

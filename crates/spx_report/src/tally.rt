@@ -22,7 +22,8 @@ use spx_vcg::{VcFault, condition_name, shared_conditions};
 use sqlite_items::Items;
 use std::alloc::{AllocError, Global};
 
-fn kind_text(kind: CondKind) -> &'static [u8]
+/// The kind of a condition, as it is printed.
+pub(crate) fn kind_text(kind: CondKind) -> &'static [u8]
     ensures { result.now ≡ spec.kind_text kind }
 {
     match kind {

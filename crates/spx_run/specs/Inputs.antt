@@ -1,0 +1,53 @@
+-- What an inputs file says: a line `NAME = VALUE` for each import, in the lexemes of the language.
+use Rattle.std.specs.Prelude.{◌≡◌, ⊤, ◌⊎◌, ℕ, suc, ℤ, pos, ◌-ℤ◌, false, List, [], ◌∷◌, Result, Ok, Err}
+use Rattle.spx_tree.specs.declared.token.Kind.{Kind}
+use Rattle.spx_tree.specs.declared.token.Kind.TheVariants as kind
+use Rattle.spx_tree.specs.declared.token.Token.{Token}
+use Rattle.spx_tree.specs.Form.{spelling}
+use Rattle.spx_tree.specs.Spells.{Spells}
+use Rattle.spx_tree.specs.Stops.{HasMoreTokens}
+use Rattle.spx_run.specs.declared.inputs.InputValue.{InputValue}
+use Rattle.spx_run.specs.declared.inputs.InputValue.TheVariants.{Number, Word}
+use Rattle.spx_run.specs.declared.inputs.InputLine.{InputLine}
+use Rattle.spx_run.specs.Lines.{lines_of}
+
+-- a token of this kind that is not in annotation text
+pub record IsToken (what : Kind) (t : Token) : Type 0 where
+  pub of_kind : t.kind ≡ what
+  pub in_code : t.marked ≡ false
+
+-- the tokens of a value: a number, a number after `-`, or a word
+pub data IsValue (source : List ℕ) (tokens : List Token) (value : InputValue) : Type 0 where
+  number : (t : Token) → IsToken kind.Number t → tokens ≡ t ∷ [] → value ≡ Number t.number → IsValue source tokens value
+  negative : (minus t : Token) → IsToken kind.Minus minus → IsToken kind.Number t → tokens ≡ minus ∷ t ∷ [] → value ≡ Number (pos 0 -ℤ t.number) → IsValue source tokens value
+  word : (t : Token) → IsToken kind.Identifier t → tokens ≡ t ∷ [] → value ≡ Word (spelling source t) → IsValue source tokens value
+
+-- The bytes of a line spell `NAME = VALUE`, within a million tokens.
+pub record IsLine (bytes : List ℕ) (line : InputLine) : Type 0 where
+  pub name : Token
+  pub equal : Token
+  pub value : List Token
+  pub spelled : Spells 0 bytes (name ∷ equal ∷ value)
+  pub few : ¬ HasMoreTokens 1000000 0 bytes
+  pub is_name : IsToken kind.Identifier name
+  pub is_equal : IsToken kind.Equal equal
+  pub named : line.name ≡ spelling bytes name
+  pub valued : IsValue bytes value line.value
+
+-- the lines are these, numbered from this number on
+abbrev pub AreLines : ℕ → List (List ℕ) → List InputLine → Type 0
+AreLines n [] [] = ⊤
+AreLines n [] (line ∷ lines) = ⊥
+AreLines n (bytes ∷ more) [] = ⊥
+AreLines n (bytes ∷ more) (line ∷ lines) = IsLine bytes line × (line.line ≡ n) × AreLines (suc n) more lines
+
+-- the first that is none has this number
+abbrev pub IsFirstBad : ℕ → List (List ℕ) → ℕ → Type 0
+IsFirstBad n [] bad = ⊥
+IsFirstBad n (bytes ∷ more) bad =
+    ((bad ≡ n) × ((line : InputLine) → ¬ IsLine bytes line)) ⊎ (((line : InputLine) × IsLine bytes line) × IsFirstBad (suc n) more bad)
+
+-- the inputs of a text, or the number of its first bad line
+abbrev pub AreInputs : List ℕ → Result (List InputLine) ℕ → Type 0
+AreInputs bytes (Ok lines) = AreLines 1 (lines_of bytes) lines
+AreInputs bytes (Err bad) = IsFirstBad 1 (lines_of bytes) bad

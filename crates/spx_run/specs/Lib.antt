@@ -1,0 +1,5 @@
+pub mod Lines
+pub mod Inputs
+pub mod Given
+pub mod Results
+pub mod Laws
