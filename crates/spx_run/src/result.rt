@@ -1,0 +1,56 @@
+// What a run comes to, and its text.
+ghost use Rattle.std.specs.Prelude.{◌≡◌, IfOk};
+ghost use Rattle.spx_text.specs.Loads.{names};
+ghost use Rattle.spx_run.specs.Results.{result_text};
+
+use spx_meaning::{Bad, Value};
+use spx_text::{Place, Text};
+use sqlite_items::Items;
+use std::alloc::{AllocError, Global};
+
+/// What is wrong with inputs, or with the name of the subprogram.
+#[derive(Debug, Drop)]
+pub enum InputFinding {
+    /// A line is not `NAME = VALUE`.
+    BadLine(Place),
+    /// No import has the name of the line, or an earlier line has it.
+    NoImport(Place),
+    /// The value is none of the import's type.
+    NotOfType(Place),
+    /// The import of this name has no value.
+    NoValue(Text),
+    /// No subprogram has this name.
+    NoSubprogram(Text),
+}
+
+/// An export after a run.
+#[derive(Debug, Drop)]
+pub struct Output {
+    /// The name as it is declared.
+    pub name: Text,
+    pub value: Value,
+}
+
+/// What a run comes to.
+#[derive(Debug, Drop)]
+pub enum RunResult {
+    /// There is no run, for these reasons.
+    Refused(Items<InputFinding>),
+    /// An annotation computes a number of more than 128 bits.
+    TooLarge,
+    /// A check fails.
+    Faulted(Bad),
+    /// The run does not end within so many turns.
+    NotEnded(u64),
+    /// It ends, with these exports.
+    Ended(Items<Output>),
+}
+
+impl RunResult {
+    /// What is printed, where the files have these names.
+    pub fn text(&self, alloc: Global, files: &[String]) -> Result<Vec<u8>, AllocError>
+        ensures { IfOk result (λ text. text.items ≡ result_text (names files.now) self.now) }
+    {
+        todo
+    }
+}
