@@ -31,6 +31,7 @@ IsNatural t = (n : ℕ) × (t.number ≡ pos n)
 abbrev pub AreNatural : List Token → Type 0
 AreNatural tokens = All IsNatural tokens
 
+-- the kinds are one
 unfoldable pub same_kind : Kind → Kind → Bool
 same_kind = sameb the_type
 
@@ -55,6 +56,7 @@ value_in source (t ∷ []) = single_value source t
 value_in source (minus ∷ t ∷ []) = negative_value minus t
 value_in source (a ∷ b ∷ c ∷ more) = None
 
+-- the line of this number, name and value, where there is a value
 abbrev pub named_value : ℕ → List ℕ → Option InputValue → Option InputLine
 named_value n name found = option_map (λ value. record { line = n; name = name; value = value }) found
 
@@ -83,6 +85,8 @@ AreImports sub set = (v : VarId) → holds set v ≡ imports v sub
 -- an import that is found by its name is a variable of the program
 abbrev pub ImportsAreDeclared : Program → Sub → Type 0
 ImportsAreDeclared p sub = (name : List ℕ) (v : VarId) → import_named p sub name ≡ Some v → v.0 < length p.vars
+
+-- ---- values
 
 -- the truth value that a word is
 abbrev pub truth_written : List ℕ → Option Value
