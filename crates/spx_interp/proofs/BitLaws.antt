@@ -132,4 +132,12 @@ pub member-NotIn : (place : Place) (x low high : Value) → member (member_op.No
 unfolding value_of_op value_of_prefix
 member-NotIn place x low high = refl
 
-pub ruleset operation_laws = (held-Add, held-Subtract, held-Multiply, held-Divide, held-Mod, held-Rem, held-Power, held-Equal, held-NotEqual, held-Less, held-LessOrEqual, held-Greater, held-GreaterOrEqual, held-And, held-Or, held-Xor, held-AndThen, held-OrElse, held-Implies, held-Equivalent, held-Minus, held-Abs, held-Not, member-In, member-NotIn, fits_laws)
+pub applied-Mod : (x y : Value) → applied op.Mod x y ≡ Number (or_zero modulus (as_number x) (as_number y))
+unfolding value_of_op
+applied-Mod x y = refl
+
+pub applied-Rem : (x y : Value) → applied op.Rem x y ≡ Number (or_zero remainder (as_number x) (as_number y))
+unfolding value_of_op
+applied-Rem x y = refl
+
+pub ruleset operation_laws = (applied-Mod, applied-Rem, held-Add, held-Subtract, held-Multiply, held-Divide, held-Mod, held-Rem, held-Power, held-Equal, held-NotEqual, held-Less, held-LessOrEqual, held-Greater, held-GreaterOrEqual, held-And, held-Or, held-Xor, held-AndThen, held-OrElse, held-Implies, held-Equivalent, held-Minus, held-Abs, held-Not, member-In, member-NotIn, fits_laws)

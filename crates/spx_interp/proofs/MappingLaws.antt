@@ -1,0 +1,54 @@
+-- What functions without bounds do.
+use Rattle.std.proofs.Common.{◌≡◌, ℕ, Bool, true, false, List, Option, Some, None, Result, Ok, Err, refl, sym, ap, subst, ◌∙◌, if◌then◌else◌}
+use Rattle.spx_text.specs.declared.place.Place.{Place}
+use Rattle.spx_tree.specs.declared.expression.FunctionForm.{FunctionForm}
+use Rattle.spx_tree.specs.declared.expression.FunctionForm.TheVariants as form
+use Rattle.spx_core.specs.declared.entity.BaseType.{BaseType}
+use Rattle.spx_core.specs.declared.entity.Subtype.{Subtype}
+use Rattle.spx_core.specs.declared.function.CoreFunction.{CoreFunction}
+use Rattle.spx_core.specs.declared.function.Mapping.{Mapping}
+use Rattle.spx_core.specs.declared.function.OperandType.TheVariants.{AnyNumber, ValueOf}
+use Rattle.spx_core.specs.declared.function.Shift.TheVariants as shift
+use Rattle.spx_core.specs.declared.function.Span.{Span}
+use Rattle.spx_core.specs.Judged.{Judged, ◌>>=◌, application, applied_form, attribute_function, conversion, function_at, is_word, qualification}
+use Rattle.spx_term.specs.declared.value.Value.{Value}
+use Rattle.spx_meaning.specs.Evaluation.{Answer, Gives, mapping_checked, moved, within_bounds}
+
+-- a function without bounds gives its operand
+abbrev Keeps : Mapping → Type 0
+Keeps m = m.bounds ≡ None → m.shift ≡ shift.Same
+
+-- so do all that a judgement may give
+abbrev AllKeep : Judged Mapping → Type 0
+AllKeep j = (m : Mapping) → j ≡ Ok m → Keeps m
+
+ok_keeps : (m : Mapping) → Keeps m → AllKeep (Ok m)
+ok_keeps m keeps n is = let same : m ≡ n = cc in subst Keeps same keeps
+
+bind_keeps : {A : Type 0} (j : Judged A) (go : A → Judged Mapping) → ((x : A) → AllKeep (go x)) → AllKeep (j >>= go)
+bind_keeps (Ok x) go each = each x
+bind_keeps (Err breach) go each = λ m is. absurd cc
+
+if_keeps : (place : Place) (b : Bool) (m : Mapping) (o : Option Mapping) → Keeps m → AllKeep (function_at place o) → AllKeep (function_at place (if b then Some m else o))
+if_keeps place true m o first rest = ok_keeps m first
+if_keeps place false m o first rest = rest
+
+attribute_keeps : (place : Place) (base : BaseType) (designator : List ℕ) → AllKeep (function_at place (attribute_function base designator))
+attribute_keeps place base designator =
+    if_keeps place (is_word designator _) _ _ (λ none. refl)
+    (if_keeps place (is_word designator _) _ _ (λ none. refl)
+    (if_keeps place (is_word designator _) _ _ (λ none. absurd cc) (if_keeps place (is_word designator _) _ _ (λ none. absurd cc) (λ m is. absurd cc))))
+
+form_keeps : (place : Place) (subtype : Subtype) (f : FunctionForm) → AllKeep (applied_form place subtype f)
+form_keeps place subtype form.Simple = bind_keeps _ _ (λ x. ok_keeps (conversion subtype) (λ none. refl))
+form_keeps place subtype (form.Attribute designator) = bind_keeps _ _ (λ x. attribute_keeps place subtype.base designator.text)
+form_keeps place subtype form.Qualified = ok_keeps (qualification subtype) (λ none. refl)
+
+application_keeps : (function : CoreFunction) → AllKeep (application function)
+application_keeps function = bind_keeps _ _ (λ subtype. form_keeps function.name.name.place subtype function.form)
+
+pub unbounded : (function : CoreFunction) (m : Mapping) (place : Place) (x : Value) → Ok m ≡ application function → m.bounds ≡ None → Gives x ≡ mapping_checked (application function) place x
+unbounded function m place x is none =
+    ap (λ s. Gives (moved s x)) (sym (application_keeps function m (sym is) none))
+    ∙ ap (λ (b : Option Span). within_bounds b place (moved m.shift x)) (sym none)
+    ∙ ap (λ (j : Judged Mapping). mapping_checked j place x) is
