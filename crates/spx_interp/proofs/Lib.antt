@@ -7,3 +7,4 @@ pub mod RunForms
 pub mod ChoiceLaws
 pub mod RunLaws
 pub mod RoomLaws
+pub mod BodyLaws

@@ -13,13 +13,16 @@ use Rattle.spx_core.specs.declared.program.Program.{Program}
 use Rattle.spx_core.specs.declared.program.Var.{Var}
 use Rattle.spx_core.specs.declared.statement.CoreAlternative.{CoreAlternative, out-CoreAlternative}
 use Rattle.spx_core.specs.declared.statement.CoreArm.{CoreArm, out-CoreArm}
+use Rattle.spx_core.specs.declared.statement.CoreStmt.{CoreStmt}
+use Rattle.spx_core.specs.declared.statement.CoreStmt.TheVariants.{If}
 use Rattle.spx_core.specs.declared.subprogram.Sub.{Sub}
-use Rattle.spx_core.specs.Commands.{Command, Skip, Set, Then, Choose, Select, Assertion, Repeat, Leave, Tested, Counted, Endless, Alternatives, Last, When, alternative, alternatives_of, arm_before, arms_before, commands, leaves, select}
+use Rattle.spx_tree.specs.declared.statement.Closing.{Closing}
+use Rattle.spx_core.specs.Commands.{Command, Skip, Set, Then, Choose, Select, Assertion, Repeat, Leave, Tested, Counted, Endless, Alternatives, Last, When, alternative, alternatives_of, arm_before, arms_before, command, commands, leaves, select}
 use Rattle.spx_core.specs.Effects.{Effect, Read, chosen, effect, effect_among, reads_of, sets}
 use Rattle.spx_core.specs.Formals.{formals, inner, is_formal, is_inner, stands_in}
 use Rattle.spx_core.specs.Scopes.{Scoped, kind_of}
 use Rattle.spx_core.specs.Uses.{is_same, variable_of}
-use Rattle.spx_core.proofs.Callers.CommandForms.{command_alternative, command_arm}
+use Rattle.spx_core.proofs.Callers.CommandForms.{command-If, command-If-else, command_alternative, command_arm}
 use Rattle.spx_core.proofs.Callers.Variables.{same_itself}
 use Rattle.spx_interp.specs.Rooms.{AllHaveRoom, AlternativesHaveRoom, ArmsHaveRoom, HasRoom, VarsHaveRoom}
 
@@ -32,6 +35,10 @@ module _ (size : ℕ) where
       let both = subst (HasRoom size) (command_arm arm (arms_before otherwise (map arm_before arms))) room in
       let rest = room_of_arms otherwise arms both.1 in
       (All-cons (λ (a : CoreArm). HasRoom size (commands (out-CoreArm a).body)) arm arms both.0 rest.0, rest.1)
+
+  pub room_of_if : (s : CoreStmt) (arms : List CoreArm) (o : Option (List CoreStmt)) (closing : Closing) → s ≡ If arms o closing → HasRoom size (command s) → ArmsHaveRoom size arms
+  room_of_if s arms None closing is room = (room_of_arms Skip arms (subst (HasRoom size) (command-If s arms None closing is refl) room)).0
+  room_of_if s arms (Some stmts) closing is room = (room_of_arms (commands stmts) arms (subst (HasRoom size) (command-If-else s arms (Some stmts) stmts closing is refl) room)).0
 
   room_of : (a : CoreAlternative) → HasRoom size (alternative a).1 → HasRoom size (commands (out-CoreAlternative a).body)
   room_of a room = subst (HasRoom size) (command_alternative a) room

@@ -46,7 +46,7 @@ on_value (Gives x) go = go x
 on_value (Fails kind place) go = Some (Bad kind place)
 on_value Waits go = Some Later
 
-limited_ended : (p : Bool) (o : Outcome) (q : Store → Bool) (go : Store → Outcome) → limited (p || where_ended o q) (then_do o go) ≡ on_ended (limited p o) (λ t. limited (q t) (go t))
+pub limited_ended : (p : Bool) (o : Outcome) (q : Store → Bool) (go : Store → Outcome) → limited (p || where_ended o q) (then_do o go) ≡ on_ended (limited p o) (λ t. limited (q t) (go t))
 limited_ended true o q go = refl
 limited_ended false (Ended s) q go = refl
 limited_ended false (Left s) q go = refl

@@ -1,8 +1,10 @@
 -- The run of statements in a row, and of loops, one step after another.
-use Rattle.std.proofs.Common.{◌≡◌, ℕ, zero, suc, ◌+◌, ◌<◌, ◌≤◌, ℤ, pos, Bool, true, false, List, [], ◌∷◌, length, get_or, drop, map, Option, Some, None, Result, Ok, Err, refl, sym, ap, ap₂, ◌∙◌, subst, arith}
-use Rattle.std.specs.Prelude.{not, ◌||◌, ◌&&◌, int_le, if◌then◌else◌}
+use Rattle.std.proofs.Common.{◌≡◌, ◌≢◌, ℕ, zero, suc, ◌+◌, ◌<◌, ◌≤◌, ℤ, pos, Bool, true, false, List, [], ◌∷◌, length, get_or, drop, map, Option, Some, None, Result, Ok, Err, refl, sym, ap, ap₂, ◌∙◌, subst, arith}
+use Rattle.std.specs.Prelude.{not, ◌||◌, ◌&&◌, int_le, int_lt, if◌then◌else◌}
 use Rattle.std.specs.Ordering.{int_eq}
-use Rattle.std.proofs.lemmas.List.{drop_all}
+use Rattle.std.specs.Result.{IsErrAnd}
+use Rattle.std.proofs.lemmas.Int.{ints}
+use Rattle.std.proofs.lemmas.List.{drop_all, drop_more}
 use Rattle.spx_core.specs.declared.function.Span.{Span}
 use Rattle.spx_core.specs.declared.statement.CoreCount.{CoreCount}
 use Rattle.spx_core.specs.declared.statement.CoreStmt.{CoreStmt}
@@ -17,20 +19,59 @@ use Rattle.spx_meaning.specs.Limits.{passes, passes_after_bounds, passes_in_coun
 use Rattle.spx_meaning.specs.Runs.{Outcome, Ended, Left, Later, counted, end_of, over_range, run, start_of, then_do, value_after, with_bounds}
 use Rattle.spx_meaning.specs.Runs as runs
 use Rattle.spx_meaning.specs.Stores.{Store, put, type_of}
-use Rattle.spx_interp.specs.Results.{IsWay, limited, on_bounds, ran, ran_count, test_of, truth_answered, where_bounds}
+use Rattle.spx_num.specs.declared.arithmetic.TooWide.{TooWide}
+use Rattle.spx_interp.specs.declared.step.Step.{Step}
+use Rattle.spx_interp.specs.declared.step.Step.TheVariants as step
+use Rattle.spx_interp.specs.Results.{done, has_ended, limited, on_bounds, outcome_of, past_loop, ran, ran_count, test_of, truth_answered, where_bounds}
 use Rattle.spx_interp.specs.Rooms.{IsTested}
-use Rattle.spx_interp.proofs.RunForms.{on_ended, on_turn, on_value, ran-Endless, ran-Endless-zero, ran-Skip, ran-Tested, ran-Tested-zero, ran-Then, ran_count-suc}
-use Rattle.spx_interp.proofs.ChoiceLaws.{left_of, where_failed, where_tested}
+use Rattle.spx_interp.proofs.RunForms.{on_ended, on_turn, on_value, ran-Endless, ran-Endless-zero, ran-Skip, ran-Tested, ran-Tested-zero, ran-Then, ran_count-suc, ran_count-zero}
+use Rattle.spx_interp.proofs.ChoiceLaws.{where_failed, where_tested}
 
 -- ---- statements in a row
 
 -- the statements from one on
 pub ran_stmts : (f : Frame) (n : ℕ) (s : Store) (stmts : List CoreStmt) (k : ℕ) (stmt : CoreStmt) → k < length stmts → stmt ≡ get_or stmts k stmt
     → ran f n s (commands (drop k stmts)) ≡ on_ended (ran f n s (command stmt)) (λ t. ran f n t (commands (drop (k + 1) stmts)))
-ran_stmts f n s stmts k stmt within is = ap (λ xs. ran f n s (commands xs)) (left_of stmts k stmt within is) ∙ ran-Then f n s (command stmt) (commands (drop (k + 1) stmts))
+ran_stmts f n s stmts k stmt within is =
+    let rest = commands (drop (k + 1) stmts) in
+    ap (λ xs. ran f n s (commands xs)) (drop_more stmts k stmt within) ∙ ran-Then f n s (command (get_or stmts k stmt)) rest ∙ ap (λ x. on_ended (ran f n s (command x)) (λ t. ran f n t rest)) (sym is)
 
 pub ran_none : (f : Frame) (n : ℕ) (s : Store) (stmts : List CoreStmt) (k : ℕ) → length stmts ≤ k → ran f n s (commands (drop k stmts)) ≡ Some (Ended s)
 ran_none f n s stmts k end = ap (λ xs. ran f n s (commands xs)) (drop_all k stmts end) ∙ ran-Skip f n s
+
+-- ---- what a step leads to
+
+-- what follows a run that has ended
+pub after_end : {A : Type 0} (K : Option Outcome → A) (o : Option Outcome) (r : Step) (t : Store) → o ≡ Some (outcome_of r t) → has_ended r ≡ true → K o ≡ K (Some (Ended t))
+after_end K o step.Ended t is ended = ap K is
+after_end K o step.Left t is ended = absurd cc
+after_end K o (step.Failed fault) t is ended = absurd cc
+after_end K o step.Later t is ended = absurd cc
+
+pub ended_is : (r : Step) (t : Store) → has_ended r ≡ true → Some (Ended t) ≡ Some (outcome_of r t)
+ended_is step.Ended t ended = refl
+ended_is step.Left t ended = absurd cc
+ended_is (step.Failed fault) t ended = absurd cc
+ended_is step.Later t ended = absurd cc
+
+-- what comes after a run that has not ended is not done
+pub unended : (o : Option Outcome) (r : Step) (t : Store) (go : Store → Option Outcome) → o ≡ Some (outcome_of r t) → has_ended r ≡ false → on_ended o go ≡ Some (outcome_of r t)
+unended o step.Ended t go is ended = absurd cc
+unended o step.Left t go is ended = ap (λ x. on_ended x go) is
+unended o (step.Failed fault) t go is ended = ap (λ x. on_ended x go) is
+unended o step.Later t go is ended = ap (λ x. on_ended x go) is
+
+-- nor are further turns
+pub turn_leaves : (o : Option Outcome) (r : Step) (t : Store) (go : Store → Option Outcome) → o ≡ Some (outcome_of r t) → has_ended r ≡ false → on_turn o go ≡ Some (outcome_of (past_loop r) t)
+turn_leaves o step.Ended t go is ended = absurd cc
+turn_leaves o step.Left t go is ended = ap (λ x. on_turn x go) is
+turn_leaves o (step.Failed fault) t go is ended = ap (λ x. on_turn x go) is
+turn_leaves o step.Later t go is ended = ap (λ x. on_turn x go) is
+
+-- there is no answer
+pub refused : (Q : TooWide → Type 0) (r : Result Step TooWide) (t : Store) → IsErrAnd r Q → done r t ≡ None
+refused Q (Ok step) t is = absurd is
+refused Q (Err fault) t is = refl
 
 -- ---- loops that do not count
 
@@ -125,11 +166,13 @@ module _ (f : Frame) (c : CoreCount) (body : Command) where
       ∙ ap (λ b. if b then on_ended (ran_count f c body (end_of c span.first span.last) n (start_of c span.first span.last) s) (λ t. Some (unset_after t)) else Some (unset_after s)) tested
 
   -- there are turns
-  pub count_some : (n : ℕ) (s : Store) (span : Span) → HasBounds n s (Ok span) → int_le span.first span.last ≡ true
-      → ran f n s (Repeat (Counted c) body) ≡ on_ended (ran_count f c body (end_of c span.first span.last) n (start_of c span.first span.last) s) (λ t. Some (unset_after t))
-  count_some n s span has tested =
+  pub count_some : (n : ℕ) (s : Store) (span : Span) → HasBounds n s (Ok span) → int_le span.first span.last ≡ true → (way : Span) → way.first ≡ start_of c span.first span.last → way.last ≡ end_of c span.first span.last
+      → ran f n s (Repeat (Counted c) body) ≡ on_ended (ran_count f c body way.last n way.first s) (λ t. Some (unset_after t))
+  count_some n s span has tested way first last =
       over n s span has
       ∙ ap (λ b. if b then on_ended (ran_count f c body (end_of c span.first span.last) n (start_of c span.first span.last) s) (λ t. Some (unset_after t)) else Some (unset_after s)) tested
+      ∙ ap (λ k. on_ended (ran_count f c body k n (start_of c span.first span.last) s) (λ t. Some (unset_after t))) (sym last)
+      ∙ ap (λ k. on_ended (ran_count f c body way.last n k s) (λ t. Some (unset_after t))) (sym first)
 
   -- a turn for one value
   pub count_turns : (last : ℤ) (n m : ℕ) (k : ℤ) (s : Store) → n ≡ m + 1
@@ -140,3 +183,19 @@ module _ (f : Frame) (c : CoreCount) (body : Command) where
       let same : n ≡ m = omega arith in
       ran_count-suc f body c last n k s
       ∙ ap (λ i. on_turn (ran f i (put s c.parameter (Some (Number k))) body) (λ t. if int_eq k last then Some (Ended t) else ran_count f c body last i (value_after c k) t)) same
+
+  -- the bound is used up
+  pub count_waits : (last : ℤ) (n : ℕ) (k : ℤ) (s : Store) → n ≡ 0 → ran_count f c body last n k s ≡ Some Later
+  count_waits last zero k s none = ran_count-zero f body c last k s
+  count_waits last (suc n) k s none = absurd (omega arith)
+
+-- ---- numbers in code
+
+pub at_most : (m n : ℤ) → int_lt n m ≡ false → int_le m n ≡ true
+at_most m n is = grind (arith, ints)
+
+pub equal : (m n : ℤ) → m ≡ n → int_eq m n ≡ true
+equal m n is = grind (arith, ints)
+
+pub unequal : (m n : ℤ) → (m ≡ n → ⊥) → int_eq m n ≡ false
+unequal m n other = grind (arith, ints)

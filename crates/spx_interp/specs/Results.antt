@@ -56,6 +56,19 @@ outcome_of step.Left s = runs.Left s
 outcome_of (step.Failed fault) s = runs.Bad fault.kind fault.place
 outcome_of step.Later s = runs.Later
 
+abbrev pub has_ended : Step → Bool
+has_ended step.Ended = true
+has_ended step.Left = false
+has_ended (step.Failed fault) = false
+has_ended step.Later = false
+
+-- how a loop ends whose body ends so
+abbrev pub past_loop : Step → Step
+past_loop step.Ended = step.Ended
+past_loop step.Left = step.Ended
+past_loop (step.Failed fault) = step.Failed fault
+past_loop step.Later = step.Later
+
 -- an outcome, if the run does not pass the limit
 abbrev pub limited : Bool → runs.Outcome → Option runs.Outcome
 limited true outcome = None

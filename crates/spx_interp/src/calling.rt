@@ -20,6 +20,7 @@ use crate::fault::{Finish, RunFault};
 use crate::slots::look;
 use crate::statements::{look_at, run_stmts};
 use crate::step::Step;
+use spx_core::laws::{names_are_scoped, rules_hold};
 use spx_core::{CorePredicate, Program, Sub, SubId, VarSet};
 use spx_meaning::{Bad, BadKind, Store, Value};
 use spx_num::TooWide;
@@ -81,11 +82,11 @@ fn run_body(
     ensures { body_ran (frame_of body.now) turns ≡ done result store.new }
 {
     let before = look_at_predicate(body, store, BadKind::Pre, &body.sub.pre)?;
-    if before != Step::Ended {
+    if !before.has_ended() {
         return Ok(before);
     }
     let step = run_stmts(body, turns, store, body.sub.statements.as_slice())?;
-    if step != Step::Ended {
+    if !step.has_ended() {
         return Ok(step);
     }
     end_body(body, exports, store)
@@ -140,13 +141,16 @@ pub fn call(
     requires room { length store.old ≡ length program.now.vars }
     ensures { (sub : Sub) → slice_get program.now.subs id.0 ≡ Some sub → IsCall program.now sub turns store.old result store.new }
 {
+    names_are_scoped();
+    rules_hold();
     let sub = &program.subs.as_slice()[id.0];
     let run = run_sub(alloc, program, sub, store, turns)?;
     match run.step {
-        Step::Ended | Step::Left => {
+        Step::Ended => {
             *store = Store::from_values(run.slots);
             Ok(Finish::Ended)
         }
+        Step::Left => unreachable!("no exit stands outside a loop"),
         Step::Failed(bad) => Ok(Finish::Faulted(bad)),
         Step::Later => Ok(Finish::Later),
     }

@@ -115,11 +115,9 @@ pub(crate) fn run_stmts(
     ensures { ran (frame_of body.now) turns store.old (commands stmts.now) ≡ done result store.new }
 {
     for stmt in stmts {
-        match run_stmt(body, turns, store, stmt)? {
-            Step::Ended => {}
-            Step::Left => return Ok(Step::Left),
-            Step::Failed(bad) => return Ok(Step::Failed(bad)),
-            Step::Later => return Ok(Step::Later),
+        let step = run_stmt(body, turns, store, stmt)?;
+        if !step.has_ended() {
+            return Ok(step);
         }
     }
     Ok(Step::Ended)
@@ -233,11 +231,9 @@ fn run_turns(
             return Ok(Step::Later);
         }
         left -= 1;
-        match run_stmts(body, left, store, stmts)? {
-            Step::Ended => {}
-            Step::Left => return Ok(Step::Ended),
-            Step::Failed(bad) => return Ok(Step::Failed(bad)),
-            Step::Later => return Ok(Step::Later),
+        let step = run_stmts(body, left, store, stmts)?;
+        if !step.has_ended() {
+            return Ok(step.past_loop());
         }
     }
 }
@@ -264,7 +260,7 @@ fn run_for(
         return Ok(Step::Ended);
     }
     let step = run_count(body, turns, store, stmts, count, way_of(count, bounds))?;
-    if step == Step::Ended {
+    if step.has_ended() {
         put(store, count.parameter, None);
     }
     Ok(step)
@@ -290,11 +286,9 @@ fn run_count(
     while left > 0 {
         left -= 1;
         put(store, count.parameter, Some(Value::Number(value)));
-        match run_stmts(body, left, store, stmts)? {
-            Step::Ended => {}
-            Step::Left => return Ok(Step::Ended),
-            Step::Failed(bad) => return Ok(Step::Failed(bad)),
-            Step::Later => return Ok(Step::Later),
+        let step = run_stmts(body, left, store, stmts)?;
+        if !step.has_ended() {
+            return Ok(step.past_loop());
         }
         if value == way.last {
             return Ok(Step::Ended);

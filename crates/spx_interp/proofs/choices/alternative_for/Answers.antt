@@ -1,5 +1,4 @@
 use Rattle.std.proofs.Common.{◌+◌, ◌-◌, ◌<◌, ◌≡◌, length, arith, ap, subst, sym, ◌∙◌, true, false, drop}
-use Rattle.spx_core.specs.declared.statement.CoreAlternative.{out-CoreAlternative}
 use Rattle.spx_interp.specs.Results.{ran_alternatives}
 use Rattle.spx_interp.proofs.ChoiceLaws.{ran_at_end, ran_from}
 use Rattle.spx_interp.proofs.choices.alternative_for.Goals as goal
@@ -7,12 +6,12 @@ use Rattle.spx_interp.proofs.choices.alternative_for.Goals as goal
 pub returns-then-has_value-clause-runs : goal.returns-then-has_value-clause-runs
 returns-then-has_value-clause-runs c f n s =
     c.loop-k.invariant f n s
-    ∙ ran_from c.args.value f n s c.args.alternatives.now c.loop-k.k c.index-alternatives-k.result true (omega arith) c.index-alternatives-k.is (sym c.if-has_value.true ∙ c.has_value.ensures)
+    ∙ ran_from c.args.value f n s c.args.alternatives.now c.loop-k.k c.index-alternatives-k.result true (omega arith) (sym c.if-has_value.true ∙ c.has_value.ensures)
 
 pub loop-k-preserved : goal.loop-k-preserved
 loop-k-preserved c f n s =
     c.loop-k.invariant f n s
-    ∙ ran_from c.args.value f n s c.args.alternatives.now c.loop-k.k c.index-alternatives-k.result false (omega arith) c.index-alternatives-k.is (sym c.if-has_value.false ∙ c.has_value.ensures)
+    ∙ ran_from c.args.value f n s c.args.alternatives.now c.loop-k.k c.index-alternatives-k.result false (omega arith) (sym c.if-has_value.false ∙ c.has_value.ensures)
 
 pub returns-clause-runs : goal.returns-clause-runs
 returns-clause-runs c f n s =
