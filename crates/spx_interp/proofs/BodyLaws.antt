@@ -1,6 +1,7 @@
 -- The run of a body and of a call, one part after another.
-use Rattle.std.proofs.Common.{◌≡◌, ℕ, Bool, true, false, Option, Some, None, Result, Ok, Err, refl, sym, ap, subst, ◌∙◌}
+use Rattle.std.proofs.Common.{◌≡◌, ℕ, Bool, true, false, ◌++◌, length, take, drop, Option, Some, None, Result, Ok, Err, refl, sym, ap, subst, ◌∙◌}
 use Rattle.std.specs.Prelude.{⊤, ◌||◌}
+use Rattle.std.proofs.Math.Seq.{take-append_seam}
 use Rattle.spx_core.specs.declared.program.Program.{Program}
 use Rattle.spx_core.specs.declared.statement.Around.TheVariants as around
 use Rattle.spx_core.specs.declared.subprogram.CorePredicate.{CorePredicate}
@@ -13,6 +14,10 @@ use Rattle.spx_meaning.specs.Limits.{call_passes, passes, passes_in_predicate, w
 use Rattle.spx_meaning.specs.Runs.{Outcome, Ended, Left, Bad, Later, call, demand, demand_post, demand_pre, entry_of, exports_set, run, then_do}
 use Rattle.spx_meaning.specs.Stores.{Store}
 use Rattle.spx_meaning.proofs.Callers.Exits.{Stays, none_leaves, run_stays, stays_demand}
+use Rattle.spx_interp.specs.declared.fault.RunLimit.{RunLimit}
+use Rattle.spx_interp.specs.declared.fault.RunFault.{RunFault}
+use Rattle.spx_interp.specs.declared.fault.RunFault.TheVariants.{TooLarge, Memory}
+use Rattle.spx_interp.specs.Calls.{IsCall}
 use Rattle.spx_interp.specs.Results.{body_ended, body_ran, call_ran, limited, predicate_looked_at, ran}
 use Rattle.spx_interp.proofs.RunForms.{limited_ended, on_ended}
 
@@ -93,3 +98,12 @@ module _ (p : Program) (sub : Sub) (obeys : ObeysRules p sub) (n : ℕ) (s : Sto
 
   pub never_left : (t : Store) → call p n sub s ≡ Left t → ⊥
   never_left t is = subst Stays is call_stays
+
+-- a fault that is no limit says nothing, and one that is one says that the limit is passed
+pub faulted : (p : Program) (sub : Sub) (n : ℕ) (s : Store) (fault : RunFault) → ((limit : RunLimit) → fault ≡ TooLarge limit → call_passes p n sub s ≡ true) → IsCall p sub n s (Err fault) s
+faulted p sub n s (TooLarge limit) passed = (passed limit refl, refl)
+faulted p sub n s Memory passed = refl
+
+-- what a slice of all places has written is the whole list
+pub written : (new items : Store) (len : ℕ) → length new ≡ len → take len (new ++ drop (length new) items) ≡ new
+written new items len is = ap (λ k. take k (new ++ drop (length new) items)) (sym is) ∙ take-append_seam new (drop (length new) items)

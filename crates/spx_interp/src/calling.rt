@@ -15,7 +15,7 @@ ghost use Rattle.spx_interp.specs.Results.{body_ended, body_ran, call_ran, done,
 ghost use Rattle.spx_interp.specs.Rooms.{HasRoom, VarsHaveRoom};
 
 use crate::body::Body;
-use crate::entry::clear;
+use crate::entry::entry_of;
 use crate::fault::{Finish, RunFault};
 use crate::slots::look;
 use crate::statements::{look_at, run_stmts};
@@ -115,8 +115,7 @@ fn run_sub(
     ensures limit { (limit : RunLimit) → result ≡ Err (TooLarge limit) → call_ran program.now turns sub.now store.now ≡ None }
 {
     let exports = VarSet::exports(alloc, sub)?;
-    let mut entry = Vec::from_slice(alloc, store.as_slice())?;
-    clear(program, &mut entry, sub.vars.as_slice());
+    let entry = entry_of(alloc, program, sub, store)?;
     let mut slots = Vec::from_slice(alloc, entry.as_slice())?;
     let body = Body {
         program,
