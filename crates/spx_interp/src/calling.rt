@@ -138,7 +138,8 @@ pub fn call(
     requires obeys { Obeys program.now }
     requires id { id.0 < length program.now.subs }
     requires room { length store.old ≡ length program.now.vars }
-    ensures { (sub : Sub) → slice_get program.now.subs id.0 ≡ Some sub → IsCall program.now sub turns store.old result store.new }
+    ensures runs { (sub : Sub) → slice_get program.now.subs id.0 ≡ Some sub → IsCall program.now sub turns store.old result store.new }
+    ensures room { length store.new ≡ length program.now.vars }
 {
     names_are_scoped();
     rules_hold();

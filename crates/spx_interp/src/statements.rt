@@ -11,7 +11,7 @@ use crate::body::Body;
 use crate::choices::{alternative_for, first_arm};
 use crate::evaluation::{eval, is_true};
 use crate::heads::{bounds_of, goes_on, value_after, way_of};
-use crate::slots::put;
+use crate::slots::{put, unset};
 use crate::step::Step;
 use spx_core::{
     CoreAlternative, CoreArm, CoreCount, CoreExpr, CoreScheme, CoreStmt, Reference, Span, VarId,
@@ -256,12 +256,12 @@ fn run_for(
         Err(bad) => return Ok(Step::Failed(bad)),
     };
     if bounds.first > bounds.last {
-        put(store, count.parameter, None);
+        unset(store, count.parameter);
         return Ok(Step::Ended);
     }
     let step = run_count(body, turns, store, stmts, count, way_of(count, bounds))?;
     if step.has_ended() {
-        put(store, count.parameter, None);
+        unset(store, count.parameter);
     }
     Ok(step)
 }

@@ -26,8 +26,8 @@ run_sub-requires-clause-room c =
     let at : sub ≡ get_or p.subs c.args.id.0 sub = c.index-as_slice-id.is ∙ ap (λ subs. get_or subs c.args.id.0 sub) c.as_slice.ensures in
     scoped_room p sub (subst (Scoped p) (sym at) (c.names_are_scoped.ensures p c.requires.visible c.args.id.0 sub c.requires.id))
 
-pub returns-in_err-run : goal.returns-in_err-run
-returns-in_err-run c sub is =
+pub returns-in_err-run-clause-runs : goal.returns-in_err-run-clause-runs
+returns-in_err-run-clause-runs c sub is =
     let p = c.args.program.now in
     let n = c.args.turns in
     let s = c.args.store.now in
@@ -50,8 +50,8 @@ unreachable-requires c =
     let known = within_limit (call_passes p n sub s) (call p n sub s) _ (c.in_ok-run.ensures.ran ∙ ap (λ r. Some (outcome_of r run.slots.items)) c.in-Left.is) in
     never_left p sub obeys n s run.slots.items known.1
 
-pub returns-in-Ended : goal.returns-in-Ended
-returns-in-Ended c sub is =
+pub returns-in-Ended-clause-runs : goal.returns-in-Ended-clause-runs
+returns-in-Ended-clause-runs c sub is =
     let p = c.args.program.now in
     let n = c.args.turns in
     let s = c.args.store.now in
@@ -61,8 +61,8 @@ returns-in-Ended c sub is =
     let known = within_limit (call_passes p n first s) (call p n first s) _ (c.in_ok-run.ensures.ran ∙ ap (λ r. Some (outcome_of r run.slots.items)) c.in-Ended.is) in
     subst (λ x. (call_passes p n x s ≡ false) × (call p n x s ≡ Ended c.from_values.result)) same (known.0, known.1 ∙ ap Ended (sym c.from_values.ensures))
 
-pub returns-in-Failed : goal.returns-in-Failed
-returns-in-Failed c sub is =
+pub returns-in-Failed-clause-runs : goal.returns-in-Failed-clause-runs
+returns-in-Failed-clause-runs c sub is =
     let p = c.args.program.now in
     let n = c.args.turns in
     let s = c.args.store.now in
@@ -72,8 +72,8 @@ returns-in-Failed c sub is =
     let known = within_limit (call_passes p n first s) (call p n first s) _ (c.in_ok-run.ensures.ran ∙ ap (λ r. Some (outcome_of r run.slots.items)) c.in-Failed.is) in
     subst (λ x. (call_passes p n x s ≡ false) × ((call p n x s ≡ Bad c.in-Failed.bad.kind c.in-Failed.bad.place) × (s ≡ s))) same (known.0, (known.1, refl))
 
-pub returns-in-Later : goal.returns-in-Later
-returns-in-Later c sub is =
+pub returns-in-Later-clause-runs : goal.returns-in-Later-clause-runs
+returns-in-Later-clause-runs c sub is =
     let p = c.args.program.now in
     let n = c.args.turns in
     let s = c.args.store.now in

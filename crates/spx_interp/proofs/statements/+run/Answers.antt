@@ -210,7 +210,7 @@ pub run_for-returns-then-bounds : goal.run_for-returns-then-bounds
 run_for-returns-then-bounds t c =
     let none : int_le c.in-Ok.bounds.first c.in-Ok.bounds.last ≡ false = grind (arith, ints) in
     count_none (frame_of c.args.body.now) c.args.count.now (commands c.args.stmts.now) c.args.turns c.args.store.now c.in-Ok.bounds (c.in-Ok.ensures.runs, c.in-Ok.ensures.passes) none
-    ∙ ap (λ s. Some (Ended s)) (sym c.put.ensures)
+    ∙ ap (λ s. Some (Ended s)) (sym c.unset.ensures)
 
 pub run_for-returns-in_err-step : goal.run_for-returns-in_err-step
 run_for-returns-in_err-step t c =
@@ -235,8 +235,8 @@ run_for-returns-then-has_ended t c =
     let ended = sym c.has_ended.ensures ∙ c.if-has_ended.true in
     count_some f count body c.args.turns c.args.store.now c.in-Ok.bounds (c.in-Ok.ensures.runs, c.in-Ok.ensures.passes) some c.way_of.result c.way_of.ensures.first c.way_of.ensures.last
     ∙ after_end (λ o. on_ended o (λ t. Some (Ended (put t count.parameter None)))) _ c.in_ok-step.step c.run_count.new.store c.in_ok-step.ensures ended
-    ∙ ap (λ s. Some (Ended s)) (sym c.put-then-has_ended.ensures)
-    ∙ ended_is c.in_ok-step.step c.put-then-has_ended.new.slots ended
+    ∙ ap (λ s. Some (Ended s)) (sym c.unset-then-has_ended.ensures)
+    ∙ ended_is c.in_ok-step.step c.unset-then-has_ended.new.slots ended
 
 pub run_for-returns-else-has_ended : goal.run_for-returns-else-has_ended
 run_for-returns-else-has_ended t c =
