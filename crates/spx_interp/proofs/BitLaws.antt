@@ -1,5 +1,5 @@
 -- Values that 128 bits hold.
-use Rattle.std.proofs.Common.{◌≡◌, ℤ, pos, ◌+ℤ◌, ◌-ℤ◌, ◌*ℤ◌, Bool, true, false, not, ◌&&◌, ◌||◌, Option, Some, None, refl, ap}
+use Rattle.std.proofs.Common.{◌≡◌, ℤ, pos, ◌+ℤ◌, ◌-ℤ◌, ◌*ℤ◌, Bool, true, false, not, ◌&&◌, ◌||◌, Some, None, refl}
 use Rattle.std.specs.Prelude.{option_map, int_lt, int_le, if◌then◌else◌}
 use Rattle.spx_num.specs.Widths.{fits, fitting, fits_laws}
 use Rattle.spx_num.specs.Exact.{absolute, modulus, or_zero, quotient, raised, remainder}
@@ -7,9 +7,7 @@ use Rattle.spx_text.specs.declared.place.Place.{Place}
 use Rattle.spx_tree.specs.declared.expression.MemberOp.TheVariants as member_op
 use Rattle.spx_core.specs.declared.function.Shift.TheVariants as shift
 use Rattle.spx_meaning.specs.Evaluation.{applied, applied_sign, member, moved}
-use Rattle.spx_tree.specs.declared.expression.InfixOp.{InfixOp}
 use Rattle.spx_tree.specs.declared.expression.InfixOp.TheVariants as op
-use Rattle.spx_tree.specs.declared.expression.PrefixOp.{PrefixOp}
 use Rattle.spx_tree.specs.declared.expression.PrefixOp.TheVariants as sign
 use Rattle.spx_term.specs.declared.value.Value.{Value}
 use Rattle.spx_term.specs.declared.value.Value.TheVariants.{Number, Truth}

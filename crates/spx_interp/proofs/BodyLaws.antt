@@ -1,6 +1,6 @@
 -- The run of a body and of a call, one part after another.
-use Rattle.std.proofs.Common.{◌≡◌, ℕ, Bool, true, false, ◌++◌, length, take, drop, Option, Some, None, Result, Ok, Err, refl, sym, ap, subst, ◌∙◌}
-use Rattle.std.specs.Prelude.{⊤, ◌||◌}
+use Rattle.std.proofs.Common.{◌≡◌, ℕ, Bool, true, false, ◌++◌, length, take, drop, Option, Some, None, Err, refl, sym, ap, subst, ◌∙◌}
+use Rattle.std.specs.Prelude.{◌||◌}
 use Rattle.std.proofs.Math.Seq.{take-append_seam}
 use Rattle.spx_core.specs.declared.program.Program.{Program}
 use Rattle.spx_core.specs.declared.statement.Around.TheVariants as around

@@ -16,7 +16,7 @@ use Rattle.spx_core.specs.declared.rule.ExprType.TheVariants.{Of}
 use Rattle.spx_core.specs.Types.{span_of_type}
 use Rattle.spx_core.specs.Judged.{Judged, ◌>>=◌, application, applied_form, attribute_function, conversion, function_at, is_word, qualification}
 use Rattle.spx_term.specs.declared.value.Value.{Value}
-use Rattle.spx_meaning.specs.Evaluation.{Answer, Gives, mapping_checked, moved, within_bounds}
+use Rattle.spx_meaning.specs.Evaluation.{Gives, mapping_checked, moved, within_bounds}
 
 -- a function without bounds gives its operand
 abbrev Keeps : Mapping → Type 0

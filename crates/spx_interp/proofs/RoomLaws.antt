@@ -1,7 +1,6 @@
 -- Stores that have a place for each variable of a subprogram.
-use Rattle.std.proofs.Common.{◌≡◌, ℕ, zero, suc, ◌<◌, Bool, true, false, ◌||◌, ◌==◌, List, [], ◌∷◌, ◌++◌, length, map, take, drop, Option, Some, None, refl, sym, ap, subst, ◌∙◌, ⊎_elim, arith}
-use Rattle.std.specs.Prelude.{All, IfSome, option_map, slice_get}
-use Rattle.std.specs.List.{list_any}
+use Rattle.std.proofs.Common.{◌≡◌, ℕ, zero, suc, ◌<◌, Bool, true, false, ◌||◌, ◌==◌, List, [], ◌∷◌, length, map, Option, Some, None, refl, sym, ap, subst, ◌∙◌, ⊎_elim, arith}
+use Rattle.std.specs.Prelude.{IfSome, option_map, slice_get}
 use Rattle.std.proofs.lemmas.Bool.{eq-eqb, or_cases, or_left, or_right}
 use Rattle.std.proofs.lemmas.List.{take-append-drop}
 use Rattle.std.proofs.lemmas.List.Elements.{All-cons}
@@ -20,7 +19,7 @@ use Rattle.spx_tree.specs.declared.statement.Closing.{Closing}
 use Rattle.spx_core.specs.Commands.{Command, Skip, Set, Then, Choose, Select, Assertion, Repeat, Leave, Tested, Counted, Endless, Alternatives, Last, When, alternative, alternatives_of, arm_before, arms_before, command, commands, leaves, select}
 use Rattle.spx_core.specs.Effects.{Effect, Read, chosen, effect, effect_among, reads_of, sets}
 use Rattle.spx_core.specs.Formals.{formals, inner, is_formal, is_inner, stands_in}
-use Rattle.spx_core.specs.Scopes.{Scoped, kind_of}
+use Rattle.spx_core.specs.Scopes.{Scoped}
 use Rattle.spx_core.specs.Uses.{is_same, variable_of}
 use Rattle.spx_core.proofs.Callers.CommandForms.{command-If, command-If-else, command_alternative, command_arm}
 use Rattle.spx_core.proofs.Callers.Variables.{same_itself}
@@ -74,9 +73,10 @@ module _ (size : ℕ) where
     room_from (Select place selector alternatives) each = room_among (reads_of selector) place alternatives each
     room_from (Assertion kind place condition) each = tt
     room_from (Repeat (Tested place condition) body) each = (tt, room_from body each)
-    room_from (Repeat (Counted c) body) each =
-        (each c.parameter (or_left (is_same c.parameter (Some c.parameter)) (sets c.parameter (effect body)) (same_itself c.parameter)),
-        room_from body (λ v is. each v (or_right (is_same v (Some c.parameter)) (sets v (effect body)) is)))
+    room_from (Repeat (Counted c) body) each = (
+      each c.parameter (or_left (is_same c.parameter (Some c.parameter)) (sets c.parameter (effect body)) (same_itself c.parameter)),
+      room_from body (λ v is. each v (or_right (is_same v (Some c.parameter)) (sets v (effect body)) is)),
+    )
     room_from (Repeat Endless body) each = (tt, room_from body each)
     room_from (Leave place) each = tt
 

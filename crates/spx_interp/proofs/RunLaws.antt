@@ -1,6 +1,6 @@
 -- The run of statements in a row, and of loops, one step after another.
-use Rattle.std.proofs.Common.{◌≡◌, ◌≢◌, ℕ, zero, suc, ◌+◌, ◌<◌, ◌≤◌, ℤ, pos, Bool, true, false, List, [], ◌∷◌, length, get_or, drop, map, Option, Some, None, Result, Ok, Err, refl, sym, ap, ap₂, ◌∙◌, subst, arith}
-use Rattle.std.specs.Prelude.{not, ◌||◌, ◌&&◌, int_le, int_lt, if◌then◌else◌}
+use Rattle.std.proofs.Common.{◌≡◌, ℕ, zero, suc, ◌+◌, ◌<◌, ◌≤◌, ℤ, Bool, true, false, List, length, get_or, drop, Option, Some, None, Result, Ok, Err, refl, sym, ap, ap₂, ◌∙◌, arith}
+use Rattle.std.specs.Prelude.{◌&&◌, int_le, int_lt, if◌then◌else◌}
 use Rattle.std.specs.Ordering.{int_eq}
 use Rattle.std.specs.Result.{IsErrAnd}
 use Rattle.std.proofs.lemmas.Int.{ints}
@@ -8,12 +8,10 @@ use Rattle.std.proofs.lemmas.List.{drop_all, drop_more}
 use Rattle.spx_core.specs.declared.function.Span.{Span}
 use Rattle.spx_core.specs.declared.statement.CoreCount.{CoreCount}
 use Rattle.spx_core.specs.declared.statement.CoreStmt.{CoreStmt}
-use Rattle.spx_core.specs.Commands.{Command, Skip, Then, Repeat, Head, Tested, Counted, Endless, command, commands}
-use Rattle.spx_term.specs.declared.value.Value.{Value}
+use Rattle.spx_core.specs.Commands.{Command, Repeat, Head, Tested, Counted, Endless, command, commands}
 use Rattle.spx_term.specs.declared.value.Value.TheVariants.{Number}
 use Rattle.spx_term.specs.Meaning.{as_truth}
 use Rattle.spx_meaning.specs.declared.bad.Bad.{Bad}
-use Rattle.spx_meaning.specs.Evaluation.{Answer, Gives, Fails, Waits, eval}
 use Rattle.spx_meaning.specs.Frames.{Frame}
 use Rattle.spx_meaning.specs.Limits.{passes, passes_after_bounds, passes_in_count, passes_in_range}
 use Rattle.spx_meaning.specs.Runs.{Outcome, Ended, Left, Later, counted, end_of, over_range, run, start_of, then_do, value_after, with_bounds}

@@ -1,7 +1,6 @@
 use Rattle.std.proofs.Common.{◌≡◌, get_or, sym, ap, subst, ◌∙◌, false, Some, Err, refl}
 use Rattle.std.proofs.lemmas.Option.{get_or_from_slice_get}
 use Rattle.std.proofs.lemmas.Result.{err_from_is_err_and}
-use Rattle.spx_core.specs.declared.subprogram.Sub.{Sub}
 use Rattle.spx_core.specs.Rules.{ObeysRules}
 use Rattle.spx_core.specs.Scopes.{Scoped}
 use Rattle.spx_meaning.specs.Limits.{call_passes}

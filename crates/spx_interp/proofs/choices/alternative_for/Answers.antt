@@ -1,4 +1,4 @@
-use Rattle.std.proofs.Common.{◌+◌, ◌-◌, ◌<◌, ◌≡◌, length, arith, ap, subst, sym, ◌∙◌, true, false, drop}
+use Rattle.std.proofs.Common.{◌-◌, ◌≡◌, length, arith, ap, sym, ◌∙◌, true, false, drop}
 use Rattle.spx_interp.specs.Results.{ran_alternatives}
 use Rattle.spx_interp.proofs.ChoiceLaws.{ran_at_end, ran_from}
 use Rattle.spx_interp.proofs.choices.alternative_for.Goals as goal

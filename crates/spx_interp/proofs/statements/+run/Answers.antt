@@ -1,4 +1,4 @@
-use Rattle.std.proofs.Common.{◌≡◌, ◌+◌, ◌-◌, ◌<◌, ◌≤◌, ℕ, true, false, List, [], length, drop, get_or, map, Option, Some, None, Ok, refl, sym, ap, ap₂, ◌∙◌, subst, arith, rules, to_z, of_z}
+use Rattle.std.proofs.Common.{◌≡◌, ◌+◌, ◌-◌, ◌<◌, ℕ, true, false, List, length, drop, map, Some, None, Ok, sym, ap, ◌∙◌, subst, arith, rules, to_z, of_z}
 use Rattle.std.specs.Prelude.{IfSome, int_le, if◌then◌else◌}
 use Rattle.std.specs.Int.{w128}
 use Rattle.std.specs.Ordering.{int_eq}
@@ -8,14 +8,12 @@ use Rattle.std.proofs.lemmas.Int.{ints, to_z-of_z}
 use Rattle.std.proofs.lemmas.List.{drop_more}
 use Rattle.spx_core.specs.declared.statement.CoreStmt.{the_lemmas}
 use Rattle.spx_core.specs.declared.statement.CoreArm.{CoreArm}
-use Rattle.spx_core.specs.declared.statement.CoreAlternative.{CoreAlternative}
 use Rattle.spx_core.specs.declared.statement.CoreStmt.{CoreStmt}
-use Rattle.spx_core.specs.Commands.{Assertion, Counted, Repeat, Skip, alternative, arm_before, arms_before, command, commands, head_of, loop_of, select}
+use Rattle.spx_core.specs.Commands.{Repeat, Skip, arm_before, arms_before, command, commands, head_of}
 use Rattle.spx_core.proofs.Callers.CommandForms.{command-Assertion, command-Case, command-If, command-If-else, command-Null}
-use Rattle.spx_term.specs.declared.value.Value.TheVariants.{Number}
-use Rattle.spx_meaning.specs.Runs.{Outcome, Ended, end_of, start_of, untrue, value_after}
-use Rattle.spx_meaning.specs.Stores.{Store, put}
-use Rattle.spx_interp.specs.Results.{arm_at, done, frame_of, looked_at, on_arm, outcome_of, ran, ran_count}
+use Rattle.spx_meaning.specs.Runs.{Ended, value_after}
+use Rattle.spx_meaning.specs.Stores.{put}
+use Rattle.spx_interp.specs.Results.{arm_at, frame_of, looked_at, on_arm, outcome_of, ran, ran_count}
 use Rattle.spx_interp.specs.Rooms.{AlternativesHaveRoom, ArmsHaveRoom, HasRoom}
 use Rattle.spx_interp.proofs.RoomLaws.{room_of_alternatives, room_of_arms, room_of_if}
 use Rattle.spx_interp.proofs.RunForms.{on_ended, on_turn, ran-Assertion, ran-Skip}
@@ -33,11 +31,12 @@ run_stmts-loop-stmt-preserved t c =
     let l = c.loop-stmt in
     let k = l.stmt-index in
     let s = c.run_stmt.new.store in
-    let left = subst (λ xs. HasRoom (length l.store) (commands xs)) (drop_more stmts k c.stmt-item.result c.loop-stmt-test.true) l.invariant.0 in
-    (subst (λ (size : ℕ). HasRoom size (commands (drop (k + 1) stmts))) (sym c.run_stmt.auto.store) left.1,
-    l.invariant.1
-    ∙ ran_stmts f n l.store stmts k c.stmt-item.result c.loop-stmt-test.true c.stmt-item.is
-    ∙ after_end (λ o. on_ended o (λ t. ran f n t (commands (drop (k + 1) stmts)))) _ c.in_ok-step.step s c.in_ok-step.ensures (sym c.has_ended.ensures ∙ c.if-not-has_ended.false))
+    let left = subst (λ xs. HasRoom (length l.store) (commands xs)) (drop_more stmts k c.stmt-item.result c.loop-stmt-test.true) l.invariant.0 in (
+      subst (λ (size : ℕ). HasRoom size (commands (drop (k + 1) stmts))) (sym c.run_stmt.auto.store) left.1,
+      l.invariant.1
+          ∙ ran_stmts f n l.store stmts k c.stmt-item.result c.loop-stmt-test.true c.stmt-item.is
+          ∙ after_end (λ o. on_ended o (λ t. ran f n t (commands (drop (k + 1) stmts)))) _ c.in_ok-step.step s c.in_ok-step.ensures (sym c.has_ended.ensures ∙ c.if-not-has_ended.false),
+    )
 
 pub run_stmts-returns-then-not-has_ended : goal.run_stmts-returns-then-not-has_ended
 run_stmts-returns-then-not-has_ended t c =
@@ -183,11 +182,12 @@ run_turns-loop-bad-preserved t c =
     let f = frame_of c.args.body.now in
     let head = head_of c.args.scheme.now in
     let body = commands c.args.stmts.now in
-    let l = c.loop-bad in
-    (subst (λ (size : ℕ). HasRoom size body) (sym c.run_stmts.auto.store) l.invariant.0,
-    l.invariant.1
-    ∙ loop_turns f head body c.requires.tested l.left (l.left - 1) l.store (omega arith) (at_truth true c.in-Ok-true.field-0 _ c.in-Ok-true.field-0-test c.in-Ok-true.ensures)
-    ∙ after_end (λ o. on_turn o (λ t. ran f (l.left - 1) t (Repeat head body))) _ c.in_ok-step.step c.run_stmts.new.store c.in_ok-step.ensures (sym c.has_ended.ensures ∙ c.if-not-has_ended.false))
+    let l = c.loop-bad in (
+      subst (λ (size : ℕ). HasRoom size body) (sym c.run_stmts.auto.store) l.invariant.0,
+      l.invariant.1
+          ∙ loop_turns f head body c.requires.tested l.left (l.left - 1) l.store (omega arith) (at_truth true c.in-Ok-true.field-0 _ c.in-Ok-true.field-0-test c.in-Ok-true.ensures)
+          ∙ after_end (λ o. on_turn o (λ t. ran f (l.left - 1) t (Repeat head body))) _ c.in_ok-step.step c.run_stmts.new.store c.in_ok-step.ensures (sym c.has_ended.ensures ∙ c.if-not-has_ended.false),
+    )
 
 pub run_turns-returns-then-not-has_ended : goal.run_turns-returns-then-not-has_ended
 run_turns-returns-then-not-has_ended t c =
@@ -260,14 +260,15 @@ run_count-loop-left-preserved t c =
     let next = c.value_after-value.result in
     let last : to_z w128 (of_z w128 end) ≡ end = search (rules, to_z-of_z) in
     let same : to_z w128 (of_z w128 next) ≡ next = search (rules, to_z-of_z) in
-    let other : int_eq k end ≡ false = unequal k end (λ e. c.if-value-way.false (sym (of_z-to_z l.auto.value-fits) ∙ ap (of_z w128) e)) in
-    (rw same (rw last at c.value_after-value.ensures.way),
-    l.invariant.1
-    ∙ count_turns f count body end l.left (l.left - 1) k l.store (omega arith)
-    ∙ ap (λ s. on_turn (ran f (l.left - 1) s body) (λ t. if int_eq k end then Some (Ended t) else ran_count f count body end (l.left - 1) (value_after count k) t)) (sym c.put.ensures)
-    ∙ after_end (λ o. on_turn o (λ t. if int_eq k end then Some (Ended t) else ran_count f count body end (l.left - 1) (value_after count k) t)) _ c.in_ok-step.step c.run_stmts.new.store c.in_ok-step.ensures (sym c.has_ended.ensures ∙ c.if-not-has_ended.false)
-    ∙ ap (λ b. if b then Some (Ended c.run_stmts.new.store) else ran_count f count body end (l.left - 1) (value_after count k) c.run_stmts.new.store) other
-    ∙ ap (λ v. ran_count f count body end (l.left - 1) v c.run_stmts.new.store) (sym c.value_after-value.ensures.value ∙ sym same))
+    let other : int_eq k end ≡ false = unequal k end (λ e. c.if-value-way.false (sym (of_z-to_z l.auto.value-fits) ∙ ap (of_z w128) e)) in (
+      rw same (rw last at c.value_after-value.ensures.way),
+      l.invariant.1
+          ∙ count_turns f count body end l.left (l.left - 1) k l.store (omega arith)
+          ∙ ap (λ s. on_turn (ran f (l.left - 1) s body) (λ t. if int_eq k end then Some (Ended t) else ran_count f count body end (l.left - 1) (value_after count k) t)) (sym c.put.ensures)
+          ∙ after_end (λ o. on_turn o (λ t. if int_eq k end then Some (Ended t) else ran_count f count body end (l.left - 1) (value_after count k) t)) _ c.in_ok-step.step c.run_stmts.new.store c.in_ok-step.ensures (sym c.has_ended.ensures ∙ c.if-not-has_ended.false)
+          ∙ ap (λ b. if b then Some (Ended c.run_stmts.new.store) else ran_count f count body end (l.left - 1) (value_after count k) c.run_stmts.new.store) other
+          ∙ ap (λ v. ran_count f count body end (l.left - 1) v c.run_stmts.new.store) (sym c.value_after-value.ensures.value ∙ sym same),
+    )
 
 pub run_count-returns-then-value-way : goal.run_count-returns-then-value-way
 run_count-returns-then-value-way t c =

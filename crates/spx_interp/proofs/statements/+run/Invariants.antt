@@ -1,5 +1,5 @@
 use Rattle.std.proofs.Common.{◌≡◌, drop, length}
-use Rattle.spx_core.specs.Commands.{commands, head_of, loop_of}
+use Rattle.spx_core.specs.Commands.{commands, loop_of}
 use Rattle.spx_interp.specs.Results.{IsWay, frame_of, ran, ran_count}
 use Rattle.spx_interp.specs.Rooms.{HasRoom}
 use Rattle.spx_interp.proofs.statements.+run.Given as goal
