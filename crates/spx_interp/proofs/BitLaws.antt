@@ -116,12 +116,6 @@ pub held-Not : (x : Value) → held (applied_sign sign.Not x) ≡ Some (Truth (n
 unfolding value_of_prefix
 held-Not x = refl
 
-pub moved-Next : (x : Value) → moved shift.Next x ≡ applied op.Add x (Number (pos 1))
-moved-Next x = refl
-
-pub moved-Previous : (x : Value) → moved shift.Previous x ≡ applied op.Subtract x (Number (pos 1))
-moved-Previous x = refl
-
 pub member-In : (x low high : Value) → member member_op.In x low high ≡ Truth (int_le (as_number low) (as_number x) && int_le (as_number x) (as_number high))
 unfolding value_of_op
 member-In x low high = refl

@@ -1,7 +1,8 @@
 -- The run of a body and of a call, one part after another.
-use Rattle.std.proofs.Common.{◌≡◌, ℕ, Bool, true, false, ◌++◌, length, take, drop, Option, Some, None, Err, refl, sym, ap, subst, ◌∙◌}
-use Rattle.std.specs.Prelude.{◌||◌}
+use Rattle.std.proofs.Common.{◌≡◌, ℕ, Bool, true, false, ◌++◌, List, length, get_or, take, drop, Option, Some, None, Err, refl, sym, ap, subst, ◌∙◌}
+use Rattle.std.specs.Prelude.{◌||◌, slice_get}
 use Rattle.std.proofs.Math.Seq.{take-append_seam}
+use Rattle.std.proofs.lemmas.Option.{get_or_from_slice_get}
 use Rattle.spx_core.specs.declared.program.Program.{Program}
 use Rattle.spx_core.specs.declared.statement.Around.TheVariants as around
 use Rattle.spx_core.specs.declared.subprogram.CorePredicate.{CorePredicate}
@@ -17,8 +18,9 @@ use Rattle.spx_meaning.proofs.Callers.Exits.{Stays, none_leaves, run_stays, stay
 use Rattle.spx_interp.specs.declared.fault.RunLimit.{RunLimit}
 use Rattle.spx_interp.specs.declared.fault.RunFault.{RunFault}
 use Rattle.spx_interp.specs.declared.fault.RunFault.TheVariants.{TooLarge, Memory}
+use Rattle.spx_interp.specs.declared.step.Step.{Step}
 use Rattle.spx_interp.specs.Calls.{IsCall}
-use Rattle.spx_interp.specs.Results.{body_ended, body_ran, call_ran, limited, predicate_looked_at, ran}
+use Rattle.spx_interp.specs.Results.{body_ended, body_ran, call_ran, limited, outcome_of, predicate_looked_at, ran}
 use Rattle.spx_interp.proofs.RunForms.{limited_ended, on_ended}
 
 on_ended_same : (o : Option Outcome) (go go' : Store → Option Outcome) → ((t : Store) → go t ≡ go' t) → on_ended o go ≡ on_ended o go'
@@ -68,6 +70,19 @@ within_limit false o q is = (refl, (let same : o ≡ q = cc in same))
 pub past_limit : (b : Bool) (o : Outcome) → limited b o ≡ None → b ≡ true
 past_limit true o is = refl
 past_limit false o is = absurd cc
+
+-- the subprogram that is read in the code
+pub in_place : (subs read : List Sub) (k : ℕ) (first : Sub) → read ≡ subs → first ≡ get_or read k first → first ≡ get_or subs k first
+in_place subs read k first is at = at ∙ ap (λ xs. get_or xs k first) is
+
+pub the_sub : (subs read : List Sub) (k : ℕ) (first sub : Sub) → read ≡ subs → first ≡ get_or read k first → slice_get subs k ≡ Some sub → first ≡ sub
+the_sub subs read k first sub is at found = in_place subs read k first is at ∙ get_or_from_slice_get subs k sub first found
+
+-- how a call ends that has an answer
+pub call_ended : (p : Program) (n : ℕ) (first sub : Sub) (s t : Store) (r q : Step) → first ≡ sub → call_ran p n first s ≡ Some (outcome_of r t) → r ≡ q → (call_passes p n sub s ≡ false) × (call p n sub s ≡ outcome_of q t)
+call_ended p n first sub s t r q same ran is =
+    subst (λ x. (call_passes p n x s ≡ false) × (call p n x s ≡ outcome_of q t)) same
+    (within_limit (call_passes p n first s) (call p n first s) (outcome_of q t) (ran ∙ ap (λ x. Some (outcome_of x t)) is))
 
 -- ---- no call is left by an exit
 

@@ -1,6 +1,5 @@
 pub mod BitLaws
 pub mod BoundLaws
-pub mod Divisions
 pub mod MappingLaws
 pub mod EvalLaws
 pub mod RunForms

@@ -72,10 +72,6 @@ limited_and : (b p : Bool) (o r : Outcome) → limited (b && p) (if b then o els
 limited_and true p o r = refl
 limited_and false p o r = refl
 
-limited_not : (b p : Bool) (o r : Outcome) → limited (not b && p) (if b then r else o) ≡ (if b then Some r else limited p o)
-limited_not true p o r = refl
-limited_not false p o r = refl
-
 -- ---- commands
 
 module _ (f : Frame) (n : ℕ) (s : Store) where

@@ -172,15 +172,17 @@ module _ (f : Frame) (c : CoreCount) (body : Command) where
       ∙ ap (λ k. on_ended (ran_count f c body k n (start_of c span.first span.last) s) (λ t. Some (unset_after t))) (sym last)
       ∙ ap (λ k. on_ended (ran_count f c body way.last n k s) (λ t. Some (unset_after t))) (sym first)
 
-  -- a turn for one value
-  pub count_turns : (last : ℤ) (n m : ℕ) (k : ℤ) (s : Store) → n ≡ m + 1
-      → ran_count f c body last n k s
-      ≡ on_turn (ran f m (put s c.parameter (Some (Number k))) body) (λ t. if int_eq k last then Some (Ended t) else ran_count f c body last m (value_after c k) t)
-  count_turns last zero m k s one = absurd (omega arith)
-  count_turns last (suc n) m k s one =
+  -- what follows the turn for this value
+  abbrev pub after_value : (last : ℤ) → ℕ → ℤ → Store → Option Outcome
+  after_value last n k t = if int_eq k last then Some (Ended t) else ran_count f c body last n (value_after c k) t
+
+  -- a turn for one value, from the store in which the parameter has it
+  pub count_turns : (last : ℤ) (n m : ℕ) (k : ℤ) (s here : Store) → n ≡ m + 1 → here ≡ put s c.parameter (Some (Number k)) → ran_count f c body last n k s ≡ on_turn (ran f m here body) (after_value last m k)
+  count_turns last zero m k s here one is = absurd (omega arith)
+  count_turns last (suc n) m k s here one is =
       let same : n ≡ m = omega arith in
-      ran_count-suc f body c last n k s
-      ∙ ap (λ i. on_turn (ran f i (put s c.parameter (Some (Number k))) body) (λ t. if int_eq k last then Some (Ended t) else ran_count f c body last i (value_after c k) t)) same
+      ran_count-suc f body c last n k s ∙ ap (λ i. on_turn (ran f i (put s c.parameter (Some (Number k))) body) (after_value last i k)) same
+      ∙ ap (λ t. on_turn (ran f m t body) (after_value last m k)) (sym is)
 
   -- the bound is used up
   pub count_waits : (last : ℤ) (n : ℕ) (k : ℤ) (s : Store) → n ≡ 0 → ran_count f c body last n k s ≡ Some Later

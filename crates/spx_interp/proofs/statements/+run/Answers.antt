@@ -18,7 +18,7 @@ use Rattle.spx_interp.specs.Rooms.{AlternativesHaveRoom, ArmsHaveRoom, HasRoom}
 use Rattle.spx_interp.proofs.RoomLaws.{room_of_alternatives, room_of_arms, room_of_if}
 use Rattle.spx_interp.proofs.RunForms.{on_ended, on_turn, ran-Assertion, ran-Skip}
 use Rattle.spx_interp.proofs.ChoiceLaws.{alternative_at_is, arm_at_is, at_truth, more_than_none, ran_selected, ran_unevaluated, ran_unselected}
-use Rattle.spx_interp.proofs.RunLaws.{after_end, at_most, ended_is, equal, unequal, count_fails, count_none, count_some, count_turns, count_waits, loop_ends, loop_fails, loop_turns, loop_waits, ran_none, ran_stmts, refused, turn_leaves, unended}
+use Rattle.spx_interp.proofs.RunLaws.{after_end, after_value, at_most, ended_is, equal, unequal, count_fails, count_none, count_some, count_turns, count_waits, loop_ends, loop_fails, loop_turns, loop_waits, ran_none, ran_stmts, refused, turn_leaves, unended}
 use Rattle.spx_interp.proofs.statements.+run.Goals as goal
 
 -- ---- statements in a row
@@ -255,19 +255,20 @@ run_count-loop-left-preserved t c =
     let count = c.args.count.now in
     let body = commands c.args.stmts.now in
     let l = c.loop-left in
+    let left = l.left - 1 in
     let k = to_z w128 l.value-bits in
     let end = c.args.way.last in
+    let s = c.run_stmts.new.store in
     let next = c.value_after-value.result in
     let last : to_z w128 (of_z w128 end) ≡ end = search (rules, to_z-of_z) in
     let same : to_z w128 (of_z w128 next) ≡ next = search (rules, to_z-of_z) in
     let other : int_eq k end ≡ false = unequal k end (λ e. c.if-value-way.false (sym (of_z-to_z l.auto.value-fits) ∙ ap (of_z w128) e)) in (
       rw same (rw last at c.value_after-value.ensures.way),
       l.invariant.1
-          ∙ count_turns f count body end l.left (l.left - 1) k l.store (omega arith)
-          ∙ ap (λ s. on_turn (ran f (l.left - 1) s body) (λ t. if int_eq k end then Some (Ended t) else ran_count f count body end (l.left - 1) (value_after count k) t)) (sym c.put.ensures)
-          ∙ after_end (λ o. on_turn o (λ t. if int_eq k end then Some (Ended t) else ran_count f count body end (l.left - 1) (value_after count k) t)) _ c.in_ok-step.step c.run_stmts.new.store c.in_ok-step.ensures (sym c.has_ended.ensures ∙ c.if-not-has_ended.false)
-          ∙ ap (λ b. if b then Some (Ended c.run_stmts.new.store) else ran_count f count body end (l.left - 1) (value_after count k) c.run_stmts.new.store) other
-          ∙ ap (λ v. ran_count f count body end (l.left - 1) v c.run_stmts.new.store) (sym c.value_after-value.ensures.value ∙ sym same),
+          ∙ count_turns f count body end l.left left k l.store c.put.new.slots (omega arith) c.put.ensures
+          ∙ after_end (λ o. on_turn o (after_value f count body end left k)) _ c.in_ok-step.step s c.in_ok-step.ensures (sym c.has_ended.ensures ∙ c.if-not-has_ended.false)
+          ∙ ap (λ b. if b then Some (Ended s) else ran_count f count body end left (value_after count k) s) other
+          ∙ ap (λ v. ran_count f count body end left v s) (sym c.value_after-value.ensures.value ∙ sym same),
     )
 
 pub run_count-returns-then-value-way : goal.run_count-returns-then-value-way
@@ -276,15 +277,16 @@ run_count-returns-then-value-way t c =
     let count = c.args.count.now in
     let body = commands c.args.stmts.now in
     let l = c.loop-left in
+    let left = l.left - 1 in
     let k = to_z w128 l.value-bits in
     let end = c.args.way.last in
+    let s = c.run_stmts.new.store in
     let last : to_z w128 (of_z w128 end) ≡ end = search (rules, to_z-of_z) in
     let same : int_eq k end ≡ true = equal k end (ap (to_z w128) c.if-value-way.true ∙ last) in
     l.invariant.1
-    ∙ count_turns f count body end l.left (l.left - 1) k l.store (omega arith)
-    ∙ ap (λ s. on_turn (ran f (l.left - 1) s body) (λ t. if int_eq k end then Some (Ended t) else ran_count f count body end (l.left - 1) (value_after count k) t)) (sym c.put.ensures)
-    ∙ after_end (λ o. on_turn o (λ t. if int_eq k end then Some (Ended t) else ran_count f count body end (l.left - 1) (value_after count k) t)) _ c.in_ok-step.step c.run_stmts.new.store c.in_ok-step.ensures (sym c.has_ended.ensures ∙ c.if-not-has_ended.false)
-    ∙ ap (λ b. if b then Some (Ended c.run_stmts.new.store) else ran_count f count body end (l.left - 1) (value_after count k) c.run_stmts.new.store) same
+    ∙ count_turns f count body end l.left left k l.store c.put.new.slots (omega arith) c.put.ensures
+    ∙ after_end (λ o. on_turn o (after_value f count body end left k)) _ c.in_ok-step.step s c.in_ok-step.ensures (sym c.has_ended.ensures ∙ c.if-not-has_ended.false)
+    ∙ ap (λ b. if b then Some (Ended s) else ran_count f count body end left (value_after count k) s) same
 
 pub run_count-returns-in_err-step : goal.run_count-returns-in_err-step
 run_count-returns-in_err-step t c =
@@ -292,12 +294,12 @@ run_count-returns-in_err-step t c =
     let count = c.args.count.now in
     let body = commands c.args.stmts.now in
     let l = c.loop-left in
+    let left = l.left - 1 in
     let k = to_z w128 l.value-bits in
     let end = c.args.way.last in
     l.invariant.1
-    ∙ count_turns f count body end l.left (l.left - 1) k l.store (omega arith)
-    ∙ ap (λ s. on_turn (ran f (l.left - 1) s body) (λ t. if int_eq k end then Some (Ended t) else ran_count f count body end (l.left - 1) (value_after count k) t)) (sym c.put.ensures)
-    ∙ ap (λ o. on_turn o (λ t. if int_eq k end then Some (Ended t) else ran_count f count body end (l.left - 1) (value_after count k) t)) c.in_err-step.ensures
+    ∙ count_turns f count body end l.left left k l.store c.put.new.slots (omega arith) c.put.ensures
+    ∙ ap (λ o. on_turn o (after_value f count body end left k)) c.in_err-step.ensures
     ∙ sym (refused _ c.from_residual.result c.run_stmts.new.store c.from_residual.ensures.1)
 
 pub run_count-returns-then-not-has_ended : goal.run_count-returns-then-not-has_ended
@@ -306,13 +308,13 @@ run_count-returns-then-not-has_ended t c =
     let count = c.args.count.now in
     let body = commands c.args.stmts.now in
     let l = c.loop-left in
+    let left = l.left - 1 in
     let k = to_z w128 l.value-bits in
     let end = c.args.way.last in
     let s = c.run_stmts.new.store in
     l.invariant.1
-    ∙ count_turns f count body end l.left (l.left - 1) k l.store (omega arith)
-    ∙ ap (λ s. on_turn (ran f (l.left - 1) s body) (λ t. if int_eq k end then Some (Ended t) else ran_count f count body end (l.left - 1) (value_after count k) t)) (sym c.put.ensures)
-    ∙ turn_leaves _ c.in_ok-step.step s (λ t. if int_eq k end then Some (Ended t) else ran_count f count body end (l.left - 1) (value_after count k) t) c.in_ok-step.ensures (sym c.has_ended.ensures ∙ c.if-not-has_ended.true)
+    ∙ count_turns f count body end l.left left k l.store c.put.new.slots (omega arith) c.put.ensures
+    ∙ turn_leaves _ c.in_ok-step.step s (after_value f count body end left k) c.in_ok-step.ensures (sym c.has_ended.ensures ∙ c.if-not-has_ended.true)
     ∙ ap (λ r. Some (outcome_of r s)) (sym c.past_loop.ensures)
 
 pub run_count-returns : goal.run_count-returns
