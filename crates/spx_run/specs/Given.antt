@@ -1,5 +1,5 @@
 -- What inputs give to the imports of a subprogram.
-use Rattle.std.specs.Prelude.{ℕ, ◌==◌, Bool, true, false, not, ◌&&◌, if◌then◌else◌, List, [], ◌∷◌, ◌++◌, map, filter, filter_map, find, position, Option, Some, None, is_none, option_map, option_and_then, slice_get, codes}
+use Rattle.std.specs.Prelude.{ℕ, ◌==◌, Bool, true, false, not, ◌&&◌, if◌then◌else◌, List, [], ◌∷◌, ◌++◌, map, filter, filter_map, find, position, Option, Some, None, is_none, option_and_then, slice_get, codes}
 use Rattle.std.specs.List.{list_any, cons_option}
 use Rattle.std.specs.Str.{str_eq_ignore_ascii_case}
 use Rattle.spx_text.specs.declared.place.Place.{Place}
@@ -101,14 +101,15 @@ findings_of p sub s file lines = findings_on p sub file [] lines ++ findings_wit
 
 -- ---- the store
 
+-- a store in which the variable has the value, where there is one
+abbrev pub put_given : Store → VarId → Option Value → Store
+put_given s v (Some x) = put s v (Some x)
+put_given s v None = s
+
 -- a store in which the import has the value, where both are there
 abbrev pub given_to : Program → Option VarId → InputValue → Store → Store
 given_to p None given s = s
 given_to p (Some v) given s = put_given s v (typed (type_of p v) given)
-  where
-    abbrev pub put_given : Store → VarId → Option Value → Store
-    put_given s v (Some x) = put s v (Some x)
-    put_given s v None = s
 
 -- the store that the lines make of one, in their order
 abbrev pub store_with : Program → Sub → List InputLine → Store → Store

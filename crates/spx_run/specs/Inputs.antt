@@ -1,5 +1,5 @@
 -- What an inputs file says: a line `NAME = VALUE` for each import, in the lexemes of the language.
-use Rattle.std.specs.Prelude.{◌≡◌, ⊤, ◌⊎◌, ℕ, suc, ℤ, pos, ◌-ℤ◌, false, List, [], ◌∷◌, Result, Ok, Err}
+use Rattle.std.specs.Prelude.{◌≡◌, ⊤, ◌⊎◌, ℕ, suc, pos, ◌-ℤ◌, false, List, [], ◌∷◌, Result, Ok, Err}
 use Rattle.spx_tree.specs.declared.token.Kind.{Kind}
 use Rattle.spx_tree.specs.declared.token.Kind.TheVariants as kind
 use Rattle.spx_tree.specs.declared.token.Token.{Token}

@@ -3,3 +3,4 @@ pub mod Inputs
 pub mod Given
 pub mod Results
 pub mod Laws
+pub mod Mirror

@@ -1,16 +1,21 @@
 //! Laws of the definitions, each as the contract of a function that does nothing.
 ghost use Rattle.spx_run.specs.Laws.{OneReading, SomeReading};
 
+use spx_lexer::some_spelling;
+use spx_tree::{one_spelling, one_stop};
+
 /// A text of inputs is read in one way.
 pub fn one_reading()
     ensures { OneReading }
 {
-    spx_tree::one_spelling();
+    one_spelling();
 }
 
 /// A text of inputs is read in some way.
 pub fn some_reading()
     ensures { SomeReading }
 {
-    spx_lexer::some_spelling();
+    one_spelling();
+    one_stop();
+    some_spelling();
 }

@@ -5,11 +5,14 @@
 //! bounded call ends. `RunResult::text` is what is printed. Two laws say that a text of inputs is read in exactly one way.
 #![tactic(auto)]
 
+mod entry;
+mod given;
 mod inputs;
 pub mod laws;
+mod printing;
+mod reading;
 mod result;
-mod run;
 
+pub use entry::run;
 pub use inputs::{InputFault, InputLine, InputValue, Inputs, read_inputs};
 pub use result::{InputFinding, Output, RunResult};
-pub use run::run;

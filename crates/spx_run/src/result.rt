@@ -1,9 +1,11 @@
 // What a run comes to, and its text.
-ghost use Rattle.std.specs.Prelude.{◌≡◌, IfOk};
+ghost use Rattle.std.specs.Prelude.{◌≡◌, ◌++◌, IfOk, OnOk};
 ghost use Rattle.spx_text.specs.Loads.{names};
 ghost use Rattle.spx_run.specs.Results.{result_text};
 
+use crate::printing::{put_fault, put_findings, put_outputs, put_turns};
 use spx_meaning::{Bad, Value};
+use spx_report::{LimitName, put, put_verdict};
 use spx_text::{Place, Text};
 use sqlite_items::Items;
 use std::alloc::{AllocError, Global};
@@ -48,9 +50,29 @@ pub enum RunResult {
 
 impl RunResult {
     /// What is printed, where the files have these names.
+    #[tactic(auto, using(spx_report::proofs::Texts::texts), unfolding(crate::specs::Results::result_text))]
     pub fn text(&self, alloc: Global, files: &[String]) -> Result<Vec<u8>, AllocError>
         ensures { IfOk result (λ text. text.items ≡ result_text (names files.now) self.now) }
     {
-        todo
+        let mut out = Vec::new(alloc);
+        self.put_text(alloc, &mut out, files)?;
+        Ok(out)
+    }
+
+    /// Adds what is printed.
+    #[tactic(auto, using(spx_report::proofs::Texts::texts), unfolding(crate::specs::Results::result_text))]
+    fn put_text(&self, alloc: Global, out: &mut Vec<u8>, files: &[String]) -> Result<(), AllocError>
+        ensures { OnOk result (out.new.items ≡ out.old.items ++ result_text (names files.now) self.now) }
+    {
+        match self {
+            RunResult::Refused(findings) => {
+                put_findings(alloc, out, files, findings.as_slice())?;
+                put_verdict(alloc, out, findings.len())
+            }
+            RunResult::TooLarge => put(out, LimitName::Bits.text()),
+            RunResult::Faulted(fault) => put_fault(alloc, out, files, *fault),
+            RunResult::NotEnded(turns) => put_turns(alloc, out, *turns),
+            RunResult::Ended(outputs) => put_outputs(alloc, out, outputs.as_slice()),
+        }
     }
 }

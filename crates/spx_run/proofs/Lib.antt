@@ -1,0 +1,6 @@
+mod LineLaws
+mod TokenLaws
+mod ReadingLaws
+mod InputLaws
+mod PassLaws
+mod GivenLaws

@@ -1,0 +1,99 @@
+-- What only the code needs, in terms of the definitions. No claim on runs rests on these.
+use Rattle.std.specs.Prelude.{◌≡◌, ◌<◌, ℕ, ◌==◌, pos, ◌-ℤ◌, Bool, true, false, not, ◌&&◌, if◌then◌else◌, List, [], ◌∷◌, ◌++◌, length, codes, Option, Some, None, option_map}
+use Rattle.std.specs.List.{All, position_or_len}
+use denote.Enum.Bare.{sameb}
+use Rattle.spx_text.specs.declared.place.Place.{Place}
+use Rattle.spx_core.specs.declared.entity.VarId.{VarId}
+use Rattle.spx_core.specs.declared.program.Program.{Program}
+use Rattle.spx_core.specs.declared.subprogram.Sub.{Sub}
+use Rattle.spx_core.specs.Dependency.{imports}
+use Rattle.spx_core.specs.Mirror.VarSets.{holds}
+use Rattle.spx_tree.specs.contracts.token.Kind.{the_type}
+use Rattle.spx_tree.specs.declared.token.Kind.{Kind}
+use Rattle.spx_tree.specs.declared.token.Kind.TheVariants as kind
+use Rattle.spx_tree.specs.declared.token.Token.{Token}
+use Rattle.spx_tree.specs.Form.{spelling}
+use Rattle.spx_term.specs.declared.value.Value.{Value}
+use Rattle.spx_term.specs.declared.value.Value.TheVariants as value
+use Rattle.spx_report.specs.Report.{place_text}
+use Rattle.spx_run.specs.declared.inputs.InputValue.{InputValue}
+use Rattle.spx_run.specs.declared.inputs.InputValue.TheVariants.{Number, Word}
+use Rattle.spx_run.specs.declared.inputs.InputLine.{InputLine}
+use Rattle.spx_run.specs.Given.{import_named, is_word}
+use Rattle.spx_run.specs.Inputs.{IsLine}
+
+-- ---- tokens
+
+-- the number of a token is not below 0
+abbrev pub IsNatural : Token → Type 0
+IsNatural t = (n : ℕ) × (t.number ≡ pos n)
+
+abbrev pub AreNatural : List Token → Type 0
+AreNatural tokens = All IsNatural tokens
+
+unfoldable pub same_kind : Kind → Kind → Bool
+same_kind = sameb the_type
+
+-- the token is one of this kind that is not in annotation text
+abbrev pub is_token : Kind → Token → Bool
+is_token what t = same_kind t.kind what && not t.marked
+
+-- the value that one token is
+abbrev pub single_value : List ℕ → Token → Option InputValue
+single_value source t =
+    if is_token kind.Number t then Some (Number t.number)
+    else if is_token kind.Identifier t then Some (Word (spelling source t)) else None
+
+-- the value that two tokens are
+abbrev pub negative_value : Token → Token → Option InputValue
+negative_value minus t = if is_token kind.Minus minus && is_token kind.Number t then Some (Number (pos 0 -ℤ t.number)) else None
+
+-- the value that tokens are
+abbrev pub value_in : List ℕ → List Token → Option InputValue
+value_in source [] = None
+value_in source (t ∷ []) = single_value source t
+value_in source (minus ∷ t ∷ []) = negative_value minus t
+value_in source (a ∷ b ∷ c ∷ more) = None
+
+abbrev pub named_value : ℕ → List ℕ → Option InputValue → Option InputLine
+named_value n name found = option_map (λ value. record { line = n; name = name; value = value }) found
+
+-- the line of this number that tokens are
+abbrev pub line_in : ℕ → List ℕ → List Token → Option InputLine
+line_in n source [] = None
+line_in n source (name ∷ []) = None
+line_in n source (name ∷ equal ∷ value) =
+    if is_token kind.Identifier name && is_token kind.Equal equal then named_value n (spelling source name) (value_in source value) else None
+
+-- the line of this number that bytes are, or that they are none
+abbrev pub IsReadAs : ℕ → List ℕ → Option InputLine → Type 0
+IsReadAs n bytes (Some line) = IsLine bytes line × (line.line ≡ n)
+IsReadAs n bytes None = (line : InputLine) → IsLine bytes line → ⊥
+
+-- how many bytes come before the end of the first line
+abbrev pub line_len : List ℕ → ℕ
+line_len bytes = position_or_len (λ b. b == 10) bytes
+
+-- ---- imports
+
+-- the set has the imports of the subprogram, and no other variable
+abbrev pub AreImports : Sub → List ℕ → Type 0
+AreImports sub set = (v : VarId) → holds set v ≡ imports v sub
+
+-- an import that is found by its name is a variable of the program
+abbrev pub ImportsAreDeclared : Program → Sub → Type 0
+ImportsAreDeclared p sub = (name : List ℕ) (v : VarId) → import_named p sub name ≡ Some v → v.0 < length p.vars
+
+-- the truth value that a word is
+abbrev pub truth_written : List ℕ → Option Value
+truth_written w = if is_word w (codes "true") then Some (value.Truth true) else if is_word w (codes "false") then Some (value.Truth false) else None
+
+-- ---- texts
+
+-- what is said of a place
+unfoldable pub place_line : List (List ℕ) → Place → List ℕ → List ℕ
+place_line names place what = place_text names place ++ what
+
+-- what is said of a name
+unfoldable pub name_line : List ℕ → List ℕ → List ℕ
+name_line what name = what ++ (name ++ codes "\n")
