@@ -5,8 +5,7 @@ use Rattle.spx_num.specs.Widths.{fits, fitting, fits_laws}
 use Rattle.spx_num.specs.Exact.{absolute, modulus, or_zero, quotient, raised, remainder}
 use Rattle.spx_text.specs.declared.place.Place.{Place}
 use Rattle.spx_tree.specs.declared.expression.MemberOp.TheVariants as member_op
-use Rattle.spx_core.specs.declared.function.Shift.TheVariants as shift
-use Rattle.spx_meaning.specs.Evaluation.{applied, applied_sign, member, moved}
+use Rattle.spx_meaning.specs.Evaluation.{applied, applied_sign, member}
 use Rattle.spx_tree.specs.declared.expression.InfixOp.TheVariants as op
 use Rattle.spx_tree.specs.declared.expression.PrefixOp.TheVariants as sign
 use Rattle.spx_term.specs.declared.value.Value.{Value}
