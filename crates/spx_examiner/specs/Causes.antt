@@ -1,10 +1,10 @@
 -- What each answer comes from.
-use Rattle.std.specs.Prelude.{◌≡◌, ◌≢◌, ◌↔◌, true, ℕ, Bool, nat_lt, length, List, [], ◌∷◌, ◌++◌, map, Contains, Option, Some, IfSome, unwrap_or, Vec}
+use Rattle.std.specs.Prelude.{◌≡◌, ◌≢◌, ◌↔◌, true, ℕ, Bool, nat_lt, length, List, [], ◌∷◌, ◌++◌, map, Contains, Option, Some, IfSome, option_map, unwrap_or, Vec}
 use Rattle.std.specs.Global.{Global}
 use Rattle.std.specs.List.{list_any}
 use Rattle.spx_examiner.specs.declared.status.Status.{Status}
 use Rattle.spx_examiner.specs.declared.status.Status.TheVariants.{ReadFault, WriteFault, NoMemory}
-use Rattle.spx_examiner.specs.Words.{files_of}
+use Rattle.spx_examiner.specs.Words.{asked, files_in}
 
 -- the files give these contents for these names
 abbrev pub AreKnown : (List ℕ → Option (List ℕ)) → List (List ℕ) → List (List ℕ) → Type 0
@@ -29,9 +29,9 @@ pub record Concludes (status : Status) : Type 0 where
   pub written : status ≢ WriteFault
   pub in_memory : status ≢ NoMemory
 
--- the names that the words give as files, or none
+-- the files of what the words ask for, or none
 abbrev pub named : List (List ℕ) → List (List ℕ)
-named words = unwrap_or (files_of words) []
+named words = unwrap_or (option_map files_in (asked words)) []
 
 -- for whatever contents the files give for all the names in the words
 abbrev pub WhereKnown : (List ℕ → Option (List ℕ)) → List (List ℕ) → (List (List ℕ) → Type 0) → Type 0

@@ -13,15 +13,17 @@ use Rattle.spx_meaning.specs.Laws.{NeverBad, TwoRuns}
 use Rattle.spx_examiner.specs.declared.status.Status.{Status}
 use Rattle.spx_report.specs.declared.report.Finding.{Finding}
 use Rattle.spx_examiner.specs.declared.judgement.Judgement.{Judgement}
-use Rattle.spx_examiner.specs.declared.judgement.Judgement.TheVariants.{Usage, Limit, Refused, Examined}
+use Rattle.spx_examiner.specs.declared.judgement.Judgement.TheVariants.{Usage, Limit, Refused, Examined, Listed}
 use Rattle.spx_report.specs.declared.limit.LimitName.{LimitName}
 use Rattle.spx_report.specs.declared.limit.LimitName.TheVariants.{FileSize, Tokens, Nesting, Variables}
 use Rattle.spx_examiner.specs.declared.reading.Reading.{Reading}
 use Rattle.spx_examiner.specs.declared.reading.Reading.TheVariants.{Units, Broken, TooManyTokens, TooNested}
 use Rattle.spx_examiner.specs.Reading.{IsRead}
-use Rattle.spx_examiner.specs.Words.{HasForm, HasNoForm, NamesFiles}
+use Rattle.spx_words.specs.Requests.{Request}
+use Rattle.spx_examiner.specs.Words.{HasNoForm, IsCheck, IsConditions, asked, files_in}
 use Rattle.spx_examiner.specs.Judgement.{status_of, text_of}
 use Rattle.spx_report.specs.Findings.{findings_of, first_limit}
+use Rattle.spx_report.specs.Listing.{conditions_text}
 use Rattle.spx_report.specs.RuleTexts.{breach_finding}
 use Rattle.spx_report.specs.FlowLines.{AreFlowLines}
 use Rattle.spx_text.specs.Writes.{IsPart, after}
@@ -37,6 +39,11 @@ pub record IsSoundFrom (units : List Unit) (p : Program) : Type 0 where
   pub obeys : Obeys p
   pub narrow : has_many_variables p ≡ false
   pub flows : HasNoFlowFinding p
+
+-- The contents spell this program, and no other.
+pub record SpellOnly (contents : List (List ℕ)) (p : Program) : Type 0 where
+  pub spelled : Is contents p
+  pub only : (q : Program) → Is contents q → q ≡ p
 
 -- The contents spell exactly this program, and its runs may be relied on: from a store that meets its precondition no run of a
 -- subprogram is bad, at any bound; and two ended runs that agree on the declared imports of an export give it one value.
@@ -62,35 +69,44 @@ pub data IsPassed (units : List Unit) : LimitName → Type 0 where
   variables : (p : Program) → IsMadeFrom units p → Obeys p → has_many_variables p ≡ true → IsPassed units Variables
   conditions : {name : LimitName} (p : Program) → IsSoundFrom units p → first_limit p ≡ Some name → IsPassed units name
 
--- what there is to report on units: findings in place of conditions, a limit that is passed, or what the conditions of the sound program
--- come to
-abbrev pub IsReportOnUnits : List Unit → Judgement → Type 0
-IsReportOnUnits units Usage = ⊥
-IsReportOnUnits units (Limit name) = IsPassed units name
-IsReportOnUnits units (Refused lines) = AreRefusals units lines
-IsReportOnUnits units (Examined p found) = IsSoundFrom units p × (first_limit p ≡ None) × (found ≡ findings_of p)
+-- The text is that of the conditions of the sound program that is made from the units, whose files have these names. No condition passes a
+-- limit.
+pub record IsListing (names : List (List ℕ)) (units : List Unit) (text : List ℕ) : Type 0 where
+  pub program : Program
+  pub sound : IsSoundFrom units program
+  pub few : first_limit program ≡ None
+  pub listed : text ≡ conditions_text program names
+
+-- what there is to report on units, for what is asked: findings in place of conditions, a limit that is passed, or the conditions of the
+-- sound program: for a check what they come to, and else their text
+abbrev pub IsReportOnUnits : Request → List Unit → Judgement → Type 0
+IsReportOnUnits r units Usage = ⊥
+IsReportOnUnits r units (Limit name) = IsPassed units name
+IsReportOnUnits r units (Refused lines) = AreRefusals units lines
+IsReportOnUnits r units (Examined p found) = IsCheck r × IsSoundFrom units p × (first_limit p ≡ None) × (found ≡ findings_of p)
+IsReportOnUnits r units (Listed text) = IsConditions r × IsListing (files_in r) units text
 
 -- on a text, by what lexis and syntax say of it
-abbrev pub IsReportOnReading : Reading → Judgement → Type 0
-IsReportOnReading (Units units) j = IsReportOnUnits units j
-IsReportOnReading (Broken finding) j = j ≡ Refused (finding ∷ [])
-IsReportOnReading TooManyTokens j = j ≡ Limit Tokens
-IsReportOnReading TooNested j = j ≡ Limit Nesting
+abbrev pub IsReportOnReading : Request → Reading → Judgement → Type 0
+IsReportOnReading r (Units units) j = IsReportOnUnits r units j
+IsReportOnReading r (Broken finding) j = j ≡ Refused (finding ∷ [])
+IsReportOnReading r TooManyTokens j = j ≡ Limit Tokens
+IsReportOnReading r TooNested j = j ≡ Limit Nesting
 
 -- on the contents of one file
-abbrev pub IsReportOn : List (List ℕ) → Judgement → Type 0
-IsReportOn (bytes ∷ []) j = (reading : Reading) × IsRead bytes reading × IsReportOnReading reading j
-IsReportOn _ j = ⊥
+abbrev pub IsReportOn : Request → List (List ℕ) → Judgement → Type 0
+IsReportOn r (bytes ∷ []) j = (reading : Reading) × IsRead bytes reading × IsReportOnReading r reading j
+IsReportOn r _ j = ⊥
 
 -- a file is too long, or else there is this to report
-abbrev pub IsJudgedOn : List (List ℕ) → Judgement → Type 0
-IsJudgedOn contents j = (AreTooLong contents × (j ≡ Limit FileSize)) ⊎ ((any_too_long contents ≡ false) × IsReportOn contents j)
+abbrev pub IsJudgedOn : Request → List (List ℕ) → Judgement → Type 0
+IsJudgedOn r contents j = (AreTooLong contents × (j ≡ Limit FileSize)) ⊎ ((any_too_long contents ≡ false) × IsReportOn r contents j)
 
 -- The judgement on words and on the contents of the files that they name, in the order of work: words without a form, then a
--- file that is too long, then the report.
+-- file that is too long, then the report on what is asked for.
 pub data IsJudgement (words contents : List (List ℕ)) (j : Judgement) : Type 0 where
   no_form : HasNoForm words → j ≡ Usage → IsJudgement words contents j
-  of_files : (files : List (List ℕ)) → NamesFiles words files → IsJudgedOn contents j → IsJudgement words contents j
+  of_request : (r : Request) → asked words ≡ Some r → IsJudgedOn r contents j → IsJudgement words contents j
 
 -- the status is that of the judgement, and its text was taken
 abbrev pub EndsAs : List (List ℕ) → List (List ℕ) → Status → Option (List ℕ) → Option (List ℕ) → Type 0
@@ -99,6 +115,10 @@ EndsAs words contents status before now = (j : Judgement) × IsJudgement words c
 -- a part of the text of the judgement was taken, and not all
 abbrev pub IsCutShortAs : List (List ℕ) → List (List ℕ) → Option (List ℕ) → Option (List ℕ) → Type 0
 IsCutShortAs words contents before now = (j : Judgement) × IsJudgement words contents j × IsPart before now (text_of (named words) j)
+
+-- the contents spell one program, and the text of its conditions was taken
+abbrev pub AreListed : List (List ℕ) → List (List ℕ) → Option (List ℕ) → Option (List ℕ) → Type 0
+AreListed words contents before now = (p : Program) × SpellOnly contents p × (now ≡ after before (conditions_text p (named words)))
 
 -- words and contents have at most one judgement
 abbrev pub OneOutcome : Type 0
@@ -130,13 +150,21 @@ PassesLimit contents = AreTooLong contents ⊎ (IsReadTooFar contents ⊎ (AreTo
 abbrev pub AreClean : List (List ℕ) → Type 0
 AreClean contents = (p : Program) × Is contents p × Clean p
 
--- the words are a command, no limit is passed, and there is nothing to report
-abbrev pub AreAcceptable : List (List ℕ) → List (List ℕ) → Type 0
-AreAcceptable words contents = HasForm words × (¬ PassesLimit contents) × AreClean contents
+-- the contents spell a program that has conditions: it obeys the rules, no subprogram has too many variables, and there is no flow finding
+abbrev pub AreSound : List (List ℕ) → Type 0
+AreSound contents = (p : Program) × Is contents p × Obeys p × (has_many_variables p ≡ false) × HasNoFlowFinding p
 
--- the words are a command, no limit is passed, and there is something to report
+-- the contents are as they must be for what is asked: for a check clean, for conditions sound
+abbrev pub AreGoodFor : Request → List (List ℕ) → Type 0
+AreGoodFor r contents = (IsCheck r × AreClean contents) ⊎ (IsConditions r × AreSound contents)
+
+-- the words are a command, no limit is passed, and the contents are good for it
+abbrev pub AreAcceptable : List (List ℕ) → List (List ℕ) → Type 0
+AreAcceptable words contents = (r : Request) × (asked words ≡ Some r) × (¬ PassesLimit contents) × AreGoodFor r contents
+
+-- the words are a command, no limit is passed, and the contents are not good for it
 abbrev pub AreRefusable : List (List ℕ) → List (List ℕ) → Type 0
-AreRefusable words contents = HasForm words × (¬ PassesLimit contents) × (¬ AreClean contents)
+AreRefusable words contents = (r : Request) × (asked words ≡ Some r) × (¬ PassesLimit contents) × (¬ AreGoodFor r contents)
 
 -- the contents spell a program on which there is nothing to report, and which is fit to run
 abbrev pub AreFit : List (List ℕ) → Type 0
@@ -152,3 +180,4 @@ IsAssured Usage = ⊤
 IsAssured (Limit name) = ⊤
 IsAssured (Refused lines) = ⊤
 IsAssured (Examined p found) = Clean p → Fit p × NeverBad p × TwoRuns p
+IsAssured (Listed text) = ⊤

@@ -7,6 +7,7 @@ use crate::Status;
 use crate::words::USAGE;
 use spx_core::Program;
 use spx_report::{Finding, Findings, LimitName, refusal_text, report_text};
+use spx_text::Text;
 use sqlite_items::Items;
 use std::alloc::{AllocError, Global};
 
@@ -21,6 +22,8 @@ pub enum Judgement {
     Refused(Items<Finding>),
     /// A program, and what its conditions come to.
     Examined(Program, Findings),
+    /// The conditions of a program, as they are printed.
+    Listed(Text),
 }
 
 impl Judgement {
@@ -34,6 +37,7 @@ impl Judgement {
             Judgement::Refused(_) => Status::Refused,
             Judgement::Examined(_, findings) if findings.lines.is_empty() => Status::Accepted,
             Judgement::Examined(_, _) => Status::Refused,
+            Judgement::Listed(_) => Status::Accepted,
         }
     }
 
@@ -46,6 +50,7 @@ impl Judgement {
             Judgement::Limit(name) => Vec::from_slice(alloc, name.text()),
             Judgement::Refused(lines) => refusal_text(alloc, files, lines.as_slice()),
             Judgement::Examined(program, findings) => report_text(alloc, program, files, findings),
+            Judgement::Listed(text) => Vec::from_slice(alloc, text.as_bytes()),
         }
     }
 }

@@ -1,4 +1,8 @@
-//! The examiner: from the words of a command and the files that they name to a status and a report.
+//! The examiner: from the words of a command and the files that they name to a status and a text.
+//!
+//! `examine` does all that the program does. For `check` it reports on a program, and for `conditions` it prints the conditions of one.
+//! Its clauses say what each answer means, and exactly where it comes. The words, and what the files hold, decide the status and the text
+//! (`one_outcome`), and they always come to something (`some_outcome`).
 #![tactic(auto)]
 
 mod judgement;

@@ -2,19 +2,19 @@
 ghost use Rattle.std.specs.Prelude.{◌≡◌, ◌≢◌, ◌⊎◌, ◌↔◌, ◌≤◌, ℕ, List, [], ◌∷◌, length, IfOk, IsErrOf};
 ghost use Rattle.spx_text.specs.Loads.{names};
 ghost use Rattle.spx_text.specs.Writes.{Rose};
-ghost use Rattle.spx_examiner.specs.Words.{HasNoForm};
+ghost use Rattle.spx_examiner.specs.Words.{AsksForCheck, AsksForConditions, HasNoForm, request_of};
 ghost use Rattle.spx_examiner.specs.Judgement.{status_of, text_of};
 ghost use Rattle.spx_examiner.specs.Causes.{Concludes, Exactly, ForFiles, MayHold, OneFailed, WhereKnown, named};
 ghost use Rattle.spx_paths.specs.Fit.{Clean, Fit};
 ghost use Rattle.spx_meaning.specs.Laws.{NeverBad, TwoRuns};
-ghost use Rattle.spx_examiner.specs.Outcome.{AreAcceptable, AreFit, AreRefusable, AreReliable, EndsAs, IsAssured, IsCutShortAs, IsJudgedOn, IsJudgement, PassesLimit};
+ghost use Rattle.spx_examiner.specs.Outcome.{AreAcceptable, AreFit, AreListed, AreRefusable, AreReliable, EndsAs, IsAssured, IsCutShortAs, IsJudgedOn, IsJudgement, PassesLimit};
 
 use crate::Status;
 use crate::judgement::Judgement;
 use crate::laws::laws_below;
 use crate::load::{MOST_BYTES, load_all};
 use crate::phases::judge;
-use crate::words::files_of;
+use crate::words::{Command, asked};
 use spx_core::Program;
 use spx_report::LimitName;
 use spx_sound::{clean_is_fit, never_bad};
@@ -47,28 +47,33 @@ struct Report {
 }
 
 /// What there is to report on the file with these bytes.
-fn examined(alloc: Global, bytes: &[u8]) -> Result<Judgement, AllocError>
-    ensures report { IfOk result (IsJudgedOn (bytes.now ∷ [])) }
+fn examined(alloc: Global, command: &Command<'_>, bytes: &[u8]) -> Result<Judgement, AllocError>
+    ensures report { IfOk result (IsJudgedOn (request_of command.now) (bytes.now ∷ [])) }
     ensures named { IfOk result (λ judgement. status_of judgement ≢ Status.Usage) }
 {
     if bytes.len() > MOST_BYTES {
         return Ok(Judgement::Limit(LimitName::FileSize));
     }
-    judge(alloc, bytes)
+    judge(alloc, command, bytes)
 }
 
 /// What there is to report on the file of this name.
 #[tactic(auto, using(crate::proofs::Endings::endings))]
-fn judged<F: Files>(alloc: Global, named: &[String], files: &mut F) -> Result<Judgement, Stop>
+fn judged<F: Files>(
+    alloc: Global,
+    command: &Command<'_>,
+    named: &[String],
+    files: &mut F,
+) -> Result<Judgement, Stop>
     requires { length named.now ≡ 1 }
     ensures named { IfOk result (λ judgement. status_of judgement ≢ Status.Usage) }
-    ensures judged { IfOk result (λ judgement. (contents : List (List ℕ)) × MayHold (F.known files.old) (names named.now) contents × IsJudgedOn contents judgement) }
+    ensures judged { IfOk result (λ judgement. (contents : List (List ℕ)) × MayHold (F.known files.old) (names named.now) contents × IsJudgedOn (request_of command.now) contents judgement) }
     ensures known { (name : List ℕ) → F.known files.new name ≡ F.known files.old name }
     ensures failed { IsErrOf result Stop.ReadFault → OneFailed (names named.now) (F.failed files.old) (F.failed files.new) }
     ensures none_failed { (IsErrOf result Stop.ReadFault → ⊥) → F.failed files.new ≡ F.failed files.old }
 {
     match load_all(alloc, named, files) {
-        Ok(loaded) => Ok(examined(alloc, loaded[0].as_slice())?),
+        Ok(loaded) => Ok(examined(alloc, command, loaded[0].as_slice())?),
         Err(LoadFault::TooLong) => Ok(Judgement::Limit(LimitName::FileSize)),
         Err(LoadFault::Failed) => Err(Stop::ReadFault),
         Err(LoadFault::Memory) => Err(Stop::NoMemory),
@@ -102,6 +107,7 @@ fn assure(judgement: &Judgement)
         Judgement::Limit(_) => {}
         Judgement::Refused(_) => {}
         Judgement::Examined(program, _) => rely_on(program),
+        Judgement::Listed(_) => {}
     }
 }
 
@@ -115,17 +121,18 @@ fn prepare<F: Files>(alloc: Global, words: &[String], files: &mut F) -> Result<R
     ensures failed { IsErrOf result Stop.ReadFault → OneFailed (named (names words.now)) (F.failed files.old) (F.failed files.new) }
     ensures none_failed { (IsErrOf result Stop.ReadFault → ⊥) → F.failed files.new ≡ F.failed files.old }
 {
-    let Some(named) = files_of(words) else {
+    let Some(command) = asked(alloc, words)? else {
         return Ok(reported(alloc, &[], Judgement::Usage)?);
     };
-    let judgement = judged(alloc, named, files)?;
-    Ok(reported(alloc, named, judgement)?)
+    let named = command.files(alloc)?;
+    let judgement = judged(alloc, &command, named.as_slice(), files)?;
+    Ok(reported(alloc, named.as_slice(), judgement)?)
 }
 
 /// Does all that the program does, with the words after its name.
 ///
-/// The status is `Accepted` or `Refused` where the report on the files was written, `Usage` and `Limit` where the
-/// one line of that name was. Only the two faults and out of memory are answers that the words and the files do not
+/// The status is `Accepted` or `Refused` where the report on the files or the conditions were written, `Usage` and `Limit` where
+/// the one line of that name was. Only the two faults and out of memory are answers that the words and the files do not
 /// decide.
 pub fn examine<F: Files, S: Sink>(
     alloc: Global,
@@ -138,18 +145,24 @@ pub fn examine<F: Files, S: Sink>(
     ensures outcome { Concludes result → ForFiles (F.known files.old) (names words.now) (λ contents.
         EndsAs (names words.now) contents result (S.taken sink.old) (S.taken sink.new)) }
 
-    // The headline: where a program is accepted, the bytes spell exactly one program, and its runs may be relied on.
-    ensures headline { result ≡ Status.Accepted → ForFiles (F.known files.old) (names words.now) (λ contents.
+    // The headline: where a check accepts a program, the bytes spell exactly one program, and its runs may be relied on.
+    ensures headline { AsksForCheck (names words.now) → result ≡ Status.Accepted → ForFiles (F.known files.old) (names words.now) (λ contents.
         EndsAs (names words.now) contents result (S.taken sink.old) (S.taken sink.new) × AreReliable contents) }
 
-    // What is accepted is clean, and so fit to run.
-    ensures clean { WhereKnown (F.known files.old) (names words.now) (λ contents. result ≡ Status.Accepted → AreFit contents) }
+    // What a check accepts is clean, and so fit to run.
+    ensures clean { AsksForCheck (names words.now) → WhereKnown (F.known files.old) (names words.now) (λ contents. result ≡ Status.Accepted → AreFit contents) }
+
+    // Where conditions are asked for and the answer is `Accepted`, the text of the conditions of the one program that the bytes spell was
+    // written.
+    ensures listed { AsksForConditions (names words.now) → result ≡ Status.Accepted → ForFiles (F.known files.old) (names words.now) (λ contents.
+        AreListed (names words.now) contents (S.taken sink.old) (S.taken sink.new)) }
 
     // Where no fault is counted, what is acceptable is accepted, unless memory runs out.
     ensures complete { WhereKnown (F.known files.old) (names words.now) (λ contents. AreAcceptable (names words.now) contents
         → F.failed files.new ≡ F.failed files.old → ¬ Rose (S.faults sink.old) (S.faults sink.new)
         → (result ≡ Status.Accepted) ⊎ (result ≡ Status.NoMemory)) }
 
+    // A check is accepted exactly where there is nothing to report; conditions, where there is nothing to report before them.
     ensures accepted { WhereKnown (F.known files.old) (names words.now) (λ contents.
         Exactly Status.Accepted (AreAcceptable (names words.now) contents) result) }
     ensures refused { WhereKnown (F.known files.old) (names words.now) (λ contents.

@@ -5,7 +5,7 @@ ghost use Rattle.spx_examiner.specs.Codes.{code_of};
 /// How the program ended.
 #[derive(Clone, Copy, Debug, PartialEq, Eq)]
 pub enum Status {
-    /// There is no finding.
+    /// There is no finding, or the conditions are printed.
     Accepted,
     /// There are findings.
     Refused,

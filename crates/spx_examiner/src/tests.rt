@@ -15,6 +15,9 @@ use std::test::Fail;
 const INC: &str =
     "procedure Inc (X : in out Integer)\n--# derives X from X;\n--# pre X < Integer'Last;\nis\nbegin\n   X := X + 1;\nend Inc;\n";
 
+const INC_CONDITIONS: &str =
+    "Inc.1 overflow inc.adb:6:11\nH1 X~ >= -2147483648\nH2 X~ <= 2147483647\nH3 X~ < 2147483647\nG1 (X~ + 1) >= -2147483648\nG2 (X~ + 1) <= 2147483647\nInc.2 range inc.adb:6:11\nH1 X~ >= -2147483648\nH2 X~ <= 2147483647\nH3 X~ < 2147483647\nH4 (X~ + 1) >= -2147483648\nH5 (X~ + 1) <= 2147483647\nG1 (X~ + 1) >= -2147483648\nG2 (X~ + 1) <= 2147483647\n";
+
 const WITHOUT_PRE: &str =
     "procedure Inc (X : in out Integer)\n--# derives X from X;\nis\nbegin\n   X := X + 1;\nend Inc;\n";
 
@@ -123,6 +126,35 @@ fn reports(rt: HostRuntime) -> Result<(), Fail> {
     Ok(())
 }
 
+// Conditions are printed whether they close or not; findings and limits come before them.
+#[test]
+fn conditions_are_printed(rt: HostRuntime) -> Result<(), Fail> {
+    let alloc = rt.alloc();
+    let rows = [
+        ("inc.adb", INC, Status::Accepted, INC_CONDITIONS),
+        ("f.adb", "", Status::Accepted, ""),
+        (
+            "f.adb",
+            UNDECLARED,
+            Status::Refused,
+            "f.adb:5:9: N1 name is not declared here\nrefused: 1\n",
+        ),
+    ];
+    for (name, text, status, printed) in rows {
+        let mut words = words(alloc, "conditions")?;
+        words.push(String::from_str(alloc, name)?)?;
+        let mut files = MemFiles::new(alloc, held(alloc, name, text.as_bytes())?, Vec::new(alloc));
+        let mut sink = MemSink::new(alloc, 1000, 1000, Vec::new(alloc))?;
+        assert_eq!(rt;
+            examine(alloc, words.as_slice(), &mut files, &mut sink),
+            status,
+            "{name}"
+        );
+        assert_eq!(rt; sink.taken.as_slice(), printed.as_bytes());
+    }
+    Ok(())
+}
+
 // Names and types come before rules on variables, and those before flow, of which all is reported.
 #[test]
 fn rules_come_in_order(rt: HostRuntime) -> Result<(), Fail> {
@@ -184,6 +216,8 @@ fn nothing_is_read(rt: HostRuntime) -> Result<(), Fail> {
         ("", Status::Usage, USAGE),
         ("check -x", Status::Usage, USAGE),
         ("check inc.adb inc.adb", Status::Usage, USAGE),
+        ("conditions", Status::Usage, USAGE),
+        ("conditions other.adb", Status::ReadFault, ""),
         ("examine inc.adb", Status::Usage, USAGE),
         ("check other.adb", Status::ReadFault, ""),
     ];

@@ -1,15 +1,12 @@
 -- Values that 128 bits hold.
-use Rattle.std.proofs.Common.{◌≡◌, ℤ, pos, ◌+ℤ◌, ◌-ℤ◌, ◌*ℤ◌, Bool, true, false, not, ◌&&◌, ◌||◌, Option, Some, None, refl, ap}
+use Rattle.std.proofs.Common.{◌≡◌, ℤ, pos, ◌+ℤ◌, ◌-ℤ◌, ◌*ℤ◌, Bool, true, false, not, ◌&&◌, ◌||◌, Some, None, refl}
 use Rattle.std.specs.Prelude.{option_map, int_lt, int_le, if◌then◌else◌}
 use Rattle.spx_num.specs.Widths.{fits, fitting, fits_laws}
 use Rattle.spx_num.specs.Exact.{absolute, modulus, or_zero, quotient, raised, remainder}
 use Rattle.spx_text.specs.declared.place.Place.{Place}
 use Rattle.spx_tree.specs.declared.expression.MemberOp.TheVariants as member_op
-use Rattle.spx_core.specs.declared.function.Shift.TheVariants as shift
-use Rattle.spx_meaning.specs.Evaluation.{applied, applied_sign, member, moved}
-use Rattle.spx_tree.specs.declared.expression.InfixOp.{InfixOp}
+use Rattle.spx_meaning.specs.Evaluation.{applied, applied_sign, member}
 use Rattle.spx_tree.specs.declared.expression.InfixOp.TheVariants as op
-use Rattle.spx_tree.specs.declared.expression.PrefixOp.{PrefixOp}
 use Rattle.spx_tree.specs.declared.expression.PrefixOp.TheVariants as sign
 use Rattle.spx_term.specs.declared.value.Value.{Value}
 use Rattle.spx_term.specs.declared.value.Value.TheVariants.{Number, Truth}
@@ -118,12 +115,6 @@ pub held-Not : (x : Value) → held (applied_sign sign.Not x) ≡ Some (Truth (n
 unfolding value_of_prefix
 held-Not x = refl
 
-pub moved-Next : (x : Value) → moved shift.Next x ≡ applied op.Add x (Number (pos 1))
-moved-Next x = refl
-
-pub moved-Previous : (x : Value) → moved shift.Previous x ≡ applied op.Subtract x (Number (pos 1))
-moved-Previous x = refl
-
 pub member-In : (x low high : Value) → member member_op.In x low high ≡ Truth (int_le (as_number low) (as_number x) && int_le (as_number x) (as_number high))
 unfolding value_of_op
 member-In x low high = refl
@@ -132,4 +123,12 @@ pub member-NotIn : (place : Place) (x low high : Value) → member (member_op.No
 unfolding value_of_op value_of_prefix
 member-NotIn place x low high = refl
 
-pub ruleset operation_laws = (held-Add, held-Subtract, held-Multiply, held-Divide, held-Mod, held-Rem, held-Power, held-Equal, held-NotEqual, held-Less, held-LessOrEqual, held-Greater, held-GreaterOrEqual, held-And, held-Or, held-Xor, held-AndThen, held-OrElse, held-Implies, held-Equivalent, held-Minus, held-Abs, held-Not, member-In, member-NotIn, fits_laws)
+pub applied-Mod : (x y : Value) → applied op.Mod x y ≡ Number (or_zero modulus (as_number x) (as_number y))
+unfolding value_of_op
+applied-Mod x y = refl
+
+pub applied-Rem : (x y : Value) → applied op.Rem x y ≡ Number (or_zero remainder (as_number x) (as_number y))
+unfolding value_of_op
+applied-Rem x y = refl
+
+pub ruleset operation_laws = (applied-Mod, applied-Rem, held-Add, held-Subtract, held-Multiply, held-Divide, held-Mod, held-Rem, held-Power, held-Equal, held-NotEqual, held-Less, held-LessOrEqual, held-Greater, held-GreaterOrEqual, held-And, held-Or, held-Xor, held-AndThen, held-OrElse, held-Implies, held-Equivalent, held-Minus, held-Abs, held-Not, member-In, member-NotIn, fits_laws)

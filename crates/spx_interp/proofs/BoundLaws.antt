@@ -1,6 +1,6 @@
 -- Which values lie between two numbers that 128 bits hold.
-use Rattle.std.proofs.Common.{◌≡◌, ℕ, ◌<◌, ◌≤◌, ◌^◌, ℤ, pos, negsuc, Bool, true, false, Option, Some, None, refl, sym, ap, ◌∙◌, arith}
-use Rattle.std.specs.Prelude.{◌&&◌, ◌≤ℤ◌, int_le, FitsSigned, if◌then◌else◌}
+use Rattle.std.proofs.Common.{◌≡◌, ℤ, Bool, true, false, Some, None, refl, arith}
+use Rattle.std.specs.Prelude.{◌&&◌, int_le, FitsSigned, if◌then◌else◌}
 use Rattle.std.specs.Int.{w128}
 use Rattle.std.proofs.lemmas.Grind.{common_steps}
 use Rattle.spx_num.specs.Widths.{fits, fits-Decides}
@@ -10,7 +10,7 @@ use Rattle.spx_term.specs.declared.value.Value.{Value}
 use Rattle.spx_term.specs.declared.value.Value.TheVariants.{Number, Truth}
 use Rattle.spx_meaning.specs.declared.bad.BadKind.{BadKind}
 use Rattle.spx_meaning.specs.Stores.{is_within}
-use Rattle.spx_meaning.specs.Evaluation.{Answer, Gives, Fails}
+use Rattle.spx_meaning.specs.Evaluation.{Gives, Fails}
 use Rattle.spx_meaning.specs.Bits.{held}
 use Rattle.spx_interp.specs.Results.{bounded}
 

@@ -1,4 +1,9 @@
 pub mod BitLaws
 pub mod BoundLaws
+pub mod MappingLaws
 pub mod EvalLaws
 pub mod RunForms
+pub mod ChoiceLaws
+pub mod RunLaws
+pub mod RoomLaws
+pub mod BodyLaws

@@ -1,6 +1,6 @@
 -- The run of a command under the limit, at each form.
-use Rattle.std.proofs.Common.{◌≡◌, ℕ, zero, suc, ℤ, pos, Bool, true, false, List, [], ◌∷◌, Option, Some, None, refl, sym, ap, ◌∙◌}
-use Rattle.std.specs.Prelude.{not, ◌||◌, ◌&&◌, is_none, int_le, option_map, if◌then◌else◌}
+use Rattle.std.proofs.Common.{◌≡◌, ℕ, zero, suc, ℤ, Bool, true, false, List, Option, Some, None, refl, ap, ◌∙◌}
+use Rattle.std.specs.Prelude.{not, ◌||◌, ◌&&◌, is_none, option_map, if◌then◌else◌}
 use Rattle.std.specs.Ordering.{int_eq}
 use Rattle.spx_text.specs.declared.place.Place.{Place}
 use Rattle.spx_tree.specs.declared.statement.AssertionKind.{AssertionKind}
@@ -8,7 +8,7 @@ use Rattle.spx_core.specs.declared.expression.CoreExpr.{CoreExpr}
 use Rattle.spx_core.specs.declared.name.Reference.{Reference}
 use Rattle.spx_core.specs.declared.statement.CoreChoice.{CoreChoice}
 use Rattle.spx_core.specs.declared.statement.CoreCount.{CoreCount}
-use Rattle.spx_core.specs.Commands.{Command, Skip, Set, Then, Choose, Select, Assertion, Repeat, Leave, Head, Tested, Counted, Endless, Alternatives, Last, When}
+use Rattle.spx_core.specs.Commands.{Command, Skip, Set, Then, Choose, Select, Assertion, Repeat, Leave, Tested, Endless, Alternatives, Last, When}
 use Rattle.spx_core.specs.Places.{place_of}
 use Rattle.spx_core.specs.Uses.{variable_of}
 use Rattle.spx_term.specs.declared.value.Value.{Value}
@@ -18,11 +18,11 @@ use Rattle.spx_meaning.specs.declared.bad.BadKind.{BadKind}
 use Rattle.spx_meaning.specs.Stores.{Store, put}
 use Rattle.spx_meaning.specs.Frames.{Frame}
 use Rattle.spx_meaning.specs.Evaluation.{Answer, Gives, Fails, Waits, eval}
-use Rattle.spx_meaning.specs.Annotations.{meant, truth}
+use Rattle.spx_meaning.specs.Annotations.{meant}
 use Rattle.spx_meaning.specs.Runs.{Outcome, Ended, Left, Bad, Later, run, run_for, counted, then_do, use_value, after_turn, assign, demand, untrue, has_value, value_after}
 use Rattle.spx_meaning.specs.Bits.{computed}
 use Rattle.spx_meaning.specs.Limits.{where_ended, where_given, passes, passes_for, passes_in_count}
-use Rattle.spx_interp.specs.Results.{limited, looked_at, ran, ran_for, ran_count, test_of}
+use Rattle.spx_interp.specs.Results.{limited, looked_at, ran, ran_for, ran_count}
 use Rattle.spx_meaning.proofs.Callers.Annotations.{computed_is_meant}
 
 -- ---- what follows a run, a turn or a value
@@ -46,7 +46,7 @@ on_value (Gives x) go = go x
 on_value (Fails kind place) go = Some (Bad kind place)
 on_value Waits go = Some Later
 
-limited_ended : (p : Bool) (o : Outcome) (q : Store → Bool) (go : Store → Outcome) → limited (p || where_ended o q) (then_do o go) ≡ on_ended (limited p o) (λ t. limited (q t) (go t))
+pub limited_ended : (p : Bool) (o : Outcome) (q : Store → Bool) (go : Store → Outcome) → limited (p || where_ended o q) (then_do o go) ≡ on_ended (limited p o) (λ t. limited (q t) (go t))
 limited_ended true o q go = refl
 limited_ended false (Ended s) q go = refl
 limited_ended false (Left s) q go = refl
@@ -71,10 +71,6 @@ some_if false o r = refl
 limited_and : (b p : Bool) (o r : Outcome) → limited (b && p) (if b then o else r) ≡ (if b then limited p o else Some r)
 limited_and true p o r = refl
 limited_and false p o r = refl
-
-limited_not : (b p : Bool) (o r : Outcome) → limited (not b && p) (if b then r else o) ≡ (if b then Some r else limited p o)
-limited_not true p o r = refl
-limited_not false p o r = refl
 
 -- ---- commands
 

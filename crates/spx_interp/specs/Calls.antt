@@ -9,7 +9,6 @@ use Rattle.spx_meaning.specs.Stores.{Store}
 use Rattle.spx_meaning.specs.Runs as runs
 use Rattle.spx_interp.specs.declared.fault.Finish.{Finish}
 use Rattle.spx_interp.specs.declared.fault.Finish.TheVariants as finish
-use Rattle.spx_interp.specs.declared.fault.RunLimit.{RunLimit}
 use Rattle.spx_interp.specs.declared.fault.RunFault.{RunFault}
 use Rattle.spx_interp.specs.declared.fault.RunFault.TheVariants.{TooLarge, Memory}
 use Rattle.spx_meaning.specs.Limits.{call_passes}

@@ -1,15 +1,16 @@
 -- What the answers of this crate say of evaluations and runs.
-use Rattle.std.specs.Prelude.{◌≡◌, ℕ, ℤ, int_le, Bool, true, false, if◌then◌else◌, List, [], ◌∷◌, map, Option, Some, None, Result, Ok, Err}
+use Rattle.std.specs.Prelude.{◌≡◌, ℕ, zero, suc, ℤ, int_le, Bool, true, false, if◌then◌else◌, List, [], ◌∷◌, map, Option, Some, None, Result, Ok, Err}
 use Rattle.spx_text.specs.declared.place.Place.{Place}
 use Rattle.spx_core.specs.declared.expression.CoreExpr.{CoreExpr}
 use Rattle.spx_core.specs.declared.entity.Class.TheVariants.{Integer}
 use Rattle.spx_core.specs.declared.function.Span.{Span}
-use Rattle.spx_core.specs.declared.statement.CoreAlternative.{CoreAlternative}
+use Rattle.spx_core.specs.declared.statement.CoreAlternative.{CoreAlternative, out-CoreAlternative}
+use Rattle.spx_core.specs.declared.statement.CoreArm.{CoreArm, out-CoreArm}
 use Rattle.spx_core.specs.declared.statement.CoreCount.{CoreCount}
 use Rattle.spx_core.specs.declared.subprogram.CorePredicate.{CorePredicate}
 use Rattle.spx_core.specs.declared.program.Program.{Program}
 use Rattle.spx_core.specs.declared.subprogram.Sub.{Sub}
-use Rattle.spx_core.specs.Commands.{Command, Alternatives, Head, Tested, Counted, Endless, alternative, alternatives_of}
+use Rattle.spx_core.specs.Commands.{Command, Skip, Alternatives, Head, Tested, Counted, Endless, alternative, alternatives_of, commands}
 use Rattle.spx_num.specs.declared.arithmetic.TooWide.{TooWide}
 use Rattle.spx_term.specs.declared.value.Value.{Value}
 use Rattle.spx_term.specs.declared.value.Value.TheVariants.{Truth}
@@ -55,6 +56,19 @@ outcome_of step.Left s = runs.Left s
 outcome_of (step.Failed fault) s = runs.Bad fault.kind fault.place
 outcome_of step.Later s = runs.Later
 
+abbrev pub has_ended : Step → Bool
+has_ended step.Ended = true
+has_ended step.Left = false
+has_ended (step.Failed fault) = false
+has_ended step.Later = false
+
+-- how a loop ends whose body ends so
+abbrev pub past_loop : Step → Step
+past_loop step.Ended = step.Ended
+past_loop step.Left = step.Ended
+past_loop (step.Failed fault) = step.Failed fault
+past_loop step.Later = step.Later
+
 -- an outcome, if the run does not pass the limit
 abbrev pub limited : Bool → runs.Outcome → Option runs.Outcome
 limited true outcome = None
@@ -89,14 +103,32 @@ where_bounds (Ok span) s test = test span.first span.last s
 where_bounds (Err fault) s test = false
 
 -- the last value comes after the first one, or is the first one
-abbrev pub IsWay : CoreCount → Span → Type 0
-IsWay c way = (if c.is_reverse then int_le way.last way.first else int_le way.first way.last) ≡ true
+abbrev pub IsWay : CoreCount → (first last : ℤ) → Type 0
+IsWay c first last = (if c.is_reverse then int_le last first else int_le first last) ≡ true
 
 unfoldable pub ran_count : Frame → CoreCount → Command → (last : ℤ) → ℕ → ℤ → Store → Option runs.Outcome
 ran_count f c body last n k s =
     limited (passes_in_count c (λ i t. runs.run f i t body) (λ i t. passes f i t body) last n k s) (runs.counted c (λ i t. runs.run f i t body) last n k s)
 
--- ---- alternatives
+-- ---- arms and alternatives
+
+-- the statements of the arm at the position
+abbrev pub arm_at : List CoreArm → ℕ → Command
+arm_at [] k = Skip
+arm_at (arm ∷ arms) zero = commands (out-CoreArm arm).body
+arm_at (arm ∷ arms) (suc k) = arm_at arms k
+
+-- the run of the arm that was found, or what is done where there is none
+abbrev pub on_arm : Result (Option ℕ) Bad → (ℕ → Option runs.Outcome) → Option runs.Outcome → Option runs.Outcome
+on_arm (Ok (Some k)) arm otherwise = arm k
+on_arm (Ok None) arm otherwise = otherwise
+on_arm (Err fault) arm otherwise = Some (runs.Bad fault.kind fault.place)
+
+-- the statements of the alternative at the position
+abbrev pub alternative_at : List CoreAlternative → ℕ → Command
+alternative_at [] k = Skip
+alternative_at (a ∷ rest) zero = commands (out-CoreAlternative a).body
+alternative_at (a ∷ rest) (suc k) = alternative_at rest k
 
 abbrev pub ran_alternatives : Value → Frame → ℕ → Store → List CoreAlternative → Option runs.Outcome
 ran_alternatives x f n s [] = Some (runs.Ended s)

@@ -15,11 +15,12 @@ ghost use Rattle.spx_interp.specs.Results.{body_ended, body_ran, call_ran, done,
 ghost use Rattle.spx_interp.specs.Rooms.{HasRoom, VarsHaveRoom};
 
 use crate::body::Body;
-use crate::entry::clear;
+use crate::entry::entry_of;
 use crate::fault::{Finish, RunFault};
 use crate::slots::look;
 use crate::statements::{look_at, run_stmts};
 use crate::step::Step;
+use spx_core::laws::{names_are_scoped, rules_hold};
 use spx_core::{CorePredicate, Program, Sub, SubId, VarSet};
 use spx_meaning::{Bad, BadKind, Store, Value};
 use spx_num::TooWide;
@@ -81,11 +82,11 @@ fn run_body(
     ensures { body_ran (frame_of body.now) turns ≡ done result store.new }
 {
     let before = look_at_predicate(body, store, BadKind::Pre, &body.sub.pre)?;
-    if before != Step::Ended {
+    if !before.has_ended() {
         return Ok(before);
     }
     let step = run_stmts(body, turns, store, body.sub.statements.as_slice())?;
-    if step != Step::Ended {
+    if !step.has_ended() {
         return Ok(step);
     }
     end_body(body, exports, store)
@@ -114,8 +115,7 @@ fn run_sub(
     ensures limit { (limit : RunLimit) → result ≡ Err (TooLarge limit) → call_ran program.now turns sub.now store.now ≡ None }
 {
     let exports = VarSet::exports(alloc, sub)?;
-    let mut entry = Vec::from_slice(alloc, store.as_slice())?;
-    clear(program, &mut entry, sub.vars.as_slice());
+    let entry = entry_of(alloc, program, sub, store)?;
     let mut slots = Vec::from_slice(alloc, entry.as_slice())?;
     let body = Body {
         program,
@@ -138,15 +138,19 @@ pub fn call(
     requires obeys { Obeys program.now }
     requires id { id.0 < length program.now.subs }
     requires room { length store.old ≡ length program.now.vars }
-    ensures { (sub : Sub) → slice_get program.now.subs id.0 ≡ Some sub → IsCall program.now sub turns store.old result store.new }
+    ensures runs { (sub : Sub) → slice_get program.now.subs id.0 ≡ Some sub → IsCall program.now sub turns store.old result store.new }
+    ensures room { length store.new ≡ length program.now.vars }
 {
+    names_are_scoped();
+    rules_hold();
     let sub = &program.subs.as_slice()[id.0];
     let run = run_sub(alloc, program, sub, store, turns)?;
     match run.step {
-        Step::Ended | Step::Left => {
+        Step::Ended => {
             *store = Store::from_values(run.slots);
             Ok(Finish::Ended)
         }
+        Step::Left => unreachable!("no exit stands outside a loop"),
         Step::Failed(bad) => Ok(Finish::Faulted(bad)),
         Step::Later => Ok(Finish::Later),
     }

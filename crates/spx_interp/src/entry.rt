@@ -1,11 +1,12 @@
 // The values with which a body begins (Ada 95 RM 3.3.1, 6.4).
-ghost use Rattle.std.specs.Prelude.{◌≡◌, length, slice_get};
-ghost use Rattle.spx_meaning.specs.Runs.{cleared, is_new_kind, is_new_var, starts_new};
+ghost use Rattle.std.specs.Prelude.{◌≡◌, IfOk, length, slice_get};
+ghost use Rattle.spx_meaning.specs.Runs.{cleared, entry_of, is_new_kind, is_new_var, starts_new};
 ghost use Rattle.spx_interp.specs.Rooms.{VarsHaveRoom};
 
 use crate::slots::put;
-use spx_core::{Mode, Program, Var, VarId, VarKind};
-use spx_meaning::{Value, initial_value};
+use spx_core::{Mode, Program, Sub, VarId, VarKind};
+use spx_meaning::{Store, Value, initial_value};
+use std::alloc::{AllocError, Global};
 
 /// `out` formals and what is declared in a body take nothing over from the caller.
 fn is_new_kind(kind: VarKind) -> bool
@@ -31,7 +32,7 @@ fn starts_new(program: &Program, var: VarId) -> bool
 }
 
 /// Gives those of the variables that are new the values with which they are declared, and no others.
-pub(crate) fn clear(program: &Program, store: &mut [Option<Value>], vars: &[VarId])
+fn clear(program: &Program, store: &mut [Option<Value>], vars: &[VarId])
     requires { VarsHaveRoom (length store.old) vars.now }
     ensures { store.new ≡ cleared program.now store.old vars.now }
 {
@@ -43,4 +44,20 @@ pub(crate) fn clear(program: &Program, store: &mut [Option<Value>], vars: &[VarI
             put(store, var, initial_value(program, var));
         }
     }
+}
+
+/// The values with which the body of a subprogram begins, where it is called in this store.
+pub(crate) fn entry_of(
+    alloc: Global,
+    program: &Program,
+    sub: &Sub,
+    store: &Store,
+) -> Result<Vec<Option<Value>>, AllocError>
+    requires { VarsHaveRoom (length store.now) sub.now.vars }
+    ensures values { IfOk result (λ entry. entry.items ≡ entry_of program.now sub.now store.now) }
+    ensures size { IfOk result (λ entry. length entry.items ≡ length store.now) }
+{
+    let mut entry = Vec::from_slice(alloc, store.as_slice())?;
+    clear(program, &mut entry, sub.vars.as_slice());
+    Ok(entry)
 }

@@ -14,7 +14,7 @@ ghost use Rattle.spx_meaning.specs.Bits.{held};
 ghost use Rattle.spx_interp.specs.Results.{answered, bounded, frame_of, truth_answered};
 
 use crate::body::Body;
-use crate::numbers::{as_number, as_truth, same_value};
+use crate::numbers::{as_number, as_truth, modulus, remainder, same_value};
 use crate::operations::{applied, member, moved, signed};
 use crate::slots::look;
 use spx_core::{BaseType, Class, CoreExpr, CoreFunction, Reference, Span, VarId, variable_of};
@@ -110,7 +110,8 @@ fn checked(
         InfixOp::Divide if is_zero(right) => division(place),
         InfixOp::Divide => in_base(base, place, value),
         InfixOp::Mod | InfixOp::Rem if is_zero(right) => division(place),
-        InfixOp::Mod | InfixOp::Rem => exactly(value),
+        InfixOp::Mod => Ok(Value::Number(modulus(as_number(left), as_number(right)))),
+        InfixOp::Rem => Ok(Value::Number(remainder(as_number(left), as_number(right)))),
         InfixOp::Power if is_negative(right) => out_of_range(right_place),
         InfixOp::Power => in_base(base, place, value),
         _ => exactly(value),
@@ -167,7 +168,7 @@ fn mapping_checked(function: &CoreFunction, place: Place, operand: Value) -> Res
     match application(function) {
         Ok(mapping) => match mapping.bounds {
             Some(bounds) => within_bounds(bounds, place, moved(mapping.shift, operand)),
-            None => exactly(moved(mapping.shift, operand)),
+            None => Ok(operand),
         },
         Err(_) => Ok(operand),
     }

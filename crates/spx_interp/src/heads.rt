@@ -1,11 +1,11 @@
 // What loops look at before a turn, and after it (Ada 95 RM 5.5).
-ghost use Rattle.std.specs.Prelude.{◌≡◌, ◌||◌, ◌&&◌, ℤ, Bool, not, int_le};
+ghost use Rattle.std.specs.Prelude.{◌≡◌, ◌≢◌, ◌||◌, ◌&&◌, ℤ, Bool, true, not, int_le};
 ghost use Rattle.spx_core.specs.Commands.{head_of};
 ghost use Rattle.spx_term.specs.declared.value.Value.TheVariants.{Number};
 ghost use Rattle.spx_meaning.specs.Stores.{Store, is_in, type_of};
-ghost use Rattle.spx_meaning.specs.Runs.{Outcome, end_of, start_of, with_bounds};
+ghost use Rattle.spx_meaning.specs.Runs.{Outcome, end_of, start_of, value_after, with_bounds};
 ghost use Rattle.spx_meaning.specs.Limits.{passes_after_bounds};
-ghost use Rattle.spx_interp.specs.Results.{frame_of, on_bounds, test_of, truth_answered, where_bounds};
+ghost use Rattle.spx_interp.specs.Results.{IsWay, frame_of, on_bounds, test_of, truth_answered, where_bounds};
 
 use crate::body::Body;
 use crate::evaluation::{eval, is_true};
@@ -68,8 +68,10 @@ pub(crate) fn bounds_of(
 
 /// The values of the parameter in the first turn and in the last one.
 pub(crate) fn way_of(count: &CoreCount, bounds: Span) -> Span
+    requires { int_le bounds.first bounds.last ≡ true }
     ensures first { result.first ≡ start_of count.now bounds.first bounds.last }
     ensures last { result.last ≡ end_of count.now bounds.first bounds.last }
+    ensures way { IsWay count.now result.first result.last }
 {
     if count.is_reverse {
         Span {
@@ -78,5 +80,19 @@ pub(crate) fn way_of(count: &CoreCount, bounds: Span) -> Span
         }
     } else {
         bounds
+    }
+}
+
+/// The value of the parameter in the next turn. There is one, since this is not the last.
+pub(crate) fn value_after(count: &CoreCount, value: i128, last: i128) -> i128
+    requires way { IsWay count.now value last }
+    requires more { value ≢ last }
+    ensures value { result ≡ value_after count.now value }
+    ensures way { IsWay count.now result last }
+{
+    if count.is_reverse {
+        value - 1
+    } else {
+        value + 1
     }
 }

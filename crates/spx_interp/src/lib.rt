@@ -8,6 +8,7 @@
 mod annotation;
 mod body;
 mod calling;
+mod choices;
 mod entry;
 mod evaluation;
 mod fault;

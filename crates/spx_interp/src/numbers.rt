@@ -55,20 +55,18 @@ pub(crate) fn quotient(m: i128, n: i128) -> Option<i128>
     if n == 0 { Some(0) } else { quot(m, n).ok() }
 }
 
-/// What `rem` gives, which 128 bits hold. A division by 0 gives 0.
-#[tactic(auto, using(spx_num::specs::Widths::fits_laws))]
-pub(crate) fn remainder(m: i128, n: i128) -> Option<i128>
-    ensures { result ≡ fitting (or_zero remainder m n) }
+/// What `rem` gives, which 128 bits always hold. A division by 0 gives 0.
+pub(crate) fn remainder(m: i128, n: i128) -> i128
+    ensures { result ≡ or_zero remainder m n }
 {
-    if n == 0 { Some(0) } else { rem(m, n).ok() }
+    if n == 0 { 0 } else { rem(m, n).unwrap() }
 }
 
-/// What `mod` gives, which 128 bits hold. A division by 0 gives 0.
-#[tactic(auto, using(spx_num::specs::Widths::fits_laws))]
-pub(crate) fn modulus(m: i128, n: i128) -> Option<i128>
-    ensures { result ≡ fitting (or_zero modulus m n) }
+/// What `mod` gives, which 128 bits always hold. A division by 0 gives 0.
+pub(crate) fn modulus(m: i128, n: i128) -> i128
+    ensures { result ≡ or_zero modulus m n }
 {
-    if n == 0 { Some(0) } else { modulo(m, n).ok() }
+    if n == 0 { 0 } else { modulo(m, n).unwrap() }
 }
 
 /// What `**` gives, where 128 bits hold it. A negative exponent gives 0.

@@ -1,5 +1,5 @@
 // The values of variables during a run, by the variables' positions. None is that of an unset one.
-ghost use Rattle.std.specs.Prelude.{◌≡◌, ◌<◌, length};
+ghost use Rattle.std.specs.Prelude.{◌≡◌, ◌<◌, None, length};
 ghost use Rattle.spx_meaning.specs.Stores.{look, put};
 
 use spx_core::VarId;
@@ -21,4 +21,13 @@ pub(crate) fn put(slots: &mut [Option<Value>], var: VarId, value: Option<Value>)
     ensures { slots.new ≡ put slots.old var value }
 {
     slots[var.0] = value;
+}
+
+/// Takes the value of the variable away, if it has one.
+#[tactic(auto, using(spx_meaning::proofs::StoreValues::put_is))]
+pub(crate) fn unset(slots: &mut [Option<Value>], var: VarId)
+    requires { var.0 < length slots.old }
+    ensures { slots.new ≡ put slots.old var None }
+{
+    slots[var.0] = None;
 }

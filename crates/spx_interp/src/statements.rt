@@ -1,28 +1,26 @@
 // Runs of statements (Ada 95 RM 5).
-ghost use Rattle.std.specs.Prelude.{◌≡◌, ◌<◌, IfSome, Some, length, map, option_map};
+ghost use Rattle.std.specs.Prelude.{◌≡◌, ◌<◌, Some, length, map};
 ghost use Rattle.spx_text.specs.declared.place.Place.{Place};
-ghost use Rattle.spx_core.specs.Commands.{Counted, Repeat, Set, alternative, arm_before, arms_before, command, commands, exit_where, given_by, head_of, loop_of, or_skip, select, spans_of};
-ghost use Rattle.spx_core.specs.Types.{is_chosen};
-ghost use Rattle.spx_meaning.specs.Runs.{assign, has_value, untrue};
-ghost use Rattle.spx_interp.specs.Results.{IsWay, done, frame_of, looked_at, outcome_of, ran, ran_alternatives, ran_count};
+ghost use Rattle.spx_core.specs.Commands.{Counted, Repeat, Set, alternative, command, commands, exit_where, head_of, loop_of, select};
+ghost use Rattle.spx_meaning.specs.Runs.{assign, untrue};
+ghost use Rattle.spx_interp.specs.Results.{IsWay, arm_at, done, frame_of, looked_at, outcome_of, ran, ran_count};
 ghost use Rattle.spx_interp.specs.Rooms.{AlternativesHaveRoom, ArmsHaveRoom, HasRoom, IsTested};
 
 use crate::annotation::truth;
 use crate::body::Body;
+use crate::choices::{alternative_for, first_arm};
 use crate::evaluation::{eval, is_true};
-use crate::heads::{bounds_of, goes_on, way_of};
-use crate::numbers::as_number;
-use crate::slots::put;
+use crate::heads::{bounds_of, goes_on, value_after, way_of};
+use crate::slots::{put, unset};
 use crate::step::Step;
 use spx_core::{
-    CoreAlternative, CoreArm, CoreChoice, CoreCount, CoreExpr, CoreScheme, CoreStmt, Reference,
-    Span, VarId, variable_of,
+    CoreAlternative, CoreArm, CoreCount, CoreExpr, CoreScheme, CoreStmt, Reference, Span, VarId,
+    variable_of,
 };
 use spx_meaning::{Bad, BadKind, Value, is_in, type_of};
 use spx_num::TooWide;
 use spx_text::Place;
 use spx_tree::AssertionKind;
-use sqlite_items::Items;
 
 /// Gives a variable a value of its type.
 fn assign(body: &Body, store: &mut [Option<Value>], place: Place, var: VarId, value: Value) -> Step
@@ -104,42 +102,6 @@ fn run_exit(body: &Body, turns: u64, store: &[Option<Value>], condition: &Option
     }
 }
 
-/// The values of a choice.
-fn values_of(choice: &CoreChoice) -> Span
-    ensures { result ≡ given_by choice.now.high choice.now.span }
-{
-    match &choice.high {
-        Some(_) => choice.span,
-        None => Span {
-            first: choice.span.first,
-            last: choice.span.first,
-        },
-    }
-}
-
-/// Whether one of the choices has the number.
-fn is_chosen(number: i128, choices: &[CoreChoice]) -> bool
-    ensures { result ≡ is_chosen number (spans_of choices.now) }
-{
-    for choice in choices {
-        let values = values_of(choice);
-        if values.first <= number && number <= values.last {
-            return true;
-        }
-    }
-    false
-}
-
-/// Whether one of the choices has the value. `others` has every value.
-fn has_value(choices: &Option<Items<CoreChoice>>, value: Value) -> bool
-    ensures { result ≡ has_value choices.now value }
-{
-    match choices {
-        Some(choices) => is_chosen(as_number(value), choices.as_slice()),
-        None => true,
-    }
-}
-
 /// Runs statements, one after another, within a bound.
 #[cycle(run)]
 #[tactic(auto, using(crate::proofs::RunForms::run_forms))]
@@ -153,11 +115,9 @@ pub(crate) fn run_stmts(
     ensures { ran (frame_of body.now) turns store.old (commands stmts.now) ≡ done result store.new }
 {
     for stmt in stmts {
-        match run_stmt(body, turns, store, stmt)? {
-            Step::Ended => {}
-            Step::Left => return Ok(Step::Left),
-            Step::Failed(bad) => return Ok(Step::Failed(bad)),
-            Step::Later => return Ok(Step::Later),
+        let step = run_stmt(body, turns, store, stmt)?;
+        if !step.has_ended() {
+            return Ok(step);
         }
     }
     Ok(Step::Ended)
@@ -180,7 +140,16 @@ fn run_stmt(
             Ok(run_assignment(body, turns, store, target, expr))
         }
         CoreStmt::If(arms, otherwise, _) => {
-            run_if(body, turns, store, arms.as_slice(), otherwise)
+            match first_arm(body, turns, store, arms.as_slice()) {
+                Ok(found) => match found {
+                    Some(k) => run_arm(body, turns, store, arms.as_slice(), k),
+                    None => match otherwise {
+                        Some(stmts) => run_stmts(body, turns, store, stmts.as_slice()),
+                        None => Ok(Step::Ended),
+                    },
+                },
+                Err(bad) => Ok(Step::Failed(bad)),
+            }
         }
         CoreStmt::Case(_, selector, alternatives, _) => {
             run_case(body, turns, store, alternatives.as_slice(), selector)
@@ -197,36 +166,24 @@ fn run_stmt(
     }
 }
 
-/// Runs the first arm whose condition is true, or the statements after `else`.
+/// Runs the statements of an arm.
 #[cycle(run)]
-#[tactic(auto, using(crate::proofs::RunForms::run_forms))]
-fn run_if(
+fn run_arm(
     body: &Body,
     turns: u64,
     store: &mut [Option<Value>],
     arms: &[CoreArm],
-    otherwise: &Option<Items<CoreStmt>>,
+    k: usize,
 ) -> Result<Step, TooWide>
-    requires arms { ArmsHaveRoom (length store.old) arms.now }
-    requires otherwise { IfSome otherwise.now (λ stmts. HasRoom (length store.old) (commands stmts)) }
-    ensures { ran (frame_of body.now) turns store.old (arms_before (or_skip (option_map (map command) otherwise.now)) (map arm_before arms.now)) ≡ done result store.new }
+    requires within { k < length arms.now }
+    requires room { ArmsHaveRoom (length store.old) arms.now }
+    ensures { ran (frame_of body.now) turns store.old (arm_at arms.now k) ≡ done result store.new }
 {
-    for arm in arms {
-        match is_true(body, turns, store, &arm.condition) {
-            Ok(true) => return run_stmts(body, turns, store, arm.body.as_slice()),
-            Ok(false) => {}
-            Err(bad) => return Ok(Step::Failed(bad)),
-        }
-    }
-    match otherwise {
-        Some(stmts) => run_stmts(body, turns, store, stmts.as_slice()),
-        None => Ok(Step::Ended),
-    }
+    run_stmts(body, turns, store, arms[k].body.as_slice())
 }
 
 /// Runs the alternative for the value of the selector. Where there is no alternative, nothing is done.
 #[cycle(run)]
-#[tactic(auto, using(crate::proofs::RunForms::run_forms))]
 fn run_case(
     body: &Body,
     turns: u64,
@@ -241,32 +198,12 @@ fn run_case(
         return Ok(Step::Ended);
     }
     match eval(body, turns, store, selector) {
-        Ok(value) => run_alternatives(body, turns, store, alternatives, value),
+        Ok(value) => {
+            let k = alternative_for(alternatives, value);
+            run_stmts(body, turns, store, alternatives[k].body.as_slice())
+        }
         Err(bad) => Ok(Step::Failed(bad)),
     }
-}
-
-/// Runs the first alternative that has the value. The last one has all values that are left.
-#[cycle(run)]
-#[tactic(auto, using(crate::proofs::RunForms::run_forms))]
-fn run_alternatives(
-    body: &Body,
-    turns: u64,
-    store: &mut [Option<Value>],
-    alternatives: &[CoreAlternative],
-    value: Value,
-) -> Result<Step, TooWide>
-    requires { AlternativesHaveRoom (length store.old) alternatives.now }
-    ensures { ran_alternatives value (frame_of body.now) turns store.old alternatives.now ≡ done result store.new }
-{
-    let mut left = alternatives.len();
-    for alternative in alternatives {
-        left -= 1;
-        if left == 0 || has_value(&alternative.choices, value) {
-            return run_stmts(body, turns, store, alternative.body.as_slice());
-        }
-    }
-    Ok(Step::Ended)
 }
 
 /// Takes turns of a loop as long as its condition, if it has one, is true. A turn and the rest of the loop have one less of the bound.
@@ -294,11 +231,9 @@ fn run_turns(
             return Ok(Step::Later);
         }
         left -= 1;
-        match run_stmts(body, left, store, stmts)? {
-            Step::Ended => {}
-            Step::Left => return Ok(Step::Ended),
-            Step::Failed(bad) => return Ok(Step::Failed(bad)),
-            Step::Later => return Ok(Step::Later),
+        let step = run_stmts(body, left, store, stmts)?;
+        if !step.has_ended() {
+            return Ok(step.past_loop());
         }
     }
 }
@@ -321,12 +256,12 @@ fn run_for(
         Err(bad) => return Ok(Step::Failed(bad)),
     };
     if bounds.first > bounds.last {
-        put(store, count.parameter, None);
+        unset(store, count.parameter);
         return Ok(Step::Ended);
     }
     let step = run_count(body, turns, store, stmts, count, way_of(count, bounds))?;
-    if step == Step::Ended {
-        put(store, count.parameter, None);
+    if step.has_ended() {
+        unset(store, count.parameter);
     }
     Ok(step)
 }
@@ -343,7 +278,7 @@ fn run_count(
     way: Span,
 ) -> Result<Step, TooWide>
     requires room { HasRoom (length store.old) (Repeat (Counted count.now) (commands stmts.now)) }
-    requires way { IsWay count.now way }
+    requires way { IsWay count.now way.first way.last }
     ensures { ran_count (frame_of body.now) count.now (commands stmts.now) way.last turns way.first store.old ≡ done result store.new }
 {
     let mut value = way.first;
@@ -351,20 +286,14 @@ fn run_count(
     while left > 0 {
         left -= 1;
         put(store, count.parameter, Some(Value::Number(value)));
-        match run_stmts(body, left, store, stmts)? {
-            Step::Ended => {}
-            Step::Left => return Ok(Step::Ended),
-            Step::Failed(bad) => return Ok(Step::Failed(bad)),
-            Step::Later => return Ok(Step::Later),
+        let step = run_stmts(body, left, store, stmts)?;
+        if !step.has_ended() {
+            return Ok(step.past_loop());
         }
         if value == way.last {
             return Ok(Step::Ended);
         }
-        value = if count.is_reverse {
-            value - 1
-        } else {
-            value + 1
-        };
+        value = value_after(count, value, way.last);
     }
     Ok(Step::Later)
 }

@@ -56,7 +56,7 @@ module _ (p : Program) where
   limit_in [] = None
   limit_in (id ∷ ids) = or_else (limit_at p (slice_get p.subs id.0)) (limit_in ids)
 
-  abbrev subs_in : List SubId → List Sub
+  abbrev pub subs_in : List SubId → List Sub
   subs_in ids = filter_map (λ (id : SubId). slice_get p.subs id.0) ids
 
   pub lines_by_body : (ids : List SubId) → lines_in ids ≡ lines_of (subs_in ids)

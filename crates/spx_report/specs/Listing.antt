@@ -1,5 +1,5 @@
 -- What `conditions` prints: the verification conditions of each subprogram, in the order of the bodies.
-use Rattle.std.specs.Prelude.{ℕ, suc, List, [], ◌∷◌, ◌++◌, map, flat_map, codes}
+use Rattle.std.specs.Prelude.{ℕ, suc, List, [], ◌∷◌, ◌++◌, map, flat_map, Option, Some, None, codes}
 use Rattle.std.specs.Fmt.{decimal}
 use Rattle.spx_core.specs.declared.program.Program.{Program}
 use Rattle.spx_core.specs.declared.program.Var.{Var}
@@ -33,10 +33,19 @@ header_line names c = c.name ++ (codes " " ++ (kind_text c.kind ++ (codes " " ++
 unfoldable pub condition_lines : List (List ℕ) → List (List ℕ) → Condition → List ℕ
 condition_lines names declared c = header_line names c ++ (term_lines declared (codes "H") 1 c.hyps ++ term_lines declared (codes "G") 1 c.goals)
 
+-- these conditions, one after another
+abbrev pub lines_of_conditions : List (List ℕ) → List (List ℕ) → List Condition → List ℕ
+lines_of_conditions names declared conditions = flat_map (condition_lines names declared) conditions
+
 -- the conditions of a subprogram, in the order of their names
 abbrev pub listed : List (List ℕ) → Program → Sub → List ℕ
-listed names p sub = flat_map (condition_lines names (declared_names p)) (conditions_of p sub)
+listed names p sub = lines_of_conditions names (declared_names p) (conditions_of p sub)
 
 -- the conditions of a program, whose files have these names
 unfoldable pub conditions_text : Program → List (List ℕ) → List ℕ
 conditions_text p names = flat_map (listed names p) (bodies_of p)
+
+-- what one body adds to that: nothing where no subprogram has its id
+abbrev pub listed_at : List (List ℕ) → Program → Option Sub → List ℕ
+listed_at names p (Some sub) = listed names p sub
+listed_at names p None = []

@@ -17,5 +17,8 @@ pub use flow::flow_findings;
 pub use limit::{FindFault, LimitName};
 pub use listing::conditions_text;
 pub use refusals::breach_finding;
-pub use report::{Finding, Findings, SubRow, put, put_number, put_place, put_spot, put_verdict, refusal_text, report_text};
+pub use report::{
+    Finding, Findings, SubRow, put, put_number, put_place, put_spot, put_verdict, refusal_text,
+    report_text,
+};
 pub use tally::findings;

@@ -1,5 +1,5 @@
 // The text of the verification conditions of a program.
-ghost use Rattle.std.specs.Prelude.{◌≡◌, ◌++◌, ◌<◌, None, length, slice_get, IfErr, IfOk, OnOk};
+ghost use Rattle.std.specs.Prelude.{◌≡◌, ◌++◌, ◌<◌, Some, None, length, slice_get, IfErr, IfOk, OnOk};
 ghost use Rattle.spx_core.specs.declared.subprogram.Sub.{Sub};
 ghost use Rattle.spx_text.specs.Loads.{names};
 ghost use Rattle.spx_report.specs.Findings.{first_limit, limit_at, limit_of};
@@ -96,7 +96,23 @@ fn put_condition(
     put_terms(alloc, out, declared, b"G", condition.goals.as_slice())
 }
 
-/// The conditions of a subprogram, where they pass no limit.
+/// Adds these conditions, one after another.
+fn put_conditions(
+    alloc: Global,
+    out: &mut Vec<u8>,
+    files: &[String],
+    declared: &[Text],
+    conditions: &[Condition],
+) -> Result<(), AllocError>
+    ensures { OnOk result (out.new.items ≡ out.old.items ++ spec.lines_of_conditions (names files.now) declared.now conditions.now) }
+{
+    for condition in conditions {
+        put_condition(alloc, out, files, declared, condition)?;
+    }
+    Ok(())
+}
+
+/// Adds the conditions of a subprogram, where they pass no limit.
 fn put_sub(
     alloc: Global,
     program: &Program,
@@ -113,14 +129,32 @@ fn put_sub(
 {
     match conditions(alloc, program, id) {
         Ok(all) => {
-            for condition in all.as_slice() {
-                put_condition(alloc, out, files, declared, condition)?;
-            }
+            put_conditions(alloc, out, files, declared, all.as_slice())?;
             Ok(())
         }
         Err(VcFault::TooManyPaths(_)) => Err(FindFault::Limit(LimitName::Paths)),
         Err(VcFault::TooManyNodes(_)) => Err(FindFault::Limit(LimitName::Nodes)),
         Err(VcFault::Memory) => Err(FindFault::Memory),
+    }
+}
+
+/// Adds the conditions of a body, where they pass no limit.
+fn put_body(
+    alloc: Global,
+    program: &Program,
+    id: SubId,
+    out: &mut Vec<u8>,
+    files: &[String],
+    declared: &[Text],
+) -> Result<(), FindFault>
+    requires { declared.now ≡ spec.declared_names program.now }
+    ensures text { OnOk result (out.new.items ≡ out.old.items ++ spec.listed_at (names files.now) program.now (slice_get program.now.subs id.0)) }
+    ensures few { OnOk result (limit_at program.now (slice_get program.now.subs id.0) ≡ None) }
+    ensures limit { IfErr result (IsFaultOf (limit_at program.now (slice_get program.now.subs id.0))) }
+{
+    match program.subs.get(id.0) {
+        Some(_) => put_sub(alloc, program, id, out, files, declared),
+        None => Ok(()),
     }
 }
 

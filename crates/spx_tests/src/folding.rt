@@ -1,6 +1,5 @@
 // Terms with their constant parts computed.
-use spx_term::{Name, Sort, Symbol, Term, TermOp, TermPrefix, fold, same};
-use std::alloc::{AllocError, Global};
+use spx_term::{Name, Sort, Symbol, Term, TermOp, fold, same};
 use std::test::Fail;
 
 const GREATEST: i128 = 170141183460469231731687303715884105727;
@@ -35,22 +34,6 @@ fn is_wanted(folded: &Term, operation: &Term, wanted: Wanted) -> bool {
 }
 
 #[test]
-fn folds_a_minus(rt: HostRuntime) -> Result<(), Fail> {
-    let alloc = rt.alloc();
-    for (literal, wanted) in [
-        (Some(7), Wanted::Number(-7)),
-        (Some(-GREATEST), Wanted::Number(GREATEST)),
-        (Some(-GREATEST - 1), Wanted::Itself),
-        (None, Wanted::Itself),
-    ] {
-        let operation = Term::prefix(alloc, TermPrefix::Minus, operand(literal))?;
-        let folded = fold(alloc, &operation)?;
-        assert!(rt; is_wanted(&folded, &operation, wanted), "{operation:?}");
-    }
-    Ok(())
-}
-
-#[test]
 fn folds_an_operation(rt: HostRuntime) -> Result<(), Fail> {
     let alloc = rt.alloc();
     for (left, op, right, wanted) in [
@@ -76,43 +59,6 @@ fn folds_an_operation(rt: HostRuntime) -> Result<(), Fail> {
         let operation = Term::infix(alloc, op, operand(left), operand(right))?;
         let folded = fold(alloc, &operation)?;
         assert!(rt; is_wanted(&folded, &operation, wanted), "{operation:?}");
-    }
-    Ok(())
-}
-
-/// P, or a literal.
-fn condition(literal: Option<bool>) -> Term {
-    match literal {
-        Some(value) => Term::Truth(value),
-        None => Term::Variable(Name {
-            symbol: Symbol::Now(1),
-            sort: Sort::Boolean,
-        }),
-    }
-}
-
-#[test]
-fn folds_an_implication(rt: HostRuntime) -> Result<(), Fail> {
-    let alloc = rt.alloc();
-    for (left, right, wanted) in [
-        (Some(true), None, condition(None)),
-        (Some(false), None, condition(Some(true))),
-        (None, Some(true), condition(Some(true))),
-        (
-            None,
-            Some(false),
-            Term::prefix(alloc, TermPrefix::Not, condition(None))?,
-        ),
-        (Some(true), Some(false), condition(Some(false))),
-        (Some(false), Some(false), condition(Some(true))),
-        (
-            None,
-            None,
-            Term::infix(alloc, TermOp::Implies, condition(None), condition(None))?,
-        ),
-    ] {
-        let operation = Term::infix(alloc, TermOp::Implies, condition(left), condition(right))?;
-        assert!(rt; same(&fold(alloc, &operation)?, &wanted), "{operation:?}");
     }
     Ok(())
 }

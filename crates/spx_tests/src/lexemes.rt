@@ -74,68 +74,6 @@ fn places_separators_and_letter_case(rt: HostRuntime) -> Result<(), Fail> {
     Ok(())
 }
 
-#[test]
-fn marks_and_comments(rt: HostRuntime) -> Result<(), Fail> {
-    let cases = [
-        (
-            "--# derives X;\nderives",
-            "1:5# Derives derives, 1:13# Identifier X, 1:14# Semicolon ;, 2:1 Identifier derives, 2:8",
-        ),
-        ("-- # pre\nX", "2:1 Identifier X, 2:2"),
-        (
-            "--# X --# pre\nY",
-            "1:5# Identifier X, 2:1 Identifier Y, 2:2",
-        ),
-        ("X --#PRE", "1:1 Identifier X, 1:6# Pre PRE, 1:9"),
-    ];
-    assert_eq!(rt; wrong(rt.alloc(), &cases)?.as_str(), "");
-    Ok(())
-}
-
-#[test]
-fn lexemes_are_maximal(rt: HostRuntime) -> Result<(), Fail> {
-    let cases = [
-        (
-            "A..B:=<>=/=**",
-            "1:1 Identifier A, 1:2 DoubleDot .., 1:4 Identifier B, 1:5 Assignment :=, 1:7 Diamond <>, 1:9 Equal =, 1:10 NotEqual /=, 1:12 DoubleAsterisk **, 1:14",
-        ),
-        (
-            "A<->B",
-            "1:1 Identifier A, 1:2 Less <, 1:3 Minus -, 1:4 Greater >, 1:5 Identifier B, 1:6",
-        ),
-        (
-            "--#A<->B->[~]",
-            "1:4# Identifier A, 1:5# Equivalence <->, 1:8# Identifier B, 1:9# Implication ->, 1:11# LeftBracket [, 1:12# Tilde ~, 1:13# RightBracket ], 1:14",
-        ),
-        (
-            "007..2",
-            "1:1 Number 007 = 7, 1:4 DoubleDot .., 1:6 Number 2 = 2, 1:7",
-        ),
-        (
-            "170141183460469231731687303715884105727",
-            "1:1 Number 170141183460469231731687303715884105727 = 170141183460469231731687303715884105727, 1:40",
-        ),
-    ];
-    assert_eq!(rt; wrong(rt.alloc(), &cases)?.as_str(), "");
-    Ok(())
-}
-
-#[test]
-fn numbers_may_pass_the_greatest_value(rt: HostRuntime) -> Result<(), Fail> {
-    let cases = [
-        ("2E38", "too wide 1:1"),
-        ("1E39", "too wide 1:1"),
-        ("1E99999999999999999999", "too wide 1:1"),
-        ("2#1#E127", "too wide 1:1"),
-        ("16#8#E31", "too wide 1:1"),
-        ("2#1#E128", "too wide 1:1"),
-        ("1E340282366920938463463374607431768211456", "too wide 1:1"),
-        ("2#1#E127E", "bad number 1:1"),
-    ];
-    assert_eq!(rt; wrong(rt.alloc(), &cases)?.as_str(), "");
-    Ok(())
-}
-
 // A million tokens are a text's, and one more are refused.
 #[test]
 fn a_text_has_a_million_tokens_at_most(rt: HostRuntime) -> Result<(), Fail> {

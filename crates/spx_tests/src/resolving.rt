@@ -1,15 +1,12 @@
 // Programs that are made from units.
-use spx_core::{
-    Breach, CoreDecl, CoreFunction, CoreName, CoreStmt, Entity, INTEGER, INTEGER_FIRST,
-    INTEGER_LAST, RuleName, Span, TypeRow, VarId, variable_of,
-};
+use spx_core::{CoreDecl, CoreStmt, Entity, INTEGER, TypeRow, VarId, variable_of};
 use spx_resolve::make_program;
 use spx_text::{Place, Text};
 use spx_tree::{
-    Decl, Expr, FormalPart, FunctionForm, Identifier, Name, Param, Range, Stmt, Subprogram,
-    TypeDef, Unit, WrittenMode,
+    Decl, Expr, FormalPart, Identifier, Name, Param, Range, Stmt, Subprogram, TypeDef, Unit,
+    WrittenMode,
 };
-use spx_types::{TypeFault, application, type_row};
+use spx_types::type_row;
 use sqlite_items::Items;
 use std::alloc::{AllocError, Global};
 use std::test::Fail;
@@ -126,24 +123,6 @@ fn a_program_is_made(rt: HostRuntime) -> Result<(), Fail> {
     Ok(())
 }
 
-#[test]
-fn a_conversion_has_the_bounds_of_its_type(rt: HostRuntime) -> Result<(), Fail> {
-    let function = CoreFunction {
-        name: CoreName {
-            name: identifier(rt.alloc(), "Integer")?,
-            entity: Some(Entity::TypeName(INTEGER)),
-        },
-        form: FunctionForm::Simple,
-    };
-    let bounds = Span {
-        first: INTEGER_FIRST,
-        last: INTEGER_LAST,
-    };
-    let mapping = application(&function).ok();
-    assert_eq!(rt; mapping.and_then(|mapping| mapping.bounds), Some(bounds));
-    Ok(())
-}
-
 // The rows after those of the five predefined types.
 fn declared(types: &[TypeRow]) -> &[TypeRow] {
     match types {
@@ -165,25 +144,6 @@ fn a_declared_type_has_a_row(rt: HostRuntime) -> Result<(), Fail> {
             if let Ok(made) = made {
                 assert_eq!(rt; made.subtype, row.subtype);
                 assert!(rt; made.name.is_same_word(&row.name));
-            }
-        }
-    }
-    Ok(())
-}
-
-#[test]
-fn a_constant_has_no_row(rt: HostRuntime) -> Result<(), Fail> {
-    let units = units(rt.alloc())?;
-    let program = make_program(rt.alloc(), units.as_slice())?;
-    let breach = Breach {
-        rule: RuleName::N3,
-        place: here(),
-    };
-    for sub in program.subs.as_slice() {
-        for decl in sub.declarations.as_slice() {
-            if let CoreDecl::Constants(_, _, _) = decl {
-                let refused = type_row(rt.alloc(), &program, decl).err();
-                assert_eq!(rt; refused, Some(TypeFault::Breach(breach)));
             }
         }
     }

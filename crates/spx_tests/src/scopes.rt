@@ -33,16 +33,3 @@ fn inner_declarations_hide_outer_ones(rt: HostRuntime) -> Result<(), Fail> {
     assert!(rt; scope.is_predefined(&integer));
     Ok(())
 }
-
-#[test]
-fn declarations_are_taken_back(rt: HostRuntime) -> Result<(), Fail> {
-    let alloc = rt.alloc();
-    let mut region = Region::new(alloc);
-    let count = region.len();
-    let name = Text::new(alloc, b"Set")?;
-    region.declare(name.copy(alloc)?, Entity::Subprogram(SubId(0)))?;
-    assert_eq!(rt; region.len(), 1);
-    region.truncate(count);
-    assert_eq!(rt; region.get(&name), None);
-    Ok(())
-}

@@ -75,33 +75,6 @@ fn closes_by_intervals(rt: HostRuntime) -> Result<(), Fail> {
     Ok(())
 }
 
-/// Whether `((0 + X) /= 7) and (X op 7)` closes under a hypothesis.
-fn closes_conjunction(alloc: Global, hyp: Term, op: TermOp) -> Result<bool, AllocError> {
-    let mut hyps = Items::new(alloc);
-    hyps.push(hyp)?;
-    let sum = Term::infix(alloc, TermOp::Add, Term::Number(0), variable())?;
-    let first = Term::infix(alloc, TermOp::NotEqual, sum, Term::Number(7))?;
-    let second = Term::infix(alloc, op, variable(), Term::Number(7))?;
-    let goal = Term::infix(alloc, TermOp::And, first, second)?;
-    closes(alloc, &Sequent { hyps, goal })
-}
-
-#[test]
-fn closes_by_form(rt: HostRuntime) -> Result<(), Fail> {
-    use TermOp::{Equal, Less, LessOrEqual, NotEqual};
-    for (op, right, second, closed) in [
-        (NotEqual, Term::Number(7), NotEqual, true),
-        (NotEqual, Term::Number(7), Equal, false),
-        (Less, variable(), Equal, true),
-        (LessOrEqual, variable(), Equal, false),
-    ] {
-        let hyp = Term::infix(rt.alloc(), op, variable(), right)?;
-        let answer = closes_conjunction(rt.alloc(), hyp, second)?;
-        assert_eq!(rt; answer, closed, "{op:?} {second:?}");
-    }
-    Ok(())
-}
-
 /// `X + 1 + .. + 1`, with so many ones.
 fn sum_of_ones(alloc: Global, count: usize) -> Result<Term, AllocError> {
     let mut sum = variable();

@@ -1,76 +1,9 @@
-// Units, and where a text goes no further.
+// The parts of a unit.
 use spx_lexer::lex;
 use spx_parse_unit::{ParseFault, parse_units};
-use spx_text::Place;
 use spx_tree::{Subprogram, Unit};
 use std::alloc::Global;
 use std::test::Fail;
-
-fn at(line: u32, column: u32) -> Place {
-    Place {
-        file: 0,
-        line,
-        column,
-    }
-}
-
-// How many units a text has, or where it is refused.
-fn units_in(alloc: Global, source: &[u8]) -> Result<usize, ParseFault> {
-    if source.len() > 100_000 {
-        return Err(ParseFault::Memory);
-    }
-    match lex(alloc, 0, source) {
-        Ok(tokens) => Ok(parse_units(alloc, &tokens)?.len()),
-        Err(_) => Err(ParseFault::Memory),
-    }
-}
-
-#[test]
-fn units(rt: HostRuntime) {
-    let alloc = rt.alloc();
-    let rows = [
-        ("", Ok(0)),
-        (
-            "procedure P (X : out T)\n--# derives X from ;\nis begin X := 1; end;\nprocedure Q (X : in T)\n--# derives X from X;\nis begin X := 1; end Q;",
-            Ok(2),
-        ),
-        ("procedure P is begin null; end P;", Ok(1)),
-        (
-            "procedure P is X, Y : T; Z : T'Base; begin null; end P;",
-            Ok(1),
-        ),
-        (
-            "procedure P is X : in T; begin null; end P;",
-            Err(ParseFault::Expected(at(1, 20))),
-        ),
-        ("procedure P () is", Err(ParseFault::Expected(at(1, 14)))),
-        ("begin", Err(ParseFault::Expected(at(1, 1)))),
-        (
-            "procedure P (X : T)\nderives X from X;",
-            Err(ParseFault::Expected(at(2, 1))),
-        ),
-        (
-            "procedure P (X : out in T)",
-            Err(ParseFault::Expected(at(1, 22))),
-        ),
-        ("procedure P (X : T;)", Err(ParseFault::Expected(at(1, 20)))),
-        (
-            "procedure P (X : T)\n--# derives X from X, *;",
-            Err(ParseFault::Expected(at(2, 23))),
-        ),
-        (
-            "procedure P (X : T)\n--# derives X from X;\nis begin X := 1; end P; X",
-            Err(ParseFault::Expected(at(3, 25))),
-        ),
-        (
-            "procedure P (X : T)\n--# derives X from X;\nis begin X := 1;\n",
-            Err(ParseFault::Expected(at(4, 1))),
-        ),
-    ];
-    for (text, answer) in rows {
-        assert_eq!(rt; units_in(alloc, text.as_bytes()), answer, "{text}");
-    }
-}
 
 // A procedure with a part of each kind.
 const WHOLE: &[u8] =

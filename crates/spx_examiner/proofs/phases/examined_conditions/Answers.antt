@@ -1,11 +1,11 @@
-use Rattle.std.proofs.Common.{subst}
-use Rattle.spx_report.specs.Findings.{first_limit}
-use Rattle.spx_report.specs.Limits.{IsFaultOf}
-use Rattle.spx_examiner.specs.Outcome.{conditions}
+use Rattle.std.proofs.Common.{sym, subst, IfOk}
+use Rattle.spx_core.specs.Erased.{erased}
+use Rattle.spx_examiner.specs.declared.words.Command.{Command}
+use Rattle.spx_examiner.specs.Outcome.{IsReportOnUnits}
+use Rattle.spx_examiner.specs.Words.{request_of}
 use Rattle.spx_examiner.proofs.phases.examined_conditions.Goals as goal
 
-pub returns-in-Ok-clause-report : goal.returns-in-Ok-clause-report
-returns-in-Ok-clause-report c = (c.requires, c.in-Ok.ensures.few, c.in-Ok.ensures.exact)
-
-pub returns-in-Err-Limit-clause-report : goal.returns-in-Err-Limit-clause-report
-returns-in-Err-Limit-clause-report c = conditions c.args.program c.requires (subst (IsFaultOf (first_limit c.args.program)) c.in-Err-Limit.field-0-is c.in-Err-Limit.ensures.limit)
+pub returns-in-Check-clause-report : goal.returns-in-Check-clause-report
+returns-in-Check-clause-report c =
+    subst (λ (command : Command). IfOk c.checked.result (IsReportOnUnits (request_of command) (erased c.args.program))) (sym c.in-Check.is)
+    (c.checked.ensures.report c.in-Check.field-0.now)

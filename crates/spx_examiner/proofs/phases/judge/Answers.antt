@@ -2,13 +2,14 @@ use Rattle.std.proofs.Common.{refl, subst}
 use Rattle.spx_examiner.specs.declared.reading.Reading.TheVariants.{Units, Broken, TooManyTokens, TooNested}
 use Rattle.spx_examiner.specs.Reading.{IsRead}
 use Rattle.spx_examiner.specs.Outcome.{IsReportOnUnits}
+use Rattle.spx_examiner.specs.Words.{request_of}
 use Rattle.spx_examiner.proofs.Spelled.{if_ok}
 use Rattle.spx_examiner.proofs.phases.judge.Goals as goal
 
 pub returns-in-Units-clause-report : goal.returns-in-Units-clause-report
 returns-in-Units-clause-report c =
     if_ok c.examined.result _ _
-    (λ j report. (Units c.in-Units.units, subst (IsRead c.args.source.now) c.in-Units.is c.in_ok-units.ensures, subst (λ us. IsReportOnUnits us j) c.as_slice.ensures report))
+    (λ j report. (Units c.in-Units.units, subst (IsRead c.args.source.now) c.in-Units.is c.in_ok-units.ensures, subst (λ us. IsReportOnUnits (request_of c.args.command.now) us j) c.as_slice.ensures report))
     c.examined.ensures.report
 
 pub returns-in-Broken-clause-report : goal.returns-in-Broken-clause-report
