@@ -10,6 +10,6 @@ pub returns-in-Err-TooLarge : goal.returns-in-Err-TooLarge
 returns-in-Err-TooLarge c =
     let p = c.args.program.now in
     let sub = c.args.sub.now in
-    let is = rw c.in-Err-TooLarge.field-0-is at (c.in-Err-TooLarge.ensures sub c.requires.sub) in
+    let is = rw c.in-Err-TooLarge.field-0-is at (c.in-Err-TooLarge.ensures.runs sub c.requires.sub) in
     let passes : call_passes p c.args.turns sub c.args.store ≡ true = is.0 in
     sym (ap (λ b. if b then TooLarge else ended_as p sub c.args.turns (runs.call p c.args.turns sub c.args.store)) passes)
