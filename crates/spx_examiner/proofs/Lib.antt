@@ -1,6 +1,7 @@
 mod Loading
 mod Endings
 mod Spelled
-mod Refusals
+mod Examined
+mod Fates
 mod Reliable
 mod SomeOutcome

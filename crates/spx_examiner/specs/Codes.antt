@@ -1,7 +1,7 @@
 -- The number of each status.
 use Rattle.std.specs.Prelude.{ℕ}
 use Rattle.spx_examiner.specs.declared.status.Status.{Status}
-use Rattle.spx_examiner.specs.declared.status.Status.TheVariants.{Accepted, Refused, Usage, ReadFault, WriteFault, NoMemory, Limit}
+use Rattle.spx_examiner.specs.declared.status.Status.TheVariants.{Accepted, Refused, Usage, ReadFault, WriteFault, NoMemory, Limit, RunFault, NotEnded}
 
 abbrev pub code_of : Status → ℕ
 code_of Accepted = 0
@@ -11,3 +11,5 @@ code_of ReadFault = 3
 code_of WriteFault = 4
 code_of NoMemory = 5
 code_of Limit = 6
+code_of RunFault = 7
+code_of NotEnded = 8

@@ -19,6 +19,8 @@ use Rattle.spx_core.specs.Statements.{first_name_breach}
 use Rattle.spx_core.specs.Obeyed.{first_rule_breach}
 use Rattle.spx_report.specs.declared.report.Finding.{Finding}
 use Rattle.spx_report.specs.FlowLines.{AreFlowLines}
+use Rattle.spx_run.specs.declared.inputs.InputLine.{InputLine}
+use Rattle.spx_run.specs.Inputs.{AreInputs}
 
 -- a text has one list of tokens
 abbrev pub OneSpelling : Type 0
@@ -54,6 +56,10 @@ NoRuleBreach = (p : Program) → Obeys p → first_rule_breach p ≡ None
 abbrev pub OneListOfLines : Type 0
 OneListOfLines = (p : Program) (a b : List Finding) → AreFlowLines p a → AreFlowLines p b → a ≡ b
 
+-- the text of inputs is read in one way
+abbrev pub OneListOfInputs : Type 0
+OneListOfInputs = (bytes : List ℕ) (a b : Result (List InputLine) ℕ) → AreInputs bytes a → AreInputs bytes b → a ≡ b
+
 -- units are one program
 abbrev pub OneProgram : Type 0
 OneProgram = (p q : Program) → Visible p → Visible q → erased p ≡ erased q → p ≡ q
@@ -67,6 +73,7 @@ pub record Laws : Type 0 where
   pub breach : NoBreach
   pub obeyed : NoRuleBreach
   pub lines : OneListOfLines
+  pub inputs : OneListOfInputs
 
 -- ---- that there is something
 
@@ -92,9 +99,14 @@ ObeysUnlessBroken = (p : Program) → first_rule_breach p ≡ None → Obeys p
 abbrev pub SomeListOfLines : Type 0
 SomeListOfLines = (p : Program) → (lines : List Finding) × AreFlowLines p lines
 
+-- the text of inputs is read in some way
+abbrev pub SomeListOfInputs : Type 0
+SomeListOfInputs = (bytes : List ℕ) → (read : Result (List InputLine) ℕ) × AreInputs bytes read
+
 pub record LawsOfExistence : Type 0 where
   pub spelling : SomeSpelling
   pub answer : SomeAnswer
   pub program : SomeProgram
   pub obeyed : ObeysUnlessBroken
   pub lines : SomeListOfLines
+  pub inputs : SomeListOfInputs

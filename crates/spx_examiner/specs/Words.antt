@@ -1,22 +1,14 @@
 -- What the words of a command ask for.
-use Rattle.std.specs.Prelude.{◌≡◌, ⊤, ℕ, List, [], ◌∷◌, Option, Some, None, option_and_then, option_to_list, codes}
-use Rattle.spx_words.specs.Requests.{Request, check, conditions, run, request}
-use Rattle.spx_examiner.specs.declared.words.Command.{Command}
-use Rattle.spx_examiner.specs.declared.words.Command.TheVariants as command
+use Rattle.std.specs.Prelude.{◌≡◌, ⊤, ℕ, List, [], ◌∷◌, Option, Some, None, option_to_list, codes}
+use Rattle.spx_words.specs.Requests.{Request, check, conditions, run, file_of, request}
 
 -- what is printed where the words have the form of no command
 abbrev pub usage_line : List ℕ
 usage_line = codes "usage: check [--proofs FILE] FILE... | conditions FILE... | run --entry NAME [--turns N] [--inputs FILE] FILE... | workload N\n"
 
--- what the program does of what words can ask for: all but runs
-abbrev pub without_runs : Request → Option Request
-without_runs (check file) = Some (check file)
-without_runs (conditions file) = Some (conditions file)
-without_runs (run entry turns inputs file) = None
-
--- what the words ask for, if they ask for something that the program does
+-- what the words ask for
 unfoldable pub asked : List (List ℕ) → Option Request
-asked words = option_and_then without_runs (request words)
+asked words = request words
 
 -- the words have the form of no command
 abbrev pub HasNoForm : List (List ℕ) → Type 0
@@ -48,13 +40,18 @@ IsConditions (check file) = ⊥
 IsConditions (conditions file) = ⊤
 IsConditions (run entry turns inputs file) = ⊥
 
--- the files that are asked about, in the order in which they are loaded
-abbrev pub files_in : Request → List (List ℕ)
-files_in (check file) = file ∷ []
-files_in (conditions file) = file ∷ []
-files_in (run entry turns inputs file) = file ∷ option_to_list inputs
+-- a run is asked for
+abbrev pub IsRun : Request → Type 0
+IsRun (check file) = ⊥
+IsRun (conditions file) = ⊥
+IsRun (run entry turns inputs file) = ⊤
 
--- what a command that was read asks for
-abbrev pub request_of : Command → Request
-request_of (command.Check file) = check file.now
-request_of (command.Conditions file) = conditions file.now
+-- the file of the inputs, where one is named
+abbrev pub inputs_in : Request → List (List ℕ)
+inputs_in (check file) = []
+inputs_in (conditions file) = []
+inputs_in (run entry turns inputs file) = option_to_list inputs
+
+-- the files that are asked about, in the order in which they are loaded: the program, and then its inputs
+abbrev pub files_in : Request → List (List ℕ)
+files_in r = file_of r ∷ inputs_in r

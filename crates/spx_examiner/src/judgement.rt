@@ -1,12 +1,13 @@
 // What the words and the files come to, before anything is written.
 ghost use Rattle.std.specs.Prelude.{◌≡◌, IfOk};
 ghost use Rattle.spx_text.specs.Loads.{names};
-ghost use Rattle.spx_examiner.specs.Judgement.{status_of, text_of};
+ghost use Rattle.spx_examiner.specs.Judgement.{status_of, status_of_run, text_of};
 
 use crate::Status;
 use crate::words::USAGE;
 use spx_core::Program;
 use spx_report::{Finding, Findings, LimitName, refusal_text, report_text};
+use spx_run::RunResult;
 use spx_text::Text;
 use sqlite_items::Items;
 use std::alloc::{AllocError, Global};
@@ -24,6 +25,21 @@ pub enum Judgement {
     Examined(Program, Findings),
     /// The conditions of a program, as they are printed.
     Listed(Text),
+    /// What a run comes to.
+    Ran(RunResult),
+}
+
+/// How the program ends after a run.
+fn run_status(run: &RunResult) -> Status
+    ensures { result ≡ status_of_run run.now }
+{
+    match run {
+        RunResult::Refused(_) => Status::Refused,
+        RunResult::TooLarge => Status::Limit,
+        RunResult::Faulted(_) => Status::RunFault,
+        RunResult::NotEnded(_) => Status::NotEnded,
+        RunResult::Ended(_) => Status::Accepted,
+    }
 }
 
 impl Judgement {
@@ -38,6 +54,7 @@ impl Judgement {
             Judgement::Examined(_, findings) if findings.lines.is_empty() => Status::Accepted,
             Judgement::Examined(_, _) => Status::Refused,
             Judgement::Listed(_) => Status::Accepted,
+            Judgement::Ran(run) => run_status(run),
         }
     }
 
@@ -51,6 +68,7 @@ impl Judgement {
             Judgement::Refused(lines) => refusal_text(alloc, files, lines.as_slice()),
             Judgement::Examined(program, findings) => report_text(alloc, program, files, findings),
             Judgement::Listed(text) => Vec::from_slice(alloc, text.as_bytes()),
+            Judgement::Ran(run) => run.text(alloc, files),
         }
     }
 }

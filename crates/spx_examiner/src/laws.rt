@@ -6,6 +6,7 @@ use spx_core::laws::{name_breaches, one_program, rule_breaches};
 use spx_lexer::some_spelling;
 use spx_parse_unit::{one_answer, one_tree, some_answer};
 use spx_report::laws::{one_list_of_flow_lines, some_list_of_flow_lines};
+use spx_run::laws::{one_reading, some_reading};
 use spx_tree::{one_spelling, one_stop};
 
 /// The laws of the crates below.
@@ -20,6 +21,7 @@ pub(crate) fn laws_below()
     name_breaches();
     rule_breaches();
     one_list_of_flow_lines();
+    one_reading();
 }
 
 /// The laws of the crates below by which something is there.
@@ -31,6 +33,7 @@ fn laws_of_existence()
     name_breaches();
     rule_breaches();
     some_list_of_flow_lines();
+    some_reading();
 }
 
 /// Words, and contents of the files that they name, have a judgement.

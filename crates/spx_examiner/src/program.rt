@@ -1,25 +1,29 @@
 // The whole program.
-ghost use Rattle.std.specs.Prelude.{◌≡◌, ◌≢◌, ◌⊎◌, ◌↔◌, ◌≤◌, ℕ, List, [], ◌∷◌, length, IfOk, IsErrOf};
+ghost use Rattle.std.specs.Prelude.{◌≡◌, ◌≢◌, ◌⊎◌, ◌↔◌, ◌<◌, ◌≤◌, ℕ, List, length, IfOk, IsErrOf};
+ghost use Rattle.std.specs.List.{list_any};
 ghost use Rattle.spx_text.specs.Loads.{names};
 ghost use Rattle.spx_text.specs.Writes.{Rose};
-ghost use Rattle.spx_examiner.specs.Words.{AsksForCheck, AsksForConditions, HasNoForm, request_of};
+ghost use Rattle.spx_examiner.specs.Words.{AsksForCheck, AsksForConditions, HasNoForm};
+ghost use Rattle.spx_words.specs.Words.{request_of};
 ghost use Rattle.spx_examiner.specs.Judgement.{status_of, text_of};
-ghost use Rattle.spx_examiner.specs.Causes.{Concludes, Exactly, ForFiles, MayHold, OneFailed, WhereKnown, named};
+ghost use Rattle.spx_examiner.specs.Causes as causes;
+ghost use Rattle.spx_examiner.specs.Causes.{Concludes, Exactly, ForFiles, MayHold, OneFailed, WhereKnown, contents_of, named};
 ghost use Rattle.spx_paths.specs.Fit.{Clean, Fit};
 ghost use Rattle.spx_meaning.specs.Laws.{NeverBad, TwoRuns};
-ghost use Rattle.spx_examiner.specs.Outcome.{AreAcceptable, AreFit, AreListed, AreRefusable, AreReliable, EndsAs, IsAssured, IsCutShortAs, IsJudgedOn, IsJudgement, PassesLimit};
+ghost use Rattle.spx_examiner.specs.Outcome.{AreAcceptable, AreFit, AreListed, AreRefusable, AreReliable, EndsAs, EndsBadly, HasNotEnded, IsAssured, IsCutShortAs, IsJudgedOn, IsJudgement, PassLimit, Stand};
 
 use crate::Status;
 use crate::judgement::Judgement;
 use crate::laws::laws_below;
 use crate::load::{MOST_BYTES, load_all};
 use crate::phases::judge;
-use crate::words::{Command, asked};
+use crate::words::{asked, file_names};
 use spx_core::Program;
 use spx_report::LimitName;
 use spx_sound::{clean_is_fit, never_bad};
 use spx_text::{Failed, Files, LoadFault, Sink, write_all_pieces};
 use spx_twin::two_runs;
+use spx_words::CommandWords;
 use std::alloc::{AllocError, Global};
 
 /// What ends the work before there is a text.
@@ -46,34 +50,49 @@ struct Report {
     text: Vec<u8>,
 }
 
-/// What there is to report on the file with these bytes.
-fn examined(alloc: Global, command: &Command<'_>, bytes: &[u8]) -> Result<Judgement, AllocError>
-    ensures report { IfOk result (IsJudgedOn (request_of command.now) (bytes.now ∷ [])) }
-    ensures named { IfOk result (λ judgement. status_of judgement ≢ Status.Usage) }
+fn is_too_long(bytes: &[u8]) -> bool
+    ensures { result ≡ causes.is_too_long bytes.now }
 {
-    if bytes.len() > MOST_BYTES {
-        return Ok(Judgement::Limit(LimitName::FileSize));
-    }
-    judge(alloc, command, bytes)
+    bytes.len() > MOST_BYTES
 }
 
-/// What there is to report on the file of this name.
+fn any_too_long(contents: &[Vec<u8>]) -> bool
+    ensures { result ≡ list_any (λ bytes. causes.is_too_long bytes.items) contents.now }
+{
+    contents.iter().any(|bytes| is_too_long(bytes.as_slice()))
+}
+
+/// What there is to report on files with these contents, of which the first is the program.
+fn examined(
+    alloc: Global,
+    command: &CommandWords<'_>,
+    contents: &[Vec<u8>],
+) -> Result<Judgement, AllocError>
+    requires { 0 < length contents.now }
+    ensures { IfOk result (IsJudgedOn (request_of command.now) (contents_of contents.now)) }
+{
+    if any_too_long(contents) {
+        return Ok(Judgement::Limit(LimitName::FileSize));
+    }
+    judge(alloc, command, contents[0].as_slice(), &contents[1..])
+}
+
+/// What there is to report on the files of these names.
 #[tactic(auto, using(crate::proofs::Endings::endings))]
 fn judged<F: Files>(
     alloc: Global,
-    command: &Command<'_>,
+    command: &CommandWords<'_>,
     named: &[String],
     files: &mut F,
 ) -> Result<Judgement, Stop>
-    requires { length named.now ≡ 1 }
-    ensures named { IfOk result (λ judgement. status_of judgement ≢ Status.Usage) }
+    requires { 0 < length named.now }
     ensures judged { IfOk result (λ judgement. (contents : List (List ℕ)) × MayHold (F.known files.old) (names named.now) contents × IsJudgedOn (request_of command.now) contents judgement) }
     ensures known { (name : List ℕ) → F.known files.new name ≡ F.known files.old name }
     ensures failed { IsErrOf result Stop.ReadFault → OneFailed (names named.now) (F.failed files.old) (F.failed files.new) }
     ensures none_failed { (IsErrOf result Stop.ReadFault → ⊥) → F.failed files.new ≡ F.failed files.old }
 {
     match load_all(alloc, named, files) {
-        Ok(loaded) => Ok(examined(alloc, command, loaded[0].as_slice())?),
+        Ok(loaded) => Ok(examined(alloc, command, loaded.as_slice())?),
         Err(LoadFault::TooLong) => Ok(Judgement::Limit(LimitName::FileSize)),
         Err(LoadFault::Failed) => Err(Stop::ReadFault),
         Err(LoadFault::Memory) => Err(Stop::NoMemory),
@@ -108,14 +127,14 @@ fn assure(judgement: &Judgement)
         Judgement::Refused(_) => {}
         Judgement::Examined(program, _) => rely_on(program),
         Judgement::Listed(_) => {}
+        Judgement::Ran(_) => {}
     }
 }
 
 /// All the work but the writing.
-#[tactic(auto, using(crate::proofs::Endings::one_file))]
+#[tactic(auto, using(crate::proofs::Endings::some_named))]
 fn prepare<F: Files>(alloc: Global, words: &[String], files: &mut F) -> Result<Report, Stop>
     ensures text { IfOk result (λ made. made.text.items ≡ text_of (named (names words.now)) made.judgement) }
-    ensures usage { IfOk result (λ made. (status_of made.judgement ≡ Status.Usage) ↔ HasNoForm (names words.now)) }
     ensures judged { IfOk result (λ made. ForFiles (F.known files.old) (names words.now) (λ contents. IsJudgement (names words.now) contents made.judgement)) }
     ensures known { (name : List ℕ) → F.known files.new name ≡ F.known files.old name }
     ensures failed { IsErrOf result Stop.ReadFault → OneFailed (named (names words.now)) (F.failed files.old) (F.failed files.new) }
@@ -124,15 +143,15 @@ fn prepare<F: Files>(alloc: Global, words: &[String], files: &mut F) -> Result<R
     let Some(command) = asked(alloc, words)? else {
         return Ok(reported(alloc, &[], Judgement::Usage)?);
     };
-    let named = command.files(alloc)?;
+    let named = file_names(alloc, &command)?;
     let judgement = judged(alloc, &command, named.as_slice(), files)?;
     Ok(reported(alloc, named.as_slice(), judgement)?)
 }
 
 /// Does all that the program does, with the words after its name.
 ///
-/// The status is `Accepted` or `Refused` where the report on the files or the conditions were written, `Usage` and `Limit` where
-/// the one line of that name was. Only the two faults and out of memory are answers that the words and the files do not
+/// The status is `Accepted` or `Refused` where the report on the files, the conditions or what the run comes to were written, and
+/// `Usage`, `Limit`, `RunFault` and `NotEnded` where the one line of that name was. Only the two faults and out of memory are answers that the words and the files do not
 /// decide.
 pub fn examine<F: Files, S: Sink>(
     alloc: Global,
@@ -162,13 +181,19 @@ pub fn examine<F: Files, S: Sink>(
         → F.failed files.new ≡ F.failed files.old → ¬ Rose (S.faults sink.old) (S.faults sink.new)
         → (result ≡ Status.Accepted) ⊎ (result ≡ Status.NoMemory)) }
 
-    // A check is accepted exactly where there is nothing to report; conditions, where there is nothing to report before them.
+    // A check is accepted exactly where there is nothing to report; conditions, where there is nothing to report before them; a run, where
+    // it ends well.
     ensures accepted { WhereKnown (F.known files.old) (names words.now) (λ contents.
         Exactly Status.Accepted (AreAcceptable (names words.now) contents) result) }
     ensures refused { WhereKnown (F.known files.old) (names words.now) (λ contents.
         Exactly Status.Refused (AreRefusable (names words.now) contents) result) }
     ensures usage { Exactly Status.Usage (HasNoForm (names words.now)) result }
-    ensures limit { WhereKnown (F.known files.old) (names words.now) (λ contents. Exactly Status.Limit (PassesLimit contents) result) }
+    ensures limit { WhereKnown (F.known files.old) (names words.now) (λ contents.
+        Exactly Status.Limit (PassLimit (names words.now) contents) result) }
+    ensures run_fault { WhereKnown (F.known files.old) (names words.now) (λ contents.
+        Exactly Status.RunFault (Stand EndsBadly (names words.now) contents) result) }
+    ensures not_ended { WhereKnown (F.known files.old) (names words.now) (λ contents.
+        Exactly Status.NotEnded (Stand HasNotEnded (names words.now) contents) result) }
 
     // A read fault comes exactly where a load failed, of a file that the words name.
     ensures read_fault { result ≡ Status.ReadFault → OneFailed (named (names words.now)) (F.failed files.old) (F.failed files.new) }

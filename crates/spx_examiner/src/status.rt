@@ -5,7 +5,7 @@ ghost use Rattle.spx_examiner.specs.Codes.{code_of};
 /// How the program ended.
 #[derive(Clone, Copy, Debug, PartialEq, Eq)]
 pub enum Status {
-    /// There is no finding, or the conditions are printed.
+    /// There is no finding, the conditions are printed, or the run ended.
     Accepted,
     /// There are findings.
     Refused,
@@ -18,6 +18,10 @@ pub enum Status {
     NoMemory,
     /// A counted quantity passes its greatest number.
     Limit,
+    /// A check of the run fails.
+    RunFault,
+    /// The run does not end within its turns.
+    NotEnded,
 }
 
 impl Status {
@@ -33,6 +37,8 @@ impl Status {
             Status::WriteFault => 4,
             Status::NoMemory => 5,
             Status::Limit => 6,
+            Status::RunFault => 7,
+            Status::NotEnded => 8,
         }
     }
 }

@@ -155,6 +155,61 @@ fn conditions_are_printed(rt: HostRuntime) -> Result<(), Fail> {
     Ok(())
 }
 
+// A run ends, ends with a fault, or is refused: for its inputs first, and then for a broken rule.
+#[test]
+fn runs(rt: HostRuntime) -> Result<(), Fail> {
+    let alloc = rt.alloc();
+    let rows = [
+        (INC, "Inc", "X = 5\n", Status::Accepted, "X = 6\n"),
+        (
+            WITHOUT_PRE,
+            "inc",
+            "x = 2147483647\n",
+            Status::RunFault,
+            "fault: overflow at f.adb:5:11\n",
+        ),
+        (
+            UNDECLARED,
+            "P",
+            "X 5\n",
+            Status::Refused,
+            "i.txt:1:1: I1 bad input line\nrefused: 1\n",
+        ),
+        (
+            UNDECLARED,
+            "P",
+            "X = 5\n",
+            Status::Refused,
+            "f.adb:5:9: N1 name is not declared here\nrefused: 1\n",
+        ),
+        (
+            INC,
+            "P",
+            "X = 5\n",
+            Status::Refused,
+            "I5 no such subprogram: P\nrefused: 1\n",
+        ),
+    ];
+    for (text, entry, inputs, status, printed) in rows {
+        let mut words = words(alloc, "run f.adb --inputs i.txt --entry")?;
+        words.push(String::from_str(alloc, entry)?)?;
+        let mut held = held(alloc, "f.adb", text.as_bytes())?;
+        held.push(HeldFile {
+            name: String::from_str(alloc, "i.txt")?,
+            bytes: Vec::from_slice(alloc, inputs.as_bytes())?,
+        })?;
+        let mut files = MemFiles::new(alloc, held, Vec::new(alloc));
+        let mut sink = MemSink::new(alloc, 1000, 1000, Vec::new(alloc))?;
+        assert_eq!(rt;
+            examine(alloc, words.as_slice(), &mut files, &mut sink),
+            status,
+            "{printed}"
+        );
+        assert_eq!(rt; sink.taken.as_slice(), printed.as_bytes());
+    }
+    Ok(())
+}
+
 // Names and types come before rules on variables, and those before flow, of which all is reported.
 #[test]
 fn rules_come_in_order(rt: HostRuntime) -> Result<(), Fail> {
@@ -218,6 +273,12 @@ fn nothing_is_read(rt: HostRuntime) -> Result<(), Fail> {
         ("check inc.adb inc.adb", Status::Usage, USAGE),
         ("conditions", Status::Usage, USAGE),
         ("conditions other.adb", Status::ReadFault, ""),
+        ("run inc.adb", Status::Usage, USAGE),
+        (
+            "run inc.adb --entry Inc --inputs other.txt",
+            Status::ReadFault,
+            "",
+        ),
         ("examine inc.adb", Status::Usage, USAGE),
         ("check other.adb", Status::ReadFault, ""),
     ];

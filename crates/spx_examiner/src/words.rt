@@ -1,7 +1,7 @@
 // What the words of a command ask for.
-ghost use Rattle.std.specs.Prelude.{◌≡◌, [], ◌∷◌, IfOk, option_and_then, option_map};
+ghost use Rattle.std.specs.Prelude.{◌≡◌, [], ◌∷◌, IfOk, option_map, option_to_list};
 ghost use Rattle.spx_text.specs.Loads.{names};
-ghost use Rattle.spx_words.specs.Words.{request_of};
+ghost use Rattle.spx_words.specs.Words.{request_of, text_of};
 ghost use Rattle.spx_examiner.specs.Words as spec;
 
 use spx_words::{CommandWords, read_words};
@@ -10,15 +10,6 @@ use std::alloc::{AllocError, Global};
 /// What is printed where the words have the form of no command.
 pub const USAGE: &[u8] =
     b"usage: check [--proofs FILE] FILE... | conditions FILE... | run --entry NAME [--turns N] [--inputs FILE] FILE... | workload N\n";
-
-/// What the program does with a file. The name of the file is borrowed from the words.
-#[derive(Clone, Copy, Debug)]
-pub enum Command<'a> {
-    /// `check FILE`
-    Check(&'a str),
-    /// `conditions FILE`
-    Conditions(&'a str),
-}
 
 /// The one name of a file.
 pub fn one_name(alloc: Global, file: &str) -> Result<Vec<String>, AllocError>
@@ -29,33 +20,32 @@ pub fn one_name(alloc: Global, file: &str) -> Result<Vec<String>, AllocError>
     Ok(all)
 }
 
-impl Command<'_> {
-    /// The names of the files that are asked about, in the order in which they are loaded.
-    pub fn files(&self, alloc: Global) -> Result<Vec<String>, AllocError>
-        ensures { IfOk result (λ all. names all.items ≡ spec.files_in (spec.request_of self.now)) }
-    {
-        match self {
-            Command::Check(file) => one_name(alloc, file),
-            Command::Conditions(file) => one_name(alloc, file),
-        }
+/// The name of a file, and that of its inputs where there is one.
+fn with_inputs(alloc: Global, file: &str, inputs: Option<&str>) -> Result<Vec<String>, AllocError>
+    ensures { IfOk result (λ all. names all.items ≡ file.now ∷ option_to_list (option_map text_of inputs.entry)) }
+{
+    let mut all = one_name(alloc, file)?;
+    if let Some(inputs) = inputs {
+        all.push(String::from_str(alloc, inputs)?)?;
     }
+    Ok(all)
 }
 
-/// What the program does of what words can ask for: there is no run yet.
-fn without_runs<'a>(given: Option<CommandWords<'a>>) -> Option<Command<'a>>
-    ensures { option_map spec.request_of result ≡ option_and_then spec.without_runs (option_map request_of given.entry) }
+/// The names of the files that are asked about, in the order in which they are loaded.
+pub fn file_names(alloc: Global, command: &CommandWords<'_>) -> Result<Vec<String>, AllocError>
+    ensures { IfOk result (λ all. names all.items ≡ spec.files_in (request_of command.now)) }
 {
-    match given {
-        Some(CommandWords::Check { file }) => Some(Command::Check(file)),
-        Some(CommandWords::Conditions { file }) => Some(Command::Conditions(file)),
-        Some(CommandWords::Run { .. }) | None => None,
+    match command {
+        CommandWords::Check { file } => one_name(alloc, file),
+        CommandWords::Conditions { file } => one_name(alloc, file),
+        CommandWords::Run { inputs, file, .. } => with_inputs(alloc, file, *inputs),
     }
 }
 
 /// What the words ask for, and nothing where they have the form of no command.
 #[tactic(auto, unfolding(crate::specs::Words::asked))]
-pub fn asked<'a>(alloc: Global, words: &'a [String]) -> Result<Option<Command<'a>>, AllocError>
-    ensures { IfOk result (λ command. option_map spec.request_of command ≡ spec.asked (names words.entry.now)) }
+pub fn asked<'a>(alloc: Global, words: &'a [String]) -> Result<Option<CommandWords<'a>>, AllocError>
+    ensures { IfOk result (λ command. option_map request_of command ≡ spec.asked (names words.entry.now)) }
 {
-    Ok(without_runs(read_words(alloc, words)?))
+    read_words(alloc, words)
 }

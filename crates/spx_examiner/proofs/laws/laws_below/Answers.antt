@@ -10,4 +10,5 @@ returns c = record {
   breach = c.name_breaches.ensures.kept;
   obeyed = λ p obeys. (c.rule_breaches.ensures p).1 obeys;
   lines = c.one_list_of_flow_lines.ensures;
+  inputs = c.one_reading.ensures;
 }

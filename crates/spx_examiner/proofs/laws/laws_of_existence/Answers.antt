@@ -7,4 +7,5 @@ returns c = record {
   program = c.name_breaches.ensures.none;
   obeyed = λ p none. (c.rule_breaches.ensures p).0 none;
   lines = c.some_list_of_flow_lines.ensures;
+  inputs = c.some_reading.ensures;
 }

@@ -1,12 +1,15 @@
-use Rattle.std.proofs.Common.{refl, sym, subst}
-use Rattle.spx_core.specs.Statements.{first_name_breach}
-use Rattle.spx_resolve.specs.Explains.{Explains}
-use Rattle.spx_examiner.specs.Outcome.{IsReportOnUnits, of_names}
-use Rattle.spx_examiner.specs.Words.{request_of}
+use Rattle.std.proofs.Common.{[], ◌∷◌, Err, ap, ◌∙◌}
+use Rattle.spx_text.specs.declared.place.Place.{Place}
+use Rattle.spx_run.specs.declared.inputs.InputFault.{InputFault}
+use Rattle.spx_run.specs.declared.result.InputFinding.TheVariants.{BadLine}
+use Rattle.spx_run.specs.declared.result.RunResult.TheVariants.{Refused}
+use Rattle.spx_examiner.specs.declared.judgement.Judgement.TheVariants.{Ran}
+use Rattle.spx_examiner.specs.Outcome.{of_line}
 use Rattle.spx_examiner.proofs.Spelled.{if_ok}
 use Rattle.spx_examiner.proofs.phases.examined.Goals as goal
 
-pub returns-in-Err-Breach-clause-report : goal.returns-in-Err-Breach-clause-report
-returns-in-Err-Breach-clause-report c =
-    let first = subst (Explains (first_name_breach c.args.units.now)) c.in-Err-Breach.field-0-is c.in-Err-Breach.ensures.breach in
-    if_ok c.refused_by.result _ _ (λ j is. subst (IsReportOnUnits (request_of c.args.command.now) c.args.units.now) (sym is) (of_names c.in-Err-Breach.breach first refl)) c.refused_by.ensures
+pub returns-in-Err-BadLine : goal.returns-in-Err-BadLine
+returns-in-Err-BadLine c =
+    let place = c.in-Err-BadLine.place in
+    let bad = c.in-Err-BadLine.ensures.bad place (ap (λ (fault : InputFault). Err fault) c.in-Err-BadLine.field-0-is) in
+    if_ok c.refused_at.result _ _ (λ j is. of_line place.line bad.0 (is ∙ ap (λ (p : Place). Ran (Refused (BadLine p ∷ []))) bad.1)) c.refused_at.ensures

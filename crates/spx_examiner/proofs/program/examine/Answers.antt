@@ -1,9 +1,9 @@
-use Rattle.std.proofs.Common.{rules, ◌≡◌, inl}
+use Rattle.std.proofs.Common.{rules, ◌≡◌, inl, inr, sym, ◌∙◌}
 use Rattle.spx_text.specs.Loads.{names}
-use Rattle.spx_examiner.specs.declared.status.Status.TheVariants.{Accepted, Refused, Limit}
+use Rattle.spx_examiner.specs.declared.status.Status.TheVariants.{Accepted, Refused, Usage, Limit, RunFault, NotEnded}
 use Rattle.spx_examiner.specs.Judgement.{status_of}
 use Rattle.spx_examiner.proofs.Loading.{where_known}
-use Rattle.spx_examiner.proofs.Reliable.{accepted_where, as_many, limited_where, lists_conditions, refused_where, reliable}
+use Rattle.spx_examiner.proofs.Reliable.{causes, lists_conditions, reliable}
 use Rattle.spx_examiner.proofs.program.examine.Goals as goal
 
 pub returns-in-Ok-write_all_pieces-clause-outcome : goal.returns-in-Ok-write_all_pieces-clause-outcome
@@ -24,24 +24,34 @@ returns-in-Ok-write_all_pieces-clause-clean g c = λ check contents are_known ac
 
 pub returns-in-Ok-write_all_pieces-clause-complete : goal.returns-in-Ok-write_all_pieces-clause-complete
 returns-in-Ok-write_all_pieces-clause-complete g c = λ contents are_known acceptable loads writes.
-    let exact = accepted_where c.laws_below.ensures (names c.args.words.now) contents c.in-Ok.made.judgement (where_known (g.F.Files.known c.args.files.now) (names c.args.words.now) contents _ c.in-Ok.ensures.judged are_known) in
-    let same : status_of c.in-Ok.made.judgement ≡ Accepted = exact.1 acceptable in
+    let exact = causes c.laws_below.ensures (names c.args.words.now) contents c.in-Ok.made.judgement (where_known (g.F.Files.known c.args.files.now) (names c.args.words.now) contents _ c.in-Ok.ensures.judged are_known) in
+    let same : status_of c.in-Ok.made.judgement ≡ Accepted = exact.accepted.1 acceptable in
     inl (search rules)
 
 pub returns-in-Ok-write_all_pieces-clause-accepted : goal.returns-in-Ok-write_all_pieces-clause-accepted
 returns-in-Ok-write_all_pieces-clause-accepted g c = λ contents are_known concludes.
-    let exact = accepted_where c.laws_below.ensures (names c.args.words.now) contents c.in-Ok.made.judgement (where_known (g.F.Files.known c.args.files.now) (names c.args.words.now) contents _ c.in-Ok.ensures.judged are_known) in
-    ((λ accepted. exact.0 (search rules)), λ acceptable. let same : status_of c.in-Ok.made.judgement ≡ Accepted = exact.1 acceptable in search rules)
+    let exact = causes c.laws_below.ensures (names c.args.words.now) contents c.in-Ok.made.judgement (where_known (g.F.Files.known c.args.files.now) (names c.args.words.now) contents _ c.in-Ok.ensures.judged are_known) in
+    ((λ is. exact.accepted.0 (search rules)), λ cause. let same : status_of c.in-Ok.made.judgement ≡ Accepted = exact.accepted.1 cause in search rules)
 
 pub returns-in-Ok-write_all_pieces-clause-refused : goal.returns-in-Ok-write_all_pieces-clause-refused
 returns-in-Ok-write_all_pieces-clause-refused g c = λ contents are_known concludes.
-    let exact = refused_where c.laws_below.ensures (names c.args.words.now) contents c.in-Ok.made.judgement (where_known (g.F.Files.known c.args.files.now) (names c.args.words.now) contents _ c.in-Ok.ensures.judged are_known) in
-    ((λ refused. exact.0 (search rules)), λ refusable. let same : status_of c.in-Ok.made.judgement ≡ Refused = exact.1 refusable in search rules)
+    let exact = causes c.laws_below.ensures (names c.args.words.now) contents c.in-Ok.made.judgement (where_known (g.F.Files.known c.args.files.now) (names c.args.words.now) contents _ c.in-Ok.ensures.judged are_known) in
+    ((λ is. exact.refused.0 (search rules)), λ cause. let same : status_of c.in-Ok.made.judgement ≡ Refused = exact.refused.1 cause in search rules)
 
 pub returns-in-Ok-write_all_pieces-clause-limit : goal.returns-in-Ok-write_all_pieces-clause-limit
 returns-in-Ok-write_all_pieces-clause-limit g c = λ contents are_known concludes.
-    let exact = limited_where c.laws_below.ensures (names c.args.words.now) contents c.in-Ok.made.judgement (as_many (g.F.Files.known c.args.files.now) (names c.args.words.now) contents are_known) (where_known (g.F.Files.known c.args.files.now) (names c.args.words.now) contents _ c.in-Ok.ensures.judged are_known) in
-    ((λ limited. exact.0 (search rules)), λ passes. let same : status_of c.in-Ok.made.judgement ≡ Limit = exact.1 passes in search rules)
+    let exact = causes c.laws_below.ensures (names c.args.words.now) contents c.in-Ok.made.judgement (where_known (g.F.Files.known c.args.files.now) (names c.args.words.now) contents _ c.in-Ok.ensures.judged are_known) in
+    ((λ is. exact.limited.0 (search rules)), λ cause. let same : status_of c.in-Ok.made.judgement ≡ Limit = exact.limited.1 cause in search rules)
+
+pub returns-in-Ok-write_all_pieces-clause-run_fault : goal.returns-in-Ok-write_all_pieces-clause-run_fault
+returns-in-Ok-write_all_pieces-clause-run_fault g c = λ contents are_known concludes.
+    let exact = causes c.laws_below.ensures (names c.args.words.now) contents c.in-Ok.made.judgement (where_known (g.F.Files.known c.args.files.now) (names c.args.words.now) contents _ c.in-Ok.ensures.judged are_known) in
+    ((λ is. exact.run_fault.0 (search rules)), λ cause. let same : status_of c.in-Ok.made.judgement ≡ RunFault = exact.run_fault.1 cause in search rules)
+
+pub returns-in-Ok-write_all_pieces-clause-not_ended : goal.returns-in-Ok-write_all_pieces-clause-not_ended
+returns-in-Ok-write_all_pieces-clause-not_ended g c = λ contents are_known concludes.
+    let exact = causes c.laws_below.ensures (names c.args.words.now) contents c.in-Ok.made.judgement (where_known (g.F.Files.known c.args.files.now) (names c.args.words.now) contents _ c.in-Ok.ensures.judged are_known) in
+    ((λ is. exact.not_ended.0 (search rules)), λ cause. let same : status_of c.in-Ok.made.judgement ≡ NotEnded = exact.not_ended.1 cause in search rules)
 
 pub returns-clause-part : goal.returns-clause-part
 returns-clause-part g c = λ fault.
@@ -54,3 +64,15 @@ returns-in-Ok-write_all_pieces-clause-listed g c = λ asks accepted.
     let (contents, holds, judged) = c.in-Ok.ensures.judged in
     let (p, only, text) = lists_conditions c.laws_below.ensures (names c.args.words.now) contents c.in-Ok.made.judgement judged asks same in
     (contents, holds, (p, only, rw (← text) (search rules)))
+
+pub returns-in-Ok-write_all_pieces-clause-usage : goal.returns-in-Ok-write_all_pieces-clause-usage
+returns-in-Ok-write_all_pieces-clause-usage g c = λ concludes.
+    let (contents, holds, judged) = c.in-Ok.ensures.judged in
+    let exact = causes c.laws_below.ensures (names c.args.words.now) contents c.in-Ok.made.judgement judged in
+    ((λ is. exact.usage.0 (search rules)), λ none. let same : status_of c.in-Ok.made.judgement ≡ Usage = exact.usage.1 none in search rules)
+
+pub returns-in-Ok-write_all_pieces-clause-nothing : goal.returns-in-Ok-write_all_pieces-clause-nothing
+returns-in-Ok-write_all_pieces-clause-nothing g c = λ fault.
+    let (contents, holds, judged) = c.in-Ok.ensures.judged in
+    let own = (causes c.laws_below.ensures (names c.args.words.now) contents c.in-Ok.made.judgement judged).no_fault in
+    elim fault [ inl e ↦ absurd (own.0 (sym c.status.ensures ∙ e)) | inr e ↦ absurd (own.1 (sym c.status.ensures ∙ e)) ]
