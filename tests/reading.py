@@ -1,7 +1,7 @@
-"""The rules of docs/language.md, read a second time: what `check NAME` must answer on a text.
+"""The rules of docs/language.md, read a second time: what the commands `check`, `conditions` and `run` must answer.
 
-`examine` gives the report and the status. The layers stand in the order of that page, and each is asked only where the
-ones before it had nothing to report. Nothing here looks at the program.
+`answered` gives the report and the status, and `examine` those of `check NAME` on a text. The layers stand in the order of
+that page, and each is asked only where the ones before it had nothing to report. Nothing here looks at the program.
 """
 
 import re
@@ -21,6 +21,8 @@ MOST_LEVELS = 200
 MOST_VARIABLES = 4096
 MOST_PATHS = 4096
 MOST_NODES = 1000000
+MOST_TURNS = 1000000000
+TURNS = 1000000
 USAGE = ('usage: check [--proofs FILE] FILE... | conditions FILE... | '
          'run --entry NAME [--turns N] [--inputs FILE] FILE... | workload N\n')
 
@@ -74,6 +76,22 @@ class TooManyPaths(Exception):
 
 class TooManyNodes(Exception):
     """A verification condition has more nodes than one may have."""
+
+
+class TooManyBits(Exception):
+    """A run computes a number in an annotation that 128 bits do not hold."""
+
+
+class Later(Exception):
+    """A run does not end within its bound."""
+
+
+class BadInputs(Exception):
+    """There is no run, for these reasons, each as it is printed."""
+
+    def __init__(self, *lines):
+        super().__init__(lines)
+        self.lines = lines
 
 
 # What is reported of a breach of each rule that has one text.
@@ -461,7 +479,7 @@ class Null:
 
 @dataclass(frozen=True)
 class Asserted:
-    """`assert condition;` or `check condition;`, which stands at its word. A postcondition is one too, at the word `post`."""
+    """`assert condition;` or `check condition;`, which stands at its word. So do a precondition and a postcondition."""
     word: str
     place: Place
     condition: Expression
@@ -685,7 +703,7 @@ class Procedure:
     name: Name
     formals: list
     derives: Optional[Derives]
-    pre: Optional[Expression]
+    pre: Optional[Asserted]
     post: Optional[Asserted]
     locals: list
     statements: list
@@ -791,7 +809,7 @@ class Parser:
         end = self.take('end').place
         end_name = self.identifier_if()
         self.take(';')
-        return Procedure(place, name, formals, derives, pre and pre.condition, post, declarations, statements, end, end_name)
+        return Procedure(place, name, formals, derives, pre, post, declarations, statements, end, end_name)
 
     def formals(self):
         """["(" param {";" param} ")"]"""
@@ -1260,15 +1278,6 @@ def computed_value(expression, values):
     return expression.moved(values[0]) if isinstance(expression, Applied) else values[0]
 
 
-def stated(expression, store):
-    """The value of an expression of an annotation, which is always there: numbers have no bound, and no check fails."""
-    if expression.value is not None:
-        return expression.value
-    if isinstance(expression, Variable):
-        return store[expression.word]
-    return computed_value(expression, [stated(part, store) for part in parts_of(expression)])
-
-
 # ---------------------------------------------------------------- types and static values
 
 def common_kind(kinds):
@@ -1425,7 +1434,7 @@ class Resolver:
             self.param(param)
         self.outer = EVERYWHERE | {self.tree.name.word(): Entity('subprogram')}
         derives = self.tree.derives and self.derives(self.tree.derives)
-        pre = self.tree.pre and self.condition(self.tree.pre)
+        pre = self.tree.pre and self.asserted(self.tree.pre, set())
         relation = Relation(derives.items if derives else [])
         changed = relation.imported & relation.exported
         post = self.tree.post and self.asserted(self.tree.post, changed)
@@ -1575,7 +1584,7 @@ class Resolver:
         return Item(exports, item.star, imports)
 
     def condition(self, tree):
-        """N10: a precondition, and the condition of an `if`, a `while` or an exit, is Boolean."""
+        """N10: an annotation, and the condition of an `if`, a `while` or an exit, is Boolean."""
         found = self.expression(tree)
         require('N10', found.place, found.kind is BOOLEAN)
         return found
@@ -1872,7 +1881,7 @@ def u8(procedure, relation):
 
 def u11(procedure, relation):
     """U11: the precondition names imports alone, and the postcondition formals alone."""
-    for name in reads(procedure.pre):
+    for name in reads(procedure.pre and procedure.pre.condition):
         require('U11', name.place, name.word in relation.imported)
     formals = {formal.word for formal in procedure.formals}
     for name in reads(procedure.post and procedure.post.condition):
@@ -2359,7 +2368,7 @@ def first_facts(procedure):
     for formal in procedure.formals:
         if formal.word in imported:
             facts = with_facts(facts, bounds_of(formal.subtype, values[formal.word]))
-    return with_facts(facts, facts_of(procedure.pre, values)) if procedure.pre else facts
+    return with_facts(facts, facts_of(procedure.pre.condition, values)) if procedure.pre else facts
 
 
 def checks_of(expression, values):
@@ -2442,7 +2451,7 @@ def cut_facts(procedure, counted):
         if formal.word in relation.imported & relation.exported:
             facts = with_facts(facts, bounds_of(formal.subtype, on_entry[formal.word]))
     facts = with_facts(facts, counted)
-    return with_facts(facts, facts_of(procedure.pre, on_entry)) if procedure.pre else facts
+    return with_facts(facts, facts_of(procedure.pre.condition, on_entry)) if procedure.pre else facts
 
 
 class Walk:
@@ -2977,6 +2986,304 @@ def closes(condition):
     return closes_folded(folded(conjunction(condition.goals)), hypotheses)
 
 
+# ---------------------------------------------------------------- terms as they are printed
+
+# The operators whose operands are numbers, but for relations.
+OF_NUMBERS = ('+', '-', '*', '/', 'rem', 'mod', '**')
+PREFIX_TEXTS = {'-': '-', 'abs': 'abs ', 'not': 'not '}
+
+
+class Printer:
+    """Prints the terms of a procedure."""
+
+    def __init__(self, procedure):
+        self.spelled = procedure.spelled
+        self.exported = Relation(procedure.items()).exported
+
+    def text(self, term):
+        """A term by itself."""
+        if isinstance(term, PrefixTerm):
+            return PREFIX_TEXTS[term.operator] + self.operand(term.operand, term.operator != 'not')
+        if isinstance(term, InfixTerm):
+            left, right = [self.operand(side, term.operator in OF_NUMBERS) for side in (term.left, term.right)]
+            return f'{left} {term.operator} {right}'
+        if isinstance(term, NumberTerm):
+            return str(term.value)
+        if isinstance(term, TruthTerm):
+            return 'true' if term.value else 'false'
+        return self.entry_name(term.word) if isinstance(term, EntryTerm) else self.later_name(term.word)
+
+    def operand(self, term, is_of_numbers):
+        """An operation has parentheses. So has a number below 0, where an operation on numbers takes it."""
+        is_operation = isinstance(term, (PrefixTerm, InfixTerm))
+        is_negative = is_of_numbers and isinstance(term, NumberTerm) and term.value < 0
+        return f'({self.text(term)})' if is_operation or is_negative else self.text(term)
+
+    def entry_name(self, word):
+        """The value on entry of what is exported has `~`; what is not exported has one value."""
+        return self.spelled[word] + ('~' if word in self.exported else '')
+
+    def later_name(self, word):
+        """A variable after a cut, or a bound of a loop: `I!first` or `I!last`."""
+        if word in self.spelled:
+            return self.spelled[word]
+        parameter, end_of_range = word.rsplit(' ', 1)
+        return f'{self.spelled[parameter]}!{end_of_range}'
+
+
+def listed_conditions(name, procedure, conditions):
+    """The lines of each condition: its name, kind and place, its hypotheses, its goals."""
+    printer = Printer(procedure)
+    for condition in conditions:
+        place = condition.place
+        yield f'{procedure.name.text}.{condition.number} {condition.kind} {name}:{place.line}:{place.column}'
+        for letter, terms in (('H', condition.hypotheses), ('G', condition.goals)):
+            for at, term in enumerate(terms, 1):
+                yield f'{letter}{at} {printer.text(term)}'
+
+
+# ---------------------------------------------------------------- inputs
+
+@dataclass(frozen=True)
+class InputLine:
+    """`NAME = VALUE`, by the number of its line. The value is a number, or a word as it is spelled."""
+    number: int
+    name: str
+    value: Union[int, str]
+
+
+def lines_of(text):
+    """The lines of a text, each without its end. A line ends at LF only, and nothing after the last LF is no line."""
+    lines = text.split(b'\n')
+    return lines if lines[-1] else lines[:-1]
+
+
+def inputs_of(name, text):
+    """The lines of inputs. I1: each is of the form, up to the first that is not."""
+    found = []
+    for number, line in enumerate(lines_of(text), 1):
+        read = input_line(number, line)
+        if read is None:
+            raise BadInputs(f'{name}:{number}:1: I1 bad input line')
+        found.append(read)
+    return found
+
+
+def input_line(number, text):
+    """A line of inputs, in the lexemes of the language, if it is one. None of its tokens is in annotation text."""
+    try:
+        tokens = Scanner(text).run()
+    except (Refused, TooManyTokens):
+        return None
+    is_formed = [token.kind for token in tokens[:2]] == ['identifier', '='] and not any(token.marked for token in tokens)
+    value = input_value(tokens[2:]) if is_formed else None
+    return None if value is None else InputLine(number, tokens[0].text, value)
+
+
+def input_value(tokens):
+    """A number, a number after `-`, or a word that is not reserved."""
+    kinds = [token.kind for token in tokens]
+    if kinds in (['number'], ['-', 'number']):
+        value = number_value(tokens[-1].text)
+        return value if len(tokens) == 1 else -value
+    return tokens[0].text if kinds == ['identifier'] else None
+
+
+def given_value(subtype, value):
+    """What is written as a value of a type, if it is one: a number in the type, or `True` or `False` in any letter case."""
+    if subtype.kind is BOOLEAN:
+        return {'true': True, 'false': False}.get(value.lower()) if isinstance(value, str) else None
+    return value if isinstance(value, int) and subtype.has(value) else None
+
+
+def imports_of(procedure):
+    """The type of each import, in the order of the formals."""
+    imported = Relation(procedure.items()).imported
+    return {formal.word: formal.subtype for formal in procedure.formals if formal.word in imported}
+
+
+def input_findings(procedure, name, lines):
+    """I2 and I3 in the order of the lines, at most one on each; then I4 in the order of the formals."""
+    imports, named = imports_of(procedure), set()
+    for line in lines:
+        word = line.name.lower()
+        if word not in imports or word in named:
+            yield f'{name}:{line.number}:1: I2 no such import, or twice'
+        elif given_value(imports[word], line.value) is None:
+            yield f'{name}:{line.number}:1: I3 value is not of the type'
+        named.add(word)
+    for word in imports:
+        if word not in named:
+            yield f'I4 import has no value: {procedure.spelled[word]}'
+
+
+def store_of(procedure, lines):
+    """The store with these inputs, in which each variable with an initial value has that one. All others are unset."""
+    imports = imports_of(procedure)
+    given = {line.name.lower(): given_value(imports[line.name.lower()], line.value) for line in lines}
+    return given | procedure.initial
+
+
+# ---------------------------------------------------------------- runs
+
+class Run:
+    """A call of a procedure, from the store with which its body begins. The store has a value for each variable that is set."""
+
+    def __init__(self, procedure, store):
+        self.procedure = procedure
+        self.on_entry = dict(store)
+        self.store = dict(store)
+
+    def call(self, turns):
+        """The values of the exports at the end, in the order of the formals; or what keeps the run from it is raised."""
+        procedure = self.procedure
+        self.demand(procedure.pre)
+        self.statements(procedure.statements, turns)
+        exported = Relation(procedure.items()).exported
+        exports = [formal.word for formal in procedure.formals if formal.word in exported]
+        if any(word not in self.store for word in exports):
+            raise Fault('unset', procedure.end)
+        self.demand(procedure.post)
+        return {procedure.spelled[word]: self.store[word] for word in exports}
+
+    def demand(self, asserted):
+        """An annotation, if there is one, computes no number that is too wide, and then it is true."""
+        if asserted and not self.stated(asserted.condition):
+            raise Fault(asserted.word, asserted.place)
+
+    def stated(self, expression):
+        """The value of an expression of an annotation. No check fails, and each operand is computed, whatever the others are."""
+        if expression.value is not None:
+            return expression.value
+        if isinstance(expression, (Variable, OnEntry)):
+            return self.seen(expression.word, self.store if isinstance(expression, Variable) else self.on_entry)
+        value = computed_value(expression, [self.stated(part) for part in parts_of(expression)])
+        if is_number(value) and not fits(value):
+            raise TooManyBits
+        return value
+
+    def seen(self, word, store):
+        """In an annotation a variable that is unset counts as the first value of its type."""
+        subtype = self.procedure.subtypes[word]
+        return store.get(word, False if subtype.kind is BOOLEAN else subtype.first)
+
+    def statements(self, statements, turns):
+        """Whether an exit from the loop around the statements is taken, which ends them."""
+        return any(self.statement(statement, turns) for statement in statements)
+
+    def statement(self, statement, turns):
+        """Whether an exit is taken in a statement. Each part has the bound of the whole."""
+        if isinstance(statement, Exit):
+            return statement.condition is None or evaluated(statement.condition, self.store)
+        if isinstance(statement, (If, Case)):
+            return self.statements(self.chosen(statement), turns)
+        if isinstance(statement, Assignment):
+            self.assign(statement)
+        elif isinstance(statement, Asserted):
+            self.demand(statement)
+        elif isinstance(statement, For):
+            self.count(statement, turns)
+        elif isinstance(statement, Loop):
+            self.repeat(statement, turns)
+        return False
+
+    def assign(self, statement):
+        """The value is evaluated, and lies in the type of the target."""
+        word, value = statement.target.word, evaluated(statement.value, self.store)
+        if not self.procedure.subtypes[word].has(value):
+            raise Fault('range', statement.value.place)
+        self.store[word] = value
+
+    def chosen(self, tree):
+        """The statements of the first arm whose condition is true, or those of the alternative that has the value."""
+        if isinstance(tree, If):
+            arms = (arm.statements for arm in tree.arms if evaluated(arm.condition, self.store))
+            return next(arms, tree.otherwise)
+        value = evaluated(tree.selector, self.store)
+        return next(alternative.statements for alternative in tree.alternatives
+                    if alternative.choices is None or any(choice.has(value) for choice in alternative.choices))
+
+    def repeat(self, loop, turns):
+        """A turn and the rest of the loop have one turn less than the loop. What comes after the loop has as many as before it."""
+        while isinstance(loop, Plain) or evaluated(loop.condition, self.store):
+            if turns == 0:
+                raise Later
+            turns -= 1
+            if self.statements(loop.statements, turns):
+                return
+
+    def count(self, loop, turns):
+        """A turn for each value between the bounds, which are evaluated once. Where there is one, both lie in the type."""
+        low, high = [evaluated(bound, self.store) for bound in loop.bounds()]
+        if low <= high and not (loop.type_mark.has(low) and loop.type_mark.has(high)):
+            raise Fault('range', loop.low.place)
+        values = range(low, high + 1)
+        for value in reversed(values) if loop.is_reverse else values:
+            if turns == 0:
+                raise Later
+            turns -= 1
+            self.store[loop.word] = value
+            if self.statements(loop.statements, turns):
+                break
+        self.store.pop(loop.word, None)
+
+
+# ---------------------------------------------------------------- the words of a command
+
+# The options of each command; one file comes with it.
+OPTIONS = {'check': (), 'conditions': (), 'run': ('entry', 'turns', 'inputs')}
+
+
+@dataclass(frozen=True)
+class Asked:
+    """What words ask for."""
+    command: str
+    file: str
+    entry: Optional[str] = None
+    turns: int = TURNS
+    inputs: Optional[str] = None
+
+    def files(self):
+        """The files that are loaded, in their order."""
+        return [self.file] + ([] if self.inputs is None else [self.inputs])
+
+
+def asked_by(words):
+    """What words ask for, if they have the form of a command: options anywhere after its word, each once, and one file."""
+    command, *rest = words or ['']
+    split = options_and_files(OPTIONS.get(command, ()), rest)
+    if command not in OPTIONS or split is None or len(split[1]) != 1:
+        return None
+    given, (file,) = split
+    turns = given.pop('turns', str(TURNS))
+    is_number_of_turns = re.fullmatch('[+]?[0-9]+', turns) and 1 <= int(turns) <= MOST_TURNS
+    if not is_number_of_turns or (command == 'run') != ('entry' in given):
+        return None
+    return Asked(command, file, turns=int(turns), **given)
+
+
+def options_and_files(options, words):
+    """What is given for options, and the files; or nothing where words are neither. `--` ends the options.
+
+    A word that begins with a hyphen is an option, but for a hyphen by itself.
+    """
+    given, files, words = {}, [], list(words)
+    while words:
+        word = words.pop(0)
+        if word == '--':
+            return given, files + words
+        if not word.startswith('-') or word == '-':
+            files.append(word)
+            continue
+        name, mark, value = word[2:].partition('=') if word.startswith('--') else ('', '', '')
+        if name not in options or name in given or not (mark or words):
+            return None
+        given[name] = value if mark else words.pop(0)
+        if not mark and given[name].startswith('-') and given[name] != '-':
+            return None
+    return given, files
+
+
 # ---------------------------------------------------------------- the answer
 
 @dataclass(frozen=True)
@@ -2986,13 +3293,23 @@ class Answer:
     status: int
 
 
-def program_of(text):
-    """The procedures that a text spells, where there is nothing to report of them; else what there is is raised."""
+def trees_of(text):
+    """The trees of the procedures of a text, where it is one of the grammar; else what there is to report of it is raised."""
     scanner = Scanner(text)
     tokens = scanner.run()
-    procedures = resolved(Parser(tokens, scanner.place()).file())
+    return Parser(tokens, scanner.place()).file()
+
+
+def obeying(trees):
+    """The procedures of these trees, where they keep the static rules."""
+    procedures = resolved(trees)
     for procedure in procedures:
         require_rules(procedure)
+    return procedures
+
+
+def flowing(procedures):
+    """The procedures, where there is nothing to report of their flow."""
     if any(len(procedure.words()) + len(procedure.parameters) > MOST_VARIABLES for procedure in procedures):
         raise TooManyVariables
     findings = in_order(finding for procedure in procedures for finding in flow_findings(procedure))
@@ -3022,6 +3339,35 @@ def examined(name, procedures):
     return report_of(name, findings, rows)
 
 
+def listed(name, procedures):
+    """All conditions, in the order of the procedures."""
+    made = [(procedure, within_limits(procedure)) for procedure in procedures]
+    lines = [line for procedure, conditions in made for line in listed_conditions(name, procedure, conditions)]
+    return Answer(''.join(line + '\n' for line in lines), 0)
+
+
+def ran(asked, procedures, lines):
+    """What the run of the entry with these inputs comes to."""
+    entry = next((procedure for procedure in procedures if is_word(procedure.name.text, asked.entry)), None)
+    if entry is None:
+        raise BadInputs(f'I5 no such subprogram: {asked.entry}')
+    findings = list(input_findings(entry, asked.inputs, lines))
+    if findings:
+        raise BadInputs(*findings)
+    try:
+        exports = Run(entry, store_of(entry, lines)).call(asked.turns)
+    except Fault as fault:
+        return Answer(f'fault: {fault.kind} at {asked.file}:{fault.place.line}:{fault.place.column}\n', 7)
+    except Later:
+        return Answer(f'not ended within {asked.turns} turns\n', 8)
+    return Answer(''.join(f'{name} = {value}\n' for name, value in exports.items()), 0)
+
+
+def is_word(first, second):
+    """Whether two spellings are one word: the case of ASCII letters does not count."""
+    return first.encode('utf-8').lower() == second.encode('utf-8').lower()
+
+
 def report_of(name, findings, rows=()):
     """The findings, the rows and the last line."""
     lines = [f'{name}:{finding.place.line}:{finding.place.column}: {finding.rule} {finding.text}' for finding in findings]
@@ -3029,23 +3375,51 @@ def report_of(name, findings, rows=()):
     return Answer('\n'.join([*lines, *rows, verdict]) + '\n', 1 if findings else 0)
 
 
+def bad_inputs(lines):
+    """The findings on inputs, and the last line."""
+    return Answer('\n'.join([*lines, f'refused: {len(lines)}']) + '\n', 1)
+
+
+def limit(name, number):
+    """A limit is passed."""
+    return Answer(f'limit: {name}, at most {number}\n', 6)
+
+
+LIMITS = {TooManyTokens: limit('tokens', MOST_TOKENS), TooNested: limit('nesting', MOST_LEVELS),
+          TooManyVariables: limit('variables', MOST_VARIABLES), TooManyPaths: limit('paths', MOST_PATHS),
+          TooManyNodes: limit('nodes', MOST_NODES), TooManyBits: limit('bits', 128)}
+
+
+def phases(asked, files):
+    """What is answered where all files are loaded. Each phase is asked only where those before it had nothing to report."""
+    trees = trees_of(files[asked.file])
+    lines = [] if asked.inputs is None else inputs_of(asked.inputs, files[asked.inputs])
+    procedures = obeying(trees)
+    if asked.command == 'run':
+        return ran(asked, procedures, lines)
+    return (examined if asked.command == 'check' else listed)(asked.file, flowing(procedures))
+
+
+def answered(words, files):
+    """What words are answered where the files of these names have these bytes, and there are no others."""
+    asked = asked_by(words)
+    if asked is None:
+        return Answer(USAGE, 2)
+    for name in asked.files():
+        if name not in files:
+            return Answer('', 3)
+        if len(files[name]) > MOST_BYTES:
+            return limit('file size', MOST_BYTES)
+    try:
+        return phases(asked, files)
+    except Refused as refused:
+        return report_of(asked.file, refused.findings)
+    except BadInputs as bad:
+        return bad_inputs(bad.lines)
+    except tuple(LIMITS) as passed:
+        return LIMITS[type(passed)]
+
+
 def examine(name, text):
     """What `check NAME` answers where the file of this name has these bytes."""
-    if name.startswith('-'):
-        return Answer(USAGE, 2)
-    if len(text) > MOST_BYTES:
-        return Answer(f'limit: file size, at most {MOST_BYTES}\n', 6)
-    try:
-        return examined(name, program_of(text))
-    except Refused as refused:
-        return report_of(name, refused.findings)
-    except TooManyTokens:
-        return Answer(f'limit: tokens, at most {MOST_TOKENS}\n', 6)
-    except TooNested:
-        return Answer(f'limit: nesting, at most {MOST_LEVELS}\n', 6)
-    except TooManyVariables:
-        return Answer(f'limit: variables, at most {MOST_VARIABLES}\n', 6)
-    except TooManyPaths:
-        return Answer(f'limit: paths, at most {MOST_PATHS}\n', 6)
-    except TooManyNodes:
-        return Answer(f'limit: nodes, at most {MOST_NODES}\n', 6)
+    return answered(['check', name], {name: text})

@@ -1,15 +1,30 @@
 // The cases of a table.
 ghost use Rattle.std.specs.Prelude.{◌≡◌, ◌≢◌, ◌⊎◌, ◌++◌, ◌∷◌, [], ℕ, List, codes, IfSome, IsNone, if◌then◌else◌, true, false};
+ghost use Rattle.spx_table.specs.declared.case.Kind.TheVariants.{Asked, Second, Text};
 
 use std::alloc::{AllocError, Global};
 
-/// The line that begins a case.
+/// What a header begins.
+#[derive(Clone, Copy, Debug, PartialEq, Eq)]
+pub enum Kind {
+    /// A text that is checked.
+    Text,
+    /// A text, with the words that ask of it.
+    Asked,
+    /// A second file for the text above it.
+    Second,
+}
+
+/// The line that begins a text or a second file.
 #[derive(Clone, Copy)]
 pub struct Header<'a> {
-    /// The name of the text.
-    pub name: &'a [u8],
+    pub kind: Kind,
     /// Whether the line end before the next header belongs to the text.
     pub ended: bool,
+    /// The name of the file. For `Asked` the words follow, each after one space.
+    pub label: &'a [u8],
+    /// The whole line.
+    pub line: &'a [u8],
 }
 
 /// A header and the text below it.
@@ -19,16 +34,30 @@ pub struct Case<'a> {
     lines: Vec<u8>,
 }
 
-/// The header that a line is: `%% NAME`, or `%- NAME` where the last line of the text has no end.
+/// The header that a line is: `%% NAME`, `%? NAME WORD..` or `%+ NAME`; or where the last line of the text has no end, `%- NAME` or
+/// `%= NAME`.
 fn read_header(line: &[u8]) -> Option<Header<'_>>
-    ensures mark { IfSome result (λ header. line.now ≡ (if header.ended then codes "%% " else codes "%- ") ++ header.name.now) }
-    ensures none { IsNone result → (name : List ℕ) → (line.now ≢ codes "%% " ++ name) × (line.now ≢ codes "%- " ++ name) }
+    ensures line { IfSome result (λ header. header.line.now ≡ line.now) }
+    ensures text { IfSome result (λ header. header.kind ≡ Text → line.now ≡ (if header.ended then codes "%% " else codes "%- ") ++ header.label.now) }
+    ensures asked { IfSome result (λ header. header.kind ≡ Asked → (header.ended ≡ true) × (line.now ≡ codes "%? " ++ header.label.now)) }
+    ensures second { IfSome result (λ header. header.kind ≡ Second → line.now ≡ (if header.ended then codes "%+ " else codes "%= ") ++ header.label.now) }
+    ensures no_text { IsNone result → (label : List ℕ) → (line.now ≢ codes "%% " ++ label) × (line.now ≢ codes "%- " ++ label) }
+    ensures no_other { IsNone result → (label : List ℕ) → (line.now ≢ codes "%? " ++ label) × (line.now ≢ codes "%+ " ++ label) × (line.now ≢ codes "%= " ++ label) }
 {
-    match line {
-        [b'%', b'%', b' ', name @ ..] => Some(Header { name, ended: true }),
-        [b'%', b'-', b' ', name @ ..] => Some(Header { name, ended: false }),
-        _ => None,
-    }
+    let (kind, ended, label) = match line {
+        [b'%', b'%', b' ', label @ ..] => (Kind::Text, true, label),
+        [b'%', b'-', b' ', label @ ..] => (Kind::Text, false, label),
+        [b'%', b'?', b' ', label @ ..] => (Kind::Asked, true, label),
+        [b'%', b'+', b' ', label @ ..] => (Kind::Second, true, label),
+        [b'%', b'=', b' ', label @ ..] => (Kind::Second, false, label),
+        _ => return None,
+    };
+    Some(Header {
+        kind,
+        ended,
+        label,
+        line,
+    })
 }
 
 /// The line without the line end after it.
@@ -57,7 +86,7 @@ impl<'a> Case<'a> {
     }
 }
 
-/// The cases of a table, in order. Lines before the first header are passed over.
+/// The cases of a table with their second files, in order. Lines before the first header are passed over.
 pub fn cases(alloc: Global, table: &[u8]) -> Result<Vec<Case<'_>>, AllocError> {
     let mut found: Vec<Case<'_>> = Vec::new(alloc);
     for line in table.split_inclusive(|byte| *byte == b'\n') {
