@@ -2,7 +2,10 @@
 """Random texts in the form of the table of crates/spx_table: files of random procedures, and changed ones.
 
     tests/random_texts.py SEED COUNT              writes so many texts; a seed always gives the same ones
-    tests/random_texts.py SEED COUNT --expected   writes what the program of crates/spx_table must print on them
+    tests/random_texts.py SEED COUNT --runs       writes so many texts to be run, with random entries, bounds and inputs
+    tests/random_texts.py SEED COUNT --lists      writes so many texts whose conditions are to be listed
+    tests/random_texts.py SEED COUNT --expected   writes what the program of crates/spx_table must print on them, with the
+                                                  same other option
 """
 
 import argparse
@@ -13,8 +16,8 @@ import sys
 from dataclasses import dataclass, field
 from typing import Optional
 
-from reading import ANNOTATION, RESERVED, examine
-from table import CASES, answer, can_stand, entry, longer
+from reading import ANNOTATION, BOOLEAN, RESERVED, Refused, TooNested, TooManyTokens, answered, imports_of, obeying, trees_of
+from table import CASES, INPUTS, Case, answer, can_stand, entry, longer, run_words, with_line_end
 
 VALUES = ("Integer'First", "Integer'Last", "Natural'First", "Positive'Last", '0', '0', '1', '1', '2', '5', '(-1)', '(-7)', '46340',
           '1073741823', '2147483646', '2147483647')
@@ -72,9 +75,9 @@ ODD_BOUNDS = ((1, 0), (0, 2**63), (-2**63 - 1, 0), (10, 5), (2**64, 2**65))
 ODD_STATIC = ('1 / 0', "Integer'Last + 1", '2 ** 127', '2147483648', "Natural'Last")
 NAMED_VALUES = (0, 1, 2, 2, 3, 5, 10, -1, 31, 100, 2**31 - 1, 2**31, 2**40, 2**100)
 
-# The texts of the table of the grammar: those whose conditions are made, and those with other findings.
+# The texts of the table of the grammar that are checked: those whose conditions are made, and those with other findings.
 STOPPED = re.compile(r':\d+: (?:L\d|P1) ')
-OF_THE_GRAMMAR = tuple(case for case in CASES if case.status < 2 and not STOPPED.search(case.report))
+OF_THE_GRAMMAR = tuple(case for case in CASES if case.words is None and case.status < 2 and not STOPPED.search(case.report))
 EXAMINED = tuple(case.text for case in OF_THE_GRAMMAR if ' conditions, ' in case.report)
 BROKEN = tuple(case.text for case in OF_THE_GRAMMAR if ' conditions, ' not in case.report)
 
@@ -1210,6 +1213,105 @@ class Writer:
             pieces[at] += bytes([self.random.choice(EDGES + bytes([self.random.randrange(256)]))])
 
 
+# Bounds of runs, and values of inputs: of numbers, which mostly lie in their type, and of truth values.
+TURNS = (1, 1, 2, 3, 3, 4, 6, 10, 30, 200, None)
+SMALL_INPUTS = (-7, -1, 0, 1, 1, 2, 3, 5, 10, 46340)
+GREAT_INPUTS = (-2**31, -2**31 + 1, 2**31 - 1, 2**31 - 2, 1073741823)
+ODD_INPUTS = ('2147483648', '-2147483649', '170141183460469231731687303715884105728', 'True', 'X', '- 1', '1_0', '16#F#', '1E2', '+1', '(1)', '', '1 -- A', '1 --# A')
+ODD_LINES = ('', ' ', 'X', 'Y = 1', 'X := 1', 'A = 1', 'x = 2', '-- X = 1', 'X = 1;', 'null = 1', '?')
+# A run seldom gets past a random precondition: of so many inputs the first is taken that does.
+TRIES = 8
+
+
+class Runner:
+    """Makes runs of texts by the numbers of one seed."""
+
+    def __init__(self, seed):
+        self.random = random.Random(seed)
+        self.writer = Writer(seed)
+
+    def case(self, name):
+        """A random run of a random text."""
+        text = self.text()
+        procedures = procedures_of(text)
+        called = self.random.choice(procedures) if procedures else None
+        words = self.words(name, called.name.text if called else self.random.choice(NAMES))
+        for _ in range(TRIES):
+            case = Case(name, text, '', 0, words, self.inputs(called, words))
+            if not answered(*case.asked()).report.startswith('fault: pre '):
+                break
+        return case
+
+    def text(self):
+        """A text that mostly keeps the static rules."""
+        text = self.writer.text()
+        while self.random.random() < 0.97 and not procedures_of(text):
+            text = self.writer.made()
+        return with_line_end(text)
+
+    def words(self, name, entry_name):
+        """The words of a run, mostly with inputs."""
+        spelled = self.random.choice((entry_name, entry_name, entry_name, entry_name.upper(), entry_name.lower()))
+        if self.random.random() < 0.02:
+            spelled = self.random.choice(NAMES)
+        return run_words(name, spelled, self.random.choice(TURNS), INPUTS if self.random.random() < 0.97 else None)
+
+    def inputs(self, called, words):
+        """The second file: a line for each import, in some order, with slips at times."""
+        if INPUTS not in words:
+            return None
+        lines = [f'{self.name(word)} = {self.value(subtype)}' for word, subtype in imports_of(called).items()] if called else ['X = 1']
+        if self.random.random() < 0.3:
+            self.random.shuffle(lines)
+        if self.random.random() < 0.06 and lines:
+            self.slip(lines)
+        ending = '' if self.random.random() < 0.1 else '\n'
+        return INPUTS, ('\n'.join(lines) + ending if lines else '').encode('ascii')
+
+    def name(self, word):
+        """A name in small letters or in capitals."""
+        return word if self.random.random() < 0.2 else word.upper()
+
+    def value(self, subtype):
+        """A value of a type, mostly a small one; rarely another one."""
+        if self.random.random() < 0.01:
+            return self.random.choice(ODD_INPUTS)
+        if subtype.kind is BOOLEAN:
+            return self.random.choice(('True', 'False', 'true', 'FALSE'))
+        value = self.random.choice(SMALL_INPUTS if self.random.random() < 0.8 else GREAT_INPUTS)
+        return str(value if subtype.has(value) or self.random.random() < 0.03 else max(subtype.first, abs(value) % 2**31))
+
+    def slip(self, lines):
+        """A line less, twice or changed, or another one."""
+        kind, at = self.random.random(), self.random.randrange(len(lines))
+        if kind < 0.25:
+            del lines[at]
+        elif kind < 0.5:
+            lines.insert(self.random.randrange(len(lines) + 1), lines[at])
+        elif kind < 0.75:
+            lines.insert(at, self.random.choice(ODD_LINES))
+        else:
+            lines[at] = f'{lines[at].split(" ")[0]} = {self.random.choice(ODD_INPUTS)}'
+
+
+def procedures_of(text):
+    """The procedures of a text that keeps the static rules, and else nothing."""
+    try:
+        return obeying(trees_of(text))
+    except (Refused, TooNested, TooManyTokens):
+        return []
+
+
+def random_runs(seed, count):
+    """So many runs of texts."""
+    runner = Runner(seed)
+    while count:
+        case = runner.case(f'run_{count}')
+        if can_stand(case.text) and can_stand(case.second[1] if case.second else b''):
+            count -= 1
+            yield case
+
+
 def random_texts(seed, count):
     """So many texts that can stand in a table, each with its name."""
     writer = Writer(seed)
@@ -1221,21 +1323,35 @@ def random_texts(seed, count):
     return found
 
 
-def expected(name, text):
-    """What must be printed on a text."""
-    read = examine(name, text)
-    return answer(name, text, read.report, read.status)
+def random_lists(seed, count):
+    """So many lists of conditions of texts."""
+    for name, text in random_texts(seed, count):
+        yield Case(name, with_line_end(text), '', 0, ('conditions', name))
+
+
+def random_checks(seed, count):
+    """So many texts that are checked."""
+    for name, text in random_texts(seed, count):
+        yield Case(name, text, '', 0)
+
+
+def expected(case):
+    """What must be printed on a case."""
+    read = answered(*case.asked())
+    return answer(case.name, case.text, read.report, read.status, case.words)
 
 
 def main():
     parser = argparse.ArgumentParser(description='Writes random texts in the form of the table of crates/spx_table.')
     parser.add_argument('seed', type=int)
     parser.add_argument('count', type=int)
+    kinds = parser.add_mutually_exclusive_group()
+    kinds.add_argument('--runs', dest='cases', action='store_const', const=random_runs, default=random_checks, help='write texts that are run')
+    kinds.add_argument('--lists', dest='cases', action='store_const', const=random_lists, help='write texts whose conditions are listed')
     parser.add_argument('--expected', action='store_true', help='write what must be printed on them instead')
     options = parser.parse_args()
-    written = expected if options.expected else entry
-    for name, text in random_texts(options.seed, options.count):
-        sys.stdout.buffer.write(written(name, text))
+    for case in options.cases(options.seed, options.count):
+        sys.stdout.buffer.write(expected(case) if options.expected else entry(case.name, case.text, case.words, case.second))
 
 
 if __name__ == '__main__':

@@ -1,8 +1,9 @@
 #!/usr/bin/env python3
-"""The table of texts that the program of crates/spx_table examines, with what is expected of each.
+"""The table of texts that the program of crates/spx_table asks about, with what is expected of each.
 
-The expectations are decided by the rules of docs/language.md, case by case, and reading.py must agree with each. The
-examples of docs/report.md and docs/guide.md are cases too, each a file of examples/ beside what is printed on it.
+Most are asked about by `check`, some by `conditions`, `run`, or other words. The expectations are decided by the rules of
+docs/language.md, case by case, and reading.py must agree with each. The examples of docs/report.md and docs/guide.md are
+cases too, each a file of examples/ beside what is printed on it.
 
     tests/table.py           writes the table and the expected answers: stdin and stdout of crates/spx_table
     tests/table.py --check   compares them with what is there, and the two documents with the examples, and ends with 1
@@ -15,8 +16,9 @@ import sys
 from dataclasses import dataclass
 from itertools import combinations, product, takewhile
 from pathlib import Path
+from typing import Optional
 
-from reading import ANNOTATION, RESERVED, USAGE, examine
+from reading import ANNOTATION, RESERVED, USAGE, answered
 
 TOP = Path(__file__).resolve().parent.parent
 FOLDER = TOP / 'crates' / 'spx_table'
@@ -29,11 +31,21 @@ DOCUMENTS = {TOP / 'docs' / 'report.md': TOP / 'examples' / 'findings',
 
 @dataclass(frozen=True)
 class Case:
-    """A text by its name, and what `check` must answer on it."""
+    """A text by its name, and what must be answered on it.
+
+    It is asked about by `check NAME`, or by other words, for which there may be a second file, by its name and its bytes.
+    """
     name: str
     text: bytes
     report: str
     status: int
+    words: Optional[tuple] = None
+    second: Optional[tuple] = None
+
+    def asked(self):
+        """The words, and the bytes of each file by its name."""
+        words = ('check', self.name) if self.words is None else self.words
+        return list(words), dict([(self.name, self.text)] + ([self.second] if self.second else []))
 
 
 def examined(name, text, *rows):
@@ -207,9 +219,16 @@ def encoded(text):
 
 # ---------------------------------------------------------------- the form of the table
 
-def header(name, text):
-    """`%% NAME`, or `%- NAME` where the last line of the text has no end."""
-    return f'{"%%" if is_ended(text) else "%-"} {name}\n'.encode('utf-8')
+# The marks of headers: of a text, of one whose last line has no end, of one with words, and of a second file.
+MARKS = ('%%', '%-', '%?', '%+', '%=')
+
+
+def header(name, text, words=None):
+    """`%% NAME`, or `%- NAME` where the last line of the text has no end; or `%? NAME WORD..`, with one space before each word."""
+    if words is None:
+        return f'{"%%" if is_ended(text) else "%-"} {name}\n'.encode('utf-8')
+    assert is_ended(text) and not any(' ' in word or '\n' in word for word in (name, *words)), name
+    return (' '.join(('%?', name, *words)) + '\n').encode('utf-8')
 
 
 def is_ended(text):
@@ -217,19 +236,30 @@ def is_ended(text):
     return text == b'' or text.endswith(b'\n')
 
 
-def entry(name, text):
-    """A text as it stands in the table."""
-    return header(name, text) + text + (b'' if is_ended(text) else b'\n')
+def entry(name, text, words=None, second=None):
+    """A text as it stands in the table, with the second file."""
+    return header(name, text, words) + with_line_end(text) + (second_entry(*second) if second else b'')
 
 
-def answer(name, text, report, status):
+def second_entry(name, text):
+    """`%+ NAME` and a second file, or `%= NAME` where its last line has no end."""
+    return f'{"%+" if is_ended(text) else "%="} {name}\n'.encode('utf-8') + with_line_end(text)
+
+
+def with_line_end(text):
+    """A text with an end of its last line."""
+    return text if is_ended(text) else text + b'\n'
+
+
+def answer(name, text, report, status, words=None):
     """What the program prints on a text."""
-    return header(name, text) + report.encode('utf-8') + f'status {status}\n'.encode('utf-8')
+    return header(name, text, words) + report.encode('utf-8') + f'status {status}\n'.encode('utf-8')
 
 
 def can_stand(text):
     """Whether no line of a text looks like a header."""
-    return not any(line.startswith((b'%% ', b'%- ')) for line in text.split(b'\n'))
+    marks = tuple(f'{mark} '.encode('ascii') for mark in MARKS)
+    return not any(line.startswith(marks) for line in text.split(b'\n'))
 
 
 # ---------------------------------------------------------------- parts of texts
@@ -5926,6 +5956,772 @@ def paths_of_exits():
     yield accepted('twenty_ifs_behind_a_loop_that_is_not_left.adb', longer(A_AND_X, 'X from X, A', plain('X := A'), *ifs * 20), 1)
 
 
+# ---------------------------------------------------------------- runs
+
+INPUTS = 'in.txt'
+
+
+def run_words(name, entry='Inc', turns=None, inputs=None):
+    """The words of a run."""
+    return ('run', '--entry', entry, *(() if turns is None else ('--turns', str(turns))), *(() if inputs is None else ('--inputs', inputs)), name)
+
+
+def run_on(name, text, inputs, lines, status, entry='Inc', turns=None):
+    """What is printed where the entry is run with these inputs, as `A = 1, B = 2`; without a file of inputs where there are none."""
+    second = (INPUTS, inputs.replace(', ', '\n').encode('utf-8') + b'\n') if inputs else None
+    return Case(name, encoded(text), ''.join(line + '\n' for line in lines), status, run_words(name, entry, turns, INPUTS if inputs else None), second)
+
+
+def ended(name, text, inputs, *exports, **more):
+    """The run ends with these exports, as `X = 1`."""
+    return run_on(name, text, inputs, exports, 0, **more)
+
+
+def faulted(name, text, inputs, kind, **more):
+    """A check of this kind fails at the one `@`, which is taken out."""
+    ((line, column),), spelled_out = marked_places(encoded(text))
+    return run_on(name, spelled_out, inputs, [f'fault: {kind} at {name}:{line}:{column}'], 7, **more)
+
+
+def not_ended(name, text, inputs, turns, **more):
+    """The run does not end within so many turns."""
+    return run_on(name, text, inputs, [f'not ended within {turns} turns'], 8, turns=turns, **more)
+
+
+def too_wide_in_run(name, text, inputs, **more):
+    """An annotation that the run comes to computes a number that 128 bits do not hold."""
+    return run_on(name, text, inputs, ['limit: bits, at most 128'], 6, **more)
+
+
+SIGNS_TEXT = """procedure Signs (A, B : in Integer; Q, R, M : out Integer)
+--# derives Q, R, M from A, B;
+--# pre B /= 0;
+is
+begin
+   Q := A / B;
+   R := A rem B;
+   M := A mod B;
+end Signs;
+"""
+SEEK_TEXT = """procedure Seek (A, B : in Boolean; N : out Integer)
+--# derives N from A & null from B;
+is
+begin
+   N := 0;
+   loop
+      exit when A;
+      N := N + 1;
+      exit when B;
+      N := N + 1;
+   end loop;
+end Seek;
+"""
+
+
+def worked_runs():
+    """Divisions with signs, and loops that are left or not."""
+    # The quotient goes toward zero, `rem` has the sign of A, `mod` that of B (RM 4.5.5).
+    for label, a, b, q, r, m in (('signs', -7, 3, -2, -1, 2), ('signs_of_a_negative_divisor', 7, -3, -2, 1, -2), ('signs_of_two_negatives', -7, -3, 2, -1, -1),
+                                 ('signs_of_no_negative', 7, 3, 2, 1, 1), ('signs_of_a_multiple', 6, -3, -2, 0, 0), ('signs_of_zero', 0, -5, 0, 0, 0),
+                                 ('signs_of_the_least_dividend', -2147483648, 2147483647, -1, -1, 2147483646)):
+        yield ended(f'{label}.adb', SIGNS_TEXT, f'A = {a}, B = {b}', f'Q = {q}', f'R = {r}', f'M = {m}', entry='Signs')
+    yield faulted('signs_overflow.adb', SIGNS_TEXT.replace('A / B', 'A @/ B'), 'A = -2147483648, B = -1', 'overflow', entry='Signs')
+    yield faulted('signs_pre.adb', SIGNS_TEXT.replace('pre', '@pre'), 'A = -7, B = 0', 'pre', entry='Signs')
+    # Neither `exit` is taken, in any turn; with B the first turn is left in its middle, and with A at its beginning.
+    yield not_ended('seek.adb', SEEK_TEXT, 'A = False, B = False', 5, entry='Seek')
+    yield refused('seek_with_a_flow.adb', SEEK_TEXT.replace('N from A', '@N from A'), 'F1 missing: N from B')
+    yield ended('seek_a.adb', SEEK_TEXT, 'A = True, B = False', 'N = 0', entry='Seek', turns=1)
+    yield ended('seek_b.adb', SEEK_TEXT, 'A = False, B = True', 'N = 1', entry='Seek', turns=1)
+
+
+def computing(value, given='A, B : in Integer', target='Integer', sources='A, B', declared=(), pre=None):
+    """A procedure that assigns the value to X, of this type."""
+    return longer(f'{given}; X : out {target}', f'X from {sources}', f'X := {value}', declared=declared, pre=pre)
+
+
+def runs_of_operators():
+    """Each operator with signs and at the ends of its range. An operation fails at its operator, a value that is assigned at itself."""
+    for label, value, a, b, x in (
+            ('sum', 'A + B', 2147483646, 1, 2147483647), ('sum_of_a_negative', 'A + B', -2147483648, 0, -2147483648), ('difference', 'A - B', -2147483647, 1, -2147483648),
+            ('product', 'A * B', 46340, 46341, 2147441940), ('product_at_the_end', 'A * B', -65536, 32768, -2147483648), ('power', 'A ** B', 2, 30, 1073741824),
+            ('power_at_the_end', 'A ** B', -2, 31, -2147483648), ('power_of_nothing', 'A ** B', 0, 0, 1), ('zero_to_a_power', 'A ** B', 0, 5, 0),
+            ('great_power_of_one', 'A ** B', 1, 2147483647, 1), ('great_odd_power_of_minus_one', 'A ** B', -1, 2147483647, -1),
+            ('rem_of_the_least', 'A rem B', -2147483648, -1, 0), ('mod_of_the_least', 'A mod B', -2147483648, -1, 0), ('sign', '-A + B', 5, 2, -3), ('plus', '+A - B', 5, 2, 3),
+            ('abs_of_a_negative', 'abs A + B', -5, 2, 7), ('sign_of_a_mod', '-A mod B', 7, 3, -1), ('sums_from_the_left', 'A - B - A + B', 5, 2, 0),
+            ('quotients_from_the_left', 'A / B / B', 17, 2, 4), ('static_part', 'A + (2147483648 - 1) - B', 0, 1, 2147483646)):
+        yield ended(f'run_{label}.adb', computing(value), f'A = {a}, B = {b}', f'X = {x}')
+    for label, value, a, b, kind in (
+            ('sum', 'A @+ B', 2147483647, 1, 'overflow'), ('difference', 'A @- B', -2147483648, 1, 'overflow'), ('product', 'A @* B', 46341, 46341, 'overflow'),
+            ('product_past_the_end', 'A @* B', 65536, 32768, 'overflow'), ('power', 'A @** B', 2, 31, 'overflow'), ('great_power', 'A @** B', -2, 2147483647, 'overflow'),
+            ('negative_exponent', 'A ** @B', 5, -1, 'range'), ('exponent_that_is_a_sum', '2 ** (A + B) @* A', 31, -1, 'overflow'), ('exponent_in_parentheses', 'A ** @(B - 1)', 1, 0, 'range'),
+            ('quotient_by_0', 'A @/ B', 1, 0, 'division'), ('rem_by_0', 'A @rem B', 1, 0, 'division'), ('mod_by_0', 'A @mod B', 0, 0, 'division'), ('sign', 'B @- A', -2147483648, 0, 'overflow'),
+            ('unary_minus', '@-A', -2147483648, 0, 'overflow'), ('abs', 'B + (@abs A)', -2147483648, 0, 'overflow'), ('left_operand_first', '(A @/ B) + (A mod B)', 1, 0, 'division'),
+            ('right_operand_next', '(A + 1) @/ B', 1, 0, 'division'), ('part_before_the_whole', '(A @* A) / B', 46341, 0, 'overflow')):
+        inputs = f'A = {a}, B = {b}'
+        yield faulted(f'fault_of_{label}.adb', computing(value), inputs, kind)
+    yield faulted('fault_of_a_natural.adb', computing('A @- B', target='Natural'), 'A = 3, B = 5', 'range')
+    yield faulted('fault_of_a_copy.adb', computing('@A', given='A : in Integer', target='Positive', sources='A'), 'A = 0', 'range')
+    yield faulted('fault_in_parentheses.adb', computing('@(A - B)', target='Natural'), 'A = 3, B = 5', 'range')
+    yield faulted('overflow_before_range.adb', computing('A @- B', target='Natural'), 'A = -2147483648, B = 5', 'overflow')
+    yield ended('natural_at_its_end.adb', computing('A - B', target='Natural'), 'A = 5, B = 5', 'X = 0')
+
+
+def runs_of_types():
+    """Types of their own have base ranges of their own; functions have results in their bounds."""
+    wide = 'type Wide is range 0 .. 2 ** 40'
+    by_t = 'A : in Integer; X : out Integer'
+
+    def with_t(value, declared, *more, start='A'):
+        return longer(by_t, 'X from A', f'T := {start}', *more, f'X := {value}', declared=[*declared, 'T : ' + declared[0].split()[1]])
+    yield ended('long_base_range.adb', with_t('Integer (T * T / T)', [wide], start='Wide (A)'), 'A = 2147483647', 'X = 2147483647')
+    yield faulted('past_a_long_base_range.adb', with_t('Integer (T * T @* T)', [wide], start='Wide (A)'), 'A = 2147483647', 'overflow')
+    yield faulted('range_of_a_wide_type.adb', with_t('Integer (T)', [wide], 'T := T @* T', start='Wide (A)'), 'A = 1048577', 'range')
+    yield ended('wide_type_at_its_end.adb', with_t('Integer (T / 1024)', [wide], 'T := T * T', start='Wide (A)'), 'A = 1048576', 'X = 1073741824')
+    yield faulted('conversion_past_its_type.adb', with_t('Integer (T)', ['subtype Small is Integer range 1 .. 9'], start='Small (@A)'), 'A = 10', 'range')
+    yield faulted('conversion_of_a_sum.adb', with_t('Integer (T)', ['subtype Small is Integer range 1 .. 9'], start='Small (A @+ 1)'), 'A = 9', 'range')
+    yield faulted('qualification_past_its_type.adb', with_t('Integer (T)', ['subtype Small is Integer range 1 .. 9'], start="Small'(@A)"), 'A = 0', 'range')
+    yield ended('positions.adb', with_t("Hue'Pos (Hue'Succ (T)) * 10 + Hue'Pos (Hue'Pred (T))", [HUES], start="Hue'Val (A)"), 'A = 1', 'X = 20')
+    yield faulted('succ_of_the_last.adb', with_t("Hue'Pos (Hue'Succ (@T))", [HUES], start="Hue'Val (A)"), 'A = 2', 'range')
+    yield faulted('pred_of_the_first.adb', with_t("Hue'Pos (Hue'Pred (@T))", [HUES], start="Hue'Val (A)"), 'A = 0', 'range')
+    yield faulted('val_past_the_last.adb', with_t("Hue'Pos (T)", [HUES], start="Hue'Val (@A)"), 'A = 3', 'range')
+    yield faulted('val_of_a_negative.adb', with_t("Hue'Pos (T)", [HUES], start="Hue'Val (@A)"), 'A = -1', 'range')
+    yield ended('initial_value.adb', longer(X, 'X from X', 'X := X + T', 'T := X', declared=['T : Integer := 5']), 'X = 2', 'X = 7')
+    yield ended('constants_in_a_run.adb', longer(X, 'X from X', 'X := X + C - N', declared=['C : constant Integer := 5', 'N : constant := 2 ** 100 - 2 ** 100 + 1']), 'X = 2', 'X = 6')
+
+
+def runs_of_truth_values():
+    """Relations, logical operators and membership tests. A short-circuit form evaluates its right side only where it is needed."""
+    relations = ('A = B', 'A /= B', 'A < B', 'A <= B', 'A > B', 'A >= B')
+    names = [f'R{at}' for at in range(1, 7)]
+    text = longer(f'A, B : in Integer; {", ".join(names)} : out Boolean', f'{", ".join(names)} from A, B', *(f'{name} := {relation}' for name, relation in zip(names, relations)))
+    for label, a, b, found in (('less', -2, -1, 'FTTTFF'), ('equal', 3, 3, 'TFFTFT'), ('greater', 1, -1, 'FTFFTT')):
+        yield ended(f'relations_of_{label}.adb', text, f'A = {a}, B = {b}', *(f'{name} = {"True" if truth == "T" else "False"}' for name, truth in zip(names, found)))
+    logical = ('A and B', 'A or B', 'A xor B', 'A and then B', 'A or else B', 'not A', 'A = B')
+    names = [f'R{at}' for at in range(1, 8)]
+    text = longer(f'A, B : in Boolean; {", ".join(names)} : out Boolean', f'{", ".join(names)} from A, B', *(f'{name} := {value}' for name, value in zip(names, logical)))
+    for label, a, b, found in (('tt', 'True', 'True', 'TTFTTFT'), ('tf', 'True', 'False', 'FTTFTFF'), ('ft', 'False', 'True', 'FTTFTTF'), ('ff', 'False', 'False', 'FFFFFTT')):
+        yield ended(f'logical_of_{label}.adb', text, f'A = {a}, B = {b}', *(f'{name} = {"True" if truth == "T" else "False"}' for name, truth in zip(names, found)))
+    test = longer('A : in Integer; X, Y, Z, V : out Boolean', 'X, Y, Z, V from A', 'X := A in 1 .. 5', 'Y := A not in 1 .. 5', 'Z := A in Natural', 'V := A in 5 .. 1')
+    for a, found in ((0, ('False', 'True', 'True', 'False')), (1, ('True', 'False', 'True', 'False')), (5, ('True', 'False', 'True', 'False')), (-1, ('False', 'True', 'False', 'False'))):
+        yield ended(f'membership_of_{a + 1}.adb', test, f'A = {a}', *(f'{name} = {truth}' for name, truth in zip('XYZV', found)))
+    guarded = longer('A, B : in Integer; X : out Boolean', 'X from A, B', 'X := B /= 0 and then A / B > 1')
+    yield ended('guard_that_is_false.adb', guarded, 'A = 5, B = 0', 'X = False')
+    yield ended('guard_that_is_true.adb', guarded, 'A = 5, B = 2', 'X = True')
+    yield ended('guard_by_or_else.adb', guarded.replace('B /= 0 and then', 'B = 0 or else'), 'A = 5, B = 0', 'X = True')
+    yield faulted('no_guard.adb', guarded.replace('and then A /', 'and A @/'), 'A = 5, B = 0', 'division')
+    yield faulted('guard_after_what_fails.adb', longer('A, B : in Integer; X : out Boolean', 'X from A, B', 'X := A @/ B > 1 and then B /= 0'), 'A = 5, B = 0', 'division')
+    yield ended('static_guard.adb', longer('A : in Integer; X : out Boolean', 'X from A', 'X := False and then A / 0 = 1'), 'A = 5', 'X = False')
+    yield faulted('bound_of_a_test.adb', longer('A : in Integer; X : out Boolean', 'X from A', 'X := A in 1 .. A @+ 1'), 'A = 2147483647', 'overflow')
+    yield faulted('bounds_of_a_test_in_order.adb', longer('A : in Integer; X : out Boolean', 'X from A', 'X := A in A @- 1 .. A / 0'), 'A = -2147483648', 'overflow')
+
+
+def runs_that_read_unset_variables():
+    """A read of an unset variable, and an export without a value at the end. In an annotation an unset variable counts as the first value of its type."""
+    yield faulted('unset_local.adb', longer(OUT_X, 'X from', 'X := @T', declared=T), '', 'unset')
+    yield faulted('unset_operand.adb', longer(A_TO_X, 'X from A', 'X := A + @T / 0', declared=T), 'A = 1', 'unset')
+    yield faulted('unset_export_in_the_body.adb', longer(OUT_X, 'X from', 'X := @X + 1'), '', 'unset')
+    yield faulted('unset_at_the_end.adb', at_end(longer(OUT_X, 'X from', 'null')), '', 'unset')
+    yield faulted('unset_on_this_way.adb', at_end(longer(A_TO_X, 'X from A', 'if A > 0 then X := A; end if')), 'A = 0', 'unset')
+    yield ended('set_on_this_way.adb', longer(A_TO_X, 'X from A', 'if A > 0 then X := A; end if'), 'A = 1', 'X = 1')
+    yield faulted('unset_before_the_postcondition.adb', at_end(longer(OUT_XY, 'X, Y from', 'X := 1', post='X = 2')), '', 'unset')
+    yield faulted('unset_bound.adb', longer(OUT_X, 'X from', 'X := 0', 'for I in Integer range 1 .. @T loop X := I; end loop', declared=T), '', 'unset')
+    yield faulted('unset_condition.adb', longer(OUT_X, 'X from', 'X := 0', 'if @P then X := 1; end if', declared=['P : Boolean']), '', 'unset')
+    yield ended('unset_in_annotations.adb', longer(OUT_X, 'X from', '--# check T = Integer\'First and S = 3 and not P and H = Red and X = Integer\'First', 'X := 1',
+                                                   declared=['T : Integer', 'subtype Small is Integer range 3 .. 5', 'S : Small', 'P : Boolean', HUES, 'H : Hue']), '', 'X = 1')
+    yield faulted('unset_natural_in_an_annotation.adb', longer(OUT_X, 'X from', '--# @check T > 0', 'X := 1', declared=['T : Natural']), '', 'check')
+    yield ended('parameter_is_unset_after_its_loop.adb', longer(OUT_X, 'X from', 'for I in Integer range 1 .. 3 loop X := I; end loop', 'for I in Integer range 5 .. 6 loop X := X + I; end loop'), '', 'X = 14')
+
+
+def runs_of_annotations():
+    """Annotations that are true or false, where they are, with values on entry. Their numbers have no bound, and nothing fails in them."""
+    inc = longer(X, 'X from X', 'X := X + 1', pre='X < 10 or X = 2147483647', post='X = X~ + 1 and X /= 6')
+    yield ended('run_inc.adb', inc, 'X = 1', 'X = 2')
+    yield faulted('run_inc_pre.adb', inc.replace('pre', '@pre'), 'X = 10', 'pre')
+    yield faulted('run_inc_post.adb', inc.replace('post', '@post'), 'X = 5', 'post')
+    yield faulted('run_inc_overflow.adb', inc.replace('X := X +', 'X := X @+'), 'X = 2147483647', 'overflow')
+    yield faulted('run_check.adb', longer(X, 'X from X', 'X := X + 1', '--# @check X = X~', 'X := 0'), 'X = 1', 'check')
+    yield faulted('run_assert.adb', longer(X, 'X from X', 'X := X + 1', '--# @assert X = X~', 'X := 0'), 'X = 1', 'assert')
+    yield ended('run_annotations.adb', longer(X, 'X from X', 'X := X + 1', '--# assert X = X~ + 1', 'X := X + 1', '--# check X = X~ + 2', 'X := 0', post='X~ = 7'), 'X = 7', 'X = 0')
+    yield faulted('value_of_a_formal_on_entry.adb', longer(A_AND_X, 'X from X, A', 'X := A', post='X = X~').replace('post', '@post'), 'A = 1, X = 2', 'post')
+    yield faulted('pre_before_the_body.adb', longer(X, 'X from X', 'X := X / 0', pre='X > 0').replace('pre', '@pre'), 'X = 0', 'pre')
+    yield ended('implications_in_a_run.adb', longer(X, 'X from X', '--# check (X > 5 -> X > 4) and (X > 9 -> X > 99) and (X > 5 <-> X >= 6)', 'X := 1'), 'X = 7', 'X = 1')
+    yield faulted('implication_that_is_false.adb', longer(X, 'X from X', '--# @check X > 5 -> X > 9', 'X := 1'), 'X = 7', 'check')
+    yield faulted('equivalence_that_is_false.adb', longer(X, 'X from X', '--# @check X > 5 <-> X > 9', 'X := 1'), 'X = 7', 'check')
+    # By 0 a division gives 0, and so does a power with a negative exponent; a sum goes past the type.
+    yield ended('divisions_by_0_in_annotations.adb', longer(X, 'X from X', '--# check X / 0 = 0 and X rem 0 = 0 and X mod 0 = 0 and X ** (-1) = 0', 'X := 1'), 'X = 7', 'X = 1')
+    yield ended('sum_past_the_type_in_an_annotation.adb', longer(X, 'X from X', '--# check X + 1 > X and X * X * X > X and -(-X - 2) > X', 'X := 1'), 'X = 2147483647', 'X = 1')
+    yield ended('function_past_its_type_in_an_annotation.adb', longer(OUT_X, 'X from', 'T := Blue', "--# check Hue'Pos (Hue'Succ (T)) = 3 and Small (X) < 0", 'X := 1',
+                                                                     declared=[HUES, 'T : Hue', TO_THREE]), '', 'X = 1')
+    yield ended('operands_of_an_annotation.adb', longer(X, 'X from X', '--# check X = 7 or else 1 / (X - 7) = 0', 'X := 1'), 'X = 7', 'X = 1')
+
+
+def bits_of_runs():
+    """The first annotation that a run comes to and that computes a number past 128 bits, in any operand, ends it."""
+    def stating(condition, **more):
+        return longer(X, 'X from X', f'--# check {condition}', 'X := X + 1', **more)
+    wide = longer(X, 'X from X', 'X := X + 1', pre='X ** 200 > 0')
+    yield too_wide_in_run('bits_of_a_precondition.adb', wide, 'X = 2')
+    yield ended('no_bits_of_one.adb', wide, 'X = 1', 'X = 2')
+    yield faulted('no_bits_of_zero.adb', wide.replace('pre', '@pre'), 'X = 0', 'pre')
+    decided = longer(X, 'X from X', 'X := X + 1', pre='X > 5 or X ** 200 > 0')
+    yield too_wide_in_run('bits_of_the_other_operand.adb', decided, 'X = 6')
+    yield too_wide_in_run('bits_of_the_operand_that_decides.adb', decided, 'X = 2')
+    yield ended('bits_that_suffice.adb', decided, 'X = 1', 'X = 2')
+    yield too_wide_in_run('bits_after_or_else.adb', longer(X, 'X from X', 'X := X + 1', pre='X > 5 or else X ** 200 > 0'), 'X = 6')
+    yield too_wide_in_run('bits_after_and_then.adb', stating('not (X < 0 and then X ** 200 > 0)'), 'X = 6')
+    yield too_wide_in_run('bits_after_an_implication.adb', stating('X < 0 -> X ** 200 > 0'), 'X = 6')
+    # 2 ** 127 is the first number that does not fit, and -2 ** 127 the last one that does.
+    yield ended('bits_at_the_end.adb', stating('X ** 126 + (X ** 126 - 1) > 0'), 'X = 2', 'X = 3')
+    yield too_wide_in_run('bits_of_a_sum.adb', stating('X ** 126 + X ** 126 > 0'), 'X = 2')
+    yield too_wide_in_run('bits_of_a_power.adb', stating('X ** 127 > 0'), 'X = 2')
+    yield ended('bits_of_the_least_number.adb', stating('X ** 127 < 0 and X ** 126 + (X ** 127 + X ** 126) = 0'), 'X = -2', 'X = -1')
+    yield too_wide_in_run('bits_of_a_sign.adb', stating('-(X ** 127) > 0'), 'X = -2')
+    yield too_wide_in_run('bits_of_abs.adb', stating('abs (X ** 127) > 0'), 'X = -2')
+    yield too_wide_in_run('bits_of_a_difference.adb', stating('X ** 127 - 1 < 0'), 'X = -2')
+    yield too_wide_in_run('bits_of_a_product.adb', stating('X ** 64 * X ** 63 > 0'), 'X = 2')
+    yield too_wide_in_run('bits_of_a_quotient.adb', stating('X ** 127 / (-1) > 0'), 'X = -2')
+    yield ended('bits_of_a_remainder.adb', stating('X ** 127 rem (-1) = 0 and X ** 127 mod (-1) = 0'), 'X = -2', 'X = -1')
+    yield ended('bits_of_static_numbers.adb', stating(f'{WIDEST} > 0 and -{WIDEST} - 1 < 0'), 'X = 6', 'X = 7')
+    yield too_wide_in_run('bits_of_the_bound_of_a_test.adb', stating('X in 0 .. X ** 200'), 'X = 6')
+    yield too_wide_in_run('bits_of_the_other_bound_of_a_test.adb', stating('not (X in 9 .. X ** 200)'), 'X = 6')
+    yield too_wide_in_run('bits_of_what_is_multiplied_by_0.adb', stating('0 * X ** 200 = 0'), 'X = 6')
+    # It ends the run also where the annotation would be false.
+    yield too_wide_in_run('bits_of_what_is_false.adb', stating('X ** 200 < 0'), 'X = 6')
+    yield too_wide_in_run('bits_of_an_assertion.adb', longer(X, 'X from X', '--# assert X ** 200 > 0', 'X := 0'), 'X = 6')
+    yield too_wide_in_run('bits_of_a_postcondition.adb', longer(X, 'X from X', 'X := 6', post='X ** 200 > 0'), 'X = 1')
+    yield too_wide_in_run('bits_of_a_value_on_entry.adb', longer(X, 'X from X', 'X := 1', post='X~ ** 200 > 0'), 'X = 2')
+    # What ends the run before comes first.
+    yield faulted('fault_before_bits.adb', longer(X, 'X from X', 'X := X @/ 0', '--# check X ** 200 > 0', 'X := 0'), 'X = 6', 'division')
+    yield faulted('pre_before_bits.adb', longer(X, 'X from X', 'X := X', pre='X < 0', post='X ** 200 > 0').replace('pre', '@pre'), 'X = 6', 'pre')
+    yield faulted('unset_before_bits.adb', at_end(longer(OUT_XY, 'X, Y from', 'X := 6', post='X ** 200 > 0')), '', 'unset')
+    yield too_wide_in_run('bits_before_a_fault.adb', longer(X, 'X from X', '--# check X ** 200 > 0', 'X := X / 0'), 'X = 6')
+    yield ended('bits_of_an_arm_that_is_not_run.adb', longer(X, 'X from X', 'if X < 0 then\n--# check X ** 200 > 0;\nnull; end if'), 'X = 6', 'X = 6')
+    turn = longer(X, 'X from X', 'while X < 9 loop X := X + 1;\n--# check X ** 60 > 0;\nend loop')
+    yield not_ended('bits_of_a_turn_past_the_bound.adb', turn, 'X = 1', 3)
+    yield too_wide_in_run('bits_of_a_turn_within_the_bound.adb', turn, 'X = 1', turns=4)
+
+
+DOWN = longer(X, 'X from X', 'while X > 0 loop\n      X := X - 1;\n   end loop', 'while X < 3 loop\n      X := X + 1;\n   end loop')
+SUM = longer(X, 'X from X', 'for I in reverse Integer range 1 .. X loop\n      S := S * 10 + I;\n      exit when S > 500000;\n   end loop', 'X := S', declared=['S : Integer := 0'])
+SPIN = """procedure Inc (X : in out Integer)
+--# derives X from X;
+is
+begin
+   loop
+      X := X - 1;
+      exit when X < 0 or else 6 / X = 6;
+      if X = 10 then
+         X := 20;
+         exit;
+      end if;
+   end loop;
+end Inc;
+"""
+DIVIDE = """procedure Inc (X : in out Integer)
+--# derives X from X;
+is
+   N : Natural;
+   T : Integer;
+begin
+   case X is
+      when 0 => X := 7 / X;
+      when 1 .. 3 => N := X - 2; X := N;
+      when 4 => X := T;
+      when others =>
+         if X = 5 then
+            --# assert X /= 5;
+            null;
+         elsif X = 6 then
+            --# check X < 6;
+            null;
+         else
+            X := X rem (-4);
+         end if;
+   end case;
+end Inc;
+"""
+
+
+def runs_of_branches():
+    """The arm or the alternative that is chosen, and what fails in it."""
+    for x, found in ((0, ('7 / X', '7 @/ X', 'division')), (1, ('X - 2', 'X @- 2', 'range')), (4, (':= T', ':= @T', 'unset')), (5, ('assert', '@assert', 'assert')), (6, ('check', '@check', 'check'))):
+        piece, marked, kind = found
+        yield faulted(f'case_of_{x}.adb', DIVIDE.replace(piece, marked), f'X = {x}', kind)
+    for x, value in ((3, 1), (7, 3), (-7, -3)):
+        yield ended(f'case_of_{x}.adb'.replace('-', 'minus_'), DIVIDE, f'X = {x}', f'X = {value}')
+    chosen = longer(X, 'X from X', 'case X is when 1 | 3 .. 4 => X := 10; when 9 .. 8 | 2 => X := 20; when -5 .. -1 => X := 30; when others => X := 40; end case')
+    for x, value in ((1, 10), (2, 20), (3, 10), (4, 10), (5, 40), (8, 40), (-1, 30), (-5, 30), (-6, 40), (0, 40)):
+        yield ended(f'choice_of_{x}.adb'.replace('-', 'minus_'), chosen, f'X = {x}', f'X = {value}')
+    hues = longer(X, 'X from X', "case Hue'Val (X) is when Green => X := 1; when Red | Blue => X := 2; end case", declared=[HUES])
+    yield ended('choice_of_a_literal.adb', hues, 'X = 1', 'X = 1')
+    yield ended('choice_of_the_last.adb', hues, 'X = 2', 'X = 2')
+    arms = longer(X, 'X from X', 'if X < 0 then X := 1; elsif X / X = 1 then X := 2; else X := 3; end if')
+    yield ended('first_arm.adb', arms, 'X = -1', 'X = 1')
+    yield ended('second_arm.adb', arms, 'X = 8', 'X = 2')
+    yield faulted('condition_of_the_second_arm.adb', arms.replace('X / X', 'X @/ X'), 'X = 0', 'division')
+    yield ended('no_arm.adb', longer(X, 'X from X', 'if X < 0 then X := 1; elsif X > 9 then X := 2; end if'), 'X = 5', 'X = 5')
+    yield ended('arm_after_else.adb', longer(X, 'X from X', 'if X < 0 then X := 1; elsif X > 9 then X := 2; else X := 3; end if'), 'X = 5', 'X = 3')
+
+
+def runs_of_loops():
+    """Each turn and the rest of the loop have one turn less than the loop. At the bound 0 a loop has no turn, and it ends where it needs none."""
+    for x, turns, value in ((3, 2, None), (3, 3, 3), (1, 2, None), (1, 3, 3), (4, 3, None), (4, 4, 3)):
+        name = f'down_from_{x}_in_{turns}.adb'
+        yield not_ended(name, DOWN, f'X = {x}', turns) if value is None else ended(name, DOWN, f'X = {x}', f'X = {value}', turns=turns)
+    for x, turns, value in ((0, 1, 0), (3, 2, None), (3, 3, 321), (7, 5, None), (7, 6, 765432)):
+        name = f'digits_of_{x}_in_{turns}.adb'
+        yield not_ended(name, SUM, f'X = {x}', turns) if value is None else ended(name, SUM, f'X = {x}', f'X = {value}', turns=turns)
+    for x, turns, value in ((12, 1, None), (12, 2, 20), (3, 2, 1), (0, 1, -1)):
+        name = f'spin_of_{x}_in_{turns}.adb'
+        yield not_ended(name, SPIN, f'X = {x}', turns) if value is None else ended(name, SPIN, f'X = {x}', f'X = {value}', turns=turns)
+    yield faulted('spin_of_1.adb', SPIN.replace('6 / X', '6 @/ X'), 'X = 1', 'division', turns=1)
+    # 198 loops inside each other: each has a turn in that of the one around it.
+    deep = longer(X, 'X from X', 'while X < 1 loop ' * 198 + 'X := X + 1; ' + 'end loop; ' * 197 + 'end loop')
+    yield not_ended('deep_loops.adb', deep, 'X = 0', 197)
+    yield ended('deep_loops_that_end.adb', deep, 'X = 0', 'X = 1', turns=198)
+    # In the third turn outside, 3 turns less are left, of which those inside need 3.
+    square = longer(OUT_X, 'X from', 'X := 0', 'for I in Integer range 1 .. 3 loop for J in Integer range 1 .. 3 loop X := X * 2 + I - J; end loop; end loop')
+    yield not_ended('loop_in_a_loop.adb', square, '', 5)
+    yield ended('loop_in_a_loop_that_ends.adb', square, '', 'X = -222', turns=6)
+    # What comes after a loop has as many turns as the loop had.
+    row = longer(OUT_X, 'X from', 'X := 0', *['for I in Integer range 1 .. 3 loop X := X + I; end loop'] * 4)
+    yield ended('loops_in_a_row.adb', row, '', 'X = 24', turns=3)
+    yield not_ended('loops_in_a_row_with_few_turns.adb', row, '', 2)
+    turn = longer(OUT_X, 'X from', 'X := 0', 'for I in Integer range 1 .. 3 loop for J in Integer range 1 .. 2 loop X := X + 1; end loop; for J in Integer range 1 .. 2 loop X := X + 1; end loop; end loop')
+    yield ended('loops_in_a_turn.adb', turn, '', 'X = 12', turns=5)
+    yield not_ended('loops_in_a_turn_with_few_turns.adb', turn, '', 4)
+    # The condition is evaluated before it counts that no turn is left.
+    yield faulted('condition_past_the_bound.adb', longer(X, 'X from X', 'while 6 @/ X > 0 loop X := X - 1; end loop'), 'X = 2', 'division', turns=2)
+    yield not_ended('condition_that_stays.adb', longer(X, 'X from X', 'while X > 0 loop null; end loop'), 'X = 2', 1000)
+    yield not_ended('loop_without_an_exit.adb', longer(X, 'X from X', plain('null')), 'X = 2', 1)
+    # Without a bound among the words it is 1000000.
+    great = longer(A_TO_X, 'X from A', 'X := 0', counting('I in Integer range 1 .. A', 'X := I'))
+    yield ended('as_many_turns_as_without_a_bound.adb', great, 'A = 1000000', 'X = 1000000')
+    yield run_on('a_turn_more_than_without_a_bound.adb', great, 'A = 1000001', ['not ended within 1000000 turns'], 8)
+    yield ended('a_turn_more_with_a_bound.adb', great, 'A = 1000001', 'X = 1000001', turns=1000001)
+    # The bounds are evaluated once; without a value between them there is no turn.
+    yield ended('bounds_that_change.adb', longer(X, 'X from X', 'for I in Integer range 1 .. X loop X := X + I; end loop'), 'X = 3', 'X = 9')
+    bounds = longer('A, B : in Integer; X : out Integer', 'X from A, B', 'X := 7', 'for I in Natural range A .. B loop X := I; end loop')
+    yield ended('no_value_between_the_bounds.adb', bounds, 'A = 5, B = -1', 'X = 7')
+    yield ended('one_value_between_the_bounds.adb', bounds, 'A = 5, B = 5', 'X = 5', turns=1)
+    yield faulted('low_bound_past_the_type.adb', bounds.replace('range A', 'range @A'), 'A = -1, B = 5', 'range')
+    small = longer('A, B : in Integer; X : out Integer', 'X from A, B', 'X := 7', 'for I in Small range @A .. B loop X := I; end loop', declared=[TO_THREE])
+    yield faulted('high_bound_past_the_type.adb', small, 'A = 1, B = 4', 'range')
+    yield faulted('low_bound_is_evaluated_first.adb', bounds.replace('A .. B', 'A @/ 0 .. B ** (-1)'), 'A = 1, B = 1', 'division')
+    yield faulted('high_bound_is_evaluated_next.adb', bounds.replace('A .. B', 'A .. 1 @/ B'), 'A = -5, B = 0', 'division')
+    yield ended('forward.adb', longer(OUT_X, 'X from', 'X := 0', counting('I in Integer range -2 .. 2', 'X := X * 3 + I')), '', 'X = -184')
+    yield ended('in_reverse.adb', longer(OUT_X, 'X from', 'X := 0', counting('I in reverse Integer range -2 .. 2', 'X := X * 3 + I')), '', 'X = 184')
+    yield ended('over_a_type.adb', longer(OUT_X, 'X from', 'X := 0', counting('I in Small', 'X := X * 10 + I'), declared=[TO_THREE]), '', 'X = 123')
+    yield ended('over_literals_in_reverse.adb', longer(OUT_X, 'X from', 'X := 0', counting('H in reverse Hue', "X := X * 10 + Hue'Pos (H)"), declared=[HUES]), '', 'X = 210')
+    yield not_ended('over_a_great_type.adb', longer(OUT_X, 'X from', 'X := 0', counting('I in Integer', 'X := I')), '', 10)
+    yield ended('at_the_end_of_the_type.adb', longer(OUT_X, 'X from', 'X := 0', counting("I in Integer range Integer'Last - 1 .. Integer'Last", 'X := I')), '', 'X = 2147483647')
+    yield ended('exit_of_the_inner_loop.adb', longer(OUT_X, 'X from', 'X := 0', counting('I in Integer range 1 .. 3', plain('X := X + I', 'exit when X > 3'), 'X := X + 10')), '', 'X = 39')
+    yield ended('exit_after_statements.adb', longer(OUT_X, 'X from', 'X := 0', counting('I in Integer range 1 .. 9', leaving('I = 4', 'X := X + 100'), 'X := X + I')), '', 'X = 106', turns=4)
+
+
+THREE_PROCEDURES = """procedure One
+is
+begin
+   null;
+end One;
+procedure Two (Second, First : in out Integer; Flag : out Boolean)
+--# derives Flag from Second & First from First & Second from *;
+is
+begin
+   First := First + 1;
+   SECOND := Second * 2;
+   flag := Second > 10;
+end Two;
+procedure Three (X : in Integer)
+--# derives null from X;
+is
+begin
+   null;
+end Three;
+"""
+
+
+def entries_of_runs():
+    """The entry is a procedure of the file, in any letter case. Its exports are printed in the order of the formals, as they are declared."""
+    yield ended('no_formals.adb', THREE_PROCEDURES, '', entry='One')
+    yield ended('exports_in_order.adb', THREE_PROCEDURES, 'FIRST = 3, second = 6', 'Second = 12', 'First = 4', 'Flag = True', entry='TWO')
+    yield ended('no_exports.adb', THREE_PROCEDURES, 'X = 3', entry='three')
+    for label, entry in (('another', 'Four'), ('part_of_a', 'On'), ('no', ''), ('reserved', 'begin'), ('formal_as_a', 'X'), ('dotted', 'Pack.One')):
+        yield input_refused(f'{label}_name.adb', THREE_PROCEDURES, 'Y = 3\nY = 4\n', f'I5 no such subprogram: {entry}', entry=entry)
+    # The Kelvin sign is no letter of the language.
+    yield input_refused('kelvin.adb', longer(None, None, 'null', name='K'), None, 'I5 no such subprogram: \u212a', entry='\u212a')
+    yield ended('kelvin_as_k.adb', longer(None, None, 'null', name='K'), '', entry='k')
+    yield input_refused('no_procedure.adb', '', None, 'I5 no such subprogram: Inc')
+
+
+def phases_of_runs():
+    """Before the inputs are looked at come lexis, syntax and their form; then come the static rules. Neither flow nor a limit on it counts."""
+    flow = longer(A_TO_X, 'X from', 'T := A', 'X := 1', declared=T).replace('X from', 'X from & null from A')
+    yield ended('flow_is_not_analyzed.adb', flow, 'A = 1', 'X = 1')
+    yield run_on('syntax_first.adb', 'procedure\n', '?', ['syntax_first.adb:2:1: P1 expected another token', 'refused: 1'], 1)
+    yield run_on('lexis_first.adb', 'procedure $\n', '?', ['lexis_first.adb:1:11: L1 bad byte', 'refused: 1'], 1)
+    yield run_on('nesting_first.adb', procedure(nested(201)), '?', ['limit: nesting, at most 200'], 6)
+    yield run_on('form_of_inputs_next.adb', procedure('Y'), '?', [f'{INPUTS}:1:1: I1 bad input line', 'refused: 1'], 1)
+    yield run_on('static_rules_next.adb', procedure('Y'), 'Z = 3', ['static_rules_next.adb:5:9: N1 name is not declared here', 'refused: 1'], 1, entry='None')
+    yield run_on('rules_on_variables_next.adb', procedure(mode='in'), 'Z = 3', ['rules_on_variables_next.adb:2:13: U8 mode disagrees with derives', 'refused: 1'], 1, entry='None')
+    yield run_on('rules_of_all_procedures.adb', short('Inc') + procedure('Y', name='Dec', end=None), 'X = 3', ['rules_of_all_procedures.adb:8:9: N1 name is not declared here', 'refused: 1'], 1)
+    yield ended('many_variables.adb', many(4097, 'X := X + 1', formals=X, derives='X from X'), 'X = 1', 'X = 2')
+    yield ended('twenty_ifs.adb', longer(X, 'X from X', *['if X > 0 then X := X + 1; end if'] * 20), 'X = 1', 'X = 21')
+    yield ended('doubled_terms.adb', longer(X, 'X from X', *['X := X + X'] * 30), 'X = 1', 'X = 1073741824')
+
+
+# ---------------------------------------------------------------- inputs
+
+def input_refused(name, text, inputs, *findings, entry='Inc'):
+    """The inputs have these findings, each with its rule and text, and the number of its line before them, if it has one."""
+    lines = [f'{INPUTS}:{finding[0]}:1: {finding[1]}' if isinstance(finding, tuple) else finding for finding in findings]
+    second = None if inputs is None else (INPUTS, encoded(inputs))
+    words = run_words(name, entry, None, None if inputs is None else INPUTS)
+    return Case(name, encoded(text), ''.join(line + '\n' for line in [*lines, f'refused: {len(lines)}']), 1, words, second)
+
+
+def input_taken(name, inputs, *exports):
+    """These inputs of SEVERAL are taken."""
+    return Case(name, encoded(SEVERAL), ''.join(line + '\n' for line in exports), 0, run_words(name, 'Inc', None, INPUTS), (INPUTS, encoded(inputs)))
+
+
+SEVERAL = longer('A : in Integer; B : in Natural; C : in Positive; P : in Boolean; X : in out Integer; Y : out Boolean; Z : out Integer',
+                 'X from X & Y from P & Z from A, B, C', 'X := X + 1', 'Y := not P', 'Z := A + B + C')
+FIVE = 'A = -1\nB = 0\nC = 1\nP = False\nX = 5\n'
+AS_FIVE = ('X = 6', 'Y = True', 'Z = 0')
+I1, I2, I3 = 'I1 bad input line', 'I2 no such import, or twice', 'I3 value is not of the type'
+
+
+def forms_of_inputs():
+    """`NAME = VALUE` in the lexemes of the language, with gaps between them and a comment after them."""
+    yield input_taken('inputs.adb', FIVE, *AS_FIVE)
+    yield input_taken('inputs_in_another_order.adb', ''.join(reversed(FIVE.splitlines(keepends=True))), *AS_FIVE)
+    yield input_taken('inputs_in_another_case.adb', FIVE.lower().replace('false', 'FALSE'), *AS_FIVE)
+    yield input_taken('inputs_without_a_last_end.adb', FIVE[:-1], *AS_FIVE)
+    yield input_taken('inputs_with_gaps.adb', FIVE.replace('=', ' \t=\t ').replace('\n', ' \t\n').replace('A', '  \tA'), *AS_FIVE)
+    yield input_taken('inputs_without_gaps.adb', FIVE.replace(' ', ''), *AS_FIVE)
+    yield input_taken('inputs_with_carriage_returns.adb', FIVE.replace('\n', '\r\n'), *AS_FIVE)
+    yield input_taken('inputs_with_form_feeds.adb', FIVE.replace(' ', '\f\v'), *AS_FIVE)
+    yield input_taken('inputs_with_comments.adb', FIVE.replace('\n', ' -- A = 2 --# \x00\xff\n').encode('latin-1'), *AS_FIVE)
+    yield input_taken('inputs_with_comments_directly_after.adb', FIVE.replace('\n', '--\n'), *AS_FIVE)
+    yield input_taken('minus_apart.adb', FIVE.replace('-1', '-  1'), *AS_FIVE)
+    yield input_taken('minus_zero.adb', FIVE.replace('B = 0', 'B = -0'), *AS_FIVE)
+    for label, spelled, x in (('underscores', '1_000', 1000), ('base', '16#7F#', 127), ('base_2', '2#1_0#', 2), ('exponent', '1E3', 1000), ('exponent_with_a_sign', '5e+0', 5), ('base_and_exponent', '16#F#E1', 240),
+                              ('zeros', '000_05', 5), ('least_but_one', '-2_147_483_648', -2147483648), ('greatest_but_one', '2147483646', 2147483646)):
+        yield input_taken(f'number_with_{label}.adb', FIVE.replace('X = 5', f'X = {spelled}'), f'X = {x + 1}', 'Y = True', 'Z = 0')
+
+
+def bad_lines():
+    """I1 is at the first line of another form, whatever follows it, and no other line is looked at."""
+    for label, line in {
+            'empty': '', 'a_space_only': ' ', 'a_comment_only': '-- A = 1', 'no_value': 'A =', 'no_name': '= 1', 'no_equal_sign': 'A 1', 'assignment': 'A := 1', 'arrow': 'A => 1',
+            'two_values': 'A = 1 2', 'semicolon': 'A = 1;', 'two_on_a_line': 'A = 1, B = 0', 'twice_equal': 'A = B = 1', 'plus': 'A = +1', 'two_signs': 'A = - -1', 'comment_for_a_sign': 'A = --1',
+            'sum': 'A = 1 + 1', 'parentheses': 'A = (1)', 'sign_of_a_word': 'P = -True', 'not': 'P = not True', 'attribute': "A = Integer'Last", 'number_for_a_name': '1 = A',
+            'reserved_name': 'begin = 1', 'reserved_value': 'P = null', 'point': 'A = 1.5', 'bad_number': 'A = 1_', 'bad_base': 'A = 17#1#', 'negative_exponent': 'A = 1E-1', 'number_and_letters': 'A = 1A',
+            'bad_byte': 'A = "1"', 'underscores': 'A__B = 1', 'too_wide': f'A = {TOO_WIDE}', 'too_wide_with_a_sign': f'A = -{TOO_WIDE}', 'dotted_name': 'Inc.A = 1', 'entry_value': 'X~ = 1',
+            'annotation': '--# A = 1', 'annotated_value': 'A = --# 1', 'annotation_after_it': 'A = 1 --# B', 'null_byte': 'A = 1\0', 'not_equal': 'A /= 1', 'mark_of_bytes': '\ufeffA = 1'}.items():
+        yield input_refused(f'{label}_in_inputs.adb', SEVERAL, line + '\n', (1, I1))
+    yield input_refused('bad_second_line.adb', SEVERAL, FIVE.replace('B = 0', ''), (2, I1))
+    yield input_refused('bad_last_line.adb', SEVERAL, FIVE + '?', (6, I1))
+    yield input_refused('bad_last_line_that_is_empty.adb', SEVERAL, FIVE + '\n', (6, I1))
+    yield input_refused('two_bad_lines.adb', SEVERAL, 'A = 1\nB\n\n', (2, I1))
+    yield input_refused('bad_line_after_other_findings.adb', SEVERAL, 'Y = 1\nA = True\n?\n', (3, I1))
+    yield input_refused('bad_line_before_the_entry.adb', SEVERAL, 'A = 1\n?\n', (2, I1), entry='None')
+    yield input_refused('carriage_return_in_a_line.adb', SEVERAL, 'A = 1\rB = 2\n', (1, I1))
+    yield input_refused('annotation_word_for_a_name.adb', SEVERAL, 'own = 1\n' + FIVE, (1, I2))
+
+
+def imports_of_inputs():
+    """I2 and I3 come line by line, at most one on each. Then comes I4 for each import that no line names."""
+    yield input_refused('no_such_name.adb', SEVERAL, FIVE + 'W = 1\n', (6, I2))
+    yield input_refused('export_only.adb', SEVERAL, FIVE + 'Y = True\n', (6, I2))
+    yield input_refused('name_of_the_entry.adb', SEVERAL, FIVE + 'Inc = 1\n', (6, I2))
+    yield input_refused('name_of_a_type.adb', SEVERAL, FIVE + 'Integer = 1\n', (6, I2))
+    yield input_refused('import_twice.adb', SEVERAL, FIVE + 'A = -1\n', (6, I2))
+    yield input_refused('import_twice_in_another_case.adb', SEVERAL, FIVE + 'a = -1\n', (6, I2))
+    yield input_refused('import_three_times.adb', SEVERAL, 'A = 1\n' + FIVE + 'a = 2\n', (2, I2), (7, I2))
+    yield input_refused('local_of_the_entry.adb', longer(X, 'X from X', 'X := X', declared=T), 'X = 1\nT = 2\n', (2, I2))
+    # An input that is given twice, as in the examples of the sources of these rules.
+    yield Case('inc_twice.adb', INC_BYTES, 'i.txt:2:1: I2 no such import, or twice\nrefused: 1\n', 1, run_words('inc_twice.adb', 'Inc', None, 'i.txt'), ('i.txt', b'X = 1\nX = 2\n'))
+    for label, line in {'word_for_an_integer': 'A = True', 'other_word_for_an_integer': 'A = B', 'negative_natural': 'B = -1', 'natural_past_the_end': 'B = 2147483648', 'zero_for_a_positive': 'C = 0',
+                        'integer_past_the_end': 'A = 2147483648', 'integer_before_the_first': 'A = -2147483649', 'widest_number': f'A = {WIDEST}', 'number_for_a_boolean': 'P = 1', 'zero_for_a_boolean': 'P = 0',
+                        'other_word_for_a_boolean': 'P = Yes', 'name_for_a_boolean': 'P = P', 'part_of_a_word': 'P = Tru'}.items():
+        number = 'ABCP'.index(line[0]) + 1
+        inputs = [line if at == number else other for at, other in enumerate(FIVE.splitlines(), 1)]
+        yield input_refused(f'{label}.adb', SEVERAL, '\n'.join(inputs), (number, I3))
+    yield input_refused('wrong_value_twice.adb', SEVERAL, FIVE.replace('A = -1', 'A = True') + 'A = 1\n', (1, I3), (6, I2))
+    yield input_refused('twice_with_a_wrong_value.adb', SEVERAL, FIVE + 'A = True\n', (6, I2))
+    yield input_refused('value_of_no_import.adb', SEVERAL, FIVE + 'Y = 1\n', (6, I2))
+    for name in 'ABCPX':
+        inputs = ''.join(line for line in FIVE.splitlines(keepends=True) if not line.startswith(name))
+        yield input_refused(f'no_value_for_{name.lower()}.adb', SEVERAL, inputs, f'I4 import has no value: {name}')
+    missing = [f'I4 import has no value: {name}' for name in 'ABCPX']
+    yield input_refused('no_inputs.adb', SEVERAL, None, *missing)
+    yield input_refused('empty_inputs.adb', SEVERAL, '', *missing)
+    yield input_refused('no_value_of_a_wrong_line.adb', SEVERAL, 'A = True\nW = 1\nC = 0\n', (1, I3), (2, I2), (3, I3), missing[1], missing[3], missing[4])
+    yield input_refused('all_findings_in_order.adb', SEVERAL, 'X = True\nX = 1\nY = 1\nC = 0\na = 5\nc = 1\n', (1, I3), (2, I2), (3, I2), (4, I3), (6, I2), missing[1], missing[3])
+    yield input_refused('entry_before_other_findings.adb', SEVERAL, 'X = True\nW = 1\n', 'I5 no such subprogram: Dec', entry='Dec')
+    yield input_refused('name_as_it_is_declared.adb', longer('Big_Name : in Integer', 'null from BIG_NAME', 'null'), None, 'I4 import has no value: Big_Name')
+    yield ended('no_imports.adb', longer(OUT_X, 'X from', 'X := 1'), '', 'X = 1')
+    yield input_refused('inputs_for_no_imports.adb', longer(OUT_X, 'X from', 'X := 1'), 'X = 1\n', (1, I2))
+    yield Case('empty_inputs_for_no_imports.adb', encoded(longer(OUT_X, 'X from', 'X := 1')), 'X = 1\n', 0, run_words('empty_inputs_for_no_imports.adb', 'Inc', None, INPUTS), (INPUTS, b''))
+    # A finding on inputs comes before what the run would come to.
+    yield input_refused('input_before_a_fault.adb', procedure(pre='X < 0'), 'X = 1\nW = 1\n', (2, I2))
+
+
+# ---------------------------------------------------------------- words
+
+def asked_by(name, words, lines, status, second=None, text=None):
+    """What is printed where a text that is accepted, or another one, is asked about by these words."""
+    return Case(name, INC_BYTES if text is None else encoded(text), ''.join(line + '\n' for line in lines), status, tuple(words), second)
+
+
+FILE = 'words.adb'
+IN = (INPUTS, b'X = 1\n')
+GOT_TWO = ('X = 2',)
+
+
+def words_of_commands():
+    """The words of the three commands; all others are answered by the usage line."""
+    for words in (
+            (), ('',), ('check',), ('Check', FILE), ('chec', FILE), ('checks', FILE), (FILE,), (FILE, 'check'), ('check', FILE, FILE), ('check', FILE, ''), ('check', '--proofs', 'p', FILE),
+            ('check', '--proofs=p', FILE), ('check', '--help'), ('check', FILE, '--help'), ('check', '-h'), ('--help',), ('-h',), ('help',), ('help', 'check'), ('--version',), ('version',), ('--', 'check', FILE),
+            ('check', '--'), ('check', '--', FILE, FILE), ('check', '-x'), ('check', '-1'), ('check', '--x=y', FILE), ('check', '--=y', FILE), ('check', '--entry', 'Inc', FILE), ('check', '---', FILE),
+            ('conditions',), ('conditions', FILE, FILE), ('conditions', '--entry', 'Inc', FILE), ('conditions', '--turns', '5', FILE), ('condition', FILE), ('conditions', 'check', FILE),
+            ('run',), ('run', FILE), ('run', 'Inc', FILE), ('run', '--entry', 'Inc'), ('run', '--entry', FILE), ('run', '--entry'), ('run', FILE, '--entry'), ('run', '--entry=Inc'),
+            ('run', '--entry', 'Inc', FILE, FILE), ('run', '--entry', 'Inc', '--entry', 'Inc', FILE), ('run', '--entry=Inc', FILE, '--entry=Inc'), ('run', '--entry', '--turns', '5', FILE),
+            ('run', '--entry', '--', FILE), ('run', '--entry', '-Inc', FILE), ('run', '-e', 'Inc', FILE), ('run', '-entry', 'Inc', FILE), ('run', '--Entry', 'Inc', FILE), ('run', '--ent', 'Inc', FILE),
+            ('run', '--entry', 'Inc', '--', FILE, FILE), ('run', '--entry', 'Inc', '--', '--turns', '5'), ('--entry', 'Inc', 'run', FILE), ('run', '--', '--entry', 'Inc', FILE),
+            ('run', '--entry', 'Inc', '--inputs', FILE), ('run', '--entry', 'Inc', '--inputs', INPUTS, '--inputs', INPUTS, FILE), ('run', '--entry', 'Inc', FILE, '--inputs'),
+            ('run', '--entry', 'Inc', '--inputs', INPUTS, FILE, '--turns'), ('run', '--entry', 'Inc', '--inputs', INPUTS, '--turns', '5', '--turns', '5', FILE),
+            ('run', '--entry', 'Inc', '--proofs', 'p', FILE), ('run', '--inputs', INPUTS, FILE), ('workload', '3'), ('workload', '0'), ('workload', FILE)):
+        yield asked_by(FILE, words, [USAGE[:-1]], 2, IN)
+    for turns in ('0', '1000000001', '4294967296', '18446744073709551615', '18446744073709551616', '', 'ten', '1e3', '1_000', '16#F#', '+', '++5', '+0', '5.0', '0x10', '1000000000000000000000000000005', '5-'):
+        yield asked_by(FILE, ('run', '--entry', 'Inc', '--inputs', INPUTS, '--turns', turns, FILE), [USAGE[:-1]], 2, IN)
+    yield asked_by(FILE, ('run', '--entry', 'Inc', '--turns', '-5', FILE), [USAGE[:-1]], 2, IN)
+    yield asked_by(FILE, ('run', '--entry', 'Inc', '--turns=-5', FILE), [USAGE[:-1]], 2, IN)
+    for words in (
+            ('run', '--entry', 'Inc', '--inputs', INPUTS, FILE), ('run', FILE, '--entry', 'Inc', '--inputs', INPUTS), ('run', '--inputs', INPUTS, FILE, '--entry', 'Inc'), ('run', '--entry=Inc', f'--inputs={INPUTS}', FILE),
+            ('run', '--entry', 'Inc', f'--inputs={INPUTS}', '--', FILE), ('run', '--entry', 'inc', '--inputs', INPUTS, FILE, '--'), ('run', '--turns', '1', '--entry', 'Inc', '--inputs', INPUTS, FILE),
+            ('run', '--turns=1000000000', '--entry', 'Inc', '--inputs', INPUTS, FILE), ('run', '--entry', 'Inc', '--turns', '+5', '--inputs', INPUTS, FILE), ('run', '--entry', 'Inc', '--inputs', INPUTS, '--turns', '0000000005', FILE),
+            ('run', '--entry', 'Inc', '--inputs', INPUTS, FILE, '--turns=00000000000000000000000000005')):
+        yield asked_by(FILE, words, GOT_TWO, 0, IN)
+    found = [*(f'H{at} {fact}' for at, fact in enumerate([*lies('X~'), 'X~ < 2147483647'], 1)), *(f'G{at} {goal}' for at, goal in enumerate(lies('(X~ + 1)'), 1))]
+    more = [*found[:3], *(f'H{at} {fact}' for at, fact in enumerate(lies('(X~ + 1)'), 4)), *found[3:]]
+    for words in (('conditions', FILE), ('conditions', '--', FILE), ('conditions', FILE, '--')):
+        yield asked_by(FILE, words, [f'Inc.1 overflow {FILE}:6:11', *found, f'Inc.2 range {FILE}:6:11', *more], 0)
+    yield asked_by(FILE, ('check', '--', FILE), [CLOSED_2, 'accepted'], 0)
+    yield asked_by(FILE, ('check', FILE, '--'), [CLOSED_2, 'accepted'], 0)
+    # A hyphen by itself is a file, and so is any word after `--`.
+    yield asked_by('-', ('check', '-'), [CLOSED_2, 'accepted'], 0)
+    yield asked_by('-x.adb', ('check', '--', '-x.adb'), [CLOSED_2, 'accepted'], 0)
+    yield asked_by('--entry', ('run', '--entry', 'Inc', '--inputs', INPUTS, '--', '--entry'), GOT_TWO, 0, IN)
+    yield asked_by('--', ('run', '--entry', 'Inc', '--inputs=-5', '--', '--'), GOT_TWO, 0, ('-5', b'X = 1\n'))
+    yield asked_by(FILE, ('run', '--entry', 'Inc', '--inputs', '-', FILE), GOT_TWO, 0, ('-', b'X = 1\n'))
+    yield asked_by(FILE, ('run', '--entry', 'Inc', '--inputs=', FILE), GOT_TWO, 0, ('', b'X = 1\n'))
+    yield asked_by(FILE, ('run', '--entry', 'Inc', '--inputs', '', FILE), GOT_TWO, 0, ('', b'X = 1\n'))
+    yield asked_by('check', ('check', 'check'), [CLOSED_2, 'accepted'], 0)
+    yield asked_by('run', ('run', 'run', '--entry', 'Inc', '--inputs', INPUTS), GOT_TWO, 0, IN)
+    yield asked_by(FILE, ('run', '--entry=', FILE), ['I5 no such subprogram: ', 'refused: 1'], 1)
+    yield asked_by(FILE, ('run', '--entry=--turns=5', FILE), ['I5 no such subprogram: --turns=5', 'refused: 1'], 1)
+    yield asked_by(FILE, ('run', '--entry', '-', FILE), ['I5 no such subprogram: -', 'refused: 1'], 1)
+    yield asked_by(FILE, ('run', '--entry==', FILE), ['I5 no such subprogram: =', 'refused: 1'], 1)
+    # No other file is there. A file is loaded before its inputs.
+    for words in (('check', 'other'), ('check', ''), ('conditions', 'other'), ('run', '--entry', 'Inc', 'other'), ('run', '--entry', 'Inc', '--inputs', INPUTS, 'other'), ('run', '--entry', 'Inc', '--inputs', 'other', FILE),
+                  ('run', '--entry', 'Inc', '--', '--turns'), ('check', '--', '--')):
+        yield asked_by(FILE, words, (), 3, IN)
+    yield asked_by('unread.adb', ('run', '--entry', 'Inc', '--inputs', 'other', 'unread.adb'), (), 3, text='procedure\n')
+    yield asked_by('same.adb', ('run', '--entry', 'Inc', '--inputs', 'same.adb', 'same.adb'), ['same.adb:1:1: I1 bad input line', 'refused: 1'], 1)
+
+
+# ---------------------------------------------------------------- lists of conditions
+
+def listed(name, text, *conditions, named='Inc'):
+    """What `conditions` prints. A condition is the number of the `@` at which it stands, its kind, its hypotheses and its goals."""
+    marks, spelled_out = marked_places(encoded(text))
+    lines = []
+    for at, (mark, kind, hypotheses, goals) in enumerate(conditions, 1):
+        line, column = marks[mark - 1]
+        lines.append(f'{named}.{at} {kind} {name}:{line}:{column}')
+        lines += [f'H{number} {term}' for number, term in enumerate(hypotheses, 1)] + [f'G{number} {term}' for number, term in enumerate(goals, 1)]
+    return Case(name, spelled_out, ''.join(line + '\n' for line in lines), 0, ('conditions', name))
+
+
+def lies(term, low=-2147483648, high=2147483647):
+    """The term lies between two numbers, or other terms."""
+    return [f'{term} >= {low}', f'{term} <= {high}']
+
+
+DOUBLE = """procedure Double (N : in Integer; S : out Integer)
+--# derives S from N;
+--# pre 0 <= N and N <= 1000;
+--# @post S = 2 * N;
+is
+begin
+   S := @0;
+   for I in Integer range @1 .. N loop
+      S := S @+ 2;
+      --# @assert S = 2 * I;
+   end loop;
+end Double;
+"""
+
+
+def worked_lists():
+    """The two conditions of the first example, and the ten of a loop over a range."""
+    yield listed('inc.adb', INC.replace('+', '@+'), (1, 'overflow', [*lies('X~'), 'X~ < 2147483647'], lies('(X~ + 1)')),
+                 (1, 'range', [*lies('X~'), 'X~ < 2147483647', *lies('(X~ + 1)')], lies('(X~ + 1)')))
+    entry = [*lies('N'), '0 <= N', 'N <= 1000', *lies('0')]
+    goal = '(1 <= N) -> ((1 >= -2147483648) and (N <= 2147483647))'
+    turn = [*entry, goal, '1 <= N']
+    cut_off = [*lies('N'), *lies('S'), *lies('I'), 'I >= 1', 'I <= N', '0 <= N', 'N <= 1000', 'S = (2 * I)']
+    again = [*cut_off, 'I < N']
+    yield listed('double.adb', DOUBLE, (2, 'range', entry[:4], lies('0')), (3, 'range', entry, [goal]), (4, 'overflow', turn, lies('(0 + 2)')), (4, 'range', [*turn, *lies('(0 + 2)')], lies('(0 + 2)')),
+                 (5, 'assert', [*turn, *lies('(0 + 2)')], ['(0 + 2) = (2 * 1)']), (1, 'post', [*entry, goal, '1 > N'], ['0 = (2 * N)']),
+                 (4, 'overflow', again, lies('(S + 2)')), (4, 'range', [*again, *lies('(S + 2)')], lies('(S + 2)')),
+                 (5, 'assert', [*again, *lies('(S + 2)')], ['(S + 2) = (2 * (I + 1))']), (1, 'post', [*cut_off, 'I = N'], ['S = (2 * N)']), named='Double')
+
+
+def facts_of_pre(name, *pairs):
+    """The parts of a precondition, each with the facts that it becomes."""
+    text = longer('A, B : in Integer; P, Q : in Boolean; X : out Integer', 'X from A & null from B, P, Q', 'X := @A', pre=' and '.join(part for part, *_ in pairs))
+    facts = [fact for _, *found in pairs for fact in found]
+    return listed(name, text, (1, 'range', [*lies('A'), *lies('B'), *facts], lies('A')))
+
+
+def lists_of_terms():
+    """Each operator, with operations and negative literals as operands. Enumeration values are positions."""
+    yield facts_of_pre('numbers_in_terms.adb', ('A + B > 0', '(A + B) > 0'), ('A - B > 0', '(A - B) > 0'), ('A * B /= 1', '(A * B) /= 1'), ('A / B = 2', '(A / B) = 2'), ('A rem B < 3', '(A rem B) < 3'),
+                       ('A mod B <= 4', '(A mod B) <= 4'), ('A ** 2 >= 5', '(A ** 2) >= 5'), ('abs A > 6', '(abs A) > 6'), ('-A < 7', '(-A) < 7'), ('+A < 8', 'A < 8'), ('A = B', 'A = B'), ('9 /= A', '9 /= A'))
+    yield facts_of_pre('operations_in_operations.adb', ('A - B - 1 > 0', '((A - B) - 1) > 0'), ('A - (B - 1) > 0', '(A - (B - 1)) > 0'), ('A + B * 2 > A / B', '(A + (B * 2)) > (A / B)'), ('-(A + B) < 8', '(-(A + B)) < 8'),
+                       ('-A mod B < 9', '(-(A mod B)) < 9'), ('abs (A - 1) < 9', '(abs (A - 1)) < 9'), ('abs (abs A) < 9', '(abs (abs A)) < 9'), ('-(-A) < 9', '(-(-A)) < 9'), ('(A + 1) ** (B + 2) = 0', '((A + 1) ** (B + 2)) = 0'),
+                       ('((A)) + ((1)) = 5', '(A + 1) = 5'))
+    yield facts_of_pre('negative_literals_in_terms.adb', ('A > -1', 'A > -1'), ('-2 < A', '-2 < A'), ('A + (-3) > 0', '(A + (-3)) > 0'), ('-4 - A > 0', '((-4) - A) > 0'), ('A * (-5) /= -6', '(A * (-5)) /= -6'), ('A / (-7) = 0', '(A / (-7)) = 0'),
+                       ('A rem (-8) = 0', '(A rem (-8)) = 0'), ('A mod (-9) = 0', '(A mod (-9)) = 0'), ('A ** (-1) = 0', '(A ** (-1)) = 0'), ('(-2) ** A = 0', '((-2) ** A) = 0'), ("A - Integer'First = 0", '(A - (-2147483648)) = 0'),
+                       ('A in -5 .. -1', 'A >= -5', 'A <= -1'), ('-2 ** A = 0', '(-(2 ** A)) = 0'), ('A + 3 > -3', '(A + 3) > -3'))
+    yield facts_of_pre('logic_in_terms.adb', ('not P', 'not P'), ('not (P or Q)', 'not (P or Q)'), ('not (not P)', 'not (not P)'), ('(P xor Q)', 'P /= Q'), ('(P and then not Q)', 'P', 'not Q'), ('(P or else Q)', 'P or Q'),
+                       ('(P or Q or P)', '(P or Q) or P'), ('(P -> Q)', 'P -> Q'), ('(P <-> not Q)', 'P <-> (not Q)'), ('P = Q', 'P = Q'), ('P /= (A > 0)', 'P /= (A > 0)'), ('(A = B) = P', '(A = B) = P'), ('(A < B or A > 5)', '(A < B) or (A > 5)'),
+                       ('(P -> (Q -> P))', 'P -> (Q -> P)'), ('((P and Q) or (A = 1))', '(P and Q) or (A = 1)'), ('True', 'true'), ('not True', 'false'), ('1 > 2',), ('not (A > 0)', 'not (A > 0)'), ('((P -> Q) -> P)', '(P -> Q) -> P'))
+    yield facts_of_pre('tests_in_terms.adb', ('A in 1 .. 5', 'A >= 1', 'A <= 5'), ('A not in 1 .. 6', 'not ((A >= 1) and (A <= 6))'), ('A in Natural', 'A >= 0'), ('A not in Positive', 'not ((A >= 1) and (A <= 2147483647))'),
+                       ('A in B - 1 .. B + 1', 'A >= (B - 1)', 'A <= (B + 1)'), ('A + B in -7 .. 7', '(A + B) >= -7', '(A + B) <= 7'), ('(A in 1 .. 9 or P)', '((A >= 1) and (A <= 9)) or P'), ('not (A in 2 .. 9)', 'not ((A >= 2) and (A <= 9))'))
+    negative = longer('X, Y, Z : out Integer', 'X, Y, Z from', 'T := @-5', 'X := @abs T', 'Y := @-T', 'Z := T @* T', declared=T)
+    minus_5, size = lies('-5'), [*lies('-5'), *lies('(abs (-5))')]
+    both = [*size, *lies('(-(-5))')]
+    yield listed('negative_literals_by_assignment.adb', negative, (1, 'range', [], minus_5), (2, 'overflow', minus_5, lies('(abs (-5))')), (2, 'range', size, lies('(abs (-5))')),
+                 (3, 'overflow', size, lies('(-(-5))')), (3, 'range', both, lies('(-(-5))')),
+                 (4, 'overflow', both, lies('((-5) * (-5))')), (4, 'range', [*both, *lies('((-5) * (-5))')], lies('((-5) * (-5))')))
+    hues = longer(A_TO_X, 'X from A', 'H := @Blue', "if A = 1 then H := @Hue'Succ (@H); end if", "X := @Hue'Pos (H)", declared=[HUES, 'H : Hue'])
+    blue, next_one = [*lies('A'), *lies('2', 0, 2)], lies('(2 + 1)', 0, 2)
+    yield listed('literals_in_terms.adb', hues, (1, 'range', lies('A'), lies('2', 0, 2)), (3, 'range', [*blue, 'A = 1'], next_one), (2, 'range', [*blue, 'A = 1', *next_one], next_one),
+                 (4, 'range', [*blue, 'A = 1', *next_one], lies('(2 + 1)')), (4, 'range', [*blue, 'not (A = 1)'], lies('2')))
+
+
+def lists_of_checks():
+    """The checks of each operator, and those after a guard."""
+    start = [*lies('A'), *lies('B')]
+    both = 'A, B : in Integer; X : out Integer'
+    quotient = [*start, 'B /= 0']
+    yield listed('quotient_in_a_list.adb', longer(both, 'X from A, B', 'X := A @/ B'), (1, 'division', start, ['B /= 0']), (1, 'overflow', quotient, lies('(A / B)')), (1, 'range', [*quotient, *lies('(A / B)')], lies('(A / B)')))
+    yield listed('modulus_in_a_list.adb', longer(both, 'X from A, B', 'X := A @mod B'), (1, 'division', start, ['B /= 0']), (1, 'range', quotient, lies('(A mod B)')))
+    yield listed('remainder_in_a_list.adb', longer(both, 'X from A, B', 'X := -A @rem B').replace('-A', '@-A'), (2, 'division', start, ['B /= 0']), (1, 'overflow', quotient, lies('(-(A rem B))')),
+                 (1, 'range', [*quotient, *lies('(-(A rem B))')], lies('(-(A rem B))')))
+    yield listed('power_in_a_list.adb', longer(both, 'X from A, B', 'X := A @** @B'), (2, 'range', start, ['B >= 0']), (1, 'overflow', [*start, 'B >= 0'], lies('(A ** B)')), (1, 'range', [*start, 'B >= 0', *lies('(A ** B)')], lies('(A ** B)')))
+    yield listed('signs_in_a_list.adb', longer(both, 'X from A & null from B', 'X := @abs (A @- 1)'), (2, 'overflow', start, lies('(A - 1)')), (1, 'overflow', [*start, *lies('(A - 1)')], lies('(abs (A - 1))')),
+                 (1, 'range', [*start, *lies('(A - 1)'), *lies('(abs (A - 1))')], lies('(abs (A - 1))')))
+    truth = 'A, B : in Integer; P : in Boolean; X : out Boolean'
+    yield listed('guard_in_a_list.adb', longer(truth, 'X from A, B, P', 'X := P and then B /= 0 and then A @/ B = 1'), (1, 'division', start, ['(P and (B /= 0)) -> (B /= 0)']),
+                 (1, 'overflow', [*start, '(P and (B /= 0)) -> (B /= 0)'], ['(P and (B /= 0)) -> (((A / B) >= -2147483648) and ((A / B) <= 2147483647))']))
+    yield listed('guard_by_or_else_in_a_list.adb', longer(truth, 'X from A, B, P', 'X := P or else (B = 0 or else A @mod B = 1)'), (1, 'division', start, ['(not P) -> ((not (B = 0)) -> (B /= 0))']))
+    yield listed('natural_in_a_list.adb', longer('A : in Natural; X : out Positive', 'X from A', 'X := @A'), (1, 'range', lies('A', 0), lies('A', 1)))
+    wide = longer(A_TO_X, 'X from A', 'T := Wide (@A) @* 2', 'X := @Integer (@T)', declared=['type Wide is range 0 .. 2 ** 40', 'T : Wide'])
+    known = [*lies('A'), *lies('A', 0, 1099511627776)]
+    base = [*known, *lies('(A * 2)', -9223372036854775808, 9223372036854775807)]
+    held = [*base, *lies('(A * 2)', 0, 1099511627776)]
+    yield listed('types_in_a_list.adb', wide, (1, 'range', lies('A'), lies('A', 0, 1099511627776)), (2, 'overflow', known, lies('(A * 2)', -9223372036854775808, 9223372036854775807)),
+                 (2, 'range', base, lies('(A * 2)', 0, 1099511627776)), (4, 'range', held, lies('(A * 2)')), (3, 'range', [*held, *lies('(A * 2)')], lies('(A * 2)')))
+
+
+def lists_of_values_on_entry():
+    """`X~` is the value on entry of what is exported; after a cut `X` is its value there. What is not exported, and a local, is `Y`."""
+    text = longer('A : in Integer; X : in out Integer; Y : out Integer', 'X, Y from A & null from X', 'T := @A', 'Y := @A', 'X := @T', '--# @assert X = A and X~ /= Y', 'X := @X', pre='A > X', post='X = X~ or Y > A', declared=T).replace('post', '@post')
+    start = [*lies('A'), *lies('X~'), 'A > X~']
+    after = [*lies('A'), *lies('X'), *lies('Y'), *lies('T'), *lies('X~'), 'A > X~', 'X = A', 'X~ /= Y']
+    yield listed('values_on_entry.adb', text, (2, 'range', start, lies('A')), (3, 'range', start, lies('A')), (4, 'range', start, lies('A')), (5, 'assert', start, ['A = A', 'X~ /= A']), (6, 'range', after, lies('X')), (1, 'post', after, ['(X = X~) or (Y > A)']))
+    check = longer(X, 'X from & null from X', '--# @check X = X~ and (X > 0 -> X~ > 0)', 'X := @0')
+    yield listed('check_in_a_list.adb', check, (1, 'check', lies('X~'), ['X~ = X~', '(X~ > 0) -> (X~ > 0)']), (2, 'range', [*lies('X~'), 'X~ = X~', '(X~ > 0) -> (X~ > 0)'], lies('0')))
+    spelled = longer('Big_Name, Other : in out Integer', 'BIG_NAME from other & OTHER from big_name', 'TEMP := @big_name', 'BIG_name := @OTHER', '--# @check temp = big_NAME~', 'oTHER := @temp', declared=['Temp : Integer']).replace('procedure Inc', 'procedure inC').replace('end Inc', 'end INC')
+    start = [*lies('Big_Name~'), *lies('Other~')]
+    yield listed('names_as_they_are_declared.adb', spelled, (1, 'range', start, lies('Big_Name~')), (2, 'range', start, lies('Other~')), (3, 'check', start, ['Big_Name~ = Big_Name~']), (4, 'range', [*start, 'Big_Name~ = Big_Name~'], lies('Big_Name~')), named='inC')
+    truth = longer('P : in out Boolean; X : in out Integer', 'X from X, P & P from P', 'P := not P', 'if P then X := @1; end if', '--# @assert P or X > 0', 'X := @X')
+    start, after = lies('X~'), [*lies('X'), *lies('X~'), 'P or (X > 0)']
+    yield listed('truth_values_in_a_list.adb', truth, (1, 'range', [*start, 'not P~'], lies('1')), (2, 'assert', [*start, 'not P~', *lies('1')], ['(not P~) or (1 > 0)']), (2, 'assert', [*start, 'not (not P~)'], ['(not P~) or (X~ > 0)']), (3, 'range', after, lies('X')))
+
+
+def lists_of_branches():
+    """Facts of arms, of alternatives and of what is static."""
+    text = longer(A_TO_X, 'X from A', 'if A in 1 .. 2 then X := @1; elsif A = 3 or A = 4 then X := @2; else X := @3; end if')
+    start = lies('A')
+    first = ['not ((A >= 1) and (A <= 2))']
+    yield listed('arms_in_a_list.adb', text, (1, 'range', [*start, 'A >= 1', 'A <= 2'], lies('1')), (2, 'range', [*start, *first, '(A = 3) or (A = 4)'], lies('2')), (3, 'range', [*start, *first, 'not ((A = 3) or (A = 4))'], lies('3')))
+    text = longer(A_TO_X, 'X from A', 'case A is when 1 => X := @1; when 2 .. 5 => X := @2; when -1 | 7 .. 8 | 9 => X := @3; when others => X := @4; end case')
+    others = ['not (A = 1)', 'not ((A >= 2) and (A <= 5))', 'not (((A = -1) or ((A >= 7) and (A <= 8))) or (A = 9))']
+    yield listed('alternatives_in_a_list.adb', text, (1, 'range', [*start, 'A = 1'], lies('1')), (2, 'range', [*start, 'A >= 2', 'A <= 5'], lies('2')), (3, 'range', [*start, '((A = -1) or ((A >= 7) and (A <= 8))) or (A = 9)'], lies('3')),
+                 (4, 'range', [*start, *others], lies('4')))
+    text = longer(A_TO_X, 'X from A', 'if 1 < 2 then X := @A; else X := @0; end if', '--# @check True')
+    yield listed('static_facts_in_a_list.adb', text, (1, 'range', [*start, 'true'], lies('A')), (3, 'check', [*start, 'true'], ['true']), (2, 'range', [*start, 'not true'], lies('0')), (3, 'check', [*start, 'not true', *lies('0')], ['true']))
+
+
+def lists_of_loops():
+    """The cut of a loop without an assertion of its own, and bounds by their names."""
+    text = longer(X, 'X from X', 'while X > 0 loop X := X @- 1; end loop', '--# @check X <= 0')
+    cut_off = [*lies('X'), *lies('X~'), 'true']
+    turn = [*cut_off, *lies('(X - 1)')]
+    yield listed('while_in_a_list.adb', text, (2, 'check', [*lies('X~'), 'not (X~ > 0)'], ['X~ <= 0']), (1, 'overflow', cut_off, lies('(X - 1)')), (1, 'range', turn, lies('(X - 1)')), (2, 'check', [*turn, 'not ((X - 1) > 0)'], ['(X - 1) <= 0']))
+    text = longer(A_AND_X, 'X from X, A', 'T := A @+ 1', 'for I in Natural range @T .. X loop X := @I; end loop', declared=T)
+    start = [*lies('A'), *lies('X~'), *lies('(A + 1)')]
+    goal = '((A + 1) <= X~) -> (((A + 1) >= 0) and (X~ <= 2147483647))'
+    cut_off = [*lies('A'), *lies('X'), *lies('T'), *lies('X~'), *lies('I', 0), 'I >= I!first', 'I <= I!last', 'true']
+    yield listed('named_bounds.adb', text, (1, 'overflow', start[:4], lies('(A + 1)')), (1, 'range', start, lies('(A + 1)')), (2, 'range', start, [goal]), (3, 'range', cut_off, lies('I')))
+    text = longer(A_AND_X, 'X from X, A', 'for I in reverse Integer range A @- 1 .. X loop X := @I;\n--# @assert X = I;\nend loop').replace('range A @', 'range A @@')
+    goal = '((A - 1) <= X~) -> (((A - 1) >= -2147483648) and (X~ <= 2147483647))'
+    start = [*lies('A'), *lies('X~'), *lies('(A - 1)')]
+    cut_off = [*lies('A'), *lies('X'), *lies('X~'), *lies('I'), 'I >= (A - 1)', 'I <= I!last', 'X = I']
+    turn = [*start, goal, '(A - 1) <= X~']
+    again = [*cut_off, 'I > (A - 1)']
+    yield listed('reverse_in_a_list.adb', text, (1, 'overflow', start[:4], lies('(A - 1)')), (2, 'range', start, [goal]), (3, 'range', turn, lies('X~')), (4, 'assert', turn, ['X~ = X~']),
+                 (3, 'range', again, lies('(I - 1)')), (4, 'assert', [*again, *lies('(I - 1)')], ['(I - 1) = (I - 1)']))
+    text = longer(OUT_X, 'X from', 'X := @0', 'for H in Hue loop for I in Integer range 1 .. 3 loop X := @I; end loop; end loop', declared=[HUES]).replace('range 1', 'range @1')
+    outer = [*lies('X'), *lies('H', 0, 2), 'H >= 0', 'H <= 2', 'true']
+    goal = '(1 <= 3) -> ((1 >= -2147483648) and (3 <= 2147483647))'
+    after = [*lies('X'), *lies('H', 0, 2), *lies('I'), 'I >= 1', 'I <= 3', 'true']
+    yield listed('loops_in_a_list.adb', text, (1, 'range', [], lies('0')), (2, 'range', list(dict.fromkeys(outer)), [goal]), (3, 'range', list(dict.fromkeys(after)), lies('I')))
+    text = longer(X, 'X from X', plain('exit when X > 5', leaving('X = 0', 'X := @1'), 'X := @2'), '--# @check X > 0')
+    cut_off = [*lies('X'), *lies('X~'), 'true']
+    other = [*cut_off, 'not (X > 5)']
+    yield listed('exits_in_a_list.adb', text, (1, 'range', [*other, 'X = 0'], lies('1')), (3, 'check', [*other, 'X = 0', *lies('1')], ['1 > 0']), (2, 'range', [*other, 'not (X = 0)'], lies('2')), (3, 'check', [*cut_off, 'X > 5'], ['X > 0']))
+
+
+def phases_of_lists():
+    """All phases before the conditions are those of a check. Nothing is printed where there are no conditions."""
+    def as_check(case):
+        return Case(case.name, case.text, case.report, case.status, ('conditions', case.name))
+    yield Case('nothing_to_list.adb', b'', '', 0, ('conditions', 'nothing_to_list.adb'))
+    yield Case('no_conditions_to_list.adb', encoded(longer(None, None, 'null')), '', 0, ('conditions', 'no_conditions_to_list.adb'))
+    two = short('One') + short('Two', 'Y')
+    lines = ['One.1 range two.adb:3:15', *(f'H{at} {fact}' for at, fact in enumerate(lies('X~'), 1)), *(f'G{at} {fact}' for at, fact in enumerate(lies('X~'), 1)),
+             'Two.1 range two.adb:6:15', *(f'H{at} {fact}' for at, fact in enumerate(lies('Y~'), 1)), *(f'G{at} {fact}' for at, fact in enumerate(lies('Y~'), 1))]
+    yield Case('two.adb', encoded(two), ''.join(line + '\n' for line in lines), 0, ('conditions', 'two.adb'))
+    yield as_check(bad_byte('list_of_a_bad_byte.adb', procedure('X @? 1')))
+    yield as_check(unexpected('list_without_an_operand.adb', procedure('X + @* 1')))
+    yield as_check(refused('list_of_an_undeclared_name.adb', procedure('@Y'), 'N1'))
+    yield as_check(refused('list_of_a_wrong_mode.adb', procedure(mode='in', derives='@X from X'), 'U8'))
+    yield as_check(refused('list_without_a_flow.adb', longer(X, '@X from X', '@X := X + 1', 'X := 1'), 'F2 unused: X from X', 'F3'))
+    yield as_check(too_nested('list_of_201_levels.adb', procedure(nested(201))))
+    yield as_check(too_many_variables('list_of_4097_variables.adb', many(4097)))
+    yield as_check(too_many_paths('list_of_many_paths.adb', short('First') + longer(A_AND_X, 'X from X, A', *['if A > 0 then X := A; end if'] * 13)))
+    yield as_check(too_large('list_of_many_nodes.adb', short('First') + doublings(20)))
+
+
 # ---------------------------------------------------------------- the table
 
 GROUPS = (form, relations, simplifier, numbers, places, words, layout, comments, marks, other_bytes, tokens, grammar,
@@ -5948,7 +6744,10 @@ GROUPS = (form, relations, simplifier, numbers, places, words, layout, comments,
           conditions_of_annotations, places_of_assertions, rules_of_assertions, facts_after_cuts, order_of_cuts,
           syntax_of_loops, rules_of_loops, flow_of_loops, unset_in_loops, conditions_of_loops, paths_of_loops,
           syntax_of_counts, rules_of_counts, flow_of_counts, unset_in_counts, conditions_of_counts, paths_of_counts,
-          syntax_of_exits, rules_of_exits, flow_of_exits, unset_at_exits, conditions_of_exits, paths_of_exits)
+          syntax_of_exits, rules_of_exits, flow_of_exits, unset_at_exits, conditions_of_exits, paths_of_exits,
+          worked_runs, runs_of_operators, runs_of_types, runs_of_truth_values, runs_that_read_unset_variables, runs_of_annotations, bits_of_runs,
+          runs_of_branches, runs_of_loops, entries_of_runs, phases_of_runs, forms_of_inputs, bad_lines, imports_of_inputs, words_of_commands,
+          worked_lists, lists_of_terms, lists_of_checks, lists_of_values_on_entry, lists_of_branches, lists_of_loops, phases_of_lists)
 CASES = tuple(case for group in GROUPS for case in group())
 
 
@@ -5956,12 +6755,13 @@ def faults():
     """What keeps the cases from being a table: doubled names, headers in texts, and where reading.py disagrees."""
     seen = set()
     for case in CASES:
-        if case.name in seen:
-            yield f'{case.name}: the name stands twice'
-        seen.add(case.name)
-        if not can_stand(case.text):
+        head = header(case.name, case.text, case.words)
+        if head in seen:
+            yield f'{case.name}: the header stands twice'
+        seen.add(head)
+        if not all(can_stand(text) for text in (case.text, *(case.second or ())[1:])):
             yield f'{case.name}: a line looks like a header'
-        read = examine(case.name, case.text)
+        read = answered(*case.asked())
         if (read.report, read.status) != (case.report, case.status):
             yield f'{case.name}: expected {case.report!r}, but reading.py answers {read.report!r}'
 
@@ -5969,8 +6769,8 @@ def faults():
 def files():
     """The bytes of each file, by its path."""
     return {
-        FOLDER / 'stdin': b''.join(entry(case.name, case.text) for case in CASES),
-        FOLDER / 'stdout': b''.join(answer(case.name, case.text, case.report, case.status) for case in CASES),
+        FOLDER / 'stdin': b''.join(entry(case.name, case.text, case.words, case.second) for case in CASES),
+        FOLDER / 'stdout': b''.join(answer(case.name, case.text, case.report, case.status, case.words) for case in CASES),
     }
 
 

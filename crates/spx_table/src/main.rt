@@ -15,9 +15,9 @@ use std::alloc::{AllocError, Global};
 use std::io::{self, Read, Write};
 use std::str;
 
-/// More bytes than what is printed on one text of the table has. The longest is the list of some two hundred conditions of one
-/// procedure, each with some twenty lines of some thirty bytes.
-const ROOM: usize = 262144;
+/// More bytes than what is printed on one text has: reports have some lines, and the longest list of conditions of a file of
+/// examples/ has some 76000 bytes.
+const ROOM: usize = 131072;
 
 /// What was answered and written.
 #[derive(Drop)]
