@@ -477,20 +477,13 @@ elif command -v python3 >/dev/null && python3 -c 'import dataclasses' 2>/dev/nul
     printf '#!/bin/sh\nexec python3 -B - "$@" <<END\n' >"$program"
     printf 'import sys\nsys.path.insert(0, "%s/tests")\n' "$top" >>"$program"
     cat >>"$program" <<'OUTER'
-from reading import USAGE, examine
+from pathlib import Path
+from reading import answered, asked_by
 words = sys.argv[1:]
-if len(words) != 2 or words[0] != 'check':
-    report, status = USAGE, 2
-else:
-    try:
-        with open(words[1], 'rb') as file:
-            answer = examine(words[1], file.read())
-        report, status = answer.report, answer.status
-    except OSError:
-        report, status = '', 3
-sys.stdout.write(report)
-sys.exit(status)
-END
+asked = asked_by(words)
+answer = answered(words, {name: Path(name).read_bytes() for name in (asked.files() if asked else []) if Path(name).is_file()})
+sys.stdout.write(answer.report)
+sys.exit(answer.status)
 OUTER
     skip 'the examiner is not built: the second reading in tests/reading.py stands in for it'
 else
@@ -553,6 +546,16 @@ reports() {
     done
 }
 
+# Each command of the examples has what it prints beside it.
+runs() {
+    for command in examples/*/*.command; do
+        what=$command
+        # shellcheck disable=SC2046
+        (cd "$tree" && ./spx $(cat "$command")) >"$room/out" 2>"$room/err" </dev/null
+        if cmp -s "$tree/${command%.command}.report" "$room/out"; then pass; else fail "printed: $(cat "$room/out")"; fi
+    done
+}
+
 # Each other example is a text of the table, by its name, with what is printed on it.
 rows() {
     for text in examples/*.adb; do
@@ -569,6 +572,7 @@ if [ -n "$examiner" ]; then
     sessions
     commands
     steps
+    runs
     rows
 fi
 [ "$examiner" != built ] || reports

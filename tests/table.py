@@ -3,7 +3,7 @@
 
 Most are asked about by `check`, some by `conditions`, `run`, or other words. The expectations are decided by the rules of
 docs/language.md, case by case, and reading.py must agree with each. The examples of docs/report.md and docs/guide.md are
-cases too, each a file of examples/ beside what is printed on it.
+cases too, each a file of examples/ beside what is printed on it: of an .adb by `check`, and of a .command by its words.
 
     tests/table.py           writes the table and the expected answers: stdin and stdout of crates/spx_table
     tests/table.py --check   compares them with what is there, and the two documents with the examples, and ends with 1
@@ -22,9 +22,10 @@ from reading import ANNOTATION, RESERVED, USAGE, answered
 
 TOP = Path(__file__).resolve().parent.parent
 FOLDER = TOP / 'crates' / 'spx_table'
-# The documents with the folders of their examples.
+# The documents with the folders of their examples, and the folder of runs, from which every document may show something.
 DOCUMENTS = {TOP / 'docs' / 'report.md': TOP / 'examples' / 'findings',
              TOP / 'docs' / 'guide.md': TOP / 'examples' / 'guide'}
+RUNS = TOP / 'examples' / 'runs'
 
 
 # ---------------------------------------------------------------- cases
@@ -2356,18 +2357,38 @@ def limit_or_breach():
 
 
 def examples():
-    """The examples of the documents."""
+    """The examples of the documents, and the runs."""
     for folder in DOCUMENTS.values():
         for text, report in examples_in(folder):
             name = text.relative_to(TOP).as_posix()
             printed = report.read_text(encoding='utf-8')
-            status = 6 if printed.startswith('limit: ') else 0 if printed.endswith('accepted\n') else 1
-            yield Case(name, text.read_bytes(), printed, status)
+            yield Case(name, text.read_bytes(), printed, status_of(printed))
+    for folder in (*DOCUMENTS.values(), RUNS):
+        for words, (text, *inputs), report in commands_in(folder):
+            printed = report.read_text(encoding='utf-8')
+            second = [(name, (TOP / name).read_bytes()) for name in inputs]
+            yield Case(text, (TOP / text).read_bytes(), printed, status_of(printed), words, second[0] if second else None)
+
+
+def status_of(printed):
+    """The status that comes with what is printed of an example."""
+    for word, status in (('limit: ', 6), ('fault: ', 7), ('not ended ', 8)):
+        if printed.startswith(word):
+            return status
+    return 1 if printed.splitlines()[-1].startswith('refused: ') else 0
 
 
 def examples_in(folder):
     """The file of each example, and the one with what is printed on it."""
     return [(text, text.with_suffix('.report')) for text in sorted(folder.glob('*.adb'))]
+
+
+def commands_in(folder):
+    """The words of each command, the files that they name, and the file with what is printed."""
+    for command in sorted(folder.glob('*.command')):
+        words = tuple(command.read_text(encoding='utf-8').split())
+        inputs = [after for before, after in zip(words, words[1:]) if before == '--inputs']
+        yield words, [words[-1], *inputs], command.with_suffix('.report')
 
 
 def documented():
@@ -2384,6 +2405,8 @@ def documented():
                   'F1 missing: X from X', 'F4 unset: X')
     for name, total, named in (('swap', 4, 'Swap'), ('clamp', 8, 'Clamp'), ('blend', 9, 'Blend'), ('level', 6, 'Raise_By'), ('signal', 4, 'Signal')):
         yield accepted(f'{name}.adb', (TOP / 'examples' / f'{name}.adb').read_text(encoding='utf-8'), total, named=named)
+    for name, total, named in (('share', 6, 'Share'), ('grow', 1, 'Grow')):
+        yield accepted(f'{name}.adb', (RUNS / f'{name}.adb').read_text(encoding='utf-8'), total, named=named)
     share = (TOP / 'examples' / 'guard.adb').read_text(encoding='utf-8')
     yield accepted('guard.adb', share, 1, named='Share')
     yield left_at('guard_by_and.adb', share.replace('and then Whole', 'and Whole <1d>').replace('<1d> ', '<1d>'), 1, named='Share')
@@ -6784,16 +6807,21 @@ def blocks(document):
 
 
 def wrong_copies(document, folder):
-    """Blocks that are no command, no lines of an example in a row and no report; and reports that no block is."""
-    texts = [text.read_text(encoding='utf-8') for text, _ in examples_in(folder)]
+    """Blocks that are no command, no lines in a row of an example or of a list of conditions, and no report; and reports that no block shows."""
+    commands = [(words, names, report.read_text(encoding='utf-8'), report) for words, names, report in commands_in(folder)]
+    lists = {printed for words, _, printed, _ in commands if words[0] == 'conditions'}
+    texts = [text.read_text(encoding='utf-8') for text, _ in examples_in(folder) + examples_in(RUNS)]
+    texts += [(TOP / name).read_text(encoding='utf-8') for _, names, _, _ in commands for name in names]
     reports = {report.read_text(encoding='utf-8'): report for _, report in examples_in(folder)}
+    reports |= {printed: report for _, _, printed, report in commands}
+    calls = [f'./spx {" ".join(words)}\n' for words, _, _, _ in commands]
     found = dict((block, line) for line, block in blocks(document))
     for block, line in found.items():
-        is_piece = any('\n' + block in '\n' + text for text in texts)
-        if not (is_piece or block in reports or block.startswith('./spx check ')):
+        is_piece = any('\n' + block in '\n' + text for text in texts + list(lists))
+        if not (is_piece or block in reports or block in calls or block.startswith('./spx check ')):
             yield f'{document.name}:{line}: a block is no piece of an example of {folder.name}'
     for report, path in reports.items():
-        if report not in found:
+        if not any(block == report or (report in lists and '\n' + block in '\n' + report) for block in found):
             yield f'{document.name}: lacks {folder.name}/{path.name}'
 
 

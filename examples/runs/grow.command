@@ -1,0 +1,1 @@
+run --entry Grow --inputs examples/runs/grow.txt examples/runs/grow.adb

@@ -1,0 +1,1 @@
+run --entry Share --inputs examples/runs/share.txt examples/runs/share.adb
