@@ -183,6 +183,15 @@ else
 fi
 chmod 700 "$room/closed"
 
+what='which file of a run cannot be read'
+printf 'X = 1\n' >"$room/in.txt"
+for words in "--entry inc.adb --turns 5 --inputs in.txt no_file" "no_file --inputs=in.txt --entry no_entry" "--inputs no_file --entry no_entry inc.adb" "inc.adb --inputs=no_file --entry no_entry"; do
+    # shellcheck disable=SC2086
+    (cd "$room" && SPX_STATUS=3 "$tree/spx" run $words) >"$room/out" 2>"$room/err" </dev/null
+    says 'spx: cannot read no_file: no such file'
+    says_one_line
+done
+
 what='that the output, the memory or a limit ends the work'
 run env SPX_STATUS=4 "$tree/spx" check "$room/inc.adb"
 says 'could not be written'
@@ -205,6 +214,13 @@ for bytes in '\r' '\v' '\f' '\032' '\302\205' '\342\200\250' '\342\200\251'; do
     ends 0
     prints '<check>\n<%s>\n' "$room/odd bytes.adb"
 done
+what='bytes that end a line in the program of a run'
+printf 'X = 1 -- \rY\n' >"$room/odd.txt"
+run env SPX_STATUS=7 "$tree/spx" run --entry odd --inputs "$room/odd.txt" "$room/odd bytes.adb"
+says "spx: warning: $room/odd bytes.adb has a byte that ends a line"
+says_one_line
+run "$tree/spx" run --entry "$room/odd bytes.adb" --inputs "$room/odd.txt" "$room/inc.adb"
+says_nothing
 what='bytes that end no line'
 printf -- '-- a comment\r\n-- \303\251 \342\200\246 \302\240 \205 \250\tx\r\n' >"$room/even.adb"
 run "$tree/spx" check "$room/even.adb"
@@ -370,7 +386,7 @@ fi
 what='help'
 run "$tree/spx" help
 ends 0
-for word in check explain build version help; do
+for word in check conditions run explain build version help; do
     is "$(grep -c "spx $word" "$room/out")" 1
 done
 
@@ -383,18 +399,23 @@ done
 
 what='explain has each rule that the program can print, and no other'
 sources=$top/crates/spx_report/src
+inputs=$top/crates/spx_run/specs/Results.antt
 run "$tree/spx" explain
 ends 0
 says_nothing
 cp "$room/out" "$room/rules"
 sed 's/ .*//' "$room/rules" | sort >"$room/explained"
-sed -n 's/.*RuleName::\([A-Z]*[0-9]*\) => b"\1",.*/\1/p' "$sources/report.rt" | sort >"$room/printed"
+{
+    sed -n 's/.*RuleName::\([A-Z]*[0-9]*\) => b"\1",.*/\1/p' "$sources/report.rt"
+    sed -n 's/.*codes "\(I[0-9]\) .*/\1/p' "$inputs"
+} | sort >"$room/printed"
 is "$(wc -l <"$room/printed")" "$(wc -l <"$room/explained")"
 if cmp -s "$room/printed" "$room/explained"; then pass; else fail "$(diff "$room/printed" "$room/explained")"; fi
 # With their texts: those of the sources, and those in what is expected of the table of texts.
 sed -n 's/.*RuleName::\([A-Z]*[0-9]*\) => b"\([^"]* [^"]*\)",.*/\1 \2/p' "$sources/refusals.rt" >"$room/texts"
-sed -n 's/^[^ ]*:[0-9]*:[0-9]*: \([LPNU][0-9]*\) \(.*\)/\1 \2/p; s/^[^ ]*:[0-9]*:[0-9]*: \(F[0-9]\) \(.*\)/\1 \2/p' "$top/crates/spx_table/stdout" |
-    sed 's/^\(F[12] [a-z]*:\) .* from .*/\1 Y from X/; s/^\(F4 unset:\) .*/\1 X/' >>"$room/texts"
+sed -n 's/.*codes "\(I[0-9] [^":]*\)\\n".*/\1/p; s/.*codes "\(I4 [^"]*: \)".*/\1X/p; s/.*codes "\(I5 [^"]*: \)".*/\1NAME/p' "$inputs" >>"$room/texts"
+sed -n 's/^[^ ]*:[0-9]*:[0-9]*: \([LPNUI][0-9]*\) \(.*\)/\1 \2/p; s/^[^ ]*:[0-9]*:[0-9]*: \(F[0-9]\) \(.*\)/\1 \2/p; s/^I[45] .*/&/p' "$top/crates/spx_table/stdout" |
+    sed 's/^\(F[12] [a-z]*:\) .* from .*/\1 Y from X/; s/^\(F4 unset:\) .*/\1 X/; s/^\(I4 [a-z ]*:\) .*/\1 X/; s/^\(I5 [a-z ]*:\) .*/\1 NAME/' >>"$room/texts"
 sort -u "$room/texts" | sed 's/ /|/' | sort >"$room/wanted"
 sed 's/  */|/' "$room/rules" | grep -v '^V1|' | sort -u >"$room/has"
 if diff "$room/wanted" "$room/has" >"$room/diff"; then pass; else fail "$(cat "$room/diff")"; fi
@@ -409,7 +430,7 @@ while read -r rule text; do
     for part in When Place Example 'What to do'; do
         is "$rule $part: $(grep -c "^\*\*$part\*\*:" "$room/out")" "$rule $part: 1"
     done
-    if grep -q "^    .*: $rule " "$room/out"; then pass; else fail "$rule has no example"; fi
+    if grep -qE "^    (.*: )?$rule " "$room/out"; then pass; else fail "$rule has no example"; fi
 done <"$room/rules"
 run "$tree/spx" explain u7 V1
 is "$(grep -c '^### ' "$room/out")" 2

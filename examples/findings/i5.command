@@ -1,0 +1,1 @@
+run --entry Divide --inputs examples/runs/share.txt examples/runs/share.adb

@@ -1,0 +1,1 @@
+conditions examples/guide/6.adb

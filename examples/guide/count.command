@@ -1,0 +1,1 @@
+run --entry Tick --inputs examples/guide/count.txt examples/guide/8.adb
