@@ -1312,6 +1312,17 @@ def random_runs(seed, count):
             yield case
 
 
+def random_texts(seed, count):
+    """So many texts that can stand in a table, each with its name."""
+    writer = Writer(seed)
+    found = []
+    while len(found) < count:
+        text = writer.text()
+        if can_stand(text):
+            found.append((f'text_{len(found) + 1}', text))
+    return found
+
+
 def random_lists(seed, count):
     """So many lists of conditions of texts."""
     for name, text in random_texts(seed, count):

@@ -3053,7 +3053,7 @@ class InputLine:
 
 
 def lines_of(text):
-    """The lines of a text, each without its end. A line ends at LF alone, and nothing after the last LF is no line."""
+    """The lines of a text, each without its end. A line ends at LF only, and nothing after the last LF is no line."""
     lines = text.split(b'\n')
     return lines if lines[-1] else lines[:-1]
 

@@ -6317,6 +6317,11 @@ def runs_of_loops():
     yield faulted('condition_past_the_bound.adb', longer(X, 'X from X', 'while 6 @/ X > 0 loop X := X - 1; end loop'), 'X = 2', 'division', turns=2)
     yield not_ended('condition_that_stays.adb', longer(X, 'X from X', 'while X > 0 loop null; end loop'), 'X = 2', 1000)
     yield not_ended('loop_without_an_exit.adb', longer(X, 'X from X', plain('null')), 'X = 2', 1)
+    # Without a bound among the words it is 1000000.
+    great = longer(A_TO_X, 'X from A', 'X := 0', counting('I in Integer range 1 .. A', 'X := I'))
+    yield ended('as_many_turns_as_without_a_bound.adb', great, 'A = 1000000', 'X = 1000000')
+    yield run_on('a_turn_more_than_without_a_bound.adb', great, 'A = 1000001', ['not ended within 1000000 turns'], 8)
+    yield ended('a_turn_more_with_a_bound.adb', great, 'A = 1000001', 'X = 1000001', turns=1000001)
     # The bounds are evaluated once; without a value between them there is no turn.
     yield ended('bounds_that_change.adb', longer(X, 'X from X', 'for I in Integer range 1 .. X loop X := X + I; end loop'), 'X = 3', 'X = 9')
     bounds = longer('A, B : in Integer; X : out Integer', 'X from A, B', 'X := 7', 'for I in Natural range A .. B loop X := I; end loop')
@@ -6524,6 +6529,10 @@ def words_of_commands():
             ('run', '--turns=1000000000', '--entry', 'Inc', '--inputs', INPUTS, FILE), ('run', '--entry', 'Inc', '--turns', '+5', '--inputs', INPUTS, FILE), ('run', '--entry', 'Inc', '--inputs', INPUTS, '--turns', '0000000005', FILE),
             ('run', '--entry', 'Inc', '--inputs', INPUTS, FILE, '--turns=00000000000000000000000000005')):
         yield asked_by(FILE, words, GOT_TWO, 0, IN)
+    found = [*(f'H{at} {fact}' for at, fact in enumerate([*lies('X~'), 'X~ < 2147483647'], 1)), *(f'G{at} {goal}' for at, goal in enumerate(lies('(X~ + 1)'), 1))]
+    more = [*found[:3], *(f'H{at} {fact}' for at, fact in enumerate(lies('(X~ + 1)'), 4)), *found[3:]]
+    for words in (('conditions', FILE), ('conditions', '--', FILE), ('conditions', FILE, '--')):
+        yield asked_by(FILE, words, [f'Inc.1 overflow {FILE}:6:11', *found, f'Inc.2 range {FILE}:6:11', *more], 0)
     yield asked_by(FILE, ('check', '--', FILE), [CLOSED_2, 'accepted'], 0)
     yield asked_by(FILE, ('check', FILE, '--'), [CLOSED_2, 'accepted'], 0)
     # A hyphen by itself is a file, and so is any word after `--`.
@@ -6631,7 +6640,7 @@ def lists_of_terms():
 
 
 def lists_of_checks():
-    """The checks of each operator, and those behind a guard."""
+    """The checks of each operator, and those after a guard."""
     start = [*lies('A'), *lies('B')]
     both = 'A, B : in Integer; X : out Integer'
     quotient = [*start, 'B /= 0']
