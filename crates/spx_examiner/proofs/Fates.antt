@@ -33,7 +33,7 @@ use Rattle.spx_examiner.specs.declared.reading.Reading.TheVariants.{Units, Broke
 use Rattle.spx_examiner.specs.Causes.{any_too_long}
 use Rattle.spx_examiner.specs.Judgement.{status_of}
 use Rattle.spx_examiner.specs.Laws.{Laws}
-use Rattle.spx_examiner.specs.Outcome.{AreBadFor, AreClean, AreGoodFor, AreInputsIn, AreSound, AreTooLarge, AreTooWide, ComesTo, EndsBadly, EndsWell, HasNotEnded, IsExamined, IsJudgedOn, IsReadTooFar, IsReportOnProgram, IsReportOnReading, IsReportOnUnits, PassesLimit, of_breach, of_line, of_program}
+use Rattle.spx_examiner.specs.Outcome.{AreBadFor, AreClean, AreGoodFor, AreInputsIn, AreSound, AreTooLarge, AreTooWide, ComesTo, EndsBadly, EndsWell, HasNotEnded, IsExamined, IsJudgedOn, IsReadTooFar, IsReportOnProgram, IsReportOnReading, IsReportOnUnits, PassesLimit, SaysHowItRan, of_breach, of_line, of_program}
 use Rattle.spx_examiner.specs.Reading.{IsRead, crowded, ended, expected_at, nested, stopped, stopped_at, whole}
 use Rattle.spx_examiner.specs.Words.{IsCheck, IsConditions, IsRun, files_in}
 use Rattle.spx_examiner.proofs.Examined.{Examination, examination, flawed, not_obeyed, sound, too_large, too_wide}
@@ -415,6 +415,44 @@ module _ (laws : Laws) (r : Request) (of_conditions : Program → Judgement) (ex
   pub accepts : (source : List ℕ) (j : Judgement) → IsJudgedOn r (source ∷ []) j → status_of j ≡ status.Accepted → Accepts source of_conditions j
   accepts source j (inl (long, is)) a = let e : status_of j ≡ status.Limit = ap status_of is in absurd (cc)
   accepts source j (inr (short, (reading, read, report))) a = accepts_reading source reading j (text_of_reading laws source reading read) report a
+
+-- ---- runs that came to something
+
+-- a judgement says what the run comes to
+abbrev pub SaysResult : Request → List (List ℕ) → Judgement → Type 0
+SaysResult r contents j = (came : RunResult) × ComesTo r contents came × (j ≡ Ran came)
+
+not_refused : (j : Judgement) → status_of j ≡ status.Refused → ¬ SaysHowItRan (status_of j)
+not_refused j e (inl a) = absurd (cc)
+not_refused j e (inr (inl a)) = absurd (cc)
+not_refused j e (inr (inr a)) = absurd (cc)
+
+not_limited : (j : Judgement) → status_of j ≡ status.Limit → ¬ SaysHowItRan (status_of j)
+not_limited j e (inl a) = absurd (cc)
+not_limited j e (inr (inl a)) = absurd (cc)
+not_limited j e (inr (inr a)) = absurd (cc)
+
+ran_program : (r : Request) (source : List ℕ) (given : List (List ℕ)) (j : Judgement) (lines : List InputLine) (p : Program) → IsRun r → AreInputsIn given (Ok lines) → IsOn source p → IsReportOnProgram r lines p j → SaysResult r (source ∷ given) j
+ran_program (requests.check file) source given j lines p runs are on report = absurd runs
+ran_program (requests.conditions file) source given j lines p runs are on report = absurd runs
+ran_program (requests.run entry turns inputs file) source given j lines p runs are on report = (result_of p entry turns 1 lines, (p, lines, on.spelled, on.obeys, are, refl), report)
+
+ran_units : (r : Request) (source : List ℕ) (given : List (List ℕ)) (j : Judgement) (units : List Unit) → IsRun r → IsText 0 source units → IsReportOnUnits r given units j → SaysHowItRan (status_of j) → SaysResult r (source ∷ given) j
+ran_units r source given j units runs text (of_line n bad is) how = absurd (not_refused j (ap status_of is) how)
+ran_units r source given j units runs text (of_breach lines breach are first is) how = absurd (not_refused j (ap status_of is) how)
+ran_units r source given j units runs text (of_program lines p are made obeys report) how =
+    ran_program r source given j lines p runs are (record { spelled = spelled_by source units p text made; obeys = obeys }) report
+
+ran_reading : (r : Request) (source : List ℕ) (given : List (List ℕ)) (j : Judgement) (reading : Reading) → IsRun r → Text source reading → IsReportOnReading r given reading j → SaysHowItRan (status_of j) → SaysResult r (source ∷ given) j
+ran_reading r source given j _ runs (units_of units text) report how = ran_units r source given j units runs text report how
+ran_reading r source given j _ runs (none_of finding none) is how = absurd (not_refused j (ap status_of is) how)
+ran_reading r source given j _ runs crowd_of is how = absurd (not_limited j (ap status_of is) how)
+ran_reading r source given j _ runs depth_of is how = absurd (not_limited j (ap status_of is) how)
+
+pub says_result : Laws → (r : Request) (contents : List (List ℕ)) (j : Judgement) → IsRun r → IsJudgedOn r contents j → SaysHowItRan (status_of j) → SaysResult r contents j
+says_result laws r contents j runs (inl (long, is)) how = absurd (not_limited j (ap status_of is) how)
+says_result laws r [] j runs (inr (short, report)) how = absurd report
+says_result laws r (source ∷ given) j runs (inr (short, (reading, read, report))) how = ran_reading r source given j reading runs (text_of_reading laws source reading read) report how
 
 -- ---- on contents
 

@@ -22,11 +22,11 @@ use Rattle.spx_examiner.specs.declared.reading.Reading.TheVariants.{Units, Broke
 use Rattle.spx_examiner.specs.Causes.{named}
 use Rattle.spx_examiner.specs.Judgement.{status_of, text_of}
 use Rattle.spx_examiner.specs.Laws.{Laws}
-use Rattle.spx_examiner.specs.Outcome.{AreAcceptable, AreBadFor, AreFit, AreGoodFor, AreInputsIn, AreRefusable, AreReliable, EndsBadly, HasNotEnded, IsAssured, IsJudgedOn, IsJudgement, IsReportOn, IsReportOnProgram, IsReportOnReading, IsReportOnUnits, OneOutcome, PassLimit, PassesLimit, SpellOnly, Stand, no_form, of_breach, of_line, of_program, of_request, refused_at}
-use Rattle.spx_examiner.specs.Words.{AsksForCheck, AsksForConditions, HasNoForm, asked, files_in}
+use Rattle.spx_examiner.specs.Outcome.{AreAcceptable, AreBadFor, AreFit, AreGoodFor, AreInputsIn, AreRefusable, AreReliable, EndsBadly, HasNotEnded, IsAssured, IsJudgedOn, IsJudgement, IsReportOn, IsReportOnProgram, IsReportOnReading, IsReportOnUnits, OneOutcome, PassLimit, PassesLimit, SaysHowItRan, SpellOnly, Stand, no_form, of_breach, of_line, of_program, of_request, refused_at}
+use Rattle.spx_examiner.specs.Words.{AsksForCheck, AsksForConditions, AsksForRun, HasNoForm, IsRun, asked, files_in}
 use Rattle.spx_examiner.proofs.Endings.{named_are}
 use Rattle.spx_examiner.proofs.Examined.{one_breach, one_examined, one_made, not_obeyed}
-use Rattle.spx_examiner.proofs.Fates.{Fate, accepted, accepts, clean_program, fate, faulted, good_run, late, limited, no_result_plain, one_inputs, one_result, only_program, refused}
+use Rattle.spx_examiner.proofs.Fates.{Fate, SaysResult, accepted, accepts, clean_program, fate, faulted, good_run, late, limited, no_result_plain, one_inputs, one_result, only_program, refused, says_result}
 use Rattle.spx_examiner.proofs.Spelled.{one_reading}
 
 -- ---- one judgement
@@ -249,3 +249,9 @@ lists_conditions laws words contents j judged (file, asks) e =
     subst (λ those. ListsConditions (named words) those j) (sym on.alone)
     (subst (λ names. ListsConditions names (on.source ∷ []) j) (sym (named_are words (requests.conditions file) asks))
     (a.program, record { spelled = a.spelled; only = λ q spelled. only_program laws on.source a.program q a.spelled spelled }, ap (text_of (file ∷ [])) a.is))
+
+-- where a run says how it ended, its judgement is what it comes to
+pub runs_to : Laws → (words contents : List (List ℕ)) (j : Judgement) → IsJudgement words contents j → AsksForRun words → SaysHowItRan (status_of j) → (r : Request) × (asked words ≡ Some r) × SaysResult r contents j
+runs_to laws words contents j (no_form none is) (r, asks, runs) how = absurd (cc)
+runs_to laws words contents j (of_request s asks' count judged) (r, asks, runs) how =
+    (s, asks', says_result laws s contents j (subst IsRun (one_asked words r s asks asks') runs) judged how)

@@ -10,6 +10,7 @@ use Rattle.spx_core.specs.FlowRules.{HasNoFlowFinding, has_many_variables}
 use Rattle.spx_paths.specs.Fit.{Clean, Fit}
 use Rattle.spx_meaning.specs.Laws.{NeverBad, TwoRuns}
 use Rattle.spx_examiner.specs.declared.status.Status.{Status}
+use Rattle.spx_examiner.specs.declared.status.Status.TheVariants as status
 use Rattle.spx_report.specs.declared.report.Finding.{Finding}
 use Rattle.spx_examiner.specs.declared.judgement.Judgement.{Judgement}
 use Rattle.spx_examiner.specs.declared.judgement.Judgement.TheVariants.{Usage, Limit, Refused, Examined, Listed, Ran}
@@ -32,7 +33,7 @@ use Rattle.spx_run.specs.declared.result.Output.{Output}
 use Rattle.spx_run.specs.declared.result.RunResult.{RunResult}
 use Rattle.spx_run.specs.declared.result.RunResult.TheVariants as result
 use Rattle.spx_run.specs.Inputs.{AreInputs}
-use Rattle.spx_run.specs.Results.{result_of}
+use Rattle.spx_run.specs.Results.{result_of, result_text}
 use Rattle.spx_text.specs.Writes.{IsPart, after}
 use Rattle.spx_examiner.specs.Causes.{AreTooLong, any_too_long, named}
 
@@ -187,6 +188,14 @@ AreGoodFor r contents = (IsCheck r × AreClean contents) ⊎ ((IsConditions r ×
 -- neither that, nor does a run end badly or too late
 abbrev pub AreBadFor : Request → List (List ℕ) → Type 0
 AreBadFor r contents = (¬ AreGoodFor r contents) × (¬ EndsBadly r contents) × (¬ HasNotEnded r contents)
+
+-- the run that is asked for comes to something, and its text was taken
+abbrev pub HasRunTo : List (List ℕ) → List (List ℕ) → Option (List ℕ) → Option (List ℕ) → Type 0
+HasRunTo words contents before now = (r : Request) × (asked words ≡ Some r) × (came : RunResult) × ComesTo r contents came × (now ≡ after before (result_text (named words) came))
+
+-- the answer says how a run ended, or that it has not ended
+abbrev pub SaysHowItRan : Status → Type 0
+SaysHowItRan answer = (answer ≡ status.Accepted) ⊎ ((answer ≡ status.RunFault) ⊎ (answer ≡ status.NotEnded))
 
 -- the words ask for something, and a limit is passed
 abbrev pub PassLimit : List (List ℕ) → List (List ℕ) → Type 0

@@ -46,6 +46,10 @@ IsRun (check file) = ⊥
 IsRun (conditions file) = ⊥
 IsRun (run entry turns inputs file) = ⊤
 
+-- the words ask for a run
+abbrev pub AsksForRun : List (List ℕ) → Type 0
+AsksForRun words = (r : Request) × (asked words ≡ Some r) × IsRun r
+
 -- the file of the inputs, where one is named
 abbrev pub inputs_in : Request → List (List ℕ)
 inputs_in (check file) = []

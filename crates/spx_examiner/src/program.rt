@@ -3,14 +3,14 @@ ghost use Rattle.std.specs.Prelude.{◌≡◌, ◌≢◌, ◌⊎◌, ◌↔◌, 
 ghost use Rattle.std.specs.List.{list_any};
 ghost use Rattle.spx_text.specs.Loads.{names};
 ghost use Rattle.spx_text.specs.Writes.{Rose};
-ghost use Rattle.spx_examiner.specs.Words.{AsksForCheck, AsksForConditions, HasNoForm};
+ghost use Rattle.spx_examiner.specs.Words.{AsksForCheck, AsksForConditions, AsksForRun, HasNoForm};
 ghost use Rattle.spx_words.specs.Words.{request_of};
 ghost use Rattle.spx_examiner.specs.Judgement.{status_of, text_of};
 ghost use Rattle.spx_examiner.specs.Causes as causes;
 ghost use Rattle.spx_examiner.specs.Causes.{Concludes, Exactly, ForFiles, MayHold, OneFailed, WhereKnown, contents_of, named};
 ghost use Rattle.spx_paths.specs.Fit.{Clean, Fit};
 ghost use Rattle.spx_meaning.specs.Laws.{NeverBad, TwoRuns};
-ghost use Rattle.spx_examiner.specs.Outcome.{AreAcceptable, AreFit, AreListed, AreRefusable, AreReliable, EndsAs, EndsBadly, HasNotEnded, IsAssured, IsCutShortAs, IsJudgedOn, IsJudgement, PassLimit, Stand};
+ghost use Rattle.spx_examiner.specs.Outcome.{AreAcceptable, AreFit, AreListed, AreRefusable, AreReliable, EndsAs, EndsBadly, HasNotEnded, HasRunTo, IsAssured, IsCutShortAs, IsJudgedOn, IsJudgement, PassLimit, SaysHowItRan, Stand};
 
 use crate::Status;
 use crate::judgement::Judgement;
@@ -175,6 +175,10 @@ pub fn examine<F: Files, S: Sink>(
     // written.
     ensures listed { AsksForConditions (names words.now) → result ≡ Status.Accepted → ForFiles (F.known files.old) (names words.now) (λ contents.
         AreListed (names words.now) contents (S.taken sink.old) (S.taken sink.new)) }
+
+    // Where a run is asked for and the answer says how it ended, or that it has not, the text of what the run comes to was written.
+    ensures ran { AsksForRun (names words.now) → SaysHowItRan result → ForFiles (F.known files.old) (names words.now) (λ contents.
+        HasRunTo (names words.now) contents (S.taken sink.old) (S.taken sink.new)) }
 
     // Where no fault is counted, what is acceptable is accepted, unless memory runs out.
     ensures complete { WhereKnown (F.known files.old) (names words.now) (λ contents. AreAcceptable (names words.now) contents

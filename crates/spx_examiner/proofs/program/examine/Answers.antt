@@ -1,9 +1,11 @@
-use Rattle.std.proofs.Common.{rules, ◌≡◌, inl, inr, sym, ◌∙◌}
+use Rattle.std.proofs.Common.{rules, ◌≡◌, inl, inr, ap, sym, subst, ◌∙◌}
 use Rattle.spx_text.specs.Loads.{names}
 use Rattle.spx_examiner.specs.declared.status.Status.TheVariants.{Accepted, Refused, Usage, Limit, RunFault, NotEnded}
-use Rattle.spx_examiner.specs.Judgement.{status_of}
+use Rattle.spx_examiner.specs.Causes.{named}
+use Rattle.spx_examiner.specs.Judgement.{status_of, text_of}
+use Rattle.spx_examiner.specs.Outcome.{SaysHowItRan}
 use Rattle.spx_examiner.proofs.Loading.{where_known}
-use Rattle.spx_examiner.proofs.Reliable.{causes, lists_conditions, reliable}
+use Rattle.spx_examiner.proofs.Reliable.{causes, lists_conditions, reliable, runs_to}
 use Rattle.spx_examiner.proofs.program.examine.Goals as goal
 
 pub returns-in-Ok-write_all_pieces-clause-outcome : goal.returns-in-Ok-write_all_pieces-clause-outcome
@@ -76,3 +78,11 @@ returns-in-Ok-write_all_pieces-clause-nothing g c = λ fault.
     let (contents, holds, judged) = c.in-Ok.ensures.judged in
     let own = (causes c.laws_below.ensures (names c.args.words.now) contents c.in-Ok.made.judgement judged).no_fault in
     elim fault [ inl e ↦ absurd (own.0 (sym c.status.ensures ∙ e)) | inr e ↦ absurd (own.1 (sym c.status.ensures ∙ e)) ]
+
+pub returns-in-Ok-write_all_pieces-clause-ran : goal.returns-in-Ok-write_all_pieces-clause-ran
+returns-in-Ok-write_all_pieces-clause-ran g c = λ runs how.
+    let (contents, holds, judged) = c.in-Ok.ensures.judged in
+    let told = subst SaysHowItRan c.status.ensures how in
+    let (r, asks, found) = runs_to c.laws_below.ensures (names c.args.words.now) contents c.in-Ok.made.judgement judged runs told in
+    let text = ap (text_of (named (names c.args.words.now))) found.2 in
+    (contents, holds, (r, asks, found.0, found.1, rw (← text) (search rules)))
