@@ -1214,7 +1214,7 @@ class Writer:
 
 
 # Bounds of runs, and values of inputs: of numbers, which mostly lie in their type, and of truth values.
-TURNS = (1, 1, 2, 3, 3, 4, 6, 10, 30, 200, None)
+TURNS = (1, 1, 2, 3, 3, 4, 6, 10, 30, 200, 1000)
 SMALL_INPUTS = (-7, -1, 0, 1, 1, 2, 3, 5, 10, 46340)
 GREAT_INPUTS = (-2**31, -2**31 + 1, 2**31 - 1, 2**31 - 2, 1073741823)
 ODD_INPUTS = ('2147483648', '-2147483649', '170141183460469231731687303715884105728', 'True', 'X', '- 1', '1_0', '16#F#', '1E2', '+1', '(1)', '', '1 -- A', '1 --# A')
@@ -1304,11 +1304,11 @@ def procedures_of(text):
 
 def random_runs(seed, count):
     """So many runs of texts."""
-    runner = Runner(seed)
-    while count:
-        case = runner.case(f'run_{count}')
+    runner, made = Runner(seed), 0
+    while made < count:
+        case = runner.case(f'run_{made + 1}')
         if can_stand(case.text) and can_stand(case.second[1] if case.second else b''):
-            count -= 1
+            made += 1
             yield case
 
 
