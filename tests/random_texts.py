@@ -1312,6 +1312,10 @@ def random_runs(seed, count):
             yield case
 
 
+# The bytes that crates/spx_table has room for on one case.
+LIST_ROOM = 131072
+
+
 def random_texts(seed, count):
     """So many texts that can stand in a table, each with its name."""
     writer = Writer(seed)
@@ -1324,9 +1328,11 @@ def random_texts(seed, count):
 
 
 def random_lists(seed, count):
-    """So many lists of conditions of texts."""
+    """The lists of conditions of so many texts, but for those for which the program of the table has no room."""
     for name, text in random_texts(seed, count):
-        yield Case(name, with_line_end(text), '', 0, ('conditions', name))
+        case = Case(name, with_line_end(text), '', 0, ('conditions', name))
+        if len(expected(case)) <= LIST_ROOM:
+            yield case
 
 
 def random_checks(seed, count):
