@@ -577,6 +577,43 @@ runs() {
     done
 }
 
+# What no row of the table has: the greatest file, the most tokens, a file that is not there, and an output that takes nothing.
+limits() {
+    what='a file of the greatest size, and one byte more'
+    head -c 4194304 /dev/zero | tr '\0' ' ' >"$room/most.adb"
+    run "$program" check "$room/most.adb"
+    ends 0
+    prints 'accepted\n'
+    printf ' ' >>"$room/most.adb"
+    run "$program" check "$room/most.adb"
+    ends 6
+    prints 'limit: file size, at most 4194304\n'
+
+    what='a file of the most tokens, and one more'
+    head -c 1000000 /dev/zero | tr '\0' ';' >"$room/most.adb"
+    run "$program" check "$room/most.adb"
+    ends 1
+    prints '%s:1:1: P1 expected another token\nrefused: 1\n' "$room/most.adb"
+    printf ';' >>"$room/most.adb"
+    run "$program" check "$room/most.adb"
+    ends 6
+    prints 'limit: tokens, at most 1000000\n'
+
+    what='a file that is not there'
+    run "$program" check "$room/none.adb"
+    ends 3
+    prints ''
+    run "$program" run --entry Inc --inputs "$room/none.txt" "$tree/examples/inc.adb"
+    ends 3
+    prints ''
+
+    what='an output that takes nothing'
+    [ -c /dev/full ] || { skip 'there is no /dev/full' && return; }
+    "$program" check "$tree/examples/inc.adb" >/dev/full
+    status=$?
+    ends 4
+}
+
 # Each other example is a text of the table, by its name, with what is printed on it.
 rows() {
     for text in examples/*.adb; do
@@ -596,7 +633,10 @@ if [ -n "$examiner" ]; then
     runs
     rows
 fi
-[ "$examiner" != built ] || reports
+if [ "$examiner" = built ]; then
+    reports
+    limits
+fi
 
 printf '%s passed, %s failed\n' "$passed" "$failed"
 [ "$failed" -eq 0 ]

@@ -14,10 +14,6 @@ asked words = request words
 abbrev pub HasNoForm : List (List ℕ) → Type 0
 HasNoForm words = asked words ≡ None
 
--- the words have the form of a command
-abbrev pub HasForm : List (List ℕ) → Type 0
-HasForm words = ¬ HasNoForm words
-
 -- the words ask for the check of a file
 abbrev pub AsksForCheck : List (List ℕ) → Type 0
 AsksForCheck words = (file : List ℕ) × (asked words ≡ Some (check file))

@@ -17,6 +17,3 @@ mod words;
 
 pub use program::examine;
 pub use status::Status;
-
-#[cfg(test)]
-mod tests;

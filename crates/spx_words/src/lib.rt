@@ -16,6 +16,3 @@ mod words;
 
 pub use laws::{each_form_asks, plain_words};
 pub use words::{CommandWords, read_words};
-
-#[cfg(test)]
-mod tests;
