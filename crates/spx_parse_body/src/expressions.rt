@@ -20,8 +20,16 @@ use std::alloc::{AllocError, Global};
 /// An expression, and how many parentheses, functions, operators and membership tests lie on the longest way down.
 #[derive(Debug, Drop)]
 pub struct Tall {
-    pub expr: Expr,
+    pub expr: Boxed<Expr>,
     pub height: u32,
+}
+
+/// An expression without parts.
+fn leaf(alloc: Global, expr: Expr) -> Result<Tall, AllocError>
+    ensures { IfOk result (λ t. t ≡ read.leaf expr) }
+{
+    let expr = Boxed::new(alloc, expr)?;
+    Ok(Tall { expr, height: 0 })
 }
 
 /// What reads an expression of a layer, one level down.
@@ -50,15 +58,12 @@ pub fn at_layer(
 
 // literal = number
 #[tactic(auto, unfolding(crate::specs::Expressions::literal))]
-fn literal(cursor: &mut Cursor<'_>, marked: bool) -> Result<Tall, Stop>
+fn literal(alloc: Global, cursor: &mut Cursor<'_>, marked: bool) -> Result<Tall, Stop>
     ensures gives { Reads (read.literal marked cursor.old) result cursor.new }
     ensures low { IfOk result (λ t. t.height ≡ 0) }
 {
     let (value, place) = cursor.number(marked)?;
-    Ok(Tall {
-        expr: Expr::Number(value, place),
-        height: 0,
-    })
+    Ok(leaf(alloc, Expr::Number(value, place))?)
 }
 
 /// Reads a name: an identifier, or an attribute.
@@ -83,11 +88,8 @@ fn enclose(alloc: Global, place: Place, inner: Tall) -> Result<Tall, AllocError>
     ensures { IfOk result (λ t. t ≡ read.enclosed place inner) }
 {
     let height = inner.height + 1;
-    let inner = Boxed::new(alloc, inner.expr)?;
-    Ok(Tall {
-        expr: Expr::Parenthesized(place, inner),
-        height,
-    })
+    let expr = Boxed::new(alloc, Expr::Parenthesized(place, inner.expr))?;
+    Ok(Tall { expr, height })
 }
 
 // in_parentheses = "(" predicate ")"
@@ -117,11 +119,8 @@ fn apply(alloc: Global, function: Function, place: Place, operand: Tall) -> Resu
     ensures { IfOk result (λ t. t ≡ read.applied function place operand) }
 {
     let height = operand.height + 1;
-    let operand = Boxed::new(alloc, operand.expr)?;
-    Ok(Tall {
-        expr: Expr::Applied(function, place, operand),
-        height,
-    })
+    let expr = Boxed::new(alloc, Expr::Applied(function, place, operand.expr))?;
+    Ok(Tall { expr, height })
 }
 
 // application = "(" expression ")", after a function
@@ -166,10 +165,7 @@ fn attribute(
             let function = Function { name: prefix, form };
             application(alloc, cursor, levels, marked, function)
         }
-        _ => Ok(Tall {
-            expr: Expr::Name(Name::Attribute(prefix, designator)),
-            height: 0,
-        }),
+        _ => Ok(leaf(alloc, Expr::Name(Name::Attribute(prefix, designator)))?),
     }
 }
 
@@ -199,15 +195,17 @@ fn with_apostrophe(
 
 // entry = "~", after an identifier
 #[tactic(auto, unfolding(crate::specs::Expressions::entry))]
-fn entry(cursor: &mut Cursor<'_>, marked: bool, identifier: Identifier) -> Result<Tall, Stop>
+fn entry(
+    alloc: Global,
+    cursor: &mut Cursor<'_>,
+    marked: bool,
+    identifier: Identifier,
+) -> Result<Tall, Stop>
     ensures gives { Reads (read.entry marked identifier cursor.old) result cursor.new }
     ensures low { IfOk result (λ t. t.height ≡ 0) }
 {
     cursor.expect(marked, Kind::Tilde)?;
-    Ok(Tall {
-        expr: Expr::Entry(identifier),
-        height: 0,
-    })
+    Ok(leaf(alloc, Expr::Entry(identifier))?)
 }
 
 // with_identifier = identifier [with_apostrophe | application | entry]
@@ -230,11 +228,8 @@ fn with_identifier(
             let function = Function { name: prefix, form };
             application(alloc, cursor, levels, marked, function)
         }
-        Some(Kind::Tilde) => entry(cursor, marked, prefix),
-        _ => Ok(Tall {
-            expr: Expr::Name(Name::Simple(prefix)),
-            height: 0,
-        }),
+        Some(Kind::Tilde) => entry(alloc, cursor, marked, prefix),
+        _ => Ok(leaf(alloc, Expr::Name(Name::Simple(prefix)))?),
     }
 }
 
@@ -246,7 +241,7 @@ fn primary(alloc: Global, cursor: &mut Cursor<'_>, levels: u32, marked: bool) ->
     ensures low { IfOk result (λ t. t.height ≤ levels) }
 {
     match cursor.peek(marked) {
-        Some(Kind::Number) => literal(cursor, marked),
+        Some(Kind::Number) => literal(alloc, cursor, marked),
         Some(Kind::Identifier) => with_identifier(alloc, cursor, levels, marked),
         Some(Kind::LeftParenthesis) => in_parentheses(alloc, cursor, levels, marked),
         _ => Err(cursor.expected()),
@@ -259,11 +254,8 @@ fn prefix(alloc: Global, op: PrefixOp, place: Place, operand: Tall) -> Result<Ta
     ensures { IfOk result (λ t. t ≡ read.prefixed op place operand) }
 {
     let height = operand.height + 1;
-    let operand = Boxed::new(alloc, operand.expr)?;
-    Ok(Tall {
-        expr: Expr::Prefix(op, place, operand),
-        height,
-    })
+    let expr = Boxed::new(alloc, Expr::Prefix(op, place, operand.expr))?;
+    Ok(Tall { expr, height })
 }
 
 // an operator and its operand
@@ -300,12 +292,8 @@ fn join(
     ensures { IfOk result (λ t. t ≡ read.joined op place left right) }
 {
     let height = left.height.max(right.height) + 1;
-    let left = Boxed::new(alloc, left.expr)?;
-    let right = Boxed::new(alloc, right.expr)?;
-    Ok(Tall {
-        expr: Expr::Infix(op, place, left, right),
-        height,
-    })
+    let expr = Boxed::new(alloc, Expr::Infix(op, place, left.expr, right.expr))?;
+    Ok(Tall { expr, height })
 }
 
 // an operator and its right operand
@@ -445,11 +433,8 @@ fn test_type(
     ensures { IfOk result (λ t. t ≡ read.in_type op place tested type_name) }
 {
     let height = tested.height + 1;
-    let tested = Boxed::new(alloc, tested.expr)?;
-    Ok(Tall {
-        expr: Expr::InType(op, place, tested, type_name),
-        height,
-    })
+    let expr = Boxed::new(alloc, Expr::InType(op, place, tested.expr, type_name))?;
+    Ok(Tall { expr, height })
 }
 
 /// A membership test in the type of this name, where there is one.
@@ -486,13 +471,9 @@ fn test_range(
     ensures { IfOk result (λ t. t ≡ read.in_range op place tested low high) }
 {
     let height = tested.height.max(low.height.max(high.height)) + 1;
-    let tested = Boxed::new(alloc, tested.expr)?;
-    let low = Boxed::new(alloc, low.expr)?;
-    let high = Boxed::new(alloc, high.expr)?;
-    Ok(Tall {
-        expr: Expr::InRange(op, place, tested, low, high),
-        height,
-    })
+    let test = Expr::InRange(op, place, tested.expr, low.expr, high.expr);
+    let expr = Boxed::new(alloc, test)?;
+    Ok(Tall { expr, height })
 }
 
 // member = name | sum ".." sum
@@ -518,7 +499,7 @@ fn member(
             let high = at_layer(alloc, cursor, levels - 1, marked, Layer::Sum)?;
             Ok(test_range(alloc, op, place, tested, low, high)?)
         }
-        _ => member_type(alloc, cursor, op, place, tested, plain_name(low.expr)),
+        _ => member_type(alloc, cursor, op, place, tested, plain_name(low.expr.into_inner())),
     }
 }
 
@@ -672,7 +653,7 @@ pub fn expression(
     ensures { Reads (read.expression marked levels cursor.old) result cursor.new }
 {
     let tall = at_layer(alloc, cursor, levels, marked, Layer::Expression)?;
-    Ok(tall.expr)
+    Ok(tall.expr.into_inner())
 }
 
 /// Reads a predicate: an expression, or two between which a connective stands.
@@ -686,7 +667,7 @@ pub fn predicate(
     ensures { Reads (read.predicate marked levels cursor.old) result cursor.new }
 {
     let tall = at_layer(alloc, cursor, levels, marked, Layer::Predicate)?;
-    Ok(tall.expr)
+    Ok(tall.expr.into_inner())
 }
 
 /// Reads an expression of program text, or a predicate of annotation text.
@@ -700,7 +681,7 @@ pub fn expression_at(
     ensures { Reads (read.expression_at marked levels cursor.old) result cursor.new }
 {
     let tall = at_layer(alloc, cursor, levels, marked, last_layer(marked))?;
-    Ok(tall.expr)
+    Ok(tall.expr.into_inner())
 }
 
 // predicate_after = word predicate ";", in annotation text
@@ -731,5 +712,5 @@ pub fn simple_expression(
     ensures { Reads (read.simple_expression marked levels cursor.old) result cursor.new }
 {
     let tall = at_layer(alloc, cursor, levels, marked, Layer::Sum)?;
-    Ok(tall.expr)
+    Ok(tall.expr.into_inner())
 }
