@@ -421,6 +421,13 @@ fn plain_name(expr: Expr) -> Option<Name>
     }
 }
 
+/// The name that an operand is.
+fn name_of(operand: Tall) -> Option<Name>
+    ensures { result ≡ read.plain_name operand.expr }
+{
+    plain_name(operand.expr.into_inner())
+}
+
 /// A membership test in a type.
 fn test_type(
     alloc: Global,
@@ -499,7 +506,7 @@ fn member(
             let high = at_layer(alloc, cursor, levels - 1, marked, Layer::Sum)?;
             Ok(test_range(alloc, op, place, tested, low, high)?)
         }
-        _ => member_type(alloc, cursor, op, place, tested, plain_name(low.expr.into_inner())),
+        _ => member_type(alloc, cursor, op, place, tested, name_of(low)),
     }
 }
 
