@@ -60,7 +60,7 @@ END
 new_tree() {
     rm -rf "$tree" "$room/cache"
     mkdir -p "$tree/crates/spx_cli/src" "$tree/crates/spx_cli/specs"
-    cp -p "$top/spx" "$top/VERSION" "$top/crates.txt" "$tree" && cp -Rp "$top/docs" "$tree"
+    cp -p "$top/spx" "$top/VERSION" "$top/crates.txt" "$top/HANDLES" "$tree" && cp -Rp "$top/docs" "$tree"
     echo 'fn main() {}' >"$tree/crates/spx_cli/src/main.rt"
     find "$tree" -exec touch -t 202001010000 {} +
     [ "${1-}" != unbuilt ] || return
@@ -68,23 +68,24 @@ new_tree() {
     write_program "$program"
 }
 
-# rt on a PATH of its own: it has one version, and a run leaves the program, unless RT_FAILS is set.
+# rt on a PATH of its own: it has one version, and a build leaves the program, unless RT_FAILS is set. What it was given is in `copied`.
 mkdir "$room/bin" && write_program "$room/bin/built" && cat >"$room/bin/rt" <<END
 #!/bin/sh
 case \$1 in
     version) echo 'kit of the tests' ;;
-    run)
-        echo run >>'$room/runs'
+    ci)
+        echo ci >>'$room/builds'
+        find . >'$room/copied'
         [ -z "\${RT_SLEEPS-}" ] || sleep "\$RT_SLEEPS"
-        [ -n "\${RT_FAILS-}" ] || { mkdir -p out && cp '$room/bin/built' out/spx_cli; }
-        exit 2
+        [ -z "\${RT_FAILS-}" ] || exit 1
+        mkdir -p crates/spx_cli/out && cp '$room/bin/built' crates/spx_cli/out/spx_cli
         ;;
 esac
 END
 chmod +x "$room/bin/rt"
 # A PATH with the usual tools and without rt.
 mkdir "$room/tools"
-for tool in sh awk cat cp date find flock git grep mkdir mv readlink rm sleep touch wc; do
+for tool in sh awk cat cp date find flock git grep mkdir mktemp mv readlink rm sleep touch wc; do
     at=$(command -v "$tool") && case $at in /*) ln -s "$at" "$room/tools/$tool" ;; esac
 done
 
@@ -318,11 +319,17 @@ ends 0
 prints '<check>\n<x>\n'
 says 'out of date'
 
-what='while a build is under way or was broken off, the earlier program is run'
-mv "$program" "$tree/crates/spx_cli/out/spx.earlier"
-run with_rt "$tree/spx" check x
-prints '<check>\n<x>\n'
-says 'out of date'
+what='what is built is a copy of the crates of the program, without edits that must fail'
+mkdir -p "$tree/crates/spx_examiner/src" "$tree/crates/spx_examiner/must-fail" "$tree/crates/spx_table/src" "$tree/crates/spx_tests/src"
+touch "$tree/crates/spx_examiner/src/lib.rt" "$tree/crates/spx_examiner/must-fail/an.edit"
+run with_rt "$tree/spx" build
+ends 0
+for path in .git HANDLES crates.txt crates/spx_cli/src/main.rt crates/spx_examiner/src/lib.rt crates/spx_rows; do
+    is "$path $(grep -cxF "./$path" "$room/copied")" "$path 1"
+done
+for path in must-fail out spx_table spx_tests spx_examples; do
+    is "$path $(grep -c "/$path" "$room/copied")" "$path 0"
+done
 
 what='where there is no program one is built'
 new_tree unbuilt
@@ -348,14 +355,14 @@ says_nothing
 what='of two builds at a time one waits for the other'
 if command -v flock >/dev/null; then
     new_tree unbuilt
-    rm -f "$room/runs"
+    rm -f "$room/builds"
     with_rt RT_SLEEPS=1 "$tree/spx" check x >"$room/other" 2>/dev/null </dev/null &
     run with_rt RT_SLEEPS=1 "$tree/spx" check x
     wait
     ends 0
     prints '<check>\n<x>\n'
     is "$(cat "$room/other")" "$(cat "$room/out")"
-    is "$(grep -c . "$room/runs")" 1
+    is "$(grep -c . "$room/builds")" 1
 else
     skip 'there is no flock, so that builds at a time are not kept apart'
 fi
