@@ -1,8 +1,8 @@
 #!/usr/bin/env python3
 """Prints where the proof of a crate spends its time: usage: tools/times.py FOLDER [COUNT]
 
-FOLDER is a crate, last proved by `rt check --jobs 1` with no `out/incremental`: the check keeps each module there when it ends with it, so
-that a module took as long as lies between it and the one before. Each of the COUNT lines (30 where it is left out) has the seconds of a
+FOLDER is a crate, proved by `rt check --jobs 1` with no `out/incremental`, and none of another clone that the check could begin with. A
+check keeps each module there when it ends with it, so that a module took as long as lies between it and the one before. Each of the COUNT lines (30 where it is left out) has the seconds of a
 function, and after it those of its parts: `Lts` is what may be dropped and borrowed, `Proof` the goals of its contract.
 """
 import collections
@@ -21,9 +21,10 @@ def main(folder, count=30):
         found = NAME.fullmatch(re.sub(r"(\.decls)?\.oantt$", "", file))
         if found:
             seconds[found[1]][found[2] or "text"] += after - before
-    for name in sorted(seconds, key=lambda it: -seconds[it].total())[: int(count)]:
+    total = {name: sum(parts.values()) for name, parts in seconds.items()}
+    for name in sorted(total, key=total.get, reverse=True)[: int(count)]:
         parts = " ".join(f"{part} {spent:.1f}" for part, spent in seconds[name].most_common() if spent >= 0.5)
-        print(f"{seconds[name].total():7.1f} {name}  {parts}")
+        print(f"{total[name]:7.1f} {name}  {parts}")
 
 
 if __name__ == "__main__":
