@@ -8,14 +8,14 @@ use spx_tree::{AssertionKind, Closing, Identifier};
 use sqlite_items::{Boxed, Items};
 
 /// `low .. high`
-#[derive(Debug, Drop)]
+#[derive(Drop)]
 pub struct CoreRange {
-    pub low: CoreExpr,
-    pub high: CoreExpr,
+    pub low: Boxed<CoreExpr>,
+    pub high: Boxed<CoreExpr>,
 }
 
 /// What a type is declared as.
-#[derive(Debug, Drop)]
+#[derive(Drop)]
 pub enum CoreTypeDef {
     /// `range low .. high`
     Integer(CoreRange),
@@ -24,43 +24,43 @@ pub enum CoreTypeDef {
 }
 
 /// A declaration in the declarative part of a body.
-#[derive(Debug, Drop)]
+#[derive(Drop)]
 pub enum CoreDecl {
     /// `names : type_name [:= initial_value]`
-    Variables(Items<Defining>, Reference, Option<CoreExpr>),
+    Variables(Boxed<Items<Defining>>, Boxed<Reference>, Option<Boxed<CoreExpr>>),
     /// `names : constant [type_name] := value`
-    Constants(Items<Defining>, Option<Reference>, CoreExpr),
+    Constants(Boxed<Items<Defining>>, Option<Boxed<Reference>>, Boxed<CoreExpr>),
     /// `type name is definition`
-    FullType(Defining, CoreTypeDef),
+    FullType(Boxed<Defining>, Boxed<CoreTypeDef>),
     /// `subtype name is parent [range low .. high]`
-    Subtype(Defining, Reference, Option<CoreRange>),
+    Subtype(Boxed<Defining>, Boxed<Reference>, Option<Boxed<CoreRange>>),
 }
 
 /// A statement whose names stand with what they denote.
 #[cycle(core_statement)]
-#[derive(Debug, Drop)]
+#[derive(Drop)]
 pub enum CoreStmt {
     /// At the word `null`.
     Null(Place),
     /// The target and the right side.
-    Assignment(Reference, CoreExpr),
+    Assignment(Boxed<Reference>, Boxed<CoreExpr>),
     /// The arms, one or more, the statements after `else`, and the closing words (Ada 95 RM 5.3).
-    If(Items<CoreArm>, Option<Items<CoreStmt>>, Closing),
+    If(Boxed<Items<CoreArm>>, Option<Boxed<Items<CoreStmt>>>, Boxed<Closing>),
     /// At the word `case`: the selector, the alternatives, one or more, and the closing words (Ada 95 RM 5.4).
-    Case(Place, CoreExpr, Items<CoreAlternative>, Closing),
+    Case(Boxed<Place>, Boxed<CoreExpr>, Boxed<Items<CoreAlternative>>, Boxed<Closing>),
     /// The scheme, the word `loop`, the statements, and the closing words (Ada 95 RM 5.5).
-    Loop(CoreScheme, Place, Items<CoreStmt>, Closing),
+    Loop(Boxed<CoreScheme>, Boxed<Place>, Boxed<Items<CoreStmt>>, Boxed<Closing>),
     /// At the word `assert` or `check`: what must be true there (Barnes).
-    Assertion(AssertionKind, Place, CoreExpr),
+    Assertion(AssertionKind, Place, Boxed<CoreExpr>),
     /// At the word `exit`: the loop around it is left, where the condition is true if there is one (Ada 95 RM 5.7).
-    Exit(Place, Option<CoreExpr>),
+    Exit(Place, Option<Boxed<CoreExpr>>),
 }
 
 /// How often the statements of a loop run (Ada 95 RM 5.5).
-#[derive(Debug, Drop)]
+#[derive(Drop)]
 pub enum CoreScheme {
     /// At the word `while`: again and again as long as the condition is true.
-    While(Place, CoreExpr),
+    While(Place, Boxed<CoreExpr>),
     /// Once for each value of a type, or of a range of it.
     For(Boxed<CoreCount>),
     /// With no scheme: again and again.
@@ -69,7 +69,7 @@ pub enum CoreScheme {
 
 /// The parameter of a loop, at the word `for`, and the values that it takes (Ada 95 RM 5.5). Without bounds these are all
 /// values of the type; `reverse` takes them from the last one down.
-#[derive(Debug, Drop)]
+#[derive(Drop)]
 pub struct CoreCount {
     pub place: Place,
     pub name: Identifier,
@@ -81,31 +81,31 @@ pub struct CoreCount {
     pub word: Place,
     pub is_reverse: bool,
     pub type_name: Reference,
-    pub bounds: Option<CoreRange>,
+    pub bounds: Option<Boxed<CoreRange>>,
 }
 
 /// A condition and the statements after `then`, at the word `if` or `elsif`.
 #[cycle(core_statement)]
-#[derive(Debug, Drop)]
+#[derive(Drop)]
 pub struct CoreArm {
     pub place: Place,
-    pub condition: CoreExpr,
-    pub body: Items<CoreStmt>,
+    pub condition: Boxed<CoreExpr>,
+    pub body: Boxed<Items<CoreStmt>>,
 }
 
 /// The statements for some values of a selector. With no choices it is for `others`.
 #[cycle(core_statement)]
-#[derive(Debug, Drop)]
+#[derive(Drop)]
 pub struct CoreAlternative {
-    pub choices: Option<Items<CoreChoice>>,
+    pub choices: Option<Boxed<Items<CoreChoice>>>,
     pub body: Items<CoreStmt>,
 }
 
 /// `low` or `low .. high`, and the values between them. Where a bound is not static, it counts as 0.
-#[derive(Debug, Drop)]
+#[derive(Drop)]
 pub struct CoreChoice {
-    pub low: CoreExpr,
-    pub high: Option<CoreExpr>,
+    pub low: Boxed<CoreExpr>,
+    pub high: Option<Boxed<CoreExpr>>,
     pub span: Span,
 }
 
@@ -168,8 +168,8 @@ fn is_exit(stmt: &CoreStmt) -> bool
         CoreStmt::If(arms, otherwise, _) => match otherwise {
             None => false,
             Some(stmts) => {
-                if arms.as_slice().is_empty() {
-                    has_own_exit(stmts.as_slice())
+                if arms.get().as_slice().is_empty() {
+                    has_own_exit(stmts.get().as_slice())
                 } else {
                     false
                 }
