@@ -1,5 +1,5 @@
 // The declarations of one region (Ada 95 RM 8.1).
-ghost use Rattle.std.specs.Prelude.{◌≡◌, [], Some, OnOk, OnErr, length, take};
+ghost use Rattle.std.specs.Prelude.{◌≡◌, [], Some, IfOk, OnOk, OnErr, length, take};
 ghost use Rattle.spx_core.specs.Regions.{declared_in, with_declaration};
 
 use indexmap::IndexMap;
@@ -8,10 +8,11 @@ use spx_text::Text;
 use std::alloc::{AllocError, Global};
 use std::marker::Model;
 
-/// The declarations of a region, in order. A look-up takes the time of one hash.
+/// The declarations of a region, in order. A look-up takes the time of one hash. The table is in a box, which costs less at
+/// an exit.
 #[derive(Drop)]
 pub struct Region {
-    names: IndexMap<Text, Option<Entity>>,
+    names: Box<IndexMap<Text, Option<Entity>>>,
 }
 
 impl Model for Region {
@@ -20,17 +21,16 @@ impl Model for Region {
 
     ghost Value = { Region };
 
-    ghost view = { λ region. declarations region.names.entries };
+    ghost view = { λ region. declarations region.names.value.entries };
 }
 
 impl Region {
     /// No declarations.
-    pub fn new(alloc: Global) -> Region
-        ensures { result ≡ [] }
+    pub fn new(alloc: Global) -> Result<Region, AllocError>
+        ensures { IfOk result (λ region. region ≡ []) }
     {
-        Region {
-            names: IndexMap::new(alloc),
-        }
+        let names = Box::new(alloc, IndexMap::new(alloc))?;
+        Ok(Region { names })
     }
 
     /// What a name denotes by a declaration of this region, if there is one.

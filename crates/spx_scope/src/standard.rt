@@ -30,7 +30,7 @@ impl Standard {
     /// The region of the predefined names.
     #[tactic(auto, unfolding(spx_core::specs::Regions::standard))]
     pub fn new(alloc: Global) -> Result<Standard, AllocError> {
-        let mut region = Region::new(alloc);
+        let mut region = Region::new(alloc)?;
         declare(alloc, &mut region, b"Boolean", Entity::TypeName(BOOLEAN))?;
         declare(alloc, &mut region, b"False", Entity::Literal(BOOLEAN, 0))?;
         declare(alloc, &mut region, b"True", Entity::Literal(BOOLEAN, 1))?;

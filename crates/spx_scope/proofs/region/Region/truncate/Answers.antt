@@ -3,4 +3,4 @@ use Rattle.spx_scope.specs.Entries.{declaration}
 use Rattle.spx_scope.proofs.region.Region.truncate.Goals as goal
 
 pub returns : goal.returns
-returns c = let e = take-map declaration c.args.count c.self.inside.names.entries in cc
+returns c = let e = take-map declaration c.args.count c.self.inside.names.value.entries in cc
