@@ -126,7 +126,7 @@ pub fn lex(alloc: Global, file: u32, source: &[u8]) -> Result<Tokens<'_>, LexFau
     ensures stopped { (reason : Reason) (place : Place) → StopsAt file source.now reason place → ¬ HasMoreTokens 1000000 file source.now → IsErrAnd result (λ fault. (fault ≡ faults.fault_of reason place) ⊎ (fault ≡ Memory)) }
     ensures crowded { HasMoreTokens 1000000 file source.now → IsErrAnd result (λ fault. (fault ≡ TooMany) ⊎ (fault ≡ Memory)) }
 {
-    let mut list = Vec::new(alloc);
+    let mut list = Vec::with_capacity(alloc, source.len().min(MOST_TOKENS))?;
     let mut at = Position {
         offset: 0,
         place: Place {

@@ -2,7 +2,7 @@
 ghost use Rattle.std.specs.Prelude.{◌≡◌, length, IfOk};
 
 use spx_core::{INTEGER, Mode, Program, Var, VarId, VarKind};
-use spx_meaning::{Store, Value, initial_value};
+use spx_meaning::{Store, Value};
 use spx_text::Text;
 use sqlite_items::Items;
 use std::alloc::{AllocError, Global};
@@ -33,14 +33,6 @@ fn program(alloc: Global) -> Result<Program, AllocError>
         subs: Items::new(alloc),
         bodies: Items::new(alloc),
     })
-}
-
-#[test]
-fn a_local_may_have_an_initial_value(rt: HostRuntime) -> Result<(), Fail> {
-    let program = program(rt.alloc())?;
-    assert_eq!(rt; initial_value(&program, X), None);
-    assert_eq!(rt; initial_value(&program, Y), Some(Value::Number(5)));
-    Ok(())
 }
 
 #[test]

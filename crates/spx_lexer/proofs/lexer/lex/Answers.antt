@@ -11,7 +11,7 @@ use Rattle.spx_lexer.proofs.lexer.lex.Goals as goal
 
 pub loop-rest-init : goal.loop-rest-init
 loop-rest-init c =
-    record { read = read_none c.args.file c.args.source.now _ c.new-list.ensures.items; few = omega (arith, ap length c.new-list.ensures.items); offset = omega arith; line = omega arith; column = omega arith }
+    record { read = read_none c.args.file c.args.source.now _ c.in_ok-list.ensures.items; few = omega (arith, ap length c.in_ok-list.ensures.items); offset = omega arith; line = omega arith; column = omega arith }
 
 pub loop-rest-preserved : goal.loop-rest-preserved
 loop-rest-preserved c =
