@@ -38,9 +38,9 @@ fn chosen(of: ExprType, expr: &CoreExpr) -> Result<(), Breach>
 fn judge_choice(of: ExprType, choice: &CoreChoice) -> Result<(), Breach>
     ensures { result ≡ rules.judged_choice of choice.now }
 {
-    chosen(of, &choice.low)?;
+    chosen(of, choice.low.get())?;
     match &choice.high {
-        Some(high) => chosen(of, high),
+        Some(high) => chosen(of, high.get()),
         None => Ok(()),
     }
 }
@@ -57,7 +57,7 @@ pub fn listed_by(alternative: &CoreAlternative) -> &[CoreChoice]
     ensures { result.now ≡ listed_by alternative.now }
 {
     match &alternative.choices {
-        Some(choices) => choices.as_slice(),
+        Some(choices) => choices.get().as_slice(),
         None => &[],
     }
 }

@@ -12,6 +12,7 @@ use spx_core::{
     RuleName, Subtype, Typing, WIDEST_FIRST, WIDEST_LAST,
 };
 use spx_text::Place;
+use sqlite_items::Boxed;
 
 /// The name may not be declared before.
 pub fn declared_once(name: &Defining) -> Result<(), Breach>
@@ -92,10 +93,10 @@ fn range_within(
 ) -> Result<(), Breach>
     ensures { result ≡ rules.range_within base first last range.now }
 {
-    let low = judge(&range.low)?;
+    let low = judge(range.low.get())?;
     let place = low.place;
     let low = bound(base, low)?;
-    let high = bound(base, judge(&range.high)?)?;
+    let high = bound(base, judge(range.high.get())?)?;
     let kept = low <= high && first <= low && high <= last;
     keeps(RuleName::N13, place, kept)
 }
@@ -111,14 +112,18 @@ fn judge_definition(definition: &CoreTypeDef) -> Result<(), Breach>
 }
 
 /// The first broken rule in the range of a subtype of this one, which is named at the place.
-fn judge_constraint(place: Place, parent: Subtype, range: &Option<CoreRange>) -> Result<(), Breach>
+fn judge_constraint(
+    place: Place,
+    parent: Subtype,
+    range: &Option<Boxed<CoreRange>>,
+) -> Result<(), Breach>
     ensures { result ≡ rules.judged_constraint place parent range.now }
 {
     let Some(range) = range else {
         return Ok(());
     };
     keeps(RuleName::N10, place, has_numbers(parent.base.class))?;
-    range_within(Some(parent.base), parent.first, parent.last, range)
+    range_within(Some(parent.base), parent.first, parent.last, range.get())
 }
 
 /// A static value of this type is needed.
@@ -130,23 +135,23 @@ fn value_of_type(subtype: Subtype, value: &CoreExpr) -> Result<i128, Breach>
 }
 
 /// The value of constants of this type, or of named numbers.
-fn judge_value(type_name: &Option<Reference>, value: &CoreExpr) -> Result<i128, Breach>
+fn judge_value(type_name: &Option<Boxed<Reference>>, value: &CoreExpr) -> Result<i128, Breach>
     ensures { result ≡ rules.judged_value type_name.now value.now }
 {
     match type_name {
         None => static_number(judge(value)?),
-        Some(type_name) => value_of_type(referred_type(type_name)?, value),
+        Some(type_name) => value_of_type(referred_type(type_name.get())?, value),
     }
 }
 
 /// The first broken rule in the initial value of variables of this type, if they have one.
-fn judge_initial(subtype: Subtype, value: &Option<CoreExpr>) -> Result<(), Breach>
+fn judge_initial(subtype: Subtype, value: &Option<Boxed<CoreExpr>>) -> Result<(), Breach>
     ensures { result ≡ if_there (rules.judged_initial subtype) value.now }
 {
     let Some(value) = value else {
         return Ok(());
     };
-    value_of_type(subtype, value)?;
+    value_of_type(subtype, value.get())?;
     Ok(())
 }
 
@@ -156,20 +161,21 @@ pub fn judge_decl(decl: &CoreDecl) -> Result<(), Breach>
 {
     match decl {
         CoreDecl::Variables(names, type_name, value) => {
-            all_declared_once(names.as_slice())?;
-            judge_initial(referred_type(type_name)?, value)
+            all_declared_once(names.get().as_slice())?;
+            judge_initial(referred_type(type_name.get())?, value)
         }
         CoreDecl::Constants(names, type_name, value) => {
-            all_declared_once(names.as_slice())?;
-            judge_value(type_name, value)?;
+            all_declared_once(names.get().as_slice())?;
+            judge_value(type_name, value.get())?;
             Ok(())
         }
         CoreDecl::FullType(name, definition) => {
-            declared_once(name)?;
-            judge_definition(definition)
+            declared_once(name.get())?;
+            judge_definition(definition.get())
         }
         CoreDecl::Subtype(name, parent, range) => {
-            declared_once(name)?;
+            declared_once(name.get())?;
+            let parent = parent.get();
             let subtype = referred_type(parent)?;
             judge_constraint(parent.root.name.place, subtype, range)
         }

@@ -63,15 +63,15 @@ pub fn type_row(alloc: Global, _program: &Program, decl: &CoreDecl) -> Result<Ty
 {
     judge_decl(decl)?;
     match decl {
-        CoreDecl::FullType(name, _) => Ok(row_of(alloc, name)?),
-        CoreDecl::Subtype(name, _, _) => Ok(row_of(alloc, name)?),
+        CoreDecl::FullType(name, _) => Ok(row_of(alloc, name.get())?),
+        CoreDecl::Subtype(name, _, _) => Ok(row_of(alloc, name.get())?),
         CoreDecl::Variables(_, type_name, _) => Err(TypeFault::Breach(Breach {
             rule: RuleName::N3,
-            place: type_name.root.name.place,
+            place: type_name.get().root.name.place,
         })),
         CoreDecl::Constants(_, _, value) => Err(TypeFault::Breach(Breach {
             rule: RuleName::N3,
-            place: value.place(),
+            place: value.get().place(),
         })),
     }
 }

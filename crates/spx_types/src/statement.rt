@@ -1,7 +1,7 @@
 // The rules on annotations and statements (Ada 95 RM 5.2 to 5.7, 8.3).
 ghost use Rattle.std.specs.Prelude.{◌≡◌};
 ghost use Rattle.spx_core.specs.declared.statement.CoreArm.{out-CoreArm};
-ghost use Rattle.spx_core.specs.Commands.{command, commands};
+ghost use Rattle.spx_core.specs.Commands.{command, commands, loop_of};
 ghost use Rattle.spx_core.specs.Judged.{each, if_there};
 ghost use Rattle.spx_core.specs.Statements as rules;
 ghost use Rattle.spx_types.specs.Arms.{FoundInArms};
@@ -15,6 +15,7 @@ use spx_core::{
     Breach, CoreAlternative, CoreArm, CoreCount, CoreDerivesItem, CoreExpr, CorePredicate,
     CoreRange, CoreScheme, CoreStmt, ExprType, Reference, RuleName, Subtype,
 };
+use sqlite_items::Boxed;
 
 fn judge_variable(reference: &Reference) -> Result<(), Breach>
     ensures { result ≡ rules.judged_variable reference.now }
@@ -51,7 +52,7 @@ fn test(expr: &CoreExpr) -> Result<(), Breach>
 pub fn judge_predicate(predicate: &CorePredicate) -> Result<(), Breach>
     ensures { result ≡ rules.judged_predicate predicate.now }
 {
-    test(&predicate.condition)
+    test(predicate.condition.get())
 }
 
 fn assignment(target: &Reference, value: &CoreExpr) -> Result<(), Breach>
@@ -65,17 +66,17 @@ fn assignment(target: &Reference, value: &CoreExpr) -> Result<(), Breach>
 fn judge_range(subtype: Subtype, range: &CoreRange) -> Result<(), Breach>
     ensures { result ≡ rules.judged_bounds subtype range.now }
 {
-    operand_of(subtype, judge(&range.low)?)?;
-    operand_of(subtype, judge(&range.high)?)
+    operand_of(subtype, judge(range.low.get())?)?;
+    operand_of(subtype, judge(range.high.get())?)
 }
 
 /// The first broken rule in the bounds of a loop over values of this type, if they are written.
-fn judge_bounds(subtype: Subtype, bounds: &Option<CoreRange>) -> Result<(), Breach>
+fn judge_bounds(subtype: Subtype, bounds: &Option<Boxed<CoreRange>>) -> Result<(), Breach>
     ensures { result ≡ if_there (rules.judged_bounds subtype) bounds.now }
 {
     match bounds {
         None => Ok(()),
-        Some(range) => judge_range(subtype, range),
+        Some(range) => judge_range(subtype, range.get()),
     }
 }
 
@@ -105,7 +106,7 @@ fn judge_arms(arms: &[CoreArm]) -> Result<(), Breach>
     ensures { FoundInArms rules.judged_command arms.now result }
 {
     for arm in arms {
-        test(&arm.condition)?;
+        test(arm.condition.get())?;
         judge_body(arm)?;
     }
     Ok(())
@@ -115,7 +116,7 @@ fn judge_arms(arms: &[CoreArm]) -> Result<(), Breach>
 fn judge_body(arm: &CoreArm) -> Result<(), Breach>
     ensures { result ≡ rules.judged_command (commands (out-CoreArm arm.now).body) }
 {
-    judge_stmts(arm.body.as_slice())
+    judge_stmts(arm.body.get().as_slice())
 }
 
 /// The first broken rule in alternatives for values of this type.
@@ -138,34 +139,44 @@ fn judge_chosen(alternative: &CoreAlternative) -> Result<(), Breach>
     judge_stmts(alternative.body.as_slice())
 }
 
+/// The first broken rule in the scheme of a loop, or else in its body.
+#[cycle(judge_stmt)]
+fn judge_loop(body: &[CoreStmt], scheme: &CoreScheme) -> Result<(), Breach>
+    ensures { result ≡ rules.judged_command (loop_of scheme.now (commands body.now)) }
+{
+    match scheme {
+        CoreScheme::While(_, condition) => {
+            test(condition.get())?;
+            judge_stmts(body)
+        }
+        CoreScheme::For(count) => {
+            judge_count(count.get())?;
+            judge_stmts(body)
+        }
+        CoreScheme::Endless => judge_stmts(body),
+    }
+}
+
 #[cycle(judge_stmt)]
 fn judge_stmt(stmt: &CoreStmt) -> Result<(), Breach>
     ensures { result ≡ rules.judged_command (command stmt.now) }
 {
     match stmt {
         CoreStmt::Null(_) => Ok(()),
-        CoreStmt::Assignment(target, value) => assignment(target, value),
-        CoreStmt::If(arms, None, _) => judge_arms(arms.as_slice()),
+        CoreStmt::Assignment(target, value) => assignment(target.get(), value.get()),
+        CoreStmt::If(arms, None, _) => judge_arms(arms.get().as_slice()),
         CoreStmt::If(arms, Some(stmts), _) => {
-            judge_arms(arms.as_slice())?;
-            judge_stmts(stmts.as_slice())
+            judge_arms(arms.get().as_slice())?;
+            judge_stmts(stmts.get().as_slice())
         }
         CoreStmt::Case(place, selector, alternatives, _) => {
-            let alternatives = alternatives.as_slice();
-            let of = judge_selector(*place, selector, alternatives)?;
+            let alternatives = alternatives.get().as_slice();
+            let of = judge_selector(*place.get(), selector.get(), alternatives)?;
             judge_alternatives(of, alternatives)
         }
-        CoreStmt::Loop(CoreScheme::While(_, condition), _, body, _) => {
-            test(condition)?;
-            judge_stmts(body.as_slice())
-        }
-        CoreStmt::Loop(CoreScheme::For(count), _, body, _) => {
-            judge_count(count.get())?;
-            judge_stmts(body.as_slice())
-        }
-        CoreStmt::Loop(CoreScheme::Endless, _, body, _) => judge_stmts(body.as_slice()),
-        CoreStmt::Assertion(_, _, condition) => test(condition),
+        CoreStmt::Loop(scheme, _, body, _) => judge_loop(body.get().as_slice(), scheme.get()),
+        CoreStmt::Assertion(_, _, condition) => test(condition.get()),
         CoreStmt::Exit(_, None) => Ok(()),
-        CoreStmt::Exit(_, Some(condition)) => test(condition),
+        CoreStmt::Exit(_, Some(condition)) => test(condition.get()),
     }
 }
