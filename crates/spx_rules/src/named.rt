@@ -29,10 +29,7 @@ fn insert_named(set: &mut VarSet, name: &Reference) -> Result<(), AllocError>
     ensures { OnOk result ((v : VarId) → holds set.new v ≡ (denotes v name.now.root || holds set.old v)) }
 {
     match variable_of(name.root.entity) {
-        Some(var) => {
-            set.insert(var)?;
-            Ok(())
-        }
+        Some(var) => set.insert(var),
         None => Ok(()),
     }
 }
@@ -54,7 +51,7 @@ pub fn insert_new(set: &mut VarSet, names: &[Reference]) -> Result<bool, AllocEr
 pub fn variables(alloc: Global, names: &[Reference]) -> Result<VarSet, AllocError>
     ensures { IfOk result (λ set. (v : VarId) → holds set v ≡ mentions v names.now) }
 {
-    let mut set = VarSet::new(alloc);
+    let mut set = VarSet::new(alloc)?;
     for name in names {
         insert_named(&mut set, name)?;
     }

@@ -66,7 +66,7 @@ fn obey_predicate(
 {
     match predicate {
         None => Ok(()),
-        Some(predicate) => read_allowed(tables, allowed, &predicate.condition),
+        Some(predicate) => read_allowed(tables, allowed, predicate.condition.get()),
     }
 }
 

@@ -16,16 +16,15 @@ use std::alloc::{AllocError, Global};
 fn names_once(alloc: Global, names: &[Reference]) -> Result<bool, AllocError>
     ensures { IfOk result (λ once. once ≡ rules.names_once names.now) }
 {
-    let mut seen = VarSet::new(alloc);
-    let once = insert_new(&mut seen, names)?;
-    Ok(once)
+    let mut seen = VarSet::new(alloc)?;
+    insert_new(&mut seen, names)
 }
 
 /// Whether no variable is exported twice.
 fn exports_once(alloc: Global, items: &[CoreDerivesItem]) -> Result<bool, AllocError>
     ensures { IfOk result (λ once. once ≡ rules.exports_once items.now) }
 {
-    let mut seen = VarSet::new(alloc);
+    let mut seen = VarSet::new(alloc)?;
     for item in items {
         if !insert_new(&mut seen, item.exports.as_slice())? {
             return Ok(false);
@@ -78,7 +77,7 @@ fn null_imports(item: &CoreDerivesItem) -> &[Reference]
 fn unused_once(alloc: Global, items: &[CoreDerivesItem]) -> Result<bool, AllocError>
     ensures { IfOk result (λ once. once ≡ rules.names_once (rules.unused_imports items.now)) }
 {
-    let mut seen = VarSet::new(alloc);
+    let mut seen = VarSet::new(alloc)?;
     for item in items {
         if !insert_new(&mut seen, null_imports(item))? {
             return Ok(false);

@@ -46,7 +46,7 @@ pub enum Allowed {
 fn set_of(alloc: Global, vars: &[VarId]) -> Result<VarSet, AllocError>
     ensures { IfOk result (λ set. (v : VarId) → holds set v ≡ stands_in v vars.now) }
 {
-    let mut set = VarSet::new(alloc);
+    let mut set = VarSet::new(alloc)?;
     for var in vars {
         set.insert(*var)?;
     }

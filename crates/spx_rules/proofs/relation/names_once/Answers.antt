@@ -1,5 +1,6 @@
 use Rattle.std.proofs.Common.{[], ◌∙◌, ◌&&◌, Bool, true, false, ◌≡◌, refl, ap, sym}
 use Rattle.std.proofs.lemmas.List.{append-nil}
+use Rattle.std.proofs.lemmas.Result.{IfOk-weaker}
 use Rattle.spx_core.specs.Mirror.VarSets.{holds}
 use Rattle.spx_rules.specs.NamedOnce.{all_new}
 use Rattle.spx_rules.proofs.NamedOnceLaws.{new_once}
@@ -12,5 +13,7 @@ and_true false = refl
 pub returns : goal.returns
 returns c =
     let names = c.args.names.now in
-    sym (and_true c.in_ok-once.once) ∙ sym (c.in_ok-once.ensures []) ∙ ap (λ l. all_new (holds c.new-seen.result) l) (append-nil names)
-    ∙ ap (λ set. all_new (holds set) names) c.new-seen.ensures ∙ new_once names
+    let empty = ap (λ set. all_new (holds set) names) c.in_ok-seen.ensures in
+    IfOk-weaker c.insert_new.result _ _
+    (λ once all. sym (and_true once) ∙ sym (all []) ∙ ap (λ l. all_new (holds c.in_ok-seen.seen) l) (append-nil names) ∙ empty ∙ new_once names)
+    c.insert_new.ensures
