@@ -1,4 +1,5 @@
 pub mod Callers
+pub mod Closings
 pub mod Scans
 pub mod Grows
 mod BodyExact

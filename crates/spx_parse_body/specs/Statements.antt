@@ -7,6 +7,7 @@ use Rattle.spx_tree.specs.declared.statement.Arm.{Arm}
 use Rattle.spx_tree.specs.declared.expression.Expr.{Expr}
 use Rattle.spx_tree.specs.declared.statement.Choice.{Choice}
 use Rattle.spx_tree.specs.declared.statement.Alternative.{Alternative}
+use Rattle.spx_tree.specs.declared.statement.Closing.{Closing}
 use Rattle.spx_tree.specs.declared.statement.AssertionKind.{AssertionKind}
 use Rattle.spx_tree.specs.declared.statement.AssertionKind.TheVariants as assertion
 use Rattle.spx_tree.specs.declared.statement.Scheme.{Scheme}
@@ -151,6 +152,14 @@ abbrev pub scheme : SchemeKind → ℕ → Reader Scheme
 scheme schemes.While = while_scheme
 scheme schemes.For = for_scheme
 scheme schemes.Endless = λ levels. pure Endless
+
+-- "end" word ";"
+unfoldable pub closing : Kind → Reader Closing
+closing word = do
+  end ← expect_place program k.End
+  last ← expect_place program word
+  expect program k.Semicolon
+  pure (record { end = end; word = last })
 
 -- What reads statements one level down is a parameter, and so is the number of levels that are left.
 module _ (inner : Reader (List Stmt)) (levels : ℕ) where

@@ -18,7 +18,7 @@ use sqlite_items::Boxed;
 use std::alloc::{AllocError, Global};
 
 /// An expression, and how many parentheses, functions, operators and membership tests lie on the longest way down.
-#[derive(Debug, Drop)]
+#[derive(Drop)]
 pub struct Tall {
     pub expr: Boxed<Expr>,
     pub height: u32,
@@ -663,20 +663,6 @@ pub fn expression(
     Ok(tall.expr.into_inner())
 }
 
-/// Reads a predicate: an expression, or two between which a connective stands.
-#[tactic(auto, unfolding(crate::specs::Expressions::predicate))]
-pub fn predicate(
-    alloc: Global,
-    cursor: &mut Cursor<'_>,
-    levels: u32,
-    marked: bool,
-) -> Result<Expr, Stop>
-    ensures { Reads (read.predicate marked levels cursor.old) result cursor.new }
-{
-    let tall = at_layer(alloc, cursor, levels, marked, Layer::Predicate)?;
-    Ok(tall.expr.into_inner())
-}
-
 /// Reads an expression of program text, or a predicate of annotation text.
 #[tactic(auto, unfolding(crate::specs::Expressions::expression_at))]
 pub fn expression_at(
@@ -692,7 +678,7 @@ pub fn expression_at(
 }
 
 // predicate_after = word predicate ";", in annotation text
-#[tactic(auto, unfolding(crate::specs::Expressions::predicate_after))]
+#[tactic(auto, unfolding(crate::specs::Expressions::predicate_after, crate::specs::Expressions::predicate))]
 pub fn predicate_after(
     alloc: Global,
     cursor: &mut Cursor<'_>,
@@ -703,21 +689,7 @@ pub fn predicate_after(
     ensures { Reads (read.predicate_after word levels cursor.old) result cursor.new }
 {
     let place = cursor.expect_place(ANNOTATION, word)?;
-    let condition = predicate(alloc, cursor, levels, ANNOTATION)?;
+    let condition = at_layer(alloc, cursor, levels, ANNOTATION, Layer::Predicate)?.expr;
     cursor.expect(ANNOTATION, Kind::Semicolon)?;
     Ok(Predicate { place, condition })
-}
-
-/// Reads a sum, which Ada 95 calls a simple expression.
-#[tactic(auto, unfolding(crate::specs::Expressions::simple_expression))]
-pub fn simple_expression(
-    alloc: Global,
-    cursor: &mut Cursor<'_>,
-    levels: u32,
-    marked: bool,
-) -> Result<Expr, Stop>
-    ensures { Reads (read.simple_expression marked levels cursor.old) result cursor.new }
-{
-    let tall = at_layer(alloc, cursor, levels, marked, Layer::Sum)?;
-    Ok(tall.expr.into_inner())
 }

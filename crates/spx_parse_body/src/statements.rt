@@ -9,10 +9,10 @@ ghost use Rattle.spx_parse_body.specs.Statements as read;
 ghost use Rattle.spx_parse_body.specs.Answers.{Reads};
 
 use crate::cursor::{ANNOTATION, Cursor, PROGRAM, Stop};
-use crate::expressions::{expression, name, predicate_after, simple_expression};
+use crate::expressions::{at_layer, name, predicate_after};
 use spx_text::Place;
 use spx_tree::{
-    Alternative, Arm, AssertionKind, Choice, Closing, Count, Expr, Kind, Range, Scheme, Stmt,
+    Alternative, Arm, AssertionKind, Choice, Closing, Count, Expr, Kind, Layer, Range, Scheme, Stmt,
 };
 use sqlite_items::{Boxed, Items};
 use std::alloc::Global;
@@ -50,27 +50,27 @@ fn null_statement(cursor: &mut Cursor<'_>) -> Result<Stmt, Stop>
 }
 
 // assignment = name ":=" expression ";"
-#[tactic(auto, unfolding(crate::specs::Statements::assignment))]
+#[tactic(auto, unfolding(crate::specs::Statements::assignment, crate::specs::Expressions::expression))]
 fn assignment(alloc: Global, cursor: &mut Cursor<'_>, levels: u32) -> Result<Stmt, Stop>
     ensures { Reads (read.assignment (read.stmts_below levels) levels cursor.old) result cursor.new }
 {
-    let target = name(alloc, cursor, PROGRAM)?;
+    let target = Boxed::new(alloc, name(alloc, cursor, PROGRAM)?)?;
     cursor.expect(PROGRAM, Kind::Assignment)?;
-    let value = expression(alloc, cursor, levels, PROGRAM)?;
+    let value = at_layer(alloc, cursor, levels, PROGRAM, Layer::Expression)?.expr;
     cursor.expect(PROGRAM, Kind::Semicolon)?;
     Ok(Stmt::Assignment(target, value))
 }
 
 // arm = expression "then" stmts
 #[cycle(stmts)]
-#[tactic(auto, using(crate::proofs::Levels::expression_below_is, crate::proofs::Levels::stmts_below_is), unfolding(crate::specs::Statements::arm))]
+#[tactic(auto, using(crate::proofs::Levels::below_is, crate::proofs::Levels::stmts_below_is), unfolding(crate::specs::Statements::arm, crate::specs::Expressions::expression_below))]
 fn arm(alloc: Global, cursor: &mut Cursor<'_>, levels: u32, place: Place) -> Result<Arm, Stop>
     requires { 0 < levels }
     ensures { Reads (read.arm (read.stmts_below levels) levels place cursor.old) result cursor.new }
 {
-    let condition = expression(alloc, cursor, levels - 1, PROGRAM)?;
+    let condition = at_layer(alloc, cursor, levels - 1, PROGRAM, Layer::Expression)?.expr;
     cursor.expect(PROGRAM, Kind::Then)?;
-    let body = stmts(alloc, cursor, levels - 1)?;
+    let body = Boxed::new(alloc, stmts(alloc, cursor, levels - 1)?)?;
     Ok(Arm {
         place,
         condition,
@@ -97,7 +97,7 @@ fn elsif_arms(
     cursor: &mut Cursor<'_>,
     levels: u32,
     first: Arm,
-) -> Result<Items<Arm>, Stop>
+) -> Result<Boxed<Items<Arm>>, Stop>
     requires { 0 < levels }
     ensures { Reads (read.elsif_arms (read.stmts_below levels) levels (first ∷ []) cursor.old) result cursor.new }
 {
@@ -106,18 +106,22 @@ fn elsif_arms(
     'more: while cursor.sees(PROGRAM, Kind::Elsif) {
         arms.push(elsif_arm(alloc, cursor, levels)?)?;
     }
-    Ok(arms)
+    Ok(Boxed::new(alloc, arms)?)
 }
 
 // else_part = "else" stmts
 #[cycle(stmts)]
 #[tactic(auto, using(crate::proofs::Levels::stmts_below_is), unfolding(crate::specs::Statements::else_part))]
-fn else_part(alloc: Global, cursor: &mut Cursor<'_>, levels: u32) -> Result<Items<Stmt>, Stop>
+fn else_part(
+    alloc: Global,
+    cursor: &mut Cursor<'_>,
+    levels: u32,
+) -> Result<Boxed<Items<Stmt>>, Stop>
     requires { 0 < levels }
     ensures { Reads (read.else_part (read.stmts_below levels) levels cursor.old) result cursor.new }
 {
     cursor.expect(PROGRAM, Kind::Else)?;
-    stmts(alloc, cursor, levels - 1)
+    Ok(Boxed::new(alloc, stmts(alloc, cursor, levels - 1)?)?)
 }
 
 // [else_part]
@@ -127,7 +131,7 @@ fn optional_else(
     alloc: Global,
     cursor: &mut Cursor<'_>,
     levels: u32,
-) -> Result<Option<Items<Stmt>>, Stop>
+) -> Result<Option<Boxed<Items<Stmt>>>, Stop>
     requires { 0 < levels }
     ensures { Reads (reading.if_seen program k.Else (read.else_part (read.stmts_below levels) levels) cursor.old) result cursor.new }
 {
@@ -137,9 +141,29 @@ fn optional_else(
     Ok(None)
 }
 
-// if_statement = "if" arm {elsif_arm} [else_part] "end" "if" ";"
+/// Reads a word, and answers its place.
+fn place_of_word(alloc: Global, cursor: &mut Cursor<'_>, word: Kind) -> Result<Boxed<Place>, Stop>
+    requires { keeps word ≡ ItsPlace }
+    ensures { Reads (reading.expect_place program word cursor.old) result cursor.new }
+{
+    Ok(Boxed::new(alloc, cursor.expect_place(PROGRAM, word)?)?)
+}
+
+// closing = "end" word ";"
+#[tactic(auto, unfolding(crate::specs::Statements::closing))]
+fn closing(alloc: Global, cursor: &mut Cursor<'_>, word: Kind) -> Result<Boxed<Closing>, Stop>
+    requires { keeps word ≡ ItsPlace }
+    ensures { Reads (read.closing word cursor.old) result cursor.new }
+{
+    let end = cursor.expect_place(PROGRAM, Kind::End)?;
+    let last = cursor.expect_place(PROGRAM, word)?;
+    cursor.expect(PROGRAM, Kind::Semicolon)?;
+    Ok(Boxed::new(alloc, Closing { end, word: last })?)
+}
+
+// if_statement = "if" arm {elsif_arm} [else_part] closing
 #[cycle(stmts)]
-#[tactic(auto, unfolding(crate::specs::Statements::if_statement))]
+#[tactic(auto, using(crate::proofs::Closings::if_statement_is))]
 fn if_statement(alloc: Global, cursor: &mut Cursor<'_>, levels: u32) -> Result<Stmt, Stop>
     ensures { Reads (read.if_statement (read.stmts_below levels) levels cursor.old) result cursor.new }
 {
@@ -150,25 +174,27 @@ fn if_statement(alloc: Global, cursor: &mut Cursor<'_>, levels: u32) -> Result<S
     let first = arm(alloc, cursor, levels, place)?;
     let arms = elsif_arms(alloc, cursor, levels, first)?;
     let otherwise = optional_else(alloc, cursor, levels)?;
-    let end = cursor.expect_place(PROGRAM, Kind::End)?;
-    let word = cursor.expect_place(PROGRAM, Kind::If)?;
-    cursor.expect(PROGRAM, Kind::Semicolon)?;
-    Ok(Stmt::If(arms, otherwise, Closing { end, word }))
+    let closing = closing(alloc, cursor, Kind::If)?;
+    Ok(Stmt::If(arms, otherwise, closing))
 }
 
 // upper = ".." sum
-#[tactic(auto, using(crate::proofs::Levels::simple_expression_below_is), unfolding(crate::specs::Statements::upper))]
-fn upper(alloc: Global, cursor: &mut Cursor<'_>, levels: u32) -> Result<Expr, Stop>
+#[tactic(auto, using(crate::proofs::Levels::below_is), unfolding(crate::specs::Statements::upper, crate::specs::Expressions::simple_expression_below))]
+fn upper(alloc: Global, cursor: &mut Cursor<'_>, levels: u32) -> Result<Boxed<Expr>, Stop>
     requires { 0 < levels }
     ensures { Reads (read.upper levels cursor.old) result cursor.new }
 {
     cursor.expect(PROGRAM, Kind::DoubleDot)?;
-    simple_expression(alloc, cursor, levels - 1, PROGRAM)
+    Ok(at_layer(alloc, cursor, levels - 1, PROGRAM, Layer::Sum)?.expr)
 }
 
 // [upper]
 #[tactic(auto, unfolding(crate::specs::Reading::if_seen))]
-fn optional_upper(alloc: Global, cursor: &mut Cursor<'_>, levels: u32) -> Result<Option<Expr>, Stop>
+fn optional_upper(
+    alloc: Global,
+    cursor: &mut Cursor<'_>,
+    levels: u32,
+) -> Result<Option<Boxed<Expr>>, Stop>
     requires { 0 < levels }
     ensures { Reads (reading.if_seen program k.DoubleDot (read.upper levels) cursor.old) result cursor.new }
 {
@@ -179,19 +205,23 @@ fn optional_upper(alloc: Global, cursor: &mut Cursor<'_>, levels: u32) -> Result
 }
 
 // choice = sum [upper]
-#[tactic(auto, using(crate::proofs::Levels::simple_expression_below_is), unfolding(crate::specs::Statements::choice))]
+#[tactic(auto, using(crate::proofs::Levels::below_is), unfolding(crate::specs::Statements::choice, crate::specs::Expressions::simple_expression_below))]
 fn choice(alloc: Global, cursor: &mut Cursor<'_>, levels: u32) -> Result<Choice, Stop>
     requires { 0 < levels }
     ensures { Reads (read.choice levels cursor.old) result cursor.new }
 {
-    let low = simple_expression(alloc, cursor, levels - 1, PROGRAM)?;
+    let low = at_layer(alloc, cursor, levels - 1, PROGRAM, Layer::Sum)?.expr;
     let high = optional_upper(alloc, cursor, levels)?;
     Ok(Choice { low, high })
 }
 
 // some_choices = choice {"|" choice}
 #[tactic(auto, using(crate::proofs::Callers::Turns::more_choices_is), unfolding(crate::specs::Statements::some_choices))]
-fn some_choices(alloc: Global, cursor: &mut Cursor<'_>, levels: u32) -> Result<Items<Choice>, Stop>
+fn some_choices(
+    alloc: Global,
+    cursor: &mut Cursor<'_>,
+    levels: u32,
+) -> Result<Boxed<Items<Choice>>, Stop>
     requires { 0 < levels }
     ensures { Reads (read.some_choices levels cursor.old) result cursor.new }
 {
@@ -201,7 +231,7 @@ fn some_choices(alloc: Global, cursor: &mut Cursor<'_>, levels: u32) -> Result<I
         cursor.expect(PROGRAM, Kind::Bar)?;
         choices.push(choice(alloc, cursor, levels)?)?;
     }
-    Ok(choices)
+    Ok(Boxed::new(alloc, choices)?)
 }
 
 // choices = "others" | some_choices
@@ -210,7 +240,7 @@ fn choices(
     alloc: Global,
     cursor: &mut Cursor<'_>,
     levels: u32,
-) -> Result<Option<Items<Choice>>, Stop>
+) -> Result<Option<Boxed<Items<Choice>>>, Stop>
     requires { 0 < levels }
     ensures { Reads (read.choices levels cursor.old) result cursor.new }
 {
@@ -242,7 +272,7 @@ fn alternatives(
     alloc: Global,
     cursor: &mut Cursor<'_>,
     levels: u32,
-) -> Result<Items<Alternative>, Stop>
+) -> Result<Boxed<Items<Alternative>>, Stop>
     requires { 0 < levels }
     ensures { Reads (read.alternatives (read.stmts_below levels) levels cursor.old) result cursor.new }
 {
@@ -251,48 +281,45 @@ fn alternatives(
     'more: while cursor.sees(PROGRAM, Kind::When) {
         alternatives.push(alternative(alloc, cursor, levels)?)?;
     }
-    Ok(alternatives)
+    Ok(Boxed::new(alloc, alternatives)?)
 }
 
-// case_statement = "case" expression "is" alternatives "end" "case" ";"
+// case_statement = "case" expression "is" alternatives closing
 #[cycle(stmts)]
-#[tactic(auto, using(crate::proofs::Levels::expression_below_is), unfolding(crate::specs::Statements::case_statement))]
+#[tactic(auto, using(crate::proofs::Levels::below_is, crate::proofs::Closings::case_statement_is), unfolding(crate::specs::Expressions::expression_below))]
 fn case_statement(alloc: Global, cursor: &mut Cursor<'_>, levels: u32) -> Result<Stmt, Stop>
     ensures { Reads (read.case_statement (read.stmts_below levels) levels cursor.old) result cursor.new }
 {
     if levels == 0 {
         return Err(cursor.too_deep());
     }
-    let place = cursor.expect_place(PROGRAM, Kind::Case)?;
-    let selector = expression(alloc, cursor, levels - 1, PROGRAM)?;
+    let place = place_of_word(alloc, cursor, Kind::Case)?;
+    let selector = at_layer(alloc, cursor, levels - 1, PROGRAM, Layer::Expression)?.expr;
     cursor.expect(PROGRAM, Kind::Is)?;
     let alternatives = alternatives(alloc, cursor, levels)?;
-    let end = cursor.expect_place(PROGRAM, Kind::End)?;
-    let word = cursor.expect_place(PROGRAM, Kind::Case)?;
-    cursor.expect(PROGRAM, Kind::Semicolon)?;
-    let closing = Closing { end, word };
+    let closing = closing(alloc, cursor, Kind::Case)?;
     Ok(Stmt::Case(place, selector, alternatives, closing))
 }
 
 // while_scheme = "while" expression
-#[tactic(auto, using(crate::proofs::Levels::expression_below_is), unfolding(crate::specs::Statements::while_scheme))]
+#[tactic(auto, using(crate::proofs::Levels::below_is), unfolding(crate::specs::Statements::while_scheme, crate::specs::Expressions::expression_below))]
 fn while_scheme(alloc: Global, cursor: &mut Cursor<'_>, levels: u32) -> Result<Scheme, Stop>
     requires { 0 < levels }
     ensures { Reads (read.while_scheme levels cursor.old) result cursor.new }
 {
     let place = cursor.expect_place(PROGRAM, Kind::While)?;
-    let condition = expression(alloc, cursor, levels - 1, PROGRAM)?;
+    let condition = at_layer(alloc, cursor, levels - 1, PROGRAM, Layer::Expression)?.expr;
     Ok(Scheme::While(place, condition))
 }
 
 // range = sum ".." sum
-#[tactic(auto, unfolding(crate::specs::Statements::range))]
+#[tactic(auto, unfolding(crate::specs::Statements::range, crate::specs::Expressions::simple_expression))]
 fn range(alloc: Global, cursor: &mut Cursor<'_>, levels: u32) -> Result<Range, Stop>
     ensures { Reads (read.range levels cursor.old) result cursor.new }
 {
-    let low = simple_expression(alloc, cursor, levels, PROGRAM)?;
+    let low = at_layer(alloc, cursor, levels, PROGRAM, Layer::Sum)?.expr;
     cursor.expect(PROGRAM, Kind::DoubleDot)?;
-    let high = simple_expression(alloc, cursor, levels, PROGRAM)?;
+    let high = at_layer(alloc, cursor, levels, PROGRAM, Layer::Sum)?.expr;
     Ok(Range { low, high })
 }
 
@@ -312,12 +339,12 @@ fn optional_bounds(
     alloc: Global,
     cursor: &mut Cursor<'_>,
     levels: u32,
-) -> Result<Option<Range>, Stop>
+) -> Result<Option<Boxed<Range>>, Stop>
     requires { 0 < levels }
     ensures { Reads (reading.if_seen program k.Range (read.constraint_below levels) cursor.old) result cursor.new }
 {
     if cursor.sees(PROGRAM, Kind::Range) {
-        return Ok(Some(constraint(alloc, cursor, levels - 1)?));
+        return Ok(Some(Boxed::new(alloc, constraint(alloc, cursor, levels - 1)?)?));
     }
     Ok(None)
 }
@@ -374,9 +401,9 @@ fn scheme(
     }
 }
 
-// loop_statement = scheme "loop" stmts "end" "loop" ";"
+// loop_statement = scheme "loop" stmts closing
 #[cycle(stmts)]
-#[tactic(auto, using(crate::proofs::Levels::stmts_below_is), unfolding(crate::specs::Statements::loop_statement))]
+#[tactic(auto, using(crate::proofs::Levels::stmts_below_is, crate::proofs::Closings::loop_statement_is))]
 fn loop_statement(
     alloc: Global,
     cursor: &mut Cursor<'_>,
@@ -388,27 +415,29 @@ fn loop_statement(
     if levels == 0 {
         return Err(cursor.too_deep());
     }
-    let scheme = scheme(alloc, cursor, levels, kind)?;
-    let word = cursor.expect_place(PROGRAM, Kind::Loop)?;
-    let stmts = stmts(alloc, cursor, levels - 1)?;
-    let end = cursor.expect_place(PROGRAM, Kind::End)?;
-    let last = cursor.expect_place(PROGRAM, Kind::Loop)?;
-    cursor.expect(PROGRAM, Kind::Semicolon)?;
-    Ok(Stmt::Loop(scheme, word, stmts, Closing { end, word: last }))
+    let scheme = Boxed::new(alloc, scheme(alloc, cursor, levels, kind)?)?;
+    let word = place_of_word(alloc, cursor, Kind::Loop)?;
+    let stmts = Boxed::new(alloc, stmts(alloc, cursor, levels - 1)?)?;
+    let closing = closing(alloc, cursor, Kind::Loop)?;
+    Ok(Stmt::Loop(scheme, word, stmts, closing))
 }
 
 // when_part = "when" expression
-#[tactic(auto, unfolding(crate::specs::Statements::when_part))]
-fn when_part(alloc: Global, cursor: &mut Cursor<'_>, levels: u32) -> Result<Expr, Stop>
+#[tactic(auto, unfolding(crate::specs::Statements::when_part, crate::specs::Expressions::expression))]
+fn when_part(alloc: Global, cursor: &mut Cursor<'_>, levels: u32) -> Result<Boxed<Expr>, Stop>
     ensures { Reads (read.when_part levels cursor.old) result cursor.new }
 {
     cursor.expect(PROGRAM, Kind::When)?;
-    expression(alloc, cursor, levels, PROGRAM)
+    Ok(at_layer(alloc, cursor, levels, PROGRAM, Layer::Expression)?.expr)
 }
 
 // [when_part]
 #[tactic(auto, unfolding(crate::specs::Reading::if_seen))]
-fn optional_when(alloc: Global, cursor: &mut Cursor<'_>, levels: u32) -> Result<Option<Expr>, Stop>
+fn optional_when(
+    alloc: Global,
+    cursor: &mut Cursor<'_>,
+    levels: u32,
+) -> Result<Option<Boxed<Expr>>, Stop>
     ensures { Reads (reading.if_seen program k.When (read.when_part levels) cursor.old) result cursor.new }
 {
     if cursor.sees(PROGRAM, Kind::When) {
