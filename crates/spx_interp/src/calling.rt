@@ -36,7 +36,13 @@ fn look_at_predicate(
     ensures { predicate_looked_at (frame_of body.now) store.now kind predicate.now ≡ done result store.now }
 {
     match predicate {
-        Some(predicate) => look_at(body, store, kind, predicate.place, &predicate.condition),
+        Some(predicate) => look_at(
+            body,
+            store,
+            kind,
+            predicate.place,
+            predicate.condition.get(),
+        ),
         None => Ok(Step::Ended),
     }
 }

@@ -12,7 +12,7 @@ use crate::evaluation::is_true;
 use crate::numbers::as_number;
 use spx_core::{CoreAlternative, CoreArm, CoreChoice, Span};
 use spx_meaning::{Bad, Value};
-use sqlite_items::Items;
+use sqlite_items::{Boxed, Items};
 
 /// The values of a choice.
 fn values_of(choice: &CoreChoice) -> Span
@@ -41,11 +41,11 @@ fn is_chosen(number: i128, choices: &[CoreChoice]) -> bool
 }
 
 /// Whether one of the choices has the value. `others` has every value.
-fn has_value(choices: &Option<Items<CoreChoice>>, value: Value) -> bool
+fn has_value(choices: &Option<Boxed<Items<CoreChoice>>>, value: Value) -> bool
     ensures { result ≡ has_value choices.now value }
 {
     match choices {
-        Some(choices) => is_chosen(as_number(value), choices.as_slice()),
+        Some(choices) => is_chosen(as_number(value), choices.get().as_slice()),
         None => true,
     }
 }
@@ -61,7 +61,7 @@ pub(crate) fn first_arm(
     ensures runs { (otherwise : Command) → ran (frame_of body.now) turns store.now (arms_before otherwise (map arm_before arms.now)) ≡ on_arm result (λ k. ran (frame_of body.now) turns store.now (arm_at arms.now k)) (ran (frame_of body.now) turns store.now otherwise) }
 {
     for k in 0..arms.len() {
-        match is_true(body, turns, store, &arms[k].condition) {
+        match is_true(body, turns, store, arms[k].condition.get()) {
             Ok(true) => return Ok(Some(k)),
             Ok(false) => {}
             Err(bad) => return Err(bad),

@@ -23,7 +23,7 @@ pub(crate) fn goes_on(
     ensures { truth_answered result (test_of (frame_of body.now) turns store.now (head_of scheme.now)) }
 {
     match scheme {
-        CoreScheme::While(_, condition) => is_true(body, turns, store, condition),
+        CoreScheme::While(_, condition) => is_true(body, turns, store, condition.get()),
         CoreScheme::For(_) | CoreScheme::Endless => Ok(true),
     }
 }
@@ -53,15 +53,16 @@ pub(crate) fn bounds_of(
             last: subtype.last,
         });
     };
-    let first = as_number(eval(body, turns, store, &range.low)?);
-    let last = as_number(eval(body, turns, store, &range.high)?);
+    let low = range.get().low.get();
+    let first = as_number(eval(body, turns, store, low)?);
+    let last = as_number(eval(body, turns, store, range.get().high.get())?);
     let bounds = Span { first, last };
     if are_in_type(subtype, bounds) {
         Ok(bounds)
     } else {
         Err(Bad {
             kind: BadKind::Range,
-            place: range.low.place(),
+            place: low.place(),
         })
     }
 }

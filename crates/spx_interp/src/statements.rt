@@ -21,6 +21,7 @@ use spx_meaning::{Bad, BadKind, Value, is_in, type_of};
 use spx_num::TooWide;
 use spx_text::Place;
 use spx_tree::AssertionKind;
+use sqlite_items::Boxed;
 
 /// Gives a variable a value of its type.
 fn assign(body: &Body, store: &mut [Option<Value>], place: Place, var: VarId, value: Value) -> Step
@@ -89,13 +90,18 @@ fn untrue(kind: AssertionKind) -> BadKind
 
 /// Runs an exit.
 #[tactic(auto, using(crate::proofs::RunForms::run_forms))]
-fn run_exit(body: &Body, turns: u64, store: &[Option<Value>], condition: &Option<CoreExpr>) -> Step
+fn run_exit(
+    body: &Body,
+    turns: u64,
+    store: &[Option<Value>],
+    condition: &Option<Boxed<CoreExpr>>,
+) -> Step
     ensures { (place : Place) → ran (frame_of body.now) turns store.now (exit_where place condition.now) ≡ Some (outcome_of result store.now) }
 {
     let Some(condition) = condition else {
         return Step::Left;
     };
-    match is_true(body, turns, store, condition) {
+    match is_true(body, turns, store, condition.get()) {
         Ok(true) => Step::Left,
         Ok(false) => Step::Ended,
         Err(bad) => Step::Failed(bad),
@@ -137,14 +143,15 @@ fn run_stmt(
     match stmt {
         CoreStmt::Null(_) => Ok(Step::Ended),
         CoreStmt::Assignment(target, expr) => {
-            Ok(run_assignment(body, turns, store, target, expr))
+            Ok(run_assignment(body, turns, store, target.get(), expr.get()))
         }
         CoreStmt::If(arms, otherwise, _) => {
-            match first_arm(body, turns, store, arms.as_slice()) {
+            let arms = arms.get().as_slice();
+            match first_arm(body, turns, store, arms) {
                 Ok(found) => match found {
-                    Some(k) => run_arm(body, turns, store, arms.as_slice(), k),
+                    Some(k) => run_arm(body, turns, store, arms, k),
                     None => match otherwise {
-                        Some(stmts) => run_stmts(body, turns, store, stmts.as_slice()),
+                        Some(stmts) => run_stmts(body, turns, store, stmts.get().as_slice()),
                         None => Ok(Step::Ended),
                     },
                 },
@@ -152,15 +159,25 @@ fn run_stmt(
             }
         }
         CoreStmt::Case(_, selector, alternatives, _) => {
-            run_case(body, turns, store, alternatives.as_slice(), selector)
+            run_case(
+                body,
+                turns,
+                store,
+                alternatives.get().as_slice(),
+                selector.get(),
+            )
         }
-        CoreStmt::Loop(scheme, _, stmts, _) => match scheme {
-            CoreScheme::While(_, _) => run_turns(body, turns, store, stmts.as_slice(), scheme),
-            CoreScheme::For(count) => run_for(body, turns, store, stmts.as_slice(), count.get()),
-            CoreScheme::Endless => run_turns(body, turns, store, stmts.as_slice(), scheme),
-        },
+        CoreStmt::Loop(scheme, _, stmts, _) => {
+            let stmts = stmts.get().as_slice();
+            let scheme = scheme.get();
+            match scheme {
+                CoreScheme::While(_, _) => run_turns(body, turns, store, stmts, scheme),
+                CoreScheme::For(count) => run_for(body, turns, store, stmts, count.get()),
+                CoreScheme::Endless => run_turns(body, turns, store, stmts, scheme),
+            }
+        }
         CoreStmt::Assertion(kind, place, condition) => {
-            look_at(body, store, untrue(*kind), *place, condition)
+            look_at(body, store, untrue(*kind), *place, condition.get())
         }
         CoreStmt::Exit(_, condition) => Ok(run_exit(body, turns, store, condition)),
     }
@@ -179,7 +196,7 @@ fn run_arm(
     requires room { ArmsHaveRoom (length store.old) arms.now }
     ensures { ran (frame_of body.now) turns store.old (arm_at arms.now k) ≡ done result store.new }
 {
-    run_stmts(body, turns, store, arms[k].body.as_slice())
+    run_stmts(body, turns, store, arms[k].body.get().as_slice())
 }
 
 /// Runs the alternative for the value of the selector. Where there is no alternative, nothing is done.

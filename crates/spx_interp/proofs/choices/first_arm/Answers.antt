@@ -14,13 +14,13 @@ returns-in-Ok-true-clause-runs c otherwise =
     let k = c.loop-k.k in
     c.loop-k.invariant otherwise
     ∙ ran_arms f n s otherwise arms k c.index-arms-k.result c.loop-k-test.true
-    ∙ where_tested true _ (λ b. if b then ran f n s (arm_at arms k) else ran f n s (arms_before otherwise (map arm_before (drop (k + 1) arms)))) (at_truth true c.in-Ok-true.field-0 _ c.in-Ok-true.field-0-test c.in-Ok-true.ensures)
+    ∙ where_tested true _ (λ b. if b then ran f n s (arm_at arms k) else ran f n s (arms_before otherwise (map arm_before (drop (k + 1) arms)))) (at_truth true c.in-Ok-true.field-0 _ c.in-Ok-true.field-0-test (rw c.get.ensures at c.in-Ok-true.ensures))
 
 pub returns-in-Err-clause-runs : goal.returns-in-Err-clause-runs
 returns-in-Err-clause-runs c otherwise =
     c.loop-k.invariant otherwise
     ∙ ran_arms (frame_of c.args.body.now) c.args.turns c.args.store.now otherwise c.args.arms.now c.loop-k.k c.index-arms-k.result c.loop-k-test.true
-    ∙ where_failed c.in-Err.bad _ _ c.in-Err.ensures
+    ∙ where_failed c.in-Err.bad _ _ (rw c.get.ensures at c.in-Err.ensures)
 
 pub loop-k-preserved : goal.loop-k-preserved
 loop-k-preserved c otherwise =
@@ -31,4 +31,4 @@ loop-k-preserved c otherwise =
     let k = c.loop-k.k in
     c.loop-k.invariant otherwise
     ∙ ran_arms f n s otherwise arms k c.index-arms-k.result c.loop-k-test.true
-    ∙ where_tested false _ (λ b. if b then ran f n s (arm_at arms k) else ran f n s (arms_before otherwise (map arm_before (drop (k + 1) arms)))) (at_truth false c.in-Ok-false.field-0 _ c.in-Ok-false.field-0-test c.in-Ok-false.ensures)
+    ∙ where_tested false _ (λ b. if b then ran f n s (arm_at arms k) else ran f n s (arms_before otherwise (map arm_before (drop (k + 1) arms)))) (at_truth false c.in-Ok-false.field-0 _ c.in-Ok-false.field-0-test (rw c.get.ensures at c.in-Ok-false.ensures))
