@@ -5,7 +5,7 @@ ghost use Rattle.std.specs.Option.{option_to_list};
 ghost use Rattle.spx_text.specs.declared.place.Place.{Place};
 ghost use Rattle.spx_core.specs.declared.entity.VarId.{VarId};
 ghost use Rattle.spx_core.specs.declared.subprogram.Sub.{Sub};
-ghost use Rattle.spx_core.specs.Commands.{Choose, Counted, Repeat, alternative, arm_before, arms_before, command, commands, exit_where, loop_of, select};
+ghost use Rattle.spx_core.specs.Commands.{Choose, Counted, Repeat, Set, alternative, arm_before, arms_before, command, commands, exit_where, loop_of, select};
 ghost use Rattle.spx_core.specs.Effects.{effect, effects, reads_in, reads_of, reads_of_range};
 ghost use Rattle.spx_core.specs.Formals.{initial_of};
 ghost use Rattle.spx_core.specs.Uses.{denotes};
@@ -22,6 +22,7 @@ use spx_core::{
     variable_of,
 };
 use spx_text::Place;
+use sqlite_items::Boxed;
 use std::alloc::{AllocError, Global};
 
 /// Reads of variables, at the place of the name.
@@ -82,20 +83,25 @@ fn add_unset_names(here: &Reached, expr: &CoreExpr, found: &mut Reads) -> Result
     }
 }
 
+/// Adds what a range reads of variables that may be unset.
+fn add_unset_range(here: &Reached, range: &CoreRange, found: &mut Reads) -> Result<(), AllocError>
+    ensures { OnOk result (Finds here.now (reads_of_range range.now) found.old.keys found.new.keys) }
+{
+    add_unset_names(here, range.low.get(), found)?;
+    add_unset_names(here, range.high.get(), found)
+}
+
 /// Adds what the bounds of a loop read of variables that may be unset, where they are written.
 fn add_unset_bounds(
     here: &Reached,
-    bounds: &Option<CoreRange>,
+    bounds: &Option<Boxed<CoreRange>>,
     found: &mut Reads,
 ) -> Result<(), AllocError>
     ensures { OnOk result (Finds here.now (reads_in (option_map reads_of_range bounds.now)) found.old.keys found.new.keys) }
 {
     match bounds {
         None => Ok(()),
-        Some(range) => {
-            add_unset_names(here, &range.low, found)?;
-            add_unset_names(here, &range.high, found)
-        }
+        Some(range) => add_unset_range(here, range.get(), found),
     }
 }
 
@@ -138,10 +144,23 @@ fn set_target(here: &mut Reached, target: &Reference) -> Result<(), AllocError>
     }
 }
 
+/// Goes over an assignment: the target is set only after the right side is read.
+fn go_over_assignment(
+    target: &Reference,
+    value: &CoreExpr,
+    here: &mut Reached,
+    found: &mut Reads,
+) -> Result<(), AllocError>
+    ensures { OnOk result ((exits : Reached) → Passes (effect (Set target.now value.now)) here.old here.new exits exits found.old.keys found.new.keys) }
+{
+    add_unset_names(here, value, found)?;
+    set_target(here, target)
+}
+
 /// Goes over an exit. One with a condition may leave the loop here, and the other ends its arm, which counts there.
 fn go_over_exit(
     alloc: Global,
-    condition: &Option<CoreExpr>,
+    condition: &Option<Boxed<CoreExpr>>,
     here: &Reached,
     exits: &mut Reached,
     found: &mut Reads,
@@ -151,7 +170,7 @@ fn go_over_exit(
     match condition {
         None => Ok(()),
         Some(test) => {
-            add_unset_names(here, test, found)?;
+            add_unset_names(here, test.get(), found)?;
             *exits = exits.joined(alloc, here)?;
             Ok(())
         }
@@ -174,31 +193,31 @@ fn go_over(
     match stmt {
         CoreStmt::Null(_) => Ok(()),
         CoreStmt::Assignment(target, value) => {
-            add_unset_names(here, value, found)?;
-            set_target(here, target)
+            go_over_assignment(target.get(), value.get(), here, found)
         }
         CoreStmt::If(arms, otherwise, _) => match otherwise {
             None => {
                 let mut ends = here.copy(alloc)?;
-                go_over_arms(alloc, arms.as_slice(), here, &mut ends, exits, found)?;
+                go_over_arms(alloc, arms.get().as_slice(), here, &mut ends, exits, found)?;
                 *here = ends;
                 Ok(())
             }
             Some(stmts) => {
                 let mut ends = here.copy(alloc)?;
-                go_over_all(alloc, stmts.as_slice(), &mut ends, exits, found)?;
-                go_over_arms(alloc, arms.as_slice(), here, &mut ends, exits, found)?;
+                go_over_all(alloc, stmts.get().as_slice(), &mut ends, exits, found)?;
+                go_over_arms(alloc, arms.get().as_slice(), here, &mut ends, exits, found)?;
                 *here = ends;
                 Ok(())
             }
         },
         CoreStmt::Case(_, selector, alternatives, _) => {
-            go_over_case(alloc, alternatives.as_slice(), selector, here, exits, found)
+            let alternatives = alternatives.get().as_slice();
+            go_over_case(alloc, alternatives, selector.get(), here, exits, found)
         }
         CoreStmt::Loop(scheme, _, body, _) => {
-            go_over_loop(alloc, body.as_slice(), scheme, here, found)
+            go_over_loop(alloc, body.get().as_slice(), scheme.get(), here, found)
         }
-        CoreStmt::Assertion(_, _, condition) => add_unset_names(here, condition, found),
+        CoreStmt::Assertion(_, _, condition) => add_unset_names(here, condition.get(), found),
         CoreStmt::Exit(_, condition) => go_over_exit(alloc, condition, here, exits, found),
     }
 }
@@ -217,8 +236,8 @@ fn go_over_branch(
 ) -> Result<(), AllocError>
     ensures { OnOk result ((place : Place) → PassesBefore (λ otherwise. Choose place test.now (commands body.now) otherwise) here.now ends.old ends.new exits.old exits.new found.old.keys found.new.keys) }
 {
-    let mut end = here.copy(alloc)?;
     add_unset_names(here, test, found)?;
+    let mut end = here.copy(alloc)?;
     if has_own_exit(body) {
         let mut inner = Reached::NoWay;
         go_over_all(alloc, body, &mut end, &mut inner, found)?;
@@ -246,8 +265,9 @@ fn go_over_arms(
 {
     for k in (0..arms.len()).rev() {
         let arm = &arms[k];
-        let body = arm.body.as_slice();
-        go_over_branch(alloc, body, &arm.condition, here, ends, exits, found)?;
+        let body = arm.body.get().as_slice();
+        let test = arm.condition.get();
+        go_over_branch(alloc, body, test, here, ends, exits, found)?;
     }
     Ok(())
 }
@@ -269,8 +289,8 @@ fn go_over_case(
         return Ok(());
     }
     let last = alternatives.len() - 1;
-    let mut ends = here.copy(alloc)?;
     add_unset_names(here, selector, found)?;
+    let mut ends = here.copy(alloc)?;
     go_over_all(
         alloc,
         alternatives[last].body.as_slice(),
@@ -301,11 +321,10 @@ fn go_over_loop(
 {
     match scheme {
         CoreScheme::While(_, condition) => {
+            add_unset_names(here, condition.get(), found)?;
             let mut turn = here.copy(alloc)?;
             let mut left = Reached::NoWay;
-            add_unset_names(here, condition, found)?;
-            go_over_all(alloc, body, &mut turn, &mut left, found)?;
-            Ok(())
+            go_over_all(alloc, body, &mut turn, &mut left, found)
         }
         CoreScheme::For(count) => go_over_count(alloc, body, count.get(), here, found),
         CoreScheme::Endless => {
@@ -394,6 +413,31 @@ fn listed(alloc: Global, imports: &VarSet, found: &Reads) -> Result<Vec<(Place, 
         .collect(alloc)
 }
 
+/// The reads of variables that may be unset, which are gathered in `found`, an empty set.
+fn gather_unset_reads(
+    alloc: Global,
+    program: &Program,
+    sub: &Sub,
+    found: &mut Reads,
+) -> Result<Vec<(Place, VarId)>, AllocError>
+    requires { found.old.keys ≡ [] }
+    ensures { IfOk result (λ reads. AreUnsetReads program.now sub.now reads.items) }
+{
+    let imports = VarSet::imports(alloc, sub)?;
+    let mut here = Reached::start(alloc)?;
+    let mut exits = Reached::NoWay;
+    go_over_all(
+        alloc,
+        sub.statements.as_slice(),
+        &mut here,
+        &mut exits,
+        found,
+    )?;
+    leave_out_initialized(program, found);
+    add_unset_exports(&here, sub.end, sub.relation(), found)?;
+    listed(alloc, &imports, found)
+}
+
 fn unset_reads_of(
     alloc: Global,
     program: &Program,
@@ -401,20 +445,8 @@ fn unset_reads_of(
 ) -> Result<Vec<(Place, VarId)>, AllocError>
     ensures { IfOk result (λ found. AreUnsetReads program.now sub.now found.items) }
 {
-    let imports = VarSet::imports(alloc, sub)?;
-    let mut here = Reached::start(alloc);
-    let mut exits = Reached::NoWay;
     let mut found = IndexSet::new(alloc);
-    go_over_all(
-        alloc,
-        sub.statements.as_slice(),
-        &mut here,
-        &mut exits,
-        &mut found,
-    )?;
-    leave_out_initialized(program, &mut found);
-    add_unset_exports(&here, sub.end, sub.relation(), &mut found)?;
-    listed(alloc, &imports, &found)
+    gather_unset_reads(alloc, program, sub, &mut found)
 }
 
 /// The reads of variables that may be unset, at the name, and the exports that may be left so, at the word `end`.

@@ -1,31 +1,29 @@
-use Rattle.std.proofs.Common.{◌≡◌, ◌+◌, ◌-◌, ◌<◌, ◌&&◌, Some, arith, ap, drop, length, map, not, option_map, refl, rules, subst, sym, ◌∙◌}
+use Rattle.std.proofs.Common.{◌≡◌, ◌+◌, ◌-◌, ◌<◌, ◌&&◌, Some, arith, ap, ap₂, drop, length, map, not, option_map, refl, rules, subst, sym, ◌∙◌}
 use Rattle.std.proofs.lemmas.List.{drop_all, length-drop}
 use Rattle.std.proofs.lemmas.Result.{on_ok_weaker}
 use Rattle.spx_core.specs.declared.statement.CoreArm.{out-CoreArm}
 use Rattle.spx_core.specs.declared.statement.CoreAlternative.{out-CoreAlternative}
+use Rattle.spx_core.specs.declared.statement.CoreStmt.TheVariants.{Assignment}
 use Rattle.spx_core.specs.Commands.{Choose, Counted, Repeat, Skip, alternative, arm_before, arms_before, command, commands, loop_of, select}
-use Rattle.spx_core.specs.Uses.{is_same, variable_of}
+use Rattle.spx_core.specs.Uses.{is_same}
 use Rattle.spx_core.specs.Effects.{chosen, count as loop_over, effect, effects, reads_in, reads_of, reads_of_range}
 use Rattle.spx_define.specs.Passes.{Finds, Passes, PassesBefore}
-use Rattle.spx_core.proofs.Callers.CommandForms.{command-Assignment, command-Assertion, command-Exit, command-If, command-If-else, command-Loop, command_arm, select_last, select_more}
-use Rattle.spx_define.proofs.PassLaws.{passes_assign, passes_choose, passes_copied, passes_exit, passes_next, passes_nothing, passes_observe, passes_once}
+use Rattle.spx_core.proofs.Callers.CommandForms.{command-Assignment, command-Assertion, command-Case, command-Exit, command-If, command-If-else, command-Loop, command_arm, select_last, select_more}
+use Rattle.spx_define.proofs.PassLaws.{passes_choose, passes_copied, passes_exit, passes_next, passes_nothing, passes_observe, passes_once}
 use Rattle.spx_define.proofs.LoopLaws.{SetsToo, passes_between, passes_endless, passes_over, passes_repeat}
 use Rattle.spx_define.proofs.Elements.{left_before, left_last, left_of}
 use Rattle.spx_define.proofs.define.+go_over.Goals as goal
 
-pub go_over-returns-in_ok-add_unset_names-in-Assignment : goal.go_over-returns-in_ok-add_unset_names-in-Assignment
-go_over-returns-in_ok-add_unset_names-in-Assignment t c =
-    let target = c.in-Assignment.target in
-    let here = c.args.here.now in
+pub go_over-returns-in-Assignment : goal.go_over-returns-in-Assignment
+go_over-returns-in-Assignment t c =
+    let target = c.get.result.now in
+    let value = c.get-in-Assignment.result.now in
+    let is = c.in-Assignment.is ∙ ap₂ Assignment (sym c.get.ensures) (sym c.get-in-Assignment.ensures) in
     let exits = c.args.exits.now in
-    let end = c.set_target.new.here in
-    let old = c.args.found.now.keys in
-    let new = c.add_unset_names.new.found.keys in
-    on_ok_weaker c.set_target.result
-    (λ set. subst (λ stmt. Passes (effect (command stmt)) here end exits exits old new) (sym c.in-Assignment.is)
-    (subst (λ k. Passes (effect k) here end exits exits old new) (sym (command-Assignment target c.in-Assignment.value))
-    (passes_assign (variable_of target.root.entity) (reads_of c.in-Assignment.value) target.root.name.place set c.in_ok-add_unset_names-in-Assignment.ensures)))
-    c.set_target.ensures
+    let new = c.go_over_assignment.new in
+    on_ok_weaker c.go_over_assignment.result
+    (λ pass. subst (λ k. Passes (effect k) c.args.here.now new.here exits exits c.args.found.now.keys new.found.keys) (sym (ap command is ∙ command-Assignment target value)) (pass exits))
+    c.go_over_assignment.ensures
 
 pub go_over-returns-in_ok-go_over_arms-in-None : goal.go_over-returns-in_ok-go_over_arms-in-None
 go_over-returns-in_ok-go_over_arms-in-None t c =
@@ -35,7 +33,7 @@ go_over-returns-in_ok-go_over_arms-in-None t c =
     let here = c.in-If in
     let copy = c.in_ok-ends-in-None in
     let new = c.go_over_arms.new in
-    let arms = subst (λ xs. PassesBefore (λ otherwise. arms_before otherwise (map arm_before xs)) start copy.ends new.ends exits new.exits found new.found.keys) c.as_slice.ensures c.in_ok-go_over_arms-in-None.ensures in
+    let arms = subst (λ xs. PassesBefore (λ otherwise. arms_before otherwise (map arm_before xs)) start copy.ends new.ends exits new.exits found new.found.keys) (c.as_slice.ensures ∙ c.get-in-None.ensures) c.in_ok-go_over_arms-in-None.ensures in
     subst (λ k. Passes (effect k) start new.ends exits new.exits found new.found.keys) (sym (command-If c.args.stmt.now here.arms here.otherwise here.field-2 here.is c.in-None.is))
     (arms Skip exits found (passes_nothing copy.ensures))
 
@@ -48,8 +46,8 @@ go_over-returns-in_ok-go_over_arms-in-Some t c =
     let copy = c.in_ok-ends-in-Some in
     let middle = c.go_over_all.new in
     let new = c.go_over_arms-in-Some.new in
-    let otherwise = subst (λ ss. Passes (effects ss) copy.ends middle.here exits middle.exits found middle.found.keys) c.as_slice-in-Some.ensures c.in_ok-go_over_all-in-Some.ensures in
-    let arms = subst (λ xs. PassesBefore (λ rest. arms_before rest (map arm_before xs)) start middle.here new.ends middle.exits new.exits middle.found.keys new.found.keys) c.as_slice-in-Some-2.ensures c.in_ok-go_over_arms-in-Some.ensures in
+    let otherwise = subst (λ ss. Passes (effects ss) copy.ends middle.here exits middle.exits found middle.found.keys) (c.as_slice-in-Some.ensures ∙ c.get-in-Some.ensures) c.in_ok-go_over_all-in-Some.ensures in
+    let arms = subst (λ xs. PassesBefore (λ rest. arms_before rest (map arm_before xs)) start middle.here new.ends middle.exits new.exits middle.found.keys new.found.keys) (c.as_slice-in-Some-2.ensures ∙ c.get-in-Some-2.ensures) c.in_ok-go_over_arms-in-Some.ensures in
     subst (λ k. Passes (effect k) start new.ends exits new.exits found new.found.keys) (sym (command-If-else c.args.stmt.now here.arms here.otherwise c.in-Some.stmts here.field-2 here.is c.in-Some.is))
     (arms (commands c.in-Some.stmts) exits found (passes_copied copy.ensures otherwise))
 
@@ -59,10 +57,10 @@ go_over-returns-in-Assertion t c =
     let here = c.args.here.now in
     let exits = c.args.exits.now in
     let old = c.args.found.now.keys in
-    let new = c.add_unset_names-in-Assertion.new.found.keys in
-    on_ok_weaker c.add_unset_names-in-Assertion.result
-    (λ finds. subst (λ k. Passes (effect k) here here exits exits old new) (sym (ap command c.in-Assertion.is ∙ command-Assertion c.in-Assertion.field-0 c.in-Assertion.field-1 condition)) (passes_observe (reads_of condition) finds))
-    c.add_unset_names-in-Assertion.ensures
+    let new = c.add_unset_names.new.found.keys in
+    on_ok_weaker c.add_unset_names.result
+    (λ finds. subst (λ k. Passes (effect k) here here exits exits old new) (sym (ap command c.in-Assertion.is ∙ command-Assertion c.in-Assertion.field-0 c.in-Assertion.field-1 condition)) (passes_observe (reads_of condition) (subst (λ e. Finds here (reads_of e) old new) c.get-in-Assertion.ensures finds)))
+    c.add_unset_names.ensures
 
 pub go_over-returns-in-Exit : goal.go_over-returns-in-Exit
 go_over-returns-in-Exit t c =
@@ -80,8 +78,20 @@ go_over-returns-in-Loop t c =
     let new = c.go_over_loop.new in
     on_ok_weaker c.go_over_loop.result
     (λ pass. subst (λ k. Passes (effect k) c.args.here.now new.here exits exits c.args.found.now.keys new.found.keys) (sym (command-Loop c.args.stmt.now loop.scheme loop.field-1 loop.body loop.field-3 loop.is))
-    (subst (λ stmts. Passes (effect (loop_of loop.scheme (commands stmts))) c.args.here.now new.here exits exits c.args.found.now.keys new.found.keys) c.as_slice-in-Loop.ensures (pass exits)))
+    (subst (λ s. Passes (effect (loop_of s (commands loop.body))) c.args.here.now new.here exits exits c.args.found.now.keys new.found.keys) c.get-in-Loop-2.ensures
+    (subst (λ stmts. Passes (effect (loop_of c.get-in-Loop-2.result.now (commands stmts))) c.args.here.now new.here exits exits c.args.found.now.keys new.found.keys) (c.as_slice-in-Loop.ensures ∙ c.get-in-Loop.ensures) (pass exits))))
     c.go_over_loop.ensures
+
+pub go_over-returns-in-Case : goal.go_over-returns-in-Case
+go_over-returns-in-Case t c =
+    let exits = c.args.exits.now in
+    let here = c.in-Case in
+    let new = c.go_over_case.new in
+    on_ok_weaker c.go_over_case.result
+    (λ pass. subst (λ k. Passes (effect k) c.args.here.now new.here exits new.exits c.args.found.now.keys new.found.keys) (sym (command-Case c.args.stmt.now here.field-0 here.selector here.alternatives here.field-3 here.is))
+    (subst (λ e. Passes (effect (select here.field-0 e (map alternative here.alternatives))) c.args.here.now new.here exits new.exits c.args.found.now.keys new.found.keys) c.get-in-Case-2.ensures
+    (subst (λ xs. Passes (effect (select here.field-0 c.get-in-Case-2.result.now (map alternative xs))) c.args.here.now new.here exits new.exits c.args.found.now.keys new.found.keys) (c.as_slice-alternatives.ensures ∙ c.get-in-Case.ensures) (pass here.field-0))))
+    c.go_over_case.ensures
 
 pub go_over_all-loop-stmt-preserved : goal.go_over_all-loop-stmt-preserved
 go_over_all-loop-stmt-preserved t c end exits found rest =
@@ -125,7 +135,8 @@ go_over_arms-loop-k-preserved t c otherwise exits found rest =
     let new = c.go_over_branch.new in
     let within : k - 1 < length arms = omega arith in
     let chosen = c.in_ok-go_over_branch.ensures (out-CoreArm arm).place others exits found (c.loop-k.invariant otherwise exits found rest) in
-    let done = subst (λ stmts. Passes (effect (Choose (out-CoreArm arm).place (out-CoreArm arm).condition (commands stmts) others)) start new.ends exits new.exits found new.found.keys) c.as_slice-body.ensures chosen in
+    let tested = subst (λ e. Passes (effect (Choose (out-CoreArm arm).place e (commands c.as_slice-body.result.now) others)) start new.ends exits new.exits found new.found.keys) c.get-test.ensures chosen in
+    let done = subst (λ stmts. Passes (effect (Choose (out-CoreArm arm).place (out-CoreArm arm).condition (commands stmts) others)) start new.ends exits new.exits found new.found.keys) (c.as_slice-body.ensures ∙ c.get.ensures) tested in
     subst (λ xs. Passes (effect (arms_before otherwise (map arm_before xs))) start new.ends exits new.exits found new.found.keys) (sym (left_before arms k arm c.loop-k-test.true within c.index-arms-k.is))
     (subst (λ k. Passes (effect k) start new.ends exits new.exits found new.found.keys) (sym (command_arm arm others)) done)
 
@@ -173,13 +184,17 @@ go_over_case-returns t c place =
     let last : l.k ≡ 0 = omega arith in
     subst (λ n. Passes (effect (select place c.args.selector.now (map alternative (drop n c.args.alternatives.now)))) c.args.here.now l.ends c.args.exits.now l.exits c.args.found.now.keys l.found.keys) last (l.invariant place)
 
-pub go_over_loop-returns-in_ok-go_over_all-in-While : goal.go_over_loop-returns-in_ok-go_over_all-in-While
-go_over_loop-returns-in_ok-go_over_all-in-While t c exits =
+pub go_over_loop-returns-in_ok-turn-in-While : goal.go_over_loop-returns-in_ok-turn-in-While
+go_over_loop-returns-in_ok-turn-in-While t c =
     let start = c.args.here.now in
     let body = effects c.args.body.now in
     let here = c.in-While in
-    subst (λ s. Passes (effect (loop_of s (commands c.args.body.now))) start start exits exits c.args.found.now.keys c.go_over_all.new.found.keys) (sym here.is)
-    (passes_repeat (reads_of here.condition) body here.field-0 c.in_ok-add_unset_names-in-While.ensures (passes_copied c.in_ok-turn-in-While.ensures c.in_ok-go_over_all-in-While.ensures))
+    let old = c.args.found.now.keys in
+    let tests = subst (λ e. Finds start (reads_of e) old c.add_unset_names.new.found.keys) c.get.ensures c.in_ok-add_unset_names-in-While.ensures in
+    on_ok_weaker c.go_over_all.result
+    (λ pass exits. subst (λ s. Passes (effect (loop_of s (commands c.args.body.now))) start start exits exits old c.go_over_all.new.found.keys) (sym here.is)
+    (passes_repeat (reads_of here.condition) body here.field-0 tests (passes_copied c.in_ok-turn-in-While.ensures pass)))
+    c.go_over_all.ensures
 
 pub go_over_loop-returns-in_ok-go_over_all-in-Endless : goal.go_over_loop-returns-in_ok-go_over_all-in-Endless
 go_over_loop-returns-in_ok-go_over_all-in-Endless t c exits =
@@ -195,7 +210,7 @@ go_over_loop-returns-in-For t c =
     let new = c.go_over_count.new in
     on_ok_weaker c.go_over_count.result
     (λ pass exits. subst (λ s. Passes (effect (loop_of s body)) start new.here exits exits old new.found.keys) (sym c.in-For.is)
-    (subst (λ n. Passes (effect (Repeat (Counted n) body)) start new.here exits exits old new.found.keys) c.get.ensures (pass exits)))
+    (subst (λ n. Passes (effect (Repeat (Counted n) body)) start new.here exits exits old new.found.keys) c.get-in-For.ensures (pass exits)))
     c.go_over_count.ensures
 
 pub go_over_count-returns-in-None : goal.go_over_count-returns-in-None
