@@ -11,8 +11,29 @@ ghost use Rattle.spx_parse_body.specs.Answers.{Reads};
 use crate::annotations::identifiers;
 use spx_parse_body::{Cursor, PROGRAM, Stop, constraint, expression, name};
 use spx_tree::{Decl, Expr, Identifier, Kind, Name, Range, TypeDef};
-use sqlite_items::Items;
+use sqlite_items::{Boxed, Items};
 use std::alloc::Global;
+
+/// Reads the identifier that is declared.
+fn subject(alloc: Global, cursor: &mut Cursor<'_>) -> Result<Boxed<Identifier>, Stop>
+    ensures { Reads (reading.identifier program cursor.old) result cursor.new }
+{
+    Ok(Boxed::new(alloc, cursor.identifier(alloc, PROGRAM)?)?)
+}
+
+/// Reads the name of a type.
+fn type_name(alloc: Global, cursor: &mut Cursor<'_>) -> Result<Boxed<Name>, Stop>
+    ensures { Reads (expressions.name program cursor.old) result cursor.new }
+{
+    Ok(Boxed::new(alloc, name(alloc, cursor, PROGRAM)?)?)
+}
+
+/// Reads the value of an object.
+fn value(alloc: Global, cursor: &mut Cursor<'_>, levels: u32) -> Result<Boxed<Expr>, Stop>
+    ensures { Reads (expressions.expression program levels cursor.old) result cursor.new }
+{
+    Ok(Boxed::new(alloc, expression(alloc, cursor, levels, PROGRAM)?)?)
+}
 
 // [constraint]
 #[tactic(auto, unfolding(spx_parse_body::specs::Reading::if_seen))]
@@ -20,48 +41,49 @@ fn optional_constraint(
     alloc: Global,
     cursor: &mut Cursor<'_>,
     levels: u32,
-) -> Result<Option<Range>, Stop>
+) -> Result<Option<Boxed<Range>>, Stop>
     ensures { Reads (reading.if_seen program k.Range (body.constraint levels) cursor.old) result cursor.new }
 {
     if cursor.sees(PROGRAM, Kind::Range) {
-        return Ok(Some(constraint(alloc, cursor, levels)?));
+        return Ok(Some(Boxed::new(alloc, constraint(alloc, cursor, levels)?)?));
     }
     Ok(None)
 }
 
 // [name]
 #[tactic(auto, unfolding(spx_parse_body::specs::Reading::if_seen))]
-fn optional_name(alloc: Global, cursor: &mut Cursor<'_>) -> Result<Option<Name>, Stop>
+fn optional_name(alloc: Global, cursor: &mut Cursor<'_>) -> Result<Option<Boxed<Name>>, Stop>
     ensures { Reads (reading.if_seen program k.Identifier (expressions.name program) cursor.old) result cursor.new }
 {
     if cursor.sees(PROGRAM, Kind::Identifier) {
-        return Ok(Some(name(alloc, cursor, PROGRAM)?));
+        return Ok(Some(type_name(alloc, cursor)?));
     }
     Ok(None)
 }
 
 // integer = constraint
 #[tactic(auto, unfolding(crate::specs::Units::integer))]
-fn integer(alloc: Global, cursor: &mut Cursor<'_>, levels: u32) -> Result<TypeDef, Stop>
+fn integer(alloc: Global, cursor: &mut Cursor<'_>, levels: u32) -> Result<Boxed<TypeDef>, Stop>
     ensures { Reads (read.integer levels cursor.old) result cursor.new }
 {
-    Ok(TypeDef::Integer(constraint(alloc, cursor, levels)?))
+    let range = constraint(alloc, cursor, levels)?;
+    Ok(Boxed::new(alloc, TypeDef::Integer(range))?)
 }
 
 // enumeration = "(" identifiers ")"
 #[tactic(auto, unfolding(crate::specs::Units::enumeration))]
-fn enumeration(alloc: Global, cursor: &mut Cursor<'_>) -> Result<TypeDef, Stop>
+fn enumeration(alloc: Global, cursor: &mut Cursor<'_>) -> Result<Boxed<TypeDef>, Stop>
     ensures { Reads (read.enumeration cursor.old) result cursor.new }
 {
     let place = cursor.expect_place(PROGRAM, Kind::LeftParenthesis)?;
     let literals = identifiers(alloc, cursor, PROGRAM)?;
     cursor.expect(PROGRAM, Kind::RightParenthesis)?;
-    Ok(TypeDef::Enumeration(place, literals))
+    Ok(Boxed::new(alloc, TypeDef::Enumeration(place, literals))?)
 }
 
 // definition = integer | enumeration
 #[tactic(auto, unfolding(crate::specs::Units::definition))]
-fn definition(alloc: Global, cursor: &mut Cursor<'_>, levels: u32) -> Result<TypeDef, Stop>
+fn definition(alloc: Global, cursor: &mut Cursor<'_>, levels: u32) -> Result<Boxed<TypeDef>, Stop>
     ensures { Reads (read.definition levels cursor.old) result cursor.new }
 {
     match cursor.peek(PROGRAM) {
@@ -77,7 +99,7 @@ fn full_type(alloc: Global, cursor: &mut Cursor<'_>, levels: u32) -> Result<Decl
     ensures { Reads (read.full_type levels cursor.old) result cursor.new }
 {
     cursor.expect(PROGRAM, Kind::Type)?;
-    let name = cursor.identifier(alloc, PROGRAM)?;
+    let name = subject(alloc, cursor)?;
     cursor.expect(PROGRAM, Kind::Is)?;
     let definition = definition(alloc, cursor, levels)?;
     cursor.expect(PROGRAM, Kind::Semicolon)?;
@@ -90,21 +112,21 @@ fn subtype(alloc: Global, cursor: &mut Cursor<'_>, levels: u32) -> Result<Decl, 
     ensures { Reads (read.subtype levels cursor.old) result cursor.new }
 {
     cursor.expect(PROGRAM, Kind::Subtype)?;
-    let subject = cursor.identifier(alloc, PROGRAM)?;
+    let name = subject(alloc, cursor)?;
     cursor.expect(PROGRAM, Kind::Is)?;
-    let parent = name(alloc, cursor, PROGRAM)?;
+    let parent = type_name(alloc, cursor)?;
     let range = optional_constraint(alloc, cursor, levels)?;
     cursor.expect(PROGRAM, Kind::Semicolon)?;
-    Ok(Decl::Subtype(subject, parent, range))
+    Ok(Decl::Subtype(name, parent, range))
 }
 
 // initial = ":=" expression
 #[tactic(auto, unfolding(crate::specs::Units::initial))]
-fn initial(alloc: Global, cursor: &mut Cursor<'_>, levels: u32) -> Result<Expr, Stop>
+fn initial(alloc: Global, cursor: &mut Cursor<'_>, levels: u32) -> Result<Boxed<Expr>, Stop>
     ensures { Reads (read.initial levels cursor.old) result cursor.new }
 {
     cursor.expect(PROGRAM, Kind::Assignment)?;
-    expression(alloc, cursor, levels, PROGRAM)
+    value(alloc, cursor, levels)
 }
 
 // [initial]
@@ -113,7 +135,7 @@ fn optional_initial(
     alloc: Global,
     cursor: &mut Cursor<'_>,
     levels: u32,
-) -> Result<Option<Expr>, Stop>
+) -> Result<Option<Boxed<Expr>>, Stop>
     ensures { Reads (reading.if_seen program k.Assignment (read.initial levels) cursor.old) result cursor.new }
 {
     if cursor.sees(PROGRAM, Kind::Assignment) {
@@ -128,11 +150,11 @@ fn variables(
     alloc: Global,
     cursor: &mut Cursor<'_>,
     levels: u32,
-    names: Items<Identifier>,
+    names: Boxed<Items<Identifier>>,
 ) -> Result<Decl, Stop>
     ensures { Reads (read.variables levels names cursor.old) result cursor.new }
 {
-    let type_name = name(alloc, cursor, PROGRAM)?;
+    let type_name = type_name(alloc, cursor)?;
     let value = optional_initial(alloc, cursor, levels)?;
     cursor.expect(PROGRAM, Kind::Semicolon)?;
     Ok(Decl::Variables(names, type_name, value))
@@ -144,14 +166,14 @@ fn constants(
     alloc: Global,
     cursor: &mut Cursor<'_>,
     levels: u32,
-    names: Items<Identifier>,
+    names: Boxed<Items<Identifier>>,
 ) -> Result<Decl, Stop>
     ensures { Reads (read.constants levels names cursor.old) result cursor.new }
 {
     cursor.expect(PROGRAM, Kind::Constant)?;
     let type_name = optional_name(alloc, cursor)?;
     cursor.expect(PROGRAM, Kind::Assignment)?;
-    let value = expression(alloc, cursor, levels, PROGRAM)?;
+    let value = value(alloc, cursor, levels)?;
     cursor.expect(PROGRAM, Kind::Semicolon)?;
     Ok(Decl::Constants(names, type_name, value))
 }
@@ -162,7 +184,7 @@ fn objects_after(
     alloc: Global,
     cursor: &mut Cursor<'_>,
     levels: u32,
-    names: Items<Identifier>,
+    names: Boxed<Items<Identifier>>,
 ) -> Result<Decl, Stop>
     ensures { Reads (read.objects_after levels names cursor.old) result cursor.new }
 {
@@ -178,7 +200,7 @@ fn objects_after(
 fn objects(alloc: Global, cursor: &mut Cursor<'_>, levels: u32) -> Result<Decl, Stop>
     ensures { Reads (read.objects levels cursor.old) result cursor.new }
 {
-    let names = identifiers(alloc, cursor, PROGRAM)?;
+    let names = Boxed::new(alloc, identifiers(alloc, cursor, PROGRAM)?)?;
     cursor.expect(PROGRAM, Kind::Colon)?;
     objects_after(alloc, cursor, levels, names)
 }

@@ -14,11 +14,11 @@ use spx_tree::{
     Decl, Derives, FormalPart, Identifier, Kind, Param, Predicate, Stmt, Subprogram, Unit,
     WrittenMode,
 };
-use sqlite_items::Items;
+use sqlite_items::{Boxed, Items};
 use std::alloc::Global;
 
 /// What comes before the word `is` of a subprogram.
-#[derive(Debug, Drop)]
+#[derive(Drop)]
 pub struct HeadingParts {
     pub place: Place,
     pub name: Identifier,
@@ -29,7 +29,7 @@ pub struct HeadingParts {
 }
 
 /// A subprogram from the word `is` on.
-#[derive(Debug, Drop)]
+#[derive(Drop)]
 pub struct BodyParts {
     pub declarations: Items<Decl>,
     pub statements: Items<Stmt>,
@@ -134,7 +134,7 @@ fn end_name(alloc: Global, cursor: &mut Cursor<'_>) -> Result<Option<Identifier>
 
 // heading = "procedure" identifier [formal_part] [derives] ["pre" predicate ";"] ["post" predicate ";"]
 #[tactic(auto, unfolding(crate::specs::Units::heading))]
-fn heading(alloc: Global, cursor: &mut Cursor<'_>, levels: u32) -> Result<HeadingParts, Stop>
+fn heading(alloc: Global, cursor: &mut Cursor<'_>, levels: u32) -> Result<Boxed<HeadingParts>, Stop>
     ensures { Reads (read.heading levels cursor.old) result cursor.new }
 {
     let place = cursor.expect_place(PROGRAM, Kind::Procedure)?;
@@ -143,14 +143,15 @@ fn heading(alloc: Global, cursor: &mut Cursor<'_>, levels: u32) -> Result<Headin
     let derives = optional_derives(alloc, cursor)?;
     let pre = optional_predicate(alloc, cursor, levels, Kind::Pre)?;
     let post = optional_predicate(alloc, cursor, levels, Kind::Post)?;
-    Ok(HeadingParts {
+    let parts = HeadingParts {
         place,
         name,
         formal_part,
         derives,
         pre,
         post,
-    })
+    };
+    Ok(Boxed::new(alloc, parts)?)
 }
 
 // body = "is" declarations "begin" stmts "end" [identifier] ";"
@@ -173,14 +174,11 @@ fn body(alloc: Global, cursor: &mut Cursor<'_>, levels: u32) -> Result<BodyParts
     })
 }
 
-// subprogram = heading body
-#[tactic(auto, unfolding(crate::specs::Units::subprogram))]
-fn subprogram(alloc: Global, cursor: &mut Cursor<'_>, levels: u32) -> Result<Subprogram, Stop>
-    ensures { Reads (read.subprogram levels cursor.old) result cursor.new }
+/// The subprogram of these parts.
+fn whole(heading: HeadingParts, body: BodyParts) -> Subprogram
+    ensures { result ≡ read.whole heading body }
 {
-    let heading = heading(alloc, cursor, levels)?;
-    let body = body(alloc, cursor, levels)?;
-    Ok(Subprogram {
+    Subprogram {
         place: heading.place,
         name: heading.name,
         formal_part: heading.formal_part,
@@ -191,7 +189,21 @@ fn subprogram(alloc: Global, cursor: &mut Cursor<'_>, levels: u32) -> Result<Sub
         statements: body.statements,
         end: body.end,
         end_name: body.end_name,
-    })
+    }
+}
+
+// subprogram = heading body
+#[tactic(auto, unfolding(crate::specs::Units::subprogram))]
+fn subprogram(
+    alloc: Global,
+    cursor: &mut Cursor<'_>,
+    levels: u32,
+) -> Result<Boxed<Subprogram>, Stop>
+    ensures { Reads (read.subprogram levels cursor.old) result cursor.new }
+{
+    let heading = heading(alloc, cursor, levels)?;
+    let body = body(alloc, cursor, levels)?;
+    Ok(Boxed::new(alloc, whole(heading.into_inner(), body))?)
 }
 
 #[tactic(auto, unfolding(crate::specs::Units::unit_at))]
