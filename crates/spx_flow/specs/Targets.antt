@@ -8,6 +8,10 @@ use Rattle.spx_core.specs.Commands.{Skip, alternative, arm_before, leaves}
 use Rattle.spx_core.specs.Effects.{effect, sets}
 use Rattle.spx_flow.specs.Positions.{exits_in}
 
+-- variables, by their position in the program's list, in the order in which they were found
+pub record Numbers : Type 0 where
+  pub keys : List ℕ
+
 -- the arm sets the variable
 abbrev pub arm_sets : VarId → CoreArm → Bool
 arm_sets v arm = sets v (effect (arm_before arm Skip))

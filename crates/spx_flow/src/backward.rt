@@ -23,14 +23,13 @@ use crate::positions::{bounds_read, position_named, positions_read};
 use crate::rows::{before_end, reached, replace, spread, ways_out};
 use crate::targets::{Targets, add_all_targets, all_targets};
 use crate::turns::{Turn, begun, turned};
-use indexmap::IndexSet;
 use spx_core::{
     CoreAlternative, CoreArm, CoreCount, CoreExpr, CoreScheme, CoreStmt, Reference, VarId,
     has_own_exit,
 };
 use spx_rows::Relation;
 use spx_text::Place;
-use sqlite_items::Items;
+use sqlite_items::{Boxed, Items};
 use std::alloc::{AllocError, Global};
 
 /// What leads on to the variables after statements.
@@ -87,37 +86,32 @@ fn before(
     match stmt {
         CoreStmt::Null(_) => Ok(()),
         CoreStmt::Assignment(target, value) => {
-            before_assignment(alloc, frame, target, value, rho, mu)?;
-            Ok(())
+            before_assignment(alloc, frame, target.get(), value.get(), rho, mu)
         }
         CoreStmt::If(arms, otherwise, _) => match otherwise {
-            None => {
-                before_if(alloc, frame, arms.as_slice(), rho, mu)?;
-                Ok(())
-            }
+            None => before_if(alloc, frame, arms.get().as_slice(), rho, mu),
             Some(stmts) => {
-                let mut targets = IndexSet::new(alloc);
-                let stmts = stmts.as_slice();
+                let mut targets = Targets::new(alloc)?;
+                let stmts = stmts.get().as_slice();
                 let mut starts = before_otherwise(alloc, frame, stmts, rho, &mut targets, mu)?;
-                let arms = arms.as_slice();
+                let arms = arms.get().as_slice();
                 before_arms(alloc, frame, arms, rho, &mut starts, &mut targets, mu)?;
                 *rho = starts;
                 Ok(())
             }
         },
         CoreStmt::Case(place, selector, alternatives, _) => {
-            let alternatives = alternatives.as_slice();
-            before_case(alloc, frame, alternatives, *place, selector, rho, mu)?;
-            Ok(())
+            let alternatives = alternatives.get().as_slice();
+            let selector = selector.get();
+            before_case(alloc, frame, alternatives, *place.get(), selector, rho, mu)
         }
         CoreStmt::Loop(scheme, _, body, _) => {
-            before_loop(alloc, frame, body.as_slice(), scheme, rho, mu)?;
-            Ok(())
+            let body = body.get().as_slice();
+            before_loop(alloc, frame, body, scheme.get(), rho, mu)
         }
         CoreStmt::Assertion(_, _, _) => Ok(()),
         CoreStmt::Exit(place, condition) => {
-            before_exit(alloc, frame, *place, condition, rho, mu)?;
-            Ok(())
+            before_exit(alloc, frame, *place, condition, rho, mu)
         }
     }
 }
@@ -168,7 +162,7 @@ fn before_exit(
     alloc: Global,
     frame: &Frame,
     place: Place,
-    condition: &Option<CoreExpr>,
+    condition: &Option<Boxed<CoreExpr>>,
     rho: &mut Relation,
     mu: &mut Items<Occurrence>,
 ) -> Result<(), AllocError>
@@ -183,8 +177,8 @@ fn before_exit(
     let mut starts = rho.copy(alloc)?;
     let left = before_end(alloc, frame, true, rho)?;
     starts.union_with(&left);
-    let targets = IndexSet::new(alloc);
-    let from = positions_read(alloc, frame, test)?;
+    let targets = Targets::new(alloc)?;
+    let from = positions_read(alloc, frame, test.get())?;
     let to = reached(alloc, frame, true, &targets, rho.size())?;
     spread(
         alloc,
@@ -215,7 +209,7 @@ fn before_if(
     ensures { OnOk result (StepsBack frame.now (effect (arms_before Skip (map arm_before arms.now))) rho.old rho.new mu.old mu.new) }
 {
     let mut starts = rho.copy(alloc)?;
-    let mut targets = IndexSet::new(alloc);
+    let mut targets = Targets::new(alloc)?;
     before_arms(alloc, frame, arms, rho, &mut starts, &mut targets, mu)?;
     *rho = starts;
     Ok(())
@@ -264,7 +258,7 @@ fn before_case(
         return Ok(());
     }
     let last = alternatives.len() - 1;
-    let mut targets = IndexSet::new(alloc);
+    let mut targets = Targets::new(alloc)?;
     let body = alternatives[last].body.as_slice();
     let mut starts = before_last(alloc, frame, body, place, selector, rho, &mut targets, mu)?;
     for k in (0..last).rev() {
@@ -515,17 +509,10 @@ fn before_loop(
 {
     match scheme {
         CoreScheme::While(place, condition) => {
-            before_while(alloc, frame, body, *place, condition, rho, mu)?;
-            Ok(())
+            before_while(alloc, frame, body, *place, condition.get(), rho, mu)
         }
-        CoreScheme::For(count) => {
-            before_count(alloc, frame, body, count.get(), rho, mu)?;
-            Ok(())
-        }
-        CoreScheme::Endless => {
-            before_endless(alloc, frame, body, rho, mu)?;
-            Ok(())
-        }
+        CoreScheme::For(count) => before_count(alloc, frame, body, count.get(), rho, mu),
+        CoreScheme::Endless => before_endless(alloc, frame, body, rho, mu),
     }
 }
 
@@ -548,9 +535,9 @@ fn before_arms(
 {
     for k in (0..arms.len()).rev() {
         let arm = &arms[k];
-        let body = arm.body.as_slice();
+        let body = arm.body.get().as_slice();
         let exit = has_own_exit(body);
-        let test = &arm.condition;
+        let test = arm.condition.get();
         before_arm(
             alloc, frame, body, arm.place, test, exit, rho, starts, targets, mu,
         )?;

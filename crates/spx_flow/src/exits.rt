@@ -16,11 +16,16 @@ fn exits(deep: bool, stmt: &CoreStmt) -> bool
         CoreStmt::Null(_) => false,
         CoreStmt::Assignment(_, _) => false,
         CoreStmt::If(arms, otherwise, _) => match otherwise {
-            None => arms_exit(deep, arms.as_slice()),
-            Some(stmts) => arms_exit(deep, arms.as_slice()) || have_exits(deep, stmts.as_slice()),
+            None => arms_exit(deep, arms.get().as_slice()),
+            Some(stmts) => {
+                arms_exit(deep, arms.get().as_slice()) || have_exits(deep, stmts.get().as_slice())
+            }
         },
-        CoreStmt::Case(_, _, alternatives, _) => alternatives_exit(deep, alternatives.as_slice()),
-        CoreStmt::Loop(_, _, body, _) => deep && have_exits(deep, body.as_slice()),
+        CoreStmt::Case(_, _, alternatives, _) => alternatives_exit(
+            deep,
+            alternatives.get().as_slice(),
+        ),
+        CoreStmt::Loop(_, _, body, _) => deep && have_exits(deep, body.get().as_slice()),
         CoreStmt::Assertion(_, _, _) => false,
         CoreStmt::Exit(_, condition) => condition.is_some(),
     }
@@ -32,7 +37,8 @@ fn arms_exit(deep: bool, arms: &[CoreArm]) -> bool
     ensures { result ≡ arms_exit deep arms.now }
 {
     for arm in arms {
-        if has_own_exit(arm.body.as_slice()) || have_exits(deep, arm.body.as_slice()) {
+        let body = arm.body.get().as_slice();
+        if has_own_exit(body) || have_exits(deep, body) {
             return true;
         }
     }

@@ -49,7 +49,7 @@ fn defined(alloc: Global, stmts: &[CoreStmt]) -> Result<VarSet, AllocError>
     ensures { IfOk result (λ set. (v : VarId) → holds set v ≡ defines v stmts.now) }
 {
     let targets = all_targets(alloc, stmts)?;
-    let mut set = VarSet::new(alloc);
+    let mut set = VarSet::new(alloc)?;
     for number in targets.as_slice() {
         set.insert(VarId(*number))?;
     }

@@ -23,14 +23,13 @@ use crate::positions::{bounds_read, position_named, positions_read, range_read};
 use crate::rows::{after_end, of_variables, reached, replace, spread, ways_in};
 use crate::targets::{Targets, add_all_targets, all_targets};
 use crate::turns::{Turn, begun, turned};
-use indexmap::IndexSet;
 use spx_core::{
     CoreAlternative, CoreArm, CoreCount, CoreExpr, CoreScheme, CoreStmt, Reference, VarId,
     has_own_exit,
 };
 use spx_rows::Relation;
 use spx_text::Place;
-use sqlite_items::Items;
+use sqlite_items::{Boxed, Items};
 use std::alloc::{AllocError, Global};
 
 /// Goes forward over an assignment.
@@ -79,37 +78,33 @@ fn after(
     match stmt {
         CoreStmt::Null(_) => Ok(()),
         CoreStmt::Assignment(target, value) => {
-            after_assignment(alloc, frame, target, value, state, lambda)?;
-            Ok(())
+            after_assignment(alloc, frame, target.get(), value.get(), state, lambda)
         }
         CoreStmt::If(arms, otherwise, _) => match otherwise {
-            None => {
-                after_if(alloc, frame, arms.as_slice(), state, lambda)?;
-                Ok(())
-            }
+            None => after_if(alloc, frame, arms.get().as_slice(), state, lambda),
             Some(stmts) => {
-                let mut targets = IndexSet::new(alloc);
-                let stmts = stmts.as_slice();
+                let mut targets = Targets::new(alloc)?;
+                let stmts = stmts.get().as_slice();
                 let mut ends = after_otherwise(alloc, frame, stmts, state, &mut targets, lambda)?;
-                let arms = arms.as_slice();
+                let arms = arms.get().as_slice();
                 after_arms(alloc, frame, arms, state, &mut ends, &mut targets, lambda)?;
                 *state = ends;
                 Ok(())
             }
         },
         CoreStmt::Case(place, selector, alternatives, _) => {
-            let alternatives = alternatives.as_slice();
-            after_case(alloc, frame, alternatives, *place, selector, state, lambda)?;
-            Ok(())
+            let alternatives = alternatives.get().as_slice();
+            let selector = selector.get();
+            let place = *place.get();
+            after_case(alloc, frame, alternatives, place, selector, state, lambda)
         }
         CoreStmt::Loop(scheme, _, body, _) => {
-            after_loop(alloc, frame, body.as_slice(), scheme, state, lambda)?;
-            Ok(())
+            let body = body.get().as_slice();
+            after_loop(alloc, frame, body, scheme.get(), state, lambda)
         }
         CoreStmt::Assertion(_, _, _) => Ok(()),
         CoreStmt::Exit(place, condition) => {
-            after_exit(alloc, frame, *place, condition, state, lambda)?;
-            Ok(())
+            after_exit(alloc, frame, *place, condition, state, lambda)
         }
     }
 }
@@ -161,7 +156,7 @@ fn after_exit(
     alloc: Global,
     frame: &Frame,
     place: Place,
-    condition: &Option<CoreExpr>,
+    condition: &Option<Boxed<CoreExpr>>,
     state: &mut Relation,
     lambda: &mut Items<Occurrence>,
 ) -> Result<(), AllocError>
@@ -177,8 +172,8 @@ fn after_exit(
     let here = state.copy(alloc)?;
     let left = after_end(alloc, frame, true, here)?;
     ends.union_with(&left);
-    let targets = IndexSet::new(alloc);
-    let from = positions_read(alloc, frame, test)?;
+    let targets = Targets::new(alloc)?;
+    let from = positions_read(alloc, frame, test.get())?;
     let to = reached(alloc, frame, true, &targets, state.size())?;
     spread(
         alloc,
@@ -209,7 +204,7 @@ fn after_if(
     ensures { OnOk result (StepsForward frame.now (effect (arms_before Skip (map arm_before arms.now))) state.old state.new lambda.old lambda.new) }
 {
     let mut ends = state.copy(alloc)?;
-    let mut targets = IndexSet::new(alloc);
+    let mut targets = Targets::new(alloc)?;
     after_arms(alloc, frame, arms, state, &mut ends, &mut targets, lambda)?;
     *state = ends;
     Ok(())
@@ -258,7 +253,7 @@ fn after_case(
         return Ok(());
     }
     let last = alternatives.len() - 1;
-    let mut targets = IndexSet::new(alloc);
+    let mut targets = Targets::new(alloc)?;
     let body = alternatives[last].body.as_slice();
     let mut ends = after_last(
         alloc,
@@ -468,7 +463,7 @@ fn after_bounds(
     match &count.bounds {
         None => Ok(()),
         Some(range) => {
-            let from = range_read(alloc, frame, range)?;
+            let from = range_read(alloc, frame, range.get())?;
             let to = reached(alloc, frame, false, targets, state.size())?;
             spread(
                 alloc,
@@ -534,17 +529,10 @@ fn after_loop(
 {
     match scheme {
         CoreScheme::While(place, condition) => {
-            after_while(alloc, frame, body, *place, condition, state, lambda)?;
-            Ok(())
+            after_while(alloc, frame, body, *place, condition.get(), state, lambda)
         }
-        CoreScheme::For(count) => {
-            after_count(alloc, frame, body, count.get(), state, lambda)?;
-            Ok(())
-        }
-        CoreScheme::Endless => {
-            after_endless(alloc, frame, body, state, lambda)?;
-            Ok(())
-        }
+        CoreScheme::For(count) => after_count(alloc, frame, body, count.get(), state, lambda),
+        CoreScheme::Endless => after_endless(alloc, frame, body, state, lambda),
     }
 }
 
@@ -567,9 +555,9 @@ fn after_arms(
 {
     for k in (0..arms.len()).rev() {
         let arm = &arms[k];
-        let body = arm.body.as_slice();
+        let body = arm.body.get().as_slice();
         let exit = has_own_exit(body);
-        let test = &arm.condition;
+        let test = arm.condition.get();
         after_arm(
             alloc, frame, body, arm.place, test, exit, state, ends, targets, lambda,
         )?;

@@ -8,6 +8,7 @@ ghost use Rattle.spx_flow.specs.Loops.{read_points};
 
 use crate::frame::Frame;
 use spx_core::{CoreExpr, CoreName, CoreRange, VarSet, variable_of};
+use sqlite_items::Boxed;
 use std::alloc::{AllocError, Global};
 
 /// The position of the variable that the name denotes, if it denotes one of the set.
@@ -50,15 +51,13 @@ fn add_positions(vars: &VarSet, value: &CoreExpr, found: &mut Vec<usize>) -> Res
         CoreExpr::Prefix(_, _, operand) => add_positions(vars, operand.get(), found),
         CoreExpr::Infix(_, _, left, right) => {
             add_positions(vars, left.get(), found)?;
-            add_positions(vars, right.get(), found)?;
-            Ok(())
+            add_positions(vars, right.get(), found)
         }
         CoreExpr::InType(_, _, tested, _) => add_positions(vars, tested.get(), found),
         CoreExpr::InRange(_, _, tested, low, high) => {
             add_positions(vars, tested.get(), found)?;
             add_positions(vars, low.get(), found)?;
-            add_positions(vars, high.get(), found)?;
-            Ok(())
+            add_positions(vars, high.get(), found)
         }
     }
 }
@@ -89,8 +88,8 @@ pub(crate) fn range_read(
     ensures exact { IfOk result (λ found. Places frame.now found.items (read_points (reads_of_range range.now))) }
 {
     let mut found = Vec::new(alloc);
-    add_positions(&frame.vars, &range.low, &mut found)?;
-    add_positions(&frame.vars, &range.high, &mut found)?;
+    add_positions(&frame.vars, range.low.get(), &mut found)?;
+    add_positions(&frame.vars, range.high.get(), &mut found)?;
     Ok(found)
 }
 
@@ -98,14 +97,14 @@ pub(crate) fn range_read(
 pub(crate) fn bounds_read(
     alloc: Global,
     frame: &Frame,
-    bounds: &Option<CoreRange>,
+    bounds: &Option<Boxed<CoreRange>>,
 ) -> Result<Vec<usize>, AllocError>
     requires { IsDistinct ◌==◌ frame.now.vars }
     ensures within { IfOk result (λ found. All (λ k. k < size_of frame.now) found.items) }
     ensures exact { IfOk result (λ found. Places frame.now found.items (read_points (reads_in (option_map reads_of_range bounds.now)))) }
 {
     match bounds {
-        Some(range) => range_read(alloc, frame, range),
+        Some(range) => range_read(alloc, frame, range.get()),
         None => Ok(Vec::new(alloc)),
     }
 }

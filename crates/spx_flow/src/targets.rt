@@ -12,15 +12,44 @@ use spx_core::{
     CoreAlternative, CoreArm, CoreScheme, CoreStmt, Reference, VarId, VarSet, variable_of,
 };
 use std::alloc::{AllocError, Global};
+use std::marker::Model;
 
-/// Variables, each once, by their position in the program's list.
-pub(crate) type Targets = IndexSet<usize>;
+/// Variables, each once, by their position in the program's list. The table is in a box, which costs less at an exit.
+#[derive(Drop)]
+pub(crate) struct Targets {
+    numbers: Box<IndexSet<usize>>,
+}
+
+impl Model for Targets {
+    ghost use Rattle.spx_flow.specs.Targets.{Numbers};
+
+    ghost Value = { Numbers };
+
+    ghost view = { λ targets. record { keys = targets.numbers.value.keys } };
+}
+
+impl Targets {
+    /// No variables.
+    pub(crate) fn new(alloc: Global) -> Result<Targets, AllocError>
+        ensures { IfOk result (λ targets. targets.keys ≡ []) }
+    {
+        let numbers = Box::new(alloc, IndexSet::new(alloc))?;
+        Ok(Targets { numbers })
+    }
+
+    /// Their positions.
+    pub(crate) fn as_slice(&self) -> &[usize]
+        ensures { result.now ≡ self.now.keys }
+    {
+        self.numbers.as_slice()
+    }
+}
 
 /// Adds the variable.
 fn add_variable(found: &mut Targets, var: VarId) -> Result<(), AllocError>
     ensures { OnOk result ((v : VarId) → holds found.new.keys v ≡ (is_same v (Some var) || holds found.old.keys v)) }
 {
-    found.insert(var.0)?;
+    found.numbers.insert(var.0)?;
     Ok(())
 }
 
@@ -29,10 +58,7 @@ fn add_target(found: &mut Targets, target: &Reference) -> Result<(), AllocError>
     ensures { OnOk result ((v : VarId) → holds found.new.keys v ≡ (denotes v target.now.root || holds found.old.keys v)) }
 {
     match variable_of(target.root.entity) {
-        Some(var) => {
-            add_variable(found, var)?;
-            Ok(())
-        }
+        Some(var) => add_variable(found, var),
         None => Ok(()),
     }
 }
@@ -44,39 +70,24 @@ fn add_targets(stmt: &CoreStmt, found: &mut Targets) -> Result<(), AllocError>
 {
     match stmt {
         CoreStmt::Null(_) => Ok(()),
-        CoreStmt::Assignment(target, _) => {
-            add_target(found, target)?;
-            Ok(())
-        }
+        CoreStmt::Assignment(target, _) => add_target(found, target.get()),
         CoreStmt::If(arms, otherwise, _) => match otherwise {
-            None => {
-                add_targets_of_arms(arms.as_slice(), found)?;
-                Ok(())
-            }
+            None => add_targets_of_arms(arms.get().as_slice(), found),
             Some(stmts) => {
-                add_all_targets(stmts.as_slice(), found)?;
-                add_targets_of_arms(arms.as_slice(), found)?;
-                Ok(())
+                add_all_targets(stmts.get().as_slice(), found)?;
+                add_targets_of_arms(arms.get().as_slice(), found)
             }
         },
         CoreStmt::Case(_, _, alternatives, _) => {
-            add_targets_of_alternatives(alternatives.as_slice(), found)?;
-            Ok(())
+            add_targets_of_alternatives(alternatives.get().as_slice(), found)
         }
-        CoreStmt::Loop(scheme, _, body, _) => match scheme {
-            CoreScheme::While(_, _) => {
-                add_all_targets(body.as_slice(), found)?;
-                Ok(())
-            }
+        CoreStmt::Loop(scheme, _, body, _) => match scheme.get() {
+            CoreScheme::While(_, _) => add_all_targets(body.get().as_slice(), found),
             CoreScheme::For(count) => {
-                add_all_targets(body.as_slice(), found)?;
-                add_variable(found, count.get().parameter)?;
-                Ok(())
+                add_all_targets(body.get().as_slice(), found)?;
+                add_variable(found, count.get().parameter)
             }
-            CoreScheme::Endless => {
-                add_all_targets(body.as_slice(), found)?;
-                Ok(())
-            }
+            CoreScheme::Endless => add_all_targets(body.get().as_slice(), found),
         },
         CoreStmt::Assertion(_, _, _) => Ok(()),
         CoreStmt::Exit(_, _) => Ok(()),
@@ -89,7 +100,7 @@ fn add_targets_of_arms(arms: &[CoreArm], found: &mut Targets) -> Result<(), Allo
     ensures { OnOk result ((v : VarId) → holds found.new.keys v ≡ (arms_set v arms.now || holds found.old.keys v)) }
 {
     for arm in arms {
-        add_all_targets(arm.body.as_slice(), found)?;
+        add_all_targets(arm.body.get().as_slice(), found)?;
     }
     Ok(())
 }
@@ -123,7 +134,7 @@ pub(crate) fn add_all_targets(stmts: &[CoreStmt], found: &mut Targets) -> Result
 pub(crate) fn all_targets(alloc: Global, stmts: &[CoreStmt]) -> Result<Targets, AllocError>
     ensures { IfOk result (λ found. (v : VarId) → holds found.keys v ≡ sets v (effects stmts.now)) }
 {
-    let mut found = IndexSet::new(alloc);
+    let mut found = Targets::new(alloc)?;
     add_all_targets(stmts, &mut found)?;
     Ok(found)
 }

@@ -9,7 +9,7 @@ use crate::flow::Occurrence;
 use crate::rows::composed;
 use spx_core::CoreRange;
 use spx_rows::{Relation, Steps};
-use sqlite_items::Items;
+use sqlite_items::{Boxed, Items};
 use std::alloc::{AllocError, Global};
 use std::marker::Brand;
 use std::sync::ledger::{Blank, Ledger};
@@ -87,7 +87,7 @@ pub(crate) fn turned(
 /// bounds are written there is one turn more.
 pub(crate) fn begun(
     alloc: Global,
-    bounds: &Option<CoreRange>,
+    bounds: &Option<Boxed<CoreRange>>,
     turn: &Relation,
     rest: Relation,
 ) -> Result<Relation, AllocError>

@@ -1,10 +1,11 @@
-use Rattle.std.proofs.Common.{◌≡◌, ◌∷◌, ◌+◌, ◌-◌, ◌<◌, ◌||◌, All, arith, ap, ◌∙◌, drop, length, map, not, option_map, refl, rules, subst, sym}
+use Rattle.std.proofs.Common.{◌≡◌, ◌∷◌, ◌+◌, ◌-◌, ◌<◌, ◌||◌, All, arith, ap, ap₂, ◌∙◌, drop, length, map, not, option_map, refl, rules, subst, sym}
 use Rattle.std.proofs.lemmas.List.{drop_all, length-drop, nil_from_length}
+use Rattle.std.specs.Prelude.{OnOk}
 use Rattle.std.proofs.lemmas.List.Elements.{All-contains}
 use Rattle.spx_core.specs.declared.statement.CoreArm.{CoreArm, out-CoreArm}
 use Rattle.spx_core.specs.declared.statement.CoreAlternative.{out-CoreAlternative}
 use Rattle.spx_core.specs.declared.statement.CoreStmt.{the_lemmas}
-use Rattle.spx_core.specs.Commands.{Skip, alternative, arm_before, arms_before, command, commands, leaves, select}
+use Rattle.spx_core.specs.Commands.{Set, Skip, alternative, arm_before, arms_before, command, commands, leaves, select}
 use Rattle.spx_core.specs.Effects.{choose, effect, effects, reads_of, reads_of_range, sets}
 use Rattle.spx_core.specs.Mirror.VarSets.{holds}
 use Rattle.spx_flow.specs.Branches.{Arm, Arms, Done}
@@ -40,21 +41,21 @@ before-returns-in-Assertion t c =
 
 pub before-before_assignment-requires-clause-covers : goal.before-before_assignment-requires-clause-covers
 before-before_assignment-requires-clause-covers t c =
-    subst (λ k. Covers c.args.frame.now (effect k)) (ap command c.in-Assignment.is ∙ command-Assignment c.in-Assignment.target c.in-Assignment.value) c.requires.covers
+    subst (λ k. Covers c.args.frame.now (effect k)) (ap command c.in-Assignment.is ∙ command-Assignment c.in-Assignment.target c.in-Assignment.value ∙ sym (ap₂ Set c.get.ensures c.get-in-Assignment.ensures)) c.requires.covers
 
-pub before-returns-in_ok-before_assignment-in-Assignment : goal.before-returns-in_ok-before_assignment-in-Assignment
-before-returns-in_ok-before_assignment-in-Assignment t c =
+pub before-returns-in-Assignment : goal.before-returns-in-Assignment
+before-returns-in-Assignment t c =
     let new = c.before_assignment.new in
-    subst (λ k. StepsBack c.args.frame.now (effect k) c.args.rho.now new.rho c.args.mu.now new.mu) (sym (ap command c.in-Assignment.is ∙ command-Assignment c.in-Assignment.target c.in-Assignment.value))
-    c.in_ok-before_assignment-in-Assignment.ensures
+    subst (λ k. OnOk c.before_assignment.result (StepsBack c.args.frame.now (effect k) c.args.rho.now new.rho c.args.mu.now new.mu))
+    (ap₂ Set c.get.ensures c.get-in-Assignment.ensures ∙ sym (ap command c.in-Assignment.is ∙ command-Assignment c.in-Assignment.target c.in-Assignment.value)) c.before_assignment.ensures
 
 pub before-before_exit-requires-clause-covers : goal.before-before_exit-requires-clause-covers
 before-before_exit-requires-clause-covers t c = subst (λ k. Covers c.args.frame.now (effect k)) (ap command c.in-Exit.is ∙ command-Exit c.in-Exit.place c.in-Exit.condition) c.requires.covers
 
-pub before-returns-in_ok-before_exit-in-Exit : goal.before-returns-in_ok-before_exit-in-Exit
-before-returns-in_ok-before_exit-in-Exit t c =
+pub before-returns-in-Exit : goal.before-returns-in-Exit
+before-returns-in-Exit t c =
     let new = c.before_exit.new in
-    subst (λ k. StepsBack c.args.frame.now (effect k) c.args.rho.now new.rho c.args.mu.now new.mu) (sym (ap command c.in-Exit.is ∙ command-Exit c.in-Exit.place c.in-Exit.condition)) c.in_ok-before_exit-in-Exit.ensures
+    subst (λ k. OnOk c.before_exit.result (StepsBack c.args.frame.now (effect k) c.args.rho.now new.rho c.args.mu.now new.mu)) (sym (ap command c.in-Exit.is ∙ command-Exit c.in-Exit.place c.in-Exit.condition)) c.before_exit.ensures
 
 -- ---- `if`
 
@@ -63,15 +64,15 @@ before-before_if-requires t c =
     let frame = c.args.frame.now in
     let here = c.in-If in
     let covers = subst (λ k. Covers frame (effect k)) (command-If c.args.stmt.now here.arms here.otherwise here.field-2 here.is c.in-None.is) c.requires.covers in
-    (search (rules, the_lemmas), (subst (λ xs. Covers frame (effect (arms_before Skip (map arm_before xs)))) (sym c.as_slice.ensures) covers, (c.requires.size, c.requires.rows)))
+    (search (rules, the_lemmas), (subst (λ xs. Covers frame (effect (arms_before Skip (map arm_before xs)))) (sym (c.as_slice.ensures ∙ c.get-in-None.ensures)) covers, (c.requires.size, c.requires.rows)))
 
-pub before-returns-in_ok-before_if-in-None : goal.before-returns-in_ok-before_if-in-None
-before-returns-in_ok-before_if-in-None t c =
+pub before-returns-in-None : goal.before-returns-in-None
+before-returns-in-None t c =
     let frame = c.args.frame.now in
     let here = c.in-If in
     let new = c.before_if.new in
-    subst (λ k. StepsBack frame (effect k) c.args.rho.now new.rho c.args.mu.now new.mu) (sym (command-If c.args.stmt.now here.arms here.otherwise here.field-2 here.is c.in-None.is))
-    (subst (λ xs. StepsBack frame (effect (arms_before Skip (map arm_before xs))) c.args.rho.now new.rho c.args.mu.now new.mu) c.as_slice.ensures c.in_ok-before_if-in-None.ensures)
+    subst (λ k. OnOk c.before_if.result (StepsBack frame (effect k) c.args.rho.now new.rho c.args.mu.now new.mu))
+    (ap (λ xs. arms_before Skip (map arm_before xs)) (c.as_slice.ensures ∙ c.get-in-None.ensures) ∙ sym (command-If c.args.stmt.now here.arms here.otherwise here.field-2 here.is c.in-None.is)) c.before_if.ensures
 
 pub before_if-before_arms-requires : goal.before_if-before_arms-requires
 before_if-before_arms-requires t c =
@@ -81,7 +82,7 @@ before_if-before_arms-requires t c =
 pub before_if-returns : goal.before_if-returns
 before_if-returns t c =
     let copy = c.in_ok-starts in
-    c.in_ok-before_arms.ensures.steps Skip c.args.mu.now (λ v. ap (λ keys. holds keys v) c.new-targets.ensures.empty)
+    c.in_ok-before_arms.ensures.steps Skip c.args.mu.now (λ v. ap (λ keys. holds keys v) c.in_ok-targets.ensures)
     (back_null c.args.frame.now c.args.rho.now copy.starts c.args.mu.now c.requires.covers.once c.requires.rows copy.ensures.0 copy.ensures.1)
 
 -- ---- what is done otherwise
@@ -92,7 +93,7 @@ before-before_otherwise-requires t c =
     let here = c.in-If in
     let covers = subst (λ k. Covers frame (effect k)) (command-If-else c.args.stmt.now here.arms here.otherwise c.in-Some.stmts here.field-2 here.is c.in-Some.is) c.requires.covers in
     let parts = arms_covered frame (commands c.in-Some.stmts) here.arms covers in
-    (search (rules, the_lemmas), (subst (λ ss. Covers frame (effects ss)) (sym c.as_slice-stmts.ensures) parts.1, (c.requires.size, (c.new-targets.ensures.empty, c.requires.rows))))
+    (search (rules, the_lemmas), (subst (λ ss. Covers frame (effects ss)) (sym (c.as_slice-stmts.ensures ∙ c.get-in-Some.ensures)) parts.1, (c.requires.size, (c.in_ok-targets-in-Some.ensures, c.requires.rows))))
 
 pub before-before_arms-requires : goal.before-before_arms-requires
 before-before_arms-requires t c =
@@ -101,7 +102,7 @@ before-before_arms-requires t c =
     let covers = subst (λ k. Covers frame (effect k)) (command-If-else c.args.stmt.now here.arms here.otherwise c.in-Some.stmts here.field-2 here.is c.in-Some.is) c.requires.covers in
     let parts = arms_covered frame (commands c.in-Some.stmts) here.arms covers in
     let others = c.in_ok-starts-in-Some.ensures.steps in
-    (search (rules, the_lemmas), (subst (All (λ (arm : CoreArm). Covers frame (effect (arm_before arm Skip)))) (sym c.as_slice-arms.ensures) parts.0, (c.requires.size, (others.size ∙ c.requires.size, others.rows))))
+    (search (rules, the_lemmas), (subst (All (λ (arm : CoreArm). Covers frame (effect (arm_before arm Skip)))) (sym (c.as_slice-arms.ensures ∙ c.get-in-Some-2.ensures)) parts.0, (c.requires.size, (others.size ∙ c.requires.size, others.rows))))
 
 pub before-returns-in_ok-before_arms-in-Some : goal.before-returns-in_ok-before_arms-in-Some
 before-returns-in_ok-before_arms-in-Some t c =
@@ -113,8 +114,8 @@ before-returns-in_ok-before_arms-in-Some t c =
     let starts = c.in_ok-starts-in-Some.starts in
     let mid = c.before_otherwise.new in
     let new = c.before_arms.new in
-    let done = subst (λ ss. Done (λ e. StepsBack frame e rho) (effects ss) starts mid.targets.keys mu mid.mu) c.as_slice-stmts.ensures c.in_ok-starts-in-Some.ensures in
-    let arms = subst (λ xs. Arms (λ e. StepsBack frame e rho) frame (λ otherwise. arms_before otherwise (map arm_before xs)) starts new.starts mid.targets.keys new.targets.keys mid.mu new.mu) c.as_slice-arms.ensures
+    let done = subst (λ ss. Done (λ e. StepsBack frame e rho) (effects ss) starts mid.targets.keys mu mid.mu) (c.as_slice-stmts.ensures ∙ c.get-in-Some.ensures) c.in_ok-starts-in-Some.ensures in
+    let arms = subst (λ xs. Arms (λ e. StepsBack frame e rho) frame (λ otherwise. arms_before otherwise (map arm_before xs)) starts new.starts mid.targets.keys new.targets.keys mid.mu new.mu) (c.as_slice-arms.ensures ∙ c.get-in-Some-2.ensures)
     c.in_ok-before_arms-in-Some.ensures in
     subst (λ k. StepsBack frame (effect k) rho new.starts mu new.mu) (sym (command-If-else c.args.stmt.now here.arms here.otherwise stmts here.field-2 here.is c.in-Some.is)) (arms.steps (commands stmts) mu done.targets done.steps)
 
@@ -163,7 +164,7 @@ before_arms-before_arm-requires t c =
     let within : k - 1 < length arms = omega arith in
     let one = All-contains (λ (a : CoreArm). Covers frame (effect (arm_before a Skip))) arms arm c.requires.covers (k - 1, within, sym c.index-arms-k.is) in
     let covers = body_covered frame arm one in
-    let body = c.as_slice-body.ensures in (
+    let body = c.as_slice-body.ensures ∙ c.get.ensures in (
       search (rules, the_lemmas),
       (
         subst (λ ss. Covers frame (effects ss)) (sym body) covers,
@@ -182,8 +183,9 @@ before_arms-loop-k-preserved t c =
     let within : k - 1 < length arms = omega arith in
     let new = c.before_arm.new in
     let others = c.loop-k in
-    let one = subst (λ ss. Arm (λ e. StepsBack frame e rho) frame (leaves (commands ss)) (reads_of a.condition) (effects ss) a.place others.starts new.starts others.targets.keys new.targets.keys others.mu new.mu) c.as_slice-body.ensures
-    (subst (λ l. Arm (λ e. StepsBack frame e rho) frame l (reads_of a.condition) (effects c.as_slice-body.result.now) a.place others.starts new.starts others.targets.keys new.targets.keys others.mu new.mu) c.has_own_exit-exit.ensures c.in_ok-before_arm.ensures) in
+    let one = subst (λ ss. Arm (λ e. StepsBack frame e rho) frame (leaves (commands ss)) (reads_of a.condition) (effects ss) a.place others.starts new.starts others.targets.keys new.targets.keys others.mu new.mu) (c.as_slice-body.ensures ∙ c.get.ensures)
+    (subst (λ l. Arm (λ e. StepsBack frame e rho) frame l (reads_of a.condition) (effects c.as_slice-body.result.now) a.place others.starts new.starts others.targets.keys new.targets.keys others.mu new.mu) c.has_own_exit-exit.ensures
+    (subst (λ x. Arm (λ e. StepsBack frame e rho) frame c.has_own_exit-exit.result (reads_of x) (effects c.as_slice-body.result.now) a.place others.starts new.starts others.targets.keys new.targets.keys others.mu new.mu) c.get-test.ensures c.in_ok-before_arm.ensures)) in
     let first = arm_done (λ e. StepsBack frame e rho) frame (arm_before arm) (leaves (commands a.body)) (reads_of a.condition) (effects a.body) a.place (λ otherwise. ap effect (command_arm arm otherwise)) others.starts new.starts others.targets.keys new.targets.keys
     others.mu new.mu one in
     subst (λ xs. Arms (λ e. StepsBack frame e rho) frame (λ otherwise. arms_before otherwise (map arm_before xs)) c.args.starts.now new.starts c.args.targets.now.keys new.targets.keys c.args.mu.now new.mu)
@@ -197,16 +199,22 @@ pub before-before_case-requires : goal.before-before_case-requires
 before-before_case-requires t c =
     let frame = c.args.frame.now in
     let here = c.in-Case in
-    let covers = subst (λ k. Covers frame (effect k)) (command-Case c.args.stmt.now here.place here.selector here.alternatives here.field-3 here.is) c.requires.covers in
-    (search (rules, the_lemmas), (subst (λ xs. Covers frame (effect (select here.place here.selector (map alternative xs)))) (sym c.as_slice-alternatives.ensures) covers, (c.requires.size, c.requires.rows)))
+    let alternatives = c.as_slice-alternatives.ensures ∙ c.get-in-Case.ensures in
+    let same = ap (λ xs. select here.place here.selector (map alternative xs)) (sym alternatives)
+    ∙ ap₂ (λ p s. select p s (map alternative c.as_slice-alternatives.result.now)) (sym c.get-in-Case-2.ensures) (sym c.get-selector.ensures) in
+    let covers = subst (λ k. Covers frame (effect k)) (command-Case c.args.stmt.now here.place here.selector here.alternatives here.field-3 here.is ∙ same) c.requires.covers in
+    (search (rules, the_lemmas), (covers, (c.requires.size, c.requires.rows)))
 
-pub before-returns-in_ok-before_case-in-Case : goal.before-returns-in_ok-before_case-in-Case
-before-returns-in_ok-before_case-in-Case t c =
+pub before-returns-in-Case : goal.before-returns-in-Case
+before-returns-in-Case t c =
     let frame = c.args.frame.now in
     let here = c.in-Case in
     let new = c.before_case.new in
-    subst (λ k. StepsBack frame (effect k) c.args.rho.now new.rho c.args.mu.now new.mu) (sym (command-Case c.args.stmt.now here.place here.selector here.alternatives here.field-3 here.is))
-    (subst (λ xs. StepsBack frame (effect (select here.place here.selector (map alternative xs))) c.args.rho.now new.rho c.args.mu.now new.mu) c.as_slice-alternatives.ensures c.in_ok-before_case-in-Case.ensures)
+    let alternatives = c.as_slice-alternatives.ensures ∙ c.get-in-Case.ensures in
+    let same = ap₂ (λ p s. select p s (map alternative c.as_slice-alternatives.result.now)) c.get-in-Case-2.ensures c.get-selector.ensures
+    ∙ ap (λ xs. select here.place here.selector (map alternative xs)) alternatives in
+    subst (λ k. OnOk c.before_case.result (StepsBack frame (effect k) c.args.rho.now new.rho c.args.mu.now new.mu))
+    (same ∙ sym (command-Case c.args.stmt.now here.place here.selector here.alternatives here.field-3 here.is)) c.before_case.ensures
 
 pub before_case-returns-then-is_empty : goal.before_case-returns-then-is_empty
 before_case-returns-then-is_empty t c =
@@ -225,7 +233,7 @@ before_case-before_last-requires t c =
     let within : length alternatives - 1 < length alternatives = search rules in
     let body = c.as_slice-body.ensures ∙ ap (λ x. (out-CoreAlternative x).body) (sym c.index-alternatives-last.is) in
     let covers = All-contains (AlternativeCovered frame) alternatives a (alternatives_covered frame c.args.place c.args.selector.now alternatives c.requires.covers) (length alternatives - 1, within, sym c.index-alternatives-last.is) in
-    (search (rules, the_lemmas), (subst (λ ss. Covers frame (effects ss)) (sym body) covers, (c.requires.size, (c.new-targets.ensures.empty, c.requires.rows))))
+    (search (rules, the_lemmas), (subst (λ ss. Covers frame (effects ss)) (sym body) covers, (c.requires.size, (c.in_ok-targets.ensures, c.requires.rows))))
 
 pub before_case-loop-k-init : goal.before_case-loop-k-init
 before_case-loop-k-init t c =

@@ -1,10 +1,11 @@
-use Rattle.std.proofs.Common.{◌≡◌, ◌∷◌, ◌+◌, ◌-◌, ◌<◌, ◌||◌, All, arith, ap, ◌∙◌, drop, length, map, not, option_map, refl, rules, subst, sym}
+use Rattle.std.proofs.Common.{◌≡◌, ◌∷◌, ◌+◌, ◌-◌, ◌<◌, ◌||◌, All, arith, ap, ap₂, ◌∙◌, drop, length, map, not, option_map, refl, rules, subst, sym}
 use Rattle.std.proofs.lemmas.List.{drop_all, length-drop, nil_from_length}
+use Rattle.std.specs.Prelude.{OnOk}
 use Rattle.std.proofs.lemmas.List.Elements.{All-contains}
 use Rattle.spx_core.specs.declared.statement.CoreArm.{CoreArm, out-CoreArm}
 use Rattle.spx_core.specs.declared.statement.CoreAlternative.{out-CoreAlternative}
 use Rattle.spx_core.specs.declared.statement.CoreStmt.{the_lemmas}
-use Rattle.spx_core.specs.Commands.{Skip, alternative, arm_before, arms_before, command, commands, leaves, select}
+use Rattle.spx_core.specs.Commands.{Set, Skip, alternative, arm_before, arms_before, command, commands, leaves, select}
 use Rattle.spx_core.specs.Effects.{choose, effect, effects, reads_of, reads_of_range, sets}
 use Rattle.spx_core.specs.Mirror.VarSets.{holds}
 use Rattle.spx_flow.specs.Branches.{Arm, Arms, Done}
@@ -40,21 +41,21 @@ after-returns-in-Assertion t c =
 
 pub after-after_assignment-requires-clause-covers : goal.after-after_assignment-requires-clause-covers
 after-after_assignment-requires-clause-covers t c =
-    subst (λ k. Covers c.args.frame.now (effect k)) (ap command c.in-Assignment.is ∙ command-Assignment c.in-Assignment.target c.in-Assignment.value) c.requires.covers
+    subst (λ k. Covers c.args.frame.now (effect k)) (ap command c.in-Assignment.is ∙ command-Assignment c.in-Assignment.target c.in-Assignment.value ∙ sym (ap₂ Set c.get.ensures c.get-in-Assignment.ensures)) c.requires.covers
 
-pub after-returns-in_ok-after_assignment-in-Assignment : goal.after-returns-in_ok-after_assignment-in-Assignment
-after-returns-in_ok-after_assignment-in-Assignment t c =
+pub after-returns-in-Assignment : goal.after-returns-in-Assignment
+after-returns-in-Assignment t c =
     let new = c.after_assignment.new in
-    subst (λ k. StepsForward c.args.frame.now (effect k) c.args.state.now new.state c.args.lambda.now new.lambda) (sym (ap command c.in-Assignment.is ∙ command-Assignment c.in-Assignment.target c.in-Assignment.value))
-    c.in_ok-after_assignment-in-Assignment.ensures
+    subst (λ k. OnOk c.after_assignment.result (StepsForward c.args.frame.now (effect k) c.args.state.now new.state c.args.lambda.now new.lambda))
+    (ap₂ Set c.get.ensures c.get-in-Assignment.ensures ∙ sym (ap command c.in-Assignment.is ∙ command-Assignment c.in-Assignment.target c.in-Assignment.value)) c.after_assignment.ensures
 
 pub after-after_exit-requires-clause-covers : goal.after-after_exit-requires-clause-covers
 after-after_exit-requires-clause-covers t c = subst (λ k. Covers c.args.frame.now (effect k)) (ap command c.in-Exit.is ∙ command-Exit c.in-Exit.place c.in-Exit.condition) c.requires.covers
 
-pub after-returns-in_ok-after_exit-in-Exit : goal.after-returns-in_ok-after_exit-in-Exit
-after-returns-in_ok-after_exit-in-Exit t c =
+pub after-returns-in-Exit : goal.after-returns-in-Exit
+after-returns-in-Exit t c =
     let new = c.after_exit.new in
-    subst (λ k. StepsForward c.args.frame.now (effect k) c.args.state.now new.state c.args.lambda.now new.lambda) (sym (ap command c.in-Exit.is ∙ command-Exit c.in-Exit.place c.in-Exit.condition)) c.in_ok-after_exit-in-Exit.ensures
+    subst (λ k. OnOk c.after_exit.result (StepsForward c.args.frame.now (effect k) c.args.state.now new.state c.args.lambda.now new.lambda)) (sym (ap command c.in-Exit.is ∙ command-Exit c.in-Exit.place c.in-Exit.condition)) c.after_exit.ensures
 
 -- ---- `if`
 
@@ -63,15 +64,15 @@ after-after_if-requires t c =
     let frame = c.args.frame.now in
     let here = c.in-If in
     let covers = subst (λ k. Covers frame (effect k)) (command-If c.args.stmt.now here.arms here.otherwise here.field-2 here.is c.in-None.is) c.requires.covers in
-    (search (rules, the_lemmas), (subst (λ xs. Covers frame (effect (arms_before Skip (map arm_before xs)))) (sym c.as_slice.ensures) covers, (c.requires.size, c.requires.rows)))
+    (search (rules, the_lemmas), (subst (λ xs. Covers frame (effect (arms_before Skip (map arm_before xs)))) (sym (c.as_slice.ensures ∙ c.get-in-None.ensures)) covers, (c.requires.size, c.requires.rows)))
 
-pub after-returns-in_ok-after_if-in-None : goal.after-returns-in_ok-after_if-in-None
-after-returns-in_ok-after_if-in-None t c =
+pub after-returns-in-None : goal.after-returns-in-None
+after-returns-in-None t c =
     let frame = c.args.frame.now in
     let here = c.in-If in
     let new = c.after_if.new in
-    subst (λ k. StepsForward frame (effect k) c.args.state.now new.state c.args.lambda.now new.lambda) (sym (command-If c.args.stmt.now here.arms here.otherwise here.field-2 here.is c.in-None.is))
-    (subst (λ xs. StepsForward frame (effect (arms_before Skip (map arm_before xs))) c.args.state.now new.state c.args.lambda.now new.lambda) c.as_slice.ensures c.in_ok-after_if-in-None.ensures)
+    subst (λ k. OnOk c.after_if.result (StepsForward frame (effect k) c.args.state.now new.state c.args.lambda.now new.lambda))
+    (ap (λ xs. arms_before Skip (map arm_before xs)) (c.as_slice.ensures ∙ c.get-in-None.ensures) ∙ sym (command-If c.args.stmt.now here.arms here.otherwise here.field-2 here.is c.in-None.is)) c.after_if.ensures
 
 pub after_if-after_arms-requires : goal.after_if-after_arms-requires
 after_if-after_arms-requires t c =
@@ -81,7 +82,7 @@ after_if-after_arms-requires t c =
 pub after_if-returns : goal.after_if-returns
 after_if-returns t c =
     let copy = c.in_ok-ends in
-    c.in_ok-after_arms.ensures.steps Skip c.args.lambda.now (λ v. ap (λ keys. holds keys v) c.new-targets.ensures.empty)
+    c.in_ok-after_arms.ensures.steps Skip c.args.lambda.now (λ v. ap (λ keys. holds keys v) c.in_ok-targets.ensures)
     (forward_null c.args.frame.now c.args.state.now copy.ends c.args.lambda.now c.requires.covers.once c.requires.rows copy.ensures.0 copy.ensures.1)
 
 -- ---- what is done otherwise
@@ -92,7 +93,7 @@ after-after_otherwise-requires t c =
     let here = c.in-If in
     let covers = subst (λ k. Covers frame (effect k)) (command-If-else c.args.stmt.now here.arms here.otherwise c.in-Some.stmts here.field-2 here.is c.in-Some.is) c.requires.covers in
     let parts = arms_covered frame (commands c.in-Some.stmts) here.arms covers in
-    (search (rules, the_lemmas), (subst (λ ss. Covers frame (effects ss)) (sym c.as_slice-stmts.ensures) parts.1, (c.requires.size, (c.new-targets.ensures.empty, c.requires.rows))))
+    (search (rules, the_lemmas), (subst (λ ss. Covers frame (effects ss)) (sym (c.as_slice-stmts.ensures ∙ c.get-in-Some.ensures)) parts.1, (c.requires.size, (c.in_ok-targets-in-Some.ensures, c.requires.rows))))
 
 pub after-after_arms-requires : goal.after-after_arms-requires
 after-after_arms-requires t c =
@@ -101,7 +102,7 @@ after-after_arms-requires t c =
     let covers = subst (λ k. Covers frame (effect k)) (command-If-else c.args.stmt.now here.arms here.otherwise c.in-Some.stmts here.field-2 here.is c.in-Some.is) c.requires.covers in
     let parts = arms_covered frame (commands c.in-Some.stmts) here.arms covers in
     let others = c.in_ok-ends-in-Some.ensures.steps in
-    (search (rules, the_lemmas), (subst (All (λ (arm : CoreArm). Covers frame (effect (arm_before arm Skip)))) (sym c.as_slice-arms.ensures) parts.0, (c.requires.size, (others.size ∙ c.requires.size, others.rows))))
+    (search (rules, the_lemmas), (subst (All (λ (arm : CoreArm). Covers frame (effect (arm_before arm Skip)))) (sym (c.as_slice-arms.ensures ∙ c.get-in-Some-2.ensures)) parts.0, (c.requires.size, (others.size ∙ c.requires.size, others.rows))))
 
 pub after-returns-in_ok-after_arms-in-Some : goal.after-returns-in_ok-after_arms-in-Some
 after-returns-in_ok-after_arms-in-Some t c =
@@ -113,8 +114,8 @@ after-returns-in_ok-after_arms-in-Some t c =
     let ends = c.in_ok-ends-in-Some.ends in
     let mid = c.after_otherwise.new in
     let new = c.after_arms.new in
-    let done = subst (λ ss. Done (λ e. StepsForward frame e state) (effects ss) ends mid.targets.keys lambda mid.lambda) c.as_slice-stmts.ensures c.in_ok-ends-in-Some.ensures in
-    let arms = subst (λ xs. Arms (λ e. StepsForward frame e state) frame (λ otherwise. arms_before otherwise (map arm_before xs)) ends new.ends mid.targets.keys new.targets.keys mid.lambda new.lambda) c.as_slice-arms.ensures
+    let done = subst (λ ss. Done (λ e. StepsForward frame e state) (effects ss) ends mid.targets.keys lambda mid.lambda) (c.as_slice-stmts.ensures ∙ c.get-in-Some.ensures) c.in_ok-ends-in-Some.ensures in
+    let arms = subst (λ xs. Arms (λ e. StepsForward frame e state) frame (λ otherwise. arms_before otherwise (map arm_before xs)) ends new.ends mid.targets.keys new.targets.keys mid.lambda new.lambda) (c.as_slice-arms.ensures ∙ c.get-in-Some-2.ensures)
     c.in_ok-after_arms-in-Some.ensures in
     subst (λ k. StepsForward frame (effect k) state new.ends lambda new.lambda) (sym (command-If-else c.args.stmt.now here.arms here.otherwise stmts here.field-2 here.is c.in-Some.is)) (arms.steps (commands stmts) lambda done.targets done.steps)
 
@@ -163,7 +164,7 @@ after_arms-after_arm-requires t c =
     let within : k - 1 < length arms = omega arith in
     let one = All-contains (λ (a : CoreArm). Covers frame (effect (arm_before a Skip))) arms arm c.requires.covers (k - 1, within, sym c.index-arms-k.is) in
     let covers = body_covered frame arm one in
-    let body = c.as_slice-body.ensures in (
+    let body = c.as_slice-body.ensures ∙ c.get.ensures in (
       search (rules, the_lemmas),
       (
         subst (λ ss. Covers frame (effects ss)) (sym body) covers,
@@ -182,8 +183,9 @@ after_arms-loop-k-preserved t c =
     let within : k - 1 < length arms = omega arith in
     let new = c.after_arm.new in
     let others = c.loop-k in
-    let one = subst (λ ss. Arm (λ e. StepsForward frame e rho) frame (leaves (commands ss)) (reads_of a.condition) (effects ss) a.place others.ends new.ends others.targets.keys new.targets.keys others.lambda new.lambda) c.as_slice-body.ensures
-    (subst (λ l. Arm (λ e. StepsForward frame e rho) frame l (reads_of a.condition) (effects c.as_slice-body.result.now) a.place others.ends new.ends others.targets.keys new.targets.keys others.lambda new.lambda) c.has_own_exit-exit.ensures c.in_ok-after_arm.ensures) in
+    let one = subst (λ ss. Arm (λ e. StepsForward frame e rho) frame (leaves (commands ss)) (reads_of a.condition) (effects ss) a.place others.ends new.ends others.targets.keys new.targets.keys others.lambda new.lambda) (c.as_slice-body.ensures ∙ c.get.ensures)
+    (subst (λ l. Arm (λ e. StepsForward frame e rho) frame l (reads_of a.condition) (effects c.as_slice-body.result.now) a.place others.ends new.ends others.targets.keys new.targets.keys others.lambda new.lambda) c.has_own_exit-exit.ensures
+    (subst (λ x. Arm (λ e. StepsForward frame e rho) frame c.has_own_exit-exit.result (reads_of x) (effects c.as_slice-body.result.now) a.place others.ends new.ends others.targets.keys new.targets.keys others.lambda new.lambda) c.get-test.ensures c.in_ok-after_arm.ensures)) in
     let first = arm_done (λ e. StepsForward frame e rho) frame (arm_before arm) (leaves (commands a.body)) (reads_of a.condition) (effects a.body) a.place (λ otherwise. ap effect (command_arm arm otherwise)) others.ends new.ends others.targets.keys new.targets.keys
     others.lambda new.lambda one in
     subst (λ xs. Arms (λ e. StepsForward frame e rho) frame (λ otherwise. arms_before otherwise (map arm_before xs)) c.args.ends.now new.ends c.args.targets.now.keys new.targets.keys c.args.lambda.now new.lambda)
@@ -197,16 +199,22 @@ pub after-after_case-requires : goal.after-after_case-requires
 after-after_case-requires t c =
     let frame = c.args.frame.now in
     let here = c.in-Case in
-    let covers = subst (λ k. Covers frame (effect k)) (command-Case c.args.stmt.now here.place here.selector here.alternatives here.field-3 here.is) c.requires.covers in
-    (search (rules, the_lemmas), (subst (λ xs. Covers frame (effect (select here.place here.selector (map alternative xs)))) (sym c.as_slice-alternatives.ensures) covers, (c.requires.size, c.requires.rows)))
+    let alternatives = c.as_slice-alternatives.ensures ∙ c.get-in-Case.ensures in
+    let same = ap (λ xs. select here.place here.selector (map alternative xs)) (sym alternatives)
+    ∙ ap₂ (λ p s. select p s (map alternative c.as_slice-alternatives.result.now)) (sym c.get-place.ensures) (sym c.get-selector.ensures) in
+    let covers = subst (λ k. Covers frame (effect k)) (command-Case c.args.stmt.now here.place here.selector here.alternatives here.field-3 here.is ∙ same) c.requires.covers in
+    (search (rules, the_lemmas), (covers, (c.requires.size, c.requires.rows)))
 
-pub after-returns-in_ok-after_case-in-Case : goal.after-returns-in_ok-after_case-in-Case
-after-returns-in_ok-after_case-in-Case t c =
+pub after-returns-in-Case : goal.after-returns-in-Case
+after-returns-in-Case t c =
     let frame = c.args.frame.now in
     let here = c.in-Case in
     let new = c.after_case.new in
-    subst (λ k. StepsForward frame (effect k) c.args.state.now new.state c.args.lambda.now new.lambda) (sym (command-Case c.args.stmt.now here.place here.selector here.alternatives here.field-3 here.is))
-    (subst (λ xs. StepsForward frame (effect (select here.place here.selector (map alternative xs))) c.args.state.now new.state c.args.lambda.now new.lambda) c.as_slice-alternatives.ensures c.in_ok-after_case-in-Case.ensures)
+    let alternatives = c.as_slice-alternatives.ensures ∙ c.get-in-Case.ensures in
+    let same = ap₂ (λ p s. select p s (map alternative c.as_slice-alternatives.result.now)) c.get-place.ensures c.get-selector.ensures
+    ∙ ap (λ xs. select here.place here.selector (map alternative xs)) alternatives in
+    subst (λ k. OnOk c.after_case.result (StepsForward frame (effect k) c.args.state.now new.state c.args.lambda.now new.lambda))
+    (same ∙ sym (command-Case c.args.stmt.now here.place here.selector here.alternatives here.field-3 here.is)) c.after_case.ensures
 
 pub after_case-returns-then-is_empty : goal.after_case-returns-then-is_empty
 after_case-returns-then-is_empty t c =
@@ -225,7 +233,7 @@ after_case-after_last-requires t c =
     let within : length alternatives - 1 < length alternatives = search rules in
     let body = c.as_slice-body.ensures ∙ ap (λ x. (out-CoreAlternative x).body) (sym c.index-alternatives-last.is) in
     let covers = All-contains (AlternativeCovered frame) alternatives a (alternatives_covered frame c.args.place c.args.selector.now alternatives c.requires.covers) (length alternatives - 1, within, sym c.index-alternatives-last.is) in
-    (search (rules, the_lemmas), (subst (λ ss. Covers frame (effects ss)) (sym body) covers, (c.requires.size, (c.new-targets.ensures.empty, c.requires.rows))))
+    (search (rules, the_lemmas), (subst (λ ss. Covers frame (effects ss)) (sym body) covers, (c.requires.size, (c.in_ok-targets.ensures, c.requires.rows))))
 
 pub after_case-loop-k-init : goal.after_case-loop-k-init
 after_case-loop-k-init t c =

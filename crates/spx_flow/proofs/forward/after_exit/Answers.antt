@@ -1,4 +1,4 @@
-use Rattle.std.proofs.Common.{◌∙◌, refl, subst, sym, true}
+use Rattle.std.proofs.Common.{Some, ap, ◌∙◌, refl, subst, sym, true}
 use Rattle.spx_core.specs.Commands.{exit_where}
 use Rattle.spx_core.specs.Effects.{effect, reads_of}
 use Rattle.spx_core.specs.Mirror.VarSets.{holds}
@@ -25,12 +25,12 @@ pub returns : goal.returns
 returns c =
     let frame = c.args.frame.now in
     let state = c.args.state.now in
-    let tests = reads_of c.in-Some.test in
+    let tests = reads_of c.get.result.now in
     let copy = c.in_ok-ends in
     let copied = c.in_ok-here in
     let left = c.in_ok-left in
-    let keys = c.new-targets.result.keys in
+    let keys = c.in_ok-targets.targets.keys in
     let test = c.in_ok-spread.ensures (read_points tests) (reached true (λ v. holds keys v)) (rw (sym c.as_slice.ensures.value) at c.in_ok-from.ensures.exact) (rw (sym c.as_slice-2.ensures.value) at c.in_ok-to.ensures.exact) in
-    subst (λ o. StepsForward frame (effect (exit_where c.args.place o)) state c.spread.new.rows c.args.lambda.now c.spread.new.list) (sym c.in-Some.is)
-    (forward_exit frame tests c.args.place state copy.ends copied.here left.left c.union_with.new.self c.spread.new.rows keys c.args.lambda.now c.spread.new.list c.requires.covers.once c.new-targets.ensures.empty c.requires.rows copy.ensures.0 copy.ensures.1
+    subst (λ o. StepsForward frame (effect (exit_where c.args.place o)) state c.spread.new.rows c.args.lambda.now c.spread.new.list) (ap Some c.get.ensures ∙ sym c.in-Some.is)
+    (forward_exit frame tests c.args.place state copy.ends copied.here left.left c.union_with.new.self c.spread.new.rows keys c.args.lambda.now c.spread.new.list c.requires.covers.once c.in_ok-targets.ensures c.requires.rows copy.ensures.0 copy.ensures.1
     copied.ensures.0 copied.ensures.1 (left.ensures.size ∙ sym (copied.ensures.0 ∙ c.requires.size)) left.ensures.pairs c.union_with.ensures.size c.union_with.ensures.pairs test)

@@ -1,4 +1,4 @@
-use Rattle.std.proofs.Common.{◌≡◌, ◌∙◌, ◌++◌, ◌<◌, ap, subst, sym}
+use Rattle.std.proofs.Common.{◌≡◌, ◌∙◌, ◌++◌, ◌<◌, ap₂, subst, sym}
 use Rattle.std.specs.Prelude.{All}
 use Rattle.spx_core.specs.Effects.{is_read, reads_of_range}
 use Rattle.spx_flow.specs.Loops.{read_points}
@@ -15,7 +15,8 @@ returns-clause-within c =
     let low = positions_read frame.vars range.low in
     let high = positions_read frame.vars range.high in
     let is : c.add_positions-2.new.found.items ≡ low ++ high =
-    c.in_ok-add_positions-2.ensures ∙ ap (λ xs. xs ++ high) (c.in_ok-add_positions.ensures ∙ ap (λ xs. xs ++ low) c.new-found.ensures.items) in
+    c.in_ok-add_positions-2.ensures
+    ∙ ap₂ (λ xs e. xs ++ positions_read frame.vars e) (c.in_ok-add_positions.ensures ∙ ap₂ (λ xs e. xs ++ positions_read frame.vars e) c.new-found.ensures.items c.get.ensures) c.get-2.ensures in
     subst (All (λ k. k < size_of frame)) (sym is) (all_within frame (low ++ high) (range_within frame.vars range))
 
 pub returns-clause-exact : goal.returns-clause-exact
@@ -25,6 +26,7 @@ returns-clause-exact c =
     let low = positions_read frame.vars range.low in
     let high = positions_read frame.vars range.high in
     let is : c.add_positions-2.new.found.items ≡ low ++ high =
-    c.in_ok-add_positions-2.ensures ∙ ap (λ xs. xs ++ high) (c.in_ok-add_positions.ensures ∙ ap (λ xs. xs ++ low) c.new-found.ensures.items) in
+    c.in_ok-add_positions-2.ensures
+    ∙ ap₂ (λ xs e. xs ++ positions_read frame.vars e) (c.in_ok-add_positions.ensures ∙ ap₂ (λ xs e. xs ++ positions_read frame.vars e) c.new-found.ensures.items c.get.ensures) c.get-2.ensures in
     subst (λ found. Places frame found (read_points (reads_of_range range))) (sym is)
     (places_of frame (λ v. is_read v (reads_of_range range)) (low ++ high) (range_within frame.vars range) (λ k v stands. range_at frame.vars c.requires k v stands range))

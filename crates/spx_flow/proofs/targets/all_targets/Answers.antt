@@ -7,4 +7,4 @@ use Rattle.spx_flow.proofs.targets.all_targets.Goals as goal
 pub returns : goal.returns
 returns c v =
     let own = sets v (effects c.args.stmts.now) in
-    c.in_ok-add_all_targets.ensures v ∙ ap (λ keys. own || holds keys v) c.new-found.ensures.empty ∙ or_nothing own
+    c.in_ok-add_all_targets.ensures v ∙ ap (λ keys. own || holds keys v) c.in_ok-found.ensures ∙ or_nothing own
