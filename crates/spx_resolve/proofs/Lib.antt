@@ -1,3 +1,4 @@
+pub mod Results
 pub mod Declared
 pub mod InOrder
 pub mod StatementForms

@@ -8,19 +8,19 @@ use crate::meaning::chosen_by;
 use spx_core::{CoreChoice, CoreExpr};
 use spx_scope::Scope;
 use spx_tree::{Choice, Expr};
-use sqlite_items::Items;
+use sqlite_items::{Boxed, Items};
 use std::alloc::{AllocError, Global};
 
 /// The upper bound of a choice, if it has one.
 fn resolve_upper(
     alloc: Global,
-    high: &Option<Expr>,
+    high: &Option<Boxed<Expr>>,
     scope: &Scope<'_>,
-) -> Result<Option<CoreExpr>, AllocError>
+) -> Result<Option<Boxed<CoreExpr>>, AllocError>
     ensures { IfOk result (λ r. r ≡ option_map (resolved_expr (seen scope.now)) high.now) }
 {
     match high {
-        Some(high) => Ok(Some(resolve_expr(alloc, high, scope)?)),
+        Some(high) => Ok(Some(resolve_expr(alloc, high.get(), scope)?)),
         None => Ok(None),
     }
 }
@@ -33,9 +33,9 @@ fn resolve_choice(
 ) -> Result<CoreChoice, AllocError>
     ensures { IfOk result (λ r. r ≡ resolved_choice (seen scope.now) choice.now) }
 {
-    let low = resolve_expr(alloc, &choice.low, scope)?;
+    let low = resolve_expr(alloc, choice.low.get(), scope)?;
     let high = resolve_upper(alloc, &choice.high, scope)?;
-    let span = chosen_by(&low, &high);
+    let span = chosen_by(low.get(), &high);
     Ok(CoreChoice { low, high, span })
 }
 
@@ -56,13 +56,16 @@ fn resolve_choices(
 /// The choices of an alternative, unless it is for `others`.
 pub fn resolve_listed(
     alloc: Global,
-    choices: &Option<Items<Choice>>,
+    choices: &Option<Boxed<Items<Choice>>>,
     scope: &Scope<'_>,
-) -> Result<Option<Items<CoreChoice>>, AllocError>
+) -> Result<Option<Boxed<Items<CoreChoice>>>, AllocError>
     ensures { IfOk result (λ r. r ≡ option_map (map (resolved_choice (seen scope.now))) choices.now) }
 {
     match choices {
-        Some(choices) => Ok(Some(resolve_choices(alloc, choices.as_slice(), scope)?)),
+        Some(choices) => {
+            let resolved = resolve_choices(alloc, choices.get().as_slice(), scope)?;
+            Ok(Some(Boxed::new(alloc, resolved)?))
+        }
         None => Ok(None),
     }
 }

@@ -13,7 +13,7 @@ use crate::types::{resolve_constants, resolve_enumeration, resolve_integer, reso
 use spx_core::{CoreDecl, CoreParam, Defining, Meaning, Object, Var, VarKind};
 use spx_scope::{Region, Scope};
 use spx_tree::{Decl, Expr, Identifier, Name, Param, TypeDef};
-use sqlite_items::Items;
+use sqlite_items::{Boxed, Items};
 use std::alloc::{AllocError, Global};
 
 /// Declares variables, one after another.
@@ -45,12 +45,12 @@ fn resolve_param(
 {
     let names = param.names.as_slice();
     let type_name = resolve_type_name(alloc, region, outer, names, &param.type_name)?;
-    let object = object_of(VarKind::Formal(mode_of(param.mode)), &type_name);
+    let object = object_of(VarKind::Formal(mode_of(param.mode)), type_name.get());
     let names = declare_variables(alloc, region, vars, outer, object, names)?;
     Ok(CoreParam {
         names,
         mode: param.mode,
-        type_name,
+        type_name: type_name.into_inner(),
     })
 }
 
@@ -79,14 +79,15 @@ fn resolve_variables(
     outer: &Scope<'_>,
     names: &[Identifier],
     type_name: &Name,
-    value: &Option<Expr>,
+    value: &Option<Boxed<Expr>>,
 ) -> Result<CoreDecl, AllocError>
     ensures { IfOk result (λ d. (d ≡ variables_of region.old (length vars.old) names.now (resolved_reference (around_names (seen outer.now) region.old names.now) type_name.now) (option_map (resolved_expr (around_names (seen outer.now) region.old names.now)) value.now)) × (region.new ≡ declaring_all region.old (declared_by d)) × (vars.new ≡ vars.old ++ map var_of (variables_by d))) }
 {
     let type_name = resolve_type_name(alloc, region, outer, names, type_name)?;
     let value = resolve_initial(alloc, region, outer, names, value)?;
-    let object = object_of(local_kind(&value), &type_name);
+    let object = object_of(local_kind(&value), type_name.get());
     let names = declare_variables(alloc, region, vars, outer, object, names)?;
+    let names = Boxed::new(alloc, names)?;
     Ok(CoreDecl::Variables(names, type_name, value))
 }
 
@@ -129,18 +130,19 @@ fn resolve_decl(
     match decl {
         Decl::Variables(names, type_name, value) => {
             let vars = &mut tables.vars;
-            let names = names.as_slice();
-            Ok(resolve_variables(alloc, region, vars, outer, names, type_name, value)?)
+            let names = names.get().as_slice();
+            Ok(resolve_variables(alloc, region, vars, outer, names, type_name.get(), value)?)
         }
         Decl::Constants(names, type_name, value) => {
-            Ok(resolve_constants(alloc, region, outer, names.as_slice(), type_name, value)?)
+            let names = names.get().as_slice();
+            Ok(resolve_constants(alloc, region, outer, names, type_name, value.get())?)
         }
         Decl::FullType(name, definition) => {
-            Ok(resolve_type(alloc, region, tables, outer, name, definition)?)
+            Ok(resolve_type(alloc, region, tables, outer, name.get(), definition.get())?)
         }
         Decl::Subtype(name, parent, range) => {
             let types = &mut tables.types;
-            Ok(resolve_subtype(alloc, region, types, outer, name, parent, range)?)
+            Ok(resolve_subtype(alloc, region, types, outer, name.get(), parent.get(), range)?)
         }
     }
 }

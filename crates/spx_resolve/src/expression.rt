@@ -1,5 +1,6 @@
 // Names and expressions.
 ghost use Rattle.std.specs.Prelude.{◌≡◌, [], ◌∷◌, IfOk, map};
+ghost use Rattle.spx_core.specs.declared.expression.CoreExpr.TheVariants as expr;
 ghost use Rattle.spx_core.specs.declared.name.Step.TheVariants as step;
 ghost use Rattle.spx_core.specs.Resolved.{entry_of, resolved_expr, resolved_function, resolved_in, resolved_name, resolved_reference, resolved_value};
 ghost use Rattle.spx_scope.specs.Seen.{seen};
@@ -7,7 +8,8 @@ ghost use Rattle.spx_scope.specs.Seen.{seen};
 use crate::changed::Changed;
 use spx_core::{CoreExpr, CoreFunction, CoreName, Reference, Step};
 use spx_scope::{Region, Scope};
-use spx_tree::{Expr, Function, Identifier, Name};
+use spx_text::Place;
+use spx_tree::{Expr, Function, Identifier, MemberOp, Name};
 use sqlite_items::{Boxed, Items};
 use std::alloc::{AllocError, Global};
 
@@ -65,14 +67,22 @@ pub fn resolve_references(
     Ok(resolved)
 }
 
-fn resolve_value(alloc: Global, name: &Name, scope: &Scope<'_>) -> Result<CoreExpr, AllocError>
+fn resolve_value(
+    alloc: Global,
+    name: &Name,
+    scope: &Scope<'_>,
+) -> Result<Boxed<CoreExpr>, AllocError>
     ensures { IfOk result (λ r. r ≡ resolved_value (seen scope.now) name.now) }
 {
     match name {
-        Name::Simple(name) => Ok(CoreExpr::Name(resolve_name(alloc, name, scope)?)),
+        Name::Simple(name) => {
+            let name = resolve_name(alloc, name, scope)?;
+            Boxed::new(alloc, CoreExpr::Name(name))
+        }
         Name::Attribute(prefix, designator) => {
             let prefix = resolve_name(alloc, prefix, scope)?;
-            Ok(CoreExpr::Attribute(prefix, designator.copy(alloc)?))
+            let designator = designator.copy(alloc)?;
+            Boxed::new(alloc, CoreExpr::Attribute(prefix, designator))
         }
     }
 }
@@ -95,70 +105,92 @@ fn resolve_entry(
     name: &Identifier,
     changed: &Changed<'_>,
     scope: &Scope<'_>,
-) -> Result<CoreExpr, AllocError>
+) -> Result<Boxed<CoreExpr>, AllocError>
     ensures { IfOk result (λ r. r ≡ entry_of changed.now (resolved_name (seen scope.now) name.now)) }
 {
     let name = resolve_name(alloc, name, scope)?;
     let allowed = changed.has(&name);
-    Ok(CoreExpr::Entry(name, allowed))
+    Boxed::new(alloc, CoreExpr::Entry(name, allowed))
 }
 
-#[cycle(resolve_in)]
-fn resolve_part(
+/// A function with its operand.
+fn resolve_applied(
     alloc: Global,
-    expr: &Boxed<Expr>,
-    changed: &Changed<'_>,
+    function: &Function,
+    place: Place,
+    operand: Boxed<CoreExpr>,
     scope: &Scope<'_>,
 ) -> Result<Boxed<CoreExpr>, AllocError>
-    ensures { IfOk result (λ r. r ≡ resolved_in changed.now (seen scope.now) expr.now) }
+    ensures { IfOk result (λ r. r ≡ expr.Applied (resolved_function (seen scope.now) function.now) place operand) }
 {
-    Boxed::new(alloc, resolve_in(alloc, expr.get(), changed, scope)?)
+    let function = resolve_function(alloc, function, scope)?;
+    Boxed::new(alloc, CoreExpr::Applied(function, place, operand))
+}
+
+/// A membership test with a type.
+fn resolve_in_type(
+    alloc: Global,
+    op: MemberOp,
+    place: Place,
+    tested: Boxed<CoreExpr>,
+    name: &Name,
+    scope: &Scope<'_>,
+) -> Result<Boxed<CoreExpr>, AllocError>
+    ensures { IfOk result (λ r. r ≡ expr.InType op place tested (resolved_reference (seen scope.now) name.now)) }
+{
+    let name = resolve_reference(alloc, name, scope)?;
+    Boxed::new(alloc, CoreExpr::InType(op, place, tested, name))
 }
 
 /// An expression of an annotation, in which the values on entry of what is changed may be named.
-#[cycle(resolve_in)]
 pub fn resolve_in(
     alloc: Global,
     expr: &Expr,
     changed: &Changed<'_>,
     scope: &Scope<'_>,
-) -> Result<CoreExpr, AllocError>
+) -> Result<Boxed<CoreExpr>, AllocError>
     ensures { IfOk result (λ r. r ≡ resolved_in changed.now (seen scope.now) expr.now) }
 {
     match expr {
-        Expr::Number(value, place) => Ok(CoreExpr::Number(*value, *place)),
-        Expr::Name(name) => Ok(resolve_value(alloc, name, scope)?),
-        Expr::Entry(name) => Ok(resolve_entry(alloc, name, changed, scope)?),
+        Expr::Number(value, place) => Boxed::new(alloc, CoreExpr::Number(*value, *place)),
+        Expr::Name(name) => resolve_value(alloc, name, scope),
+        Expr::Entry(name) => resolve_entry(alloc, name, changed, scope),
         Expr::Applied(function, place, operand) => {
-            let operand = resolve_part(alloc, operand, changed, scope)?;
-            Ok(CoreExpr::Applied(resolve_function(alloc, function, scope)?, *place, operand))
+            let operand = resolve_in(alloc, operand.get(), changed, scope)?;
+            resolve_applied(alloc, function, *place, operand, scope)
         }
         Expr::Parenthesized(place, inner) => {
-            Ok(CoreExpr::Parenthesized(*place, resolve_part(alloc, inner, changed, scope)?))
+            let inner = resolve_in(alloc, inner.get(), changed, scope)?;
+            Boxed::new(alloc, CoreExpr::Parenthesized(*place, inner))
         }
         Expr::Prefix(op, place, operand) => {
-            Ok(CoreExpr::Prefix(*op, *place, resolve_part(alloc, operand, changed, scope)?))
+            let operand = resolve_in(alloc, operand.get(), changed, scope)?;
+            Boxed::new(alloc, CoreExpr::Prefix(*op, *place, operand))
         }
         Expr::Infix(op, place, left, right) => {
-            let left = resolve_part(alloc, left, changed, scope)?;
-            let right = resolve_part(alloc, right, changed, scope)?;
-            Ok(CoreExpr::Infix(*op, *place, left, right))
+            let left = resolve_in(alloc, left.get(), changed, scope)?;
+            let right = resolve_in(alloc, right.get(), changed, scope)?;
+            Boxed::new(alloc, CoreExpr::Infix(*op, *place, left, right))
         }
         Expr::InType(op, place, tested, name) => {
-            let tested = resolve_part(alloc, tested, changed, scope)?;
-            Ok(CoreExpr::InType(*op, *place, tested, resolve_reference(alloc, name, scope)?))
+            let tested = resolve_in(alloc, tested.get(), changed, scope)?;
+            resolve_in_type(alloc, *op, *place, tested, name, scope)
         }
         Expr::InRange(op, place, tested, low, high) => {
-            let tested = resolve_part(alloc, tested, changed, scope)?;
-            let low = resolve_part(alloc, low, changed, scope)?;
-            let high = resolve_part(alloc, high, changed, scope)?;
-            Ok(CoreExpr::InRange(*op, *place, tested, low, high))
+            let tested = resolve_in(alloc, tested.get(), changed, scope)?;
+            let low = resolve_in(alloc, low.get(), changed, scope)?;
+            let high = resolve_in(alloc, high.get(), changed, scope)?;
+            Boxed::new(alloc, CoreExpr::InRange(*op, *place, tested, low, high))
         }
     }
 }
 
 /// An expression of code, in which no value on entry may be named.
-pub fn resolve_expr(alloc: Global, expr: &Expr, scope: &Scope<'_>) -> Result<CoreExpr, AllocError>
+pub fn resolve_expr(
+    alloc: Global,
+    expr: &Expr,
+    scope: &Scope<'_>,
+) -> Result<Boxed<CoreExpr>, AllocError>
     ensures { IfOk result (λ r. r ≡ resolved_expr (seen scope.now) expr.now) }
 {
     let changed = Changed::by_items(alloc, &[])?;
@@ -171,7 +203,7 @@ pub fn resolve_inside(
     expr: &Expr,
     region: &Region,
     outer: &Scope<'_>,
-) -> Result<CoreExpr, AllocError>
+) -> Result<Boxed<CoreExpr>, AllocError>
     ensures { IfOk result (λ r. r ≡ resolved_expr (region.now ∷ seen outer.now) expr.now) }
 {
     resolve_expr(alloc, expr, &Scope::inside(region, outer))

@@ -8,6 +8,7 @@ use spx_core::{
 };
 use spx_tree::WrittenMode;
 use spx_types::judge;
+use sqlite_items::Boxed;
 
 /// The subtype that a name denotes; where it denotes none, a rule is broken, and it counts as that of universal numbers.
 pub fn subtype_of(entity: Option<Entity>) -> Subtype
@@ -59,25 +60,25 @@ fn value_or_zero(expr: &CoreExpr) -> i128
 }
 
 /// The values of a choice.
-pub fn chosen_by(low: &CoreExpr, high: &Option<CoreExpr>) -> Span
+pub fn chosen_by(low: &CoreExpr, high: &Option<Boxed<CoreExpr>>) -> Span
     ensures { result ≡ chosen_by low.now high.now }
 {
     let first = value_or_zero(low);
     match high {
         Some(high) => Span {
             first,
-            last: value_or_zero(high),
+            last: value_or_zero(high.get()),
         },
         None => Span { first, last: first },
     }
 }
 
 /// A local, with its initial value, if it has one.
-pub fn local_kind(value: &Option<CoreExpr>) -> VarKind
+pub fn local_kind(value: &Option<Boxed<CoreExpr>>) -> VarKind
     ensures { result ≡ local_kind value.now }
 {
     match value {
-        Some(value) => VarKind::Initialized(value_or_zero(value)),
+        Some(value) => VarKind::Initialized(value_or_zero(value.get())),
         None => VarKind::Local,
     }
 }
@@ -128,8 +129,8 @@ fn integer_type(position: usize, low: Option<i128>, high: Option<i128>) -> Subty
 pub fn range_type(position: usize, range: &CoreRange) -> Subtype
     ensures { result ≡ integer_type position (static_value range.now.low) (static_value range.now.high) }
 {
-    let low = static_value(&range.low);
-    integer_type(position, low, static_value(&range.high))
+    let low = static_value(range.low.get());
+    integer_type(position, low, static_value(range.high.get()))
 }
 
 /// A new type of so many literals.
@@ -171,7 +172,7 @@ fn bounded(position: usize, base: BaseType, low: Option<i128>, high: Option<i128
 }
 
 /// A subtype of this one: with its values, or those of a range.
-pub fn narrowed(position: usize, parent: Subtype, range: &Option<CoreRange>) -> Subtype
+pub fn narrowed(position: usize, parent: Subtype, range: &Option<Boxed<CoreRange>>) -> Subtype
     ensures { result ≡ narrowed position parent range.now }
 {
     match range {
@@ -180,19 +181,20 @@ pub fn narrowed(position: usize, parent: Subtype, range: &Option<CoreRange>) -> 
             ..parent
         },
         Some(range) => {
-            let low = static_value(&range.low);
-            bounded(position, parent.base, low, static_value(&range.high))
+            let range = range.get();
+            let low = static_value(range.low.get());
+            bounded(position, parent.base, low, static_value(range.high.get()))
         }
     }
 }
 
 /// What constants with this type name denote, if there is one. A value that is not static breaks a rule, and counts as 0.
-pub fn constant_of(type_name: &Option<Reference>, value: Option<i128>) -> Entity
+pub fn constant_of(type_name: &Option<Boxed<Reference>>, value: Option<i128>) -> Entity
     ensures { result ≡ constant_of type_name.now value }
 {
     let value = value.unwrap_or(0);
     match type_name {
         None => Entity::NamedNumber(value),
-        Some(type_name) => Entity::Constant(subtype_of(type_name.root.entity), value),
+        Some(type_name) => Entity::Constant(subtype_of(type_name.get().root.entity), value),
     }
 }

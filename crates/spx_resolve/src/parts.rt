@@ -7,6 +7,7 @@ use crate::expression::{resolve_expr, resolve_reference};
 use spx_core::{CoreExpr, CoreRange, Reference};
 use spx_scope::{Region, Scope};
 use spx_tree::{Expr, Identifier, Name, Range};
+use sqlite_items::Boxed;
 use std::alloc::{AllocError, Global};
 
 /// The type name of a declaration of these names.
@@ -16,11 +17,12 @@ pub fn resolve_type_name(
     outer: &Scope<'_>,
     names: &[Identifier],
     type_name: &Name,
-) -> Result<Reference, AllocError>
+) -> Result<Boxed<Reference>, AllocError>
     ensures { IfOk result (λ r. r ≡ resolved_reference (around_names (seen outer.now) region.now names.now) type_name.now) }
 {
     let scope = Scope::inside(region, outer);
-    Ok(resolve_reference(alloc, type_name, &Scope::hiding(names, &scope))?)
+    let type_name = resolve_reference(alloc, type_name, &Scope::hiding(names, &scope))?;
+    Boxed::new(alloc, type_name)
 }
 
 /// The type name of constants, if there is one.
@@ -29,12 +31,12 @@ pub fn resolve_type_mark(
     region: &Region,
     outer: &Scope<'_>,
     names: &[Identifier],
-    type_name: &Option<Name>,
-) -> Result<Option<Reference>, AllocError>
+    type_name: &Option<Boxed<Name>>,
+) -> Result<Option<Boxed<Reference>>, AllocError>
     ensures { IfOk result (λ r. r ≡ option_map (resolved_reference (around_names (seen outer.now) region.now names.now)) type_name.now) }
 {
     match type_name {
-        Some(name) => Ok(Some(resolve_type_name(alloc, region, outer, names, name)?)),
+        Some(name) => Ok(Some(resolve_type_name(alloc, region, outer, names, name.get())?)),
         None => Ok(None),
     }
 }
@@ -46,11 +48,11 @@ pub fn resolve_value(
     outer: &Scope<'_>,
     names: &[Identifier],
     value: &Expr,
-) -> Result<CoreExpr, AllocError>
+) -> Result<Boxed<CoreExpr>, AllocError>
     ensures { IfOk result (λ r. r ≡ resolved_expr (around_names (seen outer.now) region.now names.now) value.now) }
 {
     let scope = Scope::inside(region, outer);
-    Ok(resolve_expr(alloc, value, &Scope::hiding(names, &scope))?)
+    resolve_expr(alloc, value, &Scope::hiding(names, &scope))
 }
 
 /// The initial value of variables, if they have one.
@@ -59,12 +61,12 @@ pub fn resolve_initial(
     region: &Region,
     outer: &Scope<'_>,
     names: &[Identifier],
-    value: &Option<Expr>,
-) -> Result<Option<CoreExpr>, AllocError>
+    value: &Option<Boxed<Expr>>,
+) -> Result<Option<Boxed<CoreExpr>>, AllocError>
     ensures { IfOk result (λ r. r ≡ option_map (resolved_expr (around_names (seen outer.now) region.now names.now)) value.now) }
 {
     match value {
-        Some(value) => Ok(Some(resolve_value(alloc, region, outer, names, value)?)),
+        Some(value) => Ok(Some(resolve_value(alloc, region, outer, names, value.get())?)),
         None => Ok(None),
     }
 }
@@ -79,8 +81,8 @@ pub fn resolve_range(
 ) -> Result<CoreRange, AllocError>
     ensures { IfOk result (λ r. r ≡ resolved_range (around_names (seen outer.now) region.now names.now) range.now) }
 {
-    let low = resolve_value(alloc, region, outer, names, &range.low)?;
-    let high = resolve_value(alloc, region, outer, names, &range.high)?;
+    let low = resolve_value(alloc, region, outer, names, range.low.get())?;
+    let high = resolve_value(alloc, region, outer, names, range.high.get())?;
     Ok(CoreRange { low, high })
 }
 
@@ -90,12 +92,15 @@ pub fn resolve_constraint(
     region: &Region,
     outer: &Scope<'_>,
     names: &[Identifier],
-    range: &Option<Range>,
-) -> Result<Option<CoreRange>, AllocError>
+    range: &Option<Boxed<Range>>,
+) -> Result<Option<Boxed<CoreRange>>, AllocError>
     ensures { IfOk result (λ r. r ≡ option_map (resolved_range (around_names (seen outer.now) region.now names.now)) range.now) }
 {
     match range {
-        Some(range) => Ok(Some(resolve_range(alloc, region, outer, names, range)?)),
+        Some(range) => {
+            let resolved = resolve_range(alloc, region, outer, names, range.get())?;
+            Ok(Some(Boxed::new(alloc, resolved)?))
+        }
         None => Ok(None),
     }
 }

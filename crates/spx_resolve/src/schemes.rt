@@ -41,24 +41,27 @@ fn resolve_count(
     region: &mut Region,
     vars: &mut Items<Var>,
     outer: &Scope<'_>,
-) -> Result<CoreCount, AllocError>
+) -> Result<Boxed<CoreCount>, AllocError>
     ensures { IfOk result (λ c. (c ≡ resolved_count (seen outer.now) region.old (length vars.old) count.now) × (region.new ≡ declaring region.old (declared_by_count c)) × (vars.new ≡ vars.old ++ map var_of (declared_by_count c ∷ []))) }
 {
     let parameter = VarId(vars.len());
     let hidden = slice::from_ref(&count.name);
     let type_name = resolve_type_name(alloc, region, outer, hidden, &count.type_name)?;
     let bounds = resolve_constraint(alloc, region, outer, hidden, &count.bounds)?;
-    let defined = declare_parameter(alloc, region, vars, outer, &type_name, &count.name)?;
-    Ok(CoreCount {
-        place: count.place,
-        name: defined.name,
-        parameter,
-        again: defined.again,
-        word: count.word,
-        is_reverse: count.is_reverse,
-        type_name,
-        bounds,
-    })
+    let defined = declare_parameter(alloc, region, vars, outer, type_name.get(), &count.name)?;
+    Boxed::new(
+        alloc,
+        CoreCount {
+            place: count.place,
+            name: defined.name,
+            parameter,
+            again: defined.again,
+            word: count.word,
+            is_reverse: count.is_reverse,
+            type_name: type_name.into_inner(),
+            bounds,
+        },
+    )
 }
 
 /// How often the statements of a loop run. A parameter is declared in the region.
@@ -68,13 +71,13 @@ pub fn resolve_scheme(
     region: &mut Region,
     vars: &mut Items<Var>,
     outer: &Scope<'_>,
-) -> Result<CoreScheme, AllocError>
+) -> Result<Boxed<CoreScheme>, AllocError>
     ensures { IfOk result (λ r. (r ≡ resolved_scheme (seen outer.now) region.old (length vars.old) scheme.now) × (region.new ≡ declaring_all region.old (declared_by_scheme r)) × (vars.new ≡ vars.old ++ map var_of (declared_by_scheme r))) }
 {
     match scheme {
         Scheme::While(place, condition) => {
-            let condition = resolve_inside(alloc, condition, region, outer)?;
-            Ok(CoreScheme::While(*place, condition))
+            let condition = resolve_inside(alloc, condition.get(), region, outer)?;
+            Boxed::new(alloc, CoreScheme::While(*place, condition))
         }
         Scheme::For(count) => {
             let count = count.get();
@@ -84,8 +87,8 @@ pub fn resolve_scheme(
                 Some(_) => resolve_count(alloc, count, region, vars, outer)?,
                 None => resolve_count(alloc, count, region, vars, outer)?,
             };
-            Ok(CoreScheme::For(Boxed::new(alloc, count)?))
+            Boxed::new(alloc, CoreScheme::For(count))
         }
-        Scheme::Endless => Ok(CoreScheme::Endless),
+        Scheme::Endless => Boxed::new(alloc, CoreScheme::Endless),
     }
 }

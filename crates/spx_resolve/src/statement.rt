@@ -12,16 +12,16 @@ use crate::expression::{
 };
 use crate::schemes::resolve_scheme;
 use spx_core::{
-    CoreAlternative, CoreArm, CoreChoice, CoreDerives, CoreDerivesItem, CorePredicate, CoreStmt,
-    Reference, Var,
+    CoreAlternative, CoreArm, CoreChoice, CoreDerives, CoreDerivesItem, CoreExpr, CorePredicate,
+    CoreScheme, CoreStmt, Reference, Var,
 };
 use spx_scope::{Region, Scope};
 use spx_text::Place;
 use spx_tree::{
-    Alternative, Arm, AssertionKind, Choice, Derives, DerivesItem, Exports, Expr, Name, Predicate,
-    Stmt,
+    Alternative, Arm, AssertionKind, Choice, Closing, Derives, DerivesItem, Exports, Expr, Name,
+    Predicate, Stmt,
 };
-use sqlite_items::Items;
+use sqlite_items::{Boxed, Items};
 use std::alloc::{AllocError, Global};
 
 /// Statements in a region. What a loop declares there is taken back after it, and is a variable that comes after those
@@ -34,14 +34,14 @@ pub fn resolve_stmts(
     region: &mut Region,
     vars: &mut Items<Var>,
     outer: &Scope<'_>,
-) -> Result<Items<CoreStmt>, AllocError>
+) -> Result<Boxed<Items<CoreStmt>>, AllocError>
     ensures { IfOk result (λ r. ((r, length vars.new) ≡ resolved_stmts changed.now (seen outer.now) stmts.now region.old (length vars.old)) × (region.new ≡ region.old) × (vars.new ≡ vars.old ++ map var_of (parameters_by_stmts r))) }
 {
     let mut resolved = Items::new(alloc);
     for stmt in stmts {
         resolved.push(resolve_stmt(alloc, stmt, changed, region, vars, outer)?)?;
     }
-    Ok(resolved)
+    Boxed::new(alloc, resolved)
 }
 
 #[cycle(resolve_stmt)]
@@ -52,30 +52,31 @@ fn resolve_arms(
     region: &mut Region,
     vars: &mut Items<Var>,
     outer: &Scope<'_>,
-) -> Result<Items<CoreArm>, AllocError>
+) -> Result<Boxed<Items<CoreArm>>, AllocError>
     ensures { IfOk result (λ r. ((r, length vars.new) ≡ in_order (map (resolved_arm changed.now (seen outer.now)) arms.now) region.old (length vars.old)) × (region.new ≡ region.old) × (vars.new ≡ vars.old ++ map var_of (flat_map parameters_by_arm r))) }
 {
     let mut resolved = Items::new(alloc);
     for arm in arms {
         let place = arm.place;
-        let condition = resolve_inside(alloc, &arm.condition, region, outer)?;
-        let body = resolve_stmts(alloc, arm.body.as_slice(), changed, region, vars, outer)?;
+        let condition = resolve_inside(alloc, arm.condition.get(), region, outer)?;
+        let body = arm.body.get().as_slice();
+        let body = resolve_stmts(alloc, body, changed, region, vars, outer)?;
         resolved.push(CoreArm {
             place,
             condition,
             body,
         })?;
     }
-    Ok(resolved)
+    Boxed::new(alloc, resolved)
 }
 
 /// The choices of an alternative, unless it is for `others`, inside a region.
 fn resolve_choices(
     alloc: Global,
-    choices: &Option<Items<Choice>>,
+    choices: &Option<Boxed<Items<Choice>>>,
     region: &Region,
     outer: &Scope<'_>,
-) -> Result<Option<Items<CoreChoice>>, AllocError>
+) -> Result<Option<Boxed<Items<CoreChoice>>>, AllocError>
     ensures { IfOk result (λ r. r ≡ option_map (map (resolved_choice (region.now ∷ seen outer.now))) choices.now) }
 {
     resolve_listed(alloc, choices, &Scope::inside(region, outer))
@@ -89,7 +90,7 @@ fn resolve_alternatives(
     region: &mut Region,
     vars: &mut Items<Var>,
     outer: &Scope<'_>,
-) -> Result<Items<CoreAlternative>, AllocError>
+) -> Result<Boxed<Items<CoreAlternative>>, AllocError>
     ensures { IfOk result (λ r. ((r, length vars.new) ≡ in_order (map (resolved_alternative changed.now (seen outer.now)) alternatives.now) region.old (length vars.old)) × (region.new ≡ region.old) × (vars.new ≡ vars.old ++ map var_of (flat_map parameters_by_alternative r))) }
 {
     let mut resolved = Items::new(alloc);
@@ -97,9 +98,12 @@ fn resolve_alternatives(
         let choices = resolve_choices(alloc, &alternative.choices, region, outer)?;
         let body = alternative.body.as_slice();
         let body = resolve_stmts(alloc, body, changed, region, vars, outer)?;
-        resolved.push(CoreAlternative { choices, body })?;
+        resolved.push(CoreAlternative {
+            choices,
+            body: body.into_inner(),
+        })?;
     }
-    Ok(resolved)
+    Boxed::new(alloc, resolved)
 }
 
 fn resolve_assignment(
@@ -113,6 +117,7 @@ fn resolve_assignment(
 {
     let scope = Scope::inside(region, outer);
     let target = resolve_reference(alloc, target, &scope)?;
+    let target = Boxed::new(alloc, target)?;
     let value = resolve_expr(alloc, value, &scope)?;
     Ok(CoreStmt::Assignment(target, value))
 }
@@ -136,7 +141,7 @@ fn resolve_assertion(
 fn resolve_exit(
     alloc: Global,
     place: Place,
-    condition: &Option<Expr>,
+    condition: &Option<Boxed<Expr>>,
     region: &Region,
     outer: &Scope<'_>,
 ) -> Result<CoreStmt, AllocError>
@@ -144,11 +149,54 @@ fn resolve_exit(
 {
     match condition {
         Some(condition) => {
-            let condition = resolve_inside(alloc, condition, region, outer)?;
+            let condition = resolve_inside(alloc, condition.get(), region, outer)?;
             Ok(CoreStmt::Exit(place, Some(condition)))
         }
         None => Ok(CoreStmt::Exit(place, None)),
     }
+}
+
+/// An `if` of these parts.
+fn make_if(
+    alloc: Global,
+    arms: Boxed<Items<CoreArm>>,
+    otherwise: Option<Boxed<Items<CoreStmt>>>,
+    closing: &Boxed<Closing>,
+) -> Result<CoreStmt, AllocError>
+    ensures { IfOk result (λ r. r ≡ stmt.If arms otherwise closing.now) }
+{
+    let closing = Boxed::new(alloc, *closing.get())?;
+    Ok(CoreStmt::If(arms, otherwise, closing))
+}
+
+/// A `case` of these parts.
+fn make_case(
+    alloc: Global,
+    place: &Boxed<Place>,
+    selector: Boxed<CoreExpr>,
+    alternatives: Boxed<Items<CoreAlternative>>,
+    closing: &Boxed<Closing>,
+) -> Result<CoreStmt, AllocError>
+    ensures { IfOk result (λ r. r ≡ stmt.Case place.now selector alternatives closing.now) }
+{
+    let place = Boxed::new(alloc, *place.get())?;
+    let closing = Boxed::new(alloc, *closing.get())?;
+    Ok(CoreStmt::Case(place, selector, alternatives, closing))
+}
+
+/// A loop of these parts.
+fn make_loop(
+    alloc: Global,
+    scheme: Boxed<CoreScheme>,
+    word: &Boxed<Place>,
+    body: Boxed<Items<CoreStmt>>,
+    closing: &Boxed<Closing>,
+) -> Result<CoreStmt, AllocError>
+    ensures { IfOk result (λ r. r ≡ stmt.Loop scheme word.now body closing.now) }
+{
+    let word = Boxed::new(alloc, *word.get())?;
+    let closing = Boxed::new(alloc, *closing.get())?;
+    Ok(CoreStmt::Loop(scheme, word, body, closing))
 }
 
 #[cycle(resolve_stmt)]
@@ -165,19 +213,21 @@ fn resolve_stmt(
     match stmt {
         Stmt::Null(place) => Ok(CoreStmt::Null(*place)),
         Stmt::Assignment(target, value) => {
-            Ok(resolve_assignment(alloc, target, value, region, outer)?)
+            Ok(resolve_assignment(alloc, target.get(), value.get(), region, outer)?)
         }
         Stmt::If(arms, otherwise, closing) => {
-            let arms = resolve_arms(alloc, arms.as_slice(), changed, region, vars, outer)?;
+            let arms = arms.get().as_slice();
+            let arms = resolve_arms(alloc, arms, changed, region, vars, outer)?;
             let Some(stmts) = otherwise else {
-                return Ok(CoreStmt::If(arms, None, *closing));
+                return make_if(alloc, arms, None, closing);
             };
-            let stmts = resolve_stmts(alloc, stmts.as_slice(), changed, region, vars, outer)?;
-            Ok(CoreStmt::If(arms, Some(stmts), *closing))
+            let stmts = stmts.get().as_slice();
+            let stmts = resolve_stmts(alloc, stmts, changed, region, vars, outer)?;
+            make_if(alloc, arms, Some(stmts), closing)
         }
         Stmt::Case(place, selector, alternatives, closing) => {
-            let selector = resolve_inside(alloc, selector, region, outer)?;
-            let alternatives = alternatives.as_slice();
+            let selector = resolve_inside(alloc, selector.get(), region, outer)?;
+            let alternatives = alternatives.get().as_slice();
             let alternatives = resolve_alternatives(
                 alloc,
                 alternatives,
@@ -186,16 +236,18 @@ fn resolve_stmt(
                 vars,
                 outer,
             )?;
-            Ok(CoreStmt::Case(*place, selector, alternatives, *closing))
+            make_case(alloc, place, selector, alternatives, closing)
         }
         Stmt::Loop(scheme, word, body, closing) => {
             let count = region.len();
-            let scheme = resolve_scheme(alloc, scheme, region, vars, outer)?;
-            let body = resolve_stmts(alloc, body.as_slice(), changed, region, vars, outer)?;
+            let scheme = resolve_scheme(alloc, scheme.get(), region, vars, outer)?;
+            let body = body.get().as_slice();
+            let body = resolve_stmts(alloc, body, changed, region, vars, outer)?;
             region.truncate(count);
-            Ok(CoreStmt::Loop(scheme, *word, body, *closing))
+            make_loop(alloc, scheme, word, body, closing)
         }
         Stmt::Assertion(kind, place, condition) => {
+            let condition = condition.get();
             Ok(resolve_assertion(alloc, *kind, *place, condition, changed, region, outer)?)
         }
         Stmt::Exit(place, condition) => {
@@ -289,7 +341,7 @@ pub fn resolve_predicate(
     match predicate {
         Some(predicate) => Ok(Some(CorePredicate {
             place: predicate.place,
-            condition: resolve_in(alloc, &predicate.condition, changed, scope)?,
+            condition: resolve_in(alloc, predicate.condition.get(), changed, scope)?,
         })),
         None => Ok(None),
     }

@@ -16,7 +16,7 @@ use spx_core::{CoreDecl, CoreRange, CoreTypeDef, Defining, Entity, Meaning, Subt
 use spx_scope::{Region, Scope};
 use spx_text::Place;
 use spx_tree::{Expr, Identifier, Name, Range};
-use sqlite_items::Items;
+use sqlite_items::{Boxed, Items};
 use std::alloc::{AllocError, Global};
 use std::slice;
 
@@ -28,12 +28,12 @@ fn declare_type(
     outer: &Scope<'_>,
     subtype: Subtype,
     name: &Identifier,
-) -> Result<Defining, AllocError>
+) -> Result<Boxed<Defining>, AllocError>
     ensures { IfOk result (λ d. (d ≡ defining region.old (entity.TypeName subtype) name.now) × (region.new ≡ declaring region.old d) × (types.new ≡ types.old ++ row_of d ∷ [])) }
 {
     let defined = declare(alloc, region, outer, Entity::TypeName(subtype), name)?;
     add_row(alloc, types, &defined)?;
-    Ok(defined)
+    Boxed::new(alloc, defined)
 }
 
 /// A type of the numbers of a resolved range.
@@ -49,7 +49,8 @@ fn declare_integer(
 {
     let subtype = range_type(types.len(), &range);
     let name = declare_type(alloc, region, types, outer, subtype, name)?;
-    Ok(CoreDecl::FullType(name, CoreTypeDef::Integer(range)))
+    let definition = Boxed::new(alloc, CoreTypeDef::Integer(range))?;
+    Ok(CoreDecl::FullType(name, definition))
 }
 
 /// A type of the numbers of a range.
@@ -83,7 +84,8 @@ pub fn resolve_enumeration(
     let name = declare_type(alloc, region, types, outer, subtype, name)?;
     let meaning = Meaning::Literals(subtype);
     let literals = declare_all(alloc, region, outer, meaning, 0, literals)?;
-    Ok(CoreDecl::FullType(name, CoreTypeDef::Enumeration(place, literals)))
+    let definition = Boxed::new(alloc, CoreTypeDef::Enumeration(place, literals))?;
+    Ok(CoreDecl::FullType(name, definition))
 }
 
 /// A subtype of the one that is named.
@@ -94,14 +96,14 @@ pub fn resolve_subtype(
     outer: &Scope<'_>,
     name: &Identifier,
     parent: &Name,
-    range: &Option<Range>,
+    range: &Option<Boxed<Range>>,
 ) -> Result<CoreDecl, AllocError>
     ensures { IfOk result (λ d. (d ≡ subtype_decl region.old (length types.old) name.now (resolved_reference (around_names (seen outer.now) region.old (name.now ∷ [])) parent.now) (option_map (resolved_range (around_names (seen outer.now) region.old (name.now ∷ []))) range.now)) × (region.new ≡ declaring_all region.old (declared_by d)) × (types.new ≡ types.old ++ rows_by d)) }
 {
     let hidden = slice::from_ref(name);
     let parent = resolve_type_name(alloc, region, outer, hidden, parent)?;
     let range = resolve_constraint(alloc, region, outer, hidden, range)?;
-    let subtype = narrowed(types.len(), subtype_of(parent.root.entity), &range);
+    let subtype = narrowed(types.len(), subtype_of(parent.get().root.entity), &range);
     let name = declare_type(alloc, region, types, outer, subtype, name)?;
     Ok(CoreDecl::Subtype(name, parent, range))
 }
@@ -112,14 +114,15 @@ pub fn resolve_constants(
     region: &mut Region,
     outer: &Scope<'_>,
     names: &[Identifier],
-    type_name: &Option<Name>,
+    type_name: &Option<Boxed<Name>>,
     value: &Expr,
 ) -> Result<CoreDecl, AllocError>
     ensures { IfOk result (λ d. (d ≡ constants_of region.old names.now (option_map (resolved_reference (around_names (seen outer.now) region.old names.now)) type_name.now) (resolved_expr (around_names (seen outer.now) region.old names.now) value.now)) × (region.new ≡ declaring_all region.old (declared_by d))) }
 {
     let type_name = resolve_type_mark(alloc, region, outer, names, type_name)?;
     let value = resolve_value(alloc, region, outer, names, value)?;
-    let meaning = Meaning::Each(constant_of(&type_name, static_value(&value)));
+    let meaning = Meaning::Each(constant_of(&type_name, static_value(value.get())));
     let names = declare_all(alloc, region, outer, meaning, 0, names)?;
+    let names = Boxed::new(alloc, names)?;
     Ok(CoreDecl::Constants(names, type_name, value))
 }

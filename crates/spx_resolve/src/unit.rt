@@ -19,7 +19,7 @@ use spx_core::{
 };
 use spx_scope::{Region, Scope, Standard};
 use spx_tree::{Identifier, Predicate, Subprogram, Unit};
-use sqlite_items::Items;
+use sqlite_items::{Boxed, Items};
 use std::alloc::{AllocError, Global};
 use std::slice;
 
@@ -27,7 +27,7 @@ use std::slice;
 fn region_of(alloc: Global, name: &Defining) -> Result<Region, AllocError>
     ensures { IfOk result (λ region. region ≡ declaring [] name.now) }
 {
-    let mut region = Region::new(alloc);
+    let mut region = Region::new(alloc)?;
     region.declare(name.name.text.copy(alloc)?, name.entity)?;
     Ok(region)
 }
@@ -87,7 +87,7 @@ struct Body {
     declarations: Items<CoreDecl>,
     /// How many variables are declared there.
     local_count: usize,
-    statements: Items<CoreStmt>,
+    statements: Boxed<Items<CoreStmt>>,
 }
 
 /// The postcondition and the body of a subprogram, of which the relation changes these variables.
@@ -98,7 +98,7 @@ fn resolve_body(
     outer: &Scope<'_>,
     changed: &Changed<'_>,
     subprogram: &Subprogram,
-) -> Result<Body, AllocError>
+) -> Result<Boxed<Body>, AllocError>
     ensures post { IfOk result (λ r. r.post ≡ option_map (resolved_predicate changed.now (formals ∷ seen outer.now)) subprogram.now.post) }
     ensures declarations { IfOk result (λ r. r.declarations ≡ resolved_decls (seen outer.now) formals (counts_of tables.old) subprogram.now.declarations) }
     ensures local_count { IfOk result (λ r. r.local_count ≡ length (variables_by_decls r.declarations)) }
@@ -115,12 +115,15 @@ fn resolve_body(
     let vars = &mut tables.vars;
     let statements = subprogram.statements.as_slice();
     let statements = resolve_stmts(alloc, statements, changed, &mut region, vars, outer)?;
-    Ok(Body {
-        post,
-        declarations,
-        local_count,
-        statements,
-    })
+    Boxed::new(
+        alloc,
+        Body {
+            post,
+            declarations,
+            local_count,
+            statements,
+        },
+    )
 }
 
 /// The postcondition and the body of a subprogram with this dependency relation.
@@ -131,7 +134,7 @@ fn resolve_under(
     outer: &Scope<'_>,
     derives: &Option<CoreDerives>,
     subprogram: &Subprogram,
-) -> Result<Body, AllocError>
+) -> Result<Boxed<Body>, AllocError>
     ensures post { IfOk result (λ r. r.post ≡ option_map (resolved_predicate (items_of derives.now) (formals ∷ seen outer.now)) subprogram.now.post) }
     ensures declarations { IfOk result (λ r. r.declarations ≡ resolved_decls (seen outer.now) formals (counts_of tables.old) subprogram.now.declarations) }
     ensures local_count { IfOk result (λ r. r.local_count ≡ length (variables_by_decls r.declarations)) }
@@ -148,7 +151,7 @@ fn resolve_under(
 struct Inner {
     derives: Option<CoreDerives>,
     pre: Option<CorePredicate>,
-    body: Body,
+    body: Boxed<Body>,
 }
 
 /// The annotations and the body of a subprogram: there its name and its formals are seen.
@@ -159,7 +162,7 @@ fn resolve_inner(
     everywhere: &Standard,
     name: &Defining,
     subprogram: &Subprogram,
-) -> Result<Inner, AllocError>
+) -> Result<Boxed<Inner>, AllocError>
     ensures derives { IfOk result (λ r. r.derives ≡ option_map (resolved_derives (formals ∷ around_body name.now)) subprogram.now.derives) }
     ensures pre { IfOk result (λ r. r.pre ≡ option_map (resolved_predicate [] (formals ∷ around_body name.now)) subprogram.now.pre) }
     ensures post { IfOk result (λ r. r.body.post ≡ option_map (resolved_predicate (items_of r.derives) (formals ∷ around_body name.now)) subprogram.now.post) }
@@ -176,7 +179,7 @@ fn resolve_inner(
     let derives = resolve_derives(alloc, &subprogram.derives, &scope)?;
     let pre = resolve_precondition(alloc, &subprogram.pre, &scope)?;
     let body = resolve_under(alloc, formals, tables, &outer, &derives, subprogram)?;
-    Ok(Inner { derives, pre, body })
+    Boxed::new(alloc, Inner { derives, pre, body })
 }
 
 fn copy_end_name(alloc: Global, name: &Option<Identifier>) -> Result<Option<Identifier>, AllocError>
@@ -199,28 +202,29 @@ fn resolve_subprogram(
     ensures { IfOk result (λ sub. (sub ≡ resolved_sub name (counts_of tables.old) subprogram.now) × (tables.new.vars ≡ tables.old.vars ++ own_vars sub) × (tables.new.types ≡ tables.old.types ++ own_types sub)) }
 {
     let first = tables.vars.len();
-    let mut formals = Region::new(alloc);
+    let mut formals = Region::new(alloc)?;
     let vars = &mut tables.vars;
     let formal_part = resolve_formal_part(alloc, &mut formals, vars, everywhere, subprogram)?;
     let formal_count = tables.vars.len() - first;
     let inner = resolve_inner(alloc, formals, tables, everywhere, &name, subprogram)?;
-    let local_count = inner.body.local_count;
     let end_name = copy_end_name(alloc, &subprogram.end_name)?;
     let vars = ids_between(alloc, first, tables.vars.len())?;
+    let inner = inner.into_inner();
+    let body = inner.body.into_inner();
     Ok(Sub {
         place: subprogram.place,
         name,
         formal_part,
         derives: inner.derives,
         pre: inner.pre,
-        post: inner.body.post,
-        declarations: inner.body.declarations,
-        statements: inner.body.statements,
+        post: body.post,
+        declarations: body.declarations,
+        statements: body.statements.into_inner(),
         end: subprogram.end,
         end_name,
         vars,
         formal_count,
-        local_count,
+        local_count: body.local_count,
     })
 }
 
@@ -229,7 +233,7 @@ fn subprogram_of(unit: &Unit) -> &Subprogram
     ensures { result.now ≡ subprogram_of unit.now }
 {
     let Unit::Subprogram(subprogram) = unit;
-    subprogram
+    subprogram.get()
 }
 
 /// The subprograms of the units. Each name is declared in the library only so that a second one is found (`again`).
@@ -242,7 +246,7 @@ fn resolve_units(
     ensures { IfOk result (λ subs. (subs ≡ resolved_subs [] 0 (counts_of tables.old) units.now) × (tables.new.vars ≡ tables.old.vars ++ flat_map own_vars subs) × (tables.new.types ≡ tables.old.types ++ flat_map own_types subs)) }
 {
     let outermost = Scope::outermost(everywhere);
-    let mut library = Region::new(alloc);
+    let mut library = Region::new(alloc)?;
     let mut subs = Items::new(alloc);
     for unit in units {
         let subprogram = subprogram_of(unit);
