@@ -146,10 +146,9 @@ fn run_stmt(
             Ok(run_assignment(body, turns, store, target.get(), expr.get()))
         }
         CoreStmt::If(arms, otherwise, _) => {
-            let arms = arms.get().as_slice();
-            match first_arm(body, turns, store, arms) {
+            match first_arm(body, turns, store, arms.get().as_slice()) {
                 Ok(found) => match found {
-                    Some(k) => run_arm(body, turns, store, arms, k),
+                    Some(k) => run_arm(body, turns, store, arms.get().as_slice(), k),
                     None => match otherwise {
                         Some(stmts) => run_stmts(body, turns, store, stmts.get().as_slice()),
                         None => Ok(Step::Ended),
@@ -159,22 +158,11 @@ fn run_stmt(
             }
         }
         CoreStmt::Case(_, selector, alternatives, _) => {
-            run_case(
-                body,
-                turns,
-                store,
-                alternatives.get().as_slice(),
-                selector.get(),
-            )
+            let alternatives = alternatives.get().as_slice();
+            run_case(body, turns, store, alternatives, selector.get())
         }
         CoreStmt::Loop(scheme, _, stmts, _) => {
-            let stmts = stmts.get().as_slice();
-            let scheme = scheme.get();
-            match scheme {
-                CoreScheme::While(_, _) => run_turns(body, turns, store, stmts, scheme),
-                CoreScheme::For(count) => run_for(body, turns, store, stmts, count.get()),
-                CoreScheme::Endless => run_turns(body, turns, store, stmts, scheme),
-            }
+            run_loop(body, turns, store, stmts.get().as_slice(), scheme.get())
         }
         CoreStmt::Assertion(kind, place, condition) => {
             look_at(body, store, untrue(*kind), *place, condition.get())
@@ -220,6 +208,25 @@ fn run_case(
             run_stmts(body, turns, store, alternatives[k].body.as_slice())
         }
         Err(bad) => Ok(Step::Failed(bad)),
+    }
+}
+
+/// Runs a loop.
+#[cycle(run)]
+fn run_loop(
+    body: &Body,
+    turns: u64,
+    store: &mut [Option<Value>],
+    stmts: &[CoreStmt],
+    scheme: &CoreScheme,
+) -> Result<Step, TooWide>
+    requires { HasRoom (length store.old) (loop_of scheme.now (commands stmts.now)) }
+    ensures { ran (frame_of body.now) turns store.old (loop_of scheme.now (commands stmts.now)) ≡ done result store.new }
+{
+    match scheme {
+        CoreScheme::While(_, _) => run_turns(body, turns, store, stmts, scheme),
+        CoreScheme::For(count) => run_for(body, turns, store, stmts, count.get()),
+        CoreScheme::Endless => run_turns(body, turns, store, stmts, scheme),
     }
 }
 
