@@ -2,14 +2,13 @@
 use Rattle.std.proofs.Common.{◌≡◌, ℕ, zero, suc, ◌-◌, ◌<◌, Bool, true, false, cond, List, Option, Some, None, Ok, Err, refl, sym, ap, ◌∙◌, arith}
 use Rattle.spx_tree.specs.declared.expression.InfixOp.{InfixOp}
 use Rattle.spx_tree.specs.declared.expression.Layer.{Layer}
-use Rattle.spx_tree.specs.declared.expression.Layer.TheVariants as layer
 use Rattle.spx_tree.specs.Form.{Form}
 use Rattle.spx_tree.specs.Goes.{Fault}
 use Rattle.spx_parse_body.specs.declared.expressions.Tall.{Tall}
 use Rattle.spx_parse_body.specs.Reading.{Outcome, Reader, and_then, ◌>>=◌, pure, peek, turn, loop}
 use Rattle.spx_parse_body.specs.declared.operators.Chain.{Chain}
 use Rattle.spx_parse_body.specs.Operators.{goes_on}
-use Rattle.spx_parse_body.specs.Expressions.{joined_by, step_by, chain_step, chained, below, at_layer, expression, simple_expression, expression_below, simple_expression_below}
+use Rattle.spx_parse_body.specs.Expressions.{joined_by, step_by, chain_step, chained, below, at_layer}
 use Rattle.spx_parse_body.specs.Statements.{constraint_below, constraint, stmts_below, stmts}
 use Rattle.spx_parse_body.proofs.Callers.Loops.{loop_is}
 use Rattle.spx_parse_body.proofs.Callers.ExpressionsGood.{below_good, chain_shrinks}
@@ -18,14 +17,6 @@ pub below_is : (marked : Bool) (levels : ℕ) (layer : Layer) (fs : List Form) �
 unfolding below at_layer
 below_is marked zero layer fs h = absurd (omega arith)
 below_is marked (suc n) layer fs h = let e : suc n - 1 ≡ n = omega arith in sym (ap (λ (k : ℕ). at_layer marked k layer fs) e)
-
-pub expression_below_is : (marked : Bool) (levels : ℕ) (fs : List Form) → 0 < levels → expression_below marked levels fs ≡ expression marked (levels - 1) fs
-unfolding expression expression_below
-expression_below_is marked levels fs h = ap (λ (o : Outcome Tall). and_then o (λ t. pure t.expr)) (below_is marked levels layer.Expression fs h)
-
-pub simple_expression_below_is : (marked : Bool) (levels : ℕ) (fs : List Form) → 0 < levels → simple_expression_below marked levels fs ≡ simple_expression marked (levels - 1) fs
-unfolding simple_expression simple_expression_below
-simple_expression_below_is marked levels fs h = ap (λ (o : Outcome Tall). and_then o (λ t. pure t.expr)) (below_is marked levels layer.Sum fs h)
 
 pub constraint_below_is : (levels : ℕ) (fs : List Form) → 0 < levels → constraint_below levels fs ≡ constraint (levels - 1) fs
 unfolding constraint_below
