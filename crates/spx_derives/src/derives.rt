@@ -37,7 +37,7 @@ fn findings(
     let unset = unset_reads(alloc, program, id)?;
     let mut found = Vec::new(alloc);
     add_differences(&mut found, &flow.rho, &tables, sub)?;
-    add_ineffective(&mut found, &ineffective)?;
+    add_ineffective(&mut found, ineffective.get())?;
     add_unset_reads(&mut found, unset.as_slice())?;
     Ok(found)
 }

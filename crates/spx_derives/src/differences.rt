@@ -80,7 +80,7 @@ pub(crate) fn add_differences(
 {
     let vars = sub.formals();
     for (w, export) in vars.iter().enumerate() {
-        if let Some(place) = tables.exports.get(export) {
+        if let Some(place) = tables.exports.get().get(export) {
             add_differences_to(found, flows, &tables.declared, vars, w, *export, *place)?;
         }
     }

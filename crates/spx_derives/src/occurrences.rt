@@ -12,6 +12,7 @@ use indexmap::IndexSet;
 use spx_flow::Occurrence;
 use spx_rows::Row;
 use spx_text::Place;
+use sqlite_items::Boxed;
 use std::alloc::{AllocError, Global};
 
 /// Whether the occurrence reaches an export.
@@ -27,7 +28,7 @@ fn effective_places(
     alloc: Global,
     occurrences: &[Occurrence],
     exports: &Row,
-) -> Result<IndexSet<Place>, AllocError>
+) -> Result<Boxed<IndexSet<Place>>, AllocError>
     requires { AreRows (length exports.now) occurrences.now }
     ensures { IfOk result (λ places. (p : Place) → contains same_place places p ≡ list_any (is_effective exports.now p) occurrences.now) }
 {
@@ -37,7 +38,7 @@ fn effective_places(
             places.insert(occurrence.place)?;
         }
     }
-    Ok(places)
+    Boxed::new(alloc, places)
 }
 
 /// The places of occurrences that are not among these.
@@ -45,7 +46,7 @@ fn other_places(
     alloc: Global,
     occurrences: &[Occurrence],
     effective: &IndexSet<Place>,
-) -> Result<IndexSet<Place>, AllocError>
+) -> Result<Boxed<IndexSet<Place>>, AllocError>
     ensures places { IfOk result (λ places. (p : Place) → contains same_place places p ≡ list_any (is_other effective.now.keys p) occurrences.now) }
     ensures once { IfOk result (IsUnique same_place) }
 {
@@ -55,7 +56,7 @@ fn other_places(
             places.insert(occurrence.place)?;
         }
     }
-    Ok(places)
+    Boxed::new(alloc, places)
 }
 
 /// The places at which no occurrence reaches an export.
@@ -63,13 +64,13 @@ pub(crate) fn ineffective_places(
     alloc: Global,
     occurrences: &[Occurrence],
     exports: &Row,
-) -> Result<IndexSet<Place>, AllocError>
+) -> Result<Boxed<IndexSet<Place>>, AllocError>
     requires { AreRows (length exports.now) occurrences.now }
     ensures places { IfOk result (λ places. (p : Place) → contains same_place places p ≡ (list_any (stands_at p) occurrences.now && not (list_any (is_effective exports.now p) occurrences.now))) }
     ensures once { IfOk result (IsUnique same_place) }
 {
     let effective = effective_places(alloc, occurrences, exports)?;
-    let places = other_places(alloc, occurrences, &effective)?;
+    let places = other_places(alloc, occurrences, effective.get())?;
     Ok(places)
 }
 

@@ -14,6 +14,7 @@ use indexmap::IndexMap;
 use spx_core::{CoreDerivesItem, Reference, Sub, VarId, VarSet, variable_of};
 use spx_rows::{Relation, Row};
 use spx_text::Place;
+use sqlite_items::Boxed;
 use std::alloc::{AllocError, Global};
 
 /// The dependency relation of a subprogram. Variables stand by their position in the subprogram's list.
@@ -22,7 +23,7 @@ pub(crate) struct Tables {
     /// The pairs of an import and an export.
     pub declared: Relation,
     /// Each export with its first place.
-    pub exports: IndexMap<VarId, Place>,
+    pub exports: Boxed<IndexMap<VarId, Place>>,
     /// The exports once more, by position.
     pub exported: Row,
 }
@@ -123,14 +124,14 @@ fn add_exports(places: &mut IndexMap<VarId, Place>, names: &[Reference]) -> Resu
 fn export_places(
     alloc: Global,
     items: &[CoreDerivesItem],
-) -> Result<IndexMap<VarId, Place>, AllocError>
+) -> Result<Boxed<IndexMap<VarId, Place>>, AllocError>
     ensures { IfOk result (λ places. (v : VarId) → get same_var places v ≡ first_place v items.now) }
 {
     let mut places = IndexMap::new(alloc);
     for item in items {
         add_exports(&mut places, item.exports.as_slice())?;
     }
-    Ok(places)
+    Boxed::new(alloc, places)
 }
 
 /// The positions of the exports among the variables.
@@ -165,7 +166,7 @@ impl Tables {
         let vars = VarSet::of(alloc, sub.vars.as_slice())?;
         let declared = declared_pairs(alloc, &vars, size, sub.relation())?;
         let exports = export_places(alloc, sub.relation())?;
-        let exported = export_row(alloc, &exports, sub.vars.as_slice(), size)?;
+        let exported = export_row(alloc, exports.get(), sub.vars.as_slice(), size)?;
         Ok(Tables {
             declared,
             exports,

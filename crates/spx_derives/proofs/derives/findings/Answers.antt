@@ -35,6 +35,6 @@ returns c =
     (c.in_ok-add_unset_reads.ensures
     ∙ ap (λ reads. c.add_ineffective.new.found.items ++ map unset_read reads) c.as_slice-2.ensures.value
     ∙ ap (λ front. front ++ map unset_read c.in_ok-unset.unset.items)
-    (c.in_ok-add_ineffective.ensures
+    ((rw c.get.ensures at c.in_ok-add_ineffective.ensures)
     ∙ ap (λ front. front ++ map Ineffective places)
     (c.in_ok-add_differences.ensures ∙ ap (λ front. front ++ differences) c.new-found.ensures.items)))

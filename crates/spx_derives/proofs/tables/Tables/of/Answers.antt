@@ -27,5 +27,5 @@ returns c =
       row = λ w.
           subst (λ (vars : List VarId). Has c.in_ok-exported.exported w ↔ ((y : VarId) × (slice_get vars w ≡ Some y) × (is_some (get same_var exports y) ≡ true)))
           c.as_slice-2.ensures
-          (c.in_ok-exported.ensures.row w);
+          (rw c.get.ensures at (c.in_ok-exported.ensures.row w));
     }
