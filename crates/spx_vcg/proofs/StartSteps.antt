@@ -37,7 +37,7 @@ use Rattle.spx_vcg.specs.declared.walk.Walk.{Walk}
 use Rattle.spx_vcg.specs.ConditionWalk.{forward}
 use Rattle.spx_vcg.specs.States.{AreValues, given, state_in}
 use Rattle.spx_vcg.specs.WalkSteps.{Evaluates, Goes, Keeps, Makes, MeanAll, Means, Walks, Whole, claims_from}
-use Rattle.spx_vcg.specs.Cuts.{Leaves, claims_anew, cuts_in}
+use Rattle.spx_vcg.specs.Cuts.{Leaves, Starts, claims_anew, cuts_in}
 use Rattle.spx_vcg.specs.Following.{finished}
 use Rattle.spx_vcg.specs.PathWalk.{Ends, Passes, to_end}
 use Rattle.spx_vcg.proofs.ConditionForward.{forward_from_start}
@@ -98,13 +98,6 @@ assume_all-append [] us rest = refl
 assume_all-append (t ∷ ts) us rest = ap (Assume t) (assume_all-append ts us rest)
 
 -- ---- the end
-pub record Starts (w : Walk) : Type 0 where
-  pub values : w.values ≡ []
-  pub keys : w.facts.present.keys ≡ []
-  pub lists : w.facts.lists ≡ [] ∷ []
-  pub at : w.facts.at.0 ≡ 0
-  pub claims : w.claims ≡ []
-
 pub start_whole : (w : Walk) → Starts w → Whole w
 start_whole w s = record {
   values = subst (AreValues (length w.terms)) (sym s.values) (record { ids = λ x id e. none_given x id e });

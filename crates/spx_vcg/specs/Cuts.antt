@@ -1,5 +1,5 @@
 -- The trees from the cuts of a body, each walked from no values and no facts.
-use Rattle.std.specs.Prelude.{◌≡◌, if◌then◌else◌, Bool, List, [], ◌++◌, flat_map, Option}
+use Rattle.std.specs.Prelude.{◌≡◌, if◌then◌else◌, Bool, List, [], ◌∷◌, ◌++◌, flat_map, Option}
 use Rattle.spx_core.specs.declared.entity.VarId.{VarId}
 use Rattle.spx_core.specs.declared.program.Program.{Program}
 use Rattle.spx_core.specs.declared.subprogram.Sub.{Sub}
@@ -27,6 +27,14 @@ claims_anew trees = flat_map (forward Variable []) trees
 -- the claims so far, and those of trees that are still to be walked
 abbrev pub claims_over : Walk → List Tree → List Claim
 claims_over w trees = claims_at w.terms w.facts.lists w.claims ++ claims_anew trees
+
+-- nothing is known, and nothing is claimed
+pub record Starts (w : Walk) : Type 0 where
+  pub values : w.values ≡ []
+  pub keys : w.facts.present.keys ≡ []
+  pub lists : w.facts.lists ≡ [] ∷ []
+  pub at : w.facts.at.0 ≡ 0
+  pub claims : w.claims ≡ []
 
 -- the second walk has come along these steps from the root of a tree, after the claims of the first
 pub record BeginsAnew (old new : Walk) (steps : Tree → Tree) : Type 0 where

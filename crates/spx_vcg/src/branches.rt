@@ -21,7 +21,7 @@ use crate::walk::Walk;
 use spx_arena::{FactsId, TermId};
 use spx_core::{CoreAlternative, CoreArm, CoreCount, CoreExpr, CoreScheme, CoreStmt, has_own_cut};
 use spx_tree::AssertionKind;
-use sqlite_items::Items;
+use sqlite_items::{Boxed, Items};
 use std::alloc::{AllocError, Global};
 
 /// What is known before an arm, to come back to after it.
@@ -69,11 +69,11 @@ impl<'a> Rest<'a> {
 }
 
 /// What is done where no arm is taken.
-fn done_otherwise(otherwise: &Option<Items<CoreStmt>>) -> &[CoreStmt]
+fn done_otherwise(otherwise: &Option<Boxed<Items<CoreStmt>>>) -> &[CoreStmt]
     ensures { result.now ≡ done_otherwise otherwise.now }
 {
     match otherwise {
-        Some(stmts) => stmts.as_slice(),
+        Some(stmts) => stmts.get().as_slice(),
         None => &[],
     }
 }
@@ -143,8 +143,9 @@ impl Walk {
         requires { Whole self.old }
         ensures { OnOk result (PassesArm body.now.program.now body.now.sub.now self.old self.new (arm_before arm.now) (following body.now.program.now body.now.sub.now rest.now)) }
     {
-        let condition = self.checked_id(alloc, body.program, &[], &arm.condition)?;
-        self.taken(alloc, body, &arm.condition, arm.body.as_slice(), rest)?;
+        let tested = arm.condition.get();
+        let condition = self.checked_id(alloc, body.program, &[], tested)?;
+        self.taken(alloc, body, tested, arm.body.get().as_slice(), rest)?;
         self.not_taken(condition)?;
         Ok(())
     }
@@ -365,7 +366,7 @@ impl Walk {
                 Ok(())
             }
             Some(range) => {
-                self.bound(alloc, body, &interface, count, range)?;
+                self.bound(alloc, body, &interface, count, range.get())?;
                 self.first_turn(alloc, body, &interface, count, stmts, &inner)?;
                 self.pass_range(body, &interface, count)?;
                 self.follow(alloc, body, rest)?;
@@ -429,7 +430,7 @@ impl Walk {
     {
         match scheme {
             CoreScheme::While(_, condition) => {
-                self.tested(alloc, body, scheme, condition, stmts, rest)?;
+                self.tested(alloc, body, scheme, condition.get(), stmts, rest)?;
                 Ok(())
             }
             CoreScheme::For(count) => {
@@ -458,7 +459,7 @@ impl Walk {
     {
         match scheme {
             CoreScheme::While(_, condition) => {
-                self.tested(alloc, body, scheme, condition, stmts, rest)?;
+                self.tested(alloc, body, scheme, condition.get(), stmts, rest)?;
                 Ok(())
             }
             CoreScheme::For(count) => {
@@ -612,7 +613,7 @@ impl Walk {
         &mut self,
         alloc: Global,
         body: &Body,
-        condition: &Option<CoreExpr>,
+        condition: &Option<Boxed<CoreExpr>>,
         rest: &Rest,
     ) -> Result<(), AllocError>
         requires { Whole self.old }
@@ -624,7 +625,7 @@ impl Walk {
                 Ok(())
             }
             Some(condition) => {
-                self.exit_when(alloc, body, condition, rest)?;
+                self.exit_when(alloc, body, condition.get(), rest)?;
                 Ok(())
             }
         }
@@ -646,35 +647,35 @@ impl Walk {
             match stmt {
                 CoreStmt::Null(_) => continue,
                 CoreStmt::Assignment(target, value) => {
-                    self.assignment(alloc, body, target, value)?;
+                    self.assignment(alloc, body, target.get(), value.get())?;
                     continue;
                 }
                 CoreStmt::Assertion(kind, place, condition) => match kind {
                     AssertionKind::Check => {
-                        self.checked(alloc, body, *place, condition)?;
+                        self.checked(alloc, body, *place, condition.get())?;
                         continue;
                     }
                     AssertionKind::Assert => {
-                        self.asserted(alloc, body, *place, condition)?;
+                        self.asserted(alloc, body, *place, condition.get())?;
                         return Ok(());
                     }
                 },
                 CoreStmt::If(arms, otherwise, _) => {
                     let following = Rest::more(&stmts[at + 1..], &*rest);
                     let otherwise = done_otherwise(otherwise);
-                    self.arms(alloc, body, arms.as_slice(), otherwise, &following)?;
+                    self.arms(alloc, body, arms.get().as_slice(), otherwise, &following)?;
                     return Ok(());
                 }
                 CoreStmt::Case(_, selector, alternatives, _) => {
                     let following = Rest::more(&stmts[at + 1..], &*rest);
-                    let alternatives = alternatives.as_slice();
-                    self.case(alloc, body, selector, alternatives, &following)?;
+                    let alternatives = alternatives.get().as_slice();
+                    self.case(alloc, body, selector.get(), alternatives, &following)?;
                     return Ok(());
                 }
                 CoreStmt::Loop(scheme, _, repeated, _) => {
                     let following = Rest::more(&stmts[at + 1..], &*rest);
-                    let repeated = repeated.as_slice();
-                    self.head(alloc, body, scheme, repeated, &following)?;
+                    let repeated = repeated.get().as_slice();
+                    self.head(alloc, body, scheme.get(), repeated, &following)?;
                     return Ok(());
                 }
                 CoreStmt::Exit(_, condition) => {

@@ -113,7 +113,7 @@ impl Walk {
             }
             Some(range) => {
                 let name = first_name(count.parameter);
-                let id = self.bound_id(body, interface, name, &range.low)?;
+                let id = self.bound_id(body, interface, name, range.get().low.get())?;
                 Ok(id)
             }
         }
@@ -140,7 +140,7 @@ impl Walk {
             }
             Some(range) => {
                 let name = last_name(count.parameter);
-                let id = self.bound_id(body, interface, name, &range.high)?;
+                let id = self.bound_id(body, interface, name, range.get().high.get())?;
                 Ok(id)
             }
         }
@@ -327,11 +327,13 @@ impl Walk {
         requires interface { IsInterfaceOf body.now.sub.now interface.now }
         ensures { OnOk result (Goes self.old self.new (bounded body.now.program.now body.now.sub.now count.now range.now)) }
     {
-        self.checked_id(alloc, body.program, &[], &range.low)?;
-        self.checked_id(alloc, body.program, &[], &range.high)?;
-        self.name_bound(body, interface, first_name(count.parameter), &range.low)?;
-        self.name_bound(body, interface, last_name(count.parameter), &range.high)?;
-        self.prove_range(alloc, body, interface, count, range.low.place())?;
+        let low = range.low.get();
+        let high = range.high.get();
+        self.checked_id(alloc, body.program, &[], low)?;
+        self.checked_id(alloc, body.program, &[], high)?;
+        self.name_bound(body, interface, first_name(count.parameter), low)?;
+        self.name_bound(body, interface, last_name(count.parameter), high)?;
+        self.prove_range(alloc, body, interface, count, low.place())?;
         Ok(())
     }
 

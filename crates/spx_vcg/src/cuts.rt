@@ -14,7 +14,6 @@ ghost use Rattle.spx_vcg.specs.WalkSteps.{Whole};
 use crate::branches::Rest;
 use crate::entered::{Entered, Interface};
 use crate::steps::Body;
-use crate::values::Values;
 use crate::walk::Walk;
 use crate::within::Within;
 use spx_core::{CoreAlternative, CoreArm, CoreExpr, CoreStmt, has_own_cut};
@@ -24,11 +23,11 @@ use std::alloc::{AllocError, Global};
 
 impl Walk {
     /// No name has a value, and nothing is known. Terms, lists of facts and claims stay.
-    fn begin_anew(&mut self, alloc: Global)
+    fn begin_anew(&mut self)
         requires { Whole self.old }
         ensures { BeginsAnew self.old self.new (λ tree. tree) }
     {
-        self.values = Values::new(alloc);
+        self.values.clear();
         self.facts.present.truncate(0);
         self.facts.at = self.facts.lists.none();
     }
@@ -45,7 +44,7 @@ impl Walk {
         requires interface { IsInterfaceOf body.now.sub.now interface.now }
         ensures { OnOk result (BeginsAnew self.old self.new (assume_all (cut_facts body.now.program.now body.now.sub.now (counts within.now)))) }
     {
-        self.begin_anew(alloc);
+        self.begin_anew();
         self.assume_known(alloc, body, interface, within)?;
         Ok(())
     }
@@ -109,7 +108,7 @@ impl Walk {
         ensures leaves { OnOk result ((otherwise : Command) → Leaves self.old self.new (cuts_in body.now.program.now body.now.sub.now (counts within.now) (arms_before otherwise (map arm_before arms.now)) (following body.now.program.now body.now.sub.now rest.now)) (cuts_in body.now.program.now body.now.sub.now (counts within.now) otherwise (following body.now.program.now body.now.sub.now rest.now))) }
     {
         for arm in arms {
-            self.cuts(alloc, body, arm.body.as_slice(), within, rest)?;
+            self.cuts(alloc, body, arm.body.get().as_slice(), within, rest)?;
         }
         Ok(())
     }
@@ -174,27 +173,29 @@ impl Walk {
             CoreStmt::Assertion(kind, _, condition) => match kind {
                 AssertionKind::Check => Ok(()),
                 AssertionKind::Assert => {
-                    self.from_cut(alloc, body, condition, within, rest)?;
+                    self.from_cut(alloc, body, condition.get(), within, rest)?;
                     Ok(())
                 }
             },
             CoreStmt::If(arms, otherwise, _) => {
-                self.cuts_in_arms(alloc, body, arms.as_slice(), within, rest)?;
+                self.cuts_in_arms(alloc, body, arms.get().as_slice(), within, rest)?;
                 match otherwise {
                     None => Ok(()),
                     Some(stmts) => {
-                        self.cuts(alloc, body, stmts.as_slice(), within, rest)?;
+                        self.cuts(alloc, body, stmts.get().as_slice(), within, rest)?;
                         Ok(())
                     }
                 }
             }
             CoreStmt::Case(_, _, alternatives, _) => {
-                self.cuts_in_alternatives(alloc, body, alternatives.as_slice(), within, rest)?;
+                let alternatives = alternatives.get().as_slice();
+                self.cuts_in_alternatives(alloc, body, alternatives, within, rest)?;
                 Ok(())
             }
             CoreStmt::Loop(scheme, _, repeated, _) => {
+                let scheme = scheme.get();
                 let inner = Within::inside(&*within, scheme);
-                let repeated = repeated.as_slice();
+                let repeated = repeated.get().as_slice();
                 let again = Rest::again(scheme, repeated, &*rest);
                 self.cuts_in_loop(alloc, body, repeated, &inner, &again)?;
                 Ok(())

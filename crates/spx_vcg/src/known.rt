@@ -83,7 +83,7 @@ impl Walk {
     {
         if let Some(pre) = &body.sub.pre {
             let entered = Entered::AtEntry(interface);
-            self.assume_parts(alloc, body.program, &entered, &pre.condition)?;
+            self.assume_parts(alloc, body.program, &entered, pre.condition.get())?;
             return Ok(());
         }
         Ok(())

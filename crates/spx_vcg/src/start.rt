@@ -139,7 +139,7 @@ impl Walk {
         if let Some(pre) = &sub.pre {
             let interface = Interface::of(alloc, sub)?;
             let entered = Entered::OnEntry(&interface);
-            self.assume_parts(alloc, program, &entered, &pre.condition)?;
+            self.assume_parts(alloc, program, &entered, pre.condition.get())?;
             return Ok(());
         }
         Ok(())

@@ -147,7 +147,13 @@ impl Walk {
         ensures { OnOk result (Ends self.old self.new (ending body.now.program.now body.now.sub.now)) }
     {
         if let Some(post) = &body.sub.post {
-            self.show(alloc, body, CondKind::Post, post.place, &post.condition)?;
+            self.show(
+                alloc,
+                body,
+                CondKind::Post,
+                post.place,
+                post.condition.get(),
+            )?;
             return Ok(());
         }
         Ok(())

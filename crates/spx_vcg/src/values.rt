@@ -8,10 +8,11 @@ use spx_term::Name;
 use std::alloc::{AllocError, Global};
 use std::marker::Model;
 
-/// The value that each name was given last. Contracts see the list of the names with their values.
+/// The value that each name was given last. Contracts see the list of the names with their values. The table is in a box,
+/// which costs less at an exit.
 #[derive(Drop)]
 pub struct Values {
-    ids: IndexMap<Name, TermId>,
+    ids: Box<IndexMap<Name, TermId>>,
 }
 
 impl Model for Values {
@@ -21,26 +22,24 @@ impl Model for Values {
 
     ghost Value = { List (Name × TermId) };
 
-    ghost view = { λ a. a.ids.entries };
+    ghost view = { λ a. a.ids.value.entries };
 }
 
 impl Values {
     /// No name has a value.
-    pub fn new(alloc: Global) -> Values
-        ensures { result ≡ [] }
+    pub fn new(alloc: Global) -> Result<Values, AllocError>
+        ensures { IfOk result (λ values. values ≡ []) }
     {
-        Values {
-            ids: IndexMap::new(alloc),
-        }
+        let ids = Box::new(alloc, IndexMap::new(alloc))?;
+        Ok(Values { ids })
     }
 
     /// The same values.
     pub fn copy(&self) -> Result<Values, AllocError>
         ensures { IfOk result (λ copy. copy ≡ self.now) }
     {
-        Ok(Values {
-            ids: self.ids.clone()?,
-        })
+        let ids = self.ids.clone()?;
+        Ok(Values { ids })
     }
 
     /// The value that a name was given last.
@@ -56,5 +55,12 @@ impl Values {
     {
         self.ids.insert(name, value)?;
         Ok(())
+    }
+
+    /// No name has a value any more.
+    pub fn clear(&mut self)
+        ensures { self.new ≡ [] }
+    {
+        self.ids.clear();
     }
 }

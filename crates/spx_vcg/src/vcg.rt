@@ -2,12 +2,14 @@
 ghost use Rattle.std.specs.Prelude.{◌≡◌, ◌<◌, ◌+◌, false, Some, length, map, slice_get, IfErr, IfOk, OnOk};
 ghost use Rattle.spx_term.specs.declared.condition.Condition.{Condition};
 ghost use Rattle.spx_term.specs.Steps.{tidy};
-ghost use Rattle.spx_arena.specs.Claims.{AreIds, IsWhole, claim_at, claims_in, trees_at};
+ghost use Rattle.spx_arena.specs.Claims.{AreIds, IsWhole, claim_at, claims_at, claims_in, trees_at};
 ghost use Rattle.spx_core.specs.declared.program.Program.{Program};
 ghost use Rattle.spx_core.specs.declared.subprogram.Sub.{Sub};
 ghost use Rattle.spx_paths.specs.Conditions.{body_claims, condition, condition_name, conditions_of, numbered};
 ghost use Rattle.spx_paths.specs.Limits.{has_large_condition, has_many_paths};
+ghost use Rattle.spx_vcg.specs.Cuts.{Starts};
 ghost use Rattle.spx_vcg.specs.Largeness.{IsFaultOf};
+ghost use Rattle.spx_vcg.specs.WalkSteps.{Whole};
 
 use crate::VcFault;
 use crate::branches::Rest;
@@ -26,15 +28,35 @@ use spx_text::Text;
 use sqlite_items::Items;
 use std::alloc::{AllocError, Global};
 
+impl Walk {
+    /// All paths of a body, from its start and from each cut.
+    fn all_paths(&mut self, alloc: Global, program: &Program, sub: &Sub) -> Result<(), AllocError>
+        requires { Starts self.old }
+        ensures whole { OnOk result (Whole self.new) }
+        ensures claims { OnOk result (claims_at self.new.terms self.new.facts.lists self.new.claims ≡ map tidy (body_claims program.now sub.now)) }
+    {
+        self.enter_all(alloc, program, sub)?;
+        self.initialize_all(program, sub)?;
+        self.assume_imports(alloc, program, sub)?;
+        self.assume_pre(alloc, program, sub)?;
+        let body = Body { program, sub };
+        let stmts = sub.statements.as_slice();
+        self.path(alloc, &body, stmts, &Rest::End)?;
+        self.cuts(alloc, &body, stmts, &Within::outermost(), &Rest::End)?;
+        Ok(())
+    }
+}
+
 /// The conditions on shared terms, whatever their size.
 fn walked(alloc: Global, program: &Program, sub: &Sub) -> Result<SharedClaims, AllocError>
     ensures whole { IfOk result IsWhole }
     ensures claims { IfOk result (λ all. claims_in all ≡ map tidy (body_claims program.now sub.now)) }
 {
+    let values = Values::new(alloc)?;
     let lists = FactLists::new(alloc);
     let mut walk = Walk {
         terms: Terms::new(alloc),
-        values: Values::new(alloc),
+        values,
         facts: Facts {
             present: IndexSet::new(alloc),
             at: lists.none(),
@@ -42,14 +64,7 @@ fn walked(alloc: Global, program: &Program, sub: &Sub) -> Result<SharedClaims, A
         },
         claims: Items::new(alloc),
     };
-    walk.enter_all(alloc, program, sub)?;
-    walk.initialize_all(program, sub)?;
-    walk.assume_imports(alloc, program, sub)?;
-    walk.assume_pre(alloc, program, sub)?;
-    let body = Body { program, sub };
-    let stmts = sub.statements.as_slice();
-    walk.path(alloc, &body, stmts, &Rest::End)?;
-    walk.cuts(alloc, &body, stmts, &Within::outermost(), &Rest::End)?;
+    walk.all_paths(alloc, program, sub)?;
     let Walk {
         terms,
         values: _,

@@ -1,8 +1,9 @@
-use Rattle.std.proofs.Common.{[], List, ap, map, subst, ◌+◌, ◌∙◌}
+use Rattle.std.proofs.Common.{[], List, ap, map, subst, sym, ◌+◌, ◌∙◌}
 use Rattle.std.proofs.lemmas.List.{take_rest}
 use Rattle.spx_core.specs.declared.statement.CoreCount.{CoreCount}
+use Rattle.spx_core.specs.declared.statement.CoreScheme.{CoreScheme}
 use Rattle.spx_core.specs.declared.statement.CoreStmt.{CoreStmt}
-use Rattle.spx_core.specs.Commands.{alternative, commands, has_own_cut, head_of}
+use Rattle.spx_core.specs.Commands.{alternative, commands, has_own_cut, head_of, loop_of}
 use Rattle.spx_paths.specs.Walks.{inside, loop_cut}
 use Rattle.spx_vcg.specs.Cuts.{Leaves, cuts_in, cuts_of_body}
 use Rattle.spx_vcg.specs.Enclosing.{counts}
@@ -28,7 +29,7 @@ cuts_in_arms-loop-arm-preserved t c =
     let around = counts c.args.within.now in
     let then = following p sub c.args.rest.now in
     let arm = c.arm-item.result in
-    let step = subst (λ (ss : List CoreStmt). Leaves c.loop-arm.self c.cuts.new.self (cuts_in p sub around (commands ss) then) []) c.as_slice.ensures c.in_ok-cuts.ensures in
+    let step = subst (λ (ss : List CoreStmt). Leaves c.loop-arm.self c.cuts.new.self (cuts_in p sub around (commands ss) then) []) (c.as_slice.ensures ∙ c.get.ensures) c.in_ok-cuts.ensures in
     record {
       whole = c.in_ok-cuts.ensures.whole;
       leaves = λ otherwise. next_arm p sub around then c.args.arms.now c.loop-arm.arm-index arm c.loop-arm-test.true c.arm-item.is otherwise (c.loop-arm.invariant.leaves otherwise) step;
@@ -41,9 +42,9 @@ cuts_of-returns-in_ok-cuts_in_alternatives-in-Case t c =
     let around = counts c.args.within.now in
     let then = following p sub c.args.rest.now in
     let at = c.in-Case in
-    let parts = map alternative c.as_slice-in-Case.result.now in
+    let parts = map alternative c.as_slice-alternatives.result.now in
     leaves_along
-    (ap (λ d. cuts_in p sub around d then) (case_is _ at.field-0 at.field-1 at.alternatives at.field-3 at.is c.as_slice-in-Case.result.now c.as_slice-in-Case.ensures) ∙ case_cuts p sub around at.field-0 at.field-1 parts then)
+    (ap (λ d. cuts_in p sub around d then) (case_is _ at.field-0 at.field-1 at.alternatives at.field-3 at.is c.as_slice-alternatives.result.now (c.as_slice-alternatives.ensures ∙ c.get-in-Case.ensures)) ∙ case_cuts p sub around at.field-0 at.field-1 parts then)
     c.in_ok-cuts_in_alternatives-in-Case.ensures
 
 pub cuts_in_loop-returns : goal.cuts_in_loop-returns
@@ -62,9 +63,10 @@ cuts_of-returns-in_ok-cuts_in_loop-in-Loop t c =
     let around = counts c.args.within.now in
     let then = following p sub c.args.rest.now in
     let at = c.in-Loop in
-    let head = head_of at.scheme in
+    let head = head_of c.get-scheme.result.now in
     let body = commands c.as_slice-repeated.result.now in
-    let is = loop_is _ at.scheme at.field-1 at.repeated at.field-3 at.is c.as_slice-repeated.result.now c.as_slice-repeated.ensures in
+    let is =
+    loop_is _ at.scheme at.field-1 at.repeated at.field-3 at.is c.as_slice-repeated.result.now (c.as_slice-repeated.ensures ∙ c.get-in-Loop.ensures) ∙ ap (λ (s : CoreScheme). loop_of s body) (sym c.get-scheme.ensures) in
     let deeper = ap (λ (loops : List CoreCount). cuts_of_body p sub loops body (following p sub c.again-again.result)) c.inside-inner.ensures in
     let next = ap (cuts_of_body p sub (inside around head) body) (again_is p sub _ _ _ _ c.again-again.ensures) in
     leaves_along (ap (λ d. cuts_in p sub around d then) is) (subst (λ ts. Leaves c.args.self.now c.cuts_in_loop.new.self ts []) (deeper ∙ next) c.in_ok-cuts_in_loop-in-Loop.ensures)

@@ -1,9 +1,11 @@
-use Rattle.std.proofs.Common.{◌+◌, ◌*◌, ◌<◌, ◌≤◌, List, ◌∷◌, drop, map, arith, rules, subst, sym, ap, ◌∙◌}
+use Rattle.std.proofs.Common.{◌+◌, ◌*◌, ◌<◌, ◌≤◌, List, ◌∷◌, drop, map, Some, arith, rules, subst, sym, ap, ◌∙◌}
 use Rattle.std.proofs.lemmas.List.{take_rest}
+use Rattle.spx_core.specs.declared.expression.CoreExpr.{CoreExpr}
 use Rattle.spx_core.specs.declared.statement.CoreAlternative.{CoreAlternative, out-CoreAlternative}
 use Rattle.spx_core.specs.declared.statement.CoreArm.{CoreArm, out-CoreArm}
+use Rattle.spx_core.specs.declared.statement.CoreScheme.{CoreScheme}
 use Rattle.spx_core.specs.declared.statement.CoreStmt.{CoreStmt}
-use Rattle.spx_core.specs.Commands.{Counted, Endless, Tested, alternative, arm_before, arms_before, commands, exit_where, head_of, loop_of, select}
+use Rattle.spx_core.specs.Commands.{Assertion, Choose, Counted, Endless, Set, Tested, alternative, arm_before, arms_before, commands, exit_where, head_of, loop_of, select}
 use Rattle.spx_paths.specs.Walks.{leaving}
 use Rattle.spx_vcg.specs.Counting.{along, into_next, into_range}
 use Rattle.spx_vcg.specs.Following.{Continuation, after, continued, following, leave_after}
@@ -26,10 +28,11 @@ taken-returns t c =
 
 pub arm-returns : goal.arm-returns
 arm-returns t c =
-    let arm = out-CoreArm c.args.arm.now in
-    after_arm c.args.body.now.sub.now arm.condition (commands arm.body) (following c.args.body.now.program.now c.args.body.now.sub.now c.args.rest.now) (no_leave arm.body) c.in_ok-condition.ensures.keeps c.in_ok-condition.ensures.within c.in_ok-condition.ensures.makes
-    (subst (λ (ss : List CoreStmt). Takes c.checked_id.new.self c.taken.new.self (where_true c.args.body.now.program.now arm.condition (to_end c.args.body.now.program.now c.args.body.now.sub.now (commands ss) (following c.args.body.now.program.now c.args.body.now.sub.now c.args.rest.now)))) c.as_slice.ensures c.in_ok-taken.ensures)
-    c.in_ok-not_taken.ensures.keeps c.in_ok-not_taken.ensures.walks (arm_before c.args.arm.now) arm.place (arm_is c.args.arm.now)
+    let place = (out-CoreArm c.args.arm.now).place in
+    let ss = c.as_slice.result.now in
+    after_arm c.args.body.now.sub.now c.get-tested.result.now (commands ss) (following c.args.body.now.program.now c.args.body.now.sub.now c.args.rest.now) (no_leave ss) c.in_ok-condition.ensures.keeps c.in_ok-condition.ensures.within c.in_ok-condition.ensures.makes
+    c.in_ok-taken.ensures c.in_ok-not_taken.ensures.keeps c.in_ok-not_taken.ensures.walks (arm_before c.args.arm.now) place
+    (λ otherwise. arm_is c.args.arm.now otherwise ∙ (λ i. Choose place (sym c.get-tested.ensures i) (commands (sym (c.as_slice.ensures ∙ c.get.ensures) i)) otherwise))
 
 pub arms-arm-requires : goal.arms-arm-requires
 arms-arm-requires t c =
@@ -60,17 +63,18 @@ path-loop-at-preserved-in-Null t c =
 
 pub path-loop-at-preserved-in-Assignment : goal.path-loop-at-preserved-in-Assignment
 path-loop-at-preserved-in-Assignment t c =
-    after_set c.args.body.now.program.now c.args.body.now.sub.now (to_end c.args.body.now.program.now c.args.body.now.sub.now (commands c.args.stmts.now) (following c.args.body.now.program.now c.args.body.now.sub.now c.args.rest.now)) (following c.args.body.now.program.now c.args.body.now.sub.now c.args.rest.now) c.args.stmts.now c.loop-at.at c.index-stmts-at.result c.loop-at-test.true c.index-stmts-at.is c.loop-at.invariant c.in-Assignment.target c.in-Assignment.value (assignment_is _ c.in-Assignment.target c.in-Assignment.value c.in-Assignment.is) c.in_ok-assignment-in-Assignment.ensures
+    after_set c.args.body.now.program.now c.args.body.now.sub.now (to_end c.args.body.now.program.now c.args.body.now.sub.now (commands c.args.stmts.now) (following c.args.body.now.program.now c.args.body.now.sub.now c.args.rest.now)) (following c.args.body.now.program.now c.args.body.now.sub.now c.args.rest.now) c.args.stmts.now c.loop-at.at c.index-stmts-at.result c.loop-at-test.true c.index-stmts-at.is c.loop-at.invariant c.get.result.now c.get-in-Assignment.result.now
+    (assignment_is _ c.in-Assignment.target c.in-Assignment.value c.in-Assignment.is ∙ (λ i. Set (sym c.get.ensures i) (sym c.get-in-Assignment.ensures i))) c.in_ok-assignment-in-Assignment.ensures
 
 pub path-loop-at-preserved : goal.path-loop-at-preserved
 path-loop-at-preserved t c =
-    after_check c.args.body.now.program.now c.args.body.now.sub.now (to_end c.args.body.now.program.now c.args.body.now.sub.now (commands c.args.stmts.now) (following c.args.body.now.program.now c.args.body.now.sub.now c.args.rest.now)) (following c.args.body.now.program.now c.args.body.now.sub.now c.args.rest.now) c.args.stmts.now c.loop-at.at c.index-stmts-at.result c.loop-at-test.true c.index-stmts-at.is c.loop-at.invariant c.in-Assertion.place c.in-Assertion.condition
-    (assertion_is _ c.in-Assertion.kind c.in-Assertion.place c.in-Assertion.condition c.in-Assertion.is c.in-Check.is) c.in_ok-checked-in-Check.ensures
+    after_check c.args.body.now.program.now c.args.body.now.sub.now (to_end c.args.body.now.program.now c.args.body.now.sub.now (commands c.args.stmts.now) (following c.args.body.now.program.now c.args.body.now.sub.now c.args.rest.now)) (following c.args.body.now.program.now c.args.body.now.sub.now c.args.rest.now) c.args.stmts.now c.loop-at.at c.index-stmts-at.result c.loop-at-test.true c.index-stmts-at.is c.loop-at.invariant c.in-Assertion.place c.get-in-Check.result.now
+    (assertion_is _ c.in-Assertion.kind c.in-Assertion.place c.in-Assertion.condition c.in-Assertion.is c.in-Check.is ∙ ap (Assertion _ c.in-Assertion.place) (sym c.get-in-Check.ensures)) c.in_ok-checked-in-Check.ensures
 
 pub path-returns-in-Assert : goal.path-returns-in-Assert
 path-returns-in-Assert t c =
-    after_assert c.args.body.now.program.now c.args.body.now.sub.now (to_end c.args.body.now.program.now c.args.body.now.sub.now (commands c.args.stmts.now) (following c.args.body.now.program.now c.args.body.now.sub.now c.args.rest.now)) (following c.args.body.now.program.now c.args.body.now.sub.now c.args.rest.now) c.args.stmts.now c.loop-at.at c.index-stmts-at.result c.loop-at-test.true c.index-stmts-at.is c.loop-at.invariant c.in-Assertion.place c.in-Assertion.condition
-    (assertion_is _ c.in-Assertion.kind c.in-Assertion.place c.in-Assertion.condition c.in-Assertion.is c.in-Assert.is) c.in_ok-asserted-in-Assert.ensures
+    after_assert c.args.body.now.program.now c.args.body.now.sub.now (to_end c.args.body.now.program.now c.args.body.now.sub.now (commands c.args.stmts.now) (following c.args.body.now.program.now c.args.body.now.sub.now c.args.rest.now)) (following c.args.body.now.program.now c.args.body.now.sub.now c.args.rest.now) c.args.stmts.now c.loop-at.at c.index-stmts-at.result c.loop-at-test.true c.index-stmts-at.is c.loop-at.invariant c.in-Assertion.place c.get-in-Assert.result.now
+    (assertion_is _ c.in-Assertion.kind c.in-Assertion.place c.in-Assertion.condition c.in-Assertion.is c.in-Assert.is ∙ ap (Assertion _ c.in-Assertion.place) (sym c.get-in-Assert.ensures)) c.in_ok-asserted-in-Assert.ensures
 
 pub path-arms-requires : goal.path-arms-requires
 path-arms-requires t c =
@@ -78,7 +82,7 @@ path-arms-requires t c =
     let more = left c.more-following.result in
     let falls : 4 * (size d + more) + 3 < 4 * (size (commands c.args.stmts.now) + left c.args.rest.now) =
     branch_smaller c.args.stmts.now c.loop-at.at c.index-stmts-at.result c.loop-at-test.true c.index-stmts-at.is d (left c.args.rest.now) more
-    (if_is _ c.in-If.arms c.in-If.otherwise c.in-If.field-2 c.in-If.is _ _ c.as_slice.ensures c.done_otherwise-otherwise.ensures)
+    (if_is _ c.in-If.arms c.in-If.otherwise c.in-If.field-2 c.in-If.is _ _ (c.as_slice.ensures ∙ c.get-in-If.ensures) c.done_otherwise-otherwise.ensures)
     (left_after _ _ _ c.more-following.ensures ∙ ap (λ (ss : List CoreStmt). size (commands ss) + left c.args.rest.now) (take_rest c.args.stmts.now (c.loop-at.at + 1))) in
     (search rules, c.loop-at.invariant.whole)
 
@@ -86,7 +90,7 @@ pub path-returns-in-If : goal.path-returns-in-If
 path-returns-in-If t c =
     after_branch c.args.body.now.program.now c.args.body.now.sub.now (to_end c.args.body.now.program.now c.args.body.now.sub.now (commands c.args.stmts.now) (following c.args.body.now.program.now c.args.body.now.sub.now c.args.rest.now)) (following c.args.body.now.program.now c.args.body.now.sub.now c.args.rest.now) c.args.stmts.now c.loop-at.at c.index-stmts-at.result c.loop-at-test.true c.index-stmts-at.is c.loop-at.invariant
     (arms_before (commands c.done_otherwise-otherwise.result.now) (map arm_before c.as_slice.result.now)) (following c.args.body.now.program.now c.args.body.now.sub.now c.more-following.result)
-    (if_is _ c.in-If.arms c.in-If.otherwise c.in-If.field-2 c.in-If.is _ _ c.as_slice.ensures c.done_otherwise-otherwise.ensures)
+    (if_is _ c.in-If.arms c.in-If.otherwise c.in-If.field-2 c.in-If.is _ _ (c.as_slice.ensures ∙ c.get-in-If.ensures) c.done_otherwise-otherwise.ensures)
     (follows_is c.args.body.now.program.now c.args.body.now.sub.now _ _ _ c.more-following.ensures ∙ ap (λ (ss : List CoreStmt). continued c.args.body.now.program.now c.args.body.now.sub.now (commands ss) (following c.args.body.now.program.now c.args.body.now.sub.now c.args.rest.now)) (take_rest c.args.stmts.now (c.loop-at.at + 1))) c.in_ok-arms-in-If.ensures
 
 pub path-case-requires : goal.path-case-requires
@@ -96,7 +100,7 @@ path-case-requires t c =
     let more = left c.more-following-in-Case.result in
     let falls : 4 * (size d + more) + 3 < 4 * (size (commands c.args.stmts.now) + left c.args.rest.now) =
     branch_smaller c.args.stmts.now c.loop-at.at c.index-stmts-at.result c.loop-at-test.true c.index-stmts-at.is d (left c.args.rest.now) more
-    (case_is _ c.in-Case.field-0 c.in-Case.selector c.in-Case.alternatives c.in-Case.field-3 c.in-Case.is _ c.as_slice-alternatives.ensures)
+    (case_is _ c.in-Case.field-0 c.in-Case.selector c.in-Case.alternatives c.in-Case.field-3 c.in-Case.is _ (c.as_slice-alternatives.ensures ∙ c.get-in-Case.ensures))
     (left_after _ _ _ c.more-following-in-Case.ensures ∙ ap (λ (ss : List CoreStmt). size (commands ss) + left c.args.rest.now) (take_rest c.args.stmts.now (c.loop-at.at + 1))) in
     let e = select_size c.in-Case.field-0 c.in-Case.selector parts in
     let under : 4 * (1 + sizes parts + more) + 3 < 4 * (size (commands c.args.stmts.now) + left c.args.rest.now) = omega arith in
@@ -105,8 +109,9 @@ path-case-requires t c =
 pub path-returns-in-Case : goal.path-returns-in-Case
 path-returns-in-Case t c =
     after_branch c.args.body.now.program.now c.args.body.now.sub.now (to_end c.args.body.now.program.now c.args.body.now.sub.now (commands c.args.stmts.now) (following c.args.body.now.program.now c.args.body.now.sub.now c.args.rest.now)) (following c.args.body.now.program.now c.args.body.now.sub.now c.args.rest.now) c.args.stmts.now c.loop-at.at c.index-stmts-at.result c.loop-at-test.true c.index-stmts-at.is c.loop-at.invariant
-    (select c.in-Case.field-0 c.in-Case.selector (map alternative c.as_slice-alternatives.result.now)) (following c.args.body.now.program.now c.args.body.now.sub.now c.more-following-in-Case.result)
-    (case_is _ c.in-Case.field-0 c.in-Case.selector c.in-Case.alternatives c.in-Case.field-3 c.in-Case.is _ c.as_slice-alternatives.ensures)
+    (select c.in-Case.field-0 c.get-in-Case-2.result.now (map alternative c.as_slice-alternatives.result.now)) (following c.args.body.now.program.now c.args.body.now.sub.now c.more-following-in-Case.result)
+    (case_is _ c.in-Case.field-0 c.in-Case.selector c.in-Case.alternatives c.in-Case.field-3 c.in-Case.is _ (c.as_slice-alternatives.ensures ∙ c.get-in-Case.ensures)
+    ∙ ap (λ (e : CoreExpr). select c.in-Case.field-0 e (map alternative c.as_slice-alternatives.result.now)) (sym c.get-in-Case-2.ensures))
     (follows_is c.args.body.now.program.now c.args.body.now.sub.now _ _ _ c.more-following-in-Case.ensures ∙ ap (λ (ss : List CoreStmt). continued c.args.body.now.program.now c.args.body.now.sub.now (commands ss) (following c.args.body.now.program.now c.args.body.now.sub.now c.args.rest.now)) (take_rest c.args.stmts.now (c.loop-at.at + 1))) (c.in_ok-case-in-Case.ensures c.in-Case.field-0)
 
 pub path-head-requires : goal.path-head-requires
@@ -116,7 +121,7 @@ path-head-requires t c =
     let more = left c.more-following-in-Loop.result in
     let below : 4 * (size d + more) + 3 < 4 * (size (commands c.args.stmts.now) + left c.args.rest.now) =
     branch_smaller c.args.stmts.now c.loop-at.at c.index-stmts-at.result c.loop-at-test.true c.index-stmts-at.is d (left c.args.rest.now) more
-    (loop_is _ c.in-Loop.scheme c.in-Loop.field-1 c.in-Loop.repeated c.in-Loop.field-3 c.in-Loop.is ss c.as_slice-repeated.ensures)
+    (loop_is _ c.in-Loop.scheme c.in-Loop.field-1 c.in-Loop.repeated c.in-Loop.field-3 c.in-Loop.is ss (c.as_slice-repeated.ensures ∙ c.get-in-Loop.ensures))
     (left_after _ _ _ c.more-following-in-Loop.ensures ∙ ap (λ (ss : List CoreStmt). size (commands ss) + left c.args.rest.now) (take_rest c.args.stmts.now (c.loop-at.at + 1))) in
     let e = loop_size c.in-Loop.scheme (commands ss) in
     let falls : 4 * (size (commands ss) + more) + 8 < 4 * (size (commands c.args.stmts.now) + left c.args.rest.now) = omega arith in
@@ -125,8 +130,9 @@ path-head-requires t c =
 pub path-returns-in-Loop : goal.path-returns-in-Loop
 path-returns-in-Loop t c =
     after_branch c.args.body.now.program.now c.args.body.now.sub.now (to_end c.args.body.now.program.now c.args.body.now.sub.now (commands c.args.stmts.now) (following c.args.body.now.program.now c.args.body.now.sub.now c.args.rest.now)) (following c.args.body.now.program.now c.args.body.now.sub.now c.args.rest.now) c.args.stmts.now c.loop-at.at c.index-stmts-at.result c.loop-at-test.true c.index-stmts-at.is c.loop-at.invariant
-    (loop_of c.in-Loop.scheme (commands c.as_slice-repeated.result.now)) (following c.args.body.now.program.now c.args.body.now.sub.now c.more-following-in-Loop.result)
-    (loop_is _ c.in-Loop.scheme c.in-Loop.field-1 c.in-Loop.repeated c.in-Loop.field-3 c.in-Loop.is _ c.as_slice-repeated.ensures)
+    (loop_of c.get-in-Loop-2.result.now (commands c.as_slice-repeated.result.now)) (following c.args.body.now.program.now c.args.body.now.sub.now c.more-following-in-Loop.result)
+    (loop_is _ c.in-Loop.scheme c.in-Loop.field-1 c.in-Loop.repeated c.in-Loop.field-3 c.in-Loop.is _ (c.as_slice-repeated.ensures ∙ c.get-in-Loop.ensures)
+    ∙ ap (λ (s : CoreScheme). loop_of s (commands c.as_slice-repeated.result.now)) (sym c.get-in-Loop-2.ensures))
     (follows_is c.args.body.now.program.now c.args.body.now.sub.now _ _ _ c.more-following-in-Loop.ensures ∙ ap (λ (ss : List CoreStmt). continued c.args.body.now.program.now c.args.body.now.sub.now (commands ss) (following c.args.body.now.program.now c.args.body.now.sub.now c.args.rest.now)) (take_rest c.args.stmts.now (c.loop-at.at + 1))) c.in_ok-head-in-Loop.ensures
 
 pub path-follow-requires : goal.path-follow-requires
@@ -224,7 +230,7 @@ counted-returns t c =
     let body = commands c.args.stmts.now in
     let out = leaving p (head_of c.args.scheme.now) (after p sub c.args.rest.now) in
     let turn = takes_along (λ (k : Continuation). along (into_range p sub c.args.count.now) (turn_to_cut p sub body k.leave)) (turn_is p sub _ _ _ c.turn-inner.ensures) c.in_ok-first_turn-in-Some.ensures in
-    after_range p sub c.args.count.now (turn_to_cut p sub body out) (after p sub c.args.rest.now) c.in-Some.range c.in_ok-bound-in-Some.ensures turn c.in_ok-pass_range-in-Some.ensures c.in_ok-follow-in-Some.ensures c.in-Some.is
+    after_range p sub c.args.count.now (turn_to_cut p sub body out) (after p sub c.args.rest.now) c.get.result.now c.in_ok-bound-in-Some.ensures turn c.in_ok-pass_range-in-Some.ensures c.in_ok-follow-in-Some.ensures (c.in-Some.is ∙ ap Some (sym c.get.ensures))
 
 pub counted_again-next_turn-requires : goal.counted_again-next_turn-requires
 counted_again-next_turn-requires t c =
@@ -255,19 +261,19 @@ endless-returns t c =
 
 pub head-returns-in_ok-tested-in-While : goal.head-returns-in_ok-tested-in-While
 head-returns-in_ok-tested-in-While t c =
-    at_head c.args.body.now.program.now c.args.body.now.sub.now c.args.scheme.now (commands c.args.stmts.now) (following c.args.body.now.program.now c.args.body.now.sub.now c.args.rest.now) (Tested c.in-While.field-0 c.in-While.condition) (ap head_of c.in-While.is) c.in_ok-tested-in-While.ensures
+    at_head c.args.body.now.program.now c.args.body.now.sub.now c.args.scheme.now (commands c.args.stmts.now) (following c.args.body.now.program.now c.args.body.now.sub.now c.args.rest.now) (Tested c.in-While.field-0 c.get.result.now) (ap head_of c.in-While.is ∙ ap (Tested c.in-While.field-0) (sym c.get.ensures)) c.in_ok-tested-in-While.ensures
 
 pub head-returns-in_ok-counted-in-For : goal.head-returns-in_ok-counted-in-For
 head-returns-in_ok-counted-in-For t c =
-    at_head c.args.body.now.program.now c.args.body.now.sub.now c.args.scheme.now (commands c.args.stmts.now) (following c.args.body.now.program.now c.args.body.now.sub.now c.args.rest.now) (Counted c.get.result.now) (ap head_of c.in-For.is ∙ ap Counted (sym c.get.ensures)) c.in_ok-counted-in-For.ensures
+    at_head c.args.body.now.program.now c.args.body.now.sub.now c.args.scheme.now (commands c.args.stmts.now) (following c.args.body.now.program.now c.args.body.now.sub.now c.args.rest.now) (Counted c.get-in-For.result.now) (ap head_of c.in-For.is ∙ ap Counted (sym c.get-in-For.ensures)) c.in_ok-counted-in-For.ensures
 
 pub turn_ended-returns-in_ok-tested-in-While : goal.turn_ended-returns-in_ok-tested-in-While
 turn_ended-returns-in_ok-tested-in-While t c =
-    at_turn_end c.args.body.now.program.now c.args.body.now.sub.now c.args.scheme.now (commands c.args.stmts.now) (following c.args.body.now.program.now c.args.body.now.sub.now c.args.rest.now) (Tested c.in-While.field-0 c.in-While.condition) (ap head_of c.in-While.is) c.in_ok-tested-in-While.ensures
+    at_turn_end c.args.body.now.program.now c.args.body.now.sub.now c.args.scheme.now (commands c.args.stmts.now) (following c.args.body.now.program.now c.args.body.now.sub.now c.args.rest.now) (Tested c.in-While.field-0 c.get.result.now) (ap head_of c.in-While.is ∙ ap (Tested c.in-While.field-0) (sym c.get.ensures)) c.in_ok-tested-in-While.ensures
 
 pub turn_ended-returns-in_ok-counted_again-in-For : goal.turn_ended-returns-in_ok-counted_again-in-For
 turn_ended-returns-in_ok-counted_again-in-For t c =
-    at_turn_end c.args.body.now.program.now c.args.body.now.sub.now c.args.scheme.now (commands c.args.stmts.now) (following c.args.body.now.program.now c.args.body.now.sub.now c.args.rest.now) (Counted c.get.result.now) (ap head_of c.in-For.is ∙ ap Counted (sym c.get.ensures)) c.in_ok-counted_again-in-For.ensures
+    at_turn_end c.args.body.now.program.now c.args.body.now.sub.now c.args.scheme.now (commands c.args.stmts.now) (following c.args.body.now.program.now c.args.body.now.sub.now c.args.rest.now) (Counted c.get-in-For.result.now) (ap head_of c.in-For.is ∙ ap Counted (sym c.get-in-For.ensures)) c.in_ok-counted_again-in-For.ensures
 
 pub head-returns-in_ok-endless-in-Endless : goal.head-returns-in_ok-endless-in-Endless
 head-returns-in_ok-endless-in-Endless t c =
@@ -341,7 +347,7 @@ pub exit-returns-in_ok-leave-in-None : goal.exit-returns-in_ok-leave-in-None
 exit-returns-in_ok-leave-in-None t c = λ place. at_exit c.args.body.now.program.now c.args.body.now.sub.now place c.args.condition.now (following c.args.body.now.program.now c.args.body.now.sub.now c.args.rest.now) c.in-None.is c.in_ok-leave-in-None.ensures
 
 pub exit-returns-in_ok-exit_when-in-Some : goal.exit-returns-in_ok-exit_when-in-Some
-exit-returns-in_ok-exit_when-in-Some t c = λ place. at_exit c.args.body.now.program.now c.args.body.now.sub.now place c.args.condition.now (following c.args.body.now.program.now c.args.body.now.sub.now c.args.rest.now) c.in-Some.is c.in_ok-exit_when-in-Some.ensures
+exit-returns-in_ok-exit_when-in-Some t c = λ place. at_exit c.args.body.now.program.now c.args.body.now.sub.now place c.args.condition.now (following c.args.body.now.program.now c.args.body.now.sub.now c.args.rest.now) (c.in-Some.is ∙ ap Some (sym c.get.ensures)) c.in_ok-exit_when-in-Some.ensures
 
 pub path-exit-requires : goal.path-exit-requires
 path-exit-requires t c =

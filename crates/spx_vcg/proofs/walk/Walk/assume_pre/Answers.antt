@@ -11,4 +11,4 @@ returns-in-Some c =
     let p = c.args.program.now in
     let sub = c.args.sub.now in
     let at = entry_terms p sub c.in_ok-interface.interface c.in_ok-interface.ensures in
-    after_parts _ (pre_facts p sub sub.pre) c.in_ok-assume_parts.ensures.keeps c.in_ok-assume_parts.ensures.walks (ap (pre_facts p sub) c.in-Some.is ∙ ap (λ entries. conjuncts (term_of p entries c.in-Some.pre.condition)) (sym at))
+    after_parts _ (pre_facts p sub sub.pre) c.in_ok-assume_parts.ensures.keeps c.in_ok-assume_parts.ensures.walks (ap (pre_facts p sub) c.in-Some.is ∙ (λ i. conjuncts (term_of p (sym at i) (sym c.get.ensures i))))

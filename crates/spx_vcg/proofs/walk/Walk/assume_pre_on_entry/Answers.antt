@@ -12,4 +12,4 @@ returns-in-Some c =
     let sub = c.args.body.now.sub.now in
     let at = entry_terms p sub c.args.interface.now c.requires.interface in
     after_parts _ (pre_facts_on_entry p sub sub.pre) c.in_ok-assume_parts.ensures.keeps c.in_ok-assume_parts.ensures.walks
-    (ap (pre_facts_on_entry p sub) c.in-Some.is ∙ ap (λ entries. conjuncts (term_with entries entries c.in-Some.pre.condition)) (sym at))
+    (ap (pre_facts_on_entry p sub) c.in-Some.is ∙ (λ i. conjuncts (term_with (sym at i) (sym at i) (sym c.get.ensures i))))

@@ -1,6 +1,8 @@
-use Rattle.std.proofs.Common.{rules}
+use Rattle.std.proofs.Common.{rules, ap, ◌∙◌}
 use Rattle.std.proofs.lemmas.Int.{to_z-of_z}
 use Rattle.std.specs.Int.{w128}
+use Rattle.spx_core.specs.declared.statement.CoreRange.{CoreRange}
+use Rattle.spx_paths.specs.Walks.{bound_term}
 use Rattle.spx_vcg.proofs.CountSteps.{most_is, high_is, makes_along}
 use Rattle.spx_vcg.proofs.walk.Walk.high_id.Goals as goal
 
@@ -9,4 +11,7 @@ returns-in_ok-id-in-None-clause-makes c =
     makes_along (most_is c.args.body.now.program.now c.args.body.now.sub.now c.args.count.now c.type_of-most.result _ c.in-None.is c.type_of-most.ensures (to_z-of_z w128 c.type_of-most.result.last (search rules))) c.in_ok-id-in-None.ensures.makes
 
 pub returns-in_ok-id-in-Some-clause-makes : goal.returns-in_ok-id-in-Some-clause-makes
-returns-in_ok-id-in-Some-clause-makes c = makes_along (high_is c.args.body.now.program.now c.args.body.now.sub.now c.args.count.now c.last_name-name.result c.in-Some.range c.in-Some.is c.last_name-name.ensures) c.in_ok-id-in-Some.ensures.makes
+returns-in_ok-id-in-Some-clause-makes c =
+    makes_along
+    (ap (bound_term c.args.body.now.program.now c.args.body.now.sub.now c.last_name-name.result) (c.get-in-Some.ensures ∙ ap (λ (range : CoreRange). range.high) c.get.ensures)
+    ∙ high_is c.args.body.now.program.now c.args.body.now.sub.now c.args.count.now c.last_name-name.result c.in-Some.range c.in-Some.is c.last_name-name.ensures) c.in_ok-id-in-Some.ensures.makes
