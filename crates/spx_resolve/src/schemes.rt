@@ -82,7 +82,7 @@ pub fn resolve_scheme(
         Scheme::For(count) => {
             let count = count.get();
             // Two calls keep `resolve_count` a function of its own. Compiled into `resolve_stmt`, which nests, it would
-            // take two fifths of the stack of each level.
+            // take stack at each level.
             let count = match &count.bounds {
                 Some(_) => resolve_count(alloc, count, region, vars, outer)?,
                 None => resolve_count(alloc, count, region, vars, outer)?,
