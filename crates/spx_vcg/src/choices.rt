@@ -20,15 +20,11 @@ fn choice_id(terms: &mut Terms, value: TermId, choice: &CoreChoice) -> Result<Te
     ensures { IfOk result (λ id. Adds terms.old terms.new id (choice_term (tree_at terms.old value) choice.now)) }
 {
     match &choice.high {
-        None => {
-            let same = with_number(terms, value, TermOp::Equal, choice.span.first)?;
-            Ok(same)
-        }
+        None => with_number(terms, value, TermOp::Equal, choice.span.first),
         Some(_) => {
             let low = terms.make(Node::Number(choice.span.first))?;
             let high = terms.make(Node::Number(choice.span.last))?;
-            let within = between(terms, value, low, high)?;
-            Ok(within)
+            between(terms, value, low, high)
         }
     }
 }

@@ -160,8 +160,7 @@ pub fn between(
 {
     let least = terms.infix(TermOp::GreaterOrEqual, tested, low)?;
     let most = terms.infix(TermOp::LessOrEqual, tested, high)?;
-    let both = terms.infix(TermOp::And, least, most)?;
-    Ok(both)
+    terms.infix(TermOp::And, least, most)
 }
 
 /// The id of the term of a membership test.

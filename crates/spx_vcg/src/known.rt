@@ -47,8 +47,7 @@ impl Walk {
         ensures { OnOk result (Goes self.old self.new (assume_all (entry_known program.now (holds interface.now.imports var && holds interface.now.exports var) var))) }
     {
         if interface.imports.contains(var) && interface.exports.contains(var) {
-            self.assume_value(alloc, program, var, entry(program, var))?;
-            return Ok(());
+            return self.assume_value(alloc, program, var, entry(program, var));
         }
         Ok(())
     }

@@ -103,8 +103,7 @@ impl Walk {
         ensures { OnOk result (Goes self.old self.new (assume_all (known_of program.now (holds imports.now var) var))) }
     {
         if imports.contains(var) {
-            self.assume_value(alloc, program, var, now(program, var))?;
-            return Ok(());
+            return self.assume_value(alloc, program, var, now(program, var));
         }
         Ok(())
     }

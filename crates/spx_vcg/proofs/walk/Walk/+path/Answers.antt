@@ -12,7 +12,7 @@ use Rattle.spx_vcg.specs.Following.{Continuation, after, continued, following, l
 use Rattle.spx_arena.proofs.Ids.{wider_ids}
 use Rattle.spx_arena.specs.Claims.{AreIds}
 use Rattle.spx_vcg.specs.ConditionWalk.{State, applied}
-use Rattle.spx_vcg.specs.PathWalk.{Takes, to_end, turn_to_cut, where_true}
+use Rattle.spx_vcg.specs.PathWalk.{to_end, turn_to_cut, where_true}
 use Rattle.spx_vcg.proofs.BranchSteps.{after_arm, after_assert, after_branch, after_check, after_exit, after_null, after_set, at_end, at_exit, comes_ends, ends_along, ends_here, goes_ends, last_arm, next_arm, on_along, out_along, taken_back, takes_along, unless_back}
 use Rattle.spx_vcg.proofs.CheckSteps.{only_at}
 use Rattle.spx_vcg.proofs.ChoiceSteps.{after_case, after_under, here_alternative, next_alternative, no_case}
