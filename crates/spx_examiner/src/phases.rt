@@ -147,21 +147,17 @@ fn on_program(
     }
 }
 
-/// What there is to report on units and inputs: the first broken rule, or else what is asked for. The units are given up before
-/// what is asked for is looked at.
+/// What there is to report on units and inputs: the first broken rule, or else what is asked for.
 fn on_units(
     alloc: Global,
     command: &CommandWords<'_>,
     inputs: &[InputLine],
-    units: Items<Unit>,
+    units: &[Unit],
 ) -> Result<Judgement, AllocError>
-    ensures { (given : List (List ℕ)) → AreInputsIn given (Ok inputs.now) → IfOk result (IsReportOnUnits (request_of command.now) given units) }
+    ensures { (given : List (List ℕ)) → AreInputsIn given (Ok inputs.now) → IfOk result (IsReportOnUnits (request_of command.now) given units.now) }
 {
-    match obeyed(alloc, units.as_slice()) {
-        Ok(program) => {
-            drop(units);
-            on_program(alloc, command, inputs, program)
-        }
+    match obeyed(alloc, units) {
+        Ok(program) => on_program(alloc, command, inputs, program),
         Err(ResolveFault::Breach(breach)) => refused_by(alloc, breach),
         Err(ResolveFault::Memory) => Err(AllocError),
     }
@@ -195,10 +191,10 @@ fn examined(
     alloc: Global,
     command: &CommandWords<'_>,
     given: &[Vec<u8>],
-    units: Items<Unit>,
+    units: &[Unit],
 ) -> Result<Judgement, AllocError>
     requires { any_too_long (contents_of given.now) ≡ false }
-    ensures { IfOk result (IsReportOnUnits (request_of command.now) (contents_of given.now) units) }
+    ensures { IfOk result (IsReportOnUnits (request_of command.now) (contents_of given.now) units.now) }
 {
     match inputs_in(alloc, given) {
         Ok(inputs) => on_units(alloc, command, inputs.lines.as_slice(), units),
@@ -219,7 +215,7 @@ pub fn judge(
     ensures { IfOk result (IsReportOn (request_of command.now) (source.now ∷ contents_of given.now)) }
 {
     match read(alloc, source)? {
-        Reading::Units(units) => examined(alloc, command, given, units),
+        Reading::Units(units) => examined(alloc, command, given, units.as_slice()),
         Reading::Broken(finding) => refused(alloc, finding),
         Reading::TooManyTokens => Ok(Judgement::Limit(LimitName::Tokens)),
         Reading::TooNested => Ok(Judgement::Limit(LimitName::Nesting)),

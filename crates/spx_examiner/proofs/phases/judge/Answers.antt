@@ -10,7 +10,7 @@ use Rattle.spx_examiner.proofs.phases.judge.Goals as goal
 pub returns-in-Units : goal.returns-in-Units
 returns-in-Units c =
     if_ok c.examined.result _ _
-    (λ j report. (Units c.in-Units.units, subst (IsRead c.args.source.now) c.in-Units.is c.in_ok-units.ensures, report))
+    (λ j report. (Units c.in-Units.units, subst (IsRead c.args.source.now) c.in-Units.is c.in_ok-units.ensures, subst (λ us. IsReportOnUnits (request_of c.args.command.now) (contents_of c.args.given.now) us j) c.as_slice.ensures report))
     c.examined.ensures
 
 pub returns-in-Broken : goal.returns-in-Broken
