@@ -87,7 +87,7 @@ def main(command):
     status, table = measure(command or ["rt", "ci", "--anew"])
     print(f"{'crate':16}" + "".join(f"{part:>8}" for part in (*PARTS, "all")))
     total = collections.Counter()
-    for crate in sorted(table, key=lambda name: -table[name].total()):
+    for crate in sorted(table, key=lambda name: -sum(table[name].values())):
         total.update(table[crate])
         print(line(crate, table[crate]))
     print(line("all", total))
@@ -97,7 +97,7 @@ def main(command):
 
 def line(name, seconds):
     """A line of the table, in minutes."""
-    values = [seconds[part] for part in PARTS] + [seconds.total()]
+    values = [seconds[part] for part in PARTS] + [sum(seconds.values())]
     return f"{name:16}" + "".join(f"{value / 60:8.1f}" for value in values)
 
 
