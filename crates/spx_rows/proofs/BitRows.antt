@@ -167,12 +167,13 @@ bit_added n words u w un wn len = gains_table n _ _ _
     inside : u * width n + w / 64 < length words
     inside = let p = in_row n w wn in let q = row_fits n (width n) u un in omega arith
 
+-- no bit is set in a word that is 0
+pub unset_in_zero : (x i : ℕ) → x ≡ 0 → bit_at x i ≡ 1 → ⊥
+unset_in_zero x i empty h = let z = bit_at-zero i in let q : bit_at 0 i ≡ 1 = ap (λ y. bit_at y i) (sym empty) ∙ h in omega arith
+
 -- no bit is set in zeros
 pub none_set : (words : List ℕ) → ((k : ℕ) → get_or words k 0 ≡ 0) → (start b : ℕ) → IsTrue (bit words start b) → ⊥
-none_set words none start b h =
-    let z = bit_at-zero (b % 64) in
-    let q : bit_at 0 (b % 64) ≡ 1 = ap (λ x. bit_at x (b % 64)) (sym (none (start + b / 64))) ∙ (is_set words start b).0 h in
-    omega arith
+none_set words none start b h = unset_in_zero _ (b % 64) (none (start + b / 64)) ((is_set words start b).0 h)
 
 get_or-zeros : (n k : ℕ) → let z : ℕ = 0 in get_or (replicate n z) k z ≡ z
 get_or-zeros zero k = refl
@@ -207,6 +208,16 @@ module _ (n : ℕ) (m : Matrix) (words : List ℕ) (is : table n (bits n words) 
         λ h. (holds_table n (bits n words) u w).1 (below u um, below w wm, (set_in n words u w).1 (sym same ∙ eqb-true _ _ h)),
         λ h. eq-eqb _ _ (same ∙ (set_in n words u w).0 ((holds_table n (bits n words) u w).0 h).2),
       )
+
+  -- none of the numbers of a word that is 0 is there
+  pub none_at : (u k row x : ℕ) → u < length m → k < width (length m) → length words ≡ n * width n → row ≡ u * width n → x ≡ get_or words (row + k) x → x ≡ 0 →
+      (w : ℕ) → w / 64 ≡ k → Holds m u w → ⊥
+  none_at u k row x um lt len e r empty w at h =
+      let kn : k < width n = subst (λ s. k < width s) (sym (size_of n (bits n words) m is)) lt in
+      let q = row_fits n (width n) u (below u um) in
+      let p = (holds_table n (bits n words) u w).0 (subst (λ t. Holds t u w) (sym is) h) in
+      let there : word n words u w ≡ get_or words (row + k) 0 = cc (at, e) in
+      unset_in_zero (word n words u w) (w % 64) (there ∙ sym (r ∙ get_or_default words (row + k) x 0 (omega arith)) ∙ empty) ((set_in n words u w).0 p.2)
 
   pub add_at : (u w row x : ℕ) → u < length m → w < length m → length words ≡ n * width n → row ≡ u * width n → x ≡ get_or words (row + w / 64) x →
       Gains m (table n (bits n (set words (row + w / 64) (bit_or x (1 * 2 ^ (w % 64) % 2 ^ 64))))) (λ a b. (u ≡ a) × (w ≡ b))

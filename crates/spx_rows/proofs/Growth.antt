@@ -1,7 +1,7 @@
 -- Relations to which a loop adds pairs.
-use Rattle.std.proofs.Common.{◌≡◌, ◌≢◌, ap, ℕ, ◌<◌, ◌≤◌, ◌+◌, ◌⊎◌, ◌↔◌, inl, inr, Bool, List, length, get_or, refl, sym, ◌∙◌, subst, ⊎_elim, arith}
+use Rattle.std.proofs.Common.{◌≡◌, ◌≢◌, ap, ℕ, ◌<◌, ◌≤◌, ◌+◌, ◌*◌, ◌/◌, ◌⊎◌, ◌↔◌, inl, inr, Bool, List, length, get_or, refl, sym, ◌∙◌, subst, ⊎_elim, arith}
 use Rattle.std.specs.Prelude.{Contains}
-use Rattle.std.proofs.lemmas.Bool.{cases_eq}
+use Rattle.std.proofs.lemmas.Bool.{cases_eq, cases_lt}
 use Rattle.std.proofs.lemmas.List.{get_or_default}
 use Rattle.std.proofs.lemmas.List.Elements.{Contains-get_or}
 use Rattle.spx_rows.specs.Relations.{Rel, Matrix, Has, Holds, Gains, Of}
@@ -95,3 +95,26 @@ unites_all from m row i past within g w = (
 pub record Collected (many : ℕ) (row : List Bool) (i : ℕ) (Q : ℕ → ℕ → Type 0) : Type 0 where
   pub size : length row ≡ many
   pub numbers : (w : ℕ) → Has row w ↔ ((k : ℕ) × (k < i) × Q k w)
+
+-- the same for a row that has something before
+pub record Joined (start now : List Bool) (i : ℕ) (Q : ℕ → ℕ → Type 0) : Type 0 where
+  pub size : length now ≡ length start
+  pub numbers : (w : ℕ) → Has now w ↔ (Has start w ⊎ ((k : ℕ) × (k < i) × Q k w))
+
+-- a loop over words has gone over one word more, or past a word that has nothing
+module _ (many at : ℕ) (row : List Bool) (P : ℕ → Type 0) (R : ℕ → ℕ → Type 0) (g : Collected many row (64 * at) (λ k w. P k × R k w)) where
+  pub collected_word : (next : List Bool) → length next ≡ length row → ((w : ℕ) → Has next w ↔ (Has row w ⊎ ((k : ℕ) × (k / 64 ≡ at) × P k × R k w))) →
+      Collected many next (64 * (at + 1)) (λ k w. P k × R k w)
+  collected_word next e gains = record {
+    size = e ∙ g.size;
+    numbers = λ w. (
+      λ h. ⊎_elim (λ p. let q = (g.numbers w).0 p in (q.0, omega (arith, q.1), q.2)) (λ p. (p.0, omega (arith, p.1), (p.2, p.3))) ((gains w).0 h),
+      λ h. (gains w).1 (⊎_elim
+          (λ less. inl ((g.numbers w).1 (h.0, less, h.2)))
+          (λ past. inr (h.0, omega (arith, h.1, past), h.2.0, h.2.1))
+          (cases_lt h.0 (64 * at))),
+    );
+  }
+
+  pub collected_skip : ((k : ℕ) → k / 64 ≡ at → P k → ⊥) → Collected many row (64 * (at + 1)) (λ k w. P k × R k w)
+  collected_skip none = collected_word row refl (λ w. (λ h. inl h, λ h. ⊎_elim (λ p. p) (λ p. absurd (none p.0 p.1 p.2)) h))

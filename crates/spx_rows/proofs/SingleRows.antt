@@ -7,7 +7,7 @@ use Rattle.std.proofs.lemmas.List.FromFn.{length-map-range_with_len}
 use Rattle.std.proofs.lemmas.Nat.Bits.{bit_at_and, bit_at-lt, shr_and_one}
 use Rattle.spx_rows.specs.Relations.{Matrix, row_of, table, Has, Holds}
 use Rattle.spx_rows.specs.Bits.{Changed, width, bit}
-use Rattle.spx_rows.proofs.BitRows.{bits, has_row, holds_table, size_of, is_set, in_row, with_bit, bit_more, bit_or_at, none_set}
+use Rattle.spx_rows.proofs.BitRows.{bits, has_row, holds_table, size_of, is_set, in_row, with_bit, bit_more, bit_or_at, none_set, unset_in_zero}
 
 pub row_size : (n : ℕ) (f : ℕ → Bool) (row : List Bool) → row_of n f ≡ row → n ≡ length row
 row_size n f row e = sym (length-map-range_with_len f 0 n) ∙ ap length e
@@ -52,6 +52,13 @@ module _ (n : ℕ) (row : List Bool) (words : List ℕ) (is : row_of n (bit word
         λ h. (has_row n (bit words 0) w).1 (below w wm, (set_first words w).1 (sym same ∙ eqb-true _ _ h)),
         λ h. eq-eqb _ _ (same ∙ (set_first words w).0 ((has_row n (bit words 0) w).0 h).1),
       )
+
+  -- none of the numbers of a word that is 0 is there
+  pub none_at : (k x : ℕ) → k < width (length row) → length words ≡ width n → x ≡ get_or words k x → x ≡ 0 → (w : ℕ) → w / 64 ≡ k → Has row w → ⊥
+  none_at k x lt len r empty w at h =
+      let inside : k < length words = subst (λ s. k < s) (ap width (sym (row_size n (bit words 0) row is)) ∙ sym len) lt in
+      let p = (has_row n (bit words 0) w).0 (subst (λ t. Has t w) (sym is) h) in
+      unset_in_zero (get_or words (w / 64) 0) (w % 64) (ap (λ j. get_or words j 0) at ∙ sym (r ∙ get_or_default words k x 0 inside) ∙ empty) ((set_first words w).0 p.1)
 
   pub add_at : (w x : ℕ) → w < length row → length words ≡ width n → x ≡ get_or words (w / 64) x →
       (b : ℕ) → Has (row_of n (bit (set words (w / 64) (bit_or x (1 * 2 ^ (w % 64) % 2 ^ 64))) 0)) b ↔ (Has row b ⊎ (w ≡ b))

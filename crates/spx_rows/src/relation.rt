@@ -1,7 +1,7 @@
 // Relations between the numbers below a size.
 #![tactic(auto, using(crate::proofs::BitRows::size_of))]
 
-ghost use Rattle.std.specs.Prelude.{◌≡◌, ◌≢◌, ℕ, ◌+◌, ◌*◌, ◌<◌, ◌≤◌, IfOk, All, Contains, IsTrue, length, ◌↔◌, ◌⊎◌};
+ghost use Rattle.std.specs.Prelude.{◌≡◌, ◌≢◌, ℕ, ◌+◌, ◌*◌, ◌/◌, ◌<◌, ◌≤◌, IfOk, All, Contains, IsTrue, length, ◌↔◌, ◌⊎◌};
 ghost use Rattle.spx_rows.specs.Bits.{width};
 ghost use Rattle.spx_rows.specs.Relations.{Matrix, Has, Holds, Gains, Then, Star, Of, Through};
 
@@ -90,6 +90,15 @@ impl Relation {
         (self.words[row_at(self.size, u) + w / 64] >> (w % 64)) & 1 == 1
     }
 
+    /// Whether a word of row `u` is 0: then no number whose bit lies in it is there.
+    fn is_word_empty(&self, u: usize, at: usize) -> bool
+        requires u { u < length self.now }
+        requires at { at < width (length self.now) }
+        ensures { IsTrue result → (w : ℕ) → w / 64 ≡ at → ¬ Holds self.now u w }
+    {
+        self.words[row_at(self.size, u) + at] == 0
+    }
+
     /// The numbers that `u` stands with, as a set of its own.
     pub fn row(&self, alloc: Global, u: usize) -> Result<Row, AllocError>
         requires { u < length self.now }
@@ -129,12 +138,28 @@ impl Relation {
         ensures { IfOk result (λ row. (length row ≡ length self.now) × ((w : ℕ) → Has row w ↔ ((x : ℕ) × Has from.now x × Holds self.now x w))) }
     {
         let mut row = Row::with_size(alloc, self.size())?;
-        for x in 0..self.size() {
-            if from.has(x) {
-                self.add_row_to(x, &mut row);
+        for at in 0..width_of(self.size()) {
+            if !from.is_word_empty(at) {
+                self.add_rows_of_word(from, at, &mut row);
             }
         }
         Ok(row)
+    }
+
+    /// Adds to a set the rows of those numbers of another one that lie in one of its words.
+    fn add_rows_of_word(&self, from: &Row, at: usize, row: &mut Row)
+        requires from { length from.now ≡ length self.now }
+        requires at { at < width (length self.now) }
+        requires size { length row.old ≡ length self.now }
+        ensures size { length row.new ≡ length row.old }
+        ensures numbers { (w : ℕ) → Has row.new w ↔ (Has row.old w ⊎ ((x : ℕ) × (x / 64 ≡ at) × Has from.now x × Holds self.now x w)) }
+    {
+        let size = self.size();
+        for x in 64 * at..(64 * at + 64).min(size) {
+            if from.has(x) {
+                self.add_row_to(x, row);
+            }
+        }
     }
 
     /// Adds a pair.
@@ -258,7 +283,24 @@ impl Relation {
         ensures size { length self.new ≡ length self.old }
         ensures pairs { Gains self.old self.new (λ a b. (u ≡ a) × Then (Holds first.now) (Holds second.now) u b) }
     {
-        for v in 0..self.size() {
+        for at in 0..width_of(self.size()) {
+            if !first.is_word_empty(u, at) {
+                self.compose_word(u, first, second, at);
+            }
+        }
+    }
+
+    /// Adds to the row `u` what the pairs of the first whose bits lie in one word of its row lead to by the second.
+    fn compose_word(&mut self, u: usize, first: &Relation, second: &Relation, at: usize)
+        requires u { u < length self.old }
+        requires first { length first.now ≡ length self.old }
+        requires second { length second.now ≡ length self.old }
+        requires at { at < width (length self.old) }
+        ensures size { length self.new ≡ length self.old }
+        ensures pairs { Gains self.old self.new (λ a b. (u ≡ a) × ((v : ℕ) × (v / 64 ≡ at) × Holds first.now u v × Holds second.now v b)) }
+    {
+        let size = self.size();
+        for v in 64 * at..(64 * at + 64).min(size) {
             if first.has(u, v) {
                 self.add_row_of(u, second, v);
             }

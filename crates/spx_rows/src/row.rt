@@ -1,7 +1,7 @@
 // Sets of numbers below a size.
 #![tactic(auto, using(crate::proofs::SingleRows::row_size))]
 
-ghost use Rattle.std.specs.Prelude.{◌≡◌, ℕ, ◌+◌, ◌<◌, ◌≤◌, IfOk, IsTrue, length, ◌↔◌, ◌⊎◌};
+ghost use Rattle.std.specs.Prelude.{◌≡◌, ℕ, ◌+◌, ◌/◌, ◌<◌, ◌≤◌, IfOk, IsTrue, length, ◌↔◌, ◌⊎◌};
 ghost use Rattle.std.specs.Int.{bit_at};
 ghost use Rattle.spx_rows.specs.Bits.{width, bit};
 ghost use Rattle.spx_rows.specs.Relations.{row_of, Has};
@@ -69,6 +69,14 @@ impl Row {
         ensures { IsTrue result ↔ Has self.now w }
     {
         (self.words[w / 64] >> (w % 64)) & 1 == 1
+    }
+
+    /// Whether a word is 0: then no number whose bit lies in it is there.
+    pub(crate) fn is_word_empty(&self, at: usize) -> bool
+        requires { at < width (length self.now) }
+        ensures { IsTrue result → (w : ℕ) → w / 64 ≡ at → ¬ Has self.now w }
+    {
+        self.words[at] == 0
     }
 
     /// Adds a number.
