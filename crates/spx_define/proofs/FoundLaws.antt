@@ -2,20 +2,18 @@
 use Rattle.std.proofs.Common.{◌≡◌, ◌≢◌, ◌↔◌, ◌⊎◌, Bool, true, false, List, [], ◌∷◌, ◌++◌, Option, Some, None, option_map, refl, sym, ap, ap₂, ◌∙◌, subst, inl, inr, ⊎_elim, true≢false}
 use Rattle.std.specs.Prelude.{Contains, ◌&&◌, ◌==◌, if◌then◌else◌}
 use Rattle.std.specs.Bool.{Decides}
-use Rattle.std.specs.List.{AllPairs, IsDistinct, filter_map, list_any}
+use Rattle.std.specs.List.{AllPairs, IsDistinct, list_any}
 use Rattle.std.proofs.lemmas.Map.Made.{AllPairs-from_IsDistinct}
 use Rattle.std.specs.Option.{option_to_list}
 use Rattle.std.proofs.lemmas.Bool.{and_parts, eqb-true, eq-eqb}
-use Rattle.std.proofs.lemmas.List.Elements.{Contains-append_left, Contains-append_right, Contains-append_cases, Contains-push, Contains-push_cases, filter_map-append}
+use Rattle.std.proofs.lemmas.List.Elements.{Contains-append_left, Contains-append_right, Contains-append_cases, Contains-push, Contains-push_cases}
 use Rattle.indexmap.specs.IndexSet.{insert_key}
 use Rattle.indexmap.proofs.CallerLemmas.{Contains-insert_key}
 use Rattle.spx_text.specs.declared.place.Place.{Place}
 use Rattle.spx_core.specs.declared.entity.VarId.{VarId}
-use Rattle.spx_core.specs.declared.expression.CoreExpr.{CoreExpr}
 use Rattle.spx_core.specs.declared.name.Reference.{Reference}
 use Rattle.spx_core.specs.declared.dependency.CoreDerivesItem.{CoreDerivesItem}
-use Rattle.spx_core.specs.Effects.{Read, read_of, reads_of}
-use Rattle.spx_core.specs.Reads.{names_read}
+use Rattle.spx_core.specs.Effects.{Read}
 use Rattle.spx_core.specs.Uses.{denotes, is_same, mentions, variable_of}
 use Rattle.spx_core.specs.Mirror.DerivesItems.{has_export}
 use Rattle.spx_core.specs.Marks.{same_place}
@@ -82,15 +80,6 @@ module _ (eq : Read → Read → Bool) (same : (a b : Read) → eq a b ≡ true 
   }
 
 -- ---- the reads of an expression
-
-pub reads_of_both : (e a b : CoreExpr) → names_read e ≡ names_read a ++ names_read b → reads_of e ≡ reads_of a ++ reads_of b
-reads_of_both e a b both = ap (filter_map read_of) both ∙ filter_map-append read_of (names_read a) (names_read b)
-
-pub reads_of_three : (e a b c : CoreExpr) → names_read e ≡ names_read a ++ (names_read b ++ names_read c) → reads_of e ≡ reads_of a ++ (reads_of b ++ reads_of c)
-reads_of_three e a b c three =
-    ap (filter_map read_of) three
-    ∙ filter_map-append read_of (names_read a) (names_read b ++ names_read c)
-    ∙ ap (λ rest. reads_of a ++ rest) (filter_map-append read_of (names_read b) (names_read c))
 
 -- ---- exports at a place
 

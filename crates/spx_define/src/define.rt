@@ -1,14 +1,14 @@
 // Reads of variables that may be unset (Bergeretti and Carré, TOPLAS 1985).
-ghost use Rattle.std.specs.Prelude.{◌≡◌, ◌≢◌, ◌<◌, ◌&&◌, [], ◌∷◌, Some, is_some, length, not, filter, map, option_map, slice_get, IfOk, OnOk};
+ghost use Rattle.std.specs.Prelude.{◌≡◌, ◌≢◌, ◌<◌, ◌&&◌, [], ◌∷◌, Some, is_some, length, not, filter, map, slice_get, IfOk, OnOk};
 ghost use Rattle.std.specs.List.{AllPairs};
 ghost use Rattle.std.specs.Option.{option_to_list};
 ghost use Rattle.spx_text.specs.declared.place.Place.{Place};
 ghost use Rattle.spx_core.specs.declared.entity.VarId.{VarId};
 ghost use Rattle.spx_core.specs.declared.subprogram.Sub.{Sub};
-ghost use Rattle.spx_core.specs.Commands.{Choose, Counted, Repeat, Set, alternative, arm_before, arms_before, command, commands, exit_where, loop_of, select};
-ghost use Rattle.spx_core.specs.Effects.{effect, effects, reads_in, reads_of, reads_of_range};
+ghost use Rattle.spx_core.specs.Effects.{count, effects, reads_in};
+ghost use Rattle.spx_lower.specs.Meaning.{arm_of, branch, effect_in, effect_of, ended, loop_over};
 ghost use Rattle.spx_core.specs.Formals.{initial_of};
-ghost use Rattle.spx_core.specs.Uses.{denotes};
+ghost use Rattle.spx_core.specs.Uses.{is_same};
 ghost use Rattle.spx_core.specs.Mirror.VarSets.{holds};
 ghost use Rattle.spx_define.specs.declared.reached.Reached.{Reached};
 ghost use Rattle.spx_define.specs.Passes.{Finds, Passes, PassesBefore, exports_at, is_unset, read_at, reads_at};
@@ -17,12 +17,11 @@ ghost use Rattle.spx_define.specs.UnsetReads.{AreUnsetReads};
 use crate::reached::Reached;
 use indexmap::IndexSet;
 use spx_core::{
-    CoreAlternative, CoreArm, CoreCount, CoreDerivesItem, CoreExpr, CoreRange, CoreScheme,
-    CoreStmt, Entity, Program, Reference, Sub, SubId, VarId, VarKind, VarSet, has_own_exit,
-    variable_of,
+    CoreDerivesItem, Entity, Program, Reference, Sub, SubId, VarId, VarKind, VarSet, variable_of,
 };
+use spx_lower::{Arm, Head, Item, Read, lower};
 use spx_text::Place;
-use sqlite_items::Boxed;
+use sqlite_items::{Boxed, Items};
 use std::alloc::{AllocError, Global};
 
 /// Reads of variables, at the place of the name.
@@ -57,51 +56,33 @@ fn add_unset(
     }
 }
 
-/// Adds what an expression reads of variables that may be unset.
-#[cycle(add_unset_names)]
-fn add_unset_names(here: &Reached, expr: &CoreExpr, found: &mut Reads) -> Result<(), AllocError>
-    ensures { OnOk result (Finds here.now (reads_of expr.now) found.old.keys found.new.keys) }
+fn add_unset_read(here: &Reached, read: &Read, found: &mut Reads) -> Result<(), AllocError>
+    ensures { OnOk result (Finds here.now (read.now ∷ []) found.old.keys found.new.keys) }
 {
-    match expr {
-        CoreExpr::Number(_, _) => Ok(()),
-        CoreExpr::Name(name) => add_unset(here, name.name.place, name.entity, found),
-        CoreExpr::Entry(name, _) => add_unset(here, name.name.place, name.entity, found),
-        CoreExpr::Attribute(_, _) => Ok(()),
-        CoreExpr::Applied(_, _, operand) => add_unset_names(here, operand.get(), found),
-        CoreExpr::Parenthesized(_, inner) => add_unset_names(here, inner.get(), found),
-        CoreExpr::Prefix(_, _, operand) => add_unset_names(here, operand.get(), found),
-        CoreExpr::Infix(_, _, left, right) => {
-            add_unset_names(here, left.get(), found)?;
-            add_unset_names(here, right.get(), found)
-        }
-        CoreExpr::InType(_, _, tested, _) => add_unset_names(here, tested.get(), found),
-        CoreExpr::InRange(_, _, tested, low, high) => {
-            add_unset_names(here, tested.get(), found)?;
-            add_unset_names(here, low.get(), found)?;
-            add_unset_names(here, high.get(), found)
-        }
-    }
+    add_unset_variable(here, read.0, read.1, found)
 }
 
-/// Adds what a range reads of variables that may be unset.
-fn add_unset_range(here: &Reached, range: &CoreRange, found: &mut Reads) -> Result<(), AllocError>
-    ensures { OnOk result (Finds here.now (reads_of_range range.now) found.old.keys found.new.keys) }
+/// Adds what is read of variables that may be unset.
+fn add_unset_reads(here: &Reached, reads: &[Read], found: &mut Reads) -> Result<(), AllocError>
+    ensures { OnOk result (Finds here.now reads.now found.old.keys found.new.keys) }
 {
-    add_unset_names(here, range.low.get(), found)?;
-    add_unset_names(here, range.high.get(), found)
+    for k in 0..reads.len() {
+        add_unset_read(here, &reads[k], found)?;
+    }
+    Ok(())
 }
 
 /// Adds what the bounds of a loop read of variables that may be unset, where they are written.
 fn add_unset_bounds(
     here: &Reached,
-    bounds: &Option<Boxed<CoreRange>>,
+    bounds: &Option<Items<Read>>,
     found: &mut Reads,
 ) -> Result<(), AllocError>
-    ensures { OnOk result (Finds here.now (reads_in (option_map reads_of_range bounds.now)) found.old.keys found.new.keys) }
+    ensures { OnOk result (Finds here.now (reads_in bounds.now) found.old.keys found.new.keys) }
 {
     match bounds {
         None => Ok(()),
-        Some(range) => add_unset_range(here, range.get(), found),
+        Some(reads) => add_unset_reads(here, reads.as_slice(), found),
     }
 }
 
@@ -135,110 +116,94 @@ fn add_unset_exports(
 }
 
 /// The variable that is assigned to is set from here on.
-fn set_target(here: &mut Reached, target: &Reference) -> Result<(), AllocError>
-    ensures { OnOk result ((v : VarId) → is_unset here.new v ≡ (not (denotes v target.now.root) && is_unset here.old v)) }
+fn set_target(here: &mut Reached, target: Option<VarId>) -> Result<(), AllocError>
+    ensures { OnOk result ((v : VarId) → is_unset here.new v ≡ (not (is_same v target) && is_unset here.old v)) }
 {
-    match variable_of(target.root.entity) {
+    match target {
         Some(var) => here.insert(var),
         None => Ok(()),
     }
 }
 
-/// Goes over an assignment: the target is set only after the right side is read.
-fn go_over_assignment(
-    target: &Reference,
-    value: &CoreExpr,
-    here: &mut Reached,
-    found: &mut Reads,
-) -> Result<(), AllocError>
-    ensures { OnOk result ((exits : Reached) → Passes (effect (Set target.now value.now)) here.old here.new exits exits found.old.keys found.new.keys) }
-{
-    add_unset_names(here, value, found)?;
-    set_target(here, target)
-}
-
-/// Goes over an exit. One with a condition may leave the loop here, and the other ends its arm, which counts there.
-fn go_over_exit(
-    alloc: Global,
-    condition: &Option<Boxed<CoreExpr>>,
-    here: &Reached,
-    exits: &mut Reached,
-    found: &mut Reads,
-) -> Result<(), AllocError>
-    ensures { OnOk result ((place : Place) → Passes (effect (exit_where place condition.now)) here.now here.now exits.old exits.new found.old.keys found.new.keys) }
-{
-    match condition {
-        None => Ok(()),
-        Some(test) => {
-            add_unset_names(here, test.get(), found)?;
-            *exits = exits.joined(alloc, here)?;
-            Ok(())
-        }
-    }
-}
-
-/// Goes over a statement. A variable is set only after the right side is read, after an `if` or a `case` only where each arm
-/// or alternative that goes on sets it, and after a loop only where each way out of it does. `exits` are the ways to where
-/// the loop around the statement is left.
+/// Goes over an item. A variable is set only after the right side is read, after a branch only where each arm that goes on sets
+/// it, and after a loop only where each way out of it does. `exits` are the ways to where the loop around the item is left.
 #[cycle(go_over)]
 fn go_over(
     alloc: Global,
-    stmt: &CoreStmt,
+    item: &Item,
     here: &mut Reached,
     exits: &mut Reached,
     found: &mut Reads,
 ) -> Result<(), AllocError>
-    ensures { OnOk result (Passes (effect (command stmt.now)) here.old here.new exits.old exits.new found.old.keys found.new.keys) }
+    ensures { OnOk result (Passes (effect_of item.now) here.old here.new exits.old exits.new found.old.keys found.new.keys) }
 {
-    match stmt {
-        CoreStmt::Null(_) => Ok(()),
-        CoreStmt::Assignment(target, value) => {
-            go_over_assignment(target.get(), value.get(), here, found)
+    match item {
+        Item::Nothing => Ok(()),
+        Item::Assign(assignment) => {
+            let assignment = assignment.get();
+            add_unset_reads(here, assignment.reads.as_slice(), found)?;
+            set_target(here, assignment.target)
         }
-        CoreStmt::If(arms, otherwise, _) => match otherwise {
-            None => {
-                let mut ends = here.copy(alloc)?;
-                go_over_arms(alloc, arms.get().as_slice(), here, &mut ends, exits, found)?;
-                *here = ends;
-                Ok(())
-            }
-            Some(stmts) => {
-                let mut ends = here.copy(alloc)?;
-                go_over_all(alloc, stmts.get().as_slice(), &mut ends, exits, found)?;
-                go_over_arms(alloc, arms.get().as_slice(), here, &mut ends, exits, found)?;
-                *here = ends;
-                Ok(())
-            }
-        },
-        CoreStmt::Case(_, selector, alternatives, _) => {
-            let alternatives = alternatives.get().as_slice();
-            go_over_case(alloc, alternatives, selector.get(), here, exits, found)
+        Item::Observe(reads) => add_unset_reads(here, reads.as_slice(), found),
+        Item::Branch(selector, arms, last, otherwise) => {
+            let selector = selector.get().as_slice();
+            let otherwise = otherwise.get().as_slice();
+            let mut ends = go_over_otherwise(alloc, otherwise, selector, last, here, exits, found)?;
+            let arms = arms.get().as_slice();
+            go_over_arms(alloc, arms, selector, here, &mut ends, exits, found)?;
+            *here = ends;
+            Ok(())
         }
-        CoreStmt::Loop(scheme, _, body, _) => {
-            go_over_loop(alloc, body.get().as_slice(), scheme.get(), here, found)
-        }
-        CoreStmt::Assertion(_, _, condition) => add_unset_names(here, condition.get(), found),
-        CoreStmt::Exit(_, condition) => go_over_exit(alloc, condition, here, exits, found),
+        Item::Loop(head, body) => go_over_loop(alloc, body.as_slice(), head.get(), here, found),
     }
 }
 
-/// Goes over what is done where a test passes: `ends` are the ways to the end where it fails, and then to the end of both.
-/// An arm that ends with an exit goes on to where the loop is left.
+/// Goes over what is done where no test is true.
 #[cycle(go_over)]
-fn go_over_branch(
+fn go_over_otherwise(
     alloc: Global,
-    body: &[CoreStmt],
-    test: &CoreExpr,
+    items: &[Item],
+    selector: &[Read],
+    last: &Option<Boxed<Place>>,
+    here: &Reached,
+    exits: &mut Reached,
+    found: &mut Reads,
+) -> Result<Reached, AllocError>
+    ensures { IfOk result (λ ends. Passes (ended selector.now last.now (effect_in items.now)) here.now ends exits.old exits.new found.old.keys found.new.keys) }
+{
+    let mut ends = here.copy(alloc)?;
+    match last {
+        None => {
+            go_over_all(alloc, items, &mut ends, exits, found)?;
+            Ok(ends)
+        }
+        Some(_) => {
+            add_unset_reads(here, selector, found)?;
+            go_over_all(alloc, items, &mut ends, exits, found)?;
+            Ok(ends)
+        }
+    }
+}
+
+/// Goes over an arm: `ends` are the ways to the end where its test fails, and then to the end of both. An arm that ends with an
+/// exit goes on to where the loop is left.
+#[cycle(go_over)]
+fn go_over_arm(
+    alloc: Global,
+    arm: &Arm,
+    selector: &[Read],
     here: &Reached,
     ends: &mut Reached,
     exits: &mut Reached,
     found: &mut Reads,
 ) -> Result<(), AllocError>
-    ensures { OnOk result ((place : Place) → PassesBefore (λ otherwise. Choose place test.now (commands body.now) otherwise) here.now ends.old ends.new exits.old exits.new found.old.keys found.new.keys) }
+    ensures { OnOk result (PassesBefore (λ otherwise. branch selector.now otherwise (arm_of arm.now ∷ [])) here.now ends.old ends.new exits.old exits.new found.old.keys found.new.keys) }
 {
-    add_unset_names(here, test, found)?;
+    add_unset_reads(here, arm.reads.as_slice(), found)?;
+    add_unset_reads(here, selector, found)?;
     let mut end = here.copy(alloc)?;
-    if has_own_exit(body) {
+    let body = arm.body.as_slice();
+    if arm.is_exit {
         let mut inner = Reached::NoWay;
         go_over_all(alloc, body, &mut end, &mut inner, found)?;
         *exits = exits.joined(alloc, &end)?;
@@ -250,84 +215,51 @@ fn go_over_branch(
     }
 }
 
-/// Goes over the arms from the last to the first: `ends` are the ways to the end of what is done where all conditions are
-/// false, and then also those to the end of each arm.
+/// Goes over the arms from the last to the first: `ends` are the ways to the end of what is done where all tests are false, and
+/// then also those to the end of each arm.
 #[cycle(go_over)]
 fn go_over_arms(
     alloc: Global,
-    arms: &[CoreArm],
+    arms: &[Arm],
+    selector: &[Read],
     here: &Reached,
     ends: &mut Reached,
     exits: &mut Reached,
     found: &mut Reads,
 ) -> Result<(), AllocError>
-    ensures { OnOk result (PassesBefore (λ otherwise. arms_before otherwise (map arm_before arms.now)) here.now ends.old ends.new exits.old exits.new found.old.keys found.new.keys) }
+    ensures { OnOk result (PassesBefore (λ otherwise. branch selector.now otherwise (map arm_of arms.now)) here.now ends.old ends.new exits.old exits.new found.old.keys found.new.keys) }
 {
     for k in (0..arms.len()).rev() {
-        let arm = &arms[k];
-        let body = arm.body.get().as_slice();
-        let test = arm.condition.get();
-        go_over_branch(alloc, body, test, here, ends, exits, found)?;
+        go_over_arm(alloc, &arms[k], selector, here, ends, exits, found)?;
     }
-    Ok(())
-}
-
-/// Goes over the alternatives of a `case`, from the last to the first: the last one as what stands after `else`, and each
-/// other one as an arm.
-#[cycle(go_over)]
-fn go_over_case(
-    alloc: Global,
-    alternatives: &[CoreAlternative],
-    selector: &CoreExpr,
-    here: &mut Reached,
-    exits: &mut Reached,
-    found: &mut Reads,
-) -> Result<(), AllocError>
-    ensures { OnOk result ((place : Place) → Passes (effect (select place selector.now (map alternative alternatives.now))) here.old here.new exits.old exits.new found.old.keys found.new.keys) }
-{
-    if alternatives.is_empty() {
-        return Ok(());
-    }
-    let last = alternatives.len() - 1;
-    add_unset_names(here, selector, found)?;
-    let mut ends = here.copy(alloc)?;
-    go_over_all(
-        alloc,
-        alternatives[last].body.as_slice(),
-        &mut ends,
-        exits,
-        found,
-    )?;
-    for k in (0..last).rev() {
-        let body = alternatives[k].body.as_slice();
-        go_over_branch(alloc, body, selector, here, &mut ends, exits, found)?;
-    }
-    *here = ends;
     Ok(())
 }
 
 /// Goes over a loop: what stands at its head, and one turn of its body, since later turns find nothing that the first does
 /// not. Past a `while` all is as it was before, since no turn need be run, and past a loop with no head is what its exits
-/// lead to. It leaves no loop around it.
+/// lead to. A parameter is set in the turns. Between bounds that are written no turn need be run, and else there is one, which
+/// ends or is left; after the loop it is set only where it was set before. A loop leaves no loop around it.
 #[cycle(go_over)]
 fn go_over_loop(
     alloc: Global,
-    body: &[CoreStmt],
-    scheme: &CoreScheme,
+    body: &[Item],
+    head: &Head,
     here: &mut Reached,
     found: &mut Reads,
 ) -> Result<(), AllocError>
-    ensures { OnOk result ((exits : Reached) → Passes (effect (loop_of scheme.now (commands body.now))) here.old here.new exits exits found.old.keys found.new.keys) }
+    ensures { OnOk result ((exits : Reached) → Passes (loop_over head.now (effect_in body.now)) here.old here.new exits exits found.old.keys found.new.keys) }
 {
-    match scheme {
-        CoreScheme::While(_, condition) => {
-            add_unset_names(here, condition.get(), found)?;
+    match head {
+        Head::Tested(reads, _) => {
+            add_unset_reads(here, reads.as_slice(), found)?;
             let mut turn = here.copy(alloc)?;
             let mut left = Reached::NoWay;
             go_over_all(alloc, body, &mut turn, &mut left, found)
         }
-        CoreScheme::For(count) => go_over_count(alloc, body, count.get(), here, found),
-        CoreScheme::Endless => {
+        Head::Counted(parameter, bounds, _) => {
+            go_over_count(alloc, body, *parameter, bounds, here, found)
+        }
+        Head::Endless => {
             let mut left = Reached::NoWay;
             go_over_all(alloc, body, here, &mut left, found)?;
             *here = left;
@@ -336,27 +268,27 @@ fn go_over_loop(
     }
 }
 
-/// Goes over a loop over a parameter, which is set in its turns. Between bounds that are written no turn need be run, and
-/// else there is one, which ends or is left. After the loop the parameter is set only where it was set before.
+/// Goes over a loop over a parameter.
 #[cycle(go_over)]
 fn go_over_count(
     alloc: Global,
-    body: &[CoreStmt],
-    count: &CoreCount,
+    body: &[Item],
+    parameter: VarId,
+    bounds: &Option<Items<Read>>,
     here: &mut Reached,
     found: &mut Reads,
 ) -> Result<(), AllocError>
-    ensures { OnOk result ((exits : Reached) → Passes (effect (Repeat (Counted count.now) (commands body.now))) here.old here.new exits exits found.old.keys found.new.keys) }
+    ensures { OnOk result ((place : Place) (exits : Reached) → Passes (count parameter bounds.now (effect_in body.now) place) here.old here.new exits exits found.old.keys found.new.keys) }
 {
-    add_unset_bounds(here, &count.bounds, found)?;
+    add_unset_bounds(here, bounds, found)?;
     let mut turn = here.copy(alloc)?;
     let mut left = Reached::NoWay;
-    turn.insert(count.parameter)?;
+    turn.insert(parameter)?;
     go_over_all(alloc, body, &mut turn, &mut left, found)?;
-    match &count.bounds {
+    match bounds {
         None => {
             let ends = turn.joined(alloc, &left)?;
-            here.go_past(count.parameter, &ends)
+            here.go_past(parameter, &ends)
         }
         Some(_) => Ok(()),
     }
@@ -365,15 +297,15 @@ fn go_over_count(
 #[cycle(go_over)]
 fn go_over_all(
     alloc: Global,
-    stmts: &[CoreStmt],
+    items: &[Item],
     here: &mut Reached,
     exits: &mut Reached,
     found: &mut Reads,
 ) -> Result<(), AllocError>
-    ensures { OnOk result (Passes (effects stmts.now) here.old here.new exits.old exits.new found.old.keys found.new.keys) }
+    ensures { OnOk result (Passes (effect_in items.now) here.old here.new exits.old exits.new found.old.keys found.new.keys) }
 {
-    for stmt in stmts {
-        go_over(alloc, stmt, here, exits, found)?;
+    for item in items {
+        go_over(alloc, item, here, exits, found)?;
     }
     Ok(())
 }
@@ -418,35 +350,20 @@ fn gather_unset_reads(
     alloc: Global,
     program: &Program,
     sub: &Sub,
+    items: &[Item],
     found: &mut Reads,
 ) -> Result<Vec<(Place, VarId)>, AllocError>
-    requires { found.old.keys ≡ [] }
+    requires items { effect_in items.now ≡ effects sub.now.statements }
+    requires none { found.old.keys ≡ [] }
     ensures { IfOk result (λ reads. AreUnsetReads program.now sub.now reads.items) }
 {
     let imports = VarSet::imports(alloc, sub)?;
     let mut here = Reached::start(alloc)?;
     let mut exits = Reached::NoWay;
-    go_over_all(
-        alloc,
-        sub.statements.as_slice(),
-        &mut here,
-        &mut exits,
-        found,
-    )?;
+    go_over_all(alloc, items, &mut here, &mut exits, found)?;
     leave_out_initialized(program, found);
     add_unset_exports(&here, sub.end, sub.relation(), found)?;
     listed(alloc, &imports, found)
-}
-
-fn unset_reads_of(
-    alloc: Global,
-    program: &Program,
-    sub: &Sub,
-) -> Result<Vec<(Place, VarId)>, AllocError>
-    ensures { IfOk result (λ found. AreUnsetReads program.now sub.now found.items) }
-{
-    let mut found = IndexSet::new(alloc);
-    gather_unset_reads(alloc, program, sub, &mut found)
 }
 
 /// The reads of variables that may be unset, at the name, and the exports that may be left so, at the word `end`.
@@ -458,5 +375,8 @@ pub fn unset_reads(
     requires { id.0 < length program.now.subs }
     ensures { (sub : Sub) → slice_get program.now.subs id.0 ≡ Some sub → IfOk result (λ found. AreUnsetReads program.now sub found.items) }
 {
-    unset_reads_of(alloc, program, &program.subs.as_slice()[id.0])
+    let sub = &program.subs.as_slice()[id.0];
+    let items = lower(alloc, sub.statements.as_slice())?;
+    let mut found = IndexSet::new(alloc);
+    gather_unset_reads(alloc, program, sub, items.as_slice(), &mut found)
 }

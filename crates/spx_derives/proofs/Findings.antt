@@ -19,8 +19,9 @@ use Rattle.spx_core.specs.Formals.{formals, is_formal}
 use Rattle.spx_core.specs.FlowRules.{Missing, Unused, Ineffective, MarkReaches, body_effect}
 use Rattle.spx_core.specs.Scopes.{Scoped}
 use Rattle.spx_core.proofs.Callers.ListTests.{covers, found, passes}
-use Rattle.spx_flow.specs.declared.flow.Flow.{Flow}
-use Rattle.spx_flow.specs.Flows.{IsAt, IsFlow}
+use Rattle.spx_rows.specs.Relations.{Matrix}
+use Rattle.spx_flow.specs.declared.flow.Occurrence.{Occurrence}
+use Rattle.spx_flow.specs.Flows.{IsAt, IsBackwardFlow}
 use Rattle.spx_define.specs.UnsetReads.{AreUnsetReads}
 use Rattle.spx_derives.specs.declared.finding.FlowFinding.{FlowFinding}
 use Rattle.spx_derives.specs.declared.finding.FlowFinding.TheVariants as finding
@@ -56,19 +57,19 @@ difference_kind false true place x y f is = ap kind (sym (just _ f is))
 difference_kind true true place x y f is = absurd cc
 difference_kind false false place x y f is = absurd cc
 
-module _ (p : Program) (sub : Sub) (flow : Flow) (scoped : Scoped p sub) (reaches : MarkReaches p sub) (is : IsFlow sub flow) (t : Tables) (tables : AreTablesOf sub t) where
+module _ (p : Program) (sub : Sub) (led : Matrix) (marked : List Occurrence) (scoped : Scoped p sub) (reaches : MarkReaches p sub) (is : IsBackwardFlow sub led marked) (t : Tables) (tables : AreTablesOf sub t) where
   at : (k : ℕ) (v : VarId) → slice_get (formals sub) k ≡ Some v → IsAt sub k v
   at k v stands = among_all sub.formal_count sub.vars k v stands
 
   -- ---- differences
 
   abbrev Difference : FlowFinding → Type 0
-  Difference = Differs flow.rho t.declared (get same_var t.exports) (formals sub)
+  Difference = Differs led t.declared (get same_var t.exports) (formals sub)
 
   found_difference : (f : FlowFinding) → Difference f → Finds p sub f
-  found_difference f d = by_case (pair_in flow.rho d.u d.w) (pair_in t.declared d.u d.w) refl refl d.is
+  found_difference f d = by_case (pair_in led d.u d.w) (pair_in t.declared d.u d.w) refl refl d.is
     where
-      flows : (pair_in flow.rho d.u d.w ≡ true) ↔ MayFlow (body_effect sub) d.x d.y
+      flows : (pair_in led d.u d.w ≡ true) ↔ MayFlow (body_effect sub) d.x d.y
       flows = is.rho d.u d.w d.x d.y (at d.u d.x d.import) (at d.w d.y d.export)
 
       derived : pair_in t.declared d.u d.w ≡ derives d.x d.y sub
@@ -80,7 +81,7 @@ module _ (p : Program) (sub : Sub) (flow : Flow) (scoped : Scoped p sub) (reache
       first : first_place d.y (relation sub) ≡ Some d.place
       first = sym (tables.places d.y) ∙ d.at
 
-      by_case : (a b : Bool) → pair_in flow.rho d.u d.w ≡ a → pair_in t.declared d.u d.w ≡ b → difference a b d.place d.x d.y ≡ Some f → Finds p sub f
+      by_case : (a b : Bool) → pair_in led d.u d.w ≡ a → pair_in t.declared d.u d.w ≡ b → difference a b d.place d.x d.y ≡ Some f → Finds p sub f
       by_case true false a b e =
           subst (Finds p sub) (ap (λ place. finding.Missing place d.x d.y) (sym (at_place sub d.y d.place first)) ∙ just _ f e)
           (missing (formal, sym (exported sub d.y) ∙ ap is_some first, flows.0 a, sym derived ∙ b))
@@ -95,7 +96,7 @@ module _ (p : Program) (sub : Sub) (flow : Flow) (scoped : Scoped p sub) (reache
       let from = stands x (formals sub) formal in
       let to = stands y (formals sub) (scoped.exported y export) in
       let rho = is.rho from.0 to.0 x y (at from.0 x from.1) (at to.0 y to.1) in
-      let flows_is : pair_in flow.rho from.0 to.0 ≡ a = same_truth (pair_in flow.rho from.0 to.0) a (λ h. flows.0 (rho.0 h), λ h. rho.1 (flows.1 h)) in
+      let flows_is : pair_in led from.0 to.0 ≡ a = same_truth (pair_in led from.0 to.0) a (λ h. flows.0 (rho.0 h), λ h. rho.1 (flows.1 h)) in
       let declared_is = tables.pairs from.0 to.0 x y (at from.0 x from.1) (at to.0 y to.1) ∙ derived in
       record {
         u = from.0;
@@ -117,37 +118,37 @@ module _ (p : Program) (sub : Sub) (flow : Flow) (scoped : Scoped p sub) (reache
 
   -- ---- occurrences
 
-  occurs : (q : Place) → (list_any (stands_at q) flow.mu ≡ true) ↔ Occurs (body_effect sub) q
+  occurs : (q : Place) → (list_any (stands_at q) marked ≡ true) ↔ Occurs (body_effect sub) q
   occurs q = (
-    λ h. let o = found (stands_at q) flow.mu h in (is.occurrences q).0 (o.0, o.1, sym ((same_place-Decides q o.0.place).0 o.2)),
-    λ h. let o = (is.occurrences q).1 h in passes (stands_at q) flow.mu o.0 o.1 ((same_place-Decides q o.0.place).1 (sym o.2)),
+    λ h. let o = found (stands_at q) marked h in (is.occurrences q).0 (o.0, o.1, sym ((same_place-Decides q o.0.place).0 o.2)),
+    λ h. let o = (is.occurrences q).1 h in passes (stands_at q) marked o.0 o.1 ((same_place-Decides q o.0.place).1 (sym o.2)),
   )
 
   -- an occurrence at the place reaches an export
   abbrev Effective : Place → Type 0
   Effective q = (y : VarId) × (exports y sub ≡ true) × Mu (body_effect sub) q y
 
-  effective : (q : Place) → list_any (is_effective t.exported q) flow.mu ≡ true → Effective q
+  effective : (q : Place) → list_any (is_effective t.exported q) marked ≡ true → Effective q
   effective q h =
-      let o = found (is_effective t.exported q) flow.mu h in
+      let o = found (is_effective t.exported q) marked h in
       let parts = and_parts (stands_at q o.0) (meets o.0.vars t.exported) o.2 in
       let w = (meets_is o.0.vars t.exported).0 parts.1 in
       let y = (tables.row w.0).0 w.2 in
       (y.0, sym (exported sub y.0) ∙ ap is_some (sym (tables.places y.0)) ∙ y.2, (is.mu q w.0 y.0 y.1).0 (o.0, o.1, sym ((same_place-Decides q o.0.place).0 parts.0), w.1))
 
-  effective_back : (q : Place) → Effective q → list_any (is_effective t.exported q) flow.mu ≡ true
+  effective_back : (q : Place) → Effective q → list_any (is_effective t.exported q) marked ≡ true
   effective_back q e =
       let stands_at_w = stands e.0 (formals sub) (scoped.exported e.0 e.1) in
       let w = stands_at_w.0 in
       let there = at w e.0 stands_at_w.1 in
       let o = (is.mu q w e.0 there).1 e.2 in
       let row_has = (tables.row w).1 (e.0, there, ap is_some (tables.places e.0) ∙ exported sub e.0 ∙ e.1) in
-      passes (is_effective t.exported q) flow.mu o.0 o.1
+      passes (is_effective t.exported q) marked o.0 o.1
       (ap₂ ◌&&◌ ((same_place-Decides q o.0.place).1 (sym o.2)) ((meets_is o.0.vars t.exported).1 (w, o.3, row_has)))
 
   -- ---- places without effect
 
-  module _ (places : List Place) (others : (q : Place) → list_any (same_place q) places ≡ (list_any (stands_at q) flow.mu && not (list_any (is_effective t.exported q) flow.mu))) where
+  module _ (places : List Place) (others : (q : Place) → list_any (same_place q) places ≡ (list_any (stands_at q) marked && not (list_any (is_effective t.exported q) marked))) where
     among : (q : Place) → Contains places q → list_any (same_place q) places ≡ true
     among q c = passes (same_place q) places q c ((same_place-Decides q q).1 refl)
 
@@ -160,21 +161,21 @@ module _ (p : Program) (sub : Sub) (flow : Flow) (scoped : Scoped p sub) (reache
 
     found_ineffective : (q : Place) → Contains places q → Ineffective p sub q
     found_ineffective q c =
-        let parts = and_parts (list_any (stands_at q) flow.mu) (not (list_any (is_effective t.exported q) flow.mu)) (sym (others q) ∙ among q c) in (
+        let parts = and_parts (list_any (stands_at q) marked) (not (list_any (is_effective t.exported q) marked)) (sym (others q) ∙ among q c) in (
           (occurs q).0 parts.0,
           λ y export flow'. is_not _ parts.1 (effective_back q (y, export, (reaches q y export).0 flow')),
         )
 
     ineffective_listed : (q : Place) → Ineffective p sub q → Contains places q
     ineffective_listed q e =
-        let none = false_from_ne_true (list_any (is_effective t.exported q) flow.mu) (λ h. let f = effective q h in e.1 f.0 f.1 ((reaches q f.0 f.1).1 f.2)) in
+        let none = false_from_ne_true (list_any (is_effective t.exported q) marked) (λ h. let f = effective q h in e.1 f.0 f.1 ((reaches q f.0 f.1).1 f.2)) in
         among_back q (others q ∙ ap₂ ◌&&◌ ((occurs q).1 e.0) (ap not none))
 
     -- ---- all findings
 
     module _ (once : Once places) (reads : List Read) (unset_are : AreUnsetReads p sub reads) where
       abbrev differences : List FlowFinding
-      differences = differences_from flow.rho t.declared (get same_var t.exports) (formals sub) 0 (formals sub)
+      differences = differences_from led t.declared (get same_var t.exports) (formals sub) 0 (formals sub)
 
       abbrev all : List FlowFinding
       all = (differences ++ map finding.Ineffective places) ++ map unset_read reads
@@ -183,7 +184,7 @@ module _ (p : Program) (sub : Sub) (flow : Flow) (scoped : Scoped p sub) (reache
       found_in f c =
           ⊎_elim
           (λ front.
-          ⊎_elim (λ d. found_difference f (differs flow.rho t.declared (get same_var t.exports) (formals sub) f d))
+          ⊎_elim (λ d. found_difference f (differs led t.declared (get same_var t.exports) (formals sub) f d))
           (λ d. let q = in_map finding.Ineffective places f d in subst (Finds p sub) q.2 (ineffective (found_ineffective q.0 q.1)))
           (Contains-append_cases differences (map finding.Ineffective places) f front))
           (λ d. let r = in_map unset_read reads f d in subst (Finds p sub) r.2 (unset ((unset_are.exact r.0.0 r.0.1).0 r.1)))
@@ -192,7 +193,7 @@ module _ (p : Program) (sub : Sub) (flow : Flow) (scoped : Scoped p sub) (reache
       front : (f : FlowFinding) → Difference f → Contains all f
       front f d =
           Contains-append_left (differences ++ map finding.Ineffective places) (map unset_read reads) f
-          (Contains-append_left differences (map finding.Ineffective places) f (listed flow.rho t.declared (get same_var t.exports) (formals sub) f d))
+          (Contains-append_left differences (map finding.Ineffective places) f (listed led t.declared (get same_var t.exports) (formals sub) f d))
 
       finds_in : (f : FlowFinding) → Finds p sub f → Contains all f
       finds_in _ (missing {x} {y} m) = front _ (missing_difference x y m)
@@ -207,7 +208,7 @@ module _ (p : Program) (sub : Sub) (flow : Flow) (scoped : Scoped p sub) (reache
       apart = apart_front sub.formal_count sub.vars (apart_by sub.vars scoped.once)
 
       difference_first : (f : FlowFinding) → Contains differences f → kind f ≡ 0
-      difference_first f c = let d = differs flow.rho t.declared (get same_var t.exports) (formals sub) f c in difference_kind _ _ d.place d.x d.y f d.is
+      difference_first f c = let d = differs led t.declared (get same_var t.exports) (formals sub) f c in difference_kind _ _ d.place d.x d.y f d.is
 
       ineffective_next : (f : FlowFinding) → Contains (map finding.Ineffective places) f → kind f ≡ 1
       ineffective_next f c = let q = in_map finding.Ineffective places f c in ap kind (sym q.2)
@@ -218,7 +219,7 @@ module _ (p : Program) (sub : Sub) (flow : Flow) (scoped : Scoped p sub) (reache
       once_all : Once all
       once_all =
           once_append (differences ++ map finding.Ineffective places) (map unset_read reads)
-          (once_append differences (map finding.Ineffective places) (once_from flow.rho t.declared (get same_var t.exports) (formals sub) apart 0 (formals sub) apart)
+          (once_append differences (map finding.Ineffective places) (once_from led t.declared (get same_var t.exports) (formals sub) apart 0 (formals sub) apart)
           (once_map finding.Ineffective (λ a b e. cc) places once)
           (λ f one two. let e : 0 ≡ 1 = sym (difference_first f one) ∙ ineffective_next f two in absurd cc))
           (once_map unset_read (λ a b e. same_read a b e) reads (once_from_pairs reads unset_are.once))

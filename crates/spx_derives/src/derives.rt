@@ -4,7 +4,7 @@ ghost use Rattle.spx_core.specs.declared.subprogram.Sub.{Sub};
 ghost use Rattle.spx_core.specs.Erased.{Visible};
 ghost use Rattle.spx_core.specs.FlowRules.{MarkReaches};
 ghost use Rattle.spx_core.specs.Scopes.{Scoped};
-ghost use Rattle.spx_flow.specs.Flows.{IsFlow};
+ghost use Rattle.spx_flow.specs.Flows.{IsBackwardFlow, IsFlow};
 ghost use Rattle.spx_derives.specs.FlowFindings.{AreFindingsOf};
 
 use crate::differences::add_differences;
@@ -15,7 +15,9 @@ use crate::unset::add_unset_reads;
 use spx_core::laws::{marks, names_are_scoped};
 use spx_core::{Program, Sub, SubId};
 use spx_define::unset_reads;
-use spx_flow::Flow;
+use spx_flow::{Flow, Occurrence};
+use spx_rows::Relation;
+use sqlite_items::Items;
 use std::alloc::{AllocError, Global};
 
 /// The findings of the subprogram that the program has at `id`.
@@ -24,21 +26,42 @@ fn findings(
     program: &Program,
     id: SubId,
     sub: &Sub,
-    flow: &Flow,
+    rho: &Relation,
+    mu: &Items<Occurrence>,
 ) -> Result<Vec<FlowFinding>, AllocError>
     requires at { slice_get program.now.subs id.0 ≡ Some sub.now }
     requires scoped { Scoped program.now sub.now }
     requires marks { MarkReaches program.now sub.now }
-    requires flow { IsFlow sub.now flow.now }
+    requires flow { IsBackwardFlow sub.now rho.now mu.now }
     ensures { IfOk result (λ found. AreFindingsOf program.now sub.now found.items) }
 {
-    let tables = Tables::of(alloc, sub, flow.rho.size())?;
-    let ineffective = ineffective_places(alloc, flow.mu.as_slice(), &tables.exported)?;
+    let tables = Tables::of(alloc, sub, rho.size())?;
+    let ineffective = ineffective_places(alloc, mu.as_slice(), &tables.exported)?;
     let unset = unset_reads(alloc, program, id)?;
     let mut found = Vec::new(alloc);
-    add_differences(&mut found, &flow.rho, &tables, sub)?;
+    add_differences(&mut found, rho, &tables, sub)?;
     add_ineffective(&mut found, ineffective.get())?;
     add_unset_reads(&mut found, unset.as_slice())?;
+    Ok(found)
+}
+
+/// All that the body of a subprogram and its declared relation disagree on, of what leads on to the variables after the body.
+pub fn compare_backward(
+    alloc: Global,
+    program: &Program,
+    id: SubId,
+    rho: &Relation,
+    mu: &Items<Occurrence>,
+) -> Result<Vec<FlowFinding>, AllocError>
+    requires visible { Visible program.now }
+    requires id { id.0 < length program.now.subs }
+    requires flow { (sub : Sub) → slice_get program.now.subs id.0 ≡ Some sub → IsBackwardFlow sub rho.now mu.now }
+    ensures { (sub : Sub) → slice_get program.now.subs id.0 ≡ Some sub → IfOk result (λ found. AreFindingsOf program.now sub found.items) }
+{
+    names_are_scoped();
+    marks();
+    let sub = &program.subs.as_slice()[id.0];
+    let found = findings(alloc, program, id, sub, rho, mu)?;
     Ok(found)
 }
 
@@ -54,9 +77,5 @@ pub fn compare(
     requires flow { (sub : Sub) → slice_get program.now.subs id.0 ≡ Some sub → IsFlow sub flow.now }
     ensures { (sub : Sub) → slice_get program.now.subs id.0 ≡ Some sub → IfOk result (λ found. AreFindingsOf program.now sub found.items) }
 {
-    names_are_scoped();
-    marks();
-    let sub = &program.subs.as_slice()[id.0];
-    let found = findings(alloc, program, id, sub, flow)?;
-    Ok(found)
+    compare_backward(alloc, program, id, &flow.rho, &flow.mu)
 }

@@ -1,78 +1,22 @@
 -- Variables by their position in a set.
-use Rattle.std.proofs.Common.{◌≡◌, ◌≢◌, ◌↔◌, ℕ, ℤ, ◌<◌, Bool, true, false, ◌||◌, cond, ltb, eqb, List, [], ◌∷◌, ◌++◌, ◌+◌, take, length, get_or, Option, Some, None, refl, sym, ap, ap₂, ◌∙◌, subst, inl, inr, append_assoc, arith}
+use Rattle.std.proofs.Common.{◌≡◌, ◌↔◌, ℕ, ◌<◌, true, ◌||◌, cond, ltb, eqb, List, [], ◌∷◌, ◌++◌, ◌+◌, take, length, get_or, Option, Some, None, refl, sym, ap, ap₂, ◌∙◌, subst, inl, inr, arith}
 use Rattle.std.specs.Prelude.{◌==◌, Contains, All}
-use Rattle.std.specs.Option.{option_and_then}
-use Rattle.std.specs.List.{IsDistinct, cons_option, filter_map, list_any, position_or_len}
+use Rattle.std.specs.List.{IsDistinct, cons_option, list_any, position_or_len}
 use Rattle.std.proofs.lemmas.Bool.{both_ways, cases_Bool, eq-eqb, eqb-true, lt-ltb, ne_eqb}
 use Rattle.std.proofs.lemmas.List.{take_more}
 use Rattle.std.proofs.lemmas.Option.{get_or_from_slice_get, slice_get-get_or, slice_get_within}
-use Rattle.std.proofs.lemmas.List.Elements.{All-append, All-cons, All-nil, filter_map-append}
-use Rattle.std.proofs.lemmas.List.Folds.{list_any-append}
+use Rattle.std.proofs.lemmas.List.Elements.{All-cons, All-nil, filter_map-append}
 use Rattle.std.proofs.lemmas.List.Quantifiers.{position-Some}
 use Rattle.std.proofs.lemmas.List.Sums.{position_or_len_is}
 use Rattle.std.proofs.lemmas.Map.Keys.{apart_from_distinct}
-use Rattle.spx_text.specs.declared.place.Place.{Place}
-use Rattle.spx_tree.specs.declared.expression.Identifier.{Identifier}
-use Rattle.spx_tree.specs.declared.expression.InfixOp.{InfixOp}
-use Rattle.spx_tree.specs.declared.expression.PrefixOp.{PrefixOp}
-use Rattle.spx_tree.specs.declared.expression.MemberOp.{MemberOp}
 use Rattle.spx_core.specs.declared.entity.VarId.{VarId}
-use Rattle.spx_core.specs.declared.function.CoreFunction.{CoreFunction}
-use Rattle.spx_core.specs.declared.name.CoreName.{CoreName}
-use Rattle.spx_core.specs.declared.name.Reference.{Reference}
-use Rattle.spx_core.specs.declared.expression.CoreExpr.{CoreExpr}
-use Rattle.spx_core.specs.declared.statement.CoreRange.{CoreRange}
-use Rattle.spx_core.specs.declared.expression.CoreExpr.TheVariants.{Number, Name, Entry, Attribute, Applied, Parenthesized, Prefix, Infix, InType, InRange}
-use Rattle.spx_core.specs.Uses.{denotes, is_same, variable_of}
-use Rattle.spx_core.specs.Reads.{names_read, names_step}
-use Rattle.spx_core.specs.Effects.{Effect, Read, is_read, reads_of, reads_of_range, sets}
+use Rattle.spx_core.specs.Effects.{Effect, Read, is_read, sets}
 use Rattle.spx_core.specs.Mirror.VarSets.{holds, place_in_set}
 use Rattle.spx_flow.specs.declared.frame.Frame.{Frame}
-use Rattle.spx_flow.specs.Positions.{Covers, Stands, position_named, positions_read}
+use Rattle.spx_flow.specs.Positions.{Covers, Stands, positions_at}
 use Rattle.spx_flow.specs.Targets.{positions_in}
-use Rattle.spx_core.proofs.Callers.Expressions.{fold-Number, fold-Name, fold-Entry, fold-Attribute, fold-Applied, fold-Parenthesized, fold-Prefix, fold-Infix, fold-InType, fold-InRange}
-use Rattle.spx_core.proofs.Callers.FlowLaws.{reads_uses}
 use Rattle.spx_core.proofs.Callers.ListTests.{found, passes}
 use Rattle.spx_core.proofs.Callers.Variables.{same_var}
-
--- ---- what an expression reads, at each form of it
-
-module _ (set : List ℕ) where
-  pub positions-Number : (n : ℤ) (place : Place) → positions_read set (Number n place) ≡ []
-  positions-Number n place = ap (filter_map (position_named set)) (fold-Number names_step n place)
-
-  pub positions-Name : (name : CoreName) → positions_read set (Name name) ≡ cons_option (position_named set name) []
-  positions-Name name = ap (filter_map (position_named set)) (fold-Name names_step name)
-
-  pub positions-Entry : (name : CoreName) (allowed : Bool) → positions_read set (Entry name allowed) ≡ cons_option (position_named set name) []
-  positions-Entry name allowed = ap (filter_map (position_named set)) (fold-Entry names_step name allowed)
-
-  pub positions-Attribute : (prefix : CoreName) (designator : Identifier) → positions_read set (Attribute prefix designator) ≡ []
-  positions-Attribute prefix designator = ap (filter_map (position_named set)) (fold-Attribute names_step prefix designator)
-
-  pub positions-Applied : (function : CoreFunction) (place : Place) (a : CoreExpr) → positions_read set (Applied function place a) ≡ positions_read set a
-  positions-Applied function place a = ap (filter_map (position_named set)) (fold-Applied names_step function place a)
-
-  pub positions-Parenthesized : (place : Place) (a : CoreExpr) → positions_read set (Parenthesized place a) ≡ positions_read set a
-  positions-Parenthesized place a = ap (filter_map (position_named set)) (fold-Parenthesized names_step place a)
-
-  pub positions-Prefix : (op : PrefixOp) (place : Place) (a : CoreExpr) → positions_read set (Prefix op place a) ≡ positions_read set a
-  positions-Prefix op place a = ap (filter_map (position_named set)) (fold-Prefix names_step op place a)
-
-  pub positions-Infix : (op : InfixOp) (place : Place) (a b : CoreExpr) → positions_read set (Infix op place a b) ≡ positions_read set a ++ positions_read set b
-  positions-Infix op place a b = ap (filter_map (position_named set)) (fold-Infix names_step op place a b) ∙ filter_map-append (position_named set) (names_read a) (names_read b)
-
-  pub positions-InType : (op : MemberOp) (place : Place) (a : CoreExpr) (name : Reference) → positions_read set (InType op place a name) ≡ positions_read set a
-  positions-InType op place a name = ap (filter_map (position_named set)) (fold-InType names_step op place a name)
-
-  pub positions-InRange : (op : MemberOp) (place : Place) (a low high : CoreExpr)
-      → positions_read set (InRange op place a low high) ≡ positions_read set a ++ (positions_read set low ++ positions_read set high)
-  positions-InRange op place a low high =
-      ap (filter_map (position_named set)) (fold-InRange names_step op place a low high)
-      ∙ filter_map-append (position_named set) (names_read a) (names_read low ++ names_read high)
-      ∙ ap (λ l. positions_read set a ++ l) (filter_map-append (position_named set) (names_read low) (names_read high))
-
-pub ruleset positions_forms = (positions-Number, positions-Name, positions-Entry, positions-Attribute, positions-Applied, positions-Parenthesized, positions-Prefix, positions-Infix, positions-InType, positions-InRange, append_assoc)
 
 -- ---- positions and variables
 
@@ -136,35 +80,14 @@ module _ (set : List ℕ) (once : IsDistinct ◌==◌ set) (k : ℕ) (v : VarId)
       ap (λ b. b || list_any (λ j. j == k) rest)
       (sym (ne_eqb w.0 v.0 (λ e. not_both (place_in_set set w) k is (ap (place_in_set set) (same_var w v e) ∙ place_of_standing set v k once stands))))
 
-  named_first : (o : Option VarId) (rest : List ℕ) → list_any (λ j. j == k) (cons_option (option_and_then (place_in_set set) o) rest) ≡ (is_same v o || list_any (λ j. j == k) rest)
-  named_first (Some w) rest = is_place w (place_in_set set w) refl rest
-  named_first None rest = refl
-
-  named : (names : List CoreName) → list_any (λ j. j == k) (filter_map (position_named set) names) ≡ list_any (denotes v) names
+  named : (reads : List Read) → list_any (λ j. j == k) (positions_at set reads) ≡ is_read v reads
   named [] = refl
-  named (name ∷ names) = named_first (variable_of name.entity) (filter_map (position_named set) names) ∙ ap (λ b. denotes v name || b) (named names)
+  named (r ∷ reads) = is_place r.1 (place_in_set set r.1) refl (positions_at set reads) ∙ ap (λ b. (r.1.0 == v.0) || b) (named reads)
 
-  pub read_at : (e : CoreExpr) → Contains (positions_read set e) k ↔ (is_read v (reads_of e) ≡ true)
-  read_at e = (
-    λ c. reads_uses v e ∙ sym (named (names_read e)) ∙ passes (λ j. j == k) (positions_read set e) k c (eq-eqb k k refl),
-    λ h.
-        let one = found (λ j. j == k) (positions_read set e) (named (names_read e) ∙ sym (reads_uses v e) ∙ h) in
-        subst (Contains (positions_read set e)) (eqb-true one.0 k one.2) one.1,
-  )
-
-  -- what a range reads
-  named_range : (range : CoreRange) → list_any (λ j. j == k) (positions_read set range.low ++ positions_read set range.high) ≡ is_read v (reads_of_range range)
-  named_range range =
-      list_any-append (λ j. j == k) (positions_read set range.low) (positions_read set range.high)
-      ∙ ap₂ ◌||◌ (named (names_read range.low) ∙ sym (reads_uses v range.low)) (named (names_read range.high) ∙ sym (reads_uses v range.high))
-      ∙ sym (list_any-append (λ (r : Read). r.1.0 == v.0) (reads_of range.low) (reads_of range.high))
-
-  pub range_at : (range : CoreRange) → Contains (positions_read set range.low ++ positions_read set range.high) k ↔ (is_read v (reads_of_range range) ≡ true)
-  range_at range = (
-    λ c. sym (named_range range) ∙ passes (λ j. j == k) (positions_read set range.low ++ positions_read set range.high) k c (eq-eqb k k refl),
-    λ h.
-        let one = found (λ j. j == k) (positions_read set range.low ++ positions_read set range.high) (named_range range ∙ h) in
-        subst (Contains (positions_read set range.low ++ positions_read set range.high)) (eqb-true one.0 k one.2) one.1,
+  pub read_at : (reads : List Read) → Contains (positions_at set reads) k ↔ (is_read v reads ≡ true)
+  read_at reads = (
+    λ c. sym (named reads) ∙ passes (λ j. j == k) (positions_at set reads) k c (eq-eqb k k refl),
+    λ h. let one = found (λ j. j == k) (positions_at set reads) (named reads ∙ h) in subst (Contains (positions_at set reads)) (eqb-true one.0 k one.2) one.1,
   )
 
   -- the variables with these numbers
@@ -182,27 +105,26 @@ module _ (set : List ℕ) (once : IsDistinct ◌==◌ set) (k : ℕ) (v : VarId)
 
 -- ---- they are within the set
 
-within_first : (set : List ℕ) (o : Option VarId) (rest : List ℕ) → All (λ k. k < length set) rest → All (λ k. k < length set) (cons_option (option_and_then (place_in_set set) o) rest)
-within_first set (Some w) rest all = within_place (place_in_set set w) refl
+within_first : (set : List ℕ) (w : VarId) (rest : List ℕ) → All (λ k. k < length set) rest → All (λ k. k < length set) (cons_option (place_in_set set w) rest)
+within_first set w rest all = within_place (place_in_set set w) refl
   where
     within_place : (o : Option ℕ) → place_in_set set w ≡ o → All (λ k. k < length set) (cons_option o rest)
     within_place (Some k) is = All-cons (λ k. k < length set) k rest (place_within set w k is) all
     within_place None is = all
-within_first set None rest all = all
 
-within_names : (set : List ℕ) (names : List CoreName) → All (λ k. k < length set) (filter_map (position_named set) names)
-within_names set [] = All-nil (λ k. k < length set)
-within_names set (name ∷ names) = within_first set (variable_of name.entity) (filter_map (position_named set) names) (within_names set names)
+pub read_within : (set : List ℕ) (reads : List Read) → All (λ k. k < length set) (positions_at set reads)
+read_within set [] = All-nil (λ k. k < length set)
+read_within set (r ∷ reads) = within_first set r.1 (positions_at set reads) (read_within set reads)
 
-pub read_within : (set : List ℕ) (e : CoreExpr) → All (λ k. k < length set) (positions_read set e)
-read_within set e = within_names set (names_read e)
+pub reads_more : (set : List ℕ) (reads : List Read) (i : ℕ) (r : Read) → i < length reads → positions_at set (take (i + 1) reads) ≡ positions_at set (take i reads) ++ cons_option (place_in_set set (get_or reads i r).1) []
+reads_more set reads i r less = ap (positions_at set) (take_more reads i r less) ∙ filter_map-append _ (take i reads) (get_or reads i r ∷ [])
 
-pub range_within : (set : List ℕ) (range : CoreRange) → All (λ k. k < length set) (positions_read set range.low ++ positions_read set range.high)
-range_within set range = All-append (λ k. k < length set) (positions_read set range.low) (positions_read set range.high) (read_within set range.low) (read_within set range.high)
+pub reads_both : (set : List ℕ) (reads more : List Read) → positions_at set (reads ++ more) ≡ positions_at set reads ++ positions_at set more
+reads_both set reads more = filter_map-append _ reads more
 
 pub numbers_within : (set : List ℕ) (numbers : List ℕ) → All (λ k. k < length set) (positions_in set numbers)
 numbers_within set [] = All-nil (λ k. k < length set)
-numbers_within set (n ∷ numbers) = within_first set (Some (record { 0 = n })) (positions_in set numbers) (numbers_within set numbers)
+numbers_within set (n ∷ numbers) = within_first set (record { 0 = n }) (positions_in set numbers) (numbers_within set numbers)
 
 pub positions_more : (set numbers : List ℕ) (i : ℕ) → i < length numbers → positions_in set (take (i + 1) numbers) ≡ positions_in set (take i numbers) ++ positions_in set (get_or numbers i 0 ∷ [])
 positions_more set numbers i less = ap (positions_in set) (take_more numbers i 0 less) ∙ filter_map-append _ (take i numbers) (get_or numbers i 0 ∷ [])

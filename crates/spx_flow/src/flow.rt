@@ -1,23 +1,24 @@
 // The flow of a subprogram.
-ghost use Rattle.std.specs.Prelude.{◌≡◌, ◌==◌, ◌<◌, ◌≤◌, Some, false, length, slice_get, IfErr, IfOk};
+ghost use Rattle.std.specs.Prelude.{◌≡◌, ◌==◌, ◌<◌, ◌≤◌, Some, false, length, true, slice_get, IfErr, IfOk};
 ghost use Rattle.std.specs.List.{IsDistinct};
 ghost use Rattle.spx_core.specs.declared.entity.VarId.{VarId};
 ghost use Rattle.spx_core.specs.declared.subprogram.Sub.{Sub};
 ghost use Rattle.spx_core.specs.Erased.{Visible};
-ghost use Rattle.spx_core.specs.Effects.{defines};
-ghost use Rattle.spx_core.specs.Mirror.VarSets.{holds};
+ghost use Rattle.spx_core.specs.Effects.{sets};
+ghost use Rattle.spx_core.specs.Mirror.VarSets.{holds, positions_of};
+ghost use Rattle.spx_lower.specs.Meaning.{effect_in};
 ghost use Rattle.spx_core.specs.FlowRules.{is_wide};
-ghost use Rattle.spx_flow.specs.Positions.{BodyCovered};
-ghost use Rattle.spx_flow.specs.Flows.{IsFaultOf, IsFlow};
+ghost use Rattle.spx_flow.specs.Positions.{BodyCovered, exits_in};
+ghost use Rattle.spx_flow.specs.Flows.{IsBackwardFlow, IsFaultOf, IsFlow};
 
-use crate::backward::backward;
 use crate::exits::have_exits;
 use crate::fault::{FlowFault, MOST_VARIABLES};
-use crate::forward::forward;
 use crate::frame::Frame;
+use crate::pass::{backward, forward};
 use crate::targets::all_targets;
 use spx_core::laws::names_are_scoped;
-use spx_core::{CoreStmt, Program, Sub, SubId, VarId, VarSet};
+use spx_core::{Program, Sub, SubId, VarId, VarSet};
+use spx_lower::{Item, lower};
 use spx_rows::{Relation, Row};
 use spx_text::Place;
 use sqlite_items::Items;
@@ -44,11 +45,18 @@ pub struct Flow {
     pub defines: VarSet,
 }
 
-/// The variables that the statements set.
-fn defined(alloc: Global, stmts: &[CoreStmt]) -> Result<VarSet, AllocError>
-    ensures { IfOk result (λ set. (v : VarId) → holds set v ≡ defines v stmts.now) }
+/// What leads on to the variables after a body: the parts `mu` and `rho` of its flow.
+#[derive(Drop)]
+pub struct BackwardFlow {
+    pub mu: Items<Occurrence>,
+    pub rho: Relation,
+}
+
+/// The variables that the items set.
+fn defined(alloc: Global, items: &[Item]) -> Result<VarSet, AllocError>
+    ensures { IfOk result (λ set. (v : VarId) → holds set v ≡ sets v (effect_in items.now)) }
 {
-    let targets = all_targets(alloc, stmts)?;
+    let targets = all_targets(alloc, items)?;
     let mut set = VarSet::new(alloc)?;
     for number in targets.as_slice() {
         set.insert(VarId(*number))?;
@@ -56,26 +64,70 @@ fn defined(alloc: Global, stmts: &[CoreStmt]) -> Result<VarSet, AllocError>
     Ok(set)
 }
 
-/// The flow of a body whose variables are the subprogram's.
-fn flow_in(alloc: Global, sub: &Sub) -> Result<Flow, AllocError>
+/// The points of a body whose variables are the subprogram's.
+fn frame_of(alloc: Global, sub: &Sub, items: &[Item]) -> Result<Frame, AllocError>
+    requires { IsDistinct (λ (v : VarId) (w : VarId). w.0 == v.0) sub.now.vars }
+    ensures { IfOk result (λ frame. frame ≡ record { vars = positions_of sub.now.vars; has_exits = exits_in true (effect_in items.now) }) }
+{
+    let vars = VarSet::of(alloc, sub.vars.as_slice())?;
+    let has_exits = have_exits(true, items);
+    Ok(Frame { vars, has_exits })
+}
+
+/// What leads on to the variables after a body whose variables are the subprogram's.
+fn backward_in(alloc: Global, sub: &Sub) -> Result<BackwardFlow, AllocError>
     requires once { IsDistinct (λ (v : VarId) (w : VarId). w.0 == v.0) sub.now.vars }
     requires covers { BodyCovered sub.now }
     requires size { length sub.now.vars ≤ 4096 }
+    ensures { IfOk result (λ back. IsBackwardFlow sub.now back.rho back.mu) }
+{
+    let items = lower(alloc, sub.statements.as_slice())?;
+    let items = items.as_slice();
+    let frame = frame_of(alloc, sub, items)?;
+    backward(alloc, &frame, items)
+}
+
+/// The flow of a body, of which the backward part is there.
+fn flow_in(alloc: Global, sub: &Sub, back: BackwardFlow) -> Result<Flow, AllocError>
+    requires once { IsDistinct (λ (v : VarId) (w : VarId). w.0 == v.0) sub.now.vars }
+    requires covers { BodyCovered sub.now }
+    requires size { length sub.now.vars ≤ 4096 }
+    requires back { IsBackwardFlow sub.now back.rho back.mu }
     ensures { IfOk result (IsFlow sub.now) }
 {
-    let vars = VarSet::of(alloc, sub.vars.as_slice())?;
-    let stmts = sub.statements.as_slice();
-    let has_exits = have_exits(true, stmts);
-    let frame = Frame { vars, has_exits };
-    let back = backward(alloc, &frame, stmts)?;
-    let lambda = forward(alloc, &frame, stmts)?;
-    let defines = defined(alloc, stmts)?;
+    let items = lower(alloc, sub.statements.as_slice())?;
+    let items = items.as_slice();
+    let frame = frame_of(alloc, sub, items)?;
+    let lambda = forward(alloc, &frame, items)?;
+    let defines = defined(alloc, items)?;
     Ok(Flow {
         lambda,
         mu: back.mu,
         rho: back.rho,
         defines,
     })
+}
+
+/// What leads on to the variables after the body of a subprogram.
+pub fn backward_flow_of(
+    alloc: Global,
+    program: &Program,
+    id: SubId,
+) -> Result<BackwardFlow, FlowFault>
+    requires visible { Visible program.now }
+    requires id { id.0 < length program.now.subs }
+    ensures flow { (sub : Sub) → slice_get program.now.subs id.0 ≡ Some sub → IfOk result (λ back. IsBackwardFlow sub back.rho back.mu) }
+    ensures narrow { (sub : Sub) → slice_get program.now.subs id.0 ≡ Some sub → IfOk result (λ back. is_wide sub ≡ false) }
+    ensures refused { (sub : Sub) → slice_get program.now.subs id.0 ≡ Some sub → IfErr result (IsFaultOf sub) }
+{
+    names_are_scoped();
+    let sub = &program.subs.as_slice()[id.0];
+    let count = sub.vars.len();
+    if count > MOST_VARIABLES {
+        return Err(FlowFault::TooManyVariables(count));
+    }
+    let back = backward_in(alloc, sub)?;
+    Ok(back)
 }
 
 /// The flow of the body of a subprogram.
@@ -87,11 +139,11 @@ pub fn flow_of(alloc: Global, program: &Program, id: SubId) -> Result<Flow, Flow
     ensures refused { (sub : Sub) → slice_get program.now.subs id.0 ≡ Some sub → IfErr result (IsFaultOf sub) }
 {
     names_are_scoped();
+    let back = match backward_flow_of(alloc, program, id) {
+        Ok(back) => back,
+        Err(fault) => return Err(fault),
+    };
     let sub = &program.subs.as_slice()[id.0];
-    let count = sub.vars.len();
-    if count > MOST_VARIABLES {
-        return Err(FlowFault::TooManyVariables(count));
-    }
-    let flow = flow_in(alloc, sub)?;
+    let flow = flow_in(alloc, sub, back)?;
     Ok(flow)
 }

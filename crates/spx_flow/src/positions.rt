@@ -1,32 +1,35 @@
-// The variables that expressions read, by their position.
-ghost use Rattle.std.specs.Prelude.{◌≡◌, ◌==◌, [], ◌++◌, ◌<◌, All, IfOk, OnOk, option_map};
+// Variables by their position.
+ghost use Rattle.std.specs.Prelude.{◌≡◌, ◌==◌, [], ◌++◌, ◌<◌, All, IfOk, OnOk};
 ghost use Rattle.std.specs.List.{IsDistinct, cons_option};
-ghost use Rattle.spx_core.specs.Effects.{reads_in, reads_of, reads_of_range};
-ghost use Rattle.spx_flow.specs.Positions.{position_named, positions_read};
+ghost use Rattle.std.specs.Option.{option_and_then};
+ghost use Rattle.spx_core.specs.Effects.{reads_in};
+ghost use Rattle.spx_core.specs.Mirror.VarSets.{place_in_set};
+ghost use Rattle.spx_flow.specs.Positions.{positions_at};
 ghost use Rattle.spx_flow.specs.Points.{Places, size_of};
 ghost use Rattle.spx_flow.specs.Loops.{read_points};
 
 use crate::frame::Frame;
-use spx_core::{CoreExpr, CoreName, CoreRange, VarSet, variable_of};
-use sqlite_items::Boxed;
+use spx_core::{VarId, VarSet};
+use spx_lower::Read;
+use sqlite_items::Items;
 use std::alloc::{AllocError, Global};
 
-/// The position of the variable that the name denotes, if it denotes one of the set.
-pub(crate) fn position_named(vars: &VarSet, name: &CoreName) -> Option<usize>
-    ensures { result ≡ position_named vars.now name.now }
+/// The position of the variable, if there is one and it is in the set.
+pub(crate) fn position_of(vars: &VarSet, var: Option<VarId>) -> Option<usize>
+    ensures { result ≡ option_and_then (place_in_set vars.now) var }
 {
-    vars.position(variable_of(name.entity)?)
+    vars.position(var?)
 }
 
-/// Adds the position of the variable that the name denotes, if it denotes one of the set.
-fn add_position_named(
+/// Adds the position of the variable, if it is in the set.
+pub(crate) fn add_position(
     vars: &VarSet,
-    name: &CoreName,
+    var: VarId,
     found: &mut Vec<usize>,
 ) -> Result<(), AllocError>
-    ensures { OnOk result (found.new.items ≡ found.old.items ++ cons_option (position_named vars.now name.now) []) }
+    ensures { OnOk result (found.new.items ≡ found.old.items ++ cons_option (place_in_set vars.now var) []) }
 {
-    match position_named(vars, name) {
+    match vars.position(var) {
         Some(position) => {
             found.push(position)?;
             Ok(())
@@ -35,61 +38,45 @@ fn add_position_named(
     }
 }
 
-/// Adds the positions of the variables that the expression reads, in the order of the text.
-#[cycle(add_positions)]
-#[tactic(auto, using(crate::proofs::PositionLaws::positions_forms))]
-fn add_positions(vars: &VarSet, value: &CoreExpr, found: &mut Vec<usize>) -> Result<(), AllocError>
-    ensures { OnOk result (found.new.items ≡ found.old.items ++ positions_read vars.now value.now) }
+/// Adds the positions of what is read.
+fn add_positions(vars: &VarSet, reads: &[Read], found: &mut Vec<usize>) -> Result<(), AllocError>
+    ensures { OnOk result (found.new.items ≡ found.old.items ++ positions_at vars.now reads.now) }
 {
-    match value {
-        CoreExpr::Number(_, _) => Ok(()),
-        CoreExpr::Attribute(_, _) => Ok(()),
-        CoreExpr::Name(name) => add_position_named(vars, name, found),
-        CoreExpr::Entry(name, _) => add_position_named(vars, name, found),
-        CoreExpr::Applied(_, _, operand) => add_positions(vars, operand.get(), found),
-        CoreExpr::Parenthesized(_, inner) => add_positions(vars, inner.get(), found),
-        CoreExpr::Prefix(_, _, operand) => add_positions(vars, operand.get(), found),
-        CoreExpr::Infix(_, _, left, right) => {
-            add_positions(vars, left.get(), found)?;
-            add_positions(vars, right.get(), found)
-        }
-        CoreExpr::InType(_, _, tested, _) => add_positions(vars, tested.get(), found),
-        CoreExpr::InRange(_, _, tested, low, high) => {
-            add_positions(vars, tested.get(), found)?;
-            add_positions(vars, low.get(), found)?;
-            add_positions(vars, high.get(), found)
-        }
+    for k in 0..reads.len() {
+        add_position(vars, reads[k].1, found)?;
     }
+    Ok(())
 }
 
-/// The positions of the variables that the expression reads.
+/// The positions of what is read.
 pub(crate) fn positions_read(
     alloc: Global,
     frame: &Frame,
-    value: &CoreExpr,
+    reads: &[Read],
 ) -> Result<Vec<usize>, AllocError>
     requires { IsDistinct ◌==◌ frame.now.vars }
     ensures within { IfOk result (λ found. All (λ k. k < size_of frame.now) found.items) }
-    ensures exact { IfOk result (λ found. Places frame.now found.items (read_points (reads_of value.now))) }
+    ensures exact { IfOk result (λ found. Places frame.now found.items (read_points reads.now)) }
 {
     let mut found = Vec::new(alloc);
-    add_positions(&frame.vars, value, &mut found)?;
+    add_positions(&frame.vars, reads, &mut found)?;
     Ok(found)
 }
 
-/// The positions of the variables that a range reads.
-pub(crate) fn range_read(
+/// The positions of what is read in two places.
+pub(crate) fn positions_of_both(
     alloc: Global,
     frame: &Frame,
-    range: &CoreRange,
+    reads: &[Read],
+    more: &[Read],
 ) -> Result<Vec<usize>, AllocError>
     requires { IsDistinct ◌==◌ frame.now.vars }
     ensures within { IfOk result (λ found. All (λ k. k < size_of frame.now) found.items) }
-    ensures exact { IfOk result (λ found. Places frame.now found.items (read_points (reads_of_range range.now))) }
+    ensures exact { IfOk result (λ found. Places frame.now found.items (read_points (reads.now ++ more.now))) }
 {
     let mut found = Vec::new(alloc);
-    add_positions(&frame.vars, range.low.get(), &mut found)?;
-    add_positions(&frame.vars, range.high.get(), &mut found)?;
+    add_positions(&frame.vars, reads, &mut found)?;
+    add_positions(&frame.vars, more, &mut found)?;
     Ok(found)
 }
 
@@ -97,14 +84,14 @@ pub(crate) fn range_read(
 pub(crate) fn bounds_read(
     alloc: Global,
     frame: &Frame,
-    bounds: &Option<Boxed<CoreRange>>,
+    bounds: &Option<Items<Read>>,
 ) -> Result<Vec<usize>, AllocError>
     requires { IsDistinct ◌==◌ frame.now.vars }
     ensures within { IfOk result (λ found. All (λ k. k < size_of frame.now) found.items) }
-    ensures exact { IfOk result (λ found. Places frame.now found.items (read_points (reads_in (option_map reads_of_range bounds.now)))) }
+    ensures exact { IfOk result (λ found. Places frame.now found.items (read_points (reads_in bounds.now))) }
 {
     match bounds {
-        Some(range) => range_read(alloc, frame, range.get()),
+        Some(reads) => positions_read(alloc, frame, reads.as_slice()),
         None => Ok(Vec::new(alloc)),
     }
 }

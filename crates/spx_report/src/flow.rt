@@ -12,8 +12,8 @@ ghost use Rattle.spx_report.specs.declared.limit.LimitName.TheVariants.{Variable
 use crate::limit::{FindFault, LimitName};
 use crate::report::{Finding, Findings, code};
 use spx_core::{Program, RuleName, SubId, VarId};
-use spx_derives::{FlowFinding, compare};
-use spx_flow::{FlowFault, flow_of};
+use spx_derives::{FlowFinding, compare_backward};
+use spx_flow::{FlowFault, backward_flow_of};
 use spx_text::{Place, Text};
 use sqlite_items::Items;
 use std::alloc::{AllocError, Global};
@@ -131,8 +131,8 @@ fn sub_findings(alloc: Global, program: &Program, id: SubId) -> Result<Vec<FlowF
     ensures narrow { (sub : Sub) → slice_get program.now.subs id.0 ≡ Some sub → IfOk result (λ _. is_wide sub ≡ false) }
     ensures refused { (sub : Sub) → slice_get program.now.subs id.0 ≡ Some sub → IfErr result (IsFaultWhere Variables (is_wide sub)) }
 {
-    match flow_of(alloc, program, id) {
-        Ok(flow) => Ok(compare(alloc, program, id, &flow)?),
+    match backward_flow_of(alloc, program, id) {
+        Ok(back) => Ok(compare_backward(alloc, program, id, &back.rho, &back.mu)?),
         Err(FlowFault::TooManyVariables(_)) => Err(FindFault::Limit(LimitName::Variables)),
         Err(FlowFault::Memory) => Err(FindFault::Memory),
     }

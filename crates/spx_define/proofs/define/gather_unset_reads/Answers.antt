@@ -17,8 +17,8 @@ returns c =
     let read = after.found.keys in
     let kept = c.leave_out_initialized.new.found.keys in
     let found = c.add_unset_exports.new.found.keys in
-    let body = subst (λ keys. Passes (effects sub.statements) start after.here reached.NoWay after.exits keys read) c.requires
-    (subst (λ stmts. Passes (effects stmts) start after.here reached.NoWay after.exits c.args.found.now.keys read) c.as_slice.ensures c.in_ok-go_over_all.ensures) in
+    let body = subst (λ keys. Passes (effects sub.statements) start after.here reached.NoWay after.exits keys read) c.requires.none
+    (subst (λ e. Passes e start after.here reached.NoWay after.exits c.args.found.now.keys read) c.requires.items c.in_ok-go_over_all.ensures) in
     let end = subst (λ items. Finds after.here (exports_at sub.end items) kept found) c.relation.ensures c.in_ok-add_unset_exports.ensures in
     IfOk-weaker c.listed.result _ (λ v. AreUnsetReads p sub v.items)
     (λ v is. subst (AreUnsetReads p sub) (sym is) (are_unset p sub imported read kept found c.in_ok-imports.ensures c.in_ok-here.ensures body c.leave_out_initialized.ensures end c.listed.ensures.once))

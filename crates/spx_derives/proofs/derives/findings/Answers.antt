@@ -23,12 +23,11 @@ add_differences-requires-clause-declared c = c.in_ok-tables.ensures.pairs_size
 pub returns : goal.returns
 returns c =
     let tables = c.in_ok-tables.tables in
-    let mu = c.as_slice.ensures in
     let vars = formals c.args.sub.now in
-    let differences = differences_from c.args.flow.now.rho tables.declared (get same_var tables.exports) vars 0 vars in
+    let differences = differences_from c.args.rho.now tables.declared (get same_var tables.exports) vars 0 vars in
     let places = c.in_ok-ineffective.ineffective.keys in
-    are_findings c.args.program.now c.args.sub.now c.args.flow.now c.requires.scoped c.requires.marks c.requires.flow tables c.in_ok-tables.ensures places
-    (λ q. c.in_ok-ineffective.ensures.places q ∙ ap (λ list. list_any (stands_at q) list && not (list_any (is_effective tables.exported q) list)) mu)
+    are_findings c.args.program.now c.args.sub.now c.args.rho.now c.args.mu.now c.requires.scoped c.requires.marks c.requires.flow tables c.in_ok-tables.ensures places
+    (λ q. c.in_ok-ineffective.ensures.places q ∙ ap (λ list. list_any (stands_at q) list && not (list_any (is_effective tables.exported q) list)) c.as_slice.ensures)
     (once_places places c.in_ok-ineffective.ensures.once) c.in_ok-unset.unset.items
     (c.in_ok-unset.ensures c.args.sub.now c.requires.at)
     c.add_unset_reads.new.found.items

@@ -1,0 +1,77 @@
+// What expressions read.
+ghost use Rattle.std.specs.Prelude.{◌≡◌, ◌++◌, [], OnOk, IfOk, option_map};
+ghost use Rattle.std.specs.List.{cons_option};
+ghost use Rattle.spx_core.specs.Effects.{read_of, reads_of, reads_of_range};
+
+use crate::item::Read;
+use spx_core::{CoreExpr, CoreName, CoreRange, variable_of};
+use sqlite_items::{Boxed, Items};
+use std::alloc::{AllocError, Global};
+
+/// Adds a read of the variable that the name denotes, if it denotes one.
+fn add_name(name: &CoreName, found: &mut Items<Read>) -> Result<(), AllocError>
+    ensures { OnOk result (found.new ≡ found.old ++ cons_option (read_of name.now) []) }
+{
+    match variable_of(name.entity) {
+        Some(var) => {
+            found.push((name.name.place, var))?;
+            Ok(())
+        }
+        None => Ok(()),
+    }
+}
+
+/// Adds what the expression reads, in the order of the text.
+#[cycle(add_reads)]
+#[tactic(auto, using(crate::proofs::ReadForms::reads_forms))]
+fn add_reads(value: &CoreExpr, found: &mut Items<Read>) -> Result<(), AllocError>
+    ensures { OnOk result (found.new ≡ found.old ++ reads_of value.now) }
+{
+    match value {
+        CoreExpr::Number(_, _) => Ok(()),
+        CoreExpr::Attribute(_, _) => Ok(()),
+        CoreExpr::Name(name) => add_name(name, found),
+        CoreExpr::Entry(name, _) => add_name(name, found),
+        CoreExpr::Applied(_, _, operand) => add_reads(operand.get(), found),
+        CoreExpr::Parenthesized(_, inner) => add_reads(inner.get(), found),
+        CoreExpr::Prefix(_, _, operand) => add_reads(operand.get(), found),
+        CoreExpr::Infix(_, _, left, right) => {
+            add_reads(left.get(), found)?;
+            add_reads(right.get(), found)
+        }
+        CoreExpr::InType(_, _, tested, _) => add_reads(tested.get(), found),
+        CoreExpr::InRange(_, _, tested, low, high) => {
+            add_reads(tested.get(), found)?;
+            add_reads(low.get(), found)?;
+            add_reads(high.get(), found)
+        }
+    }
+}
+
+/// What the expression reads.
+pub(crate) fn reads_of(alloc: Global, value: &CoreExpr) -> Result<Items<Read>, AllocError>
+    ensures { IfOk result (λ found. found ≡ reads_of value.now) }
+{
+    let mut found = Items::new(alloc);
+    add_reads(value, &mut found)?;
+    Ok(found)
+}
+
+/// What the bounds of a loop read, where they are written.
+pub(crate) fn reads_of_bounds(
+    alloc: Global,
+    bounds: &Option<Boxed<CoreRange>>,
+) -> Result<Option<Items<Read>>, AllocError>
+    ensures { IfOk result (λ found. found ≡ option_map reads_of_range bounds.now) }
+{
+    match bounds {
+        None => Ok(None),
+        Some(range) => {
+            let range = range.get();
+            let mut found = Items::new(alloc);
+            add_reads(range.low.get(), &mut found)?;
+            add_reads(range.high.get(), &mut found)?;
+            Ok(Some(found))
+        }
+    }
+}
