@@ -5,6 +5,8 @@
 #[cfg(test)]
 mod outside;
 #[cfg(test)]
+mod paths;
+#[cfg(test)]
 mod stores;
 #[cfg(test)]
 mod terms;

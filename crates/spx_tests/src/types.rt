@@ -11,9 +11,9 @@ use std::test::Fail;
 const TEXT: &[u8] =
     b"procedure Set (X : in out Integer)\nis\n   type Count is range 0 .. 10;\n   type Colour is (Red);\n   subtype Few is Count range 1 .. 5;\nbegin\n   X := 7;\nend Set;\n";
 
-/// The program of the text.
-fn program(alloc: Global) -> Result<Boxed<Program>, AllocError> {
-    let Ok(tokens) = lex(alloc, 0, TEXT) else {
+/// The program of a text.
+pub fn program(alloc: Global, text: &[u8]) -> Result<Boxed<Program>, AllocError> {
+    let Ok(tokens) = lex(alloc, 0, text) else {
         return Err(AllocError);
     };
     let Ok(units) = parse_units(alloc, &tokens) else {
@@ -47,7 +47,7 @@ fn are_rows(alloc: Global, program: &Program, rows: &[TypeRow]) -> bool {
 
 #[test]
 fn a_declared_type_has_a_row(rt: HostRuntime) -> Result<(), Fail> {
-    let program = program(rt.alloc())?;
+    let program = program(rt.alloc(), TEXT)?;
     let rows = declared(program.get().types.as_slice());
     assert_eq!(rt; rows.len(), 3);
     assert!(rt; are_rows(rt.alloc(), program.get(), rows));

@@ -1,26 +1,2 @@
-pub mod ConditionTerms
-pub mod ConditionStates
-pub mod ConditionForward
-pub mod CheckLaws
-pub mod Expressions
-pub mod Parts
-pub mod PartSteps
-pub mod SharedIds
-pub mod SharedTerms
-pub mod SharedSteps
-pub mod GoalSteps
-pub mod Operators
-pub mod ChoiceIds
-pub mod ChoiceTerms
-pub mod ChoiceSteps
-pub mod CheckSteps
-pub mod StartSteps
-pub mod Fixed
-pub mod CountSteps
 pub mod Sizes
-pub mod Subs
-pub mod BranchSteps
-pub mod LoopSteps
-pub mod Remaining
-pub mod CutSteps
-pub mod Forms
+mod Subs

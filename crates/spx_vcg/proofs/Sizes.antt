@@ -1,5 +1,5 @@
 -- Sizes of lists of terms, and claims with too many nodes.
-use Rattle.std.proofs.Common.{◌≡◌, ℕ, ◌+◌, ◌<◌, Bool, ◌||◌, List, [], ◌∷◌, ◌++◌, length, map, take, drop, get_or, zero, suc, refl, sym, ap, ◌∙◌, arith, drop-cons, add-one, add-zero, length-append, below_more}
+use Rattle.std.proofs.Common.{◌≡◌, ℕ, ◌+◌, ◌<◌, Bool, ◌||◌, List, [], ◌∷◌, ◌++◌, length, map, flat_map, take, drop, get_or, zero, suc, refl, sym, ap, ◌∙◌, arith, drop-cons, add-one, add-zero, length-append, below_more}
 use Rattle.std.proofs.lemmas.List.{take_more, map-append, get_or_push, length-map, length-take-le}
 use Rattle.std.proofs.lemmas.List.Sums.{sum_by-append}
 use Rattle.std.proofs.Math.ListN.{get_or-append}
@@ -7,10 +7,12 @@ use Rattle.std.specs.List.{enumerate_from, list_any}
 use Rattle.spx_term.specs.declared.condition.Condition.{Condition}
 use Rattle.spx_term.specs.declared.term.Term.{Term}
 use Rattle.spx_term.specs.Sizes.{size_of, sizes_of, has_too_many_nodes}
-use Rattle.spx_term.specs.Steps.{Claim, tidy}
+use Rattle.spx_term.specs.Steps.{Claim, Tree, claims_of, tidy}
 use Rattle.spx_core.specs.declared.subprogram.Sub.{Sub}
 use Rattle.spx_core.specs.declared.program.Program.{Program}
 use Rattle.spx_paths.specs.Conditions.{body_claims, condition, numbered, conditions_of}
+use Rattle.spx_paths.specs.declared.body.BodySteps.{BodySteps}
+use Rattle.spx_paths.specs.Drafts.{IsBodyOf}
 use Rattle.spx_paths.specs.Limits.{has_large_condition}
 use Rattle.spx_arena.specs.declared.claims.SharedClaim.{SharedClaim}
 use Rattle.spx_arena.specs.declared.facts.FactsId.{FactsId}
@@ -19,6 +21,7 @@ use Rattle.spx_arena.specs.Claims.{trees_at}
 use Rattle.spx_arena.specs.Counts.{counted}
 use Rattle.spx_arena.specs.Facts.{facts_at}
 use Rattle.spx_arena.specs.Sharing.{tree_at}
+use Rattle.spx_steps.specs.Trees.{root_trees}
 use Rattle.spx_vcg.specs.Largeness.{AreSizes, is_large}
 
 -- ---- sizes
@@ -61,6 +64,10 @@ next_size trees lists sizes new at size are is s = record {
 }
 
 -- ---- claims
+-- the claims from the roots of a body are those that it asks for
+pub claims_are : (p : Program) (sub : Sub) (body : BodySteps) (cs : List Claim) → IsBodyOf p sub body → cs ≡ map tidy (flat_map claims_of (root_trees body.steps body.roots)) → cs ≡ map tidy (body_claims p sub)
+claims_are p sub body cs b is = is ∙ ap (λ (trees : List Tree). map tidy (flat_map claims_of trees)) b.trees
+
 pub any_here : (f : Claim → Bool) (g : SharedClaim → Claim) (cs : List SharedClaim) (i : ℕ) (d : SharedClaim) → i < length cs → list_any f (map g (drop i cs)) ≡ (f (g (get_or cs i d)) || list_any f (map g (drop (i + 1) cs)))
 any_here f g cs i d w = ap (λ xs. list_any f (map g xs)) (drop-cons cs i d w ∙ ap (λ k. get_or cs i d ∷ drop k cs) (sym (add-one i)))
 

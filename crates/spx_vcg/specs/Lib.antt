@@ -1,11 +1,1 @@
-pub mod ConditionWalk
-pub mod EntryNames
-pub mod States
-pub mod WalkSteps
-pub mod PathWalk
-pub mod Following
-pub mod Enclosing
-pub mod Counting
-pub mod Cuts
 pub mod Largeness
-pub mod Functions

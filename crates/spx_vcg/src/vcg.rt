@@ -2,82 +2,24 @@
 ghost use Rattle.std.specs.Prelude.{◌≡◌, ◌<◌, ◌+◌, false, Some, length, map, slice_get, IfErr, IfOk, OnOk};
 ghost use Rattle.spx_term.specs.declared.condition.Condition.{Condition};
 ghost use Rattle.spx_term.specs.Steps.{tidy};
-ghost use Rattle.spx_arena.specs.Claims.{AreIds, IsWhole, claim_at, claims_at, claims_in, trees_at};
+ghost use Rattle.spx_arena.specs.Claims.{AreIds, IsWhole, claim_at, claims_in, trees_at};
 ghost use Rattle.spx_core.specs.declared.program.Program.{Program};
 ghost use Rattle.spx_core.specs.declared.subprogram.Sub.{Sub};
 ghost use Rattle.spx_paths.specs.Conditions.{body_claims, condition, condition_name, conditions_of, numbered};
 ghost use Rattle.spx_paths.specs.Limits.{has_large_condition, has_many_paths};
-ghost use Rattle.spx_vcg.specs.Cuts.{Starts};
 ghost use Rattle.spx_vcg.specs.Largeness.{IsFaultOf};
-ghost use Rattle.spx_vcg.specs.WalkSteps.{Whole};
 
 use crate::VcFault;
-use crate::branches::Rest;
 use crate::limit::has_large_claim;
-use crate::steps::Body;
-use crate::values::Values;
-use crate::walk::{Facts, Walk};
-use crate::within::Within;
-use indexmap::IndexSet;
-use spx_arena::{FactLists, SharedClaim, SharedClaims, TermId, Terms};
+use spx_arena::{SharedClaim, SharedClaims, TermId, Terms};
 use spx_core::{Program, Sub, SubId};
 use spx_num::decimal;
-use spx_paths::{MOST_PATHS, has_many_paths};
+use spx_paths::{PathFault, body_steps};
+use spx_steps::claims_from;
 use spx_term::{Condition, MOST_NODES, Term};
 use spx_text::Text;
 use sqlite_items::Items;
 use std::alloc::{AllocError, Global};
-
-impl Walk {
-    /// All paths of a body, from its start and from each cut.
-    fn all_paths(&mut self, alloc: Global, program: &Program, sub: &Sub) -> Result<(), AllocError>
-        requires { Starts self.old }
-        ensures whole { OnOk result (Whole self.new) }
-        ensures claims { OnOk result (claims_at self.new.terms self.new.facts.lists self.new.claims ≡ map tidy (body_claims program.now sub.now)) }
-    {
-        self.enter_all(alloc, program, sub)?;
-        self.initialize_all(program, sub)?;
-        self.assume_imports(alloc, program, sub)?;
-        self.assume_pre(alloc, program, sub)?;
-        let body = Body { program, sub };
-        let stmts = sub.statements.as_slice();
-        self.path(alloc, &body, stmts, &Rest::End)?;
-        self.cuts(alloc, &body, stmts, &Within::outermost(), &Rest::End)?;
-        Ok(())
-    }
-}
-
-/// The conditions on shared terms, whatever their size.
-fn walked(alloc: Global, program: &Program, sub: &Sub) -> Result<SharedClaims, AllocError>
-    ensures whole { IfOk result IsWhole }
-    ensures claims { IfOk result (λ all. claims_in all ≡ map tidy (body_claims program.now sub.now)) }
-{
-    let values = Values::new(alloc)?;
-    let lists = FactLists::new(alloc);
-    let mut walk = Walk {
-        terms: Terms::new(alloc),
-        values,
-        facts: Facts {
-            present: IndexSet::new(alloc),
-            at: lists.none(),
-            lists,
-        },
-        claims: Items::new(alloc),
-    };
-    walk.all_paths(alloc, program, sub)?;
-    let Walk {
-        terms,
-        values: _,
-        facts,
-        claims: list,
-    } = walk;
-    let Facts {
-        present: _,
-        lists: facts,
-        at: _,
-    } = facts;
-    Ok(SharedClaims { terms, facts, list })
-}
 
 /// The conditions on shared terms, unless they pass a limit.
 fn conditions_within(alloc: Global, program: &Program, sub: &Sub) -> Result<SharedClaims, VcFault>
@@ -86,10 +28,12 @@ fn conditions_within(alloc: Global, program: &Program, sub: &Sub) -> Result<Shar
     ensures few { OnOk result ((has_many_paths sub.now ≡ false) × (has_large_condition program.now sub.now ≡ false)) }
     ensures refused { IfErr result (IsFaultOf program.now sub.now) }
 {
-    if has_many_paths(sub) {
-        return Err(VcFault::TooManyPaths(MOST_PATHS + 1));
-    }
-    let claims = walked(alloc, program, sub)?;
+    let all = match body_steps(alloc, program, sub) {
+        Ok(all) => all,
+        Err(PathFault::TooManyPaths(count)) => return Err(VcFault::TooManyPaths(count)),
+        Err(PathFault::Memory) => return Err(VcFault::Memory),
+    };
+    let claims = claims_from(alloc, &all.steps, &all.roots)?;
     if has_large_claim(alloc, &claims)? {
         return Err(VcFault::TooManyNodes(MOST_NODES + 1));
     }

@@ -1,0 +1,24 @@
+use Rattle.std.proofs.Common.{rules, refl, ap, ◌∙◌}
+use Rattle.std.proofs.lemmas.Int.{to_z-of_z}
+use Rattle.std.proofs.lemmas.Result.{IfOk-weaker}
+use Rattle.std.specs.Int.{w128}
+use Rattle.spx_core.specs.declared.statement.CoreRange.{CoreRange}
+use Rattle.spx_paths.specs.Walks.{bound_term, high_term}
+use Rattle.spx_paths.proofs.BoundLaws.{adds_term, most_is, high_is, term_along}
+use Rattle.spx_paths.proofs.draft.Draft.high_id.Goals as goal
+
+pub returns-in-None : goal.returns-in-None
+returns-in-None c =
+    let p = c.args.body.now.program.now in
+    let sub = c.args.body.now.sub.now in
+    let is = most_is p sub c.args.count.now c.type_of-most.result _ c.in-None.is c.type_of-most.ensures (to_z-of_z w128 c.type_of-most.result.last (search rules)) in
+    IfOk-weaker c.make.result _ _ (λ id made. adds_term (high_term p sub c.args.count.now) c.requires.order c.make.ensures.grown made refl refl is) c.make.ensures.made
+
+pub returns-in_ok-id-in-Some : goal.returns-in_ok-id-in-Some
+returns-in_ok-id-in-Some c =
+    let p = c.args.body.now.program.now in
+    let sub = c.args.body.now.sub.now in
+    let name = c.last_name.result in
+    term_along (high_term p sub c.args.count.now) c.in_ok-id-in-Some.ensures
+    (ap (bound_term p sub name) (c.get-high.ensures ∙ ap (λ (range : CoreRange). range.high) c.get.ensures)
+    ∙ high_is p sub c.args.count.now name c.in-Some.range c.in-Some.is c.last_name.ensures)

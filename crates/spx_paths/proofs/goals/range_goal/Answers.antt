@@ -1,0 +1,11 @@
+use Rattle.std.proofs.Common.{rules}
+use Rattle.std.proofs.lemmas.Int.{to_z-of_z}
+use Rattle.std.specs.Int.{w128}
+use Rattle.spx_paths.proofs.GoalSteps.{adds_range_goal}
+use Rattle.spx_paths.proofs.goals.range_goal.Goals as goal
+
+pub returns : goal.returns
+returns c =
+    let subtype = c.args.subtype in
+    adds_range_goal subtype c.requires.0 c.requires.1 c.in_ok-some.ensures.added c.in_ok-first.ensures c.in_ok-last.ensures c.in_ok-both.ensures.added c.in_ok-goal.ensures.added c.in_ok-goals.ensures
+    (to_z-of_z w128 subtype.first (search rules)) (to_z-of_z w128 subtype.last (search rules))

@@ -1,0 +1,9 @@
+pub mod Trees
+pub mod Counts
+pub mod Listing
+pub mod ConditionWalk
+pub mod States
+pub mod Entries
+pub mod Memos
+pub mod Walks
+pub mod Forks

@@ -1,5 +1,0 @@
-use Rattle.std.proofs.Common.{length}
-use Rattle.spx_vcg.proofs.goals.+under.Given as goal
-
-abbrev pub decreases-under : goal.decreases-under
-decreases-under l = length l.lefts.now
