@@ -65,3 +65,4 @@ mod CountedCuts
 mod Computing
 mod Doubling
 mod DoublingText
+mod BadRuns

@@ -25,3 +25,4 @@ pub mod ExitText
 pub mod CountedLoops
 pub mod Doubling
 pub mod DoublingText
+pub mod BadPrograms

@@ -4,6 +4,7 @@
 #![tactic(auto)]
 
 pub mod assertion_laws;
+pub mod bad_laws;
 pub mod branch_laws;
 pub mod call_laws;
 pub mod count_laws;
