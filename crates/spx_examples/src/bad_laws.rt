@@ -45,7 +45,7 @@ pub fn a_read_of_an_unset_local_can_be_bad()
     ensures fails { ¬ NeverBad (local_program (giving the_local)) }
 {}
 
-/// A body that leaves an `out` formal unset is bad at `end`: no expression is evaluated, and every statement ends.
+/// `null` leaves an `out` formal unset, which is bad at `end`, though each statement ends.
 pub fn an_export_left_unset_can_be_bad()
     ensures start { Start (out_program only_null) (out_sub only_null) (None ∷ []) }
     ensures bad { (n : ℕ) (x : Option Value) → call (out_program only_null) n (out_sub only_null) (x ∷ []) ≡ Bad Unset (place 7 1) }
@@ -79,8 +79,8 @@ pub fn a_negative_value_can_be_bad()
 {}
 
 /// A call may start where the precondition is true in the store of the caller, and looks at it once more where `out` formals are unset. So with the precondition
-/// `X > 0` on an `out` formal a call that may start is bad at the word `pre`. Rule U11 refuses such a precondition; any other means the same in both stores, so
-/// that no call that may start is bad for it.
+/// `X > 0` on an `out` formal a call that may start is bad at the word `pre`. Rule U11 refuses such a precondition: it allows imports alone, which have the same
+/// values in both stores. So there is no such program among those that obey the rules.
 pub fn a_precondition_on_an_out_formal_can_be_bad()
     ensures refused { first_rule_breach demanding_program ≡ breach U11 3 9 }
     ensures start { Start demanding_program demanding (number (pos 1) ∷ []) }
