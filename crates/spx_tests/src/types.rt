@@ -1,4 +1,6 @@
 // Rows of declared types.
+ghost use Rattle.std.specs.Prelude.{◌≤◌, length};
+
 use spx_core::{Program, TypeRow};
 use spx_lexer::lex;
 use spx_parse_unit::parse_units;
@@ -12,7 +14,9 @@ const TEXT: &[u8] =
     b"procedure Set (X : in out Integer)\nis\n   type Count is range 0 .. 10;\n   type Colour is (Red);\n   subtype Few is Count range 1 .. 5;\nbegin\n   X := 7;\nend Set;\n";
 
 /// The program of a text.
-pub fn program(alloc: Global, text: &[u8]) -> Result<Boxed<Program>, AllocError> {
+pub fn program(alloc: Global, text: &[u8]) -> Result<Boxed<Program>, AllocError>
+    requires { length text.now ≤ 4194304 }
+{
     let Ok(tokens) = lex(alloc, 0, text) else {
         return Err(AllocError);
     };
