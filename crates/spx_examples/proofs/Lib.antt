@@ -66,3 +66,4 @@ mod Computing
 mod Doubling
 mod DoublingText
 mod BadRuns
+mod Weakened

@@ -26,3 +26,4 @@ pub mod CountedLoops
 pub mod Doubling
 pub mod DoublingText
 pub mod BadPrograms
+pub mod Weakenings

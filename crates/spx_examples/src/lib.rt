@@ -20,3 +20,4 @@ pub mod selection_laws;
 pub mod sequent_laws;
 pub mod text_laws;
 pub mod variable_rule_laws;
+pub mod weakening_laws;
