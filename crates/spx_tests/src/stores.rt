@@ -2,6 +2,7 @@
 ghost use Rattle.std.specs.Prelude.{◌≡◌, length, IfOk};
 
 use spx_core::{INTEGER, Mode, Program, Var, VarId, VarKind};
+use spx_interp::{Finish, elaborate};
 use spx_meaning::{Store, Value};
 use spx_text::Text;
 use sqlite_items::Items;
@@ -51,5 +52,18 @@ fn a_store_keeps_what_it_is_given(rt: HostRuntime) -> Result<(), Fail> {
     assert_eq!(rt; store.get(Y), Some(Value::Truth(true)));
     assert_eq!(rt; copied.get(X), Some(Value::Number(7)));
     assert_eq!(rt; copied.get(Y), None);
+    Ok(())
+}
+
+#[test]
+fn variables_are_unset_at_the_beginning(rt: HostRuntime) -> Result<(), Fail> {
+    let program = program(rt.alloc())?;
+    match elaborate(rt.alloc(), &program, 0) {
+        Ok((store, finish)) => {
+            assert_eq!(rt; store.get(X), None);
+            assert_eq!(rt; finish, Finish::Ended);
+        }
+        Err(_) => assert!(rt; false),
+    }
     Ok(())
 }
