@@ -1,6 +1,8 @@
--- What tells the definitions of what holds of runs, and of the limit of bits, from weaker ones.
-use Rattle.std.proofs.Common.{◌≡◌, ℕ, zero, suc, ◌+◌, ℤ, pos, negsuc, Bool, true, false, List, [], ◌∷◌, Option, Some, None, Ok, refl, ap, ap₂, subst, sym, ◌∙◌, arith}
-use Rattle.std.specs.Prelude.{◌≢◌, IsTrue, IsSome, IfSome, int_lt, is_none, option_and_then, option_map, ◌||◌, ◌&&◌, if◌then◌else◌}
+-- What tells the definitions of what holds of runs, of the limit of bits, of validity and of the flow of loops from weaker ones.
+use Rattle.std.proofs.Common.{◌≡◌, ◌↔◌, ◌⊎◌, inl, inr, ⊎_elim, ℕ, zero, suc, ◌+◌, ℤ, pos, negsuc, ◌+ℤ◌, ◌-ℤ◌, int_le, Bool, true, false, List, [], ◌∷◌, ◌++◌, Option, Some, None, Ok, refl, ap, ap₂, subst, sym, ◌∙◌, arith}
+use Rattle.std.specs.Prelude.{◌≢◌, ◌==◌, IsTrue, IsSome, IfSome, nat_lt, int_lt, is_none, option_and_then, option_map, ◌||◌, ◌&&◌, if◌then◌else◌}
+use Rattle.std.specs.List.{filter_map}
+use Rattle.std.proofs.lemmas.Int.{ints}
 use Rattle.spx_num.specs.Widths.{fits}
 use Rattle.spx_tree.specs.declared.expression.InfixOp.{InfixOp}
 use Rattle.spx_tree.specs.declared.expression.InfixOp.TheVariants as op
@@ -8,7 +10,7 @@ use Rattle.spx_tree.specs.declared.expression.MemberOp.TheVariants.{In}
 use Rattle.spx_tree.specs.declared.expression.PrefixOp.TheVariants.{Minus}
 use Rattle.spx_tree.specs.declared.statement.AssertionKind.TheVariants.{Check}
 use Rattle.spx_text.specs.declared.place.Place.{Place}
-use Rattle.std.proofs.lemmas.List.Elements.{All-head}
+use Rattle.std.proofs.lemmas.List.Elements.{All-cons, All-head, All-nil}
 use Rattle.spx_core.specs.declared.entity.TheConstants.{BOOLEAN, INTEGER_FIRST, INTEGER_LAST, POSITIVE}
 use Rattle.spx_core.specs.declared.entity.VarId.{VarId}
 use Rattle.spx_core.specs.declared.expression.CoreExpr.{CoreExpr}
@@ -22,13 +24,25 @@ use Rattle.spx_core.specs.declared.statement.CoreStmt.{CoreStmt}
 use Rattle.spx_core.specs.declared.subprogram.Sub.{Sub}
 use Rattle.spx_core.specs.Commands.{Command, Skip, Then, Assertion, Last, When, commands}
 use Rattle.spx_core.specs.Dependency.{derives, exports}
+use Rattle.spx_core.specs.Effects.{Effect, Read, effect, read_of, reads_of}
+use Rattle.spx_core.specs.Effects as effects
+use Rattle.spx_core.specs.Flow.{MayFlow, Given, Keeping, Steps, stay, advance}
+use Rattle.spx_core.specs.Uses.{is_same}
+use Rattle.spx_core.specs.Marks.{Lambda, Mu}
+use Rattle.spx_core.specs.Reads.{names_step}
 use Rattle.spx_core.specs.Judged.{application, expr_step, judged, typing}
 use Rattle.spx_core.specs.Places.{place_of}
 use Rattle.spx_core.proofs.Callers.CommandForms.{command-Assertion, command-Assignment}
 use Rattle.spx_core.proofs.Callers.Expressions.{fold-Name, fold-Number, fold-Applied, fold-Prefix, fold-Infix, fold-InType, fold-InRange}
+use Rattle.spx_term.specs.declared.term.Sort.TheVariants.{Integer}
+use Rattle.spx_term.specs.declared.term.Symbol.TheVariants as symbol
+use Rattle.spx_term.specs.declared.term.Term.{Term}
+use Rattle.spx_term.specs.declared.term.Term.TheVariants as term
+use Rattle.spx_term.specs.declared.term.TermOp.TheVariants.{GreaterOrEqual, LessOrEqual}
 use Rattle.spx_term.specs.declared.value.Value.{Value}
 use Rattle.spx_term.specs.declared.value.Value.TheVariants as value
-use Rattle.spx_term.specs.Meaning.{as_number, as_truth, same_value, value_of_op, value_of_prefix}
+use Rattle.spx_term.specs.Meaning.{as_number, as_truth, same_value, value_of, value_of_op, value_of_prefix, value_step, Holds, Valid, Valuation}
+use Rattle.spx_term.proofs.Terms as terms
 use Rattle.spx_meaning.specs.declared.bad.BadKind.TheVariants.{Overflow, Pre, Unset}
 use Rattle.spx_meaning.specs.declared.bad.BadKind.TheVariants as bad
 use Rattle.spx_meaning.specs.Annotations.{truth}
@@ -41,17 +55,20 @@ use Rattle.spx_meaning.specs.Runs.{Outcome, Ended, Left, Bad, Later, after_turn,
 use Rattle.spx_meaning.specs.Stores.{Store, look, type_of, is_in}
 use Rattle.spx_meaning.proofs.Callers.Annotations.{computed_is_meant}
 use Rattle.spx_examples.specs.Assertions.{doing, program_of}
-use Rattle.spx_examples.specs.Increment.{place, integer_at, x, x_at, x_named, successor, step, inc, increment}
-use Rattle.spx_examples.specs.CountedLoops.{before, between_numbers, i_at, over, with_parameter}
+use Rattle.spx_examples.specs.Increment.{place, integer_at, x, x_at, x_named, successor, step, inc, increment, entry_x}
+use Rattle.spx_examples.specs.CountedLoops.{before, between_numbers, i, i_at, over, with_parameter}
 use Rattle.spx_examples.specs.Flag.{flag, named, y}
-use Rattle.spx_examples.specs.Loops.{endless, runs_from}
+use Rattle.spx_examples.specs.Flag as flags
+use Rattle.spx_examples.specs.Loops.{endless, passing_on, passing_turn_by_turn, runs_from}
+use Rattle.spx_examples.specs.Loops as loops
 use Rattle.spx_examples.specs.LoopText.{loop_command}
 use Rattle.spx_examples.specs.Next.{below_hundred_at}
 use Rattle.spx_examples.specs.Operators.{true_at}
 use Rattle.spx_examples.specs.Refused.{inc_without_pre, increment_without_pre}
+use Rattle.spx_examples.specs.Sequents.{x_at_most, where_x_is}
 use Rattle.spx_examples.specs.VariableRules.{z}
-use Rattle.spx_examples.specs.Variants.{number, only_null, out_x_at}
-use Rattle.spx_examples.specs.Weakenings.{x_of, power_at, power, positive_power_at, product, negated_power, quotient, above_two, guarded_power, natural_named, power_in_natural, up_to_power, below_limit, Computes, IsTooLarge, wanting_power, promising_power, checking_power, checking_twice, turns_with_power, endless_then_power, unset_power, unset_and_power, unset_program, parameter_power, each_passes, converted_power, choice_at, case_with_power, arm_with_power, exit_before_power, power_before_exit, exit_then_power, whole_type_passes, PassesLimit, KeepsLimit, EndsFrom, passes_from, other, with_other, reaching, y_at, z_at, all_of, FormalsAreKept, from_nothing, AreDerivedAtOneBound}
+use Rattle.spx_examples.specs.Variants.{local_y_at, number, only_null, out_x_at}
+use Rattle.spx_examples.specs.Weakenings.{x_of, power_at, power, positive_power_at, product, negated_power, quotient, above_two, guarded_power, natural_named, power_in_natural, up_to_power, below_limit, Computes, IsTooLarge, wanting_power, promising_power, checking_power, checking_twice, turns_with_power, endless_then_power, unset_power, unset_and_power, unset_program, parameter_power, each_passes, converted_power, choice_at, case_with_power, arm_with_power, exit_before_power, power_before_exit, exit_then_power, whole_type_passes, PassesLimit, KeepsLimit, EndsFrom, passes_from, other, with_other, reaching, y_at, z_at, all_of, FormalsAreKept, from_nothing, AreDerivedAtOneBound, NumbersFit, ValidInBits, x_at_least, up_to_greatest, from_least, past_greatest, passing_without_end, passing_parameter, passing_up_to_x}
 use Rattle.spx_examples.proofs.IncrementFlows.{only_import}
 use Rattle.spx_examples.proofs.IncrementRuns.{body_runs, precondition_means}
 use Rattle.spx_examples.proofs.IncrementRules.{inc_command}
@@ -60,6 +77,8 @@ use Rattle.spx_examples.proofs.Loops.{endless_is_later}
 use Rattle.spx_examples.proofs.LoopText.{command_is}
 use Rattle.spx_examples.proofs.NextRuns.{below_of, eval_below}
 use Rattle.spx_examples.proofs.OneVariable.{if_x}
+use Rattle.spx_examples.proofs.Lists as lists
+use Rattle.spx_examples.proofs.Sequents.{sorted}
 use Rattle.spx_examples.proofs.Statements.{null_is, operating, to_end}
 use Rattle.spx_examples.proofs.Successor.{assigning, judged_x, step_command, step_runs, successor_of}
 
@@ -762,3 +781,235 @@ one_bound settled p sub law n m s t s' t' from_s from_t first second =
     let at_both = settled p sub s n (n + m) (omega arith) (ended_is_not_later _ s' first) in
     let second_at_both = settled p sub t m (n + m) (omega arith) (ended_is_not_later _ t' second) in
     law (n + m) s t s' t' from_s from_t (at_both ∙ first) (second_at_both ∙ second)
+
+-- ---- sequents with large numbers
+
+-- X is the number that its name has
+x_number : (v : Valuation) → as_number (value_of v entry_x) ≡ as_number (v (record { symbol = symbol.Entry 0; sort = Integer }))
+x_number v = ap as_number (terms.fold-Variable (value_step v) (record { symbol = symbol.Entry 0; sort = Integer }))
+
+x_fits : (v : Valuation) → NumbersFit v → IsTrue (fits (as_number (value_of v entry_x)))
+x_fits v fit = subst (λ n. IsTrue (fits n)) (sym (x_number v)) (fit (record { symbol = symbol.Entry 0; sort = Integer }))
+
+at_least_is : (v : Valuation) (n : ℤ) → value_of v (x_at_least n) ≡ value.Truth (int_le n (as_number (value_of v entry_x)))
+unfolding value_of_op
+at_least_is v n = terms.fold-Infix (value_step v) GreaterOrEqual entry_x (term.Number n) ∙ ap (λ k. value.Truth (int_le (as_number k) (as_number (value_of v entry_x)))) (terms.fold-Number (value_step v) n)
+
+at_most_is : (v : Valuation) (n : ℤ) → value_of v (x_at_most n) ≡ value.Truth (int_le (as_number (value_of v entry_x)) n)
+unfolding value_of_op
+at_most_is v n = terms.fold-Infix (value_step v) LessOrEqual entry_x (term.Number n) ∙ ap (λ k. value.Truth (int_le (as_number (value_of v entry_x)) (as_number k))) (terms.fold-Number (value_step v) n)
+
+-- what fits lies from -2 ** 127 to 2 ** 127 - 1
+fits_below : (m : ℤ) → IsTrue (fits m) → int_le m (pos 170141183460469231731687303715884105727) ≡ true
+unfolding fits
+fits_below (pos n) h = let below : nat_lt n 170141183460469231731687303715884105728 ≡ true = h in grind (arith, ints)
+fits_below (negsuc n) h = refl
+
+fits_above : (m : ℤ) → IsTrue (fits m) → int_le (negsuc 170141183460469231731687303715884105727) m ≡ true
+unfolding fits
+fits_above (pos n) h = refl
+fits_above (negsuc n) h = let below : nat_lt n 170141183460469231731687303715884105728 ≡ true = h in grind (arith, ints)
+
+fits_not_past : (m : ℤ) → IsTrue (fits m) → int_le (pos 170141183460469231731687303715884105728) m ≡ false
+fits_not_past m h = let most = fits_below m h in grind (arith, ints)
+
+pub most_in_bits : ValidInBits [] up_to_greatest
+most_in_bits v respects fit known = at_most_is v (pos 170141183460469231731687303715884105727) ∙ ap value.Truth (fits_below (as_number (value_of v entry_x)) (x_fits v fit))
+
+pub least_in_bits : ValidInBits [] from_least
+least_in_bits v respects fit known = at_least_is v (negsuc 170141183460469231731687303715884105727) ∙ ap value.Truth (fits_above (as_number (value_of v entry_x)) (x_fits v fit))
+
+pub none_in_bits : ValidInBits (past_greatest ∷ []) (term.Truth false)
+none_in_bits v respects fit known =
+    let past = sym (at_least_is v (pos 170141183460469231731687303715884105728)) ∙ All-head (λ hyp. Holds hyp v) past_greatest [] known in
+    let not_past = fits_not_past (as_number (value_of v entry_x)) (x_fits v fit) in
+    absurd (let e : value.Truth false ≡ value.Truth true = sym (ap value.Truth not_past) ∙ past in cc)
+
+-- what X with this value refutes
+refuted : (m : ℤ) (goal : Term) → value_of (where_x_is m (pos 0)) goal ≡ value.Truth false → ¬ Valid [] goal
+refuted m goal fails valid =
+    absurd (let e : value.Truth false ≡ value.Truth true = sym fails ∙ valid (where_x_is m (pos 0)) (sorted m (pos 0)) (All-nil (λ hyp. Holds hyp (where_x_is m (pos 0)))) in cc)
+
+x_is : (m : ℤ) → as_number (value_of (where_x_is m (pos 0)) entry_x) ≡ m
+x_is m = x_number (where_x_is m (pos 0))
+
+pub no_most : (n : ℤ) → ¬ Valid [] (x_at_most n)
+no_most n =
+    refuted (n +ℤ pos 1) (x_at_most n)
+    (at_most_is (where_x_is (n +ℤ pos 1) (pos 0)) n ∙ ap (λ m. value.Truth (int_le m n)) (x_is (n +ℤ pos 1)) ∙ ap value.Truth (let e : int_le (n +ℤ pos 1) n ≡ false = grind (arith, ints) in e))
+
+pub no_least : (n : ℤ) → ¬ Valid [] (x_at_least n)
+no_least n =
+    refuted (n -ℤ pos 1) (x_at_least n)
+    (at_least_is (where_x_is (n -ℤ pos 1) (pos 0)) n ∙ ap (λ m. value.Truth (int_le n m)) (x_is (n -ℤ pos 1)) ∙ ap value.Truth (let e : int_le n (n -ℤ pos 1) ≡ false = grind (arith, ints) in e))
+
+pub most_not_valid : ¬ Valid [] up_to_greatest
+most_not_valid = no_most (pos 170141183460469231731687303715884105727)
+
+pub least_not_valid : ¬ Valid [] from_least
+least_not_valid = no_least (negsuc 170141183460469231731687303715884105727)
+
+-- X is 2 ** 127
+abbrev at_limit : Valuation
+at_limit = where_x_is (pos 170141183460469231731687303715884105728) (pos 0)
+
+limit_is_past : Holds past_greatest at_limit
+limit_is_past = at_least_is at_limit (pos 170141183460469231731687303715884105728) ∙ ap (λ m. value.Truth (int_le (pos 170141183460469231731687303715884105728) m)) (x_is (pos 170141183460469231731687303715884105728))
+
+pub some_past : ¬ Valid (past_greatest ∷ []) (term.Truth false)
+some_past valid =
+    let known = All-cons (λ hyp. Holds hyp at_limit) past_greatest [] limit_is_past (All-nil (λ hyp. Holds hyp at_limit)) in
+    absurd (let e : value.Truth false ≡ value.Truth true = sym (terms.fold-Truth (value_step at_limit) false) ∙ valid at_limit (sorted (pos 170141183460469231731687303715884105728) (pos 0)) known in cc)
+
+-- ---- further turns
+
+-- something is given the value of Y, and then Y another value
+abbrev passed : (target value : VarId) → Effect
+passed target value = effects.next (effects.assign (Some target) ((place 6 12, y) ∷ []) (place 6 7)) (effects.next (effects.assign (Some y) ((place 7 12, value) ∷ []) (place 7 7)) effects.nothing)
+
+-- the same, by what names denote
+abbrev passed_by : VarId → List CoreName → List CoreName → Effect
+passed_by target first second =
+    effects.next (effects.assign (Some target) (filter_map read_of first) (place 6 7)) (effects.next (effects.assign (Some y) (filter_map read_of second) (place 7 7)) effects.nothing)
+
+module _ (target value : VarId) where
+  -- Y, or what Y is given
+  abbrev FromEither : VarId → Type 0
+  FromEither v = (v ≡ y) ⊎ (v ≡ value)
+
+  only_y : (v : VarId) → Lambda (passed target value) v (place 6 7) → v ≡ y
+  only_y v (inl first) = sym ((lists.same_is y v).0 (sym (lists.or_none (1 == v.0)) ∙ first.2))
+  only_y v (inr (w, flow, inl second)) = absurd (let e : 7 ≡ 6 = ap (λ (p : Place). p.line) second.1 in cc)
+  only_y v (inr (w, flow, inr (u, more, none))) = absurd none
+
+  y_comes : Lambda (passed target value) y (place 6 7)
+  y_comes = inl (refl, refl, refl)
+
+  -- what comes to one of these in a turn is one of them
+  turn_from : (u v : VarId) → FromEither v → MayFlow (passed target value) u v → FromEither u
+  turn_from u v one (w, inl first, rest) = inl (sym ((lists.same_is y u).0 (sym (lists.or_none (1 == u.0)) ∙ first.1)))
+  turn_from u v one (w, inr kept, (t, inl second, is)) = inr (kept.1 ∙ sym ((lists.same_is value w).0 (sym (lists.or_none (value.0 == w.0)) ∙ second.1)))
+  turn_from u v one (w, inr kept, (t, inr past, is)) = subst FromEither (sym (kept.1 ∙ past.1 ∙ is)) one
+
+-- `X := Y; Y := Z`
+abbrev passing : Effect
+passing = passed x z
+
+passing_is : effect passing_on ≡ passing
+passing_is = ap₂ (passed_by x) (fold-Name names_step (local_y_at 6 12)) (fold-Name names_step (loops.z_at 7 12))
+
+-- Y or Z
+abbrev FromLocals : VarId → Type 0
+FromLocals = FromEither x z
+
+turns_from : (u v : VarId) → FromLocals v → Steps (MayFlow passing) u v → FromLocals u
+turns_from u v one stay = one
+turns_from u v one (advance {v = w} turn more) = turn_from x z u w (turns_from w v one more) turn
+
+-- Z comes to Y in a turn, and Y to X
+z_to_y : MayFlow passing z y
+z_to_y = (z, inr (refl, refl), (y, inl (refl, refl), refl))
+
+y_to_x : (value : VarId) → MayFlow (passed x value) y x
+y_to_x value = (x, inl (refl, refl), (x, inr (refl, refl), refl))
+
+-- some turns lead from it to Y
+turns_to_y : (v : VarId) → FromLocals v → Steps (MayFlow passing) v y
+turns_to_y v (inl is) = subst (λ u. Steps (MayFlow passing) u y) (sym is) stay
+turns_to_y v (inr is) = subst (λ u. Steps (MayFlow passing) u y) (sym is) (advance z_to_y stay)
+
+pub comes_once : (v : VarId) → Lambda (effect passing_on) v (place 6 7) ↔ (v ≡ y)
+comes_once v = subst (λ e. Lambda e v (place 6 7) ↔ (v ≡ y)) (sym passing_is) (only_y x z v, λ is. subst (λ u. Lambda passing u (place 6 7)) (sym is) (y_comes x z))
+
+-- the loop as an effect, with what its test reads
+abbrev tested : List Read → Effect → Effect
+tested reads body = effects.repeat reads body (place 5 4)
+
+in_turns : (reads : List Read) (v : VarId) → Lambda (tested reads passing) v (place 6 7) → FromLocals v
+in_turns reads v (u, turns, inl test) = absurd (let e : 5 ≡ 6 = ap (λ (p : Place). p.line) test.0 in cc)
+in_turns reads v (u, turns, inr body) = turns_from v u (inl (only_y x z u body)) turns
+
+-- what the test reads
+abbrev test_reads : List Read
+test_reads = reads_of (Name (true_at 5 10))
+
+pub comes_by_turns : (v : VarId) → Lambda (effect passing_turn_by_turn) v (place 6 7) ↔ FromLocals v
+comes_by_turns v = subst (λ e. Lambda (tested test_reads e) v (place 6 7) ↔ FromLocals v) (sym passing_is) (in_turns test_reads v, λ one. (y, turns_to_y v one, inr (y_comes x z)))
+
+in_endless : (v : VarId) → Lambda (effects.endless passing) v (place 6 7) → FromLocals v
+in_endless v (u, turns, body) = turns_from v u (inl (only_y x z u body)) turns
+
+pub comes_without_end : (v : VarId) → Lambda (effect passing_without_end) v (place 6 7) ↔ FromLocals v
+comes_without_end v = subst (λ e. Lambda (effects.endless e) v (place 6 7) ↔ FromLocals v) (sym passing_is) (in_endless v, λ one. (y, turns_to_y v one, y_comes x z))
+
+-- `X := Y; Y := I`, for I between these bounds
+abbrev counted : Effect → Effect
+counted body = effects.count i (Some ((place 5 33, x) ∷ [])) body (place 5 4)
+
+parameter_is : effect passing_parameter ≡ passed x i
+parameter_is = ap₂ (passed_by x) (fold-Name names_step (y_at 6 12)) (fold-Name names_step (i_at 7 12))
+
+pub renewed_once : (v : VarId) → Lambda (effect passing_parameter) v (place 6 7) ↔ (v ≡ y)
+renewed_once v = subst (λ e. Lambda e v (place 6 7) ↔ (v ≡ y)) (sym parameter_is) (only_y x i v, λ is. subst (λ u. Lambda (passed x i) u (place 6 7)) (sym is) (y_comes x i))
+
+counted_is : effect passing_up_to_x ≡ counted (passed x i)
+counted_is =
+    ap₂ (λ low high. effects.count i (Some (filter_map read_of low ++ filter_map read_of high)) (effect passing_parameter) (place 5 4)) (fold-Number names_step (pos 1) (place 5 28)) (fold-Name names_step (flags.x_at 5 33))
+    ∙ ap counted parameter_is
+
+counted_from : (u v : VarId) → FromEither x i v → Steps (Keeping i (MayFlow (passed x i))) u v → FromEither x i u
+counted_from u v one stay = one
+counted_from u v one (advance {v = w} (inl kept) more) = subst (FromEither x i) (sym kept.1) (counted_from w v one more)
+counted_from u v one (advance {v = w} (inr turn) more) = turn_from x i u w (counted_from w v one more) turn.1
+
+-- I has its value from X
+from_bounds : (u v : VarId) → FromEither x i v → Given (Some i) ((place 5 33, x) ∷ []) u v → (u ≡ y) ⊎ (u ≡ x)
+from_bounds u v one (inl read) = inr (sym ((lists.same_is x u).0 (sym (lists.or_none (0 == u.0)) ∙ read.1)))
+from_bounds u v (inl is) (inr kept) = inl (kept.1 ∙ is)
+from_bounds u v (inr is) (inr kept) = absurd (let other = subst (λ w. is_same w (Some i) ≡ false) is kept.0 in cc)
+
+in_count : (v : VarId) → Lambda (counted (passed x i)) v (place 6 7) → (v ≡ y) ⊎ (v ≡ x)
+in_count v (inl bounds) = absurd (let e : 5 ≡ 6 = ap (λ (p : Place). p.line) bounds.0 in cc)
+in_count v (inr (u, w, given, turns, body)) = from_bounds v u (counted_from u w (inl (only_y x i w body)) turns) given
+
+-- I comes to Y in a turn
+i_to_y : MayFlow (passed x i) i y
+i_to_y = (i, inr (refl, refl), (y, inl (refl, refl), refl))
+
+y_counts : Lambda (counted (passed x i)) y (place 6 7)
+y_counts = inr (y, y, inr (refl, refl), stay, y_comes x i)
+
+x_counts : Lambda (counted (passed x i)) x (place 6 7)
+x_counts = inr (i, y, inl (refl, refl), advance (inr (refl, i_to_y)) stay, y_comes x i)
+
+counts_from : (v : VarId) → (v ≡ y) ⊎ (v ≡ x) → Lambda (counted (passed x i)) v (place 6 7)
+counts_from v one = ⊎_elim (λ is. subst (λ u. Lambda (counted (passed x i)) u (place 6 7)) (sym is) y_counts) (λ is. subst (λ u. Lambda (counted (passed x i)) u (place 6 7)) (sym is) x_counts) one
+
+pub comes_by_count : (v : VarId) → Lambda (effect passing_up_to_x) v (place 6 7) ↔ ((v ≡ y) ⊎ (v ≡ x))
+comes_by_count v = subst (λ e. Lambda e v (place 6 7) ↔ ((v ≡ y) ⊎ (v ≡ x))) (sym counted_is) (in_count v, counts_from v)
+
+to_y_only : (value v : VarId) → Mu (passed x value) (place 7 7) v → v ≡ y
+to_y_only value v (inl (u, first, flow)) = absurd (let e : 6 ≡ 7 = ap (λ (p : Place). p.line) first.0 in cc)
+to_y_only value v (inr (inl (u, second, is))) = sym is ∙ sym ((lists.same_is y u).0 second.1)
+to_y_only value v (inr (inr none)) = absurd none
+
+to_y : (value : VarId) → Mu (passed x value) (place 7 7) y
+to_y value = inr (inl (y, (refl, refl), refl))
+
+once : (value v : VarId) → Mu (passed x value) (place 7 7) v ↔ (v ≡ y)
+once value v = (to_y_only value v, λ is. subst (Mu (passed x value) (place 7 7)) (sym is) (to_y value))
+
+pub leads_once : (v : VarId) → Mu (effect passing_on) (place 7 7) v ↔ (v ≡ y)
+leads_once v = subst (λ e. Mu e (place 7 7) v ↔ (v ≡ y)) (sym passing_is) (once z v)
+
+pub leads_by_turns : Mu (effect passing_turn_by_turn) (place 7 7) x
+leads_by_turns = subst (λ e. Mu (tested test_reads e) (place 7 7) x) (sym passing_is) (inr (inl (y, to_y z, inl (inl (advance (y_to_x z) stay)))))
+
+pub leads_without_end : Mu (effect passing_without_end) (place 7 7) x
+leads_without_end = subst (λ e. Mu (effects.endless e) (place 7 7) x) (sym passing_is) (inl (y, to_y z, inl (refl, advance (y_to_x z) stay)))
+
+pub parameter_leads_once : (v : VarId) → Mu (effect passing_parameter) (place 7 7) v ↔ (v ≡ y)
+parameter_leads_once v = subst (λ e. Mu e (place 7 7) v ↔ (v ≡ y)) (sym parameter_is) (once i v)
+
+pub leads_by_count : Mu (effect passing_up_to_x) (place 7 7) x
+leads_by_count = subst (λ e. Mu e (place 7 7) x) (sym counted_is) (refl, inr (inl (y, to_y i, refl, inl (advance (inr (refl, y_to_x i)) stay))))

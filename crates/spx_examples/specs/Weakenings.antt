@@ -1,6 +1,7 @@
--- Programs that tell the definitions of what holds of runs, and of the limit of bits, from weaker ones. Annotations stand in line 3 from column 9 on, unless a
--- comment says otherwise.
-use Rattle.std.specs.Prelude.{◌≡◌, ℕ, ◌+◌, ℤ, pos, Bool, true, false, [], ◌∷◌, ◌++◌, Option, Some, None, IsTrue, codes}
+-- Programs that tell the definitions of what holds of runs, and of the limit of bits, from weaker ones, and sequents and loops that do so for validity and flow.
+-- Annotations stand in line 3 from column 9 on, unless a comment says otherwise.
+use Rattle.std.specs.Prelude.{◌≡◌, ℕ, ◌+◌, ℤ, pos, negsuc, Bool, true, false, List, [], ◌∷◌, ◌++◌, All, Option, Some, None, IsTrue, codes}
+use Rattle.spx_num.specs.Widths.{fits}
 use Rattle.spx_tree.specs.declared.expression.InfixOp.TheVariants as op
 use Rattle.spx_tree.specs.declared.expression.MemberOp.TheVariants.{In}
 use Rattle.spx_tree.specs.declared.expression.PrefixOp.TheVariants.{Minus}
@@ -23,10 +24,15 @@ use Rattle.spx_core.specs.declared.statement.CoreChoice.{CoreChoice}
 use Rattle.spx_core.specs.declared.statement.CoreDecl.TheVariants.{Variables}
 use Rattle.spx_core.specs.declared.statement.CoreStmt.TheVariants as stmt
 use Rattle.spx_core.specs.declared.subprogram.Sub.{Sub}
-use Rattle.spx_core.specs.Commands.{Command, Skip, Then, Choose, Select, When, Last, Assertion, Repeat, Leave, Tested, Endless}
+use Rattle.spx_core.specs.Commands.{Command, Skip, Set, Then, Choose, Select, When, Last, Assertion, Repeat, Leave, Tested, Endless}
 use Rattle.spx_core.specs.Dependency.{derives, exports}
 use Rattle.spx_core.specs.Formals.{is_formal}
+use Rattle.spx_term.specs.declared.term.Name.{Name}
+use Rattle.spx_term.specs.declared.term.Term.{Term}
+use Rattle.spx_term.specs.declared.term.Term.TheVariants as term
+use Rattle.spx_term.specs.declared.term.TermOp.TheVariants.{GreaterOrEqual}
 use Rattle.spx_term.specs.declared.value.Value.{Value}
+use Rattle.spx_term.specs.Meaning.{as_number, Holds, Respects, Valuation}
 use Rattle.spx_meaning.specs.Bits.{computed, is_too_large}
 use Rattle.spx_meaning.specs.Frames.{Frame, around}
 use Rattle.spx_meaning.specs.Laws.{Agree, Start}
@@ -34,13 +40,14 @@ use Rattle.spx_meaning.specs.Limits.{call_passes, passes}
 use Rattle.spx_meaning.specs.Runs.{Outcome, Ended, call, entry_of}
 use Rattle.spx_meaning.specs.Stores.{Store, look}
 use Rattle.spx_examples.specs.Assertions.{checking, doing, post_on, program_of, promising, step_and_check}
-use Rattle.spx_examples.specs.CountedLoops.{before, between_numbers, each, i_at, with_parameter}
+use Rattle.spx_examples.specs.CountedLoops.{before, between_numbers, each, i_at, up_to_x, with_parameter}
 use Rattle.spx_examples.specs.Flag.{flag, formal_of, named, y}
-use Rattle.spx_examples.specs.Increment.{place, word, x_at, x_named, integer_at, inc_id, increment}
-use Rattle.spx_examples.specs.Loops.{endless, only, step_in}
+use Rattle.spx_examples.specs.Increment.{place, word, x_at, x_named, integer_at, inc_id, increment, entry_x}
+use Rattle.spx_examples.specs.Loops.{endless, only, passing_on, step_in}
 use Rattle.spx_examples.specs.LoopText.{loop_sub}
 use Rattle.spx_examples.specs.Next.{below_hundred}
 use Rattle.spx_examples.specs.Refused.{inc_without_pre, increment_without_pre}
+use Rattle.spx_examples.specs.Sequents.{x_at_most}
 use Rattle.spx_examples.specs.VariableRules.{z, z_entity}
 use Rattle.spx_examples.specs.Variants.{number, only_null, out_program, out_sub, out_x_at}
 
@@ -273,3 +280,43 @@ abbrev pub AreDerivedAtOneBound : Program → Sub → Type 0
 AreDerivedAtOneBound p sub =
     (n : ℕ) (s t s' t' : Store) → Start p sub s → Start p sub t → call p n sub s ≡ Ended s' → call p n sub t ≡ Ended t' →
     (y : VarId) → IsTrue (exports y sub) → Agree (λ x. IsTrue (derives x y sub)) s t → look s' y ≡ look t' y
+
+-- ---- sequents with large numbers
+
+-- 128 bits hold the number of each name
+abbrev pub NumbersFit : Valuation → Type 0
+NumbersFit v = (name : Name) → IsTrue (fits (as_number (v name)))
+
+-- weaker than `Valid`: only valuations are asked whose numbers 128 bits hold
+abbrev pub ValidInBits : List Term → Term → Type 0
+ValidInBits hyps goal = (v : Valuation) → Respects v → NumbersFit v → All (λ hyp. Holds hyp v) hyps → Holds goal v
+
+-- `X~ >= n`
+abbrev pub x_at_least : ℤ → Term
+x_at_least n = term.Infix GreaterOrEqual entry_x (term.Number n)
+
+-- `X~ <= 170141183460469231731687303715884105727`, which is 2 ** 127 - 1
+abbrev pub up_to_greatest : Term
+up_to_greatest = x_at_most (pos 170141183460469231731687303715884105727)
+
+-- `X~ >= -170141183460469231731687303715884105728`, which is -2 ** 127
+abbrev pub from_least : Term
+from_least = x_at_least (negsuc 170141183460469231731687303715884105727)
+
+-- `X~ >= 170141183460469231731687303715884105728`
+abbrev pub past_greatest : Term
+past_greatest = x_at_least (pos 170141183460469231731687303715884105728)
+
+-- ---- further turns
+
+-- `loop X := Y; Y := Z; end loop`
+abbrev pub passing_without_end : Command
+passing_without_end = Repeat Endless passing_on
+
+-- `X := Y; Y := I`
+abbrev pub passing_parameter : Command
+passing_parameter = Then (Set (x_named 6 7) (expr.Name (y_at 6 12))) (only (Set (named (y_at 7 7)) (expr.Name (i_at 7 12))))
+
+-- `for I in Positive range 1 .. X loop X := Y; Y := I; end loop`
+abbrev pub passing_up_to_x : Command
+passing_up_to_x = each false up_to_x passing_parameter

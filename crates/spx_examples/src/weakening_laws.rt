@@ -1,11 +1,16 @@
-// What tells some definitions from weaker ones: of starts, of two runs and of the limit of bits. Each law is the contract of a function that does nothing.
-ghost use Rattle.std.specs.Prelude.{◌≡◌, ℕ, suc, pos, negsuc, true, false, [], ◌∷◌, Option, None};
+// What tells some definitions from weaker ones: of starts, of two runs, of the limit of bits, of valid sequents and of the flow of loops. Each law is the contract of a function that does nothing.
+ghost use Rattle.std.specs.Prelude.{◌≡◌, ◌↔◌, ◌⊎◌, ℕ, suc, ℤ, pos, negsuc, true, false, [], ◌∷◌, Option, None};
 ghost use Rattle.spx_core.specs.declared.entity.TheConstants.{INTEGER_FIRST, INTEGER_LAST};
+ghost use Rattle.spx_core.specs.declared.entity.VarId.{VarId};
 ghost use Rattle.spx_core.specs.declared.name.CoreName.{CoreName};
 ghost use Rattle.spx_core.specs.declared.program.Program.{Program};
 ghost use Rattle.spx_core.specs.declared.subprogram.Sub.{Sub};
+ghost use Rattle.spx_core.specs.Effects.{effect};
+ghost use Rattle.spx_core.specs.Marks.{Lambda, Mu};
+ghost use Rattle.spx_term.specs.declared.term.Term.TheVariants as term;
 ghost use Rattle.spx_term.specs.declared.value.Value.{Value};
 ghost use Rattle.spx_term.specs.declared.value.Value.TheVariants as value;
+ghost use Rattle.spx_term.specs.Meaning.{Valid};
 ghost use Rattle.spx_meaning.specs.declared.bad.BadKind.TheVariants.{Overflow, Pre, Unset};
 ghost use Rattle.spx_meaning.specs.Bits.{is_too_large};
 ghost use Rattle.spx_meaning.specs.Frames.{Frame, around};
@@ -14,11 +19,14 @@ ghost use Rattle.spx_meaning.specs.Limits.{call_passes, passes};
 ghost use Rattle.spx_meaning.specs.Runs.{Bad, Ended, Later, call};
 ghost use Rattle.spx_meaning.specs.Stores.{Store};
 ghost use Rattle.spx_examples.specs.Assertions.{program_of};
-ghost use Rattle.spx_examples.specs.Increment.{place, inc, increment};
-ghost use Rattle.spx_examples.specs.Loops.{runs_from};
+ghost use Rattle.spx_examples.specs.Flag.{y};
+ghost use Rattle.spx_examples.specs.Increment.{place, x, inc, increment};
+ghost use Rattle.spx_examples.specs.Loops.{passing_on, passing_turn_by_turn, runs_from};
 ghost use Rattle.spx_examples.specs.Refused.{inc_without_pre};
+ghost use Rattle.spx_examples.specs.Sequents.{x_at_most};
+ghost use Rattle.spx_examples.specs.VariableRules.{z};
 ghost use Rattle.spx_examples.specs.Variants.{number};
-ghost use Rattle.spx_examples.specs.Weakenings.{x_of, power, product, negated_power, quotient, positive_power_at, guarded_power, power_in_natural, up_to_power, below_limit, Computes, IsTooLarge, wanting_power, promising_power, checking_power, checking_twice, turns_with_power, unset_power, unset_and_power, unset_program, endless_then_power, arm_with_power, case_with_power, converted_power, exit_before_power, power_before_exit, exit_then_power, whole_type_passes, passes_from, each_passes, PassesLimit, KeepsLimit, EndsFrom, with_other, reaching, y_at, z_at, all_of, FormalsAreKept, from_nothing, AreDerivedAtOneBound};
+ghost use Rattle.spx_examples.specs.Weakenings.{x_of, power, product, negated_power, quotient, positive_power_at, guarded_power, power_in_natural, up_to_power, below_limit, Computes, IsTooLarge, wanting_power, promising_power, checking_power, checking_twice, turns_with_power, unset_power, unset_and_power, unset_program, endless_then_power, arm_with_power, case_with_power, converted_power, exit_before_power, power_before_exit, exit_then_power, whole_type_passes, passes_from, each_passes, PassesLimit, KeepsLimit, EndsFrom, with_other, reaching, y_at, z_at, all_of, FormalsAreKept, from_nothing, AreDerivedAtOneBound, ValidInBits, x_at_least, up_to_greatest, from_least, past_greatest, passing_without_end, passing_parameter, passing_up_to_x};
 
 use spx_meaning::laws::calls_are_settled;
 
@@ -167,4 +175,41 @@ pub fn an_exit_goes_past_a_check()
 /// A check after a loop without end is never looked at.
 pub fn nothing_passes_the_limit_after_a_loop_without_end()
     ensures { (f : Frame) (n : ℕ) (s : Store) → passes f n s endless_then_power ≡ false }
+{}
+
+/// `X <= 2 ** 127 - 1` and `X >= -2 ** 127` are true of each number that 128 bits hold, and `X >= 2 ** 127` of none. Yet neither bound is valid, and
+/// `X >= 2 ** 127` is no contradiction: validity asks for the numbers past 128 bits too. No bound of X is valid, however great.
+pub fn numbers_past_128_bits_count()
+    ensures most_in_bits { ValidInBits [] up_to_greatest }
+    ensures least_in_bits { ValidInBits [] from_least }
+    ensures none_in_bits { ValidInBits (past_greatest ∷ []) (term.Truth false) }
+    ensures most { ¬ Valid [] up_to_greatest }
+    ensures least { ¬ Valid [] from_least }
+    ensures some { ¬ Valid (past_greatest ∷ []) (term.Truth false) }
+    ensures no_most { (n : ℤ) → ¬ Valid [] (x_at_most n) }
+    ensures no_least { (n : ℤ) → ¬ Valid [] (x_at_least n) }
+{}
+
+/// `X := Y; Y := Z`: to the first statement comes Y alone. Where these are the body of a loop, Z comes to it too, by a further turn, and nothing else does.
+pub fn a_further_turn_comes_to_an_occurrence()
+    ensures once { (v : VarId) → Lambda (effect passing_on) v (place 6 7) ↔ (v ≡ y) }
+    ensures by_turns { (v : VarId) → Lambda (effect passing_turn_by_turn) v (place 6 7) ↔ ((v ≡ y) ⊎ (v ≡ z)) }
+    ensures without_end { (v : VarId) → Lambda (effect passing_without_end) v (place 6 7) ↔ ((v ≡ y) ⊎ (v ≡ z)) }
+{}
+
+/// `X := Y; Y := I`: to the first statement comes Y alone. Where these are the body of `for I in Positive range 1 .. X`, what X holds before the loop comes to
+/// it too, by way of I and a further turn, and nothing else does.
+pub fn a_further_turn_brings_what_bounds_read()
+    ensures once { (v : VarId) → Lambda (effect passing_parameter) v (place 6 7) ↔ (v ≡ y) }
+    ensures by_turns { (v : VarId) → Lambda (effect passing_up_to_x) v (place 6 7) ↔ ((v ≡ y) ⊎ (v ≡ x)) }
+{}
+
+/// In `X := Y; Y := Z`, and in `X := Y; Y := I`, the value of the second statement comes to Y alone. Where these are the body of a loop it comes to X too, by a
+/// further turn.
+pub fn a_further_turn_leads_on_from_an_occurrence()
+    ensures once { (v : VarId) → Mu (effect passing_on) (place 7 7) v ↔ (v ≡ y) }
+    ensures by_turns { Mu (effect passing_turn_by_turn) (place 7 7) x }
+    ensures without_end { Mu (effect passing_without_end) (place 7 7) x }
+    ensures counted_once { (v : VarId) → Mu (effect passing_parameter) (place 7 7) v ↔ (v ≡ y) }
+    ensures by_count { Mu (effect passing_up_to_x) (place 7 7) x }
 {}
