@@ -85,7 +85,7 @@ END
 chmod +x "$room/bin/rt"
 # A PATH with the usual tools and without rt.
 mkdir "$room/tools"
-for tool in sh awk cat cp date find flock git grep mkdir mktemp mv readlink rm sleep touch wc; do
+for tool in sh awk cat cp date find flock git grep mkdir mktemp mv readlink rm sed sleep sort touch wc; do
     at=$(command -v "$tool") && case $at in /*) ln -s "$at" "$room/tools/$tool" ;; esac
 done
 
@@ -203,6 +203,134 @@ says_one_line
 run env SPX_STATUS=6 "$tree/spx" check "$room/inc.adb"
 says 'a limit is passed'
 says_one_line
+
+# ---------------------------------------------------------------- open conditions
+
+# A program that prints a report on `check`, with SPX_STATUS, and a list on `conditions`.
+cat >"$program" <<END
+#!/bin/sh
+cat '$room/'"\$1"
+[ "\$1" = conditions ] || exit "\${SPX_STATUS:-1}"
+END
+cat >"$room/check" <<'END'
+a b.adb:9:4: V1 unproved: Mid.3 overflow
+a b.adb:10:2: V1 unproved: Mid.1 post
+a b.adb:9:4: V1 unproved: Mid.5 overflow
+a b.adb:9:4: V1 unproved: Mid.4 division
+Mid: 6 conditions, 2 simplified, 0 scripted, 4 open
+refused: 4
+END
+cat >"$room/conditions" <<'END'
+Mid.1 post a b.adb:10:2
+H1 A
+G1 A
+G2 B
+Mid.2 overflow a b.adb:9:4
+G1 A
+Mid.3 overflow a b.adb:9:4
+H1 B
+G1 A
+Mid.4 division a b.adb:9:4
+H1 A
+G1 A
+Mid.5 overflow a b.adb:9:4
+G1 A
+Mid.6 range a b.adb:9:4
+G1 A
+END
+what='open prints the conditions of the findings, by place'
+run "$tree/spx" open "$room/inc.adb"
+ends 1
+says_nothing
+cat >"$room/wanted" <<'END'
+a b.adb:9:4 division: open on 1 path
+Mid.4 division a b.adb:9:4
+H1 A
+G1 A
+
+a b.adb:9:4 overflow: open on 2 paths
+Mid.3 overflow a b.adb:9:4
+H1 B
+G1 A   <--
+Mid.5 overflow a b.adb:9:4
+G1 A   <--
+
+a b.adb:10:2 post: open on 1 path
+Mid.1 post a b.adb:10:2
+H1 A
+G1 A
+G2 B   <--
+
+<-- no hypothesis has the text of this goal
+END
+is "$(cat "$room/out")" "$(cat "$room/wanted")"
+what='open prints the conditions that are named'
+run "$tree/spx" open "$room/inc.adb" mid.4 MID.2
+ends 1
+cat >"$room/wanted" <<'END'
+a b.adb:9:4 division: open on 1 path
+Mid.4 division a b.adb:9:4
+H1 A
+G1 A
+
+a b.adb:9:4 overflow: closed on 1 path
+Mid.2 overflow a b.adb:9:4
+G1 A   <--
+
+<-- no hypothesis has the text of this goal
+END
+is "$(cat "$room/out")" "$(cat "$room/wanted")"
+run "$tree/spx" open "$room/inc.adb" Mid.3
+is "$(sed -n 1p "$room/out")" 'a b.adb:9:4 overflow: open on 2 paths'
+run "$tree/spx" open "$room/inc.adb" Mid.6
+ends 0
+run "$tree/spx" open "$room/inc.adb" Mid.7 Mid.1 mid
+ends 2
+prints ''
+says "$room/inc.adb has no condition Mid.7, mid"
+says_one_line
+what='open prints at most 20 conditions'
+for number in 1 2 3 4 5 6 7 8 9 10 11 12 13 14 15 16 17 18 19 20 21 22 23; do
+    echo "x:5:$number: V1 unproved: P.$number post" >&3
+    printf 'P.%s post x:5:%s\nH1 A\nG1 A\n' "$number" "$number" >&4
+done 3>"$room/check" 4>"$room/conditions"
+run "$tree/spx" open "$room/inc.adb"
+ends 1
+is "$(grep -c '^P' "$room/out")" 20
+is "$(tail -n 1 "$room/out")" '3 more are open; --all prints them'
+for words in "$room/inc.adb --all" "--all $room/inc.adb"; do
+    # shellcheck disable=SC2086
+    run "$tree/spx" open $words
+    is "$(grep -c '^P' "$room/out")" 23
+    is "$(tail -n 1 "$room/out")" 'G1 A'
+done
+what='open where no condition is open'
+echo accepted >"$room/check"
+run env SPX_STATUS=0 "$tree/spx" open "$room/inc.adb"
+ends 0
+prints 'no condition is open\n'
+says_nothing
+run env SPX_STATUS=0 "$tree/spx" open "$room/inc.adb" p.23
+ends 0
+is "$(sed -n 1p "$room/out")" 'x:5:23 post: closed on 1 path'
+what='open where a check says something else'
+printf 'x:1:1: P1 expected another token\nrefused: 1\n' >"$room/check"
+for number in 1 2 3 4 5 6; do
+    run env SPX_STATUS=$number "$tree/spx" open "$room/inc.adb" P.1
+    ends "$number"
+    prints 'x:1:1: P1 expected another token\nrefused: 1\n'
+done
+says 'a limit is passed'
+says_one_line
+what='words of open'
+for words in '' --all '-' "$room/inc.adb --al"; do
+    # shellcheck disable=SC2086
+    run "$tree/spx" open $words
+    ends 2
+    prints ''
+    says_one_line
+done
+write_program "$program"
 
 # ---------------------------------------------------------------- bytes that end a line for some compilers
 
@@ -393,7 +521,7 @@ fi
 what='help'
 run "$tree/spx" help
 ends 0
-for word in check conditions run explain build version help; do
+for word in check conditions open run explain build version help; do
     is "$(grep -c "spx $word" "$room/out")" 1
 done
 
@@ -591,6 +719,27 @@ runs() {
     done
 }
 
+# What is open in two examples, and what is not.
+opened() {
+    what='open with the examiner'
+    run "$tree/spx" open examples/findings/v1_on_two_paths.adb
+    ends 1
+    grep '^[^HG]' "$room/out" >"$room/kept"
+    cat >"$room/wanted" <<'END'
+examples/findings/v1_on_two_paths.adb:8:14 overflow: open on 1 path
+Step.5 overflow examples/findings/v1_on_two_paths.adb:8:14
+examples/findings/v1_on_two_paths.adb:10:11 overflow: open on 1 path
+Step.3 overflow examples/findings/v1_on_two_paths.adb:10:11
+<-- no hypothesis has the text of this goal
+END
+    is "$(cat "$room/kept")" "$(cat "$room/wanted")"
+    run "$tree/spx" open examples/divide.adb
+    is "$(grep -c '   <--$' "$room/out")" 6
+    run "$tree/spx" open examples/inc.adb
+    ends 0
+    prints 'no condition is open\n'
+}
+
 # What no row of the table has: the greatest file, the most tokens, a file that is not there, and an output that takes nothing.
 limits() {
     what='a file of the greatest size, and one byte more'
@@ -649,6 +798,7 @@ if [ -n "$examiner" ]; then
 fi
 if [ "$examiner" = built ]; then
     reports
+    opened
     limits
 fi
 
