@@ -102,13 +102,7 @@ cp "$top/examples/inc.adb" "$room/two words.adb"
 what='words reach the program as they are'
 run "$tree/spx" check 'a  b' '' '*' "it's" 'x\n'
 prints '<check>\n<a  b>\n<>\n<*>\n<it'"'"'s>\n<x\\n>\n'
-run "$tree/spx"
-prints ''
-ends 0
-says_nothing
-run "$tree/spx" --help
-prints '<--help>\n'
-for word in conditions run workload -- -h Build; do
+for word in conditions run workload -- --verbose Build; do
     run "$tree/spx" "$word" y
     prints '<%s>\n<y>\n' "$word"
 done
@@ -518,6 +512,64 @@ else
     skip 'this is no git clone'
 fi
 
+what='help and version, where nothing is built'
+new_tree unbuilt
+run without_rt "$tree/spx" help
+cp "$room/out" "$room/help"
+for word in '' --help -h; do
+    # shellcheck disable=SC2086
+    run without_rt "$tree/spx" $word
+    ends 0
+    says_nothing
+    if cmp -s "$room/help" "$room/out"; then pass; else fail "printed: $(head -c 300 "$room/out")"; fi
+done
+run without_rt "$tree/spx" version
+cp "$room/out" "$room/version"
+run without_rt "$tree/spx" --version
+ends 0
+says_nothing
+if cmp -s "$room/version" "$room/out"; then pass; else fail "printed: $(head -c 300 "$room/out")"; fi
+
+what='a word that is no command'
+run without_rt "$tree/spx" chek x
+ends 2
+prints ''
+says "spx: 'chek' is no command; the nearest one is check"
+says_one_line
+new_tree
+while read -r word command; do
+    run env SPX_STATUS=2 "$tree/spx" "$word" x
+    ends 2
+    prints '<%s>\n<x>\n' "$word"
+    says "spx: '$word' is no command; the nearest one is $command, and ./spx help lists all"
+    says_one_line
+done <<'END'
+chek check
+Check check
+checks check
+cond conditions
+condition conditions
+opne open
+--run run
+rum run
+explian explain
+e explain
+biuld build
+--versoin version
+hlep help
+END
+run env SPX_STATUS=2 "$tree/spx" workload 3
+says 'workload is not there yet'
+says_one_line
+run env SPX_STATUS=2 "$tree/spx" "$room/inc.adb"
+says "./spx check $room/inc.adb examines it"
+says_one_line
+for word in check conditions run; do
+    run env SPX_STATUS=2 "$tree/spx" "$word"
+    ends 2
+    says_nothing
+done
+
 what='help'
 run "$tree/spx" help
 ends 0
@@ -526,7 +578,7 @@ for word in check conditions open run explain build version help; do
 done
 
 what='words of the script with too many words'
-for word in build version help; do
+for word in build version help --version --help -h; do
     run with_rt "$tree/spx" "$word" more
     ends 2
     says_one_line
