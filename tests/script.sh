@@ -621,7 +621,16 @@ while read -r rule text; do
 done <"$room/rules"
 run "$tree/spx" explain u7 V1
 is "$(grep -c '^### ' "$room/out")" 2
-for word in U99 N U 7 '' '.*' U7x; do
+for letter in F f V; do
+    run "$tree/spx" explain "$letter"
+    ends 0
+    is "$(cat "$room/out")" "$(grep -i "^$letter" "$room/rules")"
+done
+run "$tree/spx" explain V1
+lines=$(wc -l <"$room/out")
+if [ "$lines" -le 50 ]; then pass; else fail "V1 has $lines lines"; fi
+is "$(grep -c '^\*\*To read on\*\*' "$room/out")" 1
+for word in U99 Q 7 '' '.*' '?' U7x; do
     run "$tree/spx" explain "$word"
     ends 2
     says_one_line
