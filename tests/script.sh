@@ -255,7 +255,7 @@ H1 A
 G1 A
 G2 B   <--
 
-<-- no hypothesis has the text of this goal
+<-- no hypothesis has the text of this goal; docs/simplifier.md says what else closes it
 END
 is "$(cat "$room/out")" "$(cat "$room/wanted")"
 what='open prints the conditions that are named'
@@ -271,7 +271,7 @@ a b.adb:9:4 overflow: closed on 1 path
 Mid.2 overflow a b.adb:9:4
 G1 A   <--
 
-<-- no hypothesis has the text of this goal
+<-- no hypothesis has the text of this goal; docs/simplifier.md says what else closes it
 END
 is "$(cat "$room/out")" "$(cat "$room/wanted")"
 run "$tree/spx" open "$room/inc.adb" Mid.3
@@ -791,7 +791,7 @@ examples/findings/v1_on_two_paths.adb:8:14 overflow: open on 1 path
 Step.5 overflow examples/findings/v1_on_two_paths.adb:8:14
 examples/findings/v1_on_two_paths.adb:10:11 overflow: open on 1 path
 Step.3 overflow examples/findings/v1_on_two_paths.adb:10:11
-<-- no hypothesis has the text of this goal
+<-- no hypothesis has the text of this goal; docs/simplifier.md says what else closes it
 END
     is "$(cat "$room/kept")" "$(cat "$room/wanted")"
     run "$tree/spx" open examples/divide.adb
@@ -799,6 +799,35 @@ END
     run "$tree/spx" open examples/inc.adb
     ends 0
     prints 'no condition is open\n'
+}
+
+# Each row of the tables of docs/simplifier.md is a procedure with the hypothesis as `pre` and the goal as `check`, which is its only
+# condition. Each procedure of the page is accepted.
+simplified() {
+    page=$top/docs/simplifier.md
+    awk -F ' [|] ' '/^[|] `/ { gsub(/^[|] |`/, "", $1); gsub(/`/, "", $2); printf "%s|%s|%s\n", $1, $2, $3 }' "$page" >"$room/cases"
+    awk -F '|' '{
+        printf "procedure Case_%d (A, B, C : in Integer; P, Q, R : in Boolean; X : out Boolean)\n", NR
+        printf "--# derives X from A, B, C, P, Q, R;\n--# pre %s;\nis\nbegin\n   --# check %s;\n", $1, $2
+        printf "   X := (A = B and B = C) and (P = Q and Q = R);\nend Case_%d;\n", NR
+    }' "$room/cases" >"$room/cases.adb"
+    what='docs/simplifier.md: the cases'
+    run "$program" check "$room/cases.adb"
+    ends 1
+    is "$(grep -c ': 1 conditions, ' "$room/out")" "$(wc -l <"$room/cases")"
+    if [ "$(wc -l <"$room/cases")" -ge 60 ]; then pass; else fail 'there are fewer than 60'; fi
+    number=0
+    while IFS='|' read -r hypothesis goal result; do
+        number=$((number + 1))
+        what="docs/simplifier.md: $goal under $hypothesis"
+        if grep -q ": V1 unproved: Case_$number\.1 check$" "$room/out"; then is "$result" 'stays open'; else is "$result" closes; fi
+    done <"$room/cases"
+
+    what='docs/simplifier.md: the procedures'
+    sed -n '/^    procedure /,/^    end [A-Za-z_]*;$/s/^    //p' "$page" >"$room/recipes.adb"
+    if [ "$(grep -c '^procedure ' "$room/recipes.adb")" -ge 5 ]; then pass; else fail 'there are fewer than 5'; fi
+    run "$program" check "$room/recipes.adb"
+    ends 0
 }
 
 # What no row of the table has: the greatest file, the most tokens, a file that is not there, and an output that takes nothing.
@@ -860,6 +889,7 @@ fi
 if [ "$examiner" = built ]; then
     reports
     opened
+    simplified
     limits
 fi
 
