@@ -278,11 +278,18 @@ run "$tree/spx" open "$room/inc.adb" Mid.3
 is "$(sed -n 1p "$room/out")" 'a b.adb:9:4 overflow: open on 2 paths'
 run "$tree/spx" open "$room/inc.adb" Mid.6
 ends 0
-run "$tree/spx" open "$room/inc.adb" Mid.7 Mid.1 mid
+run "$tree/spx" open "$room/inc.adb" Mid.7 Mid.1 mid '*'
 ends 2
 prints ''
-says "$room/inc.adb has no condition Mid.7, mid"
+says "$room/inc.adb has no condition Mid.7, mid, *;"
 says_one_line
+run "$tree/spx" open "$room/inc.adb" ''
+ends 2
+says_one_line
+what='open where there is no file'
+run env SPX_STATUS=3 "$tree/spx" open ''
+ends 3
+says 'no such file'
 what='open prints at most 20 conditions'
 for number in 1 2 3 4 5 6 7 8 9 10 11 12 13 14 15 16 17 18 19 20 21 22 23; do
     echo "x:5:$number: V1 unproved: P.$number post" >&3
