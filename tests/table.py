@@ -2413,6 +2413,7 @@ def documented():
     yield from worked_types()
     yield from worked_loops()
     yield from worked_programs()
+    yield from control_programs()
     yield bad_number('inc_with_a_bad_number.adb', procedure('X + 1_', pre=BELOW), at=(6, 13))
     yield unexpected('inc_with_two_operators.adb', procedure('X + * 1', pre=BELOW), at=(6, 13))
     yield unexpected('inc_without_end.adb', INC.replace('end Inc;\n', ''), at=(7, 1))
@@ -2519,6 +2520,24 @@ def worked_programs():
         assert piece in text, name
         yield accepted(f'{name}.adb', text, total, named=named)
         yield left_in(f'{name}_with_a_change.adb', text.replace(piece, instead), named, fewer, **left)
+
+
+def control_programs():
+    """Six procedures of the kind that control software has. Each assignment of a number has a condition on its range, each path one on the promise."""
+    for name, named, total in (
+            # a sum and a difference, each with its overflow and range, and five paths
+            ('saturating_counter', 'Saturating_Counter', 4 + 5),
+            # three paths
+            ('hysteresis', 'Hysteresis', 3),
+            # a range and a promise on each of six paths
+            ('middle_of_three', 'Middle_Of_Three', 6 + 6),
+            # three assignments and five paths
+            ('mode_switch', 'Mode_Switch', 3 + 5),
+            # 0, a sum, and three paths by two
+            ('watchdog', 'Watchdog', 1 + 2 + 3 * 2),
+            # two sums, two bounds, three paths to the assertion; then seven operations, of which the two quotients have two, a range, two bounds, and three paths
+            ('pid_step', 'Pid_Step', 4 + 2 + 3 + 9 + 1 + 2 + 3 + 3)):
+        yield accepted(f'{name}.adb', (TOP / 'examples' / f'{name}.adb').read_text(encoding='utf-8'), total, named=named)
 
 
 def assigned(value, pre=None):
