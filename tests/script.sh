@@ -571,8 +571,39 @@ says_one_line
 run env SPX_STATUS=2 "$tree/spx" "$room/inc.adb"
 says "./spx check $room/inc.adb examines it"
 says_one_line
-for word in check conditions run; do
-    run env SPX_STATUS=2 "$tree/spx" "$word"
+
+what='what is wrong with the words after a command'
+while read -r words; do
+    read -r line
+    # The words are split at spaces.
+    run env SPX_STATUS=2 "$tree/spx" $words
+    ends 2
+    says "spx: $line"
+    says_one_line
+done <<'END'
+check
+no file is named
+check a b
+more than one file is named, which is not supported yet
+conditions --foo a
+conditions has no option --foo; ./spx help lists the commands
+check --turns 3 a
+check has no option --turns
+check --proofs p a
+the option --proofs is not there yet
+run a
+run needs a procedure to call: --entry NAME
+run --entry
+the option --entry has no value
+run --entry X --turns 0 a
+--turns takes a number from 1 to 1000000000, and not '0'
+run --entry X --turns=1000000001 a
+--turns takes a number from 1 to 1000000000, and not '1000000001'
+run --entry=X --turns 5 --inputs i a b
+more than one file is named, which is not supported yet
+END
+for words in 'check a' 'run --entry X --turns 1000000000 a'; do
+    run env SPX_STATUS=2 "$tree/spx" $words
     ends 2
     says_nothing
 done
