@@ -5949,7 +5949,7 @@ def flow_of_exits():
 
 
 def unset_at_exits():
-    """After a loop is set what is set at each of its exits; behind a loop that no way leaves nothing is unset."""
+    """After a loop is set what is set at each of its exits; after a loop that no way leaves nothing is unset."""
     yield accepted('set_before_an_exit.adb', longer(A_TO_X, 'X from A', plain('X := A', 'exit when A > 0')), 1)
     yield refused('unset_at_an_exit.adb', longer('A, B : in Integer; X : out Integer', '@X from A, B', plain('exit when A > 0', 'X := B')).replace('end Inc', '@end Inc'), 'F1 missing: X from X', 'F4 unset: X')
     yield accepted('local_set_before_an_exit.adb', longer(A_TO_X, 'X from A', plain('T := A', 'exit when A > 0'), 'X := T', declared=T), 2)
@@ -5969,7 +5969,7 @@ def unset_at_exits():
 
 
 def conditions_of_exits():
-    """The condition of an exit is false past it and true behind the loop; at `exit when` what goes on comes first."""
+    """The condition of an exit is false past it and true after the loop; at `exit when` what goes on comes first."""
     left = plain('exit when X > 5', 'X := 0')
     yield accepted('fact_of_an_exit.adb', longer(X, 'X from X', left, '--# check X > 5', 'X := X'), 3)
     yield accepted('fact_past_an_exit.adb', longer(X, 'X from X', plain('exit when X > 5', 'X := X + 1')), 2)
@@ -5989,7 +5989,7 @@ def conditions_of_exits():
 
 
 def paths_of_exits():
-    """An exit has a path out of the loop, and one on where it has a condition; a plain loop has no other path behind it."""
+    """An exit has a path out of the loop, and one on where it has a condition; a plain loop has no other path after it."""
     ifs = ['if A > 0 then X := A; end if']
     yield accepted('ten_ifs_before_an_exit.adb', longer(A_AND_X, 'X from X, A', plain(*ifs * 10, 'exit when A > 0')), 1023)
     yield too_many_paths('eleven_ifs_before_an_exit.adb', longer(A_AND_X, 'X from X, A', plain(*ifs * 11, 'exit when A > 0')))

@@ -1,4 +1,4 @@
--- What tells the definitions of what holds of runs, of the limit of bits, of validity and of the flow of loops from weaker ones.
+-- Lemmas for the laws that weaker definitions of runs, of the limit of bits, of validity and of the flow of loops break.
 use Rattle.std.proofs.Common.{◌≡◌, ◌↔◌, ◌⊎◌, inl, inr, ⊎_elim, ℕ, zero, suc, ◌+◌, ℤ, pos, negsuc, ◌+ℤ◌, ◌-ℤ◌, int_le, Bool, true, false, List, [], ◌∷◌, ◌++◌, Option, Some, None, Ok, refl, ap, ap₂, subst, sym, ◌∙◌, arith}
 use Rattle.std.specs.Prelude.{◌≢◌, ◌==◌, IsTrue, IsSome, IfSome, nat_lt, int_lt, is_none, option_and_then, option_map, ◌||◌, ◌&&◌, if◌then◌else◌}
 use Rattle.std.specs.List.{filter_map}

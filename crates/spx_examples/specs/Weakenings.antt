@@ -1,4 +1,4 @@
--- Programs that tell the definitions of what holds of runs, and of the limit of bits, from weaker ones, and sequents and loops that do so for validity and flow.
+-- Programs on which weaker definitions of what holds of runs, and of the limit of bits, say something else; sequents and loops on which those of validity and flow do.
 -- Annotations stand in line 3 from column 9 on, unless a comment says otherwise.
 use Rattle.std.specs.Prelude.{◌≡◌, ℕ, ◌+◌, ℤ, pos, negsuc, Bool, true, false, List, [], ◌∷◌, ◌++◌, All, Option, Some, None, IsTrue, codes}
 use Rattle.spx_num.specs.Widths.{fits}

@@ -1,4 +1,4 @@
-// What tells some definitions from weaker ones: of starts, of two runs, of the limit of bits, of valid sequents and of the flow of loops. Each law is the contract of a function that does nothing.
+// Laws that hold of some definitions and not of weaker ones: of starts, of two runs, of the limit of bits, of valid sequents and of the flow of loops. Each law is the contract of a function that does nothing.
 ghost use Rattle.std.specs.Prelude.{◌≡◌, ◌↔◌, ◌⊎◌, ℕ, suc, ℤ, pos, negsuc, true, false, [], ◌∷◌, Option, None};
 ghost use Rattle.spx_core.specs.declared.entity.TheConstants.{INTEGER_FIRST, INTEGER_LAST};
 ghost use Rattle.spx_core.specs.declared.entity.VarId.{VarId};
