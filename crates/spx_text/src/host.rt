@@ -2,7 +2,7 @@
 ghost use Rattle.std.specs.Prelude.{◌≡◌, [], None, length, take};
 ghost use Rattle.spx_text.specs.Loads.{names};
 
-use crate::files::keep_name;
+use crate::files::{keep_failed, keep_name};
 use crate::sink::count_fault;
 use crate::{Failed, Files, LoadFault, Sink};
 use std::alloc::Global;
@@ -17,17 +17,20 @@ const PIECE: usize = 16384;
 pub struct HostFiles<'a, R: std::rt::Files> {
     rt: &'a R,
     alloc: Global,
+    asked: Vec<String>,
     failed: Vec<String>,
 }
 
 impl<'a, R: std::rt::Files> HostFiles<'a, R> {
-    /// Files of the host, none of which has failed yet.
+    /// Files of the host, none of which was asked for yet.
     pub fn new(rt: &'a R, alloc: Global) -> Self
-        ensures { ⟦<HostFiles<'a, R> as Files>⟧.failed result ≡ [] }
+        ensures asked { ⟦<HostFiles<'a, R> as Files>⟧.asked result ≡ [] }
+        ensures failed { ⟦<HostFiles<'a, R> as Files>⟧.failed result ≡ [] }
     {
         HostFiles {
             rt,
             alloc,
+            asked: Vec::new(alloc),
             failed: Vec::new(alloc),
         }
     }
@@ -67,16 +70,19 @@ fn read_file<R: std::rt::Files>(
 impl<'a, R: std::rt::Files> Files for HostFiles<'a, R> {
     ghost known = { λ _ _. None };
 
+    ghost asked = { λ files. names files.asked.items };
+
     ghost failed = { λ files. names files.failed.items };
 
     fn load(&mut self, name: &str, into: &mut Vec<u8>, most: usize) -> Result<(), LoadFault> {
+        keep_name(self.alloc, &mut self.asked, name)?;
         let before = into.len();
         let answer = read_file(self.rt, name, into, most);
         if answer.is_err() {
             into.truncate(before);
         }
         match answer {
-            Err(LoadFault::Failed) => Err(keep_name(self.alloc, &mut self.failed, name)),
+            Err(LoadFault::Failed) => Err(keep_failed(self.alloc, &mut self.failed, name)),
             other => other,
         }
     }
