@@ -149,6 +149,7 @@ FitsLeft layer.Relation op left = rank (layer_in left) ≤ 3
 FitsLeft layer.Expression op left = (rank (layer_in left) ≤ 4) ⊎ HasOperator op left
 FitsLeft layer.Predicate op left = rank (layer_in left) ≤ 5
 
+-- the expression may be the left operand of this operator
 abbrev pub LeftFits : InfixOp → Expr → Type 0
 LeftFits op left = FitsLeft (layer_of op) op left
 
@@ -278,6 +279,7 @@ abbrev pub HasImportsFor : Exports → Imports → Type 0
 HasImportsFor (exported.Names names) imports = IsNames names
 HasImportsFor (exported.Null place) imports = (imports.itself ≡ None) × IsNames imports.names
 
+-- exports "from" imports: one item of a derives annotation
 abbrev pub IsItem : DerivesItem → Type 0
 IsItem item = HasImportsFor item.exports item.imports
 

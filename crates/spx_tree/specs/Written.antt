@@ -50,6 +50,7 @@ use Rattle.spx_tree.specs.Form.{Form, bare, placed, named, literal}
 abbrev pub program : Bool
 program = false
 
+-- the mark of the tokens of annotations
 abbrev pub annotation : Bool
 annotation = true
 

@@ -1,7 +1,10 @@
 //! Tokens, and the trees that texts of annotated Ada are read into.
 //!
-//! Trees are plain data: a contract sees a tree as what it holds, so equal trees are equal values. A layer above may
-//! rely on this: a copy equals its source.
+//! Trees are plain data: a contract sees a tree as what it holds, so equal trees are equal values.
+//!
+//! A layer above may rely on this: a copy equals its source. Two laws speak of the definitions of tokens: a text has at most
+//! one list of tokens (`one_spelling`), and a text that is stopped has none, and is stopped at one place for one cause
+//! (`one_stop`).
 #![tactic(auto)]
 
 mod annotation;
