@@ -24,6 +24,7 @@ pub data Head : Type 0 where
   Endless : Head
 
 mutual
+  -- what statements do: an `elsif` is an `if` in the other arm, and `exit when` is one around an exit
   pub data Command : Type 0 where
     -- nothing
     Skip : Command
@@ -42,13 +43,14 @@ mutual
     -- at the word `exit`: the loop around it is left (Ada 95 RM 5.7)
     Leave : Place → Command
 
-  -- no choices: `others`
+  -- the alternatives of a case statement, in their order; no choices: `others`
   pub data Alternatives : Type 0 where
     -- for the values of these choices, which are all that are left
     Last : Option (List CoreChoice) → Command → Alternatives
     -- for the values of these choices the first, and else the others
     When : Option (List CoreChoice) → Command → Alternatives → Alternatives
 
+-- statements one after the other, as one command
 abbrev pub chain : List Command → Command
 chain [] = Skip
 chain (first ∷ rest) = Then first (chain rest)
@@ -76,10 +78,12 @@ abbrev pub alternatives_of : Option (List CoreChoice) × Command → List (Optio
 alternatives_of first [] = Last first.0 first.1
 alternatives_of first (second ∷ rest) = When first.0 first.1 (alternatives_of second rest)
 
+-- the case statement at this place with this selector and these alternatives
 abbrev pub select : Place → CoreExpr → List (Option (List CoreChoice) × Command) → Command
 select place selector [] = Skip
 select place selector (first ∷ rest) = Select place selector (alternatives_of first rest)
 
+-- what the words before `loop` say (Ada 95 RM 5.5)
 abbrev pub head_of : CoreScheme → Head
 head_of (scheme.While place condition) = Tested place condition
 head_of (scheme.For c) = Counted c
@@ -94,6 +98,7 @@ abbrev pub exit_where : Place → Option CoreExpr → Command
 exit_where place None = Leave place
 exit_where place (Some condition) = Choose place condition (Leave place) Skip
 
+-- one level of a statement, whose parts are commands
 abbrev pub stmt_step : CoreStmt-F Command (Option (List CoreChoice) × Command) (Command → Command) → Command
 stmt_step (CoreStmt-F.Null place) = Skip
 stmt_step (CoreStmt-F.Assignment target value) = Set target value
@@ -103,15 +108,19 @@ stmt_step (CoreStmt-F.Loop scheme word body closing) = loop_of scheme (chain bod
 stmt_step (CoreStmt-F.Assertion kind place condition) = Assertion kind place condition
 stmt_step (CoreStmt-F.Exit place condition) = exit_where place condition
 
+-- the command that a statement is
 abbrev pub command : CoreStmt → Command
 command = fold-CoreStmt Command (Option (List CoreChoice) × Command) (Command → Command) stmt_step alternative_step arm_step
 
+-- an arm of an `if`: its statements where its condition is true, and else the command that comes after it
 abbrev pub arm_before : CoreArm → Command → Command
 arm_before = fold-CoreArm Command (Option (List CoreChoice) × Command) (Command → Command) stmt_step alternative_step arm_step
 
+-- an alternative of a case statement: its choices and the command of its statements
 abbrev pub alternative : CoreAlternative → Option (List CoreChoice) × Command
 alternative = fold-CoreAlternative Command (Option (List CoreChoice) × Command) (Command → Command) stmt_step alternative_step arm_step
 
+-- the command that a row of statements is
 abbrev pub commands : List CoreStmt → Command
 commands stmts = chain (map command stmts)
 
@@ -134,6 +143,7 @@ has_own_cut _ = false
 
 -- ---- exits
 
+-- the command does nothing
 abbrev pub is_skip : Command → Bool
 is_skip Skip = true
 is_skip _ = false
@@ -166,6 +176,7 @@ abbrev pub given_by : Option CoreExpr → Span → Span
 given_by None span = record { first = span.first; last = span.first }
 given_by (Some high) span = span
 
+-- the spans of values that these choices name
 abbrev pub spans_of : List CoreChoice → List Span
 spans_of choices = map (λ (choice : CoreChoice). given_by choice.high choice.span) choices
 

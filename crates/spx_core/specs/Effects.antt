@@ -17,6 +17,7 @@ use Rattle.spx_core.specs.Reads.{names_read}
 abbrev pub Read : Type 0
 Read = Place × VarId
 
+-- the occurrence of a name that denotes a variable: its place, and the variable
 abbrev pub read_of : CoreName → Option Read
 read_of name = option_map (λ v. (name.name.place, v)) (variable_of name.entity)
 
@@ -24,6 +25,7 @@ read_of name = option_map (λ v. (name.name.place, v)) (variable_of name.entity)
 abbrev pub reads_of : CoreExpr → List Read
 reads_of e = filter_map read_of (names_read e)
 
+-- the variable is one of those that are read
 abbrev pub is_read : VarId → List Read → Bool
 is_read v reads = list_any (λ (r : Read). r.1.0 == v.0) reads
 
@@ -38,6 +40,7 @@ reads_in (Some reads) = reads
 
 -- ---- effects
 
+-- what a command sets and reads, without the values: what information flow is about (Bergeretti and Carré)
 pub data Effect : Type 0 where
   nothing : Effect
   -- the target, what the right side reads, and the place at which a finding on the statement stands
@@ -63,6 +66,7 @@ chosen true tests a b place = exit tests a b place
 chosen false tests a b place = choose tests a b place
 
 abbrev mutual
+  -- what a command sets and reads
   pub effect : Command → Effect
   effect Skip = nothing
   effect (Set target value) = assign (variable_of target.root.entity) (reads_of value) target.root.name.place
@@ -80,11 +84,13 @@ abbrev mutual
   effect_among tests place (Last choices a) = choose tests (effect a) (effect a) place
   effect_among tests place (When choices a rest) = chosen (leaves a) tests (effect a) (effect_among tests place rest) place
 
+-- what a row of statements sets and reads
 abbrev pub effects : List CoreStmt → Effect
 effects stmts = effect (commands stmts)
 
 -- ---- what they set and read
 
+-- the variable may be assigned, as a target or as the parameter of a loop
 abbrev pub sets : VarId → Effect → Bool
 sets v nothing = false
 sets v (assign target reads place) = is_same v target
@@ -96,6 +102,7 @@ sets v (count parameter bounds body place) = is_same v (Some parameter) || sets 
 sets v (endless body) = sets v body
 sets v (exit tests a b place) = sets v a || sets v b
 
+-- the variable is read somewhere in it
 abbrev pub reads : VarId → Effect → Bool
 reads v nothing = false
 reads v (assign target values place) = is_read v values

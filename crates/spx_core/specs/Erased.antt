@@ -64,15 +64,19 @@ abbrev pub along : Identifier → List Step → Name
 along name [] = Simple name
 along name (step.Attribute designator ∷ way) = Attribute name designator
 
+-- the name that was written, without what it denotes
 abbrev pub erased_reference : Reference → Name
 erased_reference reference = along reference.root.name reference.way
 
+-- the names that were written
 abbrev pub erased_references : List Reference → List Name
 erased_references references = map erased_reference references
 
+-- the identifier that was written where a name is declared
 abbrev pub erased_defining : Defining → Identifier
 erased_defining d = d.name
 
+-- a function as it was written before its operand
 abbrev pub erased_function : CoreFunction → Function
 erased_function function = record { name = function.name.name; form = function.form }
 
@@ -89,29 +93,37 @@ erased_step (CoreExpr-F.Infix op place left right) = expr.Infix op place left ri
 erased_step (CoreExpr-F.InType op place tested type_name) = expr.InType op place tested (erased_reference type_name)
 erased_step (CoreExpr-F.InRange op place tested low high) = expr.InRange op place tested low high
 
+-- an expression as it was written
 abbrev pub erased_expr : CoreExpr → Expr
 erased_expr = fold-CoreExpr Expr erased_step
 
+-- a choice as it was written
 abbrev pub erased_choice : CoreChoice → Choice
 erased_choice choice = record { low = erased_expr choice.low; high = option_map erased_expr choice.high }
 
+-- a range as it was written
 abbrev pub erased_range : CoreRange → Range
 erased_range range = record { low = erased_expr range.low; high = erased_expr range.high }
 
+-- the head of a loop over a parameter, as it was written
 abbrev pub erased_count : CoreCount → Count
 erased_count c = record { place = c.place; name = c.name; word = c.word; is_reverse = c.is_reverse; type_name = erased_reference c.type_name; bounds = option_map erased_range c.bounds }
 
+-- the words before `loop`, as they were written
 abbrev pub erased_scheme : CoreScheme → Scheme
 erased_scheme (core_scheme.While place condition) = scheme.While place (erased_expr condition)
 erased_scheme (core_scheme.For c) = scheme.For (erased_count c)
 erased_scheme core_scheme.Endless = scheme.Endless
 
+-- one level of an alternative, whose statements are erased
 abbrev pub erased_alternative_step : CoreAlternative-F Stmt Alternative Arm → Alternative
 erased_alternative_step alternative = record { choices = option_map (map erased_choice) alternative.choices; body = alternative.body }
 
+-- one level of an arm, whose statements are erased
 abbrev pub erased_arm_step : CoreArm-F Stmt Alternative Arm → Arm
 erased_arm_step arm = record { place = arm.place; condition = erased_expr arm.condition; body = arm.body }
 
+-- one level of a statement, whose parts are erased
 abbrev pub erased_stmt_step : CoreStmt-F Stmt Alternative Arm → Stmt
 erased_stmt_step (CoreStmt-F.Null place) = stmt.Null place
 erased_stmt_step (CoreStmt-F.Assignment target value) = stmt.Assignment (erased_reference target) (erased_expr value)
@@ -121,44 +133,56 @@ erased_stmt_step (CoreStmt-F.Loop scheme word body closing) = stmt.Loop (erased_
 erased_stmt_step (CoreStmt-F.Assertion kind place condition) = stmt.Assertion kind place (erased_expr condition)
 erased_stmt_step (CoreStmt-F.Exit place condition) = stmt.Exit place (option_map erased_expr condition)
 
+-- a statement as it was written
 abbrev pub erased_stmt : CoreStmt → Stmt
 erased_stmt = fold-CoreStmt Stmt Alternative Arm erased_stmt_step erased_alternative_step erased_arm_step
 
+-- an arm of an `if` as it was written
 abbrev pub erased_arm : CoreArm → Arm
 erased_arm = fold-CoreArm Stmt Alternative Arm erased_stmt_step erased_alternative_step erased_arm_step
 
+-- an alternative of a case statement as it was written
 abbrev pub erased_alternative : CoreAlternative → Alternative
 erased_alternative = fold-CoreAlternative Stmt Alternative Arm erased_stmt_step erased_alternative_step erased_arm_step
 
+-- the definition of a type as it was written
 abbrev pub erased_definition : CoreTypeDef → TypeDef
 erased_definition (core_definition.Integer range) = definition.Integer (erased_range range)
 erased_definition (core_definition.Enumeration place literals) = definition.Enumeration place (map erased_defining literals)
 
+-- a declaration as it was written
 abbrev pub erased_decl : CoreDecl → Decl
 erased_decl (core_decl.Variables names type_name value) = decl.Variables (map erased_defining names) (erased_reference type_name) (option_map erased_expr value)
 erased_decl (core_decl.Constants names type_name value) = decl.Constants (map erased_defining names) (option_map erased_reference type_name) (erased_expr value)
 erased_decl (core_decl.FullType name definition) = decl.FullType (erased_defining name) (erased_definition definition)
 erased_decl (core_decl.Subtype name parent range) = decl.Subtype (erased_defining name) (erased_reference parent) (option_map erased_range range)
 
+-- the exports of an item as they were written: names, or the word `null`
 abbrev pub erased_exports : Option Place → List Reference → Exports
 erased_exports None names = exported.Names (erased_references names)
 erased_exports (Some place) names = exported.Null place
 
+-- an item of a derives annotation as it was written
 abbrev pub erased_item : CoreDerivesItem → DerivesItem
 erased_item item = record { exports = erased_exports item.null item.exports; imports = record { itself = item.itself; names = erased_references item.imports } }
 
+-- a derives annotation as it was written
 abbrev pub erased_derives : CoreDerives → Derives
 erased_derives derives = record { place = derives.place; items = map erased_item derives.items }
 
+-- a precondition or a postcondition as it was written
 abbrev pub erased_predicate : CorePredicate → Predicate
 erased_predicate predicate = record { place = predicate.place; condition = erased_expr predicate.condition }
 
+-- formals of one mode and type, as they were written
 abbrev pub erased_param : CoreParam → Param
 erased_param param = record { names = map erased_defining param.names; mode = param.mode; type_name = erased_reference param.type_name }
 
+-- a formal part as it was written
 abbrev pub erased_formal_part : CoreFormalPart → FormalPart
 erased_formal_part part = record { place = part.place; params = map erased_param part.params }
 
+-- a subprogram as it was written
 abbrev pub erased_sub : Sub → Subprogram
 erased_sub sub = record {
   place = sub.place;
@@ -177,6 +201,7 @@ erased_sub sub = record {
 abbrev pub unit_of : Sub → Unit
 unit_of sub = unit.Subprogram (erased_sub sub)
 
+-- the unit that was written; none, where the program has no such subprogram
 abbrev pub erased_unit : Program → CoreUnit → Option Unit
 erased_unit program (core_unit.Subprogram id) = option_map unit_of (slice_get program.subs id.0)
 

@@ -73,6 +73,7 @@ type_at place None = Err (record { rule = N1; place = place })
 type_at place (Some (entity.TypeName subtype)) = Ok subtype
 type_at place (Some other) = Err (record { rule = N3; place = place })
 
+-- the subtype that this name denotes
 abbrev pub named_type : CoreName → Judged Subtype
 named_type name = type_at name.name.place name.entity
 
@@ -84,6 +85,7 @@ target_at place (Some (entity.Constant subtype value)) = Ok subtype
 target_at place (Some (entity.NamedNumber value)) = Ok UNIVERSAL
 target_at place (Some other) = Err (record { rule = N3; place = place })
 
+-- the subtype of what this name denotes, as the target of an assignment
 abbrev pub named_target : CoreName → Judged Subtype
 named_target name = target_at name.name.place name.entity
 
@@ -93,6 +95,7 @@ object_at place None = Err (record { rule = N1; place = place })
 object_at place (Some (entity.Variable v object)) = Ok object
 object_at place (Some other) = Err (record { rule = N3; place = place })
 
+-- the variable that this name denotes, with what is declared of it
 abbrev pub named_object : CoreName → Judged Object
 named_object name = object_at name.name.place name.entity
 
@@ -101,21 +104,25 @@ abbrev pub is_whole : List Step → Bool
 is_whole [] = true
 is_whole (step ∷ way) = false
 
+-- rule N3: nothing follows the identifier
 abbrev pub whole : Reference → Judged ⊤
 whole reference = keeps N3 reference.root.name.place (is_whole reference.way)
 
+-- the subtype that a name without an attribute denotes
 abbrev pub referred_type : Reference → Judged Subtype
 referred_type reference = do
   subtype ← named_type reference.root
   _ ← whole reference
   Ok subtype
 
+-- the variable that a name without an attribute denotes
 abbrev pub referred_object : Reference → Judged Object
 referred_object reference = do
   object ← named_object reference.root
   _ ← whole reference
   Ok object
 
+-- the subtype of the target of an assignment, which has no attribute
 abbrev pub referred_target : Reference → Judged Subtype
 referred_target reference = do
   subtype ← named_target reference.root
@@ -124,6 +131,7 @@ referred_target reference = do
 
 -- ---- expressions (Ada 95 RM 4.4, 4.5, 4.9)
 
+-- what an expression is judged to be: its type, its value if it is static, and its place
 abbrev pub typing : ExprType → Option ℤ → Place → Typing
 typing of value place = record { of = of; value = value; place = place }
 
@@ -136,6 +144,7 @@ value_at place (Some (entity.NamedNumber n)) = Ok (typing Universal (Some n) pla
 value_at place (Some (entity.Literal subtype position)) = Ok (typing (Of subtype.base) (Some (position_in subtype.base.class position)) place)
 value_at place (Some other) = Err (record { rule = N3; place = place })
 
+-- what a name is where a value is needed
 abbrev pub named_value : CoreName → Judged Typing
 named_value name = value_at name.name.place name.entity
 
@@ -150,9 +159,11 @@ entry_value name allowed = do
 abbrev pub is_first : List ℕ → Bool
 is_first designator = str_eq_ignore_ascii_case designator (codes "first")
 
+-- the attribute `First` or `Last`, whatever the case of its letters (Ada 95 RM 3.5)
 abbrev pub is_attribute : List ℕ → Bool
 is_attribute designator = is_first designator || str_eq_ignore_ascii_case designator (codes "last")
 
+-- the bound of a subtype that `First` or `Last` gives
 abbrev pub attribute_of : Subtype → List ℕ → ℤ
 attribute_of subtype designator = if is_first designator then subtype.first else subtype.last
 
@@ -160,6 +171,7 @@ attribute_of subtype designator = if is_first designator then subtype.first else
 abbrev pub is_word : List ℕ → List ℕ → Bool
 is_word designator word = str_eq_ignore_ascii_case designator word
 
+-- `Pos`, `Val`, `Succ` and `Pred` of a type: what they take, do, check and give (Ada 95 RM 3.5, 3.5.5)
 abbrev pub attribute_function : BaseType → List ℕ → Option Mapping
 attribute_function base designator =
     if is_word designator (codes "pos") then Some (record { operand = ValueOf base; shift = shift.Same; bounds = None; result = INTEGER.base })
@@ -168,6 +180,7 @@ attribute_function base designator =
     else if is_word designator (codes "pred") then Some (record { operand = ValueOf base; shift = shift.Previous; bounds = Some (span_of_type (Of base)); result = base })
     else None
 
+-- the attribute is a function of values of this type
 abbrev pub is_function : BaseType → List ℕ → Bool
 is_function base designator = is_some (attribute_function base designator)
 
@@ -175,6 +188,7 @@ is_function base designator = is_some (attribute_function base designator)
 abbrev pub has_attribute : Subtype → List ℕ → Bool
 has_attribute subtype designator = (has_numbers subtype.base.class && is_attribute designator) || (has_literals subtype.base.class && is_function subtype.base designator)
 
+-- what `First` or `Last` of a subtype is: a static value of its base type
 abbrev pub attribute : CoreName → Identifier → Judged Typing
 attribute prefix designator = do
   subtype ← named_type prefix
@@ -192,6 +206,7 @@ operand_of subtype operand = do
 abbrev pub condition : Typing → Judged ⊤
 condition operand = keeps N10 operand.place (is_boolean operand.of)
 
+-- what an operator before an operand is judged to be (Ada 95 RM 4.5.4, 4.5.6)
 abbrev pub sign : PrefixOp → Place → Typing → Judged Typing
 sign op place operand = do
   _ ← keeps N10 place (operand_fits op operand.of)
@@ -199,6 +214,7 @@ sign op place operand = do
   _ ← keeps N12 place (lies_in operand.of (signed_result op operand.value))
   Ok (typing operand.of (signed_result op operand.value) place)
 
+-- what an operator between two operands is judged to be (Ada 95 RM 4.5)
 abbrev pub operation : InfixOp → Place → Typing → Typing → Judged Typing
 operation op place left right = do
   _ ← keeps N10 place (operands_fit op left.of right.of)
@@ -215,12 +231,14 @@ ordered_type reference = do
   _ ← keeps N10 reference.root.name.place (has_numbers subtype.base.class)
   Ok subtype
 
+-- what a membership test in a subtype is judged to be (Ada 95 RM 4.5.2)
 abbrev pub member_of_type : MemberOp → Place → Typing → Subtype → Judged Typing
 member_of_type op place tested subtype = do
   _ ← keeps N10 place (is_of subtype.base tested.of)
   _ ← keeps N12 tested.place (lies_in (Of subtype.base) tested.value)
   Ok (typing (Of BOOLEAN.base) (member_value op tested.value (Some subtype.first) (Some subtype.last)) place)
 
+-- what a membership test in a range is judged to be (Ada 95 RM 4.5.2)
 abbrev pub member_of_range : MemberOp → Place → (tested low high : Typing) → Judged Typing
 member_of_range op place tested low high = do
   _ ← keeps N10 place (three_fit tested.of low.of high.of)
@@ -250,6 +268,7 @@ abbrev pub function_at : Place → Option Mapping → Judged Mapping
 function_at place (Some mapping) = Ok mapping
 function_at place None = Err (record { rule = N14; place = place })
 
+-- what a name of a type does before an operand: a conversion, a function of the type, or a qualification (Ada 95 RM 4.6, 4.7)
 abbrev pub applied_form : Place → Subtype → FunctionForm → Judged Mapping
 applied_form place subtype form.Simple = keeps N10 place (is_numeric subtype.base.class) >>= λ _. Ok (conversion subtype)
 applied_form place subtype (form.Attribute designator) = keeps N3 place (has_attribute subtype designator.text) >>= λ _. function_at place (attribute_function subtype.base designator.text)
@@ -281,5 +300,6 @@ expr_step (CoreExpr-F.Infix op place left right) = left >>= λ l. right >>= λ r
 expr_step (CoreExpr-F.InType op place tested type_name) = tested >>= λ t. ordered_type type_name >>= λ subtype. member_of_type op place t subtype
 expr_step (CoreExpr-F.InRange op place tested low high) = tested >>= λ t. low >>= λ l. high >>= λ h. member_of_range op place t l h
 
+-- what an expression is, or the first rule on names or types that is broken in it
 abbrev pub judged : CoreExpr → Judged Typing
 judged = fold-CoreExpr (Judged Typing) expr_step

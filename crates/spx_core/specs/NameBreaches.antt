@@ -52,6 +52,7 @@ use Rattle.spx_core.specs.Statements.{judged_heads}
 
 -- ---- names
 
+-- it is a variable
 abbrev pub IsObject : Entity → Type 0
 IsObject e = (v : VarId) × (object : Object) × (e ≡ entity.Variable v object)
 
@@ -59,6 +60,7 @@ IsObject e = (v : VarId) × (object : Object) × (e ≡ entity.Variable v object
 abbrev pub IsConstant : Entity → Type 0
 IsConstant e = ((subtype : Subtype) × (n : ℤ) × (e ≡ entity.Constant subtype n)) ⊎ ((n : ℤ) × (e ≡ entity.NamedNumber n))
 
+-- it is, or stands for, a value: a variable, a constant or a literal
 abbrev pub IsValue : Entity → Type 0
 IsValue e = IsObject e ⊎ (IsConstant e ⊎ ((subtype : Subtype) × (position : ℤ) × (e ≡ entity.Literal subtype position)))
 
@@ -69,9 +71,11 @@ assigned_type (entity.Constant subtype n) = Some subtype
 assigned_type (entity.NamedNumber n) = Some UNIVERSAL
 assigned_type _ = None
 
+-- as far as names and types go, it may be assigned
 abbrev pub IsTarget : Entity → Type 0
 IsTarget e = (subtype : Subtype) × (assigned_type e ≡ Some subtype)
 
+-- it is a type or a subtype
 abbrev pub IsType : Entity → Type 0
 IsType e = (subtype : Subtype) × (e ≡ entity.TypeName subtype)
 
@@ -89,6 +93,7 @@ pub data BreaksReference (IsNeeded : Entity → Type 0) (reference : Reference) 
 
 -- ---- expressions
 
+-- an expression breaks this rule at this place
 pub data BreaksExpr : CoreExpr → RuleName → Place → Type 0 where
   -- an object or a literal is needed
   name : (name : CoreName) (rule : RuleName) (place : Place) → BreaksName IsValue name rule place → BreaksExpr (expr.Name name) rule place
@@ -186,6 +191,7 @@ pub data BreaksCount (c : CoreCount) : RuleName → Place → Type 0 where
   low : (range : CoreRange) (subtype : Subtype) (rule : RuleName) (place : Place) → c.bounds ≡ Some range → c.type_name.root.entity ≡ Some (entity.TypeName subtype) → BreaksBound subtype range.low rule place → BreaksCount c rule place
   high : (range : CoreRange) (subtype : Subtype) (rule : RuleName) (place : Place) → c.bounds ≡ Some range → c.type_name.root.entity ≡ Some (entity.TypeName subtype) → BreaksBound subtype range.high rule place → BreaksCount c rule place
 
+-- a command breaks this rule at this place
 pub data BreaksCommand : Command → RuleName → Place → Type 0 where
   target : (target : Reference) (value : CoreExpr) (rule : RuleName) (place : Place) → BreaksReference IsTarget target rule place → BreaksCommand (Set target value) rule place
   value : (target : Reference) (value : CoreExpr) (rule : RuleName) (place : Place) → BreaksExpr value rule place → BreaksCommand (Set target value) rule place
@@ -236,6 +242,7 @@ pub data BreaksRange (base : Option BaseType) (first last : ℤ) (range : CoreRa
   bad_range : (l h : Typing) (m n : ℤ) → HasType range.low l → HasType range.high h → l.value ≡ Some m → h.value ≡ Some n → (int_le m n && (int_le first m && int_le n last)) ≡ false
       → BreaksRange base first last range N13 l.place
 
+-- what a declaration says breaks this rule at this place
 pub data BreaksDecl : CoreDecl → RuleName → Place → Type 0 where
   type_name : (names : List Defining) (type_name : Reference) (value : Option CoreExpr) (rule : RuleName) (place : Place) → BreaksReference IsType type_name rule place → BreaksDecl (decl.Variables names type_name value) rule place
   -- an initial value is a static one of the type
@@ -261,6 +268,7 @@ pub data BreaksDecl : CoreDecl → RuleName → Place → Type 0 where
 
 -- ---- subprograms and programs
 
+-- a subprogram breaks this rule at this place
 pub data BreaksSub (sub : Sub) : RuleName → Place → Type 0 where
   -- a name is declared before, in the same region or everywhere
   declared_again : (d : Defining) → Contains (formal_names sub ++ local_names sub) d → d.again ≡ true → BreaksSub sub N2 d.name.place
@@ -274,6 +282,7 @@ pub data BreaksSub (sub : Sub) : RuleName → Place → Type 0 where
   -- the name after `end` is another one
   end_differs : (name : Identifier) → sub.end_name ≡ Some name → str_eq_ignore_ascii_case sub.name.name.text name.text ≡ false → BreaksSub sub N5 name.place
 
+-- a program breaks this rule at this place: by the name of a subprogram, or within one
 pub data BreaksProgram (p : Program) : RuleName → Place → Type 0 where
   unit_declared_again : (sub : Sub) → Contains p.subs sub → sub.name.again ≡ true → BreaksProgram p N2 sub.name.name.place
   within : (sub : Sub) (rule : RuleName) (place : Place) → Contains p.subs sub → BreaksSub sub rule place → BreaksProgram p rule place

@@ -89,6 +89,7 @@ use Rattle.spx_core.specs.Regions.{Region, Regions, denoted, hidden, is_declared
 
 -- ---- names and expressions
 
+-- a name, with what it denotes where it stands
 abbrev pub resolved_name : Regions → Identifier → CoreName
 resolved_name regions name = record { name = name; entity = denoted regions name.text }
 
@@ -102,6 +103,7 @@ abbrev pub resolved_value : Regions → Name → CoreExpr
 resolved_value regions (Simple name) = expr.Name (resolved_name regions name)
 resolved_value regions (Attribute prefix designator) = expr.Attribute (resolved_name regions prefix) designator
 
+-- the name of a type before an operand, with what it denotes
 abbrev pub resolved_function : Regions → Function → CoreFunction
 resolved_function regions function = record { name = resolved_name regions function.name; form = function.form }
 
@@ -109,6 +111,7 @@ resolved_function regions function = record { name = resolved_name regions funct
 abbrev pub is_changed_by : List CoreDerivesItem → CoreName → Bool
 is_changed_by items name = variable_is (λ v. is_imported_by items v && is_exported_by items v) (variable_of name.entity)
 
+-- the value of a variable on entry, and whether it may be named
 abbrev pub entry_of : List CoreDerivesItem → CoreName → CoreExpr
 entry_of items name = expr.Entry name (is_changed_by items name)
 
@@ -124,6 +127,7 @@ expr_step items regions (Expr-F.Infix op place left right) = expr.Infix op place
 expr_step items regions (Expr-F.InType op place tested type_name) = expr.InType op place tested (resolved_reference regions type_name)
 expr_step items regions (Expr-F.InRange op place tested low high) = expr.InRange op place tested low high
 
+-- an expression, each name with what it denotes, where these items say which values on entry may be named
 abbrev pub resolved_in : List CoreDerivesItem → Regions → Expr → CoreExpr
 resolved_in items regions = fold-Expr CoreExpr (expr_step items regions)
 
@@ -131,6 +135,7 @@ resolved_in items regions = fold-Expr CoreExpr (expr_step items regions)
 abbrev pub resolved_expr : Regions → Expr → CoreExpr
 resolved_expr regions = resolved_in [] regions
 
+-- a range, each name with what it denotes
 abbrev pub resolved_range : Regions → Range → CoreRange
 resolved_range regions range = record { low = resolved_expr regions range.low; high = resolved_expr regions range.high }
 
@@ -141,6 +146,7 @@ abbrev pub value_in : Judged Typing → Option ℤ
 value_in (Ok t) = t.value
 value_in (Err breach) = None
 
+-- the value of an expression that is static and breaks no rule (Ada 95 RM 4.9)
 abbrev pub static_value : CoreExpr → Option ℤ
 static_value e = value_in (judged e)
 
@@ -149,6 +155,7 @@ abbrev pub or_zero : Option ℤ → ℤ
 or_zero (Some n) = n
 or_zero None = pos 0
 
+-- the static value of an expression, or 0
 abbrev pub value_or_zero : CoreExpr → ℤ
 value_or_zero e = or_zero (static_value e)
 
@@ -181,6 +188,7 @@ defining region entity name = record { name = name; entity = entity; again = is_
 abbrev pub declaring : Region → Defining → Region
 declaring region d = with_declaration (record { word = d.name.text; entity = Some d.entity }) region
 
+-- a region with what these names declare, in their order
 abbrev pub declaring_all : Region → List Defining → Region
 declaring_all region [] = region
 declaring_all region (d ∷ ds) = declaring_all (declaring region d) ds
@@ -202,14 +210,17 @@ abbrev pub chosen_by : CoreExpr → Option CoreExpr → Span
 chosen_by low None = record { first = value_or_zero low; last = value_or_zero low }
 chosen_by low (Some high) = record { first = value_or_zero low; last = value_or_zero high }
 
+-- a choice with these bounds, and the span of its values
 abbrev pub choice_of : CoreExpr → Option CoreExpr → CoreChoice
 choice_of low high = record { low = low; high = high; span = chosen_by low high }
 
+-- a choice, each name with what it denotes
 abbrev pub resolved_choice : Regions → Choice → CoreChoice
 resolved_choice regions choice = choice_of (resolved_expr regions choice.low) (option_map (resolved_expr regions) choice.high)
 
 -- ---- the parameters of loops (Ada 95 RM 5.5)
 
+-- the head of a loop over the parameter at this position
 abbrev pub count_of : Region → ℕ → Count → Reference → Option CoreRange → CoreCount
 count_of region position c type_name bounds = record {
   place = c.place;
@@ -227,14 +238,17 @@ abbrev pub resolved_count : Regions → Region → ℕ → Count → CoreCount
 resolved_count outer region position c =
     count_of region position c (resolved_reference (around_names outer region (c.name ∷ [])) c.type_name) (option_map (resolved_range (around_names outer region (c.name ∷ []))) c.bounds)
 
+-- the parameter that a loop declares, a variable of the type that is named
 abbrev pub declared_by_count : CoreCount → Defining
 declared_by_count c = record { name = c.name; entity = entity.Variable c.parameter (object_of LoopParameter c.type_name); again = c.again }
 
+-- what the head of a loop declares: a parameter after `for`, and else nothing
 abbrev pub declared_by_scheme : CoreScheme → List Defining
 declared_by_scheme (core_scheme.While place condition) = []
 declared_by_scheme (core_scheme.For c) = declared_by_count c ∷ []
 declared_by_scheme core_scheme.Endless = []
 
+-- the head of a loop, each name with what it denotes
 abbrev pub resolved_scheme : Regions → Region → ℕ → Scheme → CoreScheme
 resolved_scheme outer region position (scheme.While place condition) = core_scheme.While place (resolved_expr (region ∷ outer) condition)
 resolved_scheme outer region position (scheme.For c) = core_scheme.For (resolved_count outer region position c)
@@ -267,6 +281,7 @@ in_order (p ∷ ps) = made_of_both (λ x xs. x ∷ xs) p (in_order ps)
 abbrev pub inside : {A : Type 0} → CoreScheme → Part A → Part A
 inside scheme body region position = body (declaring_all region (declared_by_scheme scheme)) (position + length (declared_by_scheme scheme))
 
+-- a loop with this head and this body
 abbrev pub loop_with : Place → Closing → Part (List CoreStmt) → CoreScheme → Part CoreStmt
 loop_with word closing body scheme = made_of (λ region stmts. stmt.Loop scheme word stmts closing) (inside scheme body)
 
@@ -275,9 +290,11 @@ abbrev pub alternative_step : Regions → Alternative-F (Part CoreStmt) (Part Co
 alternative_step outer alternative =
     made_of (λ region stmts. record { choices = option_map (map (resolved_choice (region ∷ outer))) alternative.choices; body = stmts }) (in_order alternative.body)
 
+-- one level of an arm: its condition sees what is declared around it
 abbrev pub arm_step : Regions → Arm-F (Part CoreStmt) (Part CoreAlternative) (Part CoreArm) → Part CoreArm
 arm_step outer arm = made_of (λ region stmts. record { place = arm.place; condition = resolved_expr (region ∷ outer) arm.condition; body = stmts }) (in_order arm.body)
 
+-- one level of a statement; only an assertion may name values on entry
 abbrev pub stmt_step : List CoreDerivesItem → Regions → Stmt-F (Part CoreStmt) (Part CoreAlternative) (Part CoreArm) → Part CoreStmt
 stmt_step items outer (Stmt-F.Null place) = plain (λ region. stmt.Null place)
 stmt_step items outer (Stmt-F.Assignment target value) = plain (λ region. stmt.Assignment (resolved_reference (region ∷ outer) target) (resolved_expr (region ∷ outer) value))
@@ -289,29 +306,37 @@ stmt_step items outer (Stmt-F.Loop scheme word body closing) = λ region positio
 stmt_step items outer (Stmt-F.Assertion kind place condition) = plain (λ region. stmt.Assertion kind place (resolved_in items (region ∷ outer) condition))
 stmt_step items outer (Stmt-F.Exit place condition) = plain (λ region. stmt.Exit place (option_map (resolved_expr (region ∷ outer)) condition))
 
+-- a statement, each name with what it denotes
 abbrev pub resolved_stmt : List CoreDerivesItem → Regions → Stmt → Part CoreStmt
 resolved_stmt items outer = fold-Stmt (Part CoreStmt) (Part CoreAlternative) (Part CoreArm) (stmt_step items outer) (alternative_step outer) (arm_step outer)
 
+-- an arm of an `if`, each name with what it denotes
 abbrev pub resolved_arm : List CoreDerivesItem → Regions → Arm → Part CoreArm
 resolved_arm items outer = fold-Arm (Part CoreStmt) (Part CoreAlternative) (Part CoreArm) (stmt_step items outer) (alternative_step outer) (arm_step outer)
 
+-- an alternative of a case statement, each name with what it denotes
 abbrev pub resolved_alternative : List CoreDerivesItem → Regions → Alternative → Part CoreAlternative
 resolved_alternative items outer = fold-Alternative (Part CoreStmt) (Part CoreAlternative) (Part CoreArm) (stmt_step items outer) (alternative_step outer) (arm_step outer)
 
+-- statements, each name with what it denotes
 abbrev pub resolved_stmts : List CoreDerivesItem → Regions → List Stmt → Part (List CoreStmt)
 resolved_stmts items outer stmts = in_order (map (resolved_stmt items outer) stmts)
 
 -- ---- the loop parameters of statements, in the order of the text
 
+-- these lists, one after the other
 abbrev pub all_of : List (List Defining) → List Defining
 all_of lists = flat_map (λ (ds : List Defining). ds) lists
 
+-- the loop parameters of an alternative, whose statements have these
 abbrev pub parameters_in_alternative : CoreAlternative-F (List Defining) (List Defining) (List Defining) → List Defining
 parameters_in_alternative alternative = all_of alternative.body
 
+-- the loop parameters of an arm, whose statements have these
 abbrev pub parameters_in_arm : CoreArm-F (List Defining) (List Defining) (List Defining) → List Defining
 parameters_in_arm arm = all_of arm.body
 
+-- the loop parameters of a statement, whose parts have these; that of a loop comes before those in it
 abbrev pub parameters_step : CoreStmt-F (List Defining) (List Defining) (List Defining) → List Defining
 parameters_step (CoreStmt-F.Null place) = []
 parameters_step (CoreStmt-F.Assignment target value) = []
@@ -322,15 +347,19 @@ parameters_step (CoreStmt-F.Loop scheme word body closing) = declared_by_scheme 
 parameters_step (CoreStmt-F.Assertion kind place condition) = []
 parameters_step (CoreStmt-F.Exit place condition) = []
 
+-- the loop parameters that a statement declares
 abbrev pub parameters_by : CoreStmt → List Defining
 parameters_by = fold-CoreStmt (List Defining) (List Defining) (List Defining) parameters_step parameters_in_alternative parameters_in_arm
 
+-- the loop parameters that an arm declares
 abbrev pub parameters_by_arm : CoreArm → List Defining
 parameters_by_arm = fold-CoreArm (List Defining) (List Defining) (List Defining) parameters_step parameters_in_alternative parameters_in_arm
 
+-- the loop parameters that an alternative declares
 abbrev pub parameters_by_alternative : CoreAlternative → List Defining
 parameters_by_alternative = fold-CoreAlternative (List Defining) (List Defining) (List Defining) parameters_step parameters_in_alternative parameters_in_arm
 
+-- the loop parameters that statements declare
 abbrev pub parameters_by_stmts : List CoreStmt → List Defining
 parameters_by_stmts stmts = flat_map parameters_by stmts
 
@@ -346,6 +375,7 @@ abbrev pub place_of_null : Exports → Option Place
 place_of_null (exported.Names names) = None
 place_of_null (exported.Null place) = Some place
 
+-- an item of a derives annotation, each name with what it denotes
 abbrev pub resolved_item : Regions → DerivesItem → CoreDerivesItem
 resolved_item regions item = record {
   null = place_of_null item.exports;
@@ -354,9 +384,11 @@ resolved_item regions item = record {
   imports = map (resolved_reference regions) item.imports.names;
 }
 
+-- a derives annotation, each name with what it denotes
 abbrev pub resolved_derives : Regions → Derives → CoreDerives
 resolved_derives regions derives = record { place = derives.place; items = map (resolved_item regions) derives.items }
 
+-- a precondition or a postcondition, each name with what it denotes
 abbrev pub resolved_predicate : List CoreDerivesItem → Regions → Predicate → CorePredicate
 resolved_predicate items regions predicate = record { place = predicate.place; condition = resolved_in items regions predicate.condition }
 
@@ -366,6 +398,7 @@ resolved_predicate items regions predicate = record { place = predicate.place; c
 abbrev pub id_at : ℕ → TypeId
 id_at position = record { 0 = position }
 
+-- the number is a value of `Integer`
 abbrev pub is_in_integer : ℤ → Bool
 is_in_integer n = is_between INTEGER.first INTEGER.last n
 
@@ -385,6 +418,7 @@ integer_type position low high = UNIVERSAL
 abbrev pub enumeration_base : TypeId → ℕ → BaseType
 enumeration_base id count = record { id = id; class = class.Enumeration; first = pos 0; last = pos (count - 1) }
 
+-- a new type of so many literals, at this position, with all values of its base type
 abbrev pub enumeration_type : ℕ → ℕ → Subtype
 enumeration_type position count =
     record { id = id_at position; base = enumeration_base (id_at position) count; first = pos 0; last = pos (count - 1) }
@@ -418,6 +452,7 @@ abbrev pub declared_by_definition : CoreTypeDef → List Defining
 declared_by_definition (definition.Integer range) = []
 declared_by_definition (definition.Enumeration place literals) = literals
 
+-- the names that a declaration declares; an enumeration type declares its literals too (Ada 95 RM 3.5.1)
 abbrev pub declared_by : CoreDecl → List Defining
 declared_by (decl.Variables names type_name value) = names
 declared_by (decl.Constants names type_name value) = names
@@ -433,6 +468,7 @@ variables_by _ = []
 abbrev pub row_of : Defining → TypeRow
 row_of d = record { name = d.name.text; subtype = subtype_of (Some d.entity) }
 
+-- the rows of the table of types that a declaration adds
 abbrev pub rows_by : CoreDecl → List TypeRow
 rows_by (decl.FullType name definition) = row_of name ∷ []
 rows_by (decl.Subtype name parent range) = row_of name ∷ []
@@ -443,6 +479,7 @@ pub record Counts : Type 0 where
   pub vars : ℕ
   pub types : ℕ
 
+-- how many variables and types stand before the next declaration
 abbrev pub counted : Counts → CoreDecl → Counts
 counted before d = record { vars = before.vars + length (variables_by d); types = before.types + length (rows_by d) }
 
@@ -474,6 +511,7 @@ abbrev pub literals_of : Region → Defining → Subtype → Place → List Iden
 literals_of region name subtype place literals =
     decl.FullType name (definition.Enumeration place (defining_all (declaring region name) (meaning.Literals subtype) 0 literals))
 
+-- an enumeration type of these literals (Ada 95 RM 3.5.1)
 abbrev pub enumeration_decl : Region → ℕ → Identifier → Place → List Identifier → CoreDecl
 enumeration_decl region position name place literals =
     literals_of region (defining region (entity.TypeName (enumeration_type position (length literals))) name) (enumeration_type position (length literals)) place literals
@@ -485,6 +523,7 @@ subtype_decl region position name parent range =
 
 -- The declarations of a region inside others: each sees those before it, and not itself.
 module _ (outer : Regions) where
+  -- formals of one mode and type; their own names are hidden in the name of the type
   abbrev pub resolved_param : Region → ℕ → Param → CoreParam
   resolved_param region position param = param_of region position param (resolved_reference (around_names outer region param.names) param.type_name)
 
@@ -495,10 +534,12 @@ module _ (outer : Regions) where
       resolved_param region position p
       ∷ resolved_params (declaring_all region (resolved_param region position p).names) (position + length (resolved_param region position p).names) ps
 
+  -- the declaration of a type, whose own name is hidden in its definition
   abbrev pub resolved_type : Region → Counts → Identifier → TypeDef → CoreDecl
   resolved_type region before name (written_definition.Integer range) = integer_decl region before.types name (resolved_range (around_names outer region (name ∷ [])) range)
   resolved_type region before name (written_definition.Enumeration place literals) = enumeration_decl region before.types name place literals
 
+  -- a declaration, each name with what it denotes
   abbrev pub resolved_decl : Region → Counts → Decl → CoreDecl
   resolved_decl region before (written_decl.Variables names type_name value) =
       variables_of region before.vars names (resolved_reference (around_names outer region names) type_name) (option_map (resolved_expr (around_names outer region names)) value)
@@ -508,6 +549,7 @@ module _ (outer : Regions) where
   resolved_decl region before (written_decl.Subtype name parent range) =
       subtype_decl region before.types name (resolved_reference (around_names outer region (name ∷ [])) parent) (option_map (resolved_range (around_names outer region (name ∷ []))) range)
 
+  -- declarations in their order
   abbrev pub resolved_decls : Region → Counts → List Decl → List CoreDecl
   resolved_decls region before [] = []
   resolved_decls region before (d ∷ ds) =
@@ -518,30 +560,38 @@ module _ (outer : Regions) where
 abbrev pub declared_by_params : List CoreParam → List Defining
 declared_by_params params = flat_map (λ (param : CoreParam). param.names) params
 
+-- the names that declarations declare
 abbrev pub declared_by_decls : List CoreDecl → List Defining
 declared_by_decls decls = flat_map declared_by decls
 
+-- the variables that declarations declare
 abbrev pub variables_by_decls : List CoreDecl → List Defining
 variables_by_decls decls = flat_map variables_by decls
 
+-- the rows of the table of types that declarations add
 abbrev pub rows_by_decls : List CoreDecl → List TypeRow
 rows_by_decls decls = flat_map rows_by decls
 
 -- ---- subprograms
 
+-- the formals of a formal part, if it is there
 abbrev pub params_of : Option CoreFormalPart → List CoreParam
 params_of None = []
 params_of (Some part) = part.params
 
+-- the names of the formals of a subprogram
 abbrev pub formal_names : Sub → List Defining
 formal_names sub = declared_by_params (params_of sub.formal_part)
 
+-- the names that its declarative part declares
 abbrev pub local_names : Sub → List Defining
 local_names sub = declared_by_decls sub.declarations
 
+-- those of them that are variables
 abbrev pub local_variables : Sub → List Defining
 local_variables sub = variables_by_decls sub.declarations
 
+-- the names of the parameters of its loops
 abbrev pub loop_names : Sub → List Defining
 loop_names sub = parameters_by_stmts sub.statements
 
@@ -558,6 +608,7 @@ around_formals name = hidden (name ∷ []) ∷ standard ∷ []
 abbrev pub around_body : Defining → Regions
 around_body name = declaring [] name ∷ standard ∷ []
 
+-- a formal part, in which the name of the subprogram is hidden
 abbrev pub resolved_formal_part : Identifier → ℕ → FormalPart → CoreFormalPart
 resolved_formal_part name position part = record { place = part.place; params = resolved_params (around_formals name) [] position part.params }
 
@@ -569,6 +620,7 @@ after_formals before part = record { vars = before.vars + length (declared_by_pa
 abbrev pub around_annotations : Defining → Option CoreFormalPart → Regions
 around_annotations name part = declaring_all [] (declared_by_params (params_of part)) ∷ around_body name
 
+-- the derives annotation of a subprogram, whose names see the formals
 abbrev pub derives_of : Defining → Option CoreFormalPart → Subprogram → Option CoreDerives
 derives_of name part s = option_map (resolved_derives (around_annotations name part)) s.derives
 
@@ -607,6 +659,7 @@ sub_with name position s part decls statements = record {
   local_count = length (variables_by_decls decls);
 }
 
+-- a subprogram of which all but the statements is resolved, with these resolved too
 abbrev pub sub_of : Defining → ℕ → Subprogram → Option CoreFormalPart → List CoreDecl → Sub
 sub_of name position s part decls = sub_with name position s part decls (statements_of name position s part decls)
 
@@ -615,6 +668,7 @@ abbrev pub with_formals : Defining → Counts → Subprogram → Option CoreForm
 with_formals name before s part =
     sub_of name before.vars s part (resolved_decls (around_body name) (declaring_all [] (declared_by_params (params_of part))) (after_formals before part) s.declarations)
 
+-- a subprogram, each name with what it denotes
 abbrev pub resolved_sub : Defining → Counts → Subprogram → Sub
 resolved_sub name before s = with_formals name before s (option_map (resolved_formal_part s.name before.vars) s.formal_part)
 
@@ -625,9 +679,11 @@ abbrev pub var_in : List ℕ → Entity → Var
 var_in word (entity.Variable v object) = record { name = word; kind = object.kind; type_id = object.subtype.id }
 var_in word other = record { name = word; kind = Local; type_id = UNIVERSAL.id }
 
+-- the variable that a name declares, as the table of variables lists it
 abbrev pub var_of : Defining → Var
 var_of d = var_in d.name.text d.entity
 
+-- the variables of a subprogram: formals, locals, and the parameters of its loops
 abbrev pub own_vars : Sub → List Var
 own_vars sub = map var_of ((formal_names sub ++ local_variables sub) ++ loop_names sub)
 
@@ -682,5 +738,6 @@ program_of subs = record {
 abbrev pub at_start : Counts
 at_start = record { vars = 0; types = length standard_types }
 
+-- the program that units are: each name with what it denotes where it stands
 abbrev pub resolved : List Unit → Program
 resolved units = program_of (resolved_subs [] 0 at_start units)

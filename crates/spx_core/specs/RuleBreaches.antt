@@ -42,6 +42,7 @@ IsInRelation sub name = (item : CoreDerivesItem) × Contains (relation sub) item
 abbrev pub IsVariable : CoreName → VarId → Type 0
 IsVariable name v = variable_of name.entity ≡ Some v
 
+-- the relation of a subprogram breaks rule U7
 pub data HasBadDerives (sub : Sub) : Type 0 where
   export_twice : (v : VarId) → StandsTwice v (exports_named sub) → HasBadDerives sub
   -- a pair twice: an item names an import twice, or one of its exports beside `*`
@@ -63,6 +64,7 @@ Disagrees p sub v = (mode : Mode) × (mode_of v p ≡ Some mode) × (agrees mode
 
 -- one of the statements assigns to this target
 abbrev mutual
+  -- a statement of this command assigns this target
   pub Assigns : Command → Reference → Type 0
   Assigns Skip target = ⊥
   Assigns (Set other value) target = other ≡ target
@@ -73,12 +75,14 @@ abbrev mutual
   Assigns (Repeat head body) target = Assigns body target
   Assigns (Leave place) target = ⊥
 
+  -- a statement of an alternative assigns it
   pub OneAssigns : Alternatives → Reference → Type 0
   OneAssigns (Last choices a) target = Assigns a target
   OneAssigns (When choices a rest) target = Assigns a target ⊎ OneAssigns rest target
 
 -- ---- subprograms
 
+-- a subprogram breaks this rule on variables at this place
 pub data BreaksRule (p : Program) (sub : Sub) : RuleName → Place → Type 0 where
   bad_derives : HasBadDerives sub → BreaksRule p sub U7 (place_or sub.place sub.derives)
   mode_disagrees : (name : Reference) (v : VarId) → IsInRelation sub name → IsVariable name.root v → Disagrees p sub v → BreaksRule p sub U8 name.root.name.place

@@ -35,11 +35,13 @@ kind_of p v = option_map (λ (var : Var). var.kind) (slice_get p.vars v.0)
 abbrev pub HasItsMode : Program → Reference → Type 0
 HasItsMode p name = (v : VarId) → denotes v name.root ≡ true → mode_named name.root ≡ mode_of v p
 
+-- each name of an item has the mode that is declared of its variable
 abbrev pub HaveTheirModes : Program → CoreDerivesItem → Type 0
 HaveTheirModes p item = All (HasItsMode p) item.exports × All (HasItsMode p) item.imports
 
 -- each target has the mode with which its variable is declared
 abbrev mutual
+  -- each target of this command has the mode that is declared of its variable
   pub TargetsHaveTheirModes : Program → Command → Type 0
   TargetsHaveTheirModes p Skip = ⊤
   TargetsHaveTheirModes p (Set target value) = HasItsMode p target
@@ -50,6 +52,7 @@ abbrev mutual
   TargetsHaveTheirModes p (Repeat head body) = TargetsHaveTheirModes p body
   TargetsHaveTheirModes p (Leave place) = ⊤
 
+  -- each target in these alternatives has
   pub AllHaveTheirModes : Program → Alternatives → Type 0
   AllHaveTheirModes p (Last choices a) = TargetsHaveTheirModes p a
   AllHaveTheirModes p (When choices a rest) = TargetsHaveTheirModes p a × AllHaveTheirModes p rest
@@ -65,6 +68,7 @@ IsInnerKind LoopParameter = ⊤
 abbrev pub object_in : Program → Var → Option Object
 object_in p var = option_map (λ (row : TypeRow). record { kind = var.kind; subtype = row.subtype }) (slice_get p.types var.type_id.0)
 
+-- what is declared of the variable with this id
 abbrev pub object_declared : Program → VarId → Option Object
 object_declared p v = option_and_then (object_in p) (slice_get p.vars v.0)
 
@@ -87,6 +91,7 @@ HeadIsAsDeclared p Endless = ⊤
 
 -- so does each name of a command that is evaluated or assigned to; choices are static
 abbrev mutual
+  -- each name in this command says of its variable what is declared of it
   pub AreAsDeclared : Program → Command → Type 0
   AreAsDeclared p Skip = ⊤
   AreAsDeclared p (Set target value) = IsAsDeclared p target.root × All (IsAsDeclared p) (names_read value)
@@ -97,6 +102,7 @@ abbrev mutual
   AreAsDeclared p (Repeat head body) = HeadIsAsDeclared p head × AreAsDeclared p body
   AreAsDeclared p (Leave place) = ⊤
 
+  -- each name in these alternatives does
   pub AllAreAsDeclared : Program → Alternatives → Type 0
   AllAreAsDeclared p (Last choices a) = AreAsDeclared p a
   AllAreAsDeclared p (When choices a rest) = AreAsDeclared p a × AllAreAsDeclared p rest
@@ -125,6 +131,7 @@ KeepsParameters (count parameter bounds body place) = (sets parameter body ≡ f
 KeepsParameters (endless body) = KeepsParameters body
 KeepsParameters (exit tests a b place) = KeepsParameters a × KeepsParameters b
 
+-- the names of a subprogram denote its own variables, and say of them what is declared
 pub record Scoped (p : Program) (sub : Sub) : Type 0 where
   pub targets : (v : VarId) → defines v sub.statements ≡ true → (is_formal v sub || is_inner v sub) ≡ true
   pub read : (v : VarId) → reads v (effects sub.statements) ≡ true → (is_formal v sub || is_inner v sub) ≡ true

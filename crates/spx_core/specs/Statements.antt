@@ -36,6 +36,7 @@ use Rattle.spx_tree.specs.declared.subprogram.Unit.{Unit}
 
 -- ---- declarations (Ada 95 RM 3.3, 8.3)
 
+-- rule N2: the name is declared neither before in its region nor everywhere
 abbrev pub declared_once : Defining → Judged ⊤
 declared_once d = keeps N2 d.name.place (not d.again)
 
@@ -43,6 +44,7 @@ declared_once d = keeps N2 d.name.place (not d.again)
 abbrev pub declared : List Defining → Reference → Judged ⊤
 declared names type_name = each declared_once names >>= λ _. referred_type type_name >>= λ _. Ok tt
 
+-- the names and the type of formals
 abbrev pub judged_param : CoreParam → Judged ⊤
 judged_param param = declared param.names param.type_name
 
@@ -104,6 +106,7 @@ judged_value (Some type_name) value = referred_type type_name >>= λ subtype. va
 abbrev pub judged_initial : Subtype → CoreExpr → Judged ⊤
 judged_initial subtype value = value_of_type subtype value >>= λ _. Ok tt
 
+-- names first, then what the declaration says of them (Ada 95 RM 3.2, 3.3)
 abbrev pub judged_decl : CoreDecl → Judged ⊤
 judged_decl (decl.Variables names type_name value) = each declared_once names >>= λ _. referred_type type_name >>= λ subtype. if_there (judged_initial subtype) value
 judged_decl (decl.Constants names type_name value) = each declared_once names >>= λ _. judged_value type_name value >>= λ _. Ok tt
@@ -112,9 +115,11 @@ judged_decl (decl.Subtype name parent range) = declared_once name >>= λ _. refe
 
 -- ---- annotations
 
+-- the name denotes a variable
 abbrev pub judged_variable : Reference → Judged ⊤
 judged_variable reference = referred_object reference >>= λ _. Ok tt
 
+-- the exports of an item, and then its imports, denote variables
 abbrev pub judged_item : CoreDerivesItem → Judged ⊤
 judged_item item = each judged_variable item.exports >>= λ _. each judged_variable item.imports
 
@@ -122,11 +127,13 @@ judged_item item = each judged_variable item.exports >>= λ _. each judged_varia
 abbrev pub test : CoreExpr → Judged ⊤
 test e = judged e >>= λ t. condition t
 
+-- the condition of a precondition or a postcondition
 abbrev pub judged_predicate : CorePredicate → Judged ⊤
 judged_predicate predicate = test predicate.condition
 
 -- ---- statements (Ada 95 RM 5.2 to 5.5)
 
+-- the target, then the value, which is of the base type of the target (Ada 95 RM 5.2)
 abbrev pub assignment : Reference → CoreExpr → Judged ⊤
 assignment target value = do
   subtype ← referred_target target
@@ -148,9 +155,11 @@ chosen of e = do
   _ ← static_at c.place c.value
   keeps N12 c.place (lies_in of c.value)
 
+-- each bound of a choice is static and of this type (Ada 95 RM 5.4)
 abbrev pub judged_choice : ExprType → CoreChoice → Judged ⊤
 judged_choice of choice = chosen of choice.low >>= λ _. if_there (chosen of) choice.high
 
+-- each choice of an alternative is static and of this type; `others` is none
 abbrev pub judged_choices : ExprType → Option (List CoreChoice) → Judged ⊤
 judged_choices of choices = each (judged_choice of) (listed choices)
 
@@ -175,6 +184,7 @@ judged_bounds subtype range = do
   high ← judged range.high
   operand_of subtype high
 
+-- the parameter is new in its region, its type has an order, and the bounds are of that type (Ada 95 RM 5.5)
 abbrev pub judged_count : CoreCount → Judged ⊤
 judged_count c = do
   _ ← keeps N2 c.name.place (not c.again)
@@ -183,6 +193,7 @@ judged_count c = do
   if_there (judged_bounds subtype) c.bounds
 
 abbrev mutual
+  -- the rules on names and types in a command
   pub judged_command : Command → Judged ⊤
   judged_command Skip = Ok tt
   judged_command (Set target value) = assignment target value
@@ -201,6 +212,7 @@ abbrev mutual
   judged_command (Repeat Endless body) = judged_command body
   judged_command (Leave place) = Ok tt
 
+  -- the rules on names and types in the alternatives of a case statement whose selector is of this type
   pub judged_alternatives : ExprType → Alternatives → Judged ⊤
   judged_alternatives of (Last choices a) = judged_choices of choices >>= λ _. judged_command a
   judged_alternatives of (When choices a rest) = judged_choices of choices >>= λ _. judged_command a >>= λ _. judged_alternatives of rest
@@ -211,6 +223,7 @@ abbrev mutual
 abbrev pub judged_end : Defining → Identifier → Judged ⊤
 judged_end name end_name = keeps N5 end_name.place (str_eq_ignore_ascii_case name.name.text end_name.text)
 
+-- the rules on names and types in a subprogram, in their order
 abbrev pub judged_sub : Sub → Judged ⊤
 judged_sub sub = do
   _ ← each judged_param (params_of sub.formal_part)
@@ -221,6 +234,7 @@ judged_sub sub = do
   _ ← judged_command (commands sub.statements)
   if_there (judged_end sub.name) sub.end_name
 
+-- rule N2 for the name of a subprogram
 abbrev pub judged_name : Sub → Judged ⊤
 judged_name sub = declared_once sub.name
 
