@@ -40,6 +40,7 @@ symbol_text declared s = declared_name declared (variable_of s) ++ suffix_of s
 
 -- ---- operators
 
+-- the text of an operator before its operand
 abbrev pub prefix_text : TermPrefix → List ℕ
 prefix_text sign.Minus = codes "-"
 prefix_text sign.Abs = codes "abs "
@@ -89,6 +90,7 @@ abbrev pub opening : Position → List ℕ
 opening Whole = []
 opening _ = codes "("
 
+-- the parenthesis after it, if it has one
 abbrev pub closing : Position → List ℕ
 closing Whole = []
 closing _ = codes ")"
@@ -123,6 +125,7 @@ text_of declared t = text_at declared t Whole
 abbrev pub is_identifier_byte : ℕ → Bool
 is_identifier_byte b = is_ascii_alphanumeric b || b == byte "_"
 
+-- all bytes are those of identifiers
 abbrev pub is_identifier : List ℕ → Bool
 is_identifier = list_all is_identifier_byte
 
