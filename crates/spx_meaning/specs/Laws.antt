@@ -20,9 +20,11 @@ use Rattle.spx_meaning.specs.Runs.{Outcome, Ended, Bad, Later, run, pre_holds, e
 abbrev pub IsSettled : (ℕ → Outcome) → Type 0
 IsSettled at_bound = (n m : ℕ) → n ≤ m → at_bound n ≢ Later → at_bound m ≡ at_bound n
 
+-- a run that has ended, well or badly, does the same at every greater bound
 abbrev pub RunsAreSettled : Type 0
 RunsAreSettled = (f : Frame) (s : Store) (c : Command) → IsSettled (λ n. run f n s c)
 
+-- and so does a call
 abbrev pub CallsAreSettled : Type 0
 CallsAreSettled = (p : Program) (sub : Sub) (s : Store) → IsSettled (λ n. call p n sub s)
 
@@ -36,6 +38,7 @@ pub record Start (p : Program) (sub : Sub) (s : Store) : Type 0 where
 abbrev pub IsNeverBad : Program → Sub → Type 0
 IsNeverBad p sub = (n : ℕ) (s : Store) → Start p sub s → (kind : BadKind) (place : Place) → call p n sub s ≢ Bad kind place
 
+-- no call of any subprogram is bad
 abbrev pub NeverBad : Program → Type 0
 NeverBad p = All (IsNeverBad p) p.subs
 
@@ -55,6 +58,7 @@ abbrev pub OthersAreKept : Program → Sub → Type 0
 OthersAreKept p sub =
     (n : ℕ) (s s' : Store) → Start p sub s → call p n sub s ≡ Ended s' → (v : VarId) → exports v sub ≡ false → is_inner v sub ≡ false → look s' v ≡ look (entry_of p sub s) v
 
+-- exports depend on no more than their declared imports, and other variables keep their values, in each subprogram
 pub record TwoRuns (p : Program) : Type 0 where
   pub derived : All (AreDerived p) p.subs
   pub kept : All (OthersAreKept p) p.subs

@@ -98,6 +98,7 @@ turns test body (suc n) s = use_value (test (suc n) s) (λ x. if as_truth x then
 abbrev pub in_bounds : Subtype → Place → (low high : ℤ) → Store → Outcome
 in_bounds subtype place low high s = demand (not (int_le low high) || (is_in subtype (Number low) && is_in subtype (Number high))) bad.Range place s
 
+-- the rest of a loop over a parameter, for the values of its bounds
 abbrev pub with_bounds : Frame → ℕ → Store → Subtype → Option CoreRange → ((low high : ℤ) → Store → Outcome) → Outcome
 with_bounds f n s subtype None go = go subtype.first subtype.last s
 with_bounds f n s subtype (Some range) go =
@@ -109,9 +110,11 @@ with_bounds f n s subtype (Some range) go =
 abbrev pub start_of : CoreCount → (low high : ℤ) → ℤ
 start_of c low high = if c.is_reverse then high else low
 
+-- the last value that the parameter takes
 abbrev pub end_of : CoreCount → (low high : ℤ) → ℤ
 end_of c low high = if c.is_reverse then low else high
 
+-- the next value of the parameter: one less where the loop is `reverse`
 abbrev pub value_after : CoreCount → ℤ → ℤ
 value_after c k = if c.is_reverse then k -ℤ pos 1 else k +ℤ pos 1
 
@@ -128,6 +131,7 @@ over_range c body n low high s =
 
 -- A command; the bound is handed down to each part.
 abbrev mutual
+  -- how a command ends from this store, within this bound
   pub run : Frame → ℕ → Store → Command → Outcome
   run f n s Skip = Ended s
   run f n s (Set target e) = use_value (eval f n s e) (assign f.program (place_of e) (variable_of target.root.entity) s)
@@ -154,6 +158,7 @@ is_new_kind Local = true
 is_new_kind (Initialized n) = true
 is_new_kind LoopParameter = true
 
+-- the variable is one of these
 abbrev pub is_new_var : Option Var → Bool
 is_new_var (Some var) = is_new_kind var.kind
 is_new_var None = false
