@@ -45,5 +45,6 @@ set s = record s {
   subcommand_required = true;
 }
 
+-- the command of the program with its three subcommands
 abbrev pub spx : App
 spx = with_subcommand (with_subcommand (with_subcommand (on_top set (new_app (codes "spx"))) check.top) conditions.top) run.top

@@ -35,9 +35,11 @@ most_u64 = 18446744073709551615
 abbrev pub number_of : Text → Option ℕ
 number_of text = if is_unsigned_in 0 most_u64 text then Some (digits_value 10 (without_leading_plus text)) else None
 
+-- the number that is given for this option
 abbrev pub number_in : Text → List Row → Option ℕ
 number_in id found = option_and_then number_of (one_of id found)
 
+-- the file that is given
 abbrev pub file_in : List Row → Option Text
 file_in found = first_of (codes "file") found
 
@@ -45,15 +47,19 @@ file_in found = first_of (codes "file") found
 abbrev pub default_turns : ℕ
 default_turns = 1000000
 
+-- the turns that are given, or else those of a run without this option
 abbrev pub turns_in : List Row → ℕ
 turns_in found = unwrap_or (number_in (codes "turns") found) default_turns
 
+-- what `check` asks for
 abbrev pub check_in : List Row → Option Request
 check_in found = option_map check (file_in found)
 
+-- what `conditions` asks for
 abbrev pub conditions_in : List Row → Option Request
 conditions_in found = option_map conditions (file_in found)
 
+-- what `run` asks for
 abbrev pub run_in : List Row → Option Request
 run_in found = option_and_then (λ entry. option_map (run entry (turns_in found) (first_of (codes "inputs") found))
     (file_in found)) (first_of (codes "entry") found)

@@ -6,6 +6,7 @@ use Rattle.spx_words.specs.Requests.{Request, check, conditions, run}
 use Rattle.spx_words.specs.declared.words.CommandWords.{CommandWords}
 use Rattle.spx_words.specs.declared.words.CommandWords.TheVariants as words
 
+-- the text that was borrowed
 abbrev pub text_of : Bor Text → Text
 text_of text = text.now
 
