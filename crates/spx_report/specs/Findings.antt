@@ -23,9 +23,11 @@ use Rattle.spx_report.specs.declared.report.Findings.{Findings}
 abbrev pub is_closed : Condition → Bool
 is_closed c = closes c.hyps (goal_of c.goals)
 
+-- whether a condition still needs a proof
 abbrev pub is_left : Condition → Bool
 is_left c = not (is_closed c)
 
+-- the word for what a condition is of
 abbrev pub kind_text : CondKind → List ℕ
 kind_text Division = codes "division"
 kind_text Overflow = codes "overflow"
@@ -38,6 +40,7 @@ kind_text Check = codes "check"
 unfoldable pub unproved_named : List ℕ → CondKind → Place → Finding
 unproved_named name kind place = record { place = place; rule = V1; text = codes "unproved: " ++ (name ++ (codes " " ++ kind_text kind)) }
 
+-- the finding on a condition that is left
 abbrev pub unproved : Condition → Finding
 unproved c = unproved_named c.name c.kind c.place
 
@@ -53,6 +56,7 @@ row_of n conditions = record { sub = record { 0 = n }; total = length conditions
 abbrev pub row_at : Program → SubId → Option SubRow
 row_at p id = option_map (λ (sub : Sub). row_of id.0 (conditions_of p sub)) (slice_get p.subs id.0)
 
+-- the findings on the conditions of a program, and a row for each body
 unfoldable pub findings_of : Program → Findings
 findings_of p = record {
   lines = flat_map (λ sub. unproved_of (conditions_of p sub)) (bodies_of p);
@@ -65,6 +69,7 @@ findings_of p = record {
 abbrev pub limit_of : Program → Sub → Option LimitName
 limit_of p sub = if has_many_paths sub then Some Paths else (if has_large_condition p sub then Some Nodes else None)
 
+-- the first limit, if there is one, and else the other
 abbrev pub or_else : Option LimitName → Option LimitName → Option LimitName
 or_else (Some name) other = Some name
 or_else None other = other
@@ -80,10 +85,12 @@ first_limit p = first_limit_in p (bodies_of p)
 
 -- ---- what one body adds to that: nothing where no subprogram has its id
 
+-- the findings on the conditions of a body
 abbrev pub lines_at : Program → Option Sub → List Finding
 lines_at p (Some sub) = unproved_of (conditions_of p sub)
 lines_at p None = []
 
+-- the limit that the conditions of a body pass
 abbrev pub limit_at : Program → Option Sub → Option LimitName
 limit_at p (Some sub) = limit_of p sub
 limit_at p None = None

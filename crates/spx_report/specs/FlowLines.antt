@@ -14,6 +14,7 @@ use Rattle.spx_report.specs.Report.{code}
 
 -- ---- texts
 
+-- the name of a variable; without a variable, nothing
 abbrev pub name_in : Option Var → List ℕ
 name_in (Some var) = var.name
 name_in None = []
@@ -42,6 +43,7 @@ text_before (x ∷ xs) (y ∷ ys) = nat_lt x y || (nat_eq x y && text_before xs 
 abbrev pub place_before : Place → Place → Bool
 place_before a b = nat_lt a.file b.file || (nat_eq a.file b.file && (nat_lt a.line b.line || (nat_eq a.line b.line && nat_lt a.column b.column)))
 
+-- two texts have the same bytes
 abbrev pub same_text : List ℕ → List ℕ → Bool
 same_text [] [] = true
 same_text [] (y ∷ ys) = false

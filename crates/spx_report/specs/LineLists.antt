@@ -18,12 +18,15 @@ AreFindingsIn p subs found = (f : FlowFinding) → Contains found f ↔ Any (λ 
 
 -- ---- the order of lines, as comparisons
 
+-- places by file, then line, then column
 abbrev pub place_cmp : Place → Place → Ordering
 place_cmp a b = ordering_then (ordering_then (nat_cmp a.file b.file) (nat_cmp a.line b.line)) (nat_cmp a.column b.column)
 
+-- texts by their bytes, as in a dictionary
 abbrev pub text_cmp : List ℕ → List ℕ → Ordering
 text_cmp = slice_cmp nat_cmp
 
+-- findings by place, then rule, then text
 abbrev pub line_cmp : Finding → Finding → Ordering
 line_cmp a b = ordering_then (ordering_then (place_cmp a.place b.place) (text_cmp (code a.rule) (code b.rule))) (text_cmp a.text b.text)
 

@@ -55,13 +55,16 @@ place_text names place = spot_text names place ++ codes ": "
 unfoldable pub finding_line : List (List ℕ) → Finding → List ℕ
 finding_line names f = place_text names f.place ++ (code f.rule ++ (codes " " ++ (f.text ++ codes "\n")))
 
+-- the lines of these findings, in their order
 abbrev pub finding_lines : List (List ℕ) → List Finding → List ℕ
 finding_lines names fs = flat_map (finding_line names) fs
 
+-- the name of a subprogram; without a subprogram, nothing
 abbrev pub name_or_none : Option Sub → List ℕ
 name_or_none (Some sub) = sub.name.name.text
 name_or_none None = []
 
+-- the name of the subprogram with this id
 abbrev pub sub_name : Program → SubId → List ℕ
 sub_name p s = name_or_none (slice_get p.subs s.0)
 
@@ -81,6 +84,7 @@ open_counts row = counted row.scripted (codes " scripted, ") ++ counted row.left
 unfoldable pub row_line : Program → SubRow → List ℕ
 row_line p row = sub_name p row.sub ++ (codes ": " ++ (closed_counts row ++ open_counts row))
 
+-- the lines of these rows, one for each body
 abbrev pub row_lines : Program → List SubRow → List ℕ
 row_lines p rows = flat_map (row_line p) rows
 

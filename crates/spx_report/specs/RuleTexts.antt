@@ -25,5 +25,6 @@ breach_text rule.U8 = codes "mode disagrees with derives"
 breach_text rule.U11 = codes "name not allowed in this annotation"
 breach_text _ = []
 
+-- the finding on a broken rule
 abbrev pub breach_finding : Breach → Finding
 breach_finding breach = record { place = breach.place; rule = breach.rule; text = breach_text breach.rule }
