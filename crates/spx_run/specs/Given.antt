@@ -31,6 +31,7 @@ is_word = str_eq_ignore_ascii_case
 abbrev pub entry_named : Program → List ℕ → Option ℕ
 entry_named p name = position (λ (sub : Sub). is_word sub.name.name.text name) p.subs
 
+-- the name of a variable; without a variable, nothing
 abbrev pub name_in : Option Var → List ℕ
 name_in (Some var) = var.name
 name_in None = []
@@ -43,6 +44,7 @@ var_name p v = name_in (slice_get p.vars v.0)
 abbrev pub import_named : Program → Sub → List ℕ → Option VarId
 import_named p sub name = find (λ v. imports v sub && is_word (var_name p v) name) (formals sub)
 
+-- the two are one variable
 abbrev pub same_var : VarId → VarId → Bool
 same_var v w = v.0 == w.0
 
@@ -60,6 +62,7 @@ written Enumeration given = None
 abbrev pub in_type : Subtype → Value → Option Value
 in_type subtype x = if is_in subtype x then Some x else None
 
+-- the value that a line gives to an import of this type, if it is one of its values
 abbrev pub typed : Subtype → InputValue → Option Value
 typed subtype given = option_and_then (in_type subtype) (written subtype.base.class given)
 

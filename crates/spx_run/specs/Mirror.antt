@@ -28,6 +28,7 @@ use Rattle.spx_run.specs.Inputs.{IsLine}
 abbrev pub IsNatural : Token → Type 0
 IsNatural t = (n : ℕ) × (t.number ≡ pos n)
 
+-- the numbers of these tokens are not negative
 abbrev pub AreNatural : List Token → Type 0
 AreNatural tokens = All IsNatural tokens
 

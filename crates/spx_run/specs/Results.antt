@@ -35,6 +35,7 @@ output_of p s v = option_map (λ x. record { name = var_name p v; value = x }) (
 abbrev pub outputs : Program → Sub → Store → List Output
 outputs p sub s = filter_map (λ v. if exports v sub then output_of p s v else None) (formals sub)
 
+-- what a call that ends like this comes to
 abbrev pub ended_as : Program → Sub → (turns : ℕ) → runs.Outcome → RunResult
 ended_as p sub turns (runs.Ended s) = Ended (outputs p sub s)
 ended_as p sub turns (runs.Left s) = Ended (outputs p sub s)
@@ -50,10 +51,12 @@ abbrev pub after_findings : Program → Sub → (turns : ℕ) → List InputLine
 after_findings p sub turns lines [] = result_of_call p sub turns (store_with p sub lines (unset_store p))
 after_findings p sub turns lines (finding ∷ more) = Refused (finding ∷ more)
 
+-- what a run of this subprogram with these inputs comes to
 abbrev pub result_on : Program → Option Sub → (turns file : ℕ) → List InputLine → RunResult
 result_on p (Some sub) turns file lines = after_findings p sub turns lines (findings_of p sub (unset_store p) file lines)
 result_on p None turns file lines = Refused []
 
+-- what a run of the subprogram at this position comes to; without a position, no subprogram has the name
 abbrev pub result_at : Program → (name : List ℕ) → (turns file : ℕ) → List InputLine → Option ℕ → RunResult
 result_at p name turns file lines (Some k) = result_on p (slice_get p.subs k) turns file lines
 result_at p name turns file lines None = Refused (NoSubprogram name ∷ [])
@@ -74,6 +77,7 @@ value_text (value.Truth b) = if b then codes "True" else codes "False"
 unfoldable pub output_line : Output → List ℕ
 output_line output = output.name ++ (codes " = " ++ (value_text output.value ++ codes "\n"))
 
+-- the word for the check that a run fails
 abbrev pub bad_text : BadKind → List ℕ
 bad_text bad.Division = codes "division"
 bad_text bad.Overflow = codes "overflow"
