@@ -20,6 +20,7 @@ MayHold known (name ∷ names) (bytes ∷ contents) = IfSome (known name) (λ gi
 abbrev pub is_too_long : List ℕ → Bool
 is_too_long content = nat_lt 4194304 (length content)
 
+-- one of the files is too long
 abbrev pub any_too_long : List (List ℕ) → Bool
 any_too_long contents = list_any is_too_long contents
 
@@ -53,5 +54,6 @@ AreTooLong contents = any_too_long contents ≡ true
 abbrev pub OneFailed : List (List ℕ) → List (List ℕ) → List (List ℕ) → Type 0
 OneFailed names before now = (name : List ℕ) × Contains names name × (now ≡ before ++ name ∷ [])
 
+-- the bytes of the files that were loaded
 abbrev pub contents_of : List (Vec ℕ Global) → List (List ℕ)
 contents_of loaded = map (λ bytes. bytes.items) loaded

@@ -3,6 +3,7 @@ use Rattle.std.specs.Prelude.{ℕ}
 use Rattle.spx_examiner.specs.declared.status.Status.{Status}
 use Rattle.spx_examiner.specs.declared.status.Status.TheVariants.{Accepted, Refused, Usage, ReadFault, WriteFault, NoMemory, Limit, RunFault, NotEnded}
 
+-- the exit status of the program
 abbrev pub code_of : Status → ℕ
 code_of Accepted = 0
 code_of Refused = 1

@@ -64,6 +64,7 @@ OneListOfInputs = (bytes : List ℕ) (a b : Result (List InputLine) ℕ) → Are
 abbrev pub OneProgram : Type 0
 OneProgram = (p q : Program) → Visible p → Visible q → erased p ≡ erased q → p ≡ q
 
+-- that there is at most one judgement rests on these: lexis, syntax, rules and lines have each at most one outcome
 pub record Laws : Type 0 where
   pub spelling : OneSpelling
   pub stop : OneStop
@@ -103,6 +104,7 @@ SomeListOfLines = (p : Program) → (lines : List Finding) × AreFlowLines p lin
 abbrev pub SomeListOfInputs : Type 0
 SomeListOfInputs = (bytes : List ℕ) → (read : Result (List InputLine) ℕ) × AreInputs bytes read
 
+-- that there is a judgement rests on these: they have each at least one outcome
 pub record LawsOfExistence : Type 0 where
   pub spelling : SomeSpelling
   pub answer : SomeAnswer

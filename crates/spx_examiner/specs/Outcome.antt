@@ -175,9 +175,11 @@ AreSound contents = (p : Program) × Is contents p × Obeys p × (has_many_varia
 abbrev pub EndsWell : Request → List (List ℕ) → Type 0
 EndsWell r contents = (outputs : List Output) × ComesTo r contents (result.Ended outputs)
 
+-- the run that is asked for ends with a fault
 abbrev pub EndsBadly : Request → List (List ℕ) → Type 0
 EndsBadly r contents = (fault : Bad) × ComesTo r contents (result.Faulted fault)
 
+-- the run that is asked for has not ended within its turns
 abbrev pub HasNotEnded : Request → List (List ℕ) → Type 0
 HasNotEnded r contents = (turns : ℕ) × ComesTo r contents (result.NotEnded turns)
 
@@ -205,9 +207,11 @@ PassLimit words contents = (r : Request) × (asked words ≡ Some r) × PassesLi
 abbrev pub Stand : (Request → List (List ℕ) → Type 0) → List (List ℕ) → List (List ℕ) → Type 0
 Stand P words contents = (r : Request) × (asked words ≡ Some r) × (¬ PassesLimit r contents) × P r contents
 
+-- no limit is passed, and the contents are as they must be for what is asked
 abbrev pub AreAcceptable : List (List ℕ) → List (List ℕ) → Type 0
 AreAcceptable words contents = Stand AreGoodFor words contents
 
+-- no limit is passed, and the contents are not as they must be for what is asked
 abbrev pub AreRefusable : List (List ℕ) → List (List ℕ) → Type 0
 AreRefusable words contents = Stand AreBadFor words contents
 

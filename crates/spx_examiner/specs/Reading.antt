@@ -24,11 +24,13 @@ rule_of bad_byte = rule.L1
 rule_of bad_number = rule.L2
 rule_of too_wide = rule.L3
 
+-- what is printed of the cause
 abbrev pub words_of : Cause → List ℕ
 words_of bad_byte = codes "bad byte"
 words_of bad_number = codes "bad number"
 words_of too_wide = codes "number too wide"
 
+-- the finding on a text that is stopped here
 abbrev pub stopped_at : Cause → Place → Finding
 stopped_at cause place = record { place = place; rule = rule_of cause; text = words_of cause }
 
