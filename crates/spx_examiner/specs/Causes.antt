@@ -2,6 +2,7 @@
 use Rattle.std.specs.Prelude.{◌≡◌, ◌≢◌, ◌↔◌, true, ℕ, Bool, nat_lt, length, List, [], ◌∷◌, ◌++◌, map, Contains, Option, Some, IfSome, option_map, unwrap_or, Vec}
 use Rattle.std.specs.Global.{Global}
 use Rattle.std.specs.List.{list_any}
+use Rattle.spx_text.specs.Limits.{most_bytes}
 use Rattle.spx_examiner.specs.declared.status.Status.{Status}
 use Rattle.spx_examiner.specs.declared.status.Status.TheVariants.{ReadFault, WriteFault, NoMemory}
 use Rattle.spx_examiner.specs.Words.{asked, files_in}
@@ -18,7 +19,7 @@ MayHold known (name ∷ names) (bytes ∷ contents) = IfSome (known name) (λ gi
 
 -- a file has more bytes than it may have
 abbrev pub is_too_long : List ℕ → Bool
-is_too_long content = nat_lt 4194304 (length content)
+is_too_long content = nat_lt most_bytes (length content)
 
 -- one of the files is too long
 abbrev pub any_too_long : List (List ℕ) → Bool

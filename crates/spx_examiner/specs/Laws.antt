@@ -8,8 +8,8 @@ use Rattle.spx_tree.specs.Stops.{Cause, StopsAt}
 use Rattle.spx_tree.specs.Form.{Form, forms_of}
 use Rattle.spx_tree.specs.Written.{written}
 use Rattle.spx_tree.specs.Grammar.{IsFile}
-use Rattle.spx_tree.specs.Goes.{Fault, Answers}
-use Rattle.spx_tree.specs.Stops.{HasMoreTokens}
+use Rattle.spx_tree.specs.Goes.{Fault, Answers, most_levels}
+use Rattle.spx_tree.specs.Stops.{HasMoreTokens, most_tokens}
 use Rattle.spx_core.specs.declared.program.Program.{Program}
 use Rattle.spx_core.specs.Erased.{erased}
 use Rattle.spx_core.specs.Erased.{Visible}
@@ -38,7 +38,7 @@ Parsed = Result (List Unit × List Form) Fault
 
 -- tokens have one answer
 abbrev pub OneAnswer : Type 0
-OneAnswer = (source : List ℕ) (tokens : List Token) (a b : Parsed) → Answers written IsFile 200 (forms_of source tokens) a → Answers written IsFile 200 (forms_of source tokens) b → a ≡ b
+OneAnswer = (source : List ℕ) (tokens : List Token) (a b : Parsed) → Answers written IsFile most_levels (forms_of source tokens) a → Answers written IsFile most_levels (forms_of source tokens) b → a ≡ b
 
 -- files that are written with the same forms are one
 abbrev pub OneTree : Type 0
@@ -81,12 +81,12 @@ pub record Laws : Type 0 where
 -- a text has tokens, or it is stopped, or it has too many tokens before that
 abbrev pub SomeSpelling : Type 0
 SomeSpelling = (file : ℕ) (bytes : List ℕ) →
-    ((tokens : List Token) × Spells file bytes tokens × (¬ HasMoreTokens 1000000 file bytes))
-    ⊎ (((cause : Cause) × (place : Place) × StopsAt file bytes cause place × (¬ HasMoreTokens 1000000 file bytes)) ⊎ HasMoreTokens 1000000 file bytes)
+    ((tokens : List Token) × Spells file bytes tokens × (¬ HasMoreTokens most_tokens file bytes))
+    ⊎ (((cause : Cause) × (place : Place) × StopsAt file bytes cause place × (¬ HasMoreTokens most_tokens file bytes)) ⊎ HasMoreTokens most_tokens file bytes)
 
 -- tokens have an answer
 abbrev pub SomeAnswer : Type 0
-SomeAnswer = (source : List ℕ) (tokens : List Token) → (answer : Parsed) × Answers written IsFile 200 (forms_of source tokens) answer
+SomeAnswer = (source : List ℕ) (tokens : List Token) → (answer : Parsed) × Answers written IsFile most_levels (forms_of source tokens) answer
 
 -- units that break no rule on names or types are a program
 abbrev pub SomeProgram : Type 0

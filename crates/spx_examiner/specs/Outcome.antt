@@ -140,7 +140,7 @@ SomeOutcome = (words contents : List (List ℕ)) → length contents ≡ length 
 
 -- ---- answers, by the words and the contents alone
 
--- the text of the program has too many tokens, or passes 200 levels before anything else breaks it
+-- the text of the program has too many tokens, or passes the levels of nesting before anything else breaks it
 abbrev pub IsReadTooFar : List (List ℕ) → Type 0
 IsReadTooFar [] = ⊥
 IsReadTooFar (bytes ∷ inputs) = IsRead bytes TooManyTokens ⊎ IsRead bytes TooNested

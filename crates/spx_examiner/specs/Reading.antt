@@ -10,8 +10,8 @@ use Rattle.spx_tree.specs.Form.{Form, forms_of}
 use Rattle.spx_tree.specs.Written.{written}
 use Rattle.spx_tree.specs.Grammar.{IsFile}
 use Rattle.spx_tree.specs.Goes as goes
-use Rattle.spx_tree.specs.Goes.{place_with}
-use Rattle.spx_tree.specs.Stops.{HasMoreTokens}
+use Rattle.spx_tree.specs.Goes.{most_levels, place_with}
+use Rattle.spx_tree.specs.Stops.{HasMoreTokens, most_tokens}
 use Rattle.spx_core.specs.declared.rule.RuleName.{RuleName}
 use Rattle.spx_core.specs.declared.rule.RuleName.TheVariants as rule
 use Rattle.spx_report.specs.declared.report.Finding.{Finding}
@@ -41,18 +41,18 @@ expected_at place = record { place = place; rule = rule.P1; text = codes "expect
 -- The longest front of the forms that begins a file ends where so many are left, and it is no file or not all of them.
 abbrev pub GoesNoFurther : List Form → ℕ → Type 0
 GoesNoFurther fs left =
-    goes.IsExpected written IsFile 200 fs left
-    ⊎ ((f : Form) × (rest : List Form) × (units : List Unit) × goes.IsText written IsFile 200 fs (f ∷ rest) units × (left ≡ length (f ∷ rest)))
+    goes.IsExpected written IsFile most_levels fs left
+    ⊎ ((f : Form) × (rest : List Form) × (units : List Unit) × goes.IsText written IsFile most_levels fs (f ∷ rest) units × (left ≡ length (f ∷ rest)))
 
--- these are the tokens of the text, which are at most 1000000
+-- these are the tokens of the text, which are not too many
 pub record AreTokens (bytes : List ℕ) (tokens : List Token) : Type 0 where
   pub spelled : Spells 0 bytes tokens
-  pub few : ¬ HasMoreTokens 1000000 0 bytes
+  pub few : ¬ HasMoreTokens most_tokens 0 bytes
 
--- Lexis comes first, up to 1000000 tokens, and then syntax, within 200 levels.
+-- Lexis comes first, up to `most_tokens` tokens, and then syntax, within `most_levels` levels.
 pub data IsRead (bytes : List ℕ) (reading : Reading) : Type 0 where
-  crowded : HasMoreTokens 1000000 0 bytes → reading ≡ TooManyTokens → IsRead bytes reading
-  stopped : (cause : Cause) (place : Place) → StopsAt 0 bytes cause place → ¬ HasMoreTokens 1000000 0 bytes → reading ≡ Broken (stopped_at cause place) → IsRead bytes reading
+  crowded : HasMoreTokens most_tokens 0 bytes → reading ≡ TooManyTokens → IsRead bytes reading
+  stopped : (cause : Cause) (place : Place) → StopsAt 0 bytes cause place → ¬ HasMoreTokens most_tokens 0 bytes → reading ≡ Broken (stopped_at cause place) → IsRead bytes reading
   ended : (tokens : List Token) (left : ℕ) → AreTokens bytes tokens → GoesNoFurther (forms_of bytes tokens) left → reading ≡ Broken (expected_at (place_with (place_after_bytes 0 bytes) tokens left)) → IsRead bytes reading
-  nested : (tokens : List Token) (left : ℕ) → AreTokens bytes tokens → goes.IsTooDeep written IsFile 200 (forms_of bytes tokens) left → reading ≡ TooNested → IsRead bytes reading
-  whole : (tokens : List Token) (units : List Unit) → AreTokens bytes tokens → goes.IsText written IsFile 200 (forms_of bytes tokens) [] units → reading ≡ Units units → IsRead bytes reading
+  nested : (tokens : List Token) (left : ℕ) → AreTokens bytes tokens → goes.IsTooDeep written IsFile most_levels (forms_of bytes tokens) left → reading ≡ TooNested → IsRead bytes reading
+  whole : (tokens : List Token) (units : List Unit) → AreTokens bytes tokens → goes.IsText written IsFile most_levels (forms_of bytes tokens) [] units → reading ≡ Units units → IsRead bytes reading

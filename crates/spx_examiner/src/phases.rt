@@ -1,5 +1,6 @@
 // From units to what there is to report, phase by phase.
 ghost use Rattle.std.specs.Prelude.{◌≡◌, ◌≢◌, ◌≤◌, ℕ, false, List, [], ◌∷◌, length, Ok, Err, IfOk, IfSome, IsErrOf, IsNone};
+ghost use Rattle.spx_text.specs.Limits.{most_bytes};
 ghost use Rattle.spx_text.specs.declared.place.Place.{Place};
 ghost use Rattle.spx_core.specs.Contents.{IsMadeFrom};
 ghost use Rattle.spx_core.specs.Erased.{Visible};
@@ -210,7 +211,7 @@ pub fn judge(
     source: &[u8],
     given: &[Vec<u8>],
 ) -> Result<Judgement, AllocError>
-    requires source { length source.now ≤ 4194304 }
+    requires source { length source.now ≤ most_bytes }
     requires given { any_too_long (contents_of given.now) ≡ false }
     ensures { IfOk result (IsReportOn (request_of command.now) (source.now ∷ contents_of given.now)) }
 {

@@ -1,5 +1,6 @@
 // From the bytes of a file to its units, or to what keeps it from having any.
 ghost use Rattle.std.specs.Prelude.{◌≡◌, ◌≤◌, length, IfOk};
+ghost use Rattle.spx_text.specs.Limits.{most_bytes};
 ghost use Rattle.spx_tree.specs.Mirror.{AreWithin};
 ghost use Rattle.spx_tree.specs.Places.{place_after_bytes};
 ghost use Rattle.spx_examiner.specs.Reading.{AreTokens, IsRead, expected_at};
@@ -66,7 +67,7 @@ fn stopped(alloc: Global, place: Place, rule: RuleName, text: &[u8]) -> Result<R
 
 /// What lexis and syntax say of the text of a file.
 pub fn read(alloc: Global, source: &[u8]) -> Result<Reading, AllocError>
-    requires { length source.now ≤ 4194304 }
+    requires { length source.now ≤ most_bytes }
     ensures { IfOk result (IsRead source.now) }
 {
     match lex(alloc, 0, source) {

@@ -1,7 +1,7 @@
 -- What a fault of the lexer says of a text.
 use Rattle.std.specs.Prelude.{ℕ, List}
 use Rattle.spx_text.specs.declared.place.Place.{Place}
-use Rattle.spx_tree.specs.Stops.{Cause as Reason, bad_byte, bad_number, too_wide, StopsAt, HasMoreTokens}
+use Rattle.spx_tree.specs.Stops.{Cause as Reason, bad_byte, bad_number, too_wide, StopsAt, HasMoreTokens, most_tokens}
 use Rattle.spx_lexer.specs.declared.lexer.pieces.Cause.{Cause}
 use Rattle.spx_lexer.specs.declared.lexer.pieces.Cause.TheVariants as cause
 use Rattle.spx_lexer.specs.declared.lexer.LexFault.{LexFault}
@@ -20,8 +20,8 @@ fault_of too_wide place = fault.TooWide place
 
 -- the text of a file is stopped as the fault says and has no token too many, or has one; running out of memory says nothing
 abbrev pub IsFaultOf : ℕ → List ℕ → LexFault → Type 0
-IsFaultOf file bytes (fault.BadByte place) = StopsAt file bytes bad_byte place × (¬ HasMoreTokens 1000000 file bytes)
-IsFaultOf file bytes (fault.BadNumber place) = StopsAt file bytes bad_number place × (¬ HasMoreTokens 1000000 file bytes)
-IsFaultOf file bytes (fault.TooWide place) = StopsAt file bytes too_wide place × (¬ HasMoreTokens 1000000 file bytes)
-IsFaultOf file bytes fault.TooMany = HasMoreTokens 1000000 file bytes
+IsFaultOf file bytes (fault.BadByte place) = StopsAt file bytes bad_byte place × (¬ HasMoreTokens most_tokens file bytes)
+IsFaultOf file bytes (fault.BadNumber place) = StopsAt file bytes bad_number place × (¬ HasMoreTokens most_tokens file bytes)
+IsFaultOf file bytes (fault.TooWide place) = StopsAt file bytes too_wide place × (¬ HasMoreTokens most_tokens file bytes)
+IsFaultOf file bytes fault.TooMany = HasMoreTokens most_tokens file bytes
 IsFaultOf file bytes fault.Memory = Unit {0}

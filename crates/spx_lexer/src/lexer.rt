@@ -1,6 +1,7 @@
 // From bytes to tokens.
 ghost use Rattle.std.specs.Prelude.{◌≡◌, ◌⊎◌, ◌≤◌, ◌<◌, ◌+◌, ◌++◌, ◌^◌, nat_lt, List, length, OnOk, IfOk, IfErr, IsErrAnd, MatchResult};
 ghost use Rattle.std.specs.List.{All};
+ghost use Rattle.spx_text.specs.Limits.{most_bytes};
 ghost use Rattle.spx_text.specs.declared.place.Place.{Place};
 ghost use Rattle.spx_tree.specs.declared.token.Token.{Token};
 ghost use Rattle.spx_tree.specs.Places.{place_after_bytes};
@@ -10,7 +11,7 @@ ghost use Rattle.spx_tree.specs.Stops.{Cause as Reason, StopsAt};
 ghost use Rattle.spx_lexer.specs.declared.lexer.LexFault.TheVariants.{TooMany, Memory};
 ghost use Rattle.spx_lexer.specs.Faults as faults;
 ghost use Rattle.spx_lexer.specs.Faults.{IsFaultOf};
-ghost use Rattle.spx_tree.specs.Stops.{HasMoreTokens};
+ghost use Rattle.spx_tree.specs.Stops.{HasMoreTokens, most_tokens};
 ghost use Rattle.spx_lexer.specs.Positions as spec;
 
 mod delimiters;
@@ -77,8 +78,8 @@ fn fault_of(cause: Cause, place: Place) -> LexFault
 
 // Whether a piece is a token, and one too many after `count` others.
 fn is_too_many(count: usize, piece: Piece) -> bool
-    requires { count ≤ 1000000 }
-    ensures { result ≡ nat_lt 1000000 (count + spec.count_of piece.what) }
+    requires { count ≤ most_tokens }
+    ensures { result ≡ nat_lt most_tokens (count + spec.count_of piece.what) }
 {
     match piece.what {
         What::Lexeme(..) => count >= MOST_TOKENS,
@@ -109,22 +110,22 @@ fn add(tokens: &mut Vec<Token>, at: Position, piece: Piece) -> Result<(), AllocE
 
 /// The tokens that spell the text of a file.
 pub fn lex(alloc: Global, file: u32, source: &[u8]) -> Result<Tokens<'_>, LexFault>
-    requires { length source.now ≤ 4194304 }
+    requires { length source.now ≤ most_bytes }
     ensures source { IfOk result (λ answer. answer.source.now ≡ source.now) }
 
     // The answer is the tokens of the text, which are not too many.
     ensures tokens { IfOk result (λ answer. Spells file source.now answer.list.items) }
     ensures within { IfOk result (λ answer. All (IsWithin (length source.now)) answer.list.items) }
-    ensures few { IfOk result (λ answer. ¬ HasMoreTokens 1000000 file source.now) }
+    ensures few { IfOk result (λ answer. ¬ HasMoreTokens most_tokens file source.now) }
     ensures end { IfOk result (λ answer. answer.end ≡ place_after_bytes file source.now) }
 
     // Where tokens spell the text and are not too many, they are the answer, unless memory runs out.
-    ensures spelled { (tokens : List Token) → Spells file source.now tokens → ¬ HasMoreTokens 1000000 file source.now → MatchResult result (λ answer. answer.list.items ≡ tokens) (λ fault. fault ≡ Memory) }
+    ensures spelled { (tokens : List Token) → Spells file source.now tokens → ¬ HasMoreTokens most_tokens file source.now → MatchResult result (λ answer. answer.list.items ≡ tokens) (λ fault. fault ≡ Memory) }
 
     // A fault says where and why the text is stopped, or that it has too many tokens, and such a text gives that fault.
     ensures refused { IfErr result (IsFaultOf file source.now) }
-    ensures stopped { (reason : Reason) (place : Place) → StopsAt file source.now reason place → ¬ HasMoreTokens 1000000 file source.now → IsErrAnd result (λ fault. (fault ≡ faults.fault_of reason place) ⊎ (fault ≡ Memory)) }
-    ensures crowded { HasMoreTokens 1000000 file source.now → IsErrAnd result (λ fault. (fault ≡ TooMany) ⊎ (fault ≡ Memory)) }
+    ensures stopped { (reason : Reason) (place : Place) → StopsAt file source.now reason place → ¬ HasMoreTokens most_tokens file source.now → IsErrAnd result (λ fault. (fault ≡ faults.fault_of reason place) ⊎ (fault ≡ Memory)) }
+    ensures crowded { HasMoreTokens most_tokens file source.now → IsErrAnd result (λ fault. (fault ≡ TooMany) ⊎ (fault ≡ Memory)) }
 {
     let mut list = Vec::with_capacity(alloc, source.len().min(MOST_TOKENS))?;
     let mut at = Position {

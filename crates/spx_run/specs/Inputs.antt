@@ -5,7 +5,7 @@ use Rattle.spx_tree.specs.declared.token.Kind.TheVariants as kind
 use Rattle.spx_tree.specs.declared.token.Token.{Token}
 use Rattle.spx_tree.specs.Form.{spelling}
 use Rattle.spx_tree.specs.Spells.{Spells}
-use Rattle.spx_tree.specs.Stops.{HasMoreTokens}
+use Rattle.spx_tree.specs.Stops.{HasMoreTokens, most_tokens}
 use Rattle.spx_run.specs.declared.inputs.InputValue.{InputValue}
 use Rattle.spx_run.specs.declared.inputs.InputValue.TheVariants.{Number, Word}
 use Rattle.spx_run.specs.declared.inputs.InputLine.{InputLine}
@@ -22,13 +22,13 @@ pub data IsValue (source : List ℕ) (tokens : List Token) (value : InputValue) 
   negative : (minus t : Token) → IsToken kind.Minus minus → IsToken kind.Number t → tokens ≡ minus ∷ t ∷ [] → value ≡ Number (pos 0 -ℤ t.number) → IsValue source tokens value
   word : (t : Token) → IsToken kind.Identifier t → tokens ≡ t ∷ [] → value ≡ Word (spelling source t) → IsValue source tokens value
 
--- The bytes of a line spell `NAME = VALUE`, within a million tokens.
+-- The bytes of a line spell `NAME = VALUE`, within the tokens that a text may have.
 pub record IsLine (bytes : List ℕ) (line : InputLine) : Type 0 where
   pub name : Token
   pub equal : Token
   pub value : List Token
   pub spelled : Spells 0 bytes (name ∷ equal ∷ value)
-  pub few : ¬ HasMoreTokens 1000000 0 bytes
+  pub few : ¬ HasMoreTokens most_tokens 0 bytes
   pub is_name : IsToken kind.Identifier name
   pub is_equal : IsToken kind.Equal equal
   pub named : line.name ≡ spelling bytes name

@@ -1,6 +1,7 @@
 // Reading of inputs.
 ghost use Rattle.std.specs.Prelude.{◌≡◌, ◌<◌, ◌≤◌, ℕ, ◌==◌, length, take, Ok, Err, IfOk, IfSome, IsErrOf};
 ghost use Rattle.std.specs.List.{position};
+ghost use Rattle.spx_text.specs.Limits.{most_bytes};
 ghost use Rattle.spx_text.specs.declared.place.Place.{Place};
 ghost use Rattle.spx_run.specs.Inputs.{AreInputs};
 ghost use Rattle.spx_run.specs.Mirror.{line_len};
@@ -99,7 +100,7 @@ fn first_line(bytes: &[u8]) -> &[u8]
 
 /// The inputs that the text of a file gives.
 pub fn read_inputs(alloc: Global, file: u32, source: &[u8]) -> Result<Inputs, InputFault>
-    requires { length source.now ≤ 4194304 }
+    requires { length source.now ≤ most_bytes }
     ensures lines { IfOk result (λ inputs. AreInputs source.now (Ok inputs.lines)) }
     ensures bad { (place : Place) → IsErrOf result (BadLine place) → AreInputs source.now (Err place.line) × (place ≡ record { file = file; line = place.line; column = 1 }) }
 {

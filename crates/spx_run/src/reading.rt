@@ -1,5 +1,6 @@
 // Lines of inputs, as the lexemes of the language.
 ghost use Rattle.std.specs.Prelude.{◌≡◌, ◌≤◌, length, true, IfOk};
+ghost use Rattle.spx_text.specs.Limits.{most_bytes};
 ghost use Rattle.spx_tree.specs.Form.{spelling};
 ghost use Rattle.spx_tree.specs.Mirror.{AreWithin, IsWithin};
 ghost use Rattle.spx_run.specs.Mirror as spec;
@@ -133,7 +134,7 @@ pub(crate) fn read_line(
     number: u32,
     bytes: &[u8],
 ) -> Result<Option<InputLine>, AllocError>
-    requires { length bytes.now ≤ 4194304 }
+    requires { length bytes.now ≤ most_bytes }
     ensures { IfOk result (IsReadAs number bytes.now) }
 {
     one_spelling();
