@@ -1,10 +1,14 @@
 -- Contents that are loaded one after another.
-use Rattle.std.proofs.Common.{◌≡◌, ℕ, zero, suc, ◌<◌, true, List, [], ◌∷◌, ◌++◌, length, map, take, get_or, replicate, Option, Some, None, IfSome, unwrap_or, nat_lt, Vec, String, string_bytes, refl, ap, ap₂, subst, ◌∙◌, arith}
+use Rattle.std.proofs.Common.{sym, drop, ◌≡◌, ℕ, zero, suc, ◌<◌, true, List, [], ◌∷◌, ◌++◌, length, map, take, get_or, replicate, Option, Some, None, IfSome, unwrap_or, nat_lt, Vec, String, string_bytes, refl, ap, ap₂, subst, ◌∙◌, arith}
 use Rattle.std.specs.Global.{Global}
 use Rattle.std.proofs.lemmas.Bool.Decides.{nat_tests}
-use Rattle.std.proofs.lemmas.List.{length-replicate}
+use Rattle.std.proofs.lemmas.List.{length-replicate, map-append, append_assoc}
+use Rattle.std.proofs.lemmas.List.Elements.{All-push}
+use Rattle.std.proofs.Math.Seq.{take-suc}
+use Rattle.std.specs.Prelude.{false}
+use Rattle.std.specs.List.{All}
 use Rattle.spx_text.specs.Loads.{names, Appends}
-use Rattle.spx_examiner.specs.Causes.{ForFiles, MayHold, AreKnown, contents_of, is_too_long, any_too_long, named}
+use Rattle.spx_examiner.specs.Causes.{ForFiles, MayHold, AreKnown, contents_of, is_too_long, any_too_long, IsShort, EndedAt, named}
 
 -- ---- what files may hold
 
@@ -84,3 +88,46 @@ long_file = (replicate 4194305 0, too_many 4194305 refl)
 pub too_long_at : (known : List ℕ → Option (List ℕ)) (words : List (String Global)) (i : ℕ) (d : String Global) → i < length words → IfSome (known (string_bytes (get_or words i d))) (λ given. 4194304 < length given) → (contents : List (List ℕ)) × MayHold known (names words) contents × (any_too_long contents ≡ true)
 too_long_at known words i d below passes =
     (guessed known long_file.0 (names words), guess_holds known long_file.0 (names words), guesses_too_long known long_file.0 words i d long_file.1 below passes)
+
+-- ---- the order of loads
+
+-- what was asked for, with one name more
+pub asked_more : (words : List (String Global)) (i : ℕ) (d : String Global) → i < length words → names (take (suc i) words) ≡ names (take i words) ++ string_bytes (get_or words i d) ∷ []
+asked_more words i d below =
+    ap names (take-suc words i d below) ∙ map-append (λ (s : String Global). string_bytes s) (take i words) (get_or words i d ∷ [])
+
+-- one name more was asked for
+pub asked_again : (before : List (List ℕ)) (words : List (String Global)) (i : ℕ) (d : String Global) (so_far now : List (List ℕ)) → i < length words → so_far ≡ before ++ names (take i words) → now ≡ so_far ++ string_bytes (get_or words i d) ∷ [] → now ≡ before ++ names (take (suc i) words)
+asked_again before words i d so_far now below so last =
+    last ∙ ap (λ l. l ++ string_bytes (get_or words i d) ∷ []) so ∙ append_assoc before (names (take i words)) (string_bytes (get_or words i d) ∷ []) ∙ ap (λ l. before ++ l) (sym (asked_more words i d below))
+
+-- one of them, between those before it and those after it
+pub order_at : (words : List (String Global)) (i : ℕ) (d : String Global) → i < length words → names words ≡ names (take i words) ++ string_bytes (get_or words i d) ∷ names (drop (suc i) words)
+order_at [] i d below = absurd (omega arith)
+order_at (word ∷ words) zero d below = refl
+order_at (word ∷ words) (suc i) d below = ap (λ l. string_bytes word ∷ l) (order_at words i d (omega arith))
+
+-- no more bytes than a file may have
+pub short_of : (known : Option (List ℕ)) (old new : List ℕ) → IfSome known (Appends 4194304 old new) → IfSome known (λ given. is_too_long given ≡ false)
+short_of None old new all = _
+short_of (Some given) old new all = let within = all.within in grind (arith, nat_tests, within)
+
+-- those before are short, and so is this one
+pub short_more : (known : List ℕ → Option (List ℕ)) (words : List (String Global)) (i : ℕ) (d : String Global) → i < length words → All (IsShort known) (names (take i words)) → IsShort known (string_bytes (get_or words i d)) → All (IsShort known) (names (take (suc i) words))
+short_more known words i d below before here =
+    subst (All (IsShort known)) (sym (asked_more words i d below)) (All-push (IsShort known) (names (take i words)) (string_bytes (get_or words i d)) before here)
+
+-- where the work ends
+pub ended_at : (known : List ℕ → Option (List ℕ)) (words : List (String Global)) (i : ℕ) (d : String Global) (before so_far now : List (List ℕ)) → i < length words → All (IsShort known) (names (take i words)) → so_far ≡ before ++ names (take i words) → now ≡ so_far ++ string_bytes (get_or words i d) ∷ [] → EndedAt known (names words) before now (string_bytes (get_or words i d))
+ended_at known words i d before so_far now below short so last =
+    record {
+      earlier = names (take i words);
+      later = names (drop (suc i) words);
+      order = order_at words i d below;
+      asked = last ∙ ap (λ l. l ++ string_bytes (get_or words i d) ∷ []) so ∙ append_assoc before (names (take i words)) (string_bytes (get_or words i d) ∷ []);
+      short = short;
+    }
+
+pub long_here : (known : Option (List ℕ)) → IfSome known (λ given. 4194304 < length given) → IfSome known (λ given. is_too_long given ≡ true)
+long_here None long = _
+long_here (Some given) long = grind (arith, nat_tests, long)

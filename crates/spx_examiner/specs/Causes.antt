@@ -1,7 +1,7 @@
 -- What each answer comes from.
-use Rattle.std.specs.Prelude.{◌≡◌, ◌≢◌, ◌↔◌, true, ℕ, Bool, nat_lt, length, List, [], ◌∷◌, ◌++◌, map, Contains, Option, Some, IfSome, option_map, unwrap_or, Vec}
+use Rattle.std.specs.Prelude.{◌≡◌, ◌≢◌, ◌⊎◌, ◌↔◌, true, false, ℕ, Bool, nat_lt, length, List, [], ◌∷◌, ◌++◌, map, Option, Some, IfSome, option_map, unwrap_or, Vec}
 use Rattle.std.specs.Global.{Global}
-use Rattle.std.specs.List.{list_any}
+use Rattle.std.specs.List.{All, list_any}
 use Rattle.spx_text.specs.Limits.{most_bytes}
 use Rattle.spx_examiner.specs.declared.status.Status.{Status}
 use Rattle.spx_examiner.specs.declared.status.Status.TheVariants.{ReadFault, WriteFault, NoMemory}
@@ -51,10 +51,37 @@ Exactly answer cause status = Concludes status → (status ≡ answer) ↔ cause
 abbrev pub AreTooLong : List (List ℕ) → Type 0
 AreTooLong contents = any_too_long contents ≡ true
 
--- the load of one of these names failed, and no other
-abbrev pub OneFailed : List (List ℕ) → List (List ℕ) → List (List ℕ) → Type 0
-OneFailed names before now = (name : List ℕ) × Contains names name × (now ≡ before ++ name ∷ [])
-
 -- the bytes of the files that were loaded
 abbrev pub contents_of : List (Vec ℕ Global) → List (List ℕ)
 contents_of loaded = map (λ bytes. bytes.items) loaded
+
+-- ---- the order of loads
+
+-- the file of this name is no longer than it may be, where its bytes are known
+abbrev pub IsShort : (List ℕ → Option (List ℕ)) → List ℕ → Type 0
+IsShort known name = IfSome (known name) (λ bytes. is_too_long bytes ≡ false)
+
+-- All of these were asked for, in their order, and none is too long.
+pub record AllLoaded (known : List ℕ → Option (List ℕ)) (names before now : List (List ℕ)) : Type 0 where
+  pub asked : now ≡ before ++ names
+  pub short : All (IsShort known) names
+
+-- The work ended at the load of this one of them: those before it were asked for, in their order, none of which is too long, and none after it was.
+pub record EndedAt (known : List ℕ → Option (List ℕ)) (names before now : List (List ℕ)) (name : List ℕ) : Type 0 where
+  pub earlier : List (List ℕ)
+  pub later : List (List ℕ)
+  pub order : names ≡ earlier ++ name ∷ later
+  pub asked : now ≡ before ++ (earlier ++ name ∷ [])
+  pub short : All (IsShort known) earlier
+
+-- the work ended at a file that is too long
+abbrev pub LongEnded : (List ℕ → Option (List ℕ)) → List (List ℕ) → List (List ℕ) → List (List ℕ) → Type 0
+LongEnded known names before now = (name : List ℕ) × EndedAt known names before now name × IfSome (known name) (λ bytes. is_too_long bytes ≡ true)
+
+-- all of these were loaded, or one is too long, where the work may end so
+abbrev pub AreLoaded : Type 0 → (List ℕ → Option (List ℕ)) → List (List ℕ) → List (List ℕ) → List (List ℕ) → Type 0
+AreLoaded may_end known names before now = AllLoaded known names before now ⊎ (LongEnded known names before now × may_end)
+
+-- The work ended at a load that failed, and no other load failed.
+abbrev pub FailedEnded : (List ℕ → Option (List ℕ)) → List (List ℕ) → List (List ℕ) → List (List ℕ) → List (List ℕ) → List (List ℕ) → Type 0
+FailedEnded known names asked asked_now failed failed_now = (name : List ℕ) × EndedAt known names asked asked_now name × (failed_now ≡ failed ++ name ∷ [])

@@ -7,7 +7,7 @@ ghost use Rattle.spx_examiner.specs.Words.{AsksForCheck, AsksForConditions, Asks
 ghost use Rattle.spx_words.specs.Words.{request_of};
 ghost use Rattle.spx_examiner.specs.Judgement.{status_of, text_of};
 ghost use Rattle.spx_examiner.specs.Causes as causes;
-ghost use Rattle.spx_examiner.specs.Causes.{Concludes, Exactly, ForFiles, MayHold, OneFailed, WhereKnown, contents_of, named};
+ghost use Rattle.spx_examiner.specs.Causes.{AreLoaded, Concludes, Exactly, FailedEnded, ForFiles, MayHold, WhereKnown, contents_of, named};
 ghost use Rattle.spx_paths.specs.Fit.{Clean, Fit};
 ghost use Rattle.spx_meaning.specs.Laws.{NeverBad, TwoRuns};
 ghost use Rattle.spx_examiner.specs.Outcome.{AreAcceptable, AreFit, AreListed, AreRefusable, AreReliable, EndsAs, EndsBadly, HasNotEnded, HasRunTo, IsAssured, IsCutShortAs, IsJudgedOn, IsJudgement, PassLimit, SaysHowItRan, Stand};
@@ -88,7 +88,8 @@ fn judged<F: Files>(
     requires { 0 < length named.now }
     ensures judged { IfOk result (λ judgement. (contents : List (List ℕ)) × MayHold (F.known files.old) (names named.now) contents × IsJudgedOn (request_of command.now) contents judgement) }
     ensures known { (name : List ℕ) → F.known files.new name ≡ F.known files.old name }
-    ensures failed { IsErrOf result Stop.ReadFault → OneFailed (names named.now) (F.failed files.old) (F.failed files.new) }
+    ensures loads { IfOk result (λ judgement. AreLoaded (status_of judgement ≡ Status.Limit) (F.known files.old) (names named.now) (F.asked files.old) (F.asked files.new)) }
+    ensures failed { IsErrOf result Stop.ReadFault → FailedEnded (F.known files.old) (names named.now) (F.asked files.old) (F.asked files.new) (F.failed files.old) (F.failed files.new) }
     ensures none_failed { (IsErrOf result Stop.ReadFault → ⊥) → F.failed files.new ≡ F.failed files.old }
 {
     match load_all(alloc, named, files) {
@@ -137,7 +138,8 @@ fn prepare<F: Files>(alloc: Global, words: &[String], files: &mut F) -> Result<R
     ensures text { IfOk result (λ made. made.text.items ≡ text_of (named (names words.now)) made.judgement) }
     ensures judged { IfOk result (λ made. ForFiles (F.known files.old) (names words.now) (λ contents. IsJudgement (names words.now) contents made.judgement)) }
     ensures known { (name : List ℕ) → F.known files.new name ≡ F.known files.old name }
-    ensures failed { IsErrOf result Stop.ReadFault → OneFailed (named (names words.now)) (F.failed files.old) (F.failed files.new) }
+    ensures loads { IfOk result (λ made. AreLoaded (status_of made.judgement ≡ Status.Limit) (F.known files.old) (named (names words.now)) (F.asked files.old) (F.asked files.new)) }
+    ensures failed { IsErrOf result Stop.ReadFault → FailedEnded (F.known files.old) (named (names words.now)) (F.asked files.old) (F.asked files.new) (F.failed files.old) (F.failed files.new) }
     ensures none_failed { (IsErrOf result Stop.ReadFault → ⊥) → F.failed files.new ≡ F.failed files.old }
 {
     let Some(command) = asked(alloc, words)? else {
@@ -199,9 +201,13 @@ pub fn examine<F: Files, S: Sink>(
     ensures not_ended { WhereKnown (F.known files.old) (names words.now) (λ contents.
         Exactly Status.NotEnded (Stand HasNotEnded (names words.now) contents) result) }
 
-    // A read fault comes exactly where a load failed, of a file that the words name.
-    ensures read_fault { result ≡ Status.ReadFault → OneFailed (named (names words.now)) (F.failed files.old) (F.failed files.new) }
+    // A read fault comes exactly where a load failed, of a file that the words name. Those before it were loaded, and no other was asked for.
+    ensures read_fault { result ≡ Status.ReadFault → FailedEnded (F.known files.old) (named (names words.now)) (F.asked files.old) (F.asked files.new) (F.failed files.old) (F.failed files.new) }
     ensures no_read_fault { result ≢ Status.ReadFault → F.failed files.new ≡ F.failed files.old }
+
+    // Else all files that the words name were loaded, in their order, or one is too long, and none after it was asked for.
+    ensures loads { result ≢ Status.ReadFault → result ≢ Status.NoMemory
+        → AreLoaded ((result ≡ Status.Limit) ⊎ (result ≡ Status.WriteFault)) (F.known files.old) (named (names words.now)) (F.asked files.old) (F.asked files.new) }
 
     // A write fault comes only where the sink counted one, and then a part of the report's text was taken.
     ensures write_fault { result ≡ Status.WriteFault → Rose (S.faults sink.old) (S.faults sink.new) }
