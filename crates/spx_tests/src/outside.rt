@@ -70,8 +70,12 @@ fn loads_fail_at_the_calls_of_the_list(rt: HostRuntime) -> Result<(), Fail> {
     assert_eq!(rt; loaded.as_slice(), b"one".as_slice());
     assert_eq!(rt; files.failed.len(), 2);
 
+    assert_eq!(rt; files.asked.len(), 4);
+
     let mut never = NoFailFiles {
+        alloc,
         held: Vec::new(alloc),
+        asked: Vec::new(alloc),
     };
     assert_eq!(rt; never.load("b", &mut loaded, 0), Ok(()));
     assert_eq!(rt; write_all_pieces(&mut NoFailSink, b"abc"), Ok(()));
