@@ -1,6 +1,6 @@
 //! What holds of the answers to words and contents.
 ghost use Rattle.spx_examiner.specs.Laws.{Laws, LawsOfExistence};
-ghost use Rattle.spx_examiner.specs.Outcome.{OneOutcome, SomeOutcome};
+ghost use Rattle.spx_examiner.specs.Outcome.{OneOutcome, OneSpelled, SomeOutcome};
 
 use spx_core::laws::{name_breaches, one_program, rule_breaches};
 use spx_lexer::some_spelling;
@@ -46,6 +46,13 @@ pub fn some_outcome()
 /// The words and what the files hold decide the status and the text.
 pub fn one_outcome()
     ensures { OneOutcome }
+{
+    laws_below();
+}
+
+/// Contents spell at most one program: what `AreReliable` says of others says no more than this law.
+pub fn one_program_is_spelled()
+    ensures { OneSpelled }
 {
     laws_below();
 }

@@ -1,3 +1,4 @@
+mod Answers
 mod Statements
 mod Resolving
 mod Successor
