@@ -1,5 +1,5 @@
 // Folds of terms by their ids.
-ghost use Rattle.std.specs.Prelude.{◌≡◌, ◌<◌, length, IfOk, OnOk};
+ghost use Rattle.std.specs.Prelude.{◌≡◌, ◌<◌, length, IfOk, OnErr};
 ghost use Rattle.spx_term.specs.declared.term.Term.TheVariants as term;
 ghost use Rattle.spx_term.specs.declared.term.TermPrefix.TheVariants as sign;
 ghost use Rattle.spx_term.specs.Equality.{same_term};
@@ -75,7 +75,8 @@ fn form_at(terms: &Terms, id: TermId) -> TermForm
 #[tactic(auto, using(spx_term::proofs::NegationLaws::negated_forms, crate::proofs::Folds::adds_laws))]
 fn negated(terms: &mut Terms, operand: TermId) -> Result<TermId, AllocError>
     requires { operand.0 < length terms.old }
-    ensures { IfOk result (λ id. Adds terms.old terms.new id (negated (tree_at terms.old operand))) }
+    ensures added { IfOk result (λ id. Adds terms.old terms.new id (negated (tree_at terms.old operand))) }
+    ensures refused { OnErr result (terms.new ≡ terms.old) }
 {
     match terms.node(operand) {
         Node::Number(_) => terms.make(Node::Prefix(TermPrefix::Not, operand)),
@@ -97,7 +98,8 @@ fn negated(terms: &mut Terms, operand: TermId) -> Result<TermId, AllocError>
 #[tactic(auto, unfolding(spx_term::specs::Folding::prefixed), using(crate::proofs::Folds::adds_laws))]
 fn prefixed(terms: &mut Terms, op: TermPrefix, operand: TermId) -> Result<TermId, AllocError>
     requires { operand.0 < length terms.old }
-    ensures { IfOk result (λ id. Adds terms.old terms.new id (prefixed op (tree_at terms.old operand))) }
+    ensures added { IfOk result (λ id. Adds terms.old terms.new id (prefixed op (tree_at terms.old operand))) }
+    ensures refused { OnErr result (terms.new ≡ terms.old) }
 {
     match (op, literal_at(terms, operand)) {
         (_, Some(value)) => match compute_prefix(op, value) {
@@ -119,7 +121,8 @@ fn simplified(
     right: TermId,
 ) -> Result<TermId, AllocError>
     requires { (left.0 < length terms.old) × (right.0 < length terms.old) }
-    ensures { IfOk result (λ id. Adds terms.old terms.new id (simplified op (tree_at terms.old left) (tree_at terms.old right))) }
+    ensures added { IfOk result (λ id. Adds terms.old terms.new id (simplified op (tree_at terms.old left) (tree_at terms.old right))) }
+    ensures refused { OnErr result (terms.new ≡ terms.old) }
 {
     match simpler_form(op, literal_at(terms, left), literal_at(terms, right)) {
         Simplification::Left => Ok(left),
@@ -151,7 +154,8 @@ fn fold_node(terms: &mut Terms, folds: &[TermId], at: TermId) -> Result<TermId, 
     requires folds { AreFolds terms.old folds.now }
     requires next { at.0 ≡ length folds.now }
     requires within { at.0 < length terms.old }
-    ensures { IfOk result (λ id. Adds terms.old terms.new id (folded (tree_at terms.old at))) }
+    ensures added { IfOk result (λ id. Adds terms.old terms.new id (folded (tree_at terms.old at))) }
+    ensures refused { OnErr result (terms.new ≡ terms.old) }
 {
     match terms.node(at) {
         Node::Number(_) => Ok(at),
@@ -170,7 +174,7 @@ fn fold_node(terms: &mut Terms, folds: &[TermId], at: TermId) -> Result<TermId, 
 
 /// The fold of each of the terms.
 pub fn fold_terms(alloc: Global, terms: &mut Terms) -> Result<Items<TermId>, AllocError>
-    ensures grown { OnOk result (Grows terms.old terms.new) }
+    ensures grown { Grows terms.old terms.new }
     ensures all { IfOk result (λ folds. length folds ≡ length terms.old) }
     ensures folds { IfOk result (λ folds. AreFolds terms.new folds) }
 {

@@ -182,7 +182,7 @@ pub fn answers(
 ) -> Result<Items<bool>, AllocError>
     requires facts { AreLists (length terms.old) facts.now }
     requires questions { AreQuestions (length terms.old) (length facts.now) questions.now }
-    ensures grown { OnOk result (Grows terms.old terms.new) }
+    ensures grown { Grows terms.old terms.new }
     ensures answers { IfOk result (λ answers. answers ≡ map (answer terms.old facts.now) questions.now) }
 {
     let falsity = terms.make(Node::Truth(false))?;

@@ -1,5 +1,5 @@
 // Sequents and claims that need no proof.
-ghost use Rattle.std.specs.Prelude.{◌≡◌, ◌<◌, ◌↔◌, List, [], ◌∷◌, length, map, IfOk, IsTrue, OnOk};
+ghost use Rattle.std.specs.Prelude.{◌≡◌, ◌<◌, ◌↔◌, List, [], ◌∷◌, length, map, IfOk, IsTrue};
 ghost use Rattle.spx_term.specs.Goals.{goal_of};
 ghost use Rattle.spx_term.specs.Plain.{Plain};
 ghost use Rattle.spx_simplify.specs.ClosedClaims.{closes_claim};
@@ -40,10 +40,10 @@ fn linked(terms: &mut Terms, lists: &mut FactLists, hyps: &[Term]) -> Result<Fac
     Ok(facts)
 }
 
-/// Which of the claims need no proof.
+/// Which of the claims need no proof. The claims stay as they are, also where memory runs out.
 pub fn closed_claims(alloc: Global, claims: &mut SharedClaims) -> Result<Items<bool>, AllocError>
     requires { IsWhole claims.old }
-    ensures same { OnOk result (claims_in claims.new ≡ claims_in claims.old) }
+    ensures same { claims_in claims.new ≡ claims_in claims.old }
     ensures closed { IfOk result (λ closed. closed ≡ map closes_claim (claims_in claims.old)) }
 {
     let questions = questions_of(alloc, &mut claims.terms, claims.list.as_slice())?;
@@ -63,7 +63,8 @@ fn questions_of(
     list: &[SharedClaim],
 ) -> Result<Items<Question>, AllocError>
     requires { AreGoals (length terms.old) list.now }
-    ensures { IfOk result (Asked terms.old terms.new list.now) }
+    ensures grown { Grows terms.old terms.new }
+    ensures asked { IfOk result (Asked terms.old terms.new list.now) }
 {
     let mut questions = Items::new(alloc);
     for claim in list {
@@ -79,7 +80,8 @@ fn questions_of(
 /// `G1 and (G2 and ..)`
 fn conjunction(terms: &mut Terms, goals: &[TermId]) -> Result<TermId, AllocError>
     requires { AreIds (length terms.old) goals.now }
-    ensures { IfOk result (λ id. Adds terms.old terms.new id (goal_of (trees_at terms.old goals.now))) }
+    ensures grown { Grows terms.old terms.new }
+    ensures added { IfOk result (λ id. Adds terms.old terms.new id (goal_of (trees_at terms.old goals.now))) }
 {
     if goals.len() == 0 {
         return terms.make(Node::Truth(true));

@@ -22,4 +22,4 @@ loop-claim-preserved c =
     subst (λ qs. Asked c.args.terms.now new (take (c.loop-claim.claim-index + 1) c.args.list.now) qs) (sym c.in_ok-push.ensures.ok)
     (asked_more c.args.terms.now old new c.args.list.now c.loop-claim.questions c.loop-claim.claim-index d (record { facts = d.facts; goal = id }) c.requires c.loop-claim-test.true c.loop-claim.invariant
     (ap (λ (x : SharedClaim). x.facts) c.claim-item.is)
-    (subst (λ ids. Adds old new id (goal_of (trees_at old ids))) (c.as_slice.ensures ∙ ap (λ (x : SharedClaim). x.goals) c.claim-item.is) c.in_ok-goal.ensures))
+    (subst (λ ids. Adds old new id (goal_of (trees_at old ids))) (c.as_slice.ensures ∙ ap (λ (x : SharedClaim). x.goals) c.claim-item.is) c.in_ok-goal.ensures.added))
