@@ -37,14 +37,14 @@ pub struct Findings {
 }
 
 /// Adds a text.
-pub fn put(out: &mut Vec<u8>, text: &[u8]) -> Result<(), AllocError>
+pub(crate) fn put(out: &mut Vec<u8>, text: &[u8]) -> Result<(), AllocError>
     ensures { OnOk result (out.new.items ≡ out.old.items ++ text.now) }
 {
     out.extend_from_slice(text)
 }
 
 /// Adds a number in decimal.
-pub fn put_number(alloc: Global, out: &mut Vec<u8>, number: u64) -> Result<(), AllocError>
+pub(crate) fn put_number(alloc: Global, out: &mut Vec<u8>, number: u64) -> Result<(), AllocError>
     ensures { OnOk result (out.new.items ≡ out.old.items ++ decimal number) }
 {
     put(out, decimal(alloc, i128::from(number))?.as_slice())
@@ -93,9 +93,9 @@ fn name_of(files: &[String], file: u32) -> &[u8]
     }
 }
 
-/// `FILE:LINE:COLUMN`
+/// Adds `FILE:LINE:COLUMN`.
 #[tactic(auto, using(crate::proofs::Texts::texts), unfolding(crate::specs::Report::spot_text))]
-pub fn put_spot(
+pub(crate) fn put_spot(
     alloc: Global,
     out: &mut Vec<u8>,
     files: &[String],
@@ -110,9 +110,9 @@ pub fn put_spot(
     put_number(alloc, out, u64::from(place.column))
 }
 
-/// `FILE:LINE:COLUMN: `
+/// Adds `FILE:LINE:COLUMN: `.
 #[tactic(auto, using(crate::proofs::Texts::texts), unfolding(crate::specs::Report::place_text))]
-pub fn put_place(
+fn put_place(
     alloc: Global,
     out: &mut Vec<u8>,
     files: &[String],
@@ -122,6 +122,24 @@ pub fn put_place(
 {
     put_spot(alloc, out, files, place)?;
     put(out, b": ")
+}
+
+/// `FILE:LINE:COLUMN`, where the files have these names.
+pub fn spot_text(alloc: Global, files: &[String], place: Place) -> Result<Vec<u8>, AllocError>
+    ensures { IfOk result (λ text. text.items ≡ spec.spot_text (names files.now) place) }
+{
+    let mut out = Vec::new(alloc);
+    put_spot(alloc, &mut out, files, place)?;
+    Ok(out)
+}
+
+/// `FILE:LINE:COLUMN: `, where the files have these names.
+pub fn place_text(alloc: Global, files: &[String], place: Place) -> Result<Vec<u8>, AllocError>
+    ensures { IfOk result (λ text. text.items ≡ spec.place_text (names files.now) place) }
+{
+    let mut out = Vec::new(alloc);
+    put_place(alloc, &mut out, files, place)?;
+    Ok(out)
 }
 
 #[tactic(auto, using(crate::proofs::Texts::texts), unfolding(crate::specs::Report::finding_line))]
@@ -220,9 +238,9 @@ fn put_rows(
     Ok(())
 }
 
-/// The last line, by the number of findings.
+/// Adds the last line.
 #[tactic(auto, using(crate::proofs::Texts::texts), unfolding(crate::specs::Report::verdict))]
-pub fn put_verdict(alloc: Global, out: &mut Vec<u8>, count: usize) -> Result<(), AllocError>
+fn put_verdict(alloc: Global, out: &mut Vec<u8>, count: usize) -> Result<(), AllocError>
     ensures { OnOk result (out.new.items ≡ out.old.items ++ spec.verdict count) }
 {
     if count == 0 {
@@ -230,6 +248,15 @@ pub fn put_verdict(alloc: Global, out: &mut Vec<u8>, count: usize) -> Result<(),
     }
     put(out, b"refused: ")?;
     put_count(alloc, out, count, b"\n")
+}
+
+/// The last line, by the number of findings.
+pub fn verdict_text(alloc: Global, count: usize) -> Result<Vec<u8>, AllocError>
+    ensures { IfOk result (λ text. text.items ≡ spec.verdict count) }
+{
+    let mut out = Vec::new(alloc);
+    put_verdict(alloc, &mut out, count)?;
+    Ok(out)
 }
 
 /// The report on a program, whose files have these names.

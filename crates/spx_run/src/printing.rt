@@ -8,7 +8,7 @@ ghost use Rattle.spx_run.specs.Results as spec;
 use crate::result::{InputFinding, Output};
 use spx_meaning::{Bad, BadKind, Value};
 use spx_num::decimal;
-use spx_report::{put, put_number, put_place, put_spot};
+use spx_report::{place_text, spot_text};
 use spx_text::{Place, Text};
 use std::alloc::{AllocError, Global};
 
@@ -17,8 +17,9 @@ fn put_value(alloc: Global, out: &mut Vec<u8>, value: Value) -> Result<(), Alloc
     ensures { OnOk result (out.new.items ≡ out.old.items ++ spec.value_text value) }
 {
     match value {
-        Value::Number(number) => put(out, decimal(alloc, number)?.as_slice()),
-        Value::Truth(truth) => put(out, if truth { b"True" } else { b"False" }),
+        Value::Number(number) => out.extend_from_slice(decimal(alloc, number)?.as_slice()),
+        Value::Truth(true) => out.extend_from_slice(b"True"),
+        Value::Truth(false) => out.extend_from_slice(b"False"),
     }
 }
 
@@ -27,10 +28,10 @@ fn put_value(alloc: Global, out: &mut Vec<u8>, value: Value) -> Result<(), Alloc
 fn put_output(alloc: Global, out: &mut Vec<u8>, output: &Output) -> Result<(), AllocError>
     ensures { OnOk result (out.new.items ≡ out.old.items ++ spec.output_line output.now) }
 {
-    put(out, output.name.as_bytes())?;
-    put(out, b" = ")?;
+    out.extend_from_slice(output.name.as_bytes())?;
+    out.extend_from_slice(b" = ")?;
     put_value(alloc, out, output.value)?;
-    put(out, b"\n")
+    out.extend_from_slice(b"\n")
 }
 
 /// The exports, each on a line.
@@ -73,11 +74,11 @@ pub(crate) fn put_fault(
 ) -> Result<(), AllocError>
     ensures { OnOk result (out.new.items ≡ out.old.items ++ spec.fault_line (names files.now) fault) }
 {
-    put(out, b"fault: ")?;
-    put(out, bad_text(fault.kind))?;
-    put(out, b" at ")?;
-    put_spot(alloc, out, files, fault.place)?;
-    put(out, b"\n")
+    out.extend_from_slice(b"fault: ")?;
+    out.extend_from_slice(bad_text(fault.kind))?;
+    out.extend_from_slice(b" at ")?;
+    out.extend_from_slice(spot_text(alloc, files, fault.place)?.as_slice())?;
+    out.extend_from_slice(b"\n")
 }
 
 /// `N WHAT`
@@ -85,8 +86,8 @@ pub(crate) fn put_fault(
 fn put_count(alloc: Global, out: &mut Vec<u8>, count: u64, what: &[u8]) -> Result<(), AllocError>
     ensures { OnOk result (out.new.items ≡ out.old.items ++ counted count what.now) }
 {
-    put_number(alloc, out, count)?;
-    put(out, what)
+    out.extend_from_slice(decimal(alloc, i128::from(count))?.as_slice())?;
+    out.extend_from_slice(what)
 }
 
 /// `not ended within N turns`
@@ -94,7 +95,7 @@ fn put_count(alloc: Global, out: &mut Vec<u8>, count: u64, what: &[u8]) -> Resul
 pub(crate) fn put_turns(alloc: Global, out: &mut Vec<u8>, turns: u64) -> Result<(), AllocError>
     ensures { OnOk result (out.new.items ≡ out.old.items ++ spec.turns_line turns) }
 {
-    put(out, b"not ended within ")?;
+    out.extend_from_slice(b"not ended within ")?;
     put_count(alloc, out, turns, b" turns\n")
 }
 
@@ -109,8 +110,8 @@ fn put_at(
 ) -> Result<(), AllocError>
     ensures { OnOk result (out.new.items ≡ out.old.items ++ place_line (names files.now) place what.now) }
 {
-    put_place(alloc, out, files, place)?;
-    put(out, what)
+    out.extend_from_slice(place_text(alloc, files, place)?.as_slice())?;
+    out.extend_from_slice(what)
 }
 
 /// A finding on a name.
@@ -118,9 +119,9 @@ fn put_at(
 fn put_named(out: &mut Vec<u8>, what: &[u8], name: &Text) -> Result<(), AllocError>
     ensures { OnOk result (out.new.items ≡ out.old.items ++ name_line what.now name.now) }
 {
-    put(out, what)?;
-    put(out, name.as_bytes())?;
-    put(out, b"\n")
+    out.extend_from_slice(what)?;
+    out.extend_from_slice(name.as_bytes())?;
+    out.extend_from_slice(b"\n")
 }
 
 /// A finding, with its place or without one.

@@ -5,7 +5,7 @@ ghost use Rattle.spx_run.specs.Results.{result_text};
 
 use crate::printing::{put_fault, put_findings, put_outputs, put_turns};
 use spx_meaning::{Bad, Value};
-use spx_report::{LimitName, put, put_verdict};
+use spx_report::{LimitName, verdict_text};
 use spx_text::{Place, Text};
 use sqlite_items::Items;
 use std::alloc::{AllocError, Global};
@@ -67,9 +67,9 @@ impl RunResult {
         match self {
             RunResult::Refused(findings) => {
                 put_findings(alloc, out, files, findings.as_slice())?;
-                put_verdict(alloc, out, findings.len())
+                out.extend_from_slice(verdict_text(alloc, findings.len())?.as_slice())
             }
-            RunResult::TooLarge => put(out, LimitName::Bits.text()),
+            RunResult::TooLarge => out.extend_from_slice(LimitName::Bits.text()),
             RunResult::Faulted(fault) => put_fault(alloc, out, files, *fault),
             RunResult::NotEnded(turns) => put_turns(alloc, out, *turns),
             RunResult::Ended(outputs) => put_outputs(alloc, out, outputs.as_slice()),
