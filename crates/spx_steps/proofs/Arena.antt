@@ -162,27 +162,6 @@ adds_along {a} {b} {id} p e = subst (λ x. AddsStep a b id x) e p
 pub adds_not : {a : Steps} {id : StepId} → InOrder a → id.0 < length a.nodes → AddsStep a a id (step_tree a id)
 adds_not {a} order w = record { whole = order; grown = more_not a; terms = refl; made = record { within = w; tree = refl } }
 
-pub none_ordered : (s : Steps) → s.nodes ≡ [] → InOrder s
-none_ordered s is = record { parts = λ i w. absurd (omega (arith, ap length is)) }
-
--- one fact more, from the last one to the first
-pub next_assumed : {a b c : Steps} {at id : StepId} (t : Tree) (facts : List TermId) (i : ℕ) (d : TermId) → i < length facts → AreIds (length a.terms) facts
-    → AddsStep a b at (assume_all (trees_at a.terms (drop (i + 1) facts)) t) → AddsStep b c id (Assume (tree_at b.terms (get_or facts i d)) (step_tree b at)) → AddsStep a c id (assume_all (trees_at a.terms (drop i facts)) t)
-next_assumed {a} {b} {c} {at} {id} t facts i d w are p q =
-    let parts : drop i facts ≡ get_or facts i d ∷ drop (i + 1) facts = drop-cons facts i d w ∙ ap (λ n. get_or facts i d ∷ drop n facts) (sym (add-one i)) in
-    record {
-      whole = q.whole;
-      grown = more_twice p.grown q.grown;
-      terms = q.terms ∙ p.terms;
-      made = record {
-        within = q.made.within;
-        tree = q.made.tree ∙ (λ k. Assume (tree_at (p.terms k) (get_or facts i d)) (p.made.tree k)) ∙ ap (λ ids. assume_all (trees_at a.terms ids) t) (sym parts);
-      };
-    }
-
-pub all_assumed : {a b : Steps} {at : StepId} (t : Tree) (facts : List TermId) (i : ℕ) → i ≡ 0 → AddsStep a b at (assume_all (trees_at a.terms (drop i facts)) t) → AddsStep a b at (assume_all (trees_at a.terms facts) t)
-all_assumed {a} {b} {at} t facts i none p = subst (λ n. AddsStep a b at (assume_all (trees_at a.terms (drop n facts)) t)) none p
-
 pub none_assumed : {a : Steps} {next : StepId} (facts : List TermId) (i : ℕ) → i ≡ length facts → InOrder a → next.0 < length a.nodes → AddsStep a a next (assume_all (trees_at a.terms (drop i facts)) (step_tree a next))
 none_assumed {a} {next} facts i all order w =
     let nothing : [] ≡ drop i facts = sym (drop_all i facts (omega (arith, all))) in

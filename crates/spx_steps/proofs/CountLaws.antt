@@ -30,9 +30,6 @@ count_facts (t ∷ ts) rest = one_step (step.Assume t) (branches (assume_all ts 
 pub count_check : (kind : CondKind) (place : Place) (goals : List Term) (rest : Tree) → count (check kind place goals rest) ≡ count rest
 count_check kind place goals rest = one_step (step.Prove kind place goals) (branches (assume_all goals rest)) ∙ count_facts goals rest
 
-pub count_split : (first second : Tree) → count (Split first second) ≡ count first + count second
-count_split first second = length-append (branches first) (branches second)
-
 capped_sums : (most a b : ℕ) → min (min a (most + 1) + min b (most + 1)) (most + 1) ≡ min (a + b) (most + 1)
 capped_sums most a b = omega arith
 

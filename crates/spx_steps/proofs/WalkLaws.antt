@@ -23,136 +23,13 @@ use Rattle.spx_steps.specs.declared.walk.Walk.{Walk}
 use Rattle.spx_steps.specs.ConditionWalk.{State, applied, forward}
 use Rattle.spx_steps.specs.Memos.{id_eq, known, IsMade, NothingKnown}
 use Rattle.spx_steps.specs.States.{AreValues, given, state_in}
-use Rattle.spx_steps.specs.Walks.{BeginsAnew, ClaimsAll, Goes, GoesAlong, Keeps, MakesValue, MeanAll, OnlyAdds, OnlyTerms, Remembers, Walks, Whole, claims_anew, claims_from, so_far, state}
-use Rattle.spx_steps.proofs.ConditionTerms.{applied-Infix, applied-Prefix}
+use Rattle.spx_steps.specs.Walks.{BeginsAnew, ClaimsAll, Goes, Makes, MakesAll, OnlyAdds, OnlyTerms, Ready, Whole, claims_from, so_far, state}
+use Rattle.spx_steps.specs.Forks.{Comes, ends_in}
 use Rattle.spx_steps.proofs.ConditionForward.{forward_from_start}
 use Rattle.spx_steps.proofs.SharedIds.{id_eq-Decides, state_kept}
-use Rattle.spx_steps.proofs.SharedSteps.{adds_twice, all_kept, goes_of, keeps_twice, only_keeps, only_walks, walks_twice}
+use Rattle.spx_steps.proofs.SharedSteps.{adds_twice, goes_not, goes_twice, none_made, only_not, only_state, only_twice, stands_before}
 
--- ---- what is known
-pub remembers_none : (names : List Term) (old w : Walk) → Remembers names old → NothingKnown (length old.made) w.made → Remembers names w
-remembers_none names old w r nothing = record { table = nothing.count_is ∙ r.table; made = λ id into e. not_some id into (sym (nothing.none id) ∙ e) }
-  where
-    not_some : (id into : TermId) → None ≡ Some into → IsId w.terms into (applied (state w) (tree_at names id))
-    not_some id into e = absurd (cc)
-
-kept_state : (old new : Walk) → Whole old → Grows old.terms new.terms → new.values ≡ old.values → state new ≡ state old
-kept_state old new whole g values = ap (state_in new.terms) values ∙ state_kept g old.values whole.values
-
-pub remembers_kept : (names : List Term) {old new : Walk} → Whole old → Grows old.terms new.terms → new.values ≡ old.values → new.made ≡ old.made → Remembers names old → Remembers names new
-remembers_kept names {old} {new} whole g values made r = record {
-  table = ap length made ∙ r.table;
-  made = λ id into e. subst (λ (s : State). IsId new.terms into (applied s (tree_at names id))) (sym (kept_state old new whole g values)) (is_kept (r.made id into (ap (λ memo. known memo id) (sym made) ∙ e)) g);
-}
-
-pub remembers_more : (names : List Term) {old new : Walk} (id into : TermId) → new.terms ≡ old.terms → new.values ≡ old.values → IsMade old.made new.made id into → IsId old.terms into (applied (state old) (tree_at names id)) → Remembers names old → Remembers names new
-remembers_more names {old} {new} id into terms values m is r = record {
-  table = m.count ∙ r.table;
-  made = λ x y e. subst (λ (ts : List Term). IsId ts y (applied (state new) (tree_at names x))) (sym terms)
-      (subst (λ (s : State). IsId old.terms y (applied s (tree_at names x))) (λ i. state_in (sym terms i) (sym values i)) (by_place x y (id_eq x id) refl (sym (m.at x) ∙ e)));
-}
-  where
-    by_place : (x y : TermId) (b : Bool) → id_eq x id ≡ b → cond b (Some into) (known old.made x) ≡ Some y → IsId old.terms y (applied (state old) (tree_at names x))
-    by_place x y true same e =
-        let here : id ≡ x = sym ((id_eq-Decides x id).0 same) in
-        let out : into ≡ y = cc in
-        subst (λ (z : TermId). IsId old.terms z (applied (state old) (tree_at names x))) out (subst (λ (z : TermId). IsId old.terms into (applied (state old) (tree_at names z))) here is)
-    by_place x y false same e = r.made x y e
-
--- ---- terms over names
-pub only_not : (w : Walk) → OnlyTerms w w
-only_not w = record { grown = grows_not w.terms; values = refl; facts = refl; claims = refl }
-
-pub only_twice : {a b c : Walk} → OnlyTerms a b → OnlyTerms b c → OnlyTerms a c
-only_twice p q = record { grown = grows_twice p.grown q.grown; values = q.values ∙ p.values; facts = q.facts ∙ p.facts; claims = q.claims ∙ p.claims }
-
-pub value_twice : {names : List Term} {a b c : Walk} → MakesValue names a b → MakesValue names b c → MakesValue names a c
-value_twice p q = record { only = only_twice p.only q.only; remembers = q.remembers }
-
--- a term was made, and nothing else
-pub value_made : (names : List Term) {old new : Walk} → Whole old → Grows old.terms new.terms → new.values ≡ old.values → new.facts ≡ old.facts → new.claims ≡ old.claims → new.made ≡ old.made → Remembers names old → MakesValue names old new
-value_made names whole g values facts claims made r = record { only = record { grown = g; values = values; facts = facts; claims = claims }; remembers = remembers_kept names whole g values made r }
-
-pub only_state : {old new : Walk} → Whole old → OnlyTerms old new → state new ≡ state old
-only_state {old} {new} whole o = ap (state_in new.terms) o.values ∙ state_kept o.grown old.values whole.values
-
-pub made_as : {ts : List Term} {id : TermId} {t u : Term} → IsId ts id t → t ≡ u → IsId ts id u
-made_as {ts} {id} i e = subst (IsId ts id) e i
-
-pub number_as : {ts : List Term} {id : TermId} {m : ℤ} (n : ℤ) → m ≡ n → IsId ts id (Number m) → IsId ts id (Number n)
-number_as {ts} {id} n e i = subst (λ k. IsId ts id (Number k)) e i
-
--- a value that was made is kept
-pub value_kept : (names : List Term) {old mid new : Walk} (id into : TermId) → Whole old → MakesValue names old mid → IsId mid.terms into (applied (state old) (tree_at names id)) → new.terms ≡ mid.terms → new.values ≡ mid.values → new.facts ≡ mid.facts → new.claims ≡ mid.claims → IsMade mid.made new.made id into
-    → MakesValue names old new
-value_kept names {old} {mid} {new} id into whole v is terms values facts claims m = record {
-  only = record { grown = subst (Grows old.terms) (sym terms) v.only.grown; values = values ∙ v.only.values; facts = facts ∙ v.only.facts; claims = claims ∙ v.only.claims };
-  remembers = remembers_more names id into terms values m (made_as is (ap (λ (s : State). applied s (tree_at names id)) (sym (only_state whole v.only)))) v.remembers;
-}
-
--- the values of earlier terms were made, and then one more
-pub value_after : {names : List Term} {a b : Walk} (id : TermId) {ts : List Term} {made : TermId} → Whole a → MakesValue names a b → IsId ts made (applied (state b) (tree_at names id)) → IsId ts made (applied (state a) (tree_at names id))
-value_after {names} {a} {b} id whole v is = made_as is (ap (λ (s : State). applied s (tree_at names id)) (only_state whole v.only))
-
--- several, one after the other
-pub next_value : {names : List Term} {a b c : Walk} (all then : List TermId) {id : TermId} (ids : List TermId) (i : ℕ) (d : TermId) → Whole a → i < length ids
-    → MakesValue names a b → AreIds (length b.terms) all → trees_at b.terms all ≡ map (applied (state a)) (trees_at names (take i ids)) → MakesValue names b c → IsId c.terms id (applied (state b) (tree_at names (get_or ids i d))) → then ≡ all ++ id ∷ []
-    → record { values : MakesValue names a c; within : AreIds (length c.terms) then; made : trees_at c.terms then ≡ map (applied (state a)) (trees_at names (take (i + 1) ids)) }
-next_value {names} {a} {b} {c} all then {id} ids i d whole w v are trees u is then_is =
-    let g = u.only.grown in
-    record {
-      values = value_twice v u;
-      within = subst (AreIds (length c.terms)) (sym then_is) (ids_push all id (length c.terms) (wider_ids all g.more are) is.within);
-      made =
-          ap (trees_at c.terms) then_is
-          ∙ map-append (tree_at c.terms) all (id ∷ [])
-          ∙ (λ k. (kept_ids g all are ∙ trees) k ++ (is.tree ∙ ap (λ (s : State). applied s (tree_at names (get_or ids i d))) (only_state whole v.only)) k ∷ [])
-          ∙ sym (map-append (applied (state a)) (trees_at names (take i ids)) (tree_at names (get_or ids i d) ∷ []))
-          ∙ ap (map (applied (state a))) (sym (map-append (tree_at names) (take i ids) (get_or ids i d ∷ [])) ∙ ap (trees_at names) (sym (take_more ids i d w)));
-    }
-
--- an operation on one operand
-pub made_prefix : {mid new : List Term} {i id : TermId} (s : State) (op : TermPrefix) (a t : Term) → IsId mid i (applied s a) → IsId new id (Prefix op (tree_at mid i)) → t ≡ Prefix op a → IsId new id (applied s t)
-made_prefix s op a t p q e = made_as q (ap (Prefix op) p.tree ∙ sym (applied-Prefix s op a) ∙ ap (applied s) (sym e))
-
--- an operation on two
-pub made_infix : {mid late new : List Term} {i j id : TermId} (s : State) (op : TermOp) (a b t : Term) → IsId mid i (applied s a) → Grows mid late → IsId late j (applied s b) → IsId new id (Infix op (tree_at late i) (tree_at late j)) → t ≡ Infix op a b → IsId new id (applied s t)
-made_infix s op a b t p g q r e = made_as r ((λ k. Infix op ((is_kept p g).tree k) (q.tree k)) ∙ sym (applied-Infix s op a b) ∙ ap (applied s) (sym e))
-
--- ---- steps
--- a value was made, and then the walk went on with it
-pub along_value : {names : List Term} {a b c : Walk} {f : Tree → Tree} → Whole a → MakesValue names a b → Keeps b c → c.made ≡ b.made → Walks b c f → GoesAlong names a c f
-along_value {names} {a} {b} {c} whole v k made walks =
-    let first = only_keeps whole v.only in
-    record {
-      goes = goes_of (keeps_twice first k) (record { same = λ rest. (only_walks whole v.only).same _ ∙ walks.same rest });
-      remembers = remembers_kept names first.whole k.grown k.values made v.remembers;
-    }
-
--- a value was made, and a name was given it
-pub along_set : {names : List Term} {a b c : Walk} {f : Tree → Tree} → Whole a → MakesValue names a b → Goes b c f → NothingKnown (length b.made) c.made → GoesAlong names a c f
-along_set {names} {a} {b} {c} whole v goes made = record {
-  goes = record { whole = goes.whole; adds = adds_twice (only_keeps whole v.only).adds goes.adds; same = λ rest. (only_walks whole v.only).same _ ∙ goes.same rest };
-  remembers = remembers_none names b c v.remembers made;
-}
-
--- goals were claimed, and taken for facts
-pub after_checked : {names : List Term} {a b c d : Walk} (kind : CondKind) (place : Place) (ts : List Term) {all ids : List TermId} → Whole a → MakesValue names a b → AreIds (length b.terms) all → trees_at b.terms all ≡ map (applied (state a)) ts → ids ≡ all
-    → Keeps b c → c.made ≡ b.made → ((us : List Term) → MeanAll b ids us → Walks b c (Prove kind place us)) → Keeps c d → d.made ≡ c.made → ((us : List Term) → MeanAll c ids us → Walks c d (assume_all us)) → GoesAlong names a d (check kind place ts)
-after_checked {names} {a} {b} {c} {d} kind place ts {all} {ids} whole v are trees is k km claim l lm facts =
-    let first = only_keeps whole v.only in
-    let here : AreIds (length b.terms) ids = subst (AreIds (length b.terms)) (sym is) are in
-    let mean : MeanAll b ids ts = record { trees = ap (trees_at b.terms) is ∙ trees ∙ ap (λ (s : State). map (applied s) ts) (sym (only_state whole v.only)) } in
-    along_value whole v (keeps_twice k l) (lm ∙ km) (walks_twice (claim ts mean) (facts ts (all_kept first.whole k here mean)))
-
--- ---- walks to the end of each path
-pub along_step : {a b c : Walk} {f : Tree → Tree} (from at next : Tree) → OnlyAdds a b → claims_from a from ≡ claims_from b at → Goes b c f → at ≡ f next → (OnlyAdds a c) × (claims_from a from ≡ claims_from c next)
-along_step {a} {b} {c} from at next adds same goes is = (adds_twice adds goes.adds, same ∙ ap (claims_from b) is ∙ goes.same next)
-
-pub fresh_step : (w : Walk) (x : Name) (rest : Tree) → claims_from w (Fresh x rest) ≡ claims_from w rest
-unfolding claims_from
-fresh_step w x rest = refl
-
+-- ---- claims so far, and those of a tree
 pub split_from : (w : Walk) (one other : Tree) → claims_from w (Split one other) ≡ claims_from w one ++ forward (state w) (trees_at w.terms w.facts.present.keys) other
 unfolding claims_from
 split_from w one other = sym (append_assoc (so_far w) (forward (state w) (trees_at w.terms w.facts.present.keys) one) (forward (state w) (trees_at w.terms w.facts.present.keys) other))
@@ -161,81 +38,109 @@ pub from_here : (w : Walk) (tree : Tree) → claims_from w tree ≡ so_far w ++ 
 unfolding claims_from
 from_here w tree = refl
 
+-- ---- terms over names, one after the other
+pub none_of : {names : List Term} {w : Walk} (ids none : List TermId) → Ready names w → none ≡ [] → MakesAll names w w (take 0 ids) none
+none_of {names} {w} ids none r is = record { only = only_not r; within = subst (AreIds (length w.terms)) (sym is) tt; are = ap (trees_at w.terms) is }
+
+pub next_value : {names : List Term} {a b c : Walk} (all then : List TermId) {id : TermId} (ids : List TermId) (i : ℕ) (d : TermId) → Ready names a → i < length ids → MakesAll names a b (take i ids) all → Makes names b c (get_or ids i d) id → then ≡ all ++ id ∷ [] → MakesAll names a c (take (i + 1) ids) then
+next_value {names} {a} {b} {c} all then {id} ids i d r w v m then_is =
+    let g = m.only.grown in
+    record {
+      only = only_twice v.only m.only;
+      within = subst (AreIds (length c.terms)) (sym then_is) (ids_push all id (length c.terms) (wider_ids all g.more v.within) m.is.within);
+      are =
+          ap (trees_at c.terms) then_is
+          ∙ map-append (tree_at c.terms) all (id ∷ [])
+          ∙ (λ k. (kept_ids g all v.within ∙ v.are) k ++ (stands_before r v.only (get_or ids i d) m.is).tree k ∷ [])
+          ∙ sym (map-append (applied (state a)) (trees_at names (take i ids)) (tree_at names (get_or ids i d) ∷ []))
+          ∙ ap (map (applied (state a))) (sym (map-append (tree_at names) (take i ids) (get_or ids i d ∷ [])) ∙ ap (trees_at names) (sym (take_more ids i d w)));
+    }
+
+-- the trees of several, where names have their present values
+pub made_trees : {names : List Term} {a b : Walk} {ids all : List TermId} → Ready names a → MakesAll names a b ids all → trees_at b.terms all ≡ map (applied (state b)) (trees_at names ids)
+made_trees {names} {a} {b} {ids} r m = m.are ∙ ap (λ (s : State). map (applied s) (trees_at names ids)) (sym (only_state r m.only))
+
+-- ---- steps
+assumed_last : (ts : List Term) (t : Term) (rest : Tree) → assume_all (ts ++ t ∷ []) rest ≡ assume_all ts (Assume t rest)
+assumed_last [] t rest = refl
+assumed_last (u ∷ ts) t rest = ap (Assume u) (assumed_last ts t rest)
+
+-- facts, one after the other
+pub next_along : {names : List Term} {a b c : Walk} (facts : List TermId) (i : ℕ) (d : TermId) → i < length facts → Goes names a b (assume_all (trees_at names (take i facts))) → Goes names b c (Assume (tree_at names (get_or facts i d))) → Goes names a c (assume_all (trees_at names (take (i + 1) facts)))
+next_along {names} {a} {b} {c} facts i d w before along =
+    let all = goes_twice before along in
+    let ts : trees_at names (take (i + 1) facts) ≡ trees_at names (take i facts) ++ tree_at names (get_or facts i d) ∷ [] =
+    ap (trees_at names) (take_more facts i d w) ∙ map-append (tree_at names) (take i facts) (get_or facts i d ∷ []) in
+    record {
+      ready = all.ready;
+      adds = all.adds;
+      same = λ rest. ap (claims_from a) (ap (λ us. assume_all us rest) ts ∙ assumed_last (trees_at names (take i facts)) (tree_at names (get_or facts i d)) rest) ∙ all.same rest;
+    }
+
+-- a step more
+pub comes_on : {names : List Term} {a b c : Walk} {from at next : Tree} (f : Tree → Tree) → Comes names a b from at → Goes names b c f → at ≡ f next → ends_in (f next) ≡ ends_in next → Comes names a c from next
+comes_on {names} {a} {b} f p q is ends = record { ready = q.ready; adds = adds_twice p.adds q.adds; same = p.same ∙ ap (claims_from b) is ∙ q.same _; ends = p.ends ∙ ap ends_in is ∙ ends }
+
+pub goes_fresh : {names : List Term} {w : Walk} (x : Name) → Ready names w → Goes names w w (Fresh x)
+goes_fresh {names} {w} x r = record { ready = r; adds = (goes_not r).adds; same = same }
+  where
+    same : (rest : Tree) → claims_from w (Fresh x rest) ≡ claims_from w rest
+    same rest = from_here w (Fresh x rest) ∙ sym (from_here w rest)
+
 -- ---- the root of a tree
-pub begins_anew : (old new : Walk) → Whole old → new.terms ≡ old.terms → new.facts.lists ≡ old.facts.lists → new.claims ≡ old.claims → new.values ≡ [] → NothingKnown (length old.made) new.made → new.facts.present.keys ≡ [] → new.facts.at.0 < length new.facts.lists
-    → facts_at new.facts.lists new.facts.at ≡ [] → BeginsAnew old new
+pub begins_anew : (names : List Term) (old new : Walk) → Ready names old → new.terms ≡ old.terms → new.facts.lists ≡ old.facts.lists → new.claims ≡ old.claims → new.values ≡ [] → NothingKnown (length old.made) new.made → new.facts.present.keys ≡ [] → new.facts.at.0 < length new.facts.lists
+    → facts_at new.facts.lists new.facts.at ≡ [] → BeginsAnew names old new
 unfolding claims_from
-begins_anew old new whole terms lists claims values made keys within none = record {
-  whole = record {
-    values = subst (AreValues (length new.terms)) (sym values) (record { ids = λ x id e. none_given x id e });
-    facts = subst (AreIds (length new.terms)) (sym keys) tt;
-    lists = subst (λ (ts : List Term). AreLists (length ts) new.facts.lists) (sym terms) (subst (AreLists (length old.terms)) (sym lists) whole.lists);
-    stands = record { within = within; here = none ∙ sym keys };
-    claims = subst (λ (ts : List Term). AreClaims (length ts) (length new.facts.lists) new.claims) (sym terms)
-        (subst (λ (ls : List (List TermId)). AreClaims (length old.terms) (length ls) new.claims) (sym lists) (subst (AreClaims (length old.terms) (length old.facts.lists)) (sym claims) whole.claims));
+begins_anew names old new r terms lists claims values nothing keys within none = record {
+  ready = record {
+    whole = record {
+      values = subst (AreValues (length new.terms)) (sym values) (record { ids = λ x id e. none_given x id e });
+      facts = subst (AreIds (length new.terms)) (sym keys) tt;
+      lists = rw (terms, lists) r.whole.lists;
+      stands = record { within = within; here = none ∙ sym keys };
+      claims = rw (terms, lists, claims) r.whole.claims;
+    };
+    table = nothing.count_is ∙ r.table;
+    made = λ id into e. none_made nothing id into e;
   };
-  made = made;
-  same = same;
+  same = λ tree. λ i. claims_at (terms i) (lists i) (claims i) ++ forward (ap (state_in new.terms) values i) (trees_at new.terms (keys i)) tree;
 }
   where
     none_given : {n : ℕ} (x : Name) (id : TermId) → given [] x ≡ Some id → id.0 < n
     none_given x id e = absurd (cc)
 
-    same : (tree : Tree) → claims_from new tree ≡ so_far old ++ forward Variable [] tree
-    same tree = λ i. claims_at (terms i) (lists i) (claims i) ++ forward (ap (state_in new.terms) values i) (trees_at new.terms (keys i)) tree
-
 -- a tree was walked from its root
-pub root_claimed : (a b c : Walk) (tree : Tree) → BeginsAnew a b → claims_from b tree ≡ claims_from c Cut → Whole c → ClaimsAll a c (tree ∷ [])
-root_claimed a b c tree begins same whole = record {
-  whole = whole;
+pub root_claimed : {names : List Term} {a b c : Walk} (tree : Tree) → BeginsAnew names a b → claims_from b tree ≡ claims_from c Cut → Ready names c → ClaimsAll names a c (tree ∷ [])
+root_claimed {names} {a} {b} {c} tree begins same ready = record {
+  ready = ready;
   same =
       sym (from_here c Cut ∙ append-nil (so_far c)) ∙ sym same ∙ begins.same tree
       ∙ ap (λ cs. so_far a ++ cs) (sym (append-nil (forward Variable [] tree)));
 }
 
 -- trees were walked, one after the other
-pub claims_not : (w : Walk) → Whole w → ClaimsAll w w []
-claims_not w whole = record { whole = whole; same = sym (append-nil (so_far w)) }
+pub claims_not : {names : List Term} {w : Walk} → Ready names w → ClaimsAll names w w []
+claims_not {names} {w} ready = record { ready = ready; same = sym (append-nil (so_far w)) }
 
-pub claims_twice : (a b c : Walk) (first more : List Tree) → ClaimsAll a b first → ClaimsAll b c more → ClaimsAll a c (first ++ more)
-claims_twice a b c first more p q = record {
-  whole = q.whole;
+pub claims_twice : {names : List Term} {a b c : Walk} (first more : List Tree) → ClaimsAll names a b first → ClaimsAll names b c more → ClaimsAll names a c (first ++ more)
+claims_twice {names} {a} {b} {c} first more p q = record {
+  ready = q.ready;
   same =
       q.same
-      ∙ ap (λ cs. cs ++ claims_anew more) p.same
-      ∙ append_assoc (so_far a) (claims_anew first) (claims_anew more)
+      ∙ ap (λ cs. cs ++ flat_map (forward Variable []) more) p.same
+      ∙ append_assoc (so_far a) (flat_map (forward Variable []) first) (flat_map (forward Variable []) more)
       ∙ ap (λ cs. so_far a ++ cs) (sym (flat_map-append (forward Variable []) first more));
 }
 
-pub next_cut : (s : Steps) (known : List Term) (cuts : List StepId) (i : ℕ) (d : StepId) (a b c : Walk) → i < length cuts → ClaimsAll a b (cut_trees s known (take i cuts)) → ClaimsAll b c (cut_tree s known (get_or cuts i d) ∷ []) → ClaimsAll a c (cut_trees s known (take (i + 1) cuts))
-next_cut s known cuts i d a b c w p q =
-    subst (ClaimsAll a c) (sym (map-append (cut_tree s known) (take i cuts) (get_or cuts i d ∷ [])) ∙ ap (cut_trees s known) (sym (take_more cuts i d w)))
-    (claims_twice a b c (cut_trees s known (take i cuts)) (cut_tree s known (get_or cuts i d) ∷ []) p q)
+pub next_cut : {names : List Term} {a b c : Walk} (s : Steps) (known : List Term) (cuts : List StepId) (i : ℕ) (d : StepId) → i < length cuts → ClaimsAll names a b (cut_trees s known (take i cuts)) → ClaimsAll names b c (cut_tree s known (get_or cuts i d) ∷ []) → ClaimsAll names a c (cut_trees s known (take (i + 1) cuts))
+next_cut {names} {a} {b} {c} s known cuts i d w p q =
+    subst (ClaimsAll names a c) (sym (map-append (cut_tree s known) (take i cuts) (get_or cuts i d ∷ [])) ∙ ap (cut_trees s known) (sym (take_more cuts i d w)))
+    (claims_twice (cut_trees s known (take i cuts)) (cut_tree s known (get_or cuts i d) ∷ []) p q)
 
--- facts, one after the other
-pub next_along : {names : List Term} {a b c : Walk} (facts : List TermId) (i : ℕ) (d : TermId) → i < length facts → OnlyAdds a b → ((rest : Tree) → claims_from a (assume_all (trees_at names facts) rest) ≡ claims_from b (assume_all (trees_at names (drop i facts)) rest))
-    → GoesAlong names b c (Assume (tree_at names (get_or facts i d)))
-    → record { whole : Whole c; remembers : Remembers names c; adds : OnlyAdds a c; same : (rest : Tree) → claims_from a (assume_all (trees_at names facts) rest) ≡ claims_from c (assume_all (trees_at names (drop (i + 1) facts)) rest) }
-next_along {names} {a} {b} {c} facts i d w adds before along =
-    let left : drop i facts ≡ get_or facts i d ∷ drop (i + 1) facts = drop-cons facts i d w ∙ ap (λ n. get_or facts i d ∷ drop n facts) (sym (add-one i)) in
-    record {
-      whole = along.goes.whole;
-      remembers = along.remembers;
-      adds = adds_twice adds along.goes.adds;
-      same = λ rest. before rest ∙ ap (λ ids. claims_from b (assume_all (trees_at names ids) rest)) left ∙ along.goes.same (assume_all (trees_at names (drop (i + 1) facts)) rest);
-    }
-
-pub along_all : {names : List Term} {a b : Walk} (facts : List TermId) (i : ℕ) → length facts ≤ i → Whole b → Remembers names b → OnlyAdds a b → ((rest : Tree) → claims_from a (assume_all (trees_at names facts) rest) ≡ claims_from b (assume_all (trees_at names (drop i facts)) rest))
-    → GoesAlong names a b (assume_all (trees_at names facts))
-along_all {names} {a} {b} facts i all whole remembers adds same = record {
-  goes = record { whole = whole; adds = adds; same = λ rest. same rest ∙ ap (λ ids. claims_from b (assume_all (trees_at names ids) rest)) (drop_all i facts all) };
-  remembers = remembers;
-}
-
-tidied : (trees : List Tree) → claims_anew trees ≡ map tidy (flat_map claims_of trees)
+tidied : (trees : List Tree) → flat_map (forward Variable []) trees ≡ map tidy (flat_map claims_of trees)
 tidied [] = refl
 tidied (tree ∷ trees) = (λ k. forward_from_start tree k ++ tidied trees k) ∙ sym (map-append tidy (claims_of tree) (flat_map claims_of trees))
 
 -- all were
-pub all_claims : (trees : List Tree) (a b : Walk) → so_far a ≡ [] → ClaimsAll a b trees → so_far b ≡ map tidy (flat_map claims_of trees)
-all_claims trees a b none all = all.same ∙ ap (λ cs. cs ++ claims_anew trees) none ∙ tidied trees
+pub all_claims : {names : List Term} {a b : Walk} (trees : List Tree) → so_far a ≡ [] → ClaimsAll names a b trees → so_far b ≡ map tidy (flat_map claims_of trees)
+all_claims trees none all = all.same ∙ ap (λ cs. cs ++ flat_map (forward Variable []) trees) none ∙ tidied trees

@@ -1,5 +1,5 @@
 -- Walks that stop where a path splits, and steps that wait.
-use Rattle.std.specs.Prelude.{◌≡◌, ℕ, ◌+◌, ◌<◌, ◌≤◌, List, [], ◌∷◌, ◌++◌, length, take, Option, Some, None}
+use Rattle.std.specs.Prelude.{◌≡◌, ℕ, ◌+◌, ◌<◌, ◌≤◌, List, [], ◌∷◌, ◌++◌, flat_map, length, take, Option, Some, None}
 use Rattle.spx_term.specs.declared.term.Term.{Term}
 use Rattle.spx_term.specs.Steps.{Tree, Cut, Assume, Assign, Fresh, Prove, Split, Claim}
 use Rattle.spx_arena.specs.declared.terms.TermId.{TermId}
@@ -8,7 +8,7 @@ use Rattle.spx_arena.specs.Facts.{facts_at}
 use Rattle.spx_steps.specs.ConditionWalk.{forward}
 use Rattle.spx_steps.specs.States.{state_in, AreValues}
 use Rattle.spx_steps.specs.Trees.{step_tree}
-use Rattle.spx_steps.specs.Walks.{IsBack, Marks, OnlyAdds, Remembers, Whole, claims_from}
+use Rattle.spx_steps.specs.Walks.{IsBack, Marks, OnlyAdds, Ready, claims_from}
 use Rattle.spx_steps.specs.declared.steps.StepId.{StepId}
 use Rattle.spx_steps.specs.declared.steps.Steps.{Steps}
 use Rattle.spx_steps.specs.declared.walk.Fork.{Fork}
@@ -34,14 +34,17 @@ ends_in (Fresh x rest) = ends_in rest
 ends_in (Prove kind place goals rest) = ends_in rest
 ends_in (Split first second) = ends_in first + ends_in second + 1
 
+-- the walk has come from one tree to another
+pub record Comes (names : List Term) (old new : Walk) (from at : Tree) : Type 0 where
+  pub ready : Ready names new
+  pub adds : OnlyAdds old new
+  pub same : claims_from old from ≡ claims_from new at
+  pub ends : ends_in from ≡ ends_in at
+
 -- the walk has come from a step to where the path ends or splits
 pub record StopsAt (s : Steps) (old new : Walk) (from : StepId) (fork : Option Fork) : Type 0 where
-  pub whole : Whole new
-  pub remembers : Remembers s.terms new
-  pub adds : OnlyAdds old new
-  pub same : claims_from old (step_tree s from) ≡ claims_from new (fork_tree s fork)
+  pub comes : Comes s.terms old new (step_tree s from) (fork_tree s fork)
   pub within : Leads s fork
-  pub ends : ends_in (step_tree s from) ≡ ends_in (fork_tree s fork)
 
 -- a step waits more, with this place of the walk
 pub record Waits (w : Walk) (old new : List Waiting) (from : StepId) : Type 0 where
@@ -73,13 +76,12 @@ AreMarks s n lists keys (w ∷ ws) = IsMark s n lists keys w × AreMarks s n lis
 abbrev pub Marked : Steps → Walk → List Waiting → Type 0
 Marked s w ws = AreMarks s (length w.terms) w.facts.lists w.facts.present.keys ws
 
--- the claims from all steps that wait
-abbrev pub waits : Steps → List Term → List TermId → List Waiting → List Claim
-waits s terms keys [] = []
-waits s terms keys (w ∷ ws) = forward (state_in terms w.mark.values) (trees_at terms (take w.mark.count keys)) (step_tree s w.from) ++ waits s terms (take w.mark.count keys) ws
+-- the claims from a step that waits
+abbrev pub claims_after : Steps → Walk → Waiting → List Claim
+claims_after s w p = forward (state_in w.terms p.mark.values) (trees_at w.terms (facts_at w.facts.lists p.mark.at)) (step_tree s p.from)
 
 abbrev pub left : Steps → Walk → List Waiting → List Claim
-left s w ws = waits s w.terms w.facts.present.keys ws
+left s w ws = flat_map (claims_after s w) ws
 
 -- how many ends and splits all of them have
 abbrev pub ends_left : Steps → List Waiting → ℕ

@@ -1,5 +1,5 @@
 -- Paths that are listed one by one.
-use Rattle.std.specs.Prelude.{◌≡◌, List, ◌++◌, flat_map, map}
+use Rattle.std.specs.Prelude.{◌≡◌, List, ◌++◌, map}
 use Rattle.spx_term.specs.declared.path.PathStep.{PathStep}
 use Rattle.spx_term.specs.Paths.{branches}
 use Rattle.spx_term.specs.Steps.{Tree}
@@ -8,10 +8,6 @@ use Rattle.spx_steps.specs.declared.listing.Path.{Path}
 -- the paths of a tree, each after these steps
 unfoldable pub after : List PathStep → Tree → List (List PathStep)
 after steps tree = map (λ more. steps ++ more) (branches tree)
-
--- the paths of several trees
-abbrev pub paths_of : List Tree → List (List PathStep)
-paths_of trees = flat_map branches trees
 
 abbrev pub steps_in : List Path → List (List PathStep)
 steps_in found = map (λ (path : Path). path.steps) found

@@ -46,37 +46,36 @@ pub record OnlyAdds (old new : Walk) : Type 0 where
   pub keys : Longer old.facts.present.keys new.facts.present.keys
   pub lists : Longer old.facts.lists new.facts.lists
 
--- terms were only added, and nothing else was changed
-pub record OnlyTerms (old new : Walk) : Type 0 where
+-- all ids are right, and so is what is known of the terms over names: they were made into what they are where names have their present values
+pub record Ready (names : List Term) (w : Walk) : Type 0 where
+  pub whole : Whole w
+  pub table : length w.made ≡ length names
+  pub made : (id into : TermId) → known w.made id ≡ Some into → IsId w.terms into (applied (state w) (tree_at names id))
+
+-- terms were only added, and what names, facts and claims are stays
+pub record OnlyTerms (names : List Term) (old new : Walk) : Type 0 where
+  pub ready : Ready names new
   pub grown : Grows old.terms new.terms
   pub values : new.values ≡ old.values
   pub facts : new.facts ≡ old.facts
   pub claims : new.claims ≡ old.claims
 
--- the walk has gone on, and no variable was given a value
-pub record Keeps (old new : Walk) : Type 0 where
-  pub whole : Whole new
-  pub grown : Grows old.terms new.terms
-  pub adds : OnlyAdds old new
-  pub values : new.values ≡ old.values
-
--- the claims from the first walk along these steps are those from the second
-pub record Walks (old new : Walk) (steps : Tree → Tree) : Type 0 where
-  pub same : (rest : Tree) → claims_from old (steps rest) ≡ claims_from new rest
-
--- the first walk has come to the second along these steps
-pub record Goes (old new : Walk) (steps : Tree → Tree) : Type 0 where
-  pub whole : Whole new
-  pub adds : OnlyAdds old new
-  pub same : (rest : Tree) → claims_from old (steps rest) ≡ claims_from new rest
-
--- the id stands for this term, where names have their present values
-pub record Means (w : Walk) (id : TermId) (t : Term) : Type 0 where
-  pub tree : tree_at w.terms id ≡ applied (state w) t
+-- a term over names was made into one where names have their values
+pub record Makes (names : List Term) (old new : Walk) (id made : TermId) : Type 0 where
+  pub only : OnlyTerms names old new
+  pub is : IsId new.terms made (applied (state old) (tree_at names id))
 
 -- the same for several
-pub record MeanAll (w : Walk) (ids : List TermId) (ts : List Term) : Type 0 where
-  pub trees : trees_at w.terms ids ≡ map (applied (state w)) ts
+pub record MakesAll (names : List Term) (old new : Walk) (ids all : List TermId) : Type 0 where
+  pub only : OnlyTerms names old new
+  pub within : AreIds (length new.terms) all
+  pub are : trees_at new.terms all ≡ map (applied (state old)) (trees_at names ids)
+
+-- the first walk has come to the second along these steps: its claims are those of the second
+pub record Goes (names : List Term) (old new : Walk) (steps : Tree → Tree) : Type 0 where
+  pub ready : Ready names new
+  pub adds : OnlyAdds old new
+  pub same : (rest : Tree) → claims_from old (steps rest) ≡ claims_from new rest
 
 -- a fact was added, or was there
 pub record AddsFact (old new : Facts) (fact : TermId) : Type 0 where
@@ -85,24 +84,9 @@ pub record AddsFact (old new : Facts) (fact : TermId) : Type 0 where
   pub stands : Stands new
   pub ids : (n : ℕ) → AreLists n old.lists → fact.0 < n → AreLists n new.lists
 
--- what is known of the terms over names is right: they were made into what they are where names have their present values
-pub record Remembers (names : List Term) (w : Walk) : Type 0 where
-  pub table : length w.made ≡ length names
-  pub made : (id into : TermId) → known w.made id ≡ Some into → IsId w.terms into (applied (state w) (tree_at names id))
-
--- a term over names was made
-pub record MakesValue (names : List Term) (old new : Walk) : Type 0 where
-  pub only : OnlyTerms old new
-  pub remembers : Remembers names new
-
--- the first walk has come to the second along these steps, and nothing wrong is known
-pub record GoesAlong (names : List Term) (old new : Walk) (steps : Tree → Tree) : Type 0 where
-  pub goes : Goes old new steps
-  pub remembers : Remembers names new
-
 -- the claims along a tree, up to the end of each path, are made
-pub record Ends (old new : Walk) (from : Tree) : Type 0 where
-  pub whole : Whole new
+pub record Ends (names : List Term) (old new : Walk) (from : Tree) : Type 0 where
+  pub ready : Ready names new
   pub same : claims_from old from ≡ claims_from new Cut
 
 -- a place to come back to
@@ -125,17 +109,12 @@ pub record IsBack (old new : Walk) (m : Mark) : Type 0 where
 abbrev pub so_far : Walk → List Claim
 so_far w = claims_at w.terms w.facts.lists w.claims
 
--- the claims of trees, where at the root of each no name has a value and nothing is known
-abbrev pub claims_anew : List Tree → List Claim
-claims_anew trees = flat_map (forward Variable []) trees
-
--- the walk stands at the root of a tree, after the claims of the first
-pub record BeginsAnew (old new : Walk) : Type 0 where
-  pub whole : Whole new
-  pub made : NothingKnown (length old.made) new.made
+-- the walk is at the root of a tree, where no name has a value and nothing is known
+pub record BeginsAnew (names : List Term) (old new : Walk) : Type 0 where
+  pub ready : Ready names new
   pub same : (rest : Tree) → claims_from new rest ≡ so_far old ++ forward Variable [] rest
 
 -- the claims of these trees were added
-pub record ClaimsAll (old new : Walk) (trees : List Tree) : Type 0 where
-  pub whole : Whole new
-  pub same : so_far new ≡ so_far old ++ claims_anew trees
+pub record ClaimsAll (names : List Term) (old new : Walk) (trees : List Tree) : Type 0 where
+  pub ready : Ready names new
+  pub same : so_far new ≡ so_far old ++ flat_map (forward Variable []) trees

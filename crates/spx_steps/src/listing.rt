@@ -3,7 +3,7 @@ ghost use Rattle.std.specs.Prelude.{◌≡◌, ◌<◌, ◌++◌, flat_map, leng
 ghost use Rattle.spx_term.specs.Paths.{branches};
 ghost use Rattle.spx_term.specs.Steps as tree;
 ghost use Rattle.spx_arena.specs.Claims.{AreIds, trees_at};
-ghost use Rattle.spx_steps.specs.Listing.{Walked, after, paths_of, steps_in};
+ghost use Rattle.spx_steps.specs.Listing.{Walked, after, steps_in};
 ghost use Rattle.spx_steps.specs.Trees.{AreRoots, AreSteps, InOrder, cut_tree, cut_trees, root_trees, step_tree};
 
 use crate::{Roots, Step, StepId, Steps};
@@ -164,7 +164,7 @@ fn list_cuts(
     requires whole { InOrder steps.now }
     requires known { AreIds (length steps.now.terms) known.now }
     requires within { AreSteps (length steps.now.nodes) cuts.now }
-    ensures { OnOk result (steps_in found.new ≡ steps_in found.old ++ paths_of (cut_trees steps.now (trees_at steps.now.terms known.now) cuts.now)) }
+    ensures { OnOk result (steps_in found.new ≡ steps_in found.old ++ flat_map branches (cut_trees steps.now (trees_at steps.now.terms known.now) cuts.now)) }
 {
     for cut in cuts {
         list_cut(alloc, steps, known, *cut, found)?;

@@ -1,9 +1,9 @@
 // Steps by ids.
-ghost use Rattle.std.specs.Prelude.{◌≡◌, ◌<◌, length, IfOk};
+ghost use Rattle.std.specs.Prelude.{◌≡◌, ◌<◌, length, IfOk, OnErr};
 ghost use Rattle.spx_arena.specs.Claims.{AreIds, trees_at};
 ghost use Rattle.spx_arena.specs.Sharing.{tree_at};
 ghost use Rattle.spx_term.specs.Steps.{Assume, Assign, Cut, Fresh, Split, assume_all, check};
-ghost use Rattle.spx_steps.specs.Trees.{AddsStep, Below, InOrder, step_in, step_tree};
+ghost use Rattle.spx_steps.specs.Trees.{AddsStep, Below, InOrder, MoreSteps, step_in, step_tree};
 
 use spx_arena::{TermId, Terms};
 use spx_term::{CondKind, Name};
@@ -63,7 +63,8 @@ impl Steps {
     pub fn push(&mut self, step: Step) -> Result<StepId, AllocError>
         requires whole { InOrder self.old }
         requires below { Below (length self.old.terms) (length self.old.nodes) step }
-        ensures { IfOk result (λ id. AddsStep self.old self.new id (step_in self.old step)) }
+        ensures added { IfOk result (λ id. AddsStep self.old self.new id (step_in self.old step)) }
+        ensures refused { OnErr result (self.new ≡ self.old) }
     {
         let at = self.nodes.len();
         self.nodes.push(step)?;
@@ -83,7 +84,8 @@ impl Steps {
     /// A path ends.
     pub fn cut(&mut self) -> Result<StepId, AllocError>
         requires { InOrder self.old }
-        ensures { IfOk result (λ id. AddsStep self.old self.new id Cut) }
+        ensures added { IfOk result (λ id. AddsStep self.old self.new id Cut) }
+        ensures refused { OnErr result (self.new ≡ self.old) }
     {
         self.push(Step::Cut)
     }
@@ -92,7 +94,8 @@ impl Steps {
     pub fn assume(&mut self, fact: TermId, next: StepId) -> Result<StepId, AllocError>
         requires whole { InOrder self.old }
         requires within { (fact.0 < length self.old.terms) × (next.0 < length self.old.nodes) }
-        ensures { IfOk result (λ id. AddsStep self.old self.new id (Assume (tree_at self.old.terms fact) (step_tree self.old next))) }
+        ensures added { IfOk result (λ id. AddsStep self.old self.new id (Assume (tree_at self.old.terms fact) (step_tree self.old next))) }
+        ensures refused { OnErr result (self.new ≡ self.old) }
     {
         self.push(Step::Assume(fact, next))
     }
@@ -101,7 +104,8 @@ impl Steps {
     pub fn assign(&mut self, name: Name, value: TermId, next: StepId) -> Result<StepId, AllocError>
         requires whole { InOrder self.old }
         requires within { (value.0 < length self.old.terms) × (next.0 < length self.old.nodes) }
-        ensures { IfOk result (λ id. AddsStep self.old self.new id (Assign name (tree_at self.old.terms value) (step_tree self.old next))) }
+        ensures added { IfOk result (λ id. AddsStep self.old self.new id (Assign name (tree_at self.old.terms value) (step_tree self.old next))) }
+        ensures refused { OnErr result (self.new ≡ self.old) }
     {
         self.push(Step::Assign(name, value, next))
     }
@@ -117,7 +121,8 @@ impl Steps {
         requires whole { InOrder self.old }
         requires within { next.0 < length self.old.nodes }
         requires goals { AreIds (length self.old.terms) goals }
-        ensures { IfOk result (λ id. AddsStep self.old self.new id (check kind place (trees_at self.old.terms goals) (step_tree self.old next))) }
+        ensures added { IfOk result (λ id. AddsStep self.old self.new id (check kind place (trees_at self.old.terms goals) (step_tree self.old next))) }
+        ensures refused { OnErr result (self.new ≡ self.old) }
     {
         self.push(Step::Check(kind, place, goals, next))
     }
@@ -126,17 +131,19 @@ impl Steps {
     pub fn split(&mut self, first: StepId, second: StepId) -> Result<StepId, AllocError>
         requires whole { InOrder self.old }
         requires within { (first.0 < length self.old.nodes) × (second.0 < length self.old.nodes) }
-        ensures { IfOk result (λ id. AddsStep self.old self.new id (Split (step_tree self.old first) (step_tree self.old second))) }
+        ensures added { IfOk result (λ id. AddsStep self.old self.new id (Split (step_tree self.old first) (step_tree self.old second))) }
+        ensures refused { OnErr result (self.new ≡ self.old) }
     {
         self.push(Step::Split(first, second))
     }
 
-    /// Facts, one after the other.
+    /// Facts, one after the other. Where memory runs out, the steps of some of them have come in.
     pub fn assume_all(&mut self, facts: &[TermId], next: StepId) -> Result<StepId, AllocError>
         requires whole { InOrder self.old }
         requires within { next.0 < length self.old.nodes }
         requires facts { AreIds (length self.old.terms) facts.now }
-        ensures { IfOk result (λ id. AddsStep self.old self.new id (assume_all (trees_at self.old.terms facts.now) (step_tree self.old next))) }
+        ensures added { IfOk result (λ id. AddsStep self.old self.new id (assume_all (trees_at self.old.terms facts.now) (step_tree self.old next))) }
+        ensures refused { OnErr result (InOrder self.new × MoreSteps self.old self.new × (self.new.terms ≡ self.old.terms)) }
     {
         let mut at = next;
         let mut left = facts.len();

@@ -1,16 +1,13 @@
 // The walk along steps to the end of each path, which makes the conditions on its way. What paths have in common is walked once.
 ghost use Rattle.std.specs.Prelude.{◌≡◌, ◌<◌, [], ◌∷◌, List, flat_map, length, map, IfOk, MatchOption, OnOk};
 ghost use Rattle.spx_term.specs.declared.term.Term.{Term};
-ghost use Rattle.spx_term.specs.declared.term.Term.TheVariants.{Variable};
-ghost use Rattle.spx_term.specs.Steps.{Assign, Assume, Prove, assume_all, check, claims_of, tidy};
+ghost use Rattle.spx_term.specs.Steps.{Assign, Assume, assume_all, check, claims_of, tidy};
 ghost use Rattle.spx_arena.specs.Claims.{AreIds, IsWhole, claims_in, trees_at};
-ghost use Rattle.spx_arena.specs.Sharing.{tree_at, Adds, IsId};
-ghost use Rattle.spx_steps.specs.ConditionWalk.{applied};
-ghost use Rattle.spx_steps.specs.Memos.{NothingKnown};
+ghost use Rattle.spx_arena.specs.Sharing.{tree_at, Adds};
 ghost use Rattle.spx_steps.specs.States.{state_in, AreValues};
 ghost use Rattle.spx_steps.specs.Trees.{AreRoots, AreSteps, InOrder, cut_tree, cut_trees, root_trees, step_tree};
 ghost use Rattle.spx_steps.specs.Forks.{Resumes, StopsAt, Waits};
-ghost use Rattle.spx_steps.specs.Walks.{AddsFact, BeginsAnew, ClaimsAll, Ends, Goes, IsBack, Keeps, Marks, MeanAll, Means, MakesValue, GoesAlong, Remembers, Stands, Walks, Whole, state};
+ghost use Rattle.spx_steps.specs.Walks.{AddsFact, BeginsAnew, ClaimsAll, Ends, Goes, IsBack, Makes, MakesAll, Marks, Ready, Stands};
 
 use crate::memo::Memo;
 use crate::parts::parts_of;
@@ -104,11 +101,9 @@ impl Walk {
         id: TermId,
         depth: u32,
     ) -> Result<TermId, AllocError>
-        requires whole { Whole self.old }
-        requires remembers { Remembers names.now self.old }
+        requires ready { Ready names.now self.old }
         requires within { id.0 < length names.now }
-        ensures values { OnOk result (MakesValue names.now self.old self.new) }
-        ensures made { IfOk result (λ made. IsId self.new.terms made (applied (state self.old) (tree_at names.now id))) }
+        ensures { IfOk result (Makes names.now self.old self.new id) }
     {
         match names.node(id) {
             Node::Number(value) => {
@@ -146,11 +141,9 @@ impl Walk {
         id: TermId,
         depth: u32,
     ) -> Result<TermId, AllocError>
-        requires whole { Whole self.old }
-        requires remembers { Remembers names.now self.old }
+        requires ready { Ready names.now self.old }
         requires within { id.0 < length names.now }
-        ensures values { OnOk result (MakesValue names.now self.old self.new) }
-        ensures made { IfOk result (λ made. IsId self.new.terms made (applied (state self.old) (tree_at names.now id))) }
+        ensures { IfOk result (Makes names.now self.old self.new id) }
     {
         let made = self.made_of(alloc, names, id, depth)?;
         self.made.set(id, made);
@@ -160,11 +153,9 @@ impl Walk {
     /// The id of a term over names with their values, made after those of all its parts, from the first on.
     #[cycle(value_of)]
     fn fill(&mut self, alloc: Global, names: &Terms, id: TermId) -> Result<TermId, AllocError>
-        requires whole { Whole self.old }
-        requires remembers { Remembers names.now self.old }
+        requires ready { Ready names.now self.old }
         requires within { id.0 < length names.now }
-        ensures values { OnOk result (MakesValue names.now self.old self.new) }
-        ensures made { IfOk result (λ made. IsId self.new.terms made (applied (state self.old) (tree_at names.now id))) }
+        ensures { IfOk result (Makes names.now self.old self.new id) }
     {
         let parts = parts_of(alloc, names, id)?;
         'parts: for at in 0..id.0 {
@@ -186,11 +177,9 @@ impl Walk {
         id: TermId,
         depth: u32,
     ) -> Result<TermId, AllocError>
-        requires whole { Whole self.old }
-        requires remembers { Remembers names.now self.old }
+        requires ready { Ready names.now self.old }
         requires within { id.0 < length names.now }
-        ensures values { OnOk result (MakesValue names.now self.old self.new) }
-        ensures made { IfOk result (λ made. IsId self.new.terms made (applied (state self.old) (tree_at names.now id))) }
+        ensures { IfOk result (Makes names.now self.old self.new id) }
     {
         if let Some(known) = self.made.get(id) {
             return Ok(known);
@@ -210,82 +199,15 @@ impl Walk {
         names: &Terms,
         ids: &[TermId],
     ) -> Result<Items<TermId>, AllocError>
-        requires whole { Whole self.old }
-        requires remembers { Remembers names.now self.old }
+        requires ready { Ready names.now self.old }
         requires within { AreIds (length names.now) ids.now }
-        ensures values { OnOk result (MakesValue names.now self.old self.new) }
-        ensures within { IfOk result (AreIds (length self.new.terms)) }
-        ensures made { IfOk result (λ all. trees_at self.new.terms all ≡ map (applied (state self.old)) (trees_at names.now ids.now)) }
+        ensures { IfOk result (MakesAll names.now self.old self.new ids.now) }
     {
         let mut all = Items::new(alloc);
         for id in ids {
             all.push(self.value_of(alloc, names, *id, MOST_DEPTH)?)?;
         }
         Ok(all)
-    }
-
-    /// Gives a name a value. What terms were made into is forgotten.
-    fn set_value(&mut self, name: Name, value: TermId) -> Result<(), AllocError>
-        requires whole { Whole self.old }
-        requires within { value.0 < length self.old.terms }
-        ensures goes { OnOk result ((t : Term) → Means self.old value t → Goes self.old self.new (Assign name t)) }
-        ensures made { OnOk result (NothingKnown (length self.old.made) self.new.made) }
-    {
-        self.values.set(name, value)?;
-        self.made.forget();
-        Ok(())
-    }
-
-    /// Adds a fact, if it is not there.
-    fn assume(&mut self, fact: TermId) -> Result<(), AllocError>
-        requires whole { Whole self.old }
-        requires within { fact.0 < length self.old.terms }
-        ensures keeps { OnOk result (Keeps self.old self.new) }
-        ensures made { OnOk result (self.new.made ≡ self.old.made) }
-        ensures walks { OnOk result ((t : Term) → Means self.old fact t → Walks self.old self.new (Assume t)) }
-    {
-        self.terms.distinct();
-        self.facts.add(fact)?;
-        Ok(())
-    }
-
-    /// Adds facts, one after the other.
-    fn assume_all(&mut self, facts: &[TermId]) -> Result<(), AllocError>
-        requires whole { Whole self.old }
-        requires within { AreIds (length self.old.terms) facts.now }
-        ensures keeps { OnOk result (Keeps self.old self.new) }
-        ensures made { OnOk result (self.new.made ≡ self.old.made) }
-        ensures walks { OnOk result ((ts : List Term) → MeanAll self.old facts.now ts → Walks self.old self.new (assume_all ts)) }
-    {
-        for fact in facts {
-            self.assume(*fact)?;
-        }
-        Ok(())
-    }
-
-    /// Claims goals under the facts so far.
-    fn claim(
-        &mut self,
-        alloc: Global,
-        kind: CondKind,
-        place: Place,
-        goals: &[TermId],
-    ) -> Result<(), AllocError>
-        requires whole { Whole self.old }
-        requires within { AreIds (length self.old.terms) goals.now }
-        ensures keeps { OnOk result (Keeps self.old self.new) }
-        ensures made { OnOk result (self.new.made ≡ self.old.made) }
-        ensures walks { OnOk result ((ts : List Term) → MeanAll self.old goals.now ts → Walks self.old self.new (Prove kind place ts)) }
-    {
-        let goals = Items::from_slice(alloc, goals)?;
-        let facts = self.facts.at;
-        self.claims.push(SharedClaim {
-            kind,
-            place,
-            facts,
-            goals,
-        })?;
-        Ok(())
     }
 
     /// The place to come back to.
@@ -311,13 +233,13 @@ impl Walk {
 
     /// A term is true.
     fn assumed(&mut self, alloc: Global, names: &Terms, fact: TermId) -> Result<(), AllocError>
-        requires whole { Whole self.old }
-        requires remembers { Remembers names.now self.old }
+        requires ready { Ready names.now self.old }
         requires within { fact.0 < length names.now }
-        ensures { OnOk result (GoesAlong names.now self.old self.new (Assume (tree_at names.now fact))) }
+        ensures { OnOk result (Goes names.now self.old self.new (Assume (tree_at names.now fact))) }
     {
         let id = self.value_of(alloc, names, fact, MOST_DEPTH)?;
-        self.assume(id)?;
+        self.terms.distinct();
+        self.facts.add(id)?;
         Ok(())
     }
 
@@ -328,10 +250,9 @@ impl Walk {
         names: &Terms,
         facts: &[TermId],
     ) -> Result<(), AllocError>
-        requires whole { Whole self.old }
-        requires remembers { Remembers names.now self.old }
+        requires ready { Ready names.now self.old }
         requires within { AreIds (length names.now) facts.now }
-        ensures { OnOk result (GoesAlong names.now self.old self.new (assume_all (trees_at names.now facts.now))) }
+        ensures { OnOk result (Goes names.now self.old self.new (assume_all (trees_at names.now facts.now))) }
     {
         for fact in facts {
             self.assumed(alloc, names, *fact)?;
@@ -339,7 +260,7 @@ impl Walk {
         Ok(())
     }
 
-    /// A name stands for a new value.
+    /// A name stands for a new value. What terms were made into is forgotten.
     fn assigned(
         &mut self,
         alloc: Global,
@@ -347,13 +268,13 @@ impl Walk {
         name: Name,
         value: TermId,
     ) -> Result<(), AllocError>
-        requires whole { Whole self.old }
-        requires remembers { Remembers names.now self.old }
+        requires ready { Ready names.now self.old }
         requires within { value.0 < length names.now }
-        ensures { OnOk result (GoesAlong names.now self.old self.new (Assign name (tree_at names.now value))) }
+        ensures { OnOk result (Goes names.now self.old self.new (Assign name (tree_at names.now value))) }
     {
         let id = self.value_of(alloc, names, value, MOST_DEPTH)?;
-        self.set_value(name, id)?;
+        self.values.set(name, id)?;
+        self.made.forget();
         Ok(())
     }
 
@@ -366,15 +287,19 @@ impl Walk {
         place: Place,
         goals: &[TermId],
     ) -> Result<(), AllocError>
-        requires whole { Whole self.old }
-        requires remembers { Remembers names.now self.old }
+        requires ready { Ready names.now self.old }
         requires within { AreIds (length names.now) goals.now }
-        ensures { OnOk result (GoesAlong names.now self.old self.new (check kind place (trees_at names.now goals.now))) }
+        ensures { OnOk result (Goes names.now self.old self.new (check kind place (trees_at names.now goals.now))) }
     {
-        let all = self.values_of(alloc, names, goals)?;
-        let ids = all.as_slice();
-        self.claim(alloc, kind, place, ids)?;
-        self.assume_all(ids)?;
+        let ids = self.values_of(alloc, names, goals)?;
+        let facts = self.facts.at;
+        self.claims.push(SharedClaim {
+            kind,
+            place,
+            facts,
+            goals: ids,
+        })?;
+        self.all_assumed(alloc, names, goals)?;
         Ok(())
     }
 
@@ -385,8 +310,7 @@ impl Walk {
         steps: &Steps,
         from: StepId,
     ) -> Result<Option<Fork>, AllocError>
-        requires whole { Whole self.old }
-        requires remembers { Remembers steps.now.terms self.old }
+        requires ready { Ready steps.now.terms self.old }
         requires order { InOrder steps.now }
         requires within { from.0 < length steps.now.nodes }
         ensures { IfOk result (StopsAt steps.now self.old self.new from) }
@@ -449,12 +373,10 @@ impl Walk {
 
     /// From a step on to the end of each path. Where it splits the second step waits.
     fn walk(&mut self, alloc: Global, steps: &Steps, from: StepId) -> Result<(), AllocError>
-        requires whole { Whole self.old }
-        requires remembers { Remembers steps.now.terms self.old }
+        requires ready { Ready steps.now.terms self.old }
         requires order { InOrder steps.now }
         requires within { from.0 < length steps.now.nodes }
-        ensures ends { OnOk result (Ends self.old self.new (step_tree steps.now from)) }
-        ensures remembers { OnOk result (Remembers steps.now.terms self.new) }
+        ensures { OnOk result (Ends steps.now.terms self.old self.new (step_tree steps.now from)) }
     {
         let mut waiting = Items::new(alloc);
         let mut at = from;
@@ -478,8 +400,7 @@ impl Walk {
 
     /// No name has a value, and nothing is known. Terms, lists of facts and claims stay.
     fn begin_anew(&mut self, alloc: Global)
-        requires { Whole self.old }
-        ensures { BeginsAnew self.old self.new }
+        ensures { (names : List Term) → Ready names self.old → BeginsAnew names self.old self.new }
     {
         self.values = Values::new(alloc);
         self.made.forget();
@@ -487,21 +408,7 @@ impl Walk {
         self.facts.at = self.facts.lists.none();
     }
 
-    /// From the start of a body on, where no name has a value and nothing is known.
-    fn walk_start(&mut self, alloc: Global, steps: &Steps, start: StepId) -> Result<(), AllocError>
-        requires whole { Whole self.old }
-        requires remembers { Remembers steps.now.terms self.old }
-        requires order { InOrder steps.now }
-        requires within { start.0 < length steps.now.nodes }
-        ensures claims { OnOk result (ClaimsAll self.old self.new (step_tree steps.now start ∷ [])) }
-        ensures remembers { OnOk result (Remembers steps.now.terms self.new) }
-    {
-        self.begin_anew(alloc);
-        self.walk(alloc, steps, start)?;
-        Ok(())
-    }
-
-    /// From a cut on, where no name has a value and these facts are known.
+    /// From the start of a body or a cut on, where no name has a value and these facts are known.
     fn walk_cut(
         &mut self,
         alloc: Global,
@@ -509,13 +416,11 @@ impl Walk {
         known: &[TermId],
         cut: StepId,
     ) -> Result<(), AllocError>
-        requires whole { Whole self.old }
-        requires remembers { Remembers steps.now.terms self.old }
+        requires ready { Ready steps.now.terms self.old }
         requires order { InOrder steps.now }
         requires known { AreIds (length steps.now.terms) known.now }
         requires within { cut.0 < length steps.now.nodes }
-        ensures claims { OnOk result (ClaimsAll self.old self.new (cut_tree steps.now (trees_at steps.now.terms known.now) cut ∷ [])) }
-        ensures remembers { OnOk result (Remembers steps.now.terms self.new) }
+        ensures { OnOk result (ClaimsAll steps.now.terms self.old self.new (cut_tree steps.now (trees_at steps.now.terms known.now) cut ∷ [])) }
     {
         self.begin_anew(alloc);
         self.all_assumed(alloc, &steps.terms, known)?;
@@ -531,13 +436,11 @@ impl Walk {
         known: &[TermId],
         cuts: &[StepId],
     ) -> Result<(), AllocError>
-        requires whole { Whole self.old }
-        requires remembers { Remembers steps.now.terms self.old }
+        requires ready { Ready steps.now.terms self.old }
         requires order { InOrder steps.now }
         requires known { AreIds (length steps.now.terms) known.now }
         requires within { AreSteps (length steps.now.nodes) cuts.now }
-        ensures claims { OnOk result (ClaimsAll self.old self.new (cut_trees steps.now (trees_at steps.now.terms known.now) cuts.now)) }
-        ensures remembers { OnOk result (Remembers steps.now.terms self.new) }
+        ensures { OnOk result (ClaimsAll steps.now.terms self.old self.new (cut_trees steps.now (trees_at steps.now.terms known.now) cuts.now)) }
     {
         for cut in cuts {
             self.walk_cut(alloc, steps, known, *cut)?;
@@ -547,14 +450,12 @@ impl Walk {
 
     /// From the start of a body on, and then from its cuts on.
     fn walk_roots(&mut self, alloc: Global, steps: &Steps, roots: &Roots) -> Result<(), AllocError>
-        requires whole { Whole self.old }
-        requires remembers { Remembers steps.now.terms self.old }
+        requires ready { Ready steps.now.terms self.old }
         requires order { InOrder steps.now }
         requires roots { AreRoots steps.now roots.now }
-        ensures claims { OnOk result (ClaimsAll self.old self.new (root_trees steps.now roots.now)) }
-        ensures remembers { OnOk result (Remembers steps.now.terms self.new) }
+        ensures { OnOk result (ClaimsAll steps.now.terms self.old self.new (root_trees steps.now roots.now)) }
     {
-        self.walk_start(alloc, steps, roots.start)?;
+        self.walk_cut(alloc, steps, &[], roots.start)?;
         self.walk_cuts(alloc, steps, roots.known.as_slice(), roots.cuts.as_slice())?;
         Ok(())
     }

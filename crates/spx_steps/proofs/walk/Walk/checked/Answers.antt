@@ -1,17 +1,14 @@
-use Rattle.std.proofs.Common.{subst, sym}
-use Rattle.spx_arena.specs.Claims.{AreIds, trees_at}
-use Rattle.spx_steps.proofs.SharedSteps.{ids_kept, only_keeps}
-use Rattle.spx_steps.proofs.WalkLaws.{after_checked}
+use Rattle.spx_arena.specs.Claims.{trees_at}
+use Rattle.spx_steps.proofs.SharedSteps.{claim_goes, goes_after, goes_twice}
+use Rattle.spx_steps.proofs.WalkLaws.{made_trees}
 use Rattle.spx_steps.proofs.walk.Walk.checked.Goals as goal
 
-pub claim-requires-clause-whole : goal.claim-requires-clause-whole
-claim-requires-clause-whole c = (only_keeps c.requires.whole c.in_ok-all.ensures.values.only).whole
-
-pub assume_all-requires-clause-within : goal.assume_all-requires-clause-within
-assume_all-requires-clause-within c =
-    ids_kept (only_keeps c.requires.whole c.in_ok-all.ensures.values.only).whole c.in_ok-claim.ensures.keeps _ (subst (AreIds _) (sym c.as_slice-ids.ensures) c.in_ok-all.ensures.within)
+pub all_assumed-requires-clause-ready : goal.all_assumed-requires-clause-ready
+all_assumed-requires-clause-ready c =
+    let m = c.in_ok-ids.ensures in
+    (claim_goes m.only.ready c.in_ok-ids.ids c.args.kind c.args.place (trees_at c.args.names.now c.args.goals.now) m.within (made_trees c.requires.ready m) c.in_ok-push.ensures.ok).ready
 
 pub returns : goal.returns
 returns c =
-    after_checked c.args.kind c.args.place (trees_at c.args.names.now c.args.goals.now) c.requires.whole c.in_ok-all.ensures.values c.in_ok-all.ensures.within c.in_ok-all.ensures.made c.as_slice-ids.ensures
-    c.in_ok-claim.ensures.keeps c.in_ok-claim.ensures.made c.in_ok-claim.ensures.walks c.in_ok-assume_all.ensures.keeps c.in_ok-assume_all.ensures.made c.in_ok-assume_all.ensures.walks
+    let m = c.in_ok-ids.ensures in
+    goes_after c.requires.ready m.only (goes_twice (claim_goes m.only.ready c.in_ok-ids.ids c.args.kind c.args.place (trees_at c.args.names.now c.args.goals.now) m.within (made_trees c.requires.ready m) c.in_ok-push.ensures.ok) c.in_ok-all_assumed.ensures)
