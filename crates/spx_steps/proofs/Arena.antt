@@ -1,5 +1,5 @@
 -- Steps and their trees.
-use Rattle.std.proofs.Common.{◌≡◌, ℕ, ◌+◌, ◌<◌, ◌≤◌, List, [], ◌∷◌, ◌++◌, length, get_or, drop, drop-cons, add-one, fold, zero, suc, refl, sym, ap, ◌∙◌, subst, arith, length-append, below_more}
+use Rattle.std.proofs.Common.{◌≡◌, ℕ, ◌+◌, ◌<◌, ◌≤◌, List, [], ◌∷◌, ◌++◌, length, get_or, drop, fold, zero, suc, refl, sym, ap, ◌∙◌, subst, arith, length-append, below_more}
 use Rattle.std.proofs.lemmas.List.{drop_all}
 use Rattle.std.proofs.lemmas.List.Sums.{fold-append}
 use Rattle.std.proofs.Math.ListN.{get_or-append}
@@ -7,8 +7,8 @@ use Rattle.std.proofs.Math.Seq.{get_or-append_seam}
 use Rattle.spx_term.specs.declared.term.Term.{Term}
 use Rattle.spx_term.specs.Steps.{Tree, Cut, Assume, Assign, Fresh, Split, assume_all, check}
 use Rattle.spx_arena.specs.declared.terms.TermId.{TermId}
-use Rattle.spx_arena.specs.Claims.{AreIds, trees_at}
-use Rattle.spx_arena.specs.Sharing.{tree_at, Grows}
+use Rattle.spx_arena.specs.Claims.{trees_at}
+use Rattle.spx_arena.specs.Sharing.{Grows}
 use Rattle.spx_arena.proofs.Growth.{grows_not, grows_twice}
 use Rattle.spx_arena.proofs.Ids.{kept_ids, wider_ids}
 use Rattle.spx_steps.specs.declared.steps.Step.{Step}

@@ -8,7 +8,7 @@ use Rattle.spx_term.specs.declared.path.PathStep.{PathStep}
 use Rattle.spx_term.specs.declared.path.PathStep.TheVariants as step
 use Rattle.spx_term.specs.declared.term.Term.{Term}
 use Rattle.spx_term.specs.Paths.{branches}
-use Rattle.spx_term.specs.Steps.{Tree, assume_all, check, Split}
+use Rattle.spx_term.specs.Steps.{Tree, assume_all, check}
 use Rattle.spx_arena.specs.Claims.{trees_at}
 use Rattle.spx_steps.specs.declared.steps.StepId.{StepId}
 use Rattle.spx_steps.specs.declared.steps.Steps.{Steps}

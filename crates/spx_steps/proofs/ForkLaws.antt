@@ -1,5 +1,5 @@
 -- Walks that stop where a path splits, and steps that wait.
-use Rattle.std.proofs.Common.{◌≡◌, ℕ, ◌<◌, ◌≤◌, List, [], ◌∷◌, ◌++◌, flat_map, length, take, reverse, zero, suc, Option, Some, None, refl, sym, ap, ◌∙◌, subst, arith, length-append, append_assoc, append-nil}
+use Rattle.std.proofs.Common.{◌≡◌, ℕ, ◌<◌, ◌≤◌, List, [], ◌∷◌, ◌++◌, length, take, reverse, zero, suc, Option, Some, None, refl, sym, ap, ◌∙◌, subst, arith, length-append, append_assoc, append-nil}
 use Rattle.std.proofs.lemmas.List.{reverse-append, take-append-le}
 use Rattle.std.proofs.Math.ListN.{get_or-append}
 use Rattle.std.proofs.Math.Seq.{take-length}
@@ -7,11 +7,9 @@ use Rattle.spx_text.specs.declared.place.Place.{Place}
 use Rattle.spx_term.specs.declared.condition.CondKind.{CondKind}
 use Rattle.spx_term.specs.declared.term.Term.{Term}
 use Rattle.spx_term.specs.Steps.{Tree, Cut, Split, Claim, assume_all, check}
-use Rattle.spx_arena.specs.declared.facts.FactsId.{FactsId}
 use Rattle.spx_arena.specs.declared.terms.TermId.{TermId}
-use Rattle.spx_arena.specs.Claims.{AreIds, AreLists, AreClaims, trees_at, claims_at}
+use Rattle.spx_arena.specs.Claims.{AreIds, trees_at, claims_at}
 use Rattle.spx_arena.specs.Facts.{facts_at}
-use Rattle.spx_arena.specs.Sharing.{Grows}
 use Rattle.spx_arena.proofs.Ids.{kept_hyps}
 use Rattle.spx_steps.specs.declared.steps.StepId.{StepId}
 use Rattle.spx_steps.specs.declared.steps.Steps.{Steps}
@@ -19,9 +17,9 @@ use Rattle.spx_steps.specs.declared.walk.Fork.{Fork}
 use Rattle.spx_steps.specs.declared.walk.Waiting.{Waiting}
 use Rattle.spx_steps.specs.declared.walk.Walk.{Walk}
 use Rattle.spx_steps.specs.ConditionWalk.{forward}
-use Rattle.spx_steps.specs.States.{AreValues, state_in}
+use Rattle.spx_steps.specs.States.{state_in}
 use Rattle.spx_steps.specs.Trees.{step_tree}
-use Rattle.spx_steps.specs.Forks.{AreMarks, IsMark, Marked, Resumes, StopsAt, Waits, claims_after, ends_in, fork_tree, left}
+use Rattle.spx_steps.specs.Forks.{AreMarks, Marked, Resumes, StopsAt, Waits, ends_in, fork_tree, left}
 use Rattle.spx_steps.specs.Walks.{IsBack, Marks, OnlyAdds, Ready, claims_from, so_far, state}
 use Rattle.spx_steps.proofs.SharedIds.{state_kept}
 use Rattle.spx_steps.proofs.SharedSteps.{none_made, wider_values}

@@ -1,6 +1,6 @@
 -- What each step adds, where terms are ids.
-use Rattle.std.proofs.Common.{◌≡◌, ℕ, ◌+◌, ◌<◌, ◌≤◌, Bool, true, false, cond, List, [], ◌∷◌, ◌++◌, length, get_or, map, drop, drop-cons, add-one, zero, suc, Option, Some, None, refl, sym, ap, ◌∙◌, subst, arith, append-nil, length-append, append_assoc}
-use Rattle.std.proofs.lemmas.List.{length-map, map-append}
+use Rattle.std.proofs.Common.{◌≡◌, ℕ, ◌<◌, ◌≤◌, Bool, true, false, cond, List, [], ◌∷◌, ◌++◌, length, map, Option, Some, None, refl, sym, ap, ◌∙◌, subst, arith, append-nil, length-append, append_assoc}
+use Rattle.std.proofs.lemmas.List.{map-append}
 use Rattle.std.specs.List.{list_any}
 use Rattle.std.proofs.Math.Seq.{get_or-append_seam}
 use Rattle.indexmap.specs.IndexSet.{insert_key}
@@ -8,8 +8,8 @@ use Rattle.spx_text.specs.declared.place.Place.{Place}
 use Rattle.spx_term.specs.declared.condition.CondKind.{CondKind}
 use Rattle.spx_term.specs.declared.term.Name.{Name}
 use Rattle.spx_term.specs.declared.term.Term.{Term}
-use Rattle.spx_term.specs.declared.term.Term.TheVariants.{Truth, Variable}
-use Rattle.spx_term.specs.Steps.{Tree, Assume, Assign, Prove, assume_all, Claim, with_new}
+use Rattle.spx_term.specs.declared.term.Term.TheVariants.{Variable}
+use Rattle.spx_term.specs.Steps.{Tree, Assume, Assign, Prove, Claim, with_new}
 use Rattle.spx_arena.specs.declared.terms.TermId.{TermId}
 use Rattle.spx_arena.specs.declared.claims.SharedClaim.{SharedClaim}
 use Rattle.spx_arena.specs.Sharing.{tree_at, Grows, Distinct, IsId}

@@ -1,32 +1,26 @@
 -- What is known of terms over names, and walks to the end of each path.
-use Rattle.std.proofs.Common.{◌≡◌, ℕ, ◌+◌, ◌<◌, ◌≤◌, Bool, true, false, cond, List, [], ◌∷◌, ◌++◌, length, take, drop, drop-cons, add-one, get_or, flat_map, map, ℤ, Some, None, refl, sym, ap, ◌∙◌, subst, append_assoc, append-nil}
-use Rattle.std.proofs.lemmas.List.{drop_all, map-append, take_more}
+use Rattle.std.proofs.Common.{◌≡◌, ℕ, ◌+◌, ◌<◌, List, [], ◌∷◌, ◌++◌, length, take, get_or, flat_map, map, Some, refl, sym, ap, ◌∙◌, subst, append_assoc, append-nil}
+use Rattle.std.proofs.lemmas.List.{map-append, take_more}
 use Rattle.std.proofs.lemmas.Grind.{flat_map-append}
-use Rattle.spx_text.specs.declared.place.Place.{Place}
-use Rattle.spx_term.specs.declared.condition.CondKind.{CondKind}
 use Rattle.spx_term.specs.declared.term.Name.{Name}
-use Rattle.spx_term.specs.declared.term.TermOp.{TermOp}
-use Rattle.spx_term.specs.declared.term.TermPrefix.{TermPrefix}
 use Rattle.spx_term.specs.declared.term.Term.{Term}
-use Rattle.spx_term.specs.declared.term.Term.TheVariants.{Number, Variable, Prefix, Infix}
-use Rattle.spx_term.specs.Steps.{Tree, Cut, Assume, Fresh, Prove, Split, assume_all, check, claims_of, tidy}
+use Rattle.spx_term.specs.declared.term.Term.TheVariants.{Variable}
+use Rattle.spx_term.specs.Steps.{Tree, Cut, Assume, Fresh, Split, assume_all, claims_of, tidy}
 use Rattle.spx_arena.specs.declared.terms.TermId.{TermId}
-use Rattle.spx_arena.specs.Claims.{AreIds, AreLists, AreClaims, trees_at, claims_at}
+use Rattle.spx_arena.specs.Claims.{AreIds, trees_at, claims_at}
 use Rattle.spx_arena.specs.Facts.{facts_at}
-use Rattle.spx_arena.specs.Sharing.{tree_at, Grows, IsId}
-use Rattle.spx_arena.proofs.Growth.{grows_not, grows_twice, is_kept}
+use Rattle.spx_arena.specs.Sharing.{tree_at}
 use Rattle.spx_arena.proofs.Ids.{ids_push, kept_ids, wider_ids}
 use Rattle.spx_steps.specs.declared.steps.StepId.{StepId}
 use Rattle.spx_steps.specs.declared.steps.Steps.{Steps}
 use Rattle.spx_steps.specs.Trees.{cut_tree, cut_trees}
 use Rattle.spx_steps.specs.declared.walk.Walk.{Walk}
 use Rattle.spx_steps.specs.ConditionWalk.{State, applied, forward}
-use Rattle.spx_steps.specs.Memos.{id_eq, known, IsMade, NothingKnown}
+use Rattle.spx_steps.specs.Memos.{known, NothingKnown}
 use Rattle.spx_steps.specs.States.{AreValues, given, state_in}
-use Rattle.spx_steps.specs.Walks.{BeginsAnew, ClaimsAll, Goes, Makes, MakesAll, OnlyAdds, OnlyTerms, Ready, Whole, claims_from, so_far, state}
+use Rattle.spx_steps.specs.Walks.{BeginsAnew, ClaimsAll, Goes, Makes, MakesAll, Ready, claims_from, so_far, state}
 use Rattle.spx_steps.specs.Forks.{Comes, ends_in}
 use Rattle.spx_steps.proofs.ConditionForward.{forward_from_start}
-use Rattle.spx_steps.proofs.SharedIds.{id_eq-Decides, state_kept}
 use Rattle.spx_steps.proofs.SharedSteps.{adds_twice, goes_not, goes_twice, none_made, only_not, only_state, only_twice, stands_before}
 
 -- ---- claims so far, and those of a tree
