@@ -130,9 +130,9 @@ IsCutShortAs words contents before now = (j : Judgement) × IsJudgement words co
 abbrev pub AreListed : List (List ℕ) → List (List ℕ) → Option (List ℕ) → Option (List ℕ) → Type 0
 AreListed words contents before now = (p : Program) × SpellOnly contents p × (now ≡ after before (conditions_text p (named words)))
 
--- contents spell at most one program
+-- a text spells at most one program
 abbrev pub OneSpelled : Type 0
-OneSpelled = (contents : List (List ℕ)) (p q : Program) → Is contents p → Is contents q → q ≡ p
+OneSpelled = (source : List ℕ) (p q : Program) → Is (source ∷ []) p → Is (source ∷ []) q → q ≡ p
 
 -- words and contents have at most one judgement
 abbrev pub OneOutcome : Type 0

@@ -50,7 +50,7 @@ pub fn one_outcome()
     laws_below();
 }
 
-/// Contents spell at most one program: what `AreReliable` says of others says no more than this law.
+/// A text spells at most one program.
 pub fn one_program_is_spelled()
     ensures { OneSpelled }
 {
