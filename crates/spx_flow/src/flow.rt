@@ -8,29 +8,17 @@ ghost use Rattle.spx_core.specs.Effects.{sets};
 ghost use Rattle.spx_core.specs.Mirror.VarSets.{holds, positions_of};
 ghost use Rattle.spx_lower.specs.Meaning.{effect_in};
 ghost use Rattle.spx_core.specs.FlowRules.{is_wide};
-ghost use Rattle.spx_flow.specs.Positions.{BodyCovered, exits_in};
-ghost use Rattle.spx_flow.specs.Flows.{IsBackwardFlow, IsFaultOf, IsFlow};
+ghost use Rattle.spx_passes.specs.Positions.{exits_in};
+ghost use Rattle.spx_flow.specs.Flows.{BodyCovered, IsBackwardFlow, IsFaultOf, IsFlow};
 
-use crate::exits::have_exits;
 use crate::fault::{FlowFault, MOST_VARIABLES};
-use crate::frame::Frame;
-use crate::pass::{backward, forward};
-use crate::targets::all_targets;
 use spx_core::laws::names_are_scoped;
 use spx_core::{Program, Sub, SubId, VarId, VarSet};
 use spx_lower::{Item, lower};
-use spx_rows::{Relation, Row};
-use spx_text::Place;
+use spx_passes::{BackwardFlow, Frame, Occurrence, all_targets, backward, forward, have_exits};
+use spx_rows::Relation;
 use sqlite_items::Items;
 use std::alloc::{AllocError, Global};
-
-/// An occurrence, named by the place at which a finding on it stands, and variables, by their position in the
-/// subprogram's list.
-#[derive(Drop)]
-pub struct Occurrence {
-    pub place: Place,
-    pub vars: Row,
-}
 
 /// The flow of a body. Variables stand by their position in the subprogram's list.
 #[derive(Drop)]
@@ -43,13 +31,6 @@ pub struct Flow {
     pub rho: Relation,
     /// The variables that the body sets.
     pub defines: VarSet,
-}
-
-/// What leads on to the variables after a body: the parts `mu` and `rho` of its flow.
-#[derive(Drop)]
-pub struct BackwardFlow {
-    pub mu: Items<Occurrence>,
-    pub rho: Relation,
 }
 
 /// The variables that the items set.

@@ -1,6 +1,7 @@
 -- Rows of bits as rows of truth values.
 use Rattle.std.proofs.Common.{◌≡◌, ◌≢◌, ℕ, zero, suc, replicate, take, ◌++◌, w64, get_or-set_same, get_or-set_other, ◌+◌, ◌*◌, ◌/◌, ◌%◌, ◌^◌, ◌<◌, ◌≤◌, ◌⊎◌, ◌↔◌, inl, inr, Bool, false, List, [], IsTrue, length, get_or, set, bit_or, bit_and, refl, sym, ◌∙◌, ap, subst, ⊎_elim, arith, nat_eq, true≢false}
 use Rattle.std.specs.Int.{bit_at}
+use Rattle.std.specs.Int.Bits.{or_zero_l}
 use Rattle.std.proofs.lemmas.Bool.{cases_lt, cases_eq, eqb-true, eq-eqb}
 use Rattle.std.proofs.lemmas.List.{get_or_past, get_or_default}
 use Rattle.std.proofs.lemmas.List.FromFn.{length-map-range_with_len, get_or-map-range_with_len}
@@ -171,6 +172,14 @@ bit_added n words u w un wn len = gains_table n _ _ _
 pub unset_in_zero : (x i : ℕ) → x ≡ 0 → bit_at x i ≡ 1 → ⊥
 unset_in_zero x i empty h = let z = bit_at-zero i in let q : bit_at 0 i ≡ 1 = ap (λ y. bit_at y i) (sym empty) ∙ h in omega arith
 
+-- a word with one bit has no other
+pub only_bit : (x i j : ℕ) → i < 64 → x ≡ 1 * 2 ^ i % 2 ^ 64 → bit_at x j ≡ 1 → j ≡ i
+only_bit x i j il e h = ⊎_elim
+    (λ is. is)
+    (λ ne. absurd (let z = bit_at-zero j in
+    let q : bit_at 0 j ≡ 1 = sym (bit_at_set_other w64 0 i il j ne) ∙ ap (λ y. bit_at y j) (or_zero_l (1 * 2 ^ i % 2 ^ 64) ∙ sym e) ∙ h in omega arith))
+    (cases_eq j i)
+
 -- no bit is set in zeros
 pub none_set : (words : List ℕ) → ((k : ℕ) → get_or words k 0 ≡ 0) → (start b : ℕ) → IsTrue (bit words start b) → ⊥
 none_set words none start b h = unset_in_zero _ (b % 64) (none (start + b / 64)) ((is_set words start b).0 h)
@@ -209,15 +218,31 @@ module _ (n : ℕ) (m : Matrix) (words : List ℕ) (is : table n (bits n words) 
         λ h. eq-eqb _ _ (same ∙ (set_in n words u w).0 ((holds_table n (bits n words) u w).0 h).2),
       )
 
-  -- none of the numbers of a word that is 0 is there
-  pub none_at : (u k row x : ℕ) → u < length m → k < width (length m) → length words ≡ n * width n → row ≡ u * width n → x ≡ get_or words (row + k) x → x ≡ 0 →
-      (w : ℕ) → w / 64 ≡ k → Holds m u w → ⊥
-  none_at u k row x um lt len e r empty w at h =
-      let kn : k < width n = subst (λ s. k < width s) (sym (size_of n (bits n words) m is)) lt in
-      let q = row_fits n (width n) u (below u um) in
-      let p = (holds_table n (bits n words) u w).0 (subst (λ t. Holds t u w) (sym is) h) in
-      let there : word n words u w ≡ get_or words (row + k) 0 = cc (at, e) in
-      unset_in_zero (word n words u w) (w % 64) (there ∙ sym (r ∙ get_or_default words (row + k) x 0 (omega arith)) ∙ empty) ((set_in n words u w).0 p.2)
+  -- a number that is there is below the size, and its bit lies in one of the words of the row
+  pub number_within : (u w : ℕ) → Holds m u w → w < n
+  number_within u w h = ((holds_table n (bits n words) u w).0 (subst (λ t. Holds t u w) (sym is) h)).1
+
+  pub word_within : (u w : ℕ) → Holds m u w → w / 64 < width n
+  word_within u w h = in_row n w (number_within u w h)
+
+  -- a word of a row
+  module _ (u k row x : ℕ) (um : u < length m) (lt : k < width (length m)) (len : length words ≡ n * width n) (e : row ≡ u * width n) (r : x ≡ get_or words (row + k) x) (w : ℕ) (at : w / 64 ≡ k) (h : Holds m u w) where
+    -- a number that is there has its bit in it
+    bit_there : bit_at x (w % 64) ≡ 1
+    bit_there =
+        let kn : k < width n = subst (λ s. k < width s) (sym (size_of n (bits n words) m is)) lt in
+        let q = row_fits n (width n) u (below u um) in
+        let p = (holds_table n (bits n words) u w).0 (subst (λ t. Holds t u w) (sym is) h) in
+        let there : word n words u w ≡ get_or words (row + k) 0 = cc (at, e) in
+        ap (λ y. bit_at y (w % 64)) (r ∙ get_or_default words (row + k) x 0 (omega arith) ∙ sym there) ∙ (set_in n words u w).0 p.2
+
+    -- none is there where it is 0
+    pub none_at : x ≡ 0 → ⊥
+    none_at empty = unset_in_zero x (w % 64) empty bit_there
+
+    -- no other than u is there where it has the bit of u only
+    pub alone_at : k ≡ u / 64 → x ≡ 1 * 2 ^ (u % 64) % 2 ^ 64 → u ≡ w
+    alone_at own only = let same = only_bit x (u % 64) (w % 64) (omega arith) only bit_there in omega (arith, at, own, same)
 
   pub add_at : (u w row x : ℕ) → u < length m → w < length m → length words ≡ n * width n → row ≡ u * width n → x ≡ get_or words (row + w / 64) x →
       Gains m (table n (bits n (set words (row + w / 64) (bit_or x (1 * 2 ^ (w % 64) % 2 ^ 64))))) (λ a b. (u ≡ a) × (w ≡ b))

@@ -4,7 +4,8 @@ use Rattle.std.specs.Prelude.{Contains}
 use Rattle.std.proofs.lemmas.Bool.{cases_eq, cases_lt}
 use Rattle.std.proofs.lemmas.List.{get_or_default}
 use Rattle.std.proofs.lemmas.List.Elements.{Contains-get_or}
-use Rattle.spx_rows.specs.Relations.{Rel, Matrix, Has, Holds, Gains, Of}
+use Rattle.spx_rows.specs.Relations.{Rel, Matrix, Has, Holds, Gains, Of, Then}
+use Rattle.spx_rows.proofs.Callers.Pairs.{row_within}
 
 -- a loop adds at each k the pairs of Q k
 pub record Grown (start now : Matrix) (i : ℕ) (Q : ℕ → Rel) : Type 0 where
@@ -13,6 +14,43 @@ pub record Grown (start now : Matrix) (i : ℕ) (Q : ℕ → Rel) : Type 0 where
 
 pub below_or_at : (k i : ℕ) → k < i + 1 → (k < i) ⊎ (k ≡ i)
 below_or_at k i lt = grind arith
+
+-- the pairs of the first are there, and what the second leads on to from them through a number before i
+pub record Composes (first second start now : Matrix) (i : ℕ) : Type 0 where
+  pub size : length now ≡ length start
+  pub pairs : Gains start now (λ a b. Holds first a b ⊎ ((k : ℕ) × (k < i) × Holds first a k × Holds second k b))
+
+pub composes_start : (first second start now : Matrix) → length now ≡ length start → Gains start now (Holds first) → Composes first second start now 0
+composes_start first second start now e gains = record {
+  size = e;
+  pairs = λ a b. (λ h. ⊎_elim (λ p. inl p) (λ p. inr (inl p)) ((gains a b).0 h), λ h. (gains a b).1 (⊎_elim (λ p. inl p) (λ p. ⊎_elim (λ q. inr q) (λ q. absurd (omega (arith, q.1))) p) h));
+}
+
+module _ (first second start now : Matrix) (i : ℕ) (g : Composes first second start now i) where
+  pub composes_more : (next : Matrix) → length next ≡ length now → Gains now next (λ a b. Holds first a i × Holds second i b) → Composes first second start next (i + 1)
+  composes_more next e gains = record {
+    size = e ∙ g.size;
+    pairs = λ a b. (
+      λ h. ⊎_elim
+          (λ p. ⊎_elim (λ q. inl q) (λ q. inr (⊎_elim (λ r. inl r) (λ r. inr (r.0, omega (arith, r.1), r.2, r.3)) q)) ((g.pairs a b).0 p))
+          (λ p. inr (inr (i, omega arith, p.0, p.1)))
+          ((gains a b).0 h),
+      λ h. (gains a b).1 (⊎_elim (λ p. inl ((g.pairs a b).1 (inl p))) (λ p. ⊎_elim (λ q. inl ((g.pairs a b).1 (inr (inl q)))) (λ q. ⊎_elim
+          (λ less. inl ((g.pairs a b).1 (inr (inr (q.0, less, q.2, q.3)))))
+          (λ is. inr (subst (λ k. Holds first a k) is q.2, subst (λ k. Holds second k b) is q.3))
+          (below_or_at q.0 i q.1)) p) h),
+    );
+  }
+
+  -- a number that leads on to itself alone adds nothing
+  pub composes_skip : ((w : ℕ) → Holds second i w → i ≡ w) → Composes first second start now (i + 1)
+  composes_skip alone = composes_more now refl (λ a b. (λ h. inl h, λ h. ⊎_elim (λ p. p) (λ p. (g.pairs a b).1 (inr (inl (subst (λ k. Holds first a k) (alone b p.1) p.0)))) h))
+
+  pub composes_all : length second ≤ i → ((a b : ℕ) → Holds first a b → Holds second b b) → Gains start now (Then (Holds first) (Holds second))
+  composes_all past kept a b = (
+    λ h. ⊎_elim (λ p. inl p) (λ p. inr (⊎_elim (λ q. (b, q, kept a b q)) (λ q. (q.0, q.2, q.3)) p)) ((g.pairs a b).0 h),
+    λ h. (g.pairs a b).1 (⊎_elim (λ p. inl p) (λ p. let lt = row_within second p.0 b p.2 in inr (inr (p.0, omega arith, p.1, p.2))) h),
+  )
 
 -- row `to` has the old rows before i, and its own old row where it is one of those read; the other rows are as they were
 pub record Gathered (from : List ℕ) (to : ℕ) (old now : Matrix) (i : ℕ) : Type 0 where

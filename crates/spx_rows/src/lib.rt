@@ -5,6 +5,8 @@
 //! functions that are passed an allocator take memory.
 #![tactic(auto)]
 
+mod close;
+mod counted;
 mod relation;
 mod row;
 mod steps;

@@ -3,8 +3,10 @@
 
 ghost use Rattle.std.specs.Prelude.{◌≡◌, ◌≢◌, ℕ, ◌+◌, ◌*◌, ◌/◌, ◌<◌, ◌≤◌, IfOk, All, Contains, IsTrue, length, ◌↔◌, ◌⊎◌};
 ghost use Rattle.spx_rows.specs.Bits.{width};
-ghost use Rattle.spx_rows.specs.Relations.{Matrix, Has, Holds, Gains, Then, Star, Of, Through};
+ghost use Rattle.spx_rows.specs.Relations.{Matrix, Has, Holds, Gains, Then, Star, Of};
 
+use crate::close::close_rows;
+use crate::counted::Counted;
 use crate::row::Row;
 use crate::steps::Steps;
 use crate::words::{add_words, add_words_of, clear_words, width_of};
@@ -97,6 +99,32 @@ impl Relation {
         ensures { IsTrue result → (w : ℕ) → w / 64 ≡ at → ¬ Holds self.now u w }
     {
         self.words[row_at(self.size, u) + at] == 0
+    }
+
+    /// Whether a word of row `u` has no number but `u` itself, which has to be there where its bit lies in it.
+    fn is_word_alone(&self, u: usize, at: usize) -> bool
+        requires u { u < length self.now }
+        requires at { at < width (length self.now) }
+        ensures { IsTrue result → (w : ℕ) → w / 64 ≡ at → Holds self.now u w → u ≡ w }
+    {
+        if at == u / 64 {
+            self.words[row_at(self.size, u) + at] == 1 << (u % 64)
+        } else {
+            self.is_word_empty(u, at)
+        }
+    }
+
+    /// Whether `u` stands with itself and no other number.
+    pub(crate) fn is_alone(&self, u: usize) -> bool
+        requires { u < length self.now }
+        ensures { IsTrue result → (w : ℕ) → Holds self.now u w → u ≡ w }
+    {
+        for at in 0..width_of(self.size) {
+            if !self.is_word_alone(u, at) {
+                return false;
+            }
+        }
+        true
     }
 
     /// The numbers that `u` stands with, as a set of its own.
@@ -307,8 +335,8 @@ impl Relation {
         }
     }
 
-    /// Adds the composition of two relations.
-    pub fn compose_into(&mut self, first: &Relation, second: &Relation)
+    /// Adds the composition of two relations, row by row.
+    fn compose_rows(&mut self, first: &Relation, second: &Relation)
         requires first { length first.now ≡ length self.old }
         requires second { length second.now ≡ length self.old }
         ensures size { length self.new ≡ length self.old }
@@ -319,17 +347,62 @@ impl Relation {
         }
     }
 
-    /// Adds the pairs that lead through `k`.
-    fn add_through<L: Ledger>(&mut self, k: usize, steps: &mut Steps<L>)
-        requires { k < length self.old }
-        ensures through { Through self.old self.new k (length self.old) }
-        ensures cost { steps.new ≤ steps.old + length self.old }
+    /// Whether each number to which a pair of the first leads stands with itself.
+    fn keeps_ends_of(&self, first: &Relation) -> bool
+        requires { length first.now ≡ length self.now }
+        ensures { IsTrue result → (a b : ℕ) → Holds first.now a b → Holds self.now b b }
+    {
+        for v in 0..first.size {
+            if !self.has(v, v) {
+                return false;
+            }
+        }
+        true
+    }
+
+    /// Adds what the pairs of the first to `v` lead to by the second.
+    fn add_column(&mut self, first: &Relation, second: &Relation, v: usize)
+        requires v { v < length self.old }
+        requires first { length first.now ≡ length self.old }
+        requires second { length second.now ≡ length self.old }
+        ensures size { length self.new ≡ length self.old }
+        ensures pairs { Gains self.old self.new (λ a b. Holds first.now a v × Holds second.now v b) }
     {
         for u in 0..self.size() {
-            if self.has(u, k) {
-                steps.tick();
-                self.add_row(u, k);
+            if first.has(u, v) {
+                self.add_row_of(u, second, v);
             }
+        }
+    }
+
+    /// Adds the composition where the second keeps to where the first leads: the pairs of the first, and what leads on from numbers
+    /// that stand with others.
+    fn compose_kept(&mut self, first: &Relation, second: &Relation)
+        requires first { length first.now ≡ length self.old }
+        requires second { length second.now ≡ length self.old }
+        requires kept { (a b : ℕ) → Holds first.now a b → Holds second.now b b }
+        ensures size { length self.new ≡ length self.old }
+        ensures pairs { Gains self.old self.new (Then (Holds first.now) (Holds second.now)) }
+    {
+        self.union_with(first);
+        for v in 0..self.size() {
+            if !second.is_alone(v) {
+                self.add_column(first, second, v);
+            }
+        }
+    }
+
+    /// Adds the composition of two relations.
+    pub fn compose_into(&mut self, first: &Relation, second: &Relation)
+        requires first { length first.now ≡ length self.old }
+        requires second { length second.now ≡ length self.old }
+        ensures size { length self.new ≡ length self.old }
+        ensures pairs { Gains self.old self.new (Then (Holds first.now) (Holds second.now)) }
+    {
+        if second.keeps_ends_of(first) {
+            self.compose_kept(first, second);
+        } else {
+            self.compose_rows(first, second);
         }
     }
 
@@ -340,9 +413,7 @@ impl Relation {
         ensures pairs { (a b : ℕ) → Holds self.new a b ↔ ((a < length self.old) × Star (Holds self.old) a b) }
         ensures cost { steps.new ≤ steps.old + length self.old * length self.old }
     {
-        for k in 0..self.size() {
-            self.add(k, k);
-            self.add_through(k, steps);
-        }
+        let mut rows = Counted::of(self);
+        close_rows(&mut rows, steps);
     }
 }

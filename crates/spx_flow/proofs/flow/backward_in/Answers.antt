@@ -2,7 +2,7 @@ use Rattle.std.proofs.Common.{◌∙◌, ap}
 use Rattle.std.proofs.lemmas.Result.{IfOk-weaker}
 use Rattle.spx_core.specs.Effects.{effects}
 use Rattle.spx_lower.specs.Meaning.{effect_in}
-use Rattle.spx_flow.specs.declared.frame.Frame.{Frame}
+use Rattle.spx_passes.specs.declared.frame.Frame.{Frame}
 use Rattle.spx_flow.proofs.FlowLaws.{framed_covers, framed_fits, is_backward_flow}
 use Rattle.spx_flow.proofs.flow.backward_in.Goals as goal
 

@@ -1,7 +1,7 @@
 use Rattle.std.proofs.Common.{◌∙◌, ap, true}
 use Rattle.spx_core.specs.Mirror.VarSets.{positions_of}
 use Rattle.spx_lower.specs.Meaning.{effect_in}
-use Rattle.spx_flow.specs.Positions.{exits_in}
+use Rattle.spx_passes.specs.Positions.{exits_in}
 use Rattle.spx_flow.proofs.FlowLaws.{frame_is}
 use Rattle.spx_flow.proofs.flow.frame_of.Goals as goal
 
