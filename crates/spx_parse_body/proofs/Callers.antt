@@ -8,7 +8,6 @@ pub mod Separated
 pub mod Operators
 pub mod ExpressionsGood
 pub mod Exact
-pub mod Located
 pub mod StatementsGood
 pub mod Turns
 pub mod ExpressionsReach

@@ -15,7 +15,7 @@ use Rattle.spx_tree.specs.declared.statement.Stmt.TheVariants.{If, Case, Loop}
 use Rattle.spx_tree.specs.Form.{Form}
 use Rattle.spx_tree.specs.Written.{program}
 use Rattle.spx_parse_body.specs.declared.statements.SchemeKind.{SchemeKind}
-use Rattle.spx_parse_body.specs.Reading.{Outcome, Reader, and_then, ◌>>=◌, ◌>>◌, pure, deeper, expect, expect_place, if_seen}
+use Rattle.spx_cursor.specs.Reading.{Outcome, Reader, and_then, ◌>>=◌, pure, deeper, expect, expect_place, if_seen}
 use Rattle.spx_parse_body.specs.Expressions.{expression_below}
 use Rattle.spx_parse_body.specs.Statements.{closing, arm, elsif_arms, else_part, if_statement, alternatives, case_statement, scheme, loop_statement, stmts_below}
 

@@ -5,7 +5,7 @@ use Rattle.std.proofs.lemmas.Bool as bools
 use Rattle.spx_tree.specs.declared.token.Kind.{Kind}
 use Rattle.spx_tree.specs.Form.{Form, Kept}
 use Rattle.spx_tree.specs.Goes.{Expected, TooDeep}
-use Rattle.spx_parse_body.specs.Reading.{Outcome, Reader, and_then, ◌>>=◌, pure, refuse, peek, same_mark, same_kind, taking, kept_or, deeper}
+use Rattle.spx_cursor.specs.Reading.{Outcome, Reader, and_then, ◌>>=◌, pure, refuse, peek, same_mark, same_kind, taking, kept_or, deeper}
 use Rattle.spx_parse_body.proofs.Callers.Shaped.{AreShaped, IsKept, shaped_rest}
 use Rattle.spx_parse_body.proofs.Callers.Lawful.{Lawful, Any, Sees}
 use Rattle.spx_parse_body.proofs.Scans.{Scans, AtMost, taking_seen}

@@ -5,9 +5,9 @@ use Rattle.spx_tree.specs.declared.expression.Layer.{Layer}
 use Rattle.spx_tree.specs.Form.{Form}
 use Rattle.spx_tree.specs.Goes.{Fault}
 use Rattle.spx_parse_body.specs.declared.expressions.Tall.{Tall}
-use Rattle.spx_parse_body.specs.Reading.{Outcome, Reader, and_then, ◌>>=◌, pure, peek, turn, loop}
-use Rattle.spx_parse_body.specs.declared.operators.Chain.{Chain}
-use Rattle.spx_parse_body.specs.Operators.{goes_on}
+use Rattle.spx_cursor.specs.Reading.{Outcome, Reader, and_then, ◌>>=◌, pure, peek, turn, loop}
+use Rattle.spx_cursor.specs.declared.operators.Chain.{Chain}
+use Rattle.spx_cursor.specs.Operators.{goes_on}
 use Rattle.spx_parse_body.specs.Expressions.{joined_by, step_by, chain_step, chained, below, at_layer}
 use Rattle.spx_parse_body.specs.Statements.{constraint_below, constraint, stmts_below, stmts}
 use Rattle.spx_parse_body.proofs.Callers.Loops.{loop_is}

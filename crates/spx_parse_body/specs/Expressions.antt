@@ -20,14 +20,14 @@ use Rattle.spx_tree.specs.declared.expression.Expr.TheVariants as expr
 use Rattle.spx_tree.specs.declared.annotation.Predicate.{Predicate}
 use Rattle.spx_tree.specs.Written.{annotation, sign_kind, operator_kind, parenthesized}
 use Rattle.spx_tree.specs.Written as written
-use Rattle.spx_tree.specs.Grammar.{layer_of, right_layer, operand_layer}
+use Rattle.spx_tree.specs.Grammar.{layer_of, right_layer, operand_layer, OfLayer}
 use Rattle.spx_parse_body.specs.declared.expressions.Tall.{Tall}
-use Rattle.spx_parse_body.specs.declared.operators.Chain.{Chain}
-use Rattle.spx_parse_body.specs.declared.operators.Chain.TheVariants as chain
-use Rattle.spx_parse_body.specs.declared.operators.Relator.{Relator}
-use Rattle.spx_parse_body.specs.declared.operators.Relator.TheVariants as relators
-use Rattle.spx_parse_body.specs.Reading.{Reader, ◌>>=◌, ◌>>◌, pure, refuse, too_deep, peek, expect, expect_place, identifier, number, deeper, loop}
-use Rattle.spx_parse_body.specs.Operators.{sign_of, abs_or_not, power_of, relator_of, logical, connective_of, goes_on, last_layer, second, whole_operator}
+use Rattle.spx_cursor.specs.declared.operators.Chain.{Chain}
+use Rattle.spx_cursor.specs.declared.operators.Chain.TheVariants as chain
+use Rattle.spx_cursor.specs.declared.operators.Relator.{Relator}
+use Rattle.spx_cursor.specs.declared.operators.Relator.TheVariants as relators
+use Rattle.spx_cursor.specs.Reading.{Reader, ◌>>=◌, ◌>>◌, pure, refuse, too_deep, peek, expect, expect_place, identifier, number, deeper, loop}
+use Rattle.spx_cursor.specs.Operators.{sign_of, abs_or_not, power_of, relator_of, logical, connective_of, goes_on, last_layer, second, whole_operator}
 
 -- ---- names
 
@@ -306,6 +306,10 @@ expression marked levels = at_layer marked levels layer.Expression >>= λ t. pur
 -- predicate
 unfoldable pub predicate : Bool → ℕ → Reader Expr
 predicate marked levels = at_layer marked levels layer.Predicate >>= λ t. pure t.expr
+
+-- what fits as an expression of program text, or of annotation text, where it may be a predicate
+abbrev pub IsExprAt : Bool → ℕ → Expr → Type 0
+IsExprAt marked = OfLayer (last_layer marked)
 
 -- an expression of program text, or a predicate of annotation text
 unfoldable pub expression_at : Bool → ℕ → Reader Expr

@@ -1,5 +1,2 @@
-pub mod Reading
-pub mod Operators
 pub mod Expressions
 pub mod Statements
-pub mod Answers

@@ -2,12 +2,12 @@
 ghost use Rattle.std.specs.Prelude.{◌≡◌, ◌<◌, ◌≤◌, ◌+◌, ◌-◌, ◌^◌, IfOk};
 ghost use Rattle.spx_tree.specs.Form.{keeps, ItsPlace};
 ghost use Rattle.spx_parse_body.specs.Expressions as read;
-ghost use Rattle.spx_parse_body.specs.Answers.{Reads};
+ghost use Rattle.spx_cursor.specs.Answers.{Reads};
 
-use crate::cursor::{ANNOTATION, Cursor, Stop};
-use crate::operators::{
-    Chain, Relator, abs_or_not, connective_of, last_layer, logical, operand_layer, operator_place,
-    place_before, power_of, relator_of, right_layer, second_word, sign_of, whole_operator,
+use spx_cursor::{
+    ANNOTATION, Chain, Cursor, Relator, Stop, abs_or_not, connective_of, last_layer, logical,
+    operand_layer, operator_place, place_before, power_of, relator_of, right_layer, second_word,
+    sign_of, whole_operator,
 };
 use spx_text::Place;
 use spx_tree::{

@@ -4,12 +4,12 @@ ghost use Rattle.spx_tree.specs.Form.{keeps, ItsPlace};
 ghost use Rattle.spx_tree.specs.Written as written;
 ghost use Rattle.spx_tree.specs.Written.{program};
 ghost use Rattle.spx_tree.specs.declared.token.Kind.TheVariants as k;
-ghost use Rattle.spx_parse_body.specs.Reading as reading;
+ghost use Rattle.spx_cursor.specs.Reading as reading;
 ghost use Rattle.spx_parse_body.specs.Statements as read;
-ghost use Rattle.spx_parse_body.specs.Answers.{Reads};
+ghost use Rattle.spx_cursor.specs.Answers.{Reads};
 
-use crate::cursor::{ANNOTATION, Cursor, PROGRAM, Stop};
 use crate::expressions::{at_layer, name, predicate_after};
+use spx_cursor::{ANNOTATION, Cursor, PROGRAM, Stop};
 use spx_text::Place;
 use spx_tree::{
     Alternative, Arm, AssertionKind, Choice, Closing, Count, Expr, Kind, Layer, Range, Scheme, Stmt,
@@ -126,7 +126,7 @@ fn else_part(
 
 // [else_part]
 #[cycle(stmts)]
-#[tactic(auto, unfolding(crate::specs::Reading::if_seen))]
+#[tactic(auto, unfolding(spx_cursor::specs::Reading::if_seen))]
 fn optional_else(
     alloc: Global,
     cursor: &mut Cursor<'_>,
@@ -189,7 +189,7 @@ fn upper(alloc: Global, cursor: &mut Cursor<'_>, levels: u32) -> Result<Boxed<Ex
 }
 
 // [upper]
-#[tactic(auto, unfolding(crate::specs::Reading::if_seen))]
+#[tactic(auto, unfolding(spx_cursor::specs::Reading::if_seen))]
 fn optional_upper(
     alloc: Global,
     cursor: &mut Cursor<'_>,
@@ -235,7 +235,7 @@ fn some_choices(
 }
 
 // choices = "others" | some_choices
-#[tactic(auto, unfolding(crate::specs::Statements::choices, crate::specs::Reading::if_seen))]
+#[tactic(auto, unfolding(crate::specs::Statements::choices, spx_cursor::specs::Reading::if_seen))]
 fn choices(
     alloc: Global,
     cursor: &mut Cursor<'_>,
@@ -334,7 +334,7 @@ pub fn constraint(alloc: Global, cursor: &mut Cursor<'_>, levels: u32) -> Result
 }
 
 // [constraint], one level down
-#[tactic(auto, using(crate::proofs::Levels::constraint_below_is), unfolding(crate::specs::Reading::if_seen))]
+#[tactic(auto, using(crate::proofs::Levels::constraint_below_is), unfolding(spx_cursor::specs::Reading::if_seen))]
 fn optional_bounds(
     alloc: Global,
     cursor: &mut Cursor<'_>,
@@ -350,7 +350,7 @@ fn optional_bounds(
 }
 
 // direction = ["reverse"]
-#[tactic(auto, unfolding(crate::specs::Statements::direction, crate::specs::Reading::if_seen))]
+#[tactic(auto, unfolding(crate::specs::Statements::direction, spx_cursor::specs::Reading::if_seen))]
 fn direction(cursor: &mut Cursor<'_>) -> Result<bool, Stop>
     ensures { Reads (read.direction cursor.old) result cursor.new }
 {
@@ -432,7 +432,7 @@ fn when_part(alloc: Global, cursor: &mut Cursor<'_>, levels: u32) -> Result<Boxe
 }
 
 // [when_part]
-#[tactic(auto, unfolding(crate::specs::Reading::if_seen))]
+#[tactic(auto, unfolding(spx_cursor::specs::Reading::if_seen))]
 fn optional_when(
     alloc: Global,
     cursor: &mut Cursor<'_>,

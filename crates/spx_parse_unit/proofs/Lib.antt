@@ -3,3 +3,6 @@ pub mod Turns
 pub mod UnitsReach
 pub mod UnitsExact
 mod Parsed
+mod Located
+mod Indexed
+mod BodyExact

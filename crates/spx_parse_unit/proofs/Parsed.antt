@@ -7,14 +7,15 @@ use Rattle.spx_tree.specs.Form.{Form, forms_of}
 use Rattle.spx_tree.specs.Goes.{Answers, place_with}
 use Rattle.spx_tree.specs.Grammar.{IsFile}
 use Rattle.spx_tree.specs.Written.{written}
-use Rattle.spx_parse_body.specs.declared.cursor.Stop.{Stop}
-use Rattle.spx_parse_body.specs.declared.fault.ParseFault.{ParseFault}
-use Rattle.spx_parse_body.specs.declared.fault.ParseFault.TheVariants as fault
-use Rattle.spx_parse_body.specs.Reading.{Outcome}
+use Rattle.spx_cursor.specs.declared.cursor.Stop.{Stop}
+use Rattle.spx_parse_unit.specs.declared.fault.ParseFault.{ParseFault}
+use Rattle.spx_parse_unit.specs.declared.fault.ParseFault.TheVariants as fault
+use Rattle.spx_cursor.specs.Reading.{Outcome}
 use Rattle.spx_parse_unit.specs.Units.{file}
-use Rattle.spx_parse_body.specs.Answers.{Fails, StopsWithin, fault_at, IsUnlessMemory, SaysAll}
+use Rattle.spx_cursor.specs.Answers.{Fails}
+use Rattle.spx_parse_unit.specs.Answers.{StopsWithin, fault_at, IsUnlessMemory, SaysAll}
 use Rattle.spx_parse_body.proofs.Callers.Shaped.{shaped_forms}
-use Rattle.spx_parse_body.proofs.Callers.Located.{left_within, stop_within, says_all, says_more, says_stop, only_all, only_more, only_stop}
+use Rattle.spx_parse_unit.proofs.Located.{left_within, stop_within, says_all, says_more, says_stop, only_all, only_more, only_stop}
 use Rattle.spx_parse_unit.proofs.UnitsExact.{answers, only_answer}
 
 module _ (end : Place) (source : List ℕ) (all list : List Token) (fs : List Form) (same : list ≡ all) (view : fs ≡ forms_of source list) where

@@ -9,7 +9,7 @@ use Rattle.spx_tree.specs.declared.subprogram.Param.{Param}
 use Rattle.spx_tree.specs.declared.subprogram.Unit.{Unit}
 use Rattle.spx_tree.specs.Form.{Form}
 use Rattle.spx_tree.specs.Written.{program, annotation}
-use Rattle.spx_parse_body.specs.Reading.{◌>>◌, sees, expect, identifier, loop, item_step}
+use Rattle.spx_cursor.specs.Reading.{◌>>◌, sees, expect, identifier, loop, item_step}
 use Rattle.spx_parse_body.specs.Expressions.{name}
 use Rattle.spx_parse_unit.specs.Units.{more_identifiers, more_names, item, more_derives, param, more_params, declaration, sees_declaration, more_declarations, unit_at, more_units}
 use Rattle.spx_parse_body.proofs.Callers.Turns.{items_by, items_is, next_by, next_is}

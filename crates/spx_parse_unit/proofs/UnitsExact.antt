@@ -7,7 +7,7 @@ use Rattle.spx_tree.specs.Goes.{Answers}
 use Rattle.spx_tree.specs.Grammar.{IsFile}
 use Rattle.spx_tree.specs.Written.{written}
 use Rattle.spx_tree.proofs.MoreLevels.{file_more}
-use Rattle.spx_parse_body.specs.Reading.{Outcome}
+use Rattle.spx_cursor.specs.Reading.{Outcome}
 use Rattle.spx_parse_unit.specs.Units.{file}
 use Rattle.spx_parse_body.proofs.Callers.Shaped.{AreShaped}
 use Rattle.spx_parse_body.proofs.Callers.Lawful.{pair_is}

@@ -16,7 +16,7 @@ use Rattle.spx_tree.specs.declared.subprogram.Unit.TheVariants as unit
 use Rattle.spx_tree.specs.Form.{Form, bare, placed, named}
 use Rattle.spx_tree.specs.Written.{program, annotation, following, separated, optional, written_identifier, written_identifiers, written_name, written_names, written_constraint, written_definition, written_initial, written_decl, written_decls, written_stmts, written_imports, written_item, written_derives, written_pre, written_post, written_mode, written_param, written_params, written_formal_part, written_subprogram, written_unit, written}
 use Rattle.spx_tree.specs.Grammar.{Each, OneOrMore, IfThere, IsIdentifiers, IsNames, IsExpr, IsRange, IsDefinition, IsDecl, IsStmts, IsItem, IsDerives, IsPredicate, IsParam, IsFormalPart, IsSubprogram, IsUnit, IsFile}
-use Rattle.spx_parse_body.specs.Reading.{◌>>◌, peek, sees, expect, identifier, item_step}
+use Rattle.spx_cursor.specs.Reading.{◌>>◌, peek, sees, expect, identifier, item_step}
 use Rattle.spx_parse_body.specs.Expressions.{name}
 use Rattle.spx_parse_unit.specs.declared.subprograms.HeadingParts.{HeadingParts}
 use Rattle.spx_parse_unit.specs.declared.subprograms.BodyParts.{BodyParts}

@@ -3,12 +3,13 @@ ghost use Rattle.std.specs.Prelude.{◌≡◌};
 ghost use Rattle.spx_tree.specs.Form.{keeps, ItsPlace};
 ghost use Rattle.spx_tree.specs.Written.{annotation};
 ghost use Rattle.spx_tree.specs.declared.token.Kind.TheVariants as k;
-ghost use Rattle.spx_parse_body.specs.Reading as reading;
+ghost use Rattle.spx_cursor.specs.Reading as reading;
 ghost use Rattle.spx_parse_body.specs.Expressions as expressions;
 ghost use Rattle.spx_parse_unit.specs.Units as read;
-ghost use Rattle.spx_parse_body.specs.Answers.{Reads};
+ghost use Rattle.spx_cursor.specs.Answers.{Reads};
 
-use spx_parse_body::{ANNOTATION, Cursor, Stop, name, predicate_after};
+use spx_cursor::{ANNOTATION, Cursor, Stop};
+use spx_parse_body::{name, predicate_after};
 use spx_tree::{Derives, DerivesItem, Exports, Identifier, Imports, Kind, Name, Predicate};
 use sqlite_items::Items;
 use std::alloc::Global;
@@ -174,7 +175,7 @@ fn derives(alloc: Global, cursor: &mut Cursor<'_>) -> Result<Derives, Stop>
 }
 
 /// Reads a dependency relation, if there is one.
-#[tactic(auto, unfolding(spx_parse_body::specs::Reading::if_seen))]
+#[tactic(auto, unfolding(spx_cursor::specs::Reading::if_seen))]
 pub fn optional_derives(alloc: Global, cursor: &mut Cursor<'_>) -> Result<Option<Derives>, Stop>
     ensures { Reads (reading.if_seen annotation k.Derives read.derives cursor.old) result cursor.new }
 {
@@ -185,7 +186,7 @@ pub fn optional_derives(alloc: Global, cursor: &mut Cursor<'_>) -> Result<Option
 }
 
 /// Reads a predicate after this word, if the word comes next.
-#[tactic(auto, unfolding(spx_parse_body::specs::Reading::if_seen))]
+#[tactic(auto, unfolding(spx_cursor::specs::Reading::if_seen))]
 pub fn optional_predicate(
     alloc: Global,
     cursor: &mut Cursor<'_>,

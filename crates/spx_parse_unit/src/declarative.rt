@@ -2,14 +2,15 @@
 ghost use Rattle.std.specs.Prelude.{◌≡◌};
 ghost use Rattle.spx_tree.specs.Written.{program};
 ghost use Rattle.spx_tree.specs.declared.token.Kind.TheVariants as k;
-ghost use Rattle.spx_parse_body.specs.Reading as reading;
+ghost use Rattle.spx_cursor.specs.Reading as reading;
 ghost use Rattle.spx_parse_body.specs.Expressions as expressions;
 ghost use Rattle.spx_parse_body.specs.Statements as body;
 ghost use Rattle.spx_parse_unit.specs.Units as read;
-ghost use Rattle.spx_parse_body.specs.Answers.{Reads};
+ghost use Rattle.spx_cursor.specs.Answers.{Reads};
 
 use crate::annotations::identifiers;
-use spx_parse_body::{Cursor, PROGRAM, Stop, constraint, expression, name};
+use spx_cursor::{Cursor, PROGRAM, Stop};
+use spx_parse_body::{constraint, expression, name};
 use spx_tree::{Decl, Expr, Identifier, Kind, Name, Range, TypeDef};
 use sqlite_items::{Boxed, Items};
 use std::alloc::Global;
@@ -36,7 +37,7 @@ fn value(alloc: Global, cursor: &mut Cursor<'_>, levels: u32) -> Result<Boxed<Ex
 }
 
 // [constraint]
-#[tactic(auto, unfolding(spx_parse_body::specs::Reading::if_seen))]
+#[tactic(auto, unfolding(spx_cursor::specs::Reading::if_seen))]
 fn optional_constraint(
     alloc: Global,
     cursor: &mut Cursor<'_>,
@@ -51,7 +52,7 @@ fn optional_constraint(
 }
 
 // [name]
-#[tactic(auto, unfolding(spx_parse_body::specs::Reading::if_seen))]
+#[tactic(auto, unfolding(spx_cursor::specs::Reading::if_seen))]
 fn optional_name(alloc: Global, cursor: &mut Cursor<'_>) -> Result<Option<Boxed<Name>>, Stop>
     ensures { Reads (reading.if_seen program k.Identifier (expressions.name program) cursor.old) result cursor.new }
 {
@@ -130,7 +131,7 @@ fn initial(alloc: Global, cursor: &mut Cursor<'_>, levels: u32) -> Result<Boxed<
 }
 
 // [initial]
-#[tactic(auto, unfolding(spx_parse_body::specs::Reading::if_seen))]
+#[tactic(auto, unfolding(spx_cursor::specs::Reading::if_seen))]
 fn optional_initial(
     alloc: Global,
     cursor: &mut Cursor<'_>,

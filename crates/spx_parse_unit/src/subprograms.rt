@@ -2,13 +2,14 @@
 ghost use Rattle.std.specs.Prelude.{◌≡◌};
 ghost use Rattle.spx_tree.specs.Written.{program};
 ghost use Rattle.spx_tree.specs.declared.token.Kind.TheVariants as k;
-ghost use Rattle.spx_parse_body.specs.Reading as reading;
+ghost use Rattle.spx_cursor.specs.Reading as reading;
 ghost use Rattle.spx_parse_unit.specs.Units as read;
-ghost use Rattle.spx_parse_body.specs.Answers.{Reads};
+ghost use Rattle.spx_cursor.specs.Answers.{Reads};
 
 use crate::annotations::{identifiers, optional_derives, optional_predicate};
 use crate::declarative::declarations;
-use spx_parse_body::{Cursor, PROGRAM, Stop, name, stmts};
+use spx_cursor::{Cursor, PROGRAM, Stop};
+use spx_parse_body::{name, stmts};
 use spx_text::Place;
 use spx_tree::{
     Decl, Derives, FormalPart, Identifier, Kind, Param, Predicate, Stmt, Subprogram, Unit,
@@ -111,7 +112,7 @@ fn formal_part(alloc: Global, cursor: &mut Cursor<'_>) -> Result<FormalPart, Sto
 }
 
 // [formal_part]
-#[tactic(auto, unfolding(spx_parse_body::specs::Reading::if_seen))]
+#[tactic(auto, unfolding(spx_cursor::specs::Reading::if_seen))]
 fn optional_formal_part(alloc: Global, cursor: &mut Cursor<'_>) -> Result<Option<FormalPart>, Stop>
     ensures { Reads (reading.if_seen program k.LeftParenthesis read.formal_part cursor.old) result cursor.new }
 {
@@ -122,7 +123,7 @@ fn optional_formal_part(alloc: Global, cursor: &mut Cursor<'_>) -> Result<Option
 }
 
 // [identifier]
-#[tactic(auto, unfolding(spx_parse_body::specs::Reading::if_seen))]
+#[tactic(auto, unfolding(spx_cursor::specs::Reading::if_seen))]
 fn end_name(alloc: Global, cursor: &mut Cursor<'_>) -> Result<Option<Identifier>, Stop>
     ensures { Reads (reading.if_seen program k.Identifier (reading.identifier program) cursor.old) result cursor.new }
 {

@@ -4,7 +4,7 @@ use Rattle.std.proofs.lemmas.List.{append-nil}
 use Rattle.std.proofs.lemmas.Bool.{cases_lt}
 use Rattle.spx_tree.specs.Form.{Form}
 use Rattle.spx_tree.specs.Goes.{Expected, TooDeep, Begins, Ends, IsTooDeep, Answers}
-use Rattle.spx_parse_body.specs.Reading.{Outcome, Reader}
+use Rattle.spx_cursor.specs.Reading.{Outcome, Reader}
 use Rattle.spx_parse_body.proofs.Callers.Shaped.{AreShaped, shaped_rest}
 use Rattle.spx_parse_body.proofs.Callers.Lawful.{Lawful, Any, pair_is}
 use Rattle.spx_parse_body.proofs.Grows.{Grows, Follows, Under}

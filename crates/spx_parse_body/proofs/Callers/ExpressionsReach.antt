@@ -27,14 +27,13 @@ use Rattle.spx_tree.specs.declared.annotation.Predicate.{Predicate}
 use Rattle.spx_tree.specs.Written.{annotation, written_at, parenthesized, sign_kind, operator_kind, second_word, written_operator, written_member, written_form, written_name, written_expr}
 use Rattle.spx_tree.specs.Grammar.{height, layer_of, layer_before, layer_in, rank, right_layer, operand_layer, HasOperator, FitsLeft, IsUpTo, Layered, OfLayer, IsExpr, IsCondition, IsPredicate}
 use Rattle.spx_parse_body.specs.declared.expressions.Tall.{Tall}
-use Rattle.spx_parse_body.specs.declared.operators.Chain.{Chain}
-use Rattle.spx_parse_body.specs.declared.operators.Chain.TheVariants as chain
-use Rattle.spx_parse_body.specs.declared.operators.Relator.{Relator}
-use Rattle.spx_parse_body.specs.declared.operators.Relator.TheVariants as relators
-use Rattle.spx_parse_body.specs.Reading.{Outcome, Reader, and_then, peek}
-use Rattle.spx_parse_body.specs.Operators.{sign_of, abs_or_not, power_of, multiplying, adding, relator_of, logical, connective_of, last_layer, if_then, if_else, same_logical, goes_on, second, whole_by, whole_operator}
-use Rattle.spx_parse_body.specs.Expressions.{function_of, name_by, name, literal, entry, in_parentheses, application, attribute_by, attribute, with_apostrophe_by, with_apostrophe, with_identifier_by, with_identifier, primary_by, primary, operated, joined_by, power_by, power, factor_by, factor, step_by, chain_step, chained, term, signed_by, signed, sum, type_by, member_by, member, inside, outside, relation_by, relation, combined, opening_by, opening, combination_by, combination, connection_by, connection, read, below, at_layer, expression, predicate, expression_at, predicate_after, simple_expression, expression_below, simple_expression_below}
-use Rattle.spx_parse_body.specs.Answers.{IsExprAt}
+use Rattle.spx_cursor.specs.declared.operators.Chain.{Chain}
+use Rattle.spx_cursor.specs.declared.operators.Chain.TheVariants as chain
+use Rattle.spx_cursor.specs.declared.operators.Relator.{Relator}
+use Rattle.spx_cursor.specs.declared.operators.Relator.TheVariants as relators
+use Rattle.spx_cursor.specs.Reading.{Outcome, Reader, and_then, peek}
+use Rattle.spx_cursor.specs.Operators.{sign_of, abs_or_not, power_of, multiplying, adding, relator_of, logical, connective_of, last_layer, if_then, if_else, same_logical, goes_on, second, whole_by, whole_operator}
+use Rattle.spx_parse_body.specs.Expressions.{function_of, name_by, name, literal, entry, in_parentheses, application, attribute_by, attribute, with_apostrophe_by, with_apostrophe, with_identifier_by, with_identifier, primary_by, primary, operated, joined_by, power_by, power, factor_by, factor, step_by, chain_step, chained, term, signed_by, signed, sum, type_by, member_by, member, inside, outside, relation_by, relation, combined, opening_by, opening, combination_by, combination, connection_by, connection, read, below, at_layer, expression, predicate, expression_at, predicate_after, simple_expression, expression_below, simple_expression_below, IsExprAt}
 use Rattle.spx_parse_body.proofs.Callers.Loops.{Shrinks}
 use Rattle.spx_parse_body.proofs.Callers.Reaches.{Reaches, reaches_bind, reaches_pure, reaches_choose, reaches_deeper, reaches_expect, reaches_expect_place, reaches_identifier, reaches_number, peek_front, loop_turn, loop_over}
 use Rattle.spx_parse_body.proofs.Callers.Operators.{chain_layer}

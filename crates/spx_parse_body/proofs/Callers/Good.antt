@@ -6,7 +6,7 @@ use Rattle.spx_tree.specs.declared.token.Kind.TheVariants as k
 use Rattle.spx_text.specs.declared.place.Place.{Place}
 use Rattle.spx_tree.specs.Form.{Form, Kept, KindAlone, ItsPlace, keeps, bare, placed, named, literal}
 use Rattle.spx_tree.specs.Goes.{Expected}
-use Rattle.spx_parse_body.specs.Reading.{Outcome, Reader, ◌>>=◌, pure, refuse, peek, taking, nothing_in, place_in, name_in, value_in, expect, expect_place, identifier, number, deeper, turn, turns, loop, item_step, more_items}
+use Rattle.spx_cursor.specs.Reading.{Outcome, Reader, ◌>>=◌, pure, refuse, peek, taking, nothing_in, place_in, name_in, value_in, expect, expect_place, identifier, number, deeper, turn, turns, loop, item_step, more_items}
 use Rattle.spx_parse_body.proofs.Callers.Shaped.{AreShaped, IsSpelling, IsKept, bare_spelling, placed_spelling, named_spelling, literal_spelling, bare_kept, place_kept, name_kept, value_kept}
 use Rattle.spx_parse_body.proofs.Callers.Loops.{Shortens, Shrinks, same_turns, loop_is}
 use Rattle.spx_parse_body.proofs.Callers.Lawful.{Lawful, Ends, Any, Sees, Always, single, just, at_place, ends_here, lawful_before, lawful_pure, lawful_refuse, lawful_deeper, lawful_choose, lawful_then, lawful_bind, lawful_as, lawful_weaken, lawful_fewer, lawful_taking}

@@ -7,7 +7,7 @@ use Rattle.spx_text.specs.declared.place.Place.{Place}
 use Rattle.spx_tree.specs.declared.token.Kind.{Kind}
 use Rattle.spx_tree.specs.Form.{Form, Kept, bare, placed}
 use Rattle.spx_tree.specs.Goes.{Fault, Expected, TooDeep}
-use Rattle.spx_parse_body.specs.Reading.{Outcome, Reader, and_then, ◌>>=◌, pure, refuse, too_deep, same_mark, same_kind, taking, kept_or, deeper}
+use Rattle.spx_cursor.specs.Reading.{Outcome, Reader, and_then, ◌>>=◌, pure, refuse, too_deep, same_mark, same_kind, taking, kept_or, deeper}
 use Rattle.spx_parse_body.proofs.Callers.Shaped.{IsSpelling, mark_is, kind_is}
 
 -- ---- outcomes

@@ -1,7 +1,7 @@
 -- A loop goes on turn by turn, whatever number bounds the turns.
 use Rattle.std.proofs.Common.{◌≡◌, ℕ, zero, suc, ◌≤◌, ◌<◌, List, [], ◌∷◌, length, Option, Some, None, Ok, Err, refl, sym, ap, ◌∙◌, arith}
 use Rattle.spx_tree.specs.Form.{Form}
-use Rattle.spx_parse_body.specs.Reading.{Outcome, Reader, and_then, turn, turns, loop}
+use Rattle.spx_cursor.specs.Reading.{Outcome, Reader, and_then, turn, turns, loop}
 
 -- the same outcome of what comes next gives the same outcome of all
 pub and_then_same : {A B : Type 0} (r : Outcome A) (f g : A → Reader B) → ((x : A) (fs : List Form) → r ≡ Ok (x, fs) → f x fs ≡ g x fs) → and_then r f ≡ and_then r g

@@ -13,11 +13,11 @@ use Rattle.spx_tree.specs.declared.expression.Expr.{Expr}
 use Rattle.spx_tree.specs.Form.{keeps, ItsPlace}
 use Rattle.spx_tree.specs.Written.{sign_kind, operator_kind, second_word}
 use Rattle.spx_tree.specs.Grammar.{layer_of, layer_before, layer_in, rank, HasOperator, FitsLeft, LeftFits}
-use Rattle.spx_parse_body.specs.declared.operators.Chain.{Chain}
-use Rattle.spx_parse_body.specs.declared.operators.Chain.TheVariants as chain
-use Rattle.spx_parse_body.specs.declared.operators.Relator.{Relator}
-use Rattle.spx_parse_body.specs.declared.operators.Relator.TheVariants as relators
-use Rattle.spx_parse_body.specs.Operators.{sign_of, abs_or_not, power_of, multiplying, adding, relator_of, logical, connective_of, if_then, if_else, short_circuit, if_and, if_or, if_xor, same_logical, goes_on}
+use Rattle.spx_cursor.specs.declared.operators.Chain.{Chain}
+use Rattle.spx_cursor.specs.declared.operators.Chain.TheVariants as chain
+use Rattle.spx_cursor.specs.declared.operators.Relator.{Relator}
+use Rattle.spx_cursor.specs.declared.operators.Relator.TheVariants as relators
+use Rattle.spx_cursor.specs.Operators.{sign_of, abs_or_not, power_of, multiplying, adding, relator_of, logical, connective_of, if_then, if_else, short_circuit, if_and, if_or, if_xor, same_logical, goes_on}
 
 some_is : {A : Type 0} (x y : A) → Some x ≡ Some y → x ≡ y
 some_is x y e = cc

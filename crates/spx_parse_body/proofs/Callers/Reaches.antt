@@ -11,7 +11,7 @@ use Rattle.spx_tree.specs.declared.expression.Identifier.{Identifier}
 use Rattle.spx_tree.specs.Form.{Form, Kept, bare, placed, named, literal}
 use Rattle.spx_tree.specs.Goes.{TooDeep}
 use Rattle.spx_tree.specs.Written.{joined}
-use Rattle.spx_parse_body.specs.Reading.{Outcome, Reader, and_then, ◌>>=◌, pure, peek, taking, nothing_in, place_in, name_in, value_in, expect, expect_place, identifier, number, deeper, turn, loop, item_step, more_items}
+use Rattle.spx_cursor.specs.Reading.{Outcome, Reader, and_then, ◌>>=◌, pure, peek, taking, nothing_in, place_in, name_in, value_in, expect, expect_place, identifier, number, deeper, turn, loop, item_step, more_items}
 use Rattle.spx_parse_body.proofs.Callers.Shaped.{IsSpelling, bare_spelling, placed_spelling, named_spelling, literal_spelling}
 use Rattle.spx_parse_body.proofs.Scans.{taking_front}
 use Rattle.spx_parse_body.proofs.Callers.Loops.{Shrinks, loop_is}

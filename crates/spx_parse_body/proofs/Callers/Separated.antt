@@ -6,7 +6,7 @@ use Rattle.spx_tree.specs.Grammar.{Each, OneOrMore, IfThere}
 use Rattle.spx_tree.specs.declared.token.Kind.{Kind}
 use Rattle.spx_tree.specs.Form.{Form, KindAlone, keeps, bare}
 use Rattle.spx_tree.specs.Written.{joined, following, separated, optional}
-use Rattle.spx_parse_body.specs.Reading.{Reader, ◌>>=◌, ◌>>◌, peek, same_mark, is_kind, sees, expect, optional_by, if_seen, item_step, more_items}
+use Rattle.spx_cursor.specs.Reading.{Reader, ◌>>=◌, ◌>>◌, peek, same_mark, is_kind, sees, expect, optional_by, if_seen, item_step, more_items}
 use Rattle.spx_parse_body.proofs.Callers.Shaped.{mark_self, kind_is, kind_self}
 use Rattle.spx_parse_body.proofs.Callers.Loops.{Shrinks}
 use Rattle.spx_parse_body.proofs.Callers.Lawful.{Any, Sees}

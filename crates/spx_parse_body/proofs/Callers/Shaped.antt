@@ -9,7 +9,7 @@ use Rattle.spx_tree.specs.declared.token.Kind.TheVariants as k
 use Rattle.spx_tree.specs.declared.token.Token.{Token}
 use Rattle.spx_tree.specs.declared.expression.Identifier.{Identifier}
 use Rattle.spx_tree.specs.Form.{Form, Kept, Nothing, Where, Spelled, Valued, Keeps, KindAlone, ItsPlace, ItsSpelling, ItsValue, keeps, kept_as, forms_of, bare, placed, named, literal}
-use Rattle.spx_parse_body.specs.Reading.{same_mark, same_kind, peek, nothing_in, place_in, name_in, value_in}
+use Rattle.spx_cursor.specs.Reading.{same_mark, same_kind, peek, nothing_in, place_in, name_in, value_in}
 
 -- ---- forms of tokens
 

@@ -21,7 +21,7 @@ use Rattle.spx_tree.specs.Form.{Form, ItsPlace, bare, placed, keeps}
 use Rattle.spx_tree.specs.Written.{program, annotation, assertion_word, joined, optional, elsif_arms, all_arms, written_upper, written_choice, written_choices, written_constraint, written_direction, written_range, written_scheme, written_when, written_expr, written_stmt, written_arm, written_alternative, written_stmts, separated}
 use Rattle.spx_tree.specs.Grammar.{OneOrMore, IfThere, OfLayer, IsExpr, IsArm, IsChoice, IsAlternative, IsRange, IsScheme, IsFormed, Within, IsStmt}
 use Rattle.spx_tree.proofs.WrittenLevels.{written_level, spelled_stmt, spelled_arm, spelled_alternative, elsif_joined}
-use Rattle.spx_parse_body.specs.Reading.{Reader, ◌>>=◌, ◌>>◌, pure, peek, sees, refuse, expect, expect_place, item_step}
+use Rattle.spx_cursor.specs.Reading.{Reader, ◌>>=◌, ◌>>◌, pure, peek, sees, refuse, expect, expect_place, item_step}
 use Rattle.spx_parse_body.specs.declared.statements.SchemeKind.{SchemeKind}
 use Rattle.spx_parse_body.specs.declared.statements.SchemeKind.TheVariants as schemes
 use Rattle.spx_parse_body.specs.declared.statements.StmtKind.{StmtKind}

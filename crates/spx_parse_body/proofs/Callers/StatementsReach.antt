@@ -23,7 +23,7 @@ use Rattle.spx_tree.specs.Form.{Form, bare, placed, named}
 use Rattle.spx_tree.specs.Written.{program, assertion_word, optional, separated, following, written_name, written_expr, written_upper, written_choice, written_choices, written_range, written_constraint, written_direction, written_scheme, written_when, elsif_arms, written_stmt, written_arm, written_alternative, written_stmts}
 use Rattle.spx_tree.specs.Grammar.{Each, OneOrMore, IfThere, OfLayer, IsExpr, IsRange, IsScheme, IsFormed, Within, IsStmt}
 use Rattle.spx_tree.proofs.WrittenLevels.{written_level, spelled_stmt, spelled_arm, spelled_alternative, elsif_joined}
-use Rattle.spx_parse_body.specs.Reading.{Reader, ◌>>◌, peek, sees, expect, optional_by, if_seen, item_step}
+use Rattle.spx_cursor.specs.Reading.{Reader, ◌>>◌, peek, sees, expect, optional_by, if_seen, item_step}
 use Rattle.spx_parse_body.proofs.Callers.Shaped.{kind_self}
 use Rattle.spx_parse_body.specs.declared.statements.SchemeKind.{SchemeKind}
 use Rattle.spx_parse_body.specs.declared.statements.SchemeKind.TheVariants as schemes

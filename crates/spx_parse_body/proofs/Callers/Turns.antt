@@ -9,7 +9,7 @@ use Rattle.spx_tree.specs.declared.statement.Arm.{Arm}
 use Rattle.spx_tree.specs.declared.statement.Stmt.{Stmt}
 use Rattle.spx_tree.specs.Written.{program}
 use Rattle.spx_tree.specs.Form.{Form}
-use Rattle.spx_parse_body.specs.Reading.{Outcome, Reader, and_then, ◌>>=◌, ◌>>◌, pure, sees, expect, turn, loop, item_step}
+use Rattle.spx_cursor.specs.Reading.{Outcome, Reader, and_then, ◌>>=◌, ◌>>◌, pure, sees, expect, turn, loop, item_step}
 use Rattle.spx_parse_body.specs.Statements.{choice, more_choices, elsif_arm, elsif_arms, alternative, more_alternatives, sees_stmt, stmt, more_stmts, stmts_below}
 use Rattle.spx_parse_body.proofs.Callers.Loops.{Shrinks, loop_is}
 use Rattle.spx_parse_body.proofs.Levels.{and_then_assoc}

@@ -1,7 +1,7 @@
 use Rattle.std.proofs.Common.{sym, ◌∙◌}
 use Rattle.spx_tree.specs.declared.token.Kind.TheVariants as k
 use Rattle.spx_tree.specs.Written.{program}
-use Rattle.spx_parse_body.specs.Reading.{sees}
+use Rattle.spx_cursor.specs.Reading.{sees}
 use Rattle.spx_parse_body.specs.Statements.{sees_stmt, stmt, stmts_below, elsif_arm, alternative}
 use Rattle.spx_parse_body.proofs.Callers.Turns.{item_shorter}
 use Rattle.spx_parse_body.proofs.Callers.StatementsGood.{stmts_shrinks, arms_shrinks, alternatives_shrinks}

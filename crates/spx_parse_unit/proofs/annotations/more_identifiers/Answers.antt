@@ -1,6 +1,6 @@
 use Rattle.std.proofs.Common.{sym, ◌∙◌}
 use Rattle.spx_tree.specs.declared.token.Kind.TheVariants as k
-use Rattle.spx_parse_body.specs.Reading.{identifier}
+use Rattle.spx_cursor.specs.Reading.{identifier}
 use Rattle.spx_parse_body.proofs.Callers.Turns.{next_shorter}
 use Rattle.spx_parse_unit.proofs.UnitsGood.{identifiers_shrinks}
 use Rattle.spx_parse_unit.proofs.annotations.more_identifiers.Goals as goal

@@ -1,7 +1,7 @@
 use Rattle.std.proofs.Common.{sym, ◌∙◌}
 use Rattle.spx_tree.specs.declared.token.Kind.TheVariants as k
 use Rattle.spx_tree.specs.Written.{program}
-use Rattle.spx_parse_body.specs.Reading.{sees}
+use Rattle.spx_cursor.specs.Reading.{sees}
 use Rattle.spx_parse_unit.specs.Units.{unit_at}
 use Rattle.spx_parse_body.proofs.Callers.Turns.{item_shorter}
 use Rattle.spx_parse_unit.proofs.UnitsGood.{units_shrinks}

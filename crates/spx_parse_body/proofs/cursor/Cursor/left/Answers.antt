@@ -1,6 +1,0 @@
-use Rattle.std.proofs.Common.{length, sym, ap, ◌∙◌}
-use Rattle.spx_parse_body.proofs.Callers.Located.{forms_length}
-use Rattle.spx_parse_body.proofs.cursor.Cursor.left.Goals as goal
-
-pub returns : goal.returns
-returns c = sym (forms_length c.self.inside.source.now c.self.inside.rest.now) ∙ ap length c.self.view_is

@@ -1,7 +1,0 @@
-use Rattle.std.proofs.Common.{rules, sym, ◌∙◌}
-use denote.Enum.Bare.{same_true}
-use Rattle.spx_tree.specs.contracts.token.Kind.{the_type}
-use Rattle.spx_parse_body.proofs.cursor.same_kind.Goals as goal
-
-pub returns-clause-same : goal.returns-clause-same
-returns-clause-same c is = same_true the_type (search rules) _ _ (sym c.eq.ensures ∙ is)
