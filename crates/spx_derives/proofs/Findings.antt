@@ -20,7 +20,7 @@ use Rattle.spx_core.specs.FlowRules.{Missing, Unused, Ineffective, MarkReaches, 
 use Rattle.spx_core.specs.Scopes.{Scoped}
 use Rattle.spx_core.proofs.Callers.ListTests.{covers, found, passes}
 use Rattle.spx_rows.specs.Relations.{Matrix}
-use Rattle.spx_flow.specs.declared.flow.Occurrence.{Occurrence}
+use Rattle.spx_passes.specs.declared.occurrence.Occurrence.{Occurrence}
 use Rattle.spx_flow.specs.Flows.{IsAt, IsBackwardFlow}
 use Rattle.spx_define.specs.UnsetReads.{AreUnsetReads}
 use Rattle.spx_derives.specs.declared.finding.FlowFinding.{FlowFinding}

@@ -5,7 +5,7 @@ use Rattle.std.proofs.lemmas.Bool.{and_parts, both_ways, eqb-true, eq-eqb, or_ca
 use Rattle.std.proofs.lemmas.List.Quantifiers.{position-Some}
 use Rattle.spx_text.specs.declared.place.Place.{Place}
 use Rattle.spx_core.specs.declared.entity.VarId.{VarId}
-use Rattle.spx_flow.specs.declared.flow.Occurrence.{Occurrence}
+use Rattle.spx_passes.specs.declared.occurrence.Occurrence.{Occurrence}
 use Rattle.spx_core.specs.Mirror.VarSets.{place_in_set}
 use Rattle.spx_rows.specs.Relations.{Matrix, Has, Gains}
 use Rattle.spx_derives.specs.Tables.{Declares, is_other, meets, pair_in, same_place, stands_at}

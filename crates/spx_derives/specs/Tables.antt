@@ -15,7 +15,7 @@ use Rattle.spx_core.specs.Uses.{denotes, mentions}
 use Rattle.spx_core.specs.Mirror.VarSets.{place_in_set}
 use Rattle.spx_core.specs.Effects.{Read}
 use Rattle.spx_rows.specs.Relations.{Matrix, Has}
-use Rattle.spx_flow.specs.declared.flow.Occurrence.{Occurrence}
+use Rattle.spx_passes.specs.declared.occurrence.Occurrence.{Occurrence}
 use Rattle.spx_derives.specs.declared.tables.Tables.{Tables}
 use Rattle.spx_derives.specs.declared.finding.FlowFinding.{FlowFinding}
 use Rattle.spx_derives.specs.declared.finding.FlowFinding.TheVariants.{UnsetRead}

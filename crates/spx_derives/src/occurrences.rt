@@ -3,7 +3,7 @@ ghost use Rattle.std.specs.Prelude.{◌≡◌, ◌++◌, ◌&&◌, IfOk, OnOk, m
 ghost use Rattle.std.specs.List.{list_any};
 ghost use Rattle.indexmap.specs.IndexSet.{contains, IsUnique};
 ghost use Rattle.spx_text.specs.declared.place.Place.{Place};
-ghost use Rattle.spx_flow.specs.Flows.{AreRows};
+ghost use Rattle.spx_passes.specs.Occurrences.{AreRows};
 ghost use Rattle.spx_derives.specs.declared.finding.FlowFinding.TheVariants.{Ineffective};
 ghost use Rattle.spx_derives.specs.Tables.{is_effective, is_other, meets, same_place, stands_at};
 

@@ -2,7 +2,7 @@ use Rattle.std.proofs.Common.{◌∙◌, ◌++◌, ◌&&◌, length, map, not, s
 use Rattle.std.specs.List.{list_any}
 use Rattle.indexmap.specs.IndexMap.{get}
 use Rattle.spx_core.specs.Formals.{formals}
-use Rattle.spx_flow.specs.Flows.{AreRows}
+use Rattle.spx_passes.specs.Occurrences.{AreRows}
 use Rattle.spx_derives.specs.declared.finding.FlowFinding.TheVariants.{Ineffective}
 use Rattle.spx_derives.specs.Differences.{differences_from}
 use Rattle.spx_derives.specs.Tables.{is_effective, same_var, stands_at, unset_read}
