@@ -1,26 +1,13 @@
-//! From units to the one program that they are: each name with what it denotes, each declared name with what it
-//! declares (Ada 95 RM 8.3).
+//! From units to the one program that they are, or the first rule on names or types that they break (Ada 95 RM 3, 4, 5,
+//! 6, 8.3).
 //!
-//! A layer above may rely on this: `make_program` gives the program `resolved` of its units, whatever they are. A name
-//! of which no declaration is visible denotes nothing there, and a name that is declared twice is `again`. `resolve`
-//! then has that program judged, and answers it or the first rule on names or types that it breaks.
+//! A layer above may rely on this: `resolve` has the program of the units judged, and answers it or the first rule that
+//! it breaks: the names of all units come first, then each unit in the order of its text.
 #![tactic(auto)]
 
-mod changed;
-mod choices;
-mod declaration;
-mod expression;
 mod fault;
-mod meaning;
-mod names;
-mod parts;
+mod program;
 mod resolution;
-mod schemes;
-mod statement;
-mod tables;
-mod types;
-mod unit;
 
 pub use fault::ResolveFault;
 pub use resolution::resolve;
-pub use unit::make_program;

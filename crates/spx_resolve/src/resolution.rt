@@ -7,11 +7,11 @@ ghost use Rattle.spx_resolve.specs.declared.fault.ResolveFault.TheVariants.{Memo
 ghost use Rattle.spx_resolve.specs.Explains.{Explains};
 
 use crate::fault::ResolveFault;
-use crate::unit::make_program;
+use crate::program::judge_program;
 use spx_core::Program;
 use spx_core::laws::{one_program, resolution};
+use spx_naming::make_program;
 use spx_tree::Unit;
-use spx_types::judge_program;
 use std::alloc::Global;
 
 /// The one program that the units are, or the first rule on names or types that they break.

@@ -1,4 +1,1 @@
-pub mod Arms
-pub mod Choices
 pub mod TypeIds
-pub mod Rows

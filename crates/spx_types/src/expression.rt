@@ -1,10 +1,10 @@
 // What expressions are, or the first rule that is broken in them (Ada 95 RM 4.4, 4.5, 4.9).
 ghost use Rattle.std.specs.Prelude.{◌≡◌};
 ghost use Rattle.spx_core.specs.Judged as rules;
+ghost use Rattle.spx_core.specs.Statements.{static_at};
 ghost use Rattle.spx_types.specs.TypeIds.{base_id, static, type_id};
 
 use crate::attributes::attribute;
-use crate::declaration::static_at;
 use crate::functions::{application, mapped};
 use crate::membership::{member_of_range, member_of_type, ordered_type};
 use crate::names::{entry_value, keeps, named_value};
@@ -34,6 +34,16 @@ pub fn condition(operand: Typing) -> Result<(), Breach>
     ensures { result ≡ rules.condition operand }
 {
     keeps(RuleName::N10, operand.place, is_boolean(operand.of))
+}
+
+/// The value of what is static, which is needed at the place.
+pub fn static_at(place: Place, value: Option<i128>) -> Result<i128, Breach>
+    ensures { result ≡ static_at place value }
+{
+    value.ok_or(Breach {
+        rule: RuleName::N11,
+        place,
+    })
 }
 
 fn sign(op: PrefixOp, place: Place, operand: Typing) -> Result<Typing, Breach>

@@ -1,27 +1,22 @@
-//! The static rules on names and types: what an expression is, and the first rule that a program breaks, in the order of
-//! the text (Ada 95 RM 3, 4, 5, 6, 8.3).
+//! The static rules on names and expressions: what an expression is, or the first rule that is broken in it, from left
+//! to right (Ada 95 RM 3, 4, 8.3).
 //!
 //! Each function mirrors the definition that its contract cites: `Ok` says what a node is, `Err` which rule is broken
-//! first in it. Only `type_row` allocates.
+//! first in it. A layer above says with the same words what declarations and statements ask of their expressions: the
+//! tests on types and values are those of `Types`, the rules those of `Judged`. Nothing allocates.
 #![tactic(auto)]
 
 mod attributes;
-mod choices;
-mod coverage;
-mod declaration;
 mod expression;
-mod extent;
 mod functions;
 mod membership;
 mod names;
-mod program;
-mod row;
-mod statement;
 mod types;
 mod values;
 
-pub use expression::{judge, static_value, type_of};
+pub use expression::{condition, judge, operand_of, static_at, static_value, type_of};
 pub use functions::application;
-pub use names::keeps;
-pub use program::judge_program;
-pub use row::{TypeFault, type_row};
+pub use membership::ordered_type;
+pub use names::{keeps, named_type, referred_object, referred_target, referred_type};
+pub use types::{has_numbers, is_number, is_of, is_ordered, is_same_type};
+pub use values::{is_between, lies_in, span_of, span_of_type};

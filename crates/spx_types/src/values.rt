@@ -11,6 +11,7 @@ use spx_core::{BaseType, Class, ExprType, OperandType, Shift, Span, Subtype, UNI
 use spx_num::{Op, checked, modulo, power, quot, rem};
 use spx_tree::{InfixOp, MemberOp, PrefixOp};
 
+/// Whether a value lies between two.
 pub fn is_between(first: i128, last: i128, n: i128) -> bool
     ensures { result ≡ is.is_between first last n }
 {

@@ -1,0 +1,12 @@
+use Rattle.std.proofs.Common.{◌≡◌, ◌++◌, drop, length, map}
+use Rattle.spx_core.specs.Resolved.{declared_by_params, declaring_all, resolved_params, var_of}
+use Rattle.spx_scope.specs.Seen.{seen}
+use Rattle.spx_naming.proofs.declaration.resolve_params.Given as goal
+
+abbrev pub invariant-loop-param : goal.invariant-loop-param
+invariant-loop-param l =
+    (l.resolved ++ resolved_params (seen l.outer) l.region (length l.vars) (drop l.param-index l.params) ≡ resolved_params (seen l.outer) l.initial.region (length l.initial.vars) l.params)
+    × (declaring_all l.region (declared_by_params (resolved_params (seen l.outer) l.region (length l.vars) (drop l.param-index l.params)))
+    ≡ declaring_all l.initial.region (declared_by_params (resolved_params (seen l.outer) l.initial.region (length l.initial.vars) l.params)))
+    × (l.vars ++ map var_of (declared_by_params (resolved_params (seen l.outer) l.region (length l.vars) (drop l.param-index l.params)))
+    ≡ l.initial.vars ++ map var_of (declared_by_params (resolved_params (seen l.outer) l.initial.region (length l.initial.vars) l.params)))

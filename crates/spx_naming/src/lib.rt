@@ -1,0 +1,22 @@
+//! Gives each name what it denotes, and makes the one program that units are: each declared name has what it declares
+//! (Ada 95 RM 8.3).
+//!
+//! A layer above may rely on this: `make_program` gives the program `resolved` of its units, whatever they are, and
+//! fails only where memory runs out. A name of which no declaration is visible denotes nothing there, and a name that is
+//! declared twice is `again`: no rule is judged here.
+#![tactic(auto)]
+
+mod changed;
+mod choices;
+mod declaration;
+mod expression;
+mod meaning;
+mod names;
+mod parts;
+mod schemes;
+mod statement;
+mod tables;
+mod types;
+mod unit;
+
+pub use unit::make_program;

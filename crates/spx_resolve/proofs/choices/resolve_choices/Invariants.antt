@@ -1,7 +1,0 @@
-use Rattle.std.proofs.Common.{◌≡◌, map, take}
-use Rattle.spx_core.specs.Resolved.{resolved_choice}
-use Rattle.spx_scope.specs.Seen.{seen}
-use Rattle.spx_resolve.proofs.choices.resolve_choices.Given as goal
-
-abbrev pub invariant-loop-choice : goal.invariant-loop-choice
-invariant-loop-choice l = l.resolved ≡ map (resolved_choice (seen l.scope)) (take l.choice-index l.choices)

@@ -1,7 +1,0 @@
-use Rattle.std.proofs.Common.{◌≡◌, map, take}
-use Rattle.spx_core.specs.Resolved.{resolved_reference}
-use Rattle.spx_scope.specs.Seen.{seen}
-use Rattle.spx_resolve.proofs.expression.resolve_references.Given as goal
-
-abbrev pub invariant-loop-name : goal.invariant-loop-name
-invariant-loop-name l = l.resolved ≡ map (resolved_reference (seen l.scope)) (take l.name-index l.names)
