@@ -10,8 +10,8 @@ use Rattle.spx_core.specs.declared.statement.CoreStmt.{CoreStmt}
 use Rattle.spx_core.specs.Commands.{alternative, command, select}
 use Rattle.spx_core.specs.Judged.{Judged, ◌>>=◌}
 use Rattle.spx_core.specs.Obeyed.{obeyed_alternatives, obeyed_command}
-use Rattle.spx_types.specs.Choices.{alternatives_in, done_in}
-use Rattle.spx_types.proofs.CaseForms.{front}
+use Rattle.spx_typing.specs.Choices.{alternatives_in, done_in}
+use Rattle.spx_typing.proofs.CaseForms.{front}
 
 and_no_more : (x : Judged ⊤) → x ≡ (x >>= λ _. Ok tt)
 and_no_more (Ok x) = refl

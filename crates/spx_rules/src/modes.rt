@@ -8,7 +8,7 @@ ghost use Rattle.spx_core.specs.Formals.{mode_in};
 ghost use Rattle.spx_core.specs.Judged.{each};
 ghost use Rattle.spx_core.specs.Obeyed as rules;
 ghost use Rattle.spx_rules.specs.Arms.{FoundInArms};
-ghost use Rattle.spx_types.specs.Choices.{alternatives_in, done_in};
+ghost use Rattle.spx_typing.specs.Choices.{alternatives_in, done_in};
 
 use crate::tables::Tables;
 use spx_core::{

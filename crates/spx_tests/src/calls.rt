@@ -3,7 +3,7 @@ ghost use Rattle.std.specs.Prelude.{◌≡◌, length, IfOk};
 
 use spx_core::{CoreExpr, Program, UNIVERSAL};
 use spx_lexer::lex;
-use spx_parse_body::{parse_expr, parse_stmts};
+use spx_parse_unit::{parse_expr, parse_stmts};
 use spx_text::Place;
 use spx_tree::InfixOp;
 use spx_types::{static_value, type_of};

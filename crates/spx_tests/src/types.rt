@@ -3,9 +3,9 @@ ghost use Rattle.std.specs.Prelude.{◌≤◌, length};
 
 use spx_core::{Program, TypeRow};
 use spx_lexer::lex;
+use spx_naming::{make_program, make_program};
 use spx_parse_unit::parse_units;
-use spx_resolve::make_program;
-use spx_types::type_row;
+use spx_typing::type_row;
 use sqlite_items::Boxed;
 use std::alloc::{AllocError, Global};
 use std::test::Fail;

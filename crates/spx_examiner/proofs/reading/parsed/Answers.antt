@@ -1,8 +1,8 @@
 use Rattle.std.proofs.Common.{Err, refl, subst}
 use Rattle.spx_tree.specs.Written.{written}
 use Rattle.spx_tree.specs.Grammar.{IsFile}
-use Rattle.spx_parse_body.specs.declared.fault.ParseFault.{ParseFault}
-use Rattle.spx_parse_body.specs.Answers.{SaysAll}
+use Rattle.spx_parse_unit.specs.declared.fault.ParseFault.{ParseFault}
+use Rattle.spx_parse_unit.specs.Answers.{SaysAll}
 use Rattle.spx_examiner.specs.Reading.{nested, whole}
 use Rattle.spx_examiner.proofs.Spelled.{expected_is_read}
 use Rattle.spx_examiner.proofs.reading.parsed.Goals as goal

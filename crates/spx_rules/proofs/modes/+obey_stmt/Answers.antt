@@ -3,7 +3,7 @@ use Rattle.std.proofs.lemmas.Result.{err_from_is_err_and}
 use Rattle.std.specs.Prelude.{⊤}
 use Rattle.spx_core.specs.Judged.{Judged, ◌>>=◌}
 use Rattle.spx_core.specs.Obeyed.{obeyed_alternatives}
-use Rattle.spx_types.specs.Choices.{alternatives_in}
+use Rattle.spx_typing.specs.Choices.{alternatives_in}
 use Rattle.spx_core.proofs.Callers.CommandForms.{command-Case}
 use Rattle.spx_rules.proofs.CaseRules.{case_obeyed, obeyed_at}
 use Rattle.spx_rules.proofs.ExitRules.{arms_from}

@@ -1,7 +1,7 @@
 use Rattle.std.proofs.Common.{◌≡◌, drop, map}
 use Rattle.spx_core.specs.Commands.{arm_before, arms_before, commands}
 use Rattle.spx_core.specs.Obeyed.{obeyed_alternatives, obeyed_command}
-use Rattle.spx_types.specs.Choices.{alternatives_in}
+use Rattle.spx_typing.specs.Choices.{alternatives_in}
 use Rattle.spx_rules.proofs.modes.+obey_stmt.Given as goal
 
 abbrev pub invariant-obey_stmts-loop-at : goal.invariant-obey_stmts-loop-at
