@@ -76,16 +76,18 @@ case \$1 in
     ci)
         echo ci >>'$room/builds'
         find . >'$room/copied'
-        [ -z "\${RT_SLEEPS-}" ] || sleep "\$RT_SLEEPS"
+        printf '%s\n' 'rt: spx_text proved' 'rt: spx_num is kept: it is' 'rt: spx_text proved' 'rt: the tests of spx_tree proved' 'rt: spx_tree NOT PROVED'
+        [ -z "\${RT_SLEEPS-}" ] || $(command -v sleep) "\$RT_SLEEPS"
         [ -z "\${RT_FAILS-}" ] || exit 1
         mkdir -p crates/spx_cli/out && cp '$room/bin/built' crates/spx_cli/out/spx_cli
         ;;
 esac
 END
 chmod +x "$room/bin/rt"
+printf '#!/bin/sh\necho "${PROCESSORS:-4}"\n' >"$room/bin/nproc" && chmod +x "$room/bin/nproc"
 # A PATH with the usual tools and without rt.
 mkdir "$room/tools"
-for tool in sh awk cat cp date find flock git grep mkdir mktemp mv readlink rm sed sleep sort touch wc; do
+for tool in sh awk cat cp date env find flock git grep mkdir mktemp mv readlink rm sed sleep sort touch wc; do
     at=$(command -v "$tool") && case $at in /*) ln -s "$at" "$room/tools/$tool" ;; esac
 done
 
@@ -425,7 +427,8 @@ touch "$tree/crates/spx_cli/src/main.rt"
 run with_rt "$tree/spx" build
 ends 0
 says 'building the program'
-says 'may take an hour'
+says 'the first time this takes about 35 minutes (processors: 4)'
+says 'the tests, .ci/run, take about 70 minutes'
 says 'built in'
 prints ''
 touch -t 202001010000 "$tree/crates/spx_cli/src/main.rt" "$tree/crates/spx_cli/src"
@@ -480,6 +483,41 @@ ends 1
 says 'on this machine the last time'
 run with_rt "$tree/spx" check x
 says_nothing
+
+what='the time of a first build is that of so many processors'
+while read -r processors minutes; do
+    new_tree unbuilt
+    run with_rt PROCESSORS="$processors" "$tree/spx" check x
+    ends 0
+    says "the first time this takes about $minutes minutes"
+done <<'END'
+1 140
+2 70
+3 46
+8 35
+END
+
+# A second is a hundredth here, in which the script waits.
+what='a build shows its progress'
+mkdir "$room/fast" && printf '#!/bin/sh\nexec %s 0.01\n' "$(command -v sleep)" >"$room/fast/sleep" && chmod +x "$room/fast/sleep"
+new_tree unbuilt
+crates=$(awk '/^[a-z]/ { count++ } END { print count }' "$top/crates.txt")
+run env "PATH=$room/fast:$room/bin:$room/tools" RT_SLEEPS=4 "$tree/spx" check x
+ends 0
+prints '<check>\n<x>\n'
+if grep -qE '^spx: 2 of [0-9]+ crates are proved after 1 min$' "$room/err"; then pass; else fail "said: $(cat "$room/err")"; fi
+shown=$(sed -n 's/^spx: 2 of \([0-9]*\) crates.*/\1/p' "$room/err" | sed -n 1p)
+if [ "${shown:-0}" -gt 20 ] && [ "${shown:-0}" -lt "$crates" ]; then pass; else fail "it shows $shown of the $crates crates"; fi
+if grep -q "$(printf '\r')" "$room/err"; then fail 'a line is written again where there is no terminal'; else pass; fi
+if command -v python3 >/dev/null && python3 -c 'import pty' 2>/dev/null; then
+    what='a build shows its progress on a terminal'
+    new_tree unbuilt
+    env "PATH=$room/fast:$room/bin:$room/tools:$PATH" RT_SLEEPS=1 python3 -c 'import pty, sys; pty.spawn(sys.argv[1:])' "$tree/spx" build >"$room/out" </dev/null 2>"$room/err"
+    if grep -q "$(printf '\rspx: 2 of %s crates are proved after 0 min' "$shown")" "$room/out"; then pass; else fail "printed: $(cat "$room/out" "$room/err")"; fi
+    if grep -q '^spx: built in' "$room/out"; then pass; else fail "printed: $(cat "$room/out")"; fi
+else
+    skip 'there is no Python to make a terminal with'
+fi
 
 what='of two builds at a time one waits for the other'
 if command -v flock >/dev/null; then
