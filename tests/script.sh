@@ -816,7 +816,6 @@ commands() {
         what="README.md: $command"
         case $command in
             '' | '#'*) ;;
-            'git clone '* | 'cd '*) pass ;;
             .ci/run | './spx build') if [ -x "$top/${command%% *}" ]; then pass; else fail 'it is not there'; fi ;;
             *)
                 (cd "$tree" && sh -c "$command") >"$room/out" 2>"$room/err" </dev/null
@@ -827,14 +826,24 @@ commands() {
     done <"$room/lines"
 }
 
-# The step of a workflow, on the examples: some of them have findings.
+# The steps of a workflow, in a folder outside of the tree with the examples: some of them have findings.
 steps() {
-    what='README.md: the step of a workflow'
-    step=$(sed -n 's/^- run: for file in src/for file in examples/p' "$top/README.md")
-    (cd "$tree" && sh -c "$step") >"$room/out" 2>"$room/err" </dev/null
+    what='README.md: the steps of a workflow'
+    mkdir "$room/elsewhere" && cp -Rp "$top/examples" "$room/elsewhere/src"
+    sed -n 's/^- run: //p' "$top/README.md" >"$room/steps"
+    (cd "$room/elsewhere" && SPX="$tree/spx" sh "$room/steps") >"$room/out" 2>"$room/err" </dev/null
     status=$?
     ends 1
     is "$(grep -c '^refused' "$room/out")" 3
+    is "$(sed -n 's/^::add-matcher:://p' "$room/out")" "$tree/docs/problem-matcher.json"
+    what='README.md: the blocks for editors'
+    for program in vim elisp json yaml; do
+        if awk -v kind="$program" '$0 == "```" kind { inside = 1; next } /^```/ { inside = 0 } inside' "$top/README.md" | grep -qE 'SPX'; then
+            pass
+        else
+            fail "$program calls spx by another path than SPX"
+        fi
+    done
 }
 
 # Each example of the findings and of the guide has its report beside it.
