@@ -759,6 +759,13 @@ else
 fi
 is "$(grep -o '"regexp": "[^"]*"' "$top/README.md")" "$(grep -o '"regexp": "[^"]*"' "$matcher")"
 
+what='words in README.md and docs'
+if command -v python3 >/dev/null; then
+    if python3 -B "$top/tests/words.py" >"$room/out" 2>&1; then pass; else fail "$(cat "$room/out")"; fi
+else
+    skip 'there is no Python to look for words with'
+fi
+
 what='names in README.md and docs'
 if command -v python3 >/dev/null && command -v git >/dev/null && git -C "$top" rev-parse >/dev/null 2>&1; then
     if python3 -B "$top/tests/names.py" >"$room/out" 2>&1; then pass; else fail "$(cat "$room/out")"; fi
