@@ -1,6 +1,6 @@
 #!/bin/sh
-# Tests of the script spx and of the commands that README.md prints. Nothing is built: small programs stand in for the examiner and for
-# the toolchain's command rt. The examples are run by the examiner where it is built, and else by the second reading of the rules in
+# Tests of the script spx and of the commands that README.md prints. Nothing is built: small programs take the place of the examiner
+# and of the toolchain's command rt. The examples are run by the examiner where it is built, and else by the second reading of the rules in
 # tests/reading.py, which needs Python. The last line is `N passed, M failed`.
 set -u
 LC_ALL=C
@@ -40,7 +40,7 @@ says_nothing() { if [ ! -s "$room/err" ]; then pass; else fail "said: $(head -c 
 says_one_line() { if [ "$(wc -l <"$room/err")" -eq 1 ]; then pass; else fail "said not one line: $(head -c 300 "$room/err")"; fi; }
 is() { if [ "$1" = "$2" ]; then pass; else fail "'$1' and not '$2'"; fi; }
 
-# ---------------------------------------------------------------- a tree of its own, with programs that stand in
+# ---------------------------------------------------------------- a tree of its own, with programs in the place of others
 
 tree="$room/a tree"
 program="$tree/crates/spx_cli/out/spx_cli"
@@ -792,7 +792,7 @@ answer = answered(words, {name: Path(name).read_bytes() for name in (asked.files
 sys.stdout.write(answer.report)
 sys.exit(answer.status)
 OUTER
-    skip 'the examiner is not built: the second reading in tests/reading.py stands in for it'
+    skip 'the examiner is not built: the second reading in tests/reading.py takes its place'
 else
     skip 'the examiner is not built, and there is no Python for the second reading: no example is run'
 fi

@@ -3,7 +3,7 @@
 
 FOLDER is a clone of this repository, next to it. Each CRATE is copied from here to there with its types, contracts, definitions and
 lemma files, but each function body is a call of a foreign function whose contract is false. Such a crate is proved in a minute or two,
-whatever its contracts say, so that crates that stand on it can be proved before it is. A stub is never merged, and proves nothing.
+whatever its contracts say, so that crates that use it can be proved before it is. A stub is never merged, and proves nothing.
 
 In FOLDER set RT_ALLOW_C=1. What a check over stubs keeps in out/incremental holds for the most part over the real crates too: copy it
 to the crate there, and check once more.
