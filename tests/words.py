@@ -1,15 +1,15 @@
 #!/usr/bin/env python3
 """Says which words and sentences in the documents are to be changed: usage: tests/words.py
 
-Some words have a plainer one that is meant. In the documents for readers of the code a sentence has at most 25 words, where a name or a
-list of names in backquotes counts as one; tables and blocks of code are left out there.
+Some words have a plainer one that is meant. A sentence has at most 25 words, where a name or a list of names in backquotes counts as one.
+Tables, blocks of code and the lists of language.md, which give an order, are left out there.
 """
 import glob
 import os
 import re
 import sys
 
-PLAIN = ["docs/%s.md" % name for name in ("DECISIONS", "architecture", "claims", "proving")]
+ORDERED = "docs/language.md"
 MOST = 25
 WORDS = r"\b(?:stands?|standing|stood|behind|told|tells?|alone|in front of|want of)\b"
 ITEM = r"\s*(?:[-*]|\d+\.) +"
@@ -56,7 +56,7 @@ def main():
             for word in re.findall(WORDS, re.sub(r"`[^`]+`", "", paragraph), re.IGNORECASE):
                 found += 1
                 print("%s:%d: the word %s" % (document, number, word))
-            for sentence in sentences(paragraph) if document in PLAIN and not is_row else []:
+            for sentence in sentences(paragraph) if document != ORDERED and not is_row else []:
                 count = len(re.findall(r"[^\s]*\w[^\s]*", sentence))
                 if count > MOST:
                     found += 1
