@@ -60,7 +60,7 @@ PIECES = tuple(piece.encode('ascii') for piece in (
 # Bytes that are apt to end a lexeme, a line or a text.
 EDGES = b'\0\t\n\v\f\r -#0A_\x80\xa0\xff'
 
-# A word that is a name wherever it stands, and the names that one is exchanged for.
+# A word that is a name wherever it is, and the names that one is exchanged for.
 NAME = re.compile(rb'[A-Za-z](?:_?[A-Za-z0-9])*')
 OTHER_NAMES = tuple(name.encode('ascii') for name in ('X', 'x', 'A', 'B', 'Y', 'T', 'U', 'Inc', 'Dec', 'Integer', 'Natural', 'Positive', 'Boolean', 'True',
                                                        'Small', 'Hue', 'Red', 'C'))
@@ -116,7 +116,7 @@ PREDEFINED = (Type('Integer', 'Integer', -2**31, 2**31 - 1), Type('Natural', 'In
 
 @dataclass
 class Declared:
-    """What stands before the statements of a procedure: the declarations as they are written, and what they declare.
+    """What comes before the statements of a procedure: the declarations as they are written, and what they declare.
 
     A constant has a name, its base type, and its value; that of a named number is none.
     """
@@ -251,7 +251,7 @@ class Declarer:
         return known * 3 + [str(value)] * 4 + [f'{value - size} + {size}', f'{value + size} - {size}', f'({value})']
 
     def fits(self, of, base):
-        """Whether what is of one base type, or a named number, may stand where another one is wanted."""
+        """Whether what is of one base type, or a named number, may be where another one is wanted."""
         is_number = of is None or (of not in self.declared.literals and of != 'Boolean')
         return of == base or (is_number and (base is None or of is None) and base not in self.declared.literals)
 
@@ -637,7 +637,7 @@ class Writer:
                 for _ in range(self.random.randrange(11, 15))]
 
     def branch(self, statements, formals, locals_):
-        """An `if` around the statements, which stand in one of its arms, or with other values in each."""
+        """An `if` around the statements, which are in one of its arms, or with other values in each."""
         readable = formals + tuple(local for local in locals_ if self.random.random() < 0.3)
         if self.random.random() < 0.3:
             return self.selection(statements, formals, readable)
@@ -668,7 +668,7 @@ class Writer:
         return Plain([('', self.with_exits(body, formals, readable, 0.93))])
 
     def with_exits(self, body, formals, readable, share):
-        """The statements of a loop with exits among them, in so many cases; rarely with one where none may stand."""
+        """The statements of a loop with exits among them, in so many cases; rarely with one where none may be."""
         found = list(body)
         while self.random.random() < share:
             share *= 0.35
@@ -975,7 +975,7 @@ class Writer:
         return [f'{names} : {self.types.get(names, self.types[names.split(",")[0]])}{self.initial(names.split(",")[0])}' for names in locals_]
 
     def statements(self, formals, locals_):
-        """Targets and right sides. Each local mostly comes from what stands before it, and goes to the next target."""
+        """Targets and right sides. Each local mostly comes from what is before it, and goes to the next target."""
         readable, found = formals, []
         if not formals:
             return found
@@ -1317,7 +1317,7 @@ LIST_ROOM = 131072
 
 
 def random_texts(seed, count):
-    """So many texts that can stand in a table, each with its name."""
+    """So many texts that can be in a table, each with its name."""
     writer = Writer(seed)
     found = []
     while len(found) < count:

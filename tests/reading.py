@@ -1,6 +1,6 @@
 """The rules of docs/language.md, read a second time: what the commands `check`, `conditions` and `run` must answer.
 
-`answered` gives the report and the status, and `examine` those of `check NAME` on a text. The layers stand in the order of
+`answered` gives the report and the status, and `examine` those of `check NAME` on a text. The layers are in the order of
 that page, and each is asked only where the ones before it had nothing to report. Nothing here looks at the program.
 """
 
@@ -63,7 +63,7 @@ class TooManyTokens(Exception):
 
 
 class TooNested(Exception):
-    """The text goes on with more levels alone."""
+    """The text goes on with more levels only."""
 
 
 class TooManyVariables(Exception):
@@ -197,7 +197,7 @@ class Scanner:
         return self.tokens
 
     def place(self):
-        """Where the next byte stands."""
+        """Where the next byte is."""
         return Place(self.line, self.at - self.line_start + 1)
 
     def stop(self, rule):
@@ -225,7 +225,7 @@ class Scanner:
         return True
 
     def line_end(self):
-        """A line ends at LF alone, and annotation text ends with its line."""
+        """A line ends at LF only, and annotation text ends with its line."""
         if not self.next_is(b'\n'):
             return False
         self.at += 1
@@ -256,7 +256,7 @@ class Scanner:
         return found is not None and self.keep(self.kind_of(found.group().decode('ascii').lower()), len(found.group()))
 
     def kind_of(self, word):
-        """The 69 words are reserved everywhere, the 12 in annotation text alone."""
+        """The 69 words are reserved everywhere, the 12 in annotation text only."""
         reserved = word in RESERVED or (self.marked and word in ANNOTATION)
         return word if reserved else 'identifier'
 
@@ -275,14 +275,14 @@ class Scanner:
         return self.keep('number', end - self.at)
 
     def based_numeral(self, base, at):
-        """What follows the base of a number, if digits of it stand there between two `#`."""
+        """What follows the base of a number, if digits of it are there between two `#`."""
         found = BASED_NUMERAL.match(self.text, at)
         if not found or not 2 <= base <= 16:
             return None
         return found if all(int(chr(digit), 36) < base for digit in found.group(1) if digit != ord('_')) else None
 
     def delimiter(self):
-        """One to three bytes; some are delimiters in annotation text alone."""
+        """One to three bytes; some are delimiters in annotation text only."""
         for length in (3, 2, 1):
             piece = self.text[self.at:self.at + length].decode('latin-1')
             if piece in DELIMITERS or (self.marked and piece in ANNOTATION_DELIMITERS):
@@ -294,7 +294,7 @@ class Scanner:
 
 @dataclass(frozen=True)
 class Name:
-    """An identifier that stands for something."""
+    """An identifier that denotes something."""
     text: str
     place: Place
 
@@ -305,7 +305,7 @@ class Name:
 
 @dataclass(frozen=True)
 class Attribute:
-    """`prefix'designator`, which stands where its prefix does."""
+    """`prefix'designator`, which is where its prefix is."""
     prefix: Name
     designator: Name
 
@@ -359,7 +359,7 @@ class Variable:
 
 @dataclass(frozen=True)
 class Static:
-    """A number, an attribute, a literal, or a constant: its value, where it stands, of its kind.
+    """A number, an attribute, a literal, or a constant: its value, where it is, of its kind.
 
     A value is a number, or a truth value. That of another literal is its position, from 0.
     """
@@ -393,7 +393,7 @@ class OnEntry:
 
 @dataclass(frozen=True)
 class Operation:
-    """`left operator right`; an operator opens one level over both of its operands. It stands at its first word."""
+    """`left operator right`; an operator opens one level over both of its operands. It is at its first word."""
     operator: str
     place: Place
     left: 'Expression'
@@ -416,7 +416,7 @@ class Prefix:
 
 @dataclass(frozen=True)
 class Membership:
-    """`tested in low .. high`, or a type for the two bounds; or `not in`. It stands at `not` or `in`, and opens one level."""
+    """`tested in low .. high`, or a type for the two bounds; or `not in`. It is at `not` or `in`, and opens one level."""
     is_in: bool
     place: Place
     tested: 'Expression'
@@ -432,7 +432,7 @@ class Membership:
 class Applied:
     """`name (operand)`, `name'designator (operand)` or `name'(operand)`, with a level more than its operand.
 
-    It stands at its name. Its value is that of the operand and so much more, and lies between two bounds, if there are any.
+    It is at its name. Its value is that of the operand and so much more, and lies between two bounds, if there are any.
     """
     name: Name
     designator: Optional[Name]
@@ -479,7 +479,7 @@ class Null:
 
 @dataclass(frozen=True)
 class Asserted:
-    """`assert condition;` or `check condition;`, which stands at its word. So do a precondition and a postcondition."""
+    """`assert condition;` or `check condition;`, which is at its word. So are a precondition and a postcondition."""
     word: str
     place: Place
     condition: Expression
@@ -498,7 +498,7 @@ class Assignment:
 
 @dataclass(frozen=True)
 class Arm:
-    """`condition then statements`, after a word `if` or `elsif`, at which it stands."""
+    """`condition then statements`, after a word `if` or `elsif`, at which it is."""
     place: Place
     condition: Expression
     statements: list
@@ -539,7 +539,7 @@ class Alternative:
 
 @dataclass(frozen=True)
 class Case:
-    """`case selector is alternatives end case;`, which stands at its first word."""
+    """`case selector is alternatives end case;`, which is at its first word."""
     place: Place
     selector: Expression
     alternatives: list
@@ -563,7 +563,7 @@ class Loop:
 
 @dataclass(frozen=True, eq=False)
 class While(Loop):
-    """`while condition loop statements end loop;`, which stands at its first word."""
+    """`while condition loop statements end loop;`, which is at its first word."""
     place: Place
     condition: Expression
     statements: list
@@ -575,7 +575,7 @@ class While(Loop):
 
 @dataclass(frozen=True, eq=False)
 class For(Loop):
-    """`for name in [reverse] type_mark [range low .. high] loop statements end loop;`, which stands at its first word.
+    """`for name in [reverse] type_mark [range low .. high] loop statements end loop;`, which is at its first word.
 
     Its parameter has a word of its own, which no other loop has.
     """
@@ -602,14 +602,14 @@ class For(Loop):
 
 @dataclass(frozen=True, eq=False)
 class Plain(Loop):
-    """`loop statements end loop;`, which stands at its first word."""
+    """`loop statements end loop;`, which is at its first word."""
     place: Place
     statements: list
 
 
 @dataclass(frozen=True)
 class Exit:
-    """`exit;`, or with `when condition` after the word, at which it stands."""
+    """`exit;`, or with `when condition` after the word, at which it is."""
     place: Place
     condition: Optional[Expression]
 
@@ -686,14 +686,14 @@ class Item:
 
 @dataclass(frozen=True)
 class Derives:
-    """`derives items;`, which stands at its word."""
+    """`derives items;`, which is at its word."""
     place: Place
     items: list
 
 
 @dataclass(frozen=True)
 class Procedure:
-    """A procedure, which stands at its word.
+    """A procedure, which is at its word.
 
     As it is read, it has names, parameters and declarations; then what the names denote, formals, the words of local
     variables and of constants, of each variable its type, and how it is spelled where it is declared, and the initial
@@ -1815,7 +1815,7 @@ def assignments(statements):
 
 
 class Relation:
-    """What `derives` declares: the exports as they stand, which export is derived from which import, the imports.
+    """What `derives` declares: the exports as they are, which export is derived from which import, the imports.
 
     In an item each export is derived from each named import, and with `*` from itself as well. The names of `null from` are
     imports from which no export is derived.
@@ -1845,9 +1845,9 @@ def stand_twice(names):
 
 
 def u7(procedure, relation):
-    """U7: no variable is an export twice, no pair stands twice, none of `null from` does, and each formal is in the relation.
+    """U7: no variable is an export twice, no pair is there twice, none of `null from` does, and each formal is in the relation.
 
-    It stands at the word `derives`, or at the word `procedure` where there is none.
+    It is at the word `derives`, or at the word `procedure` where there is none.
     """
     place = procedure.derives.place if procedure.derives else procedure.place
     require('U7', place, not stand_twice(relation.exports))
@@ -1864,9 +1864,9 @@ def words_of(names):
 
 
 def u8(procedure, relation):
-    """U8: a formal `in` is an import alone, one `out` an export alone, and one `in out` is both.
+    """U8: a formal `in` is an import only, one `out` an export only, and one `in out` is both.
 
-    It stands at the first name in the relation that its mode does not allow there: at an export `in`, at one `out` that
+    It is at the first name in the relation that its mode does not allow there: at an export `in`, at one `out` that
     has `*`, and at one `in out` that is no import; at an import `out`, and at one `in out` that is no export.
     """
     modes = {formal.word: formal.mode for formal in procedure.formals}
@@ -1880,7 +1880,7 @@ def u8(procedure, relation):
 
 
 def u11(procedure, relation):
-    """U11: the precondition names imports alone, and the postcondition formals alone."""
+    """U11: the precondition names imports only, and the postcondition formals only."""
     for name in reads(procedure.pre and procedure.pre.condition):
         require('U11', name.place, name.word in relation.imported)
     formals = {formal.word for formal in procedure.formals}
@@ -1889,16 +1889,16 @@ def u11(procedure, relation):
 
 
 def u2_u4(procedure):
-    """U2: no target is a formal of mode `in`, nor a constant, nor the parameter of a loop. U4: exits stand right."""
+    """U2: no target is a formal of mode `in`, nor a constant, nor the parameter of a loop. U4: exits are in the right places."""
     read_only = {formal.word for formal in procedure.formals if formal.mode == 'in'} | set(procedure.constants) | set(procedure.parameters)
     require_statements(procedure.statements, read_only, False, False)
 
 
 def require_statements(statements, read_only, in_loop, in_arm):
-    """U2 and U4 of statements, in the order of the text. These stand directly in a loop, or they are the arm of an `if` that has no
-    other one and stands directly in a loop, or neither.
+    """U2 and U4 of statements, in the order of the text. These are directly in a loop, or they are the arm of an `if` that has no
+    other one and is directly in a loop, or neither.
 
-    An exit with a condition stands directly in a loop; one without is the last statement of such an arm.
+    An exit with a condition is directly in a loop; one without is the last statement of such an arm.
     """
     for at, statement in enumerate(statements):
         if isinstance(statement, Assignment):
@@ -2136,7 +2136,7 @@ def set_after(statements, is_set, unset_reads, exits):
     to one list, and what is set at each exit from the loop around the statements to another.
 
     After an `if` or a `case` those are set that each of its branches leaves set. A loop may have no turn, but for a plain one and one
-    over a whole type; a plain one is left at its exits alone. The parameter of a loop is set in it alone.
+    over a whole type; a plain one is left at its exits only. The parameter of a loop is set in it only.
     """
     def look(expression):
         if is_set is not None:
@@ -2293,7 +2293,7 @@ IN_TERMS = {'xor': '/=', 'and then': 'and', 'or else': 'or'}
 
 
 def term_of(expression, values):
-    """A static expression stands as its value, and a variable as the term that it was given.
+    """A static expression is its value, and a variable the term that it was given.
 
     There are no parentheses and no sign `+` in terms.
     """
@@ -2322,7 +2322,7 @@ def moved_term(expression, operand):
 
 
 def facts_of(condition, values):
-    """The facts of a condition: what `and` joins in its text. A variable is one fact, whatever stands for it."""
+    """The facts of a condition: what `and` joins in its text. A variable is one fact, whatever its term is."""
     if condition.value is None:
         if isinstance(condition, (Parenthesized, Applied)):
             return facts_of(*parts_of(condition), values)
@@ -2356,7 +2356,7 @@ def with_facts(facts, more):
 
 
 def entry_values(procedure):
-    """At the start each variable stands for its initial value, or else for its value on entry."""
+    """At the start each variable has its initial value, or else its value on entry."""
     on_entry = {word: entry(word, procedure.subtypes[word].kind is BOOLEAN) for word in procedure.words()}
     return on_entry | {word: literal(value) for word, value in procedure.initial.items()}
 
@@ -2466,7 +2466,7 @@ class Walk:
         self.found = []
 
     def bounds(self, loop, values):
-        """The terms of the bounds of a loop: one that reads only imports that are no exports stands for itself, another for its name."""
+        """The terms of the bounds of a loop: one that reads only imports that are no exports is kept as it is, another has its name."""
         return [term_of(bound, values) if self.is_fixed(bound) else values[name]
                 for bound, name in zip(loop.bounds(), names_of_bounds(loop))]
 
@@ -2484,7 +2484,7 @@ class Walk:
     def go(self, statements, facts, values):
         """Along statements to the next cut, or to the end, where the postcondition is to be shown.
 
-        A target stands for its term after its assignment.
+        A target is its term after its assignment.
         """
         for at, statement in enumerate(statements):
             if isinstance(statement, (If, Case, Loop, Exit, TurnEnd)):
@@ -2675,7 +2675,7 @@ def require_few_paths(procedure):
 
 @cache
 def size_of(term):
-    """The nodes of a term, where one that stands twice counts twice. Each term is counted once."""
+    """The nodes of a term, where one that is there twice counts twice. Each term is counted once."""
     if isinstance(term, PrefixTerm):
         return size_of(term.operand) + 1
     if isinstance(term, InfixTerm):

@@ -52,7 +52,7 @@ class Case:
 def examined(name, text, *rows):
     """No rule is broken. A row has a procedure's name, the number of its conditions, and those that are left.
 
-    Each that is left is the number of an overflow condition, or a number with another kind; they stand in order at the `@`s,
+    Each that is left is the number of an overflow condition, or a number with another kind; they are in order at the `@`s,
     which are taken out.
     """
     marks, spelled_out = marked_places(encoded(text))
@@ -73,7 +73,7 @@ LEFT = re.compile(r'<([0-9]+[dor](?:,[0-9]+[dor])*)>')
 
 
 def left_at(name, text, total, named='Inc'):
-    """So many conditions of one procedure. Those that are left stand in the text, before what they are on.
+    """So many conditions of one procedure. Those that are left are in the text, before what they are on.
 
     Each is a number and the first letter of its kind: `X := X <1d,2o>/ Y;` for a division and an overflow.
     """
@@ -129,7 +129,7 @@ TEXTS = {
 
 
 def refused(name, text, *findings):
-    """The findings stand in order at the `@`s, which are taken out: at two in a row, two at one place.
+    """The findings are in order at the `@`s, which are taken out: at two in a row, two at one place.
 
     Each is a rule that has one text, or a rule and its text.
     """
@@ -146,12 +146,12 @@ def with_findings(name, text, places, findings):
 
 
 def unexpected(name, text, at=None):
-    """The token at this place cannot stand there, or the text ends there too early."""
+    """The token at this place is not allowed there, or the text ends there too early."""
     return stopped(name, text, 'P1', at)
 
 
 def bad_byte(name, text, at=None):
-    """No lexeme and no gap stands at this place."""
+    """No lexeme and no gap is at this place."""
     return stopped(name, text, 'L1', at)
 
 
@@ -192,9 +192,9 @@ def too_many_paths(name, text):
 
 
 def open_in_order(name, text, total, *left):
-    """So many conditions of Inc. Each that is left is an overflow condition, by its number and the `@` at which it stands.
+    """So many conditions of Inc. Each that is left is an overflow condition, by its number and the `@` at which it is.
 
-    The `@`s count from 1. One may stand for several conditions, and they need not be in order.
+    The `@`s count from 1. One may be that of several conditions, and they need not be in order.
     """
     marks, spelled_out = marked_places(encoded(text))
     lines = [f'{name}:{marks[mark - 1][0]}:{marks[mark - 1][1]}: V1 unproved: Inc.{number} overflow' for number, mark in left]
@@ -238,7 +238,7 @@ def is_ended(text):
 
 
 def entry(name, text, words=None, second=None):
-    """A text as it stands in the table, with the second file."""
+    """A text as it is in the table, with the second file."""
     return header(name, text, words) + with_line_end(text) + (second_entry(*second) if second else b'')
 
 
@@ -316,7 +316,7 @@ def at_end(text, marks='@'):
 
 
 def short(name, formal='X'):
-    """The text of a procedure in which the name stands once, and the formal everywhere else."""
+    """The text of a procedure in which the name is there once, and the formal everywhere else."""
     return (f'procedure {name} ({formal} : in out Integer)\n--# derives {formal} from {formal};\n'
             f'is begin {formal} := {formal}; end;\n')
 
@@ -357,7 +357,7 @@ OTHER_BYTES = {
     'byte_255': b'\xff',
 }
 
-# The tokens of a text, each with its label and one that cannot stand in its place. A token without a label stays.
+# The tokens of a text, each with its label and one that cannot be in its place. A token without a label stays.
 TOKENS = (
     ('procedure', 'procedure', 'function'),
     ('name', 'Inc', '1'),
@@ -618,7 +618,7 @@ COUNT_TOKENS = (
 TOKEN_LISTS = (TOKENS, LOCAL_TOKENS, ATTRIBUTE_TOKENS, SKIP_TOKENS, IF_TOKENS, DECLARED_TOKENS, CASE_TOKENS, LOOP_TOKENS, COUNT_TOKENS)
 
 # What a text is without a token: which token after it is unexpected, if not the next one; or a finding, and the token
-# at which it stands; or that it is accepted.
+# at which it is; or that it is accepted.
 # The name after `end`, and the one after `begin`, are a target and a local where the word is missing.
 MISSING = {'in': ('U8', 'import'), 'out': ('U8', 'export'), 'import': ('U8', 'export'),
            'left_operand': ('F2 unused: X from X', 'export'), 'end_name': accepted,
@@ -642,10 +642,10 @@ MISSING = {'in': ('U8', 'import'), 'out': ('U8', 'export'), 'import': ('U8', 'ex
 # What a text is with a token doubled: which token after the second one is unexpected, if not that one.
 DOUBLED = {'parenthesis_in_pre': 6, 'parenthesis': 3, 'parenthesis_of_a_sum': 7,
            'parenthesis_of_a_conversion': 3,
-           # a loop in the loop: the name stands where the end of the outer one would go on
+           # a loop in the loop: the name is where the end of the outer one would go on
            'loop': 9, 'loop_after_bounds': 9}
 # What a text is with another token instead: which token after it is unexpected, if not itself; or a finding, and the
-# token at which it stands. `on` is the type where `in` was, and another parameter may come after `;`.
+# token at which it is. `on` is the type where `in` was, and another parameter may come after `;`.
 EXCHANGED = {'type': ('N1', 'type'), 'left_of_the_relation': ('N10', 'relation'), 'prefix': ('N3', 'prefix'),
              'designator': ('N3', 'prefix'), 'end_name': ('N5', 'end_name'), 'in': 1, 'closing_parenthesis': 1,
            'null_without_formals': ('U4', 'null_without_formals')}
@@ -951,7 +951,7 @@ def places():
         for place, (label, _, _) in enumerate(listed[:-1]):
             if label:
                 yield unexpected(f'cut_behind_{label}.adb', ' '.join(token for _, token, _ in listed[:place + 1]) + '@')
-    # what stands in front
+    # what comes first
     yield unexpected('tabs_in_front.adb', INC.replace('   X :=', '\t\tX\t@='))
     yield unexpected('carriage_returns_in_front.adb', INC.replace('\n', '\r\n').replace('X +', 'X\r@&'))
     yield unexpected('lines_in_front.adb', '\n\v\n\f\n' + INC.replace('is\n', '@;\n'))
@@ -1261,7 +1261,7 @@ def doubled(listed, at, label, token):
 
 
 def exchanged(listed, at, label, other):
-    """Another token is unexpected where it stands, if it is one and the text is not of the grammar still."""
+    """Another token is unexpected where it is, if it is one and the text is not of the grammar still."""
     name, decided = f'exchanged_{label}.adb', EXCHANGED.get(label)
     if isinstance(decided, int):
         return unexpected(name, with_tokens(listed, at, other, shown=decided))
@@ -1928,7 +1928,7 @@ def optional_parts():
 
 
 def attributes():
-    """An attribute in each place of a name, and where no name of this form may stand."""
+    """An attribute in each place of a name, and where no name of this form may be."""
     for label, (rule, attribute) in {'of_a_type': ('N3', "@Integer'Last"), 'of_a_variable': ('N3', "@X'First"),
                                      'of_the_procedure': ('N3', "@Inc'Last"), 'of_nothing': ('N1', "@Y'First"),
                                      'of_no_name': ('N3', "@Integer'Size")}.items():
@@ -2205,7 +2205,7 @@ def signs_and_types():
 
 
 def signs_and_syntax():
-    """Where signs and parentheses cannot stand, or are not closed."""
+    """Where signs and parentheses cannot be, or are not closed."""
     yield unexpected('value_with_two_hyphens.adb', procedure('--X').replace('end', '@end'))
     yield accepted('tight_locals.adb',
                    'procedure Inc(X:in out Integer)--#derives X from X;pre(X)>-5;\n'
@@ -2214,7 +2214,7 @@ def signs_and_syntax():
     yield accepted('parentheses_on_several_lines.adb', procedure('(\nX\n-- one more\n+\n1\n)', pre=BELOW))
     yield accepted('pre_in_parentheses_on_several_lines.adb', procedure(pre="(\n--# X\n\n--# < -\n--# 5\n--# )"))
     yield accepted('parenthesis_right_behind_a_mark.adb', procedure(pre='\n--#(X<0)'))
-    # each lexeme is maximal: `->` and `<->` are one in annotation text alone
+    # each lexeme is maximal: `->` and `<->` are one in annotation text only
     yield accepted('less_and_a_minus.adb', procedure(pre='X<-5'))
     yield accepted('greater_and_a_minus.adb', procedure('X-1', pre='X>-5'))
     yield accepted('greater_or_equal_and_a_minus.adb', procedure('X-1', pre='X>=-(5)'))
@@ -2293,7 +2293,7 @@ def mixed_levels():
     # each operator is over the parentheses of its right operand, and the first one so makes two levels
     yield accepted('sum_of_parentheses_of_two_hundred_levels.adb', procedure('1' + ' + (1)' * 199, **OUT), 1)
     yield too_nested('sum_of_parentheses_of_two_hundred_and_one_levels.adb', procedure('1' + ' + (1)' * 200, **OUT))
-    # the last operand's parentheses are under one operator alone
+    # the last operand's parentheses are under one operator only
     yield accepted('sum_and_parentheses_of_two_hundred_levels.adb', procedure('1' + ' + 1' * 199 + ' + (1)', **OUT), 1)
     yield accepted('sum_beside_parentheses_of_two_hundred_levels.adb',
                    procedure('1' + ' + 1' * 100 + ' + ' + nested(199), **OUT), 1)
@@ -2459,7 +2459,7 @@ def worked_types():
 
 
 def left_in(name, text, named, total, **left):
-    """So many conditions of one procedure. Those that are left are given by number and kind, each with what stands in the text from its place on."""
+    """So many conditions of one procedure. Those that are left are given by number and kind, each with what is in the text from its place on."""
     lines = []
     for condition, piece in left.items():
         kind, number = condition.split('_')
@@ -2568,7 +2568,7 @@ def programs_of_one_sum():
     # the inner sign comes first; what is shown of it, -L .. L, closes the outer one
     yield reported('minus_of_a_minus.adb', assigned('-(-X)'),
                    'minus_of_a_minus.adb:5:11: V1 unproved: Inc.1 overflow', ONE_OF_3, 'refused: 1')
-    # the same of a hundred: the innermost stands in column 9 + 2 * 99
+    # the same of a hundred: the innermost is in column 9 + 2 * 99
     yield reported('minus_of_a_hundred.adb', assigned('-(' * 100 + 'X' + ')' * 100),
                    'minus_of_a_hundred.adb:5:207: V1 unproved: Inc.1 overflow',
                    'Inc: 101 conditions, 100 simplified, 0 scripted, 1 open', 'refused: 1')
@@ -2604,11 +2604,11 @@ def programs_of_one_sum():
     # parentheses have no check, and the range check at the first of them is closed by what was shown
     yield reported('sum_in_parentheses.adb', assigned('((X + 1))'),
                    'sum_in_parentheses.adb:5:13: V1 unproved: Inc.1 overflow', ONE_OF_2, 'refused: 1')
-    # a plus has no check, so that the range check is alone
+    # a plus has no check, so that the range check is the only one
     yield reported('plus.adb', assigned('+X'), 'Inc: 1 conditions, 1 simplified, 0 scripted, 0 open', 'accepted')
     yield reported('plus_before_a_sum.adb', assigned('+X + 1'),
                    'plus_before_a_sum.adb:5:12: V1 unproved: Inc.1 overflow', ONE_OF_2, 'refused: 1')
-    # the sign is over X alone: -X, and then 1 more, which may be L + 1 still
+    # the sign is over X only: -X, and then 1 more, which may be L + 1 still
     yield reported('minus_before_a_sum.adb', assigned('-X + 1'),
                    'minus_before_a_sum.adb:5:9: V1 unproved: Inc.1 overflow',
                    'minus_before_a_sum.adb:5:12: V1 unproved: Inc.2 overflow', TWO_OF_3, 'refused: 2')
@@ -2773,7 +2773,7 @@ PARTS = {'name': 'Mix', 'formals': 'A', 'mode': 'in', 'type': 'Integer', 'derive
          'first': 'A', 'third': 'B', 'item': '', 'left': 'A', 'right': '5', 'local': '', 'target': 'X', 'sum': '',
          'value': 'A', 'comparison': '', 'last': '', 'end': 'Mix'}
 
-# What breaks a rule in it: its finding, and the parts that it changes. They stand in the order of the work, and of the
+# What breaks a rule in it: its finding, and the parts that it changes. They are in the order of the work, and of the
 # walk, so that of two of them the first one is reported.
 SLIPS = {
     'integer_for_the_name': ('N2', {'name': '@Integer', 'end': 'Integer'}),
@@ -2802,9 +2802,9 @@ def slipped(slip, later=None):
 
 
 def breaches_in_order():
-    """Each rule broken alone, with a breach that is looked at later, and so with one that is looked at earlier.
+    """Each rule broken by itself, with a breach that is looked at later, and so with one that is looked at earlier.
 
-    Two slips that change one part cannot stand together.
+    Two slips that change one part cannot come together.
     """
     unproved_sum = {'sum': ' @+ 1'}
     yield accepted('no_slip.adb', KEPT.format(**PARTS), 3, named='Mix')
@@ -2890,7 +2890,7 @@ def rules_in_order():
     yield refused('two_inputs_for_targets.adb',
                   longer('A, B : in Integer; X : out Integer', 'X from A, B', 'X := A', '@B := A', 'A := B'), 'U2')
     yield refused('input_for_a_target_read_unset.adb', longer(A_TO_X, 'X from A', '@A := X', 'X := A'), 'U2')
-    # U7 stands at the word, whatever is wrong after it
+    # U7 is at the word, whatever is wrong after it
     for name, derives in {'missing_and_twice': 'A from B, B', 'twice_apart': 'A from A & B from B & A from B',
                           'twice_by_a_star': 'A from A & B from *, B', 'twice_in_two_ways': 'A, A from B, B'}.items():
         yield refused(f'relation_{name}.adb', at_derives(procedure('A', derives=derives, **AB)), 'U7')
@@ -4024,7 +4024,7 @@ EVERYWHERE = ('Integer', 'Natural', 'Positive', 'Boolean', 'True', 'False')
 
 
 def predefined_names():
-    """What is declared everywhere cannot be declared again, and stands only where it is asked for."""
+    """What is declared everywhere cannot be declared again, and is there only where it is asked for."""
     for word in EVERYWHERE[1:]:
         small, mark = word.lower(), {'True': 'N3', 'False': 'N3'}.get(word)
         yield refused(f'procedure_named_{small}.adb', procedure('X', name='@' + word, end=None), 'N2')
@@ -4265,7 +4265,7 @@ def sum_of_nodes(count):
 
 
 def nodes_of_operators():
-    """As in `nodes_of_branches`, where the facts that a condition brings have so many nodes, and checks stand before the arm."""
+    """As in `nodes_of_branches`, where the facts that a condition brings have so many nodes, and checks are before the arm."""
     for name, condition, nodes, checks in (
             ('conjunction', 'X >= 0 and X /= 5', 3 + 3, 0), ('and_then', 'X >= 0 and then X /= 5', 3 + 3, 0),
             ('disjunction', 'X >= 0 or X /= 5', 7, 0),
@@ -4291,7 +4291,7 @@ FROM_ALL = 'X from X, A, B'
 
 
 def declaring(declared, *statements, params=FORMALS, derives=FROM_ALL, pre=None):
-    """The text of a procedure with these declarations, which stand in one line. X comes from A and B, or by these statements."""
+    """The text of a procedure with these declarations, which are in one line. X comes from A and B, or by these statements."""
     return longer(params, derives, *(statements or ['if B then X := A; end if']), pre=pre, declared=[declared])
 
 
@@ -4812,7 +4812,7 @@ def types_with(slip, later=None):
 
 
 def breaches_of_declarations():
-    """Each rule of declarations is broken, with the next slip that can stand beside it, and at times with a later one."""
+    """Each rule of declarations is broken, with the next slip that can be beside it, and at times with a later one."""
     yield accepted('no_slip_of_types.adb', KEPT_TYPES.format(**TYPE_PARTS), 3, named='Mix')
     yield examined('unproved_difference_of_types.adb', types_with(TYPE_SLIPS['an_unproved_difference'][1]), ('Mix', 4, 2))
     slips = tuple(TYPE_SLIPS.items())
@@ -4884,7 +4884,7 @@ def functions_of_types():
 
 
 def conditions_of_functions():
-    """What stands before parentheses asks of its operand that the result lies in its bounds, and nothing is asked of `Pos`."""
+    """What comes before parentheses asks of its operand that the result lies in its bounds, and nothing is asked of `Pos`."""
     two = "H := Hue'Val (A)"
     for name, statement, by, pre, total in (
             ('conversion', 'V := Small (<1r>A)', 'V > 3', None, 4), ('conversion_within', 'V := Small (A)', 'V > 3', 'A in 0 .. 10', 4),
@@ -5028,7 +5028,7 @@ def selecting(*alternatives, selector='A', declared='', pre=None, before=(), aft
 
 
 def values_of_choices():
-    """N17 stands at `case` where a value has no alternative, or two, or `others` is not last; which values, the selector says."""
+    """N17 is at `case` where a value has no alternative, or two, or `others` is not last; which values, the selector says."""
     starts = {'V': ('V := 3',), 'W': ('W := 3',), 'H': ('H := Red',), 'S': ('S := Red',), 'L': ('L := 3',), '(V)': ('V := 3',), '(S)': ('S := Red',),
               'V + 1': ('V := 3',)}
     whole = ('Red', 'Yellow', 'Green', 'Blue')
@@ -5151,7 +5151,7 @@ def conditions_of_cases():
 
 
 def flow_of_cases():
-    """What a selector reads comes to all that an alternative sets; a finding on it stands at `case`."""
+    """What a selector reads comes to all that an alternative sets; a finding on it is at `case`."""
     yield refused('missing_flow_by_a_selector.adb',
                   longer(A_TO_X, '@X from & null from A', 'case A is when 1 => X := 1; when others => X := 2; end case'), 'F1 missing: X from A')
     yield refused('missing_flow_by_the_selector_of_one_alternative.adb',
@@ -5229,7 +5229,7 @@ def ending(post, *statements, pre=None, params=X, derives='X from X', declared=(
 
 
 def places_of_checks():
-    """Where a `check` may stand, and how it is written."""
+    """Where a `check` may be, and how it is written."""
     yield accepted('check_alone.adb', longer(None, None, '--# check True'), 1)
     yield accepted('check_first.adb', longer(X, 'X from X', '--# check X = X', 'X := X'), 2)
     yield accepted('check_last.adb', checking('X = X', 'X := X'), 2)
@@ -5434,7 +5434,7 @@ def asserting(condition, *statements, pre=None, post=None, params=X, derives='X 
 
 
 def places_of_assertions():
-    """Where an `assert` may stand, how it is written, and tokens with which none goes on."""
+    """Where an `assert` may be, how it is written, and tokens with which none goes on."""
     yield accepted('assert_alone.adb', longer(None, None, '--# assert True'), 1)
     yield accepted('assert_first.adb', asserting('X = X', 'X := X'), 2)
     yield accepted('assert_last.adb', longer(X, 'X from X', 'X := X', '--# assert X = X'), 2)
@@ -5525,7 +5525,7 @@ def nested_loops(count):
 
 
 def syntax_of_loops():
-    """Where a `while` may stand, tokens with which none goes on, and the levels that it opens."""
+    """Where a `while` may be, tokens with which none goes on, and the levels that it opens."""
     yield accepted('loop_alone.adb', longer(X, 'X from X', looping('X > 0', 'X := 0')), 1)
     yield accepted('loops_in_a_row.adb', longer(X, 'X from X', looping('X > 0', 'X := 0'), looping('X < 0', 'X := 1')), 2)
     yield accepted('loop_in_an_arm.adb', longer(X, 'X from X', f'if X > 5 then {looping("X > 0", "X := 0")}; end if'), 1)
@@ -5679,7 +5679,7 @@ def counting(head, *statements, asserted=None):
 
 
 def syntax_of_counts():
-    """Where a `for` may stand, tokens with which none goes on, and the levels that it opens."""
+    """Where a `for` may be, tokens with which none goes on, and the levels that it opens."""
     five = 'I in Integer range 1 .. 5'
     yield accepted('for_alone.adb', longer(X, 'X from X', counting(five, 'X := I')), 2)
     yield accepted('for_in_reverse.adb', longer(X, 'X from X', counting('I in reverse Integer range 1 .. 5', 'X := I')), 2)
@@ -5715,7 +5715,7 @@ def syntax_of_counts():
 
 
 def rules_of_counts():
-    """A parameter is a name of the statements of its loop alone, and is not assigned; bounds are of its type, which has an order."""
+    """A parameter is a name of the statements of its loop only, and is not assigned; bounds are of its type, which has an order."""
     def refused_in(name, statement, *rules, params=X, derives='X from X', declared=()):
         return refused(f'{name}.adb', longer(params, derives, statement, declared=declared), *rules)
 
@@ -5860,7 +5860,7 @@ def leaving(condition, *statements):
 
 
 def syntax_of_exits():
-    """Where plain loops and exits may stand, tokens with which none goes on, and the levels that they open."""
+    """Where plain loops and exits may be, tokens with which none goes on, and the levels that they open."""
     yield accepted('plain_loop.adb', longer(X, 'X from X', plain('exit when X > 5', 'X := 0')), 1)
     yield accepted('exit_in_an_arm.adb', longer(X, 'X from X', plain(leaving('X > 5'), 'X := 0')), 1)
     yield accepted('exit_after_statements_of_an_arm.adb', longer(X, 'X from X', plain(leaving('X > 5', 'X := 1'), 'X := 0')), 2)
@@ -5890,7 +5890,7 @@ def syntax_of_exits():
 
 
 def rules_of_exits():
-    """The condition of an exit is Boolean; an exit stands in one of two forms."""
+    """The condition of an exit is Boolean; an exit is in one of two forms."""
     yield refused('number_for_the_condition_of_an_exit.adb', longer(X, 'X from X', plain('exit when @X', 'X := 0')), 'N10')
     yield refused('undeclared_in_the_condition_of_an_exit.adb', longer(X, 'X from X', plain('exit when @Y > 0', 'X := Z')), 'N1')
     yield refused('type_in_the_condition_of_an_exit.adb', longer(X, 'X from X', plain('exit when @Integer > 0', 'X := 0')), 'N3')
@@ -6579,7 +6579,7 @@ def words_of_commands():
 # ---------------------------------------------------------------- lists of conditions
 
 def listed(name, text, *conditions, named='Inc'):
-    """What `conditions` prints. A condition is the number of the `@` at which it stands, its kind, its hypotheses and its goals."""
+    """What `conditions` prints. A condition is the number of the `@` at which it is, its kind, its hypotheses and its goals."""
     marks, spelled_out = marked_places(encoded(text))
     lines = []
     for at, (mark, kind, hypotheses, goals) in enumerate(conditions, 1):
@@ -6799,7 +6799,7 @@ def faults():
     for case in CASES:
         head = header(case.name, case.text, case.words)
         if head in seen:
-            yield f'{case.name}: the header stands twice'
+            yield f'{case.name}: the header is there twice'
         seen.add(head)
         if not all(can_stand(text) for text in (case.text, *(case.second or ())[1:])):
             yield f'{case.name}: a line looks like a header'
