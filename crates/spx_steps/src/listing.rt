@@ -113,14 +113,8 @@ fn list(
                 continue 'steps;
             }
             Step::Check(kind, place, goals, next) => {
-                check(
-                    alloc,
-                    &steps.terms,
-                    &mut path,
-                    *kind,
-                    *place,
-                    goals.as_slice(),
-                )?;
+                let goals = goals.as_slice();
+                check(alloc, &steps.terms, &mut path, *kind, *place, goals)?;
                 at = *next;
                 continue 'steps;
             }

@@ -58,5 +58,5 @@ steps-preserved t c =
     record {
       within = omega (arith, less);
       falls = omega (arith, less);
-      same = branched (steps_in c.steps.found) c.steps.path c.in_ok-taken-in-Split.taken (step_tree s x.first) (step_tree s x.second) c.steps.invariant.same (c.step.ensures.tree ∙ ap (step_in s) x.is) (c.in_ok-taken-in-Split.ensures ∙ c.as_slice-in-Split.ensures) c.in_ok-list-in-Split.ensures;
+      same = branched (steps_in c.steps.found) c.steps.path c.in_ok-taken-in-Split.taken (step_tree s x.first) (step_tree s x.second) c.steps.invariant.same (c.step.ensures.tree ∙ ap (step_in s) x.is) (c.in_ok-taken-in-Split.ensures ∙ c.as_slice.ensures) c.in_ok-list-in-Split.ensures;
     }
