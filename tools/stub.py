@@ -75,8 +75,10 @@ def drop_answers(folder):
     """Drops the answers: the folders of proofs/ that no Lib.antt declares."""
     if not os.path.isdir(f"{folder}/proofs"):
         return
-    with open(f"{folder}/proofs/Lib.antt", encoding="utf-8") as it:
-        declared = re.findall(r"mod (\w+)", it.read())
+    declared = []
+    if os.path.exists(f"{folder}/proofs/Lib.antt"):
+        with open(f"{folder}/proofs/Lib.antt", encoding="utf-8") as it:
+            declared = re.findall(r"mod (\w+)", it.read())
     for name in os.listdir(f"{folder}/proofs"):
         if os.path.isdir(f"{folder}/proofs/{name}") and name not in declared:
             shutil.rmtree(f"{folder}/proofs/{name}")
