@@ -1,5 +1,5 @@
 // Steps by ids.
-ghost use Rattle.std.specs.Prelude.{◌≡◌, ◌<◌, length, IfOk, OnErr};
+ghost use Rattle.std.specs.Prelude.{◌≡◌, ◌<◌, length, MatchResult};
 ghost use Rattle.spx_arena.specs.Claims.{AreIds, trees_at};
 ghost use Rattle.spx_arena.specs.Sharing.{tree_at};
 ghost use Rattle.spx_term.specs.Steps.{Assume, Assign, Cut, Fresh, Split, assume_all, check};
@@ -63,8 +63,7 @@ impl Steps {
     pub fn push(&mut self, step: Step) -> Result<StepId, AllocError>
         requires whole { InOrder self.old }
         requires below { Below (length self.old.terms) (length self.old.nodes) step }
-        ensures added { IfOk result (λ id. AddsStep self.old self.new id (step_in self.old step)) }
-        ensures refused { OnErr result (self.new ≡ self.old) }
+        ensures { MatchResult result (λ id. AddsStep self.old self.new id (step_in self.old step)) (λ _. self.new ≡ self.old) }
     {
         let at = self.nodes.len();
         self.nodes.push(step)?;
@@ -84,8 +83,7 @@ impl Steps {
     /// A path ends.
     pub fn cut(&mut self) -> Result<StepId, AllocError>
         requires { InOrder self.old }
-        ensures added { IfOk result (λ id. AddsStep self.old self.new id Cut) }
-        ensures refused { OnErr result (self.new ≡ self.old) }
+        ensures { MatchResult result (λ id. AddsStep self.old self.new id Cut) (λ _. self.new ≡ self.old) }
     {
         self.push(Step::Cut)
     }
@@ -94,8 +92,7 @@ impl Steps {
     pub fn assume(&mut self, fact: TermId, next: StepId) -> Result<StepId, AllocError>
         requires whole { InOrder self.old }
         requires within { (fact.0 < length self.old.terms) × (next.0 < length self.old.nodes) }
-        ensures added { IfOk result (λ id. AddsStep self.old self.new id (Assume (tree_at self.old.terms fact) (step_tree self.old next))) }
-        ensures refused { OnErr result (self.new ≡ self.old) }
+        ensures { MatchResult result (λ id. AddsStep self.old self.new id (Assume (tree_at self.old.terms fact) (step_tree self.old next))) (λ _. self.new ≡ self.old) }
     {
         self.push(Step::Assume(fact, next))
     }
@@ -104,8 +101,7 @@ impl Steps {
     pub fn assign(&mut self, name: Name, value: TermId, next: StepId) -> Result<StepId, AllocError>
         requires whole { InOrder self.old }
         requires within { (value.0 < length self.old.terms) × (next.0 < length self.old.nodes) }
-        ensures added { IfOk result (λ id. AddsStep self.old self.new id (Assign name (tree_at self.old.terms value) (step_tree self.old next))) }
-        ensures refused { OnErr result (self.new ≡ self.old) }
+        ensures { MatchResult result (λ id. AddsStep self.old self.new id (Assign name (tree_at self.old.terms value) (step_tree self.old next))) (λ _. self.new ≡ self.old) }
     {
         self.push(Step::Assign(name, value, next))
     }
@@ -121,8 +117,7 @@ impl Steps {
         requires whole { InOrder self.old }
         requires within { next.0 < length self.old.nodes }
         requires goals { AreIds (length self.old.terms) goals }
-        ensures added { IfOk result (λ id. AddsStep self.old self.new id (check kind place (trees_at self.old.terms goals) (step_tree self.old next))) }
-        ensures refused { OnErr result (self.new ≡ self.old) }
+        ensures { MatchResult result (λ id. AddsStep self.old self.new id (check kind place (trees_at self.old.terms goals) (step_tree self.old next))) (λ _. self.new ≡ self.old) }
     {
         self.push(Step::Check(kind, place, goals, next))
     }
@@ -131,8 +126,7 @@ impl Steps {
     pub fn split(&mut self, first: StepId, second: StepId) -> Result<StepId, AllocError>
         requires whole { InOrder self.old }
         requires within { (first.0 < length self.old.nodes) × (second.0 < length self.old.nodes) }
-        ensures added { IfOk result (λ id. AddsStep self.old self.new id (Split (step_tree self.old first) (step_tree self.old second))) }
-        ensures refused { OnErr result (self.new ≡ self.old) }
+        ensures { MatchResult result (λ id. AddsStep self.old self.new id (Split (step_tree self.old first) (step_tree self.old second))) (λ _. self.new ≡ self.old) }
     {
         self.push(Step::Split(first, second))
     }
@@ -142,8 +136,7 @@ impl Steps {
         requires whole { InOrder self.old }
         requires within { next.0 < length self.old.nodes }
         requires facts { AreIds (length self.old.terms) facts.now }
-        ensures added { IfOk result (λ id. AddsStep self.old self.new id (assume_all (trees_at self.old.terms facts.now) (step_tree self.old next))) }
-        ensures refused { OnErr result (InOrder self.new × MoreSteps self.old self.new × (self.new.terms ≡ self.old.terms)) }
+        ensures { MatchResult result (λ id. AddsStep self.old self.new id (assume_all (trees_at self.old.terms facts.now) (step_tree self.old next))) (λ _. InOrder self.new × MoreSteps self.old self.new × (self.new.terms ≡ self.old.terms)) }
     {
         let mut at = next;
         let mut left = facts.len();
