@@ -27,24 +27,17 @@ use Rattle.spx_paths.specs.declared.body.BodySteps.{BodySteps}
 use Rattle.spx_paths.specs.declared.draft.Draft.{Draft}
 use Rattle.spx_paths.specs.Drafts.{AddsCuts, AddsTerms, Builds, BuildsCuts, IsBodyOf, Lays, Makes, Ready, Stands, cut_tree, known_at_cuts}
 use Rattle.spx_paths.specs.Limits.{has_many_paths}
-use Rattle.spx_paths.specs.Terms.{entry_term, term_of}
+use Rattle.spx_formula.specs.Terms.{entry_term, term_of}
 use Rattle.spx_paths.specs.Walks.{asserted, cuts, ending, ending_with, entering, first_facts, initializing, path_count, start_tree, walk}
 use Rattle.spx_paths.specs.declared.fault.TheConstants.{MOST_PATHS}
 use Rattle.spx_paths.proofs.BuildLaws.{lays_along, step_kept}
+use Rattle.spx_paths.proofs.CutLists.{both_steps, wider_steps}
 use Rattle.spx_paths.proofs.CountLaws.{paths_are_counted}
 
 -- ---- roots
-wider_steps : (ids : List StepId) {m n : ℕ} → m ≤ n → AreSteps m ids → AreSteps n ids
-wider_steps [] l are = tt
-wider_steps (id ∷ ids) l are = (let w = are.0 in omega (arith, l, w), wider_steps ids l are.1)
-
-steps_all : (before more : List StepId) (n : ℕ) → AreSteps n before → AreSteps n more → AreSteps n (before ++ more)
-steps_all [] more n are others = others
-steps_all (id ∷ before) more n are others = (are.0, steps_all before more n are.1 others)
-
 steps_reversed : (ids : List StepId) (n : ℕ) → AreSteps n ids → AreSteps n (reverse ids)
 steps_reversed [] n are = tt
-steps_reversed (id ∷ ids) n are = subst (AreSteps n) (sym (reverse-append (id ∷ []) ids)) (steps_all (reverse ids) (id ∷ []) n (steps_reversed ids n are.1) (are.0, tt))
+steps_reversed (id ∷ ids) n are = subst (AreSteps n) (sym (reverse-append (id ∷ []) ids)) (both_steps n (reverse ids) (id ∷ []) (steps_reversed ids n are.1) (are.0, tt))
 
 -- the trees from cuts are the same where steps and terms were added
 cuts_kept : {a b : Steps} (p : Program) (sub : Sub) (known : List Term) (ids : List StepId) → MoreSteps a b → AreSteps (length a.nodes) ids → known ≡ known_at_cuts p sub → map (cut_tree_at b known) ids ≡ map (cut_tree p sub a) ids

@@ -1,5 +1,5 @@
 -- The bounds of loops that count.
-use Rattle.std.proofs.Common.{◌≡◌, ◌<◌, ℤ, Bool, List, [], ◌∷◌, length, Option, Some, None, refl, sym, ap, ◌∙◌, arith}
+use Rattle.std.proofs.Common.{◌≡◌, ◌<◌, ℤ, Bool, true, false, List, [], ◌∷◌, length, Option, Some, None, refl, sym, ap, ◌∙◌, arith}
 use Rattle.std.specs.Prelude.{◌&&◌, not, pos, if◌then◌else◌}
 use Rattle.std.specs.List.{list_all}
 use Rattle.spx_text.specs.declared.place.Place.{Place}
@@ -29,21 +29,19 @@ use Rattle.spx_steps.specs.declared.steps.Steps.{Steps}
 use Rattle.spx_steps.specs.Trees.{AddsStep, InOrder, MoreSteps, step_tree}
 use Rattle.spx_steps.proofs.Arena.{more_terms, more_twice, order_kept}
 use Rattle.spx_paths.specs.declared.draft.Draft.{Draft}
-use Rattle.spx_paths.specs.declared.entered.Interface.{Interface}
-use Rattle.spx_paths.specs.Added.{AddsAll}
+use Rattle.spx_formula.specs.declared.entered.Interface.{Interface}
+use Rattle.spx_formula.specs.Added.{AddsAll}
 use Rattle.spx_paths.specs.Checks.{checks}
 use Rattle.spx_paths.specs.Drafts.{AddsTerm, AlsoWaits, Evaluates, Lays, Makes, Ready, between_bounds, laid}
-use Rattle.spx_paths.specs.EntryNames.{IsInterfaceOf, is_fixed_by}
-use Rattle.spx_paths.specs.Terms.{first_name, last_name, now, now_term, term_of}
-use Rattle.spx_paths.specs.Walks.{again, before_end, bound_term, end_term, enter_range, high_term, is_fixed, low_term, naming, next_term, past_loop, range_goal, start_term}
+use Rattle.spx_formula.specs.EntryNames.{IsInterfaceOf, is_fixed_by}
+use Rattle.spx_formula.specs.Terms.{first_name, last_name, now, now_term, term_of}
+use Rattle.spx_paths.specs.Walks.{again, before_end, bound_term, end_term, enter_range, high_term, is_fixed, low_term, naming, next_term, past_loop, start_term}
+use Rattle.spx_formula.specs.Goals.{range_goal}
 use Rattle.spx_paths.proofs.BuildLaws.{lays_goals, lays_more}
 
 -- ---- terms
 pub order_terms : {a : Steps} {terms : List Term} → InOrder a → Grows a.terms terms → InOrder (record { terms = terms; nodes = a.nodes })
 order_terms {a} {terms} order grows = order_kept {old = a} {new = record { terms = terms; nodes = a.nodes }} order grows refl
-
-pub number_is : {terms : List Term} {id : TermId} {m : ℤ} (n : ℤ) → m ≡ n → IsId terms id (Number m) → IsId terms id (Number n)
-number_is n e i = record { within = i.within; tree = i.tree ∙ ap Number e }
 
 pub adds_term : {a b : Draft} {id : TermId} {t : Term} (u : Term) → InOrder a.steps → Grows a.steps.terms b.steps.terms → IsId b.steps.terms id t → b.steps.nodes ≡ a.steps.nodes → b.checks ≡ a.checks → t ≡ u → AddsTerm a b id u
 adds_term {a} {b} u order grows made nodes e is = record {
@@ -87,11 +85,12 @@ module _ (p : Program) (sub : Sub) (c : CoreCount) where
   pub high_is : (name : Name) (range : CoreRange) → c.bounds ≡ Some range → name ≡ last_name c.parameter → bound_term p sub name range.high ≡ high_term p sub c
   high_is name range is e = ap (λ (n : Name). bound_term p sub n range.high) e ∙ sym (high_at is)
 
-  pub start_is : {b : Bool} → c.is_reverse ≡ b → (if b then high_term p sub c else low_term p sub c) ≡ start_term p sub c
-  start_is is = ap (λ b. if b then high_term p sub c else low_term p sub c) (sym is)
+  pub limit_is : {a b : Bool} → a ≡ b → (if b then high_term p sub c else low_term p sub c) ≡ (if a then high_term p sub c else low_term p sub c)
+  limit_is is = ap (λ b. if b then high_term p sub c else low_term p sub c) (sym is)
 
-  pub end_is : {b : Bool} → c.is_reverse ≡ b → (if b then low_term p sub c else high_term p sub c) ≡ end_term p sub c
-  end_is is = ap (λ b. if b then low_term p sub c else high_term p sub c) (sym is)
+  pub end_is : (b : Bool) → (if not b then high_term p sub c else low_term p sub c) ≡ (if b then low_term p sub c else high_term p sub c)
+  end_is true = refl
+  end_is false = refl
 
 -- ---- steps
 -- a value that is given, where its term was made before

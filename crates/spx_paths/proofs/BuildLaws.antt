@@ -31,11 +31,12 @@ use Rattle.spx_paths.specs.declared.build.Body.{Body}
 use Rattle.spx_paths.specs.declared.build.Next.{Next}
 use Rattle.spx_paths.specs.declared.draft.Check.{Check}
 use Rattle.spx_paths.specs.declared.draft.Draft.{Draft}
-use Rattle.spx_paths.specs.Added.{AddsAll, AddsFacts, choices_of, facts_from}
+use Rattle.spx_formula.specs.Added.{AddsAll, AddsFacts, choices_of, facts_from}
 use Rattle.spx_paths.specs.Checks.{checks}
 use Rattle.spx_paths.specs.Drafts.{AddsCuts, AddsTerm, AddsTerms, AreChecks, Builds, BuildsAlternatives, BuildsArms, BuildsCuts, Evaluates, IsBegun, Lays, Leads, Makes, Ready, Stands, all_taken, alternative_cuts, arm_cuts, before_others, decided_tree, else_known, known_at_cuts, laid}
-use Rattle.spx_paths.specs.Terms.{entry_term, now_term, term_of}
-use Rattle.spx_paths.specs.Walks.{alternative_facts, and_these, cuts, cuts_for, decided, from_cut, noted_cut, one_before, walk, walk_for}
+use Rattle.spx_formula.specs.Terms.{entry_term, now_term, term_of}
+use Rattle.spx_paths.specs.Walks.{cuts, cuts_for, decided, from_cut, noted_cut, one_before, walk, walk_for}
+use Rattle.spx_formula.specs.Choices.{alternative_facts, and_these}
 use Rattle.spx_paths.proofs.CutLists.{cut_parts, cuts_along, cuts_both, cuts_kept, cuts_none, one_cut}
 use Rattle.spx_paths.proofs.Forms.{alternative_is, arm_is, no_leave}
 
@@ -61,9 +62,6 @@ lays_along {a} {b} {id} u l e = subst (λ x. Lays a b id x) e l
 
 pub lays_more : {a b c : Draft} {id : StepId} {t : Tree} (u : Tree) → MoreSteps a.steps b.steps → b.checks ≡ a.checks → Lays b c id t → t ≡ u → Lays a c id u
 lays_more u m e l is = record { order = l.order; grown = more_twice m l.grown; checks = l.checks ∙ e; made = record { within = l.made.within; tree = l.made.tree ∙ is } }
-
-pub lays_step : {a b : Draft} {id : StepId} {t : Tree} → AddsStep a.steps b.steps id t → b.checks ≡ a.checks → Lays a b id t
-lays_step s e = record { order = s.whole; grown = s.grown; checks = e; made = s.made }
 
 -- a check of goals that were made before it
 pub lays_goals : {a c : Draft} {b : Steps} {id : StepId} (kind : CondKind) (place : Place) (goals : List TermId) (ts : List Term) (next : StepId) → InOrder a.steps → next.0 < length a.steps.nodes → AddsAll a.steps.terms b.terms goals ts → b.nodes ≡ a.steps.nodes
@@ -154,27 +152,7 @@ chosen {p} {a} {b} {f} {g} {h} {c} {e} {condition} {v} {n} {taken} {passed} {at}
     placed (one_before is_exit (assume_parts term (step_tree a.steps holds)) (Assume (Prefix Not term) (step_tree a.steps fails))) ev
     (lays_more (one_before is_exit (step_tree f.steps taken) (step_tree f.steps passed)) all fc l refl) m (λ i. one_before is_exit (took i) (went i))
 
--- an annotation
-pub annotated : {a b c : Draft} {id : StepId} (kind : CondKind) (place : Place) (parts : List TermId) (ts : List Term) (next : StepId) → Ready a → next.0 < length a.steps.nodes → AddsTerms a b parts ts → AddsStep b.steps c.steps id (check kind place (trees_at b.steps.terms parts) (step_tree b.steps next)) → c.checks ≡ b.checks
-    → Makes a c id (check kind place ts (step_tree a.steps next))
-annotated kind place parts ts next ready w terms s e = record {
-  ready = record { order = s.whole; none = e ∙ terms.checks ∙ ready.none };
-  grown = more_twice terms.grown s.grown;
-  made = record { within = s.made.within; tree = s.made.tree ∙ (λ i. check kind place (terms.trees i) (terms.grown.kept next w i)) };
-}
-
-pub makes_more : {a b c : Draft} {id : StepId} {t : Tree} (u : Tree) → MoreSteps a.steps b.steps → Makes b c id t → t ≡ u → Makes a c id u
-makes_more u m l is = record { ready = l.ready; grown = more_twice m l.grown; made = record { within = l.made.within; tree = l.made.tree ∙ is } }
-
 -- ---- commands
--- a command whose steps are these, by what follows it
-pub builds_from : (p : Program) (sub : Sub) {a b : Draft} {id : StepId} (c : Command) (rest leave : StepId) (steps : Tree → Tree → Tree) → ((on out : ℕ → Tree) (made : ℕ) → walk p sub c on out made ≡ steps (on made) (out made)) → Makes a b id (steps (step_tree a.steps rest) (step_tree a.steps leave))
-    → Builds p sub a b c rest leave id
-builds_from p sub c rest leave steps form m = record {
-  ready = m.ready;
-  grown = m.grown;
-  stands = λ on out s t. record { within = m.made.within; tree = λ made. m.made.tree ∙ (λ i. steps (s.tree made i) (t.tree made i)) ∙ sym (form on out made) };
-}
 
 -- nothing is made
 pub builds_not : (p : Program) (sub : Sub) {a : Draft} (c : Command) (rest leave : StepId) → ((on out : ℕ → Tree) (made : ℕ) → walk p sub c on out made ≡ on made) → Ready a → Builds p sub a a c rest leave rest
@@ -182,13 +160,6 @@ builds_not p sub {a} c rest leave form ready = record {
   ready = ready;
   grown = more_not a.steps;
   stands = λ on out s t. record { within = s.within; tree = λ made. s.tree made ∙ sym (form on out made) };
-}
-
-pub builds_leave : (p : Program) (sub : Sub) {a : Draft} (place : Place) (rest leave : StepId) → Ready a → Builds p sub a a (Leave place) rest leave leave
-builds_leave p sub {a} place rest leave ready = record {
-  ready = ready;
-  grown = more_not a.steps;
-  stands = λ on out s t. record { within = t.within; tree = t.tree };
 }
 
 pub builds_as : (p : Program) (sub : Sub) {a b : Draft} {id : StepId} {c : Command} (d : Command) (rest leave : StepId) → Builds p sub a b c rest leave id → d ≡ c → Builds p sub a b d rest leave id

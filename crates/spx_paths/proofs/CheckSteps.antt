@@ -1,5 +1,6 @@
 -- What checks of expressions add.
 use Rattle.std.proofs.Common.{◌≡◌, ℕ, ◌<◌, List, [], ◌∷◌, ◌++◌, length, Some, None, refl, sym, ap, ◌∙◌, subst, arith}
+use Rattle.std.specs.Prelude.{is_some}
 use Rattle.std.proofs.lemmas.List.{map-append}
 use Rattle.spx_text.specs.declared.place.Place.{Place}
 use Rattle.spx_tree.specs.declared.expression.InfixOp.{InfixOp}
@@ -21,6 +22,7 @@ use Rattle.spx_core.specs.Resolved.{subtype_of}
 use Rattle.spx_term.specs.declared.condition.CondKind.{CondKind}
 use Rattle.spx_term.specs.declared.term.Term.{Term}
 use Rattle.spx_term.specs.declared.term.Term.TheVariants.{Infix, Number, Prefix}
+use Rattle.spx_term.specs.declared.term.TermOp.{TermOp}
 use Rattle.spx_term.specs.declared.term.TermPrefix.TheVariants.{Not}
 use Rattle.spx_term.specs.declared.value.Value.{Value}
 use Rattle.spx_term.specs.Folding.{term_of as static_term}
@@ -35,14 +37,16 @@ use Rattle.spx_steps.specs.Trees.{InOrder}
 use Rattle.spx_steps.proofs.Arena.{more_not, more_terms, more_twice, order_kept}
 use Rattle.spx_paths.specs.declared.draft.Check.{Check}
 use Rattle.spx_paths.specs.declared.draft.Draft.{Draft}
-use Rattle.spx_paths.specs.Added.{AddsAll}
-use Rattle.spx_paths.specs.Checks.{checked_under, checks, guarded, mapping_check, operation_check, right_lefts, sign_check}
+use Rattle.spx_formula.specs.Added.{AddsAll}
+use Rattle.spx_paths.specs.Checks.{checked_under, checks, mapping_check, operation_check, right_lefts, sign_check}
+use Rattle.spx_formula.specs.Goals.{guarded}
 use Rattle.spx_paths.specs.Drafts.{AddsTerm, AlsoWaits, AreChecks, Evaluates, Ready, laid}
-use Rattle.spx_paths.specs.Functions.{shift_in}
-use Rattle.spx_paths.specs.Terms.{member_term, moved_term, now_term, signed_term, term_of}
+use Rattle.spx_formula.specs.Functions.{shift_in}
+use Rattle.spx_formula.specs.Terms.{member_term, moved_term, now_term, signed_term, term_of}
 use Rattle.spx_paths.specs.Waiting.{Checked, Finds, Gives, Keeps, MeanAll, Means, Whole}
 use Rattle.spx_paths.proofs.BuildLaws.{checks_kept, wider_checks}
-use Rattle.spx_paths.proofs.Expressions.{applied_checks, applied_term, in_range_checks, in_range_term, in_type_checks, in_type_term, infix_checks, infix_term, parenthesized_checks, parenthesized_term, prefix_checks, prefix_term, static_free, static_is}
+use Rattle.spx_formula.proofs.Expressions.{applied_term, in_range_term, in_type_term, infix_term, parenthesized_term, prefix_term, static_is}
+use Rattle.spx_paths.proofs.CheckLaws.{applied_checks, in_range_checks, in_type_checks, infix_checks, parenthesized_checks, prefix_checks, static_unchecked}
 use Rattle.spx_paths.proofs.Operators.{same_lefts}
 
 -- ---- relations between drafts
@@ -175,7 +179,7 @@ module _ {p : Program} {lefts : List TermId} {w : Draft} {e : CoreExpr} where
   pub eval_static : {x : Draft} {id : TermId} (s : Value) → Some s ≡ literal e → Gives w x (λ rest. rest) id (static_term s) → Checked p lefts w x e id
   eval_static {x} {id} s is m = record {
     gives = λ ls ml. record {
-      finds = finds_along (static_free p (now_term p) ls e s (sym is)) m.finds;
+      finds = finds_along (static_unchecked p (now_term p) ls e (ap is_some (sym is))) m.finds;
       means = subst (Means x id) (sym (static_is (now_term p) (now_term p) e s (sym is))) m.means;
     };
   }
@@ -191,48 +195,49 @@ module _ {p : Program} {lefts : List TermId} {w : Draft} {e : CoreExpr} where
   }
 
   module _ (none : None ≡ literal e) (are : AreIds (length w.steps.terms) lefts) where
-    pub eval_prefix : {x y z : Draft} {i id : TermId} {base : BaseType} (o : PrefixOp) (place : Place) (a : CoreExpr) → e ≡ expr.Prefix o place a → Keeps w x → i.0 < length x.steps.terms → Checked p lefts w x a i
-        → Keeps x y → id.0 < length y.steps.terms → ((t : Term) → Means x i t → Gives x y (λ rest. rest) id (signed_term o t))
-        → Keeps y z → base ≡ base_of e → ((ls : List Term) (t : Term) → MeanAll y lefts ls → Means y id t → Finds y z (sign_check ls o base place t)) → Checked p lefts w z e id
-    eval_prefix {x} {y} {z} {i} {id} {base} o place a is kx wi v ky wid signed kz base_is check = record {
+    pub eval_prefix : {x z : Draft} {terms : List Term} {i id : TermId} {base : BaseType} (o : PrefixOp) (place : Place) (a : CoreExpr) → e ≡ expr.Prefix o place a → Keeps w x → Checked p lefts w x a i
+        → Adds x.steps.terms terms id (signed_term o (tree_at x.steps.terms i))
+        → Keeps (with_terms x terms) z → base ≡ base_of e → ((ls : List Term) (t : Term) → MeanAll (with_terms x terms) lefts ls → Means (with_terms x terms) id t → Finds (with_terms x terms) z (sign_check ls o base place t)) → Checked p lefts w z e id
+    eval_prefix {x} {z} {terms} {i} {id} {base} o place a is kx v signed kz base_is check = record {
       gives = λ ls ml.
+          let y = with_terms x terms in
           let first = v.gives ls ml in
           let t = term_of p (now_term p) e in
-          let same = prefix_term (now_term p) (now_term p) e none o place a is in
-          let second = signed (term_of p (now_term p) a) first.means in
-          let here : Means y id t = subst (Means y id) (sym same) second.means in
-          let lefts_here = all_kept (keeps_twice kx ky) are ml in
+          let second = only_gives kx.whole t signed (ap (signed_term o) first.means.tree ∙ sym (prefix_term (now_term p) (now_term p) e none o place a is)) in
+          let lefts_here = all_kept (keeps_twice kx (only_keeps kx.whole signed.grown)) are ml in
           record {
-            finds = finds_along (prefix_checks p (now_term p) e ls none o place a is) (finds_twice first.finds (finds_twice second.finds (subst (λ (b : BaseType). Finds y z (sign_check ls o b place t)) base_is (check ls t lefts_here here))));
-            means = means_kept kz wid here;
+            finds = finds_along (prefix_checks p (now_term p) e ls none o place a is) (finds_twice first.finds (finds_twice second.finds (subst (λ (b : BaseType). Finds y z (sign_check ls o b place t)) base_is (check ls t lefts_here second.means))));
+            means = means_kept kz signed.made.within second.means;
           };
     }
 
-    pub eval_applied : {x y z : Draft} {i id : TermId} {h : Shift} {mapping : Judged Mapping} {at : Place} (function : CoreFunction) (place : Place) (a : CoreExpr) → e ≡ expr.Applied function place a → Keeps w x → i.0 < length x.steps.terms → Checked p lefts w x a i
-        → Keeps x y → id.0 < length y.steps.terms → h ≡ shift_in (application function) → ((t : Term) → Means x i t → Gives x y (λ rest. rest) id (moved_term h t))
-        → Keeps y z → mapping ≡ application function → at ≡ place_of a → ((ls : List Term) (t : Term) → MeanAll y lefts ls → Means y id (moved_term (shift_in mapping) t) → Finds y z (mapping_check ls mapping at t)) → Checked p lefts w z e id
-    eval_applied {x} {y} {z} {i} {id} {h} {mapping} {at} function place a is kx wi v ky wid shift_is moved kz mapping_is at_is check = record {
+    pub eval_applied : {x z : Draft} {terms : List Term} {i id : TermId} {h : Shift} {mapping : Judged Mapping} {at : Place} (function : CoreFunction) (place : Place) (a : CoreExpr) → e ≡ expr.Applied function place a → Keeps w x → Checked p lefts w x a i
+        → h ≡ shift_in (application function) → Adds x.steps.terms terms id (moved_term h (tree_at x.steps.terms i)) → Keeps (with_terms x terms) z → mapping ≡ application function → at ≡ place_of a
+        → ((ls : List Term) (t : Term) → MeanAll (with_terms x terms) lefts ls → Means (with_terms x terms) id (moved_term (shift_in mapping) t) → Finds (with_terms x terms) z (mapping_check ls mapping at t)) → Checked p lefts w z e id
+    eval_applied {x} {z} {terms} {i} {id} {h} {mapping} {at} function place a is kx v shift_is moved kz mapping_is at_is check = record {
       gives = λ ls ml.
+          let y = with_terms x terms in
           let ta = term_of p (now_term p) a in
           let j = application function in
           let first = v.gives ls ml in
-          let second : Gives x y (λ rest. rest) id (moved_term (shift_in j) ta) = subst (λ (k : Shift). Gives x y (λ rest. rest) id (moved_term k ta)) shift_is (moved ta first.means) in
+          let second : Gives x y (λ rest. rest) id (moved_term (shift_in j) ta) = only_gives kx.whole (moved_term (shift_in j) ta) moved (λ k. moved_term (shift_is k) (first.means.tree k)) in
           let third : Finds y z (mapping_check ls j (place_of a) ta) =
           subst (λ (m : Judged Mapping). Means y id (moved_term (shift_in m) ta) → Finds y z (mapping_check ls m (place_of a) ta)) mapping_is
-          (subst (λ (q : Place). Means y id (moved_term (shift_in mapping) ta) → Finds y z (mapping_check ls mapping q ta)) at_is (check ls ta (all_kept (keeps_twice kx ky) are ml))) second.means in
+          (subst (λ (q : Place). Means y id (moved_term (shift_in mapping) ta) → Finds y z (mapping_check ls mapping q ta)) at_is (check ls ta (all_kept (keeps_twice kx (only_keeps kx.whole moved.grown)) are ml))) second.means in
           record {
             finds = finds_along (applied_checks p (now_term p) e ls none function place a is) (finds_twice first.finds (finds_twice second.finds third));
-            means = means_kept kz wid (subst (Means y id) (sym (applied_term (now_term p) (now_term p) e none function place a is)) second.means);
+            means = means_kept kz moved.made.within (subst (Means y id) (sym (applied_term (now_term p) (now_term p) e none function place a is)) second.means);
           };
     }
 
-    pub eval_infix : {x g y z u : Draft} {i j id : TermId} {guards ids : List TermId} {base : BaseType} {at : Place} (o : InfixOp) (place : Place) (a b : CoreExpr) → e ≡ expr.Infix o place a b → Keeps w x → i.0 < length x.steps.terms → Checked p lefts w x a i
+    pub eval_infix : {x g y u : Draft} {terms : List Term} {i j id : TermId} {guards ids : List TermId} {base : BaseType} {at : Place} {s : TermOp} (o : InfixOp) (place : Place) (a b : CoreExpr) → e ≡ expr.Infix o place a b → Keeps w x → i.0 < length x.steps.terms → Checked p lefts w x a i
         → Keeps x g → Finds x g (λ rest. rest) → ((ls : List Term) (t : Term) → MeanAll x lefts ls → Means x i t → MeanAll g guards (right_lefts o ls t)) → ids ≡ guards
-        → Keeps g y → j.0 < length y.steps.terms → Checked p ids g y b j
-        → Keeps y z → id.0 < length z.steps.terms → ((s t : Term) → Means y i s → Means y j t → Gives y z (λ rest. rest) id (Infix (term_op o) s t))
-        → Keeps z u → base ≡ base_of e → at ≡ place_of b → ((ls : List Term) (t s : Term) → MeanAll z lefts ls → Means z j t → Means z id s → Finds z u (operation_check ls o base place at t s)) → Checked p lefts w u e id
-    eval_infix {x} {g} {y} {z} {u} {i} {j} {id} {guards} {ids} {base} {at} o place a b is kx wi v kg wg guarding same ky wj v2 kz wid made ku base_is at_is check = record {
+        → Keeps g y → j.0 < length y.steps.terms → Checked p ids g y b j → s ≡ term_op o → Adds y.steps.terms terms id (Infix s (tree_at y.steps.terms i) (tree_at y.steps.terms j))
+        → Keeps (with_terms y terms) u → base ≡ base_of e → at ≡ place_of b
+        → ((ls : List Term) (t s : Term) → MeanAll (with_terms y terms) lefts ls → Means (with_terms y terms) j t → Means (with_terms y terms) id s → Finds (with_terms y terms) u (operation_check ls o base place at t s)) → Checked p lefts w u e id
+    eval_infix {x} {g} {y} {u} {terms} {i} {j} {id} {guards} {ids} {base} {at} {s} o place a b is kx wi v kg wg guarding same ky wj v2 op_is made ku base_is at_is check = record {
       gives = λ ls ml.
+          let z = with_terms y terms in
           let ta = term_of p (now_term p) a in
           let tb = term_of p (now_term p) b in
           let t = term_of p (now_term p) e in
@@ -241,42 +246,42 @@ module _ {p : Program} {lefts : List TermId} {w : Draft} {e : CoreExpr} where
           let guards_g = subst (λ (is : List TermId). MeanAll g is (right_lefts o ls ta)) (sym same) (guarding ls ta lefts_x first.means) in
           let second = v2.gives (right_lefts o ls ta) guards_g in
           let xy = keeps_twice kg ky in
-          let third = made ta tb (means_kept xy wi first.means) second.means in
-          let here : Means z id t = subst (Means z id) (sym (infix_term (now_term p) (now_term p) e none o place a b is)) third.means in
+          let kz = only_keeps ky.whole made.grown in
+          let left = means_kept xy wi first.means in
+          let third = only_gives ky.whole t made ((λ n. Infix (op_is n) (left.tree n) (second.means.tree n)) ∙ sym (infix_term (now_term p) (now_term p) e none o place a b is)) in
           let lefts_z = all_kept (keeps_twice kx (keeps_twice xy kz)) are ml in
-          let fourth = subst (λ (r : BaseType). Finds z u (operation_check ls o r place (place_of b) tb t)) base_is (subst (λ (q : Place). Finds z u (operation_check ls o base place q tb t)) at_is (check ls tb t lefts_z (means_kept kz wj second.means) here)) in
+          let fourth = subst (λ (r : BaseType). Finds z u (operation_check ls o r place (place_of b) tb t)) base_is (subst (λ (q : Place). Finds z u (operation_check ls o base place q tb t)) at_is (check ls tb t lefts_z (means_kept kz wj second.means) third.means)) in
           record {
             finds = finds_along (infix_checks p (now_term p) e ls none o place a b is) (finds_twice first.finds (finds_twice wg (finds_twice second.finds (finds_twice third.finds fourth))));
-            means = means_kept ku wid here;
+            means = means_kept ku made.made.within third.means;
           };
     }
 
-    pub eval_in_type : {x y z u : Draft} {i j k id : TermId} {subtype : Subtype} (o : MemberOp) (place : Place) (a : CoreExpr) (name : Reference) → e ≡ expr.InType o place a name → subtype ≡ subtype_of name.root.entity → Keeps w x → i.0 < length x.steps.terms → Checked p lefts w x a i
-        → Keeps x y → j.0 < length y.steps.terms → Gives x y (λ rest. rest) j (Number subtype.first) → Keeps y z → k.0 < length z.steps.terms → Gives y z (λ rest. rest) k (Number subtype.last)
-        → ((s t r : Term) → Means z i s → Means z j t → Means z k r → Gives z u (λ rest. rest) id (member_term o s t r)) → Checked p lefts w u e id
-    eval_in_type {x} {y} {z} {u} {i} {j} {k} {id} {subtype} o place a name is sub kx wi v ky wj low kz wk high made = record {
+    pub eval_in_type : {x y z : Draft} {terms : List Term} {i j k id : TermId} {subtype : Subtype} (o : MemberOp) (place : Place) (a : CoreExpr) (name : Reference) → e ≡ expr.InType o place a name → subtype ≡ subtype_of name.root.entity → i.0 < length x.steps.terms → Checked p lefts w x a i
+        → Keeps x y → j.0 < length y.steps.terms → Gives x y (λ rest. rest) j (Number subtype.first) → Keeps y z → Gives y z (λ rest. rest) k (Number subtype.last)
+        → Adds z.steps.terms terms id (member_term o (tree_at z.steps.terms i) (tree_at z.steps.terms j) (tree_at z.steps.terms k)) → Checked p lefts w (with_terms z terms) e id
+    eval_in_type {x} {y} {z} {terms} {i} {j} {k} {id} {subtype} o place a name is sub wi v ky wj low kz high made = record {
       gives = λ ls ml.
           let first = v.gives ls ml in
-          let last = made (term_of p (now_term p) a) (Number subtype.first) (Number subtype.last) (means_kept (keeps_twice ky kz) wi first.means) (means_kept kz wj low.means) high.means in
-          record {
-            finds = finds_along (in_type_checks p (now_term p) e ls none o place a name is) (finds_twice first.finds (finds_twice low.finds (finds_twice high.finds last.finds)));
-            means = subst (Means u id) ((λ n. member_term o (term_of p (now_term p) a) (Number (sub n).first) (Number (sub n).last)) ∙ sym (in_type_term (now_term p) (now_term p) e none o place a name is)) last.means;
-          };
+          let tested = means_kept (keeps_twice ky kz) wi first.means in
+          let least = means_kept kz wj low.means in
+          let last = only_gives kz.whole (term_of p (now_term p) e) made
+          ((λ n. member_term o (tested.tree n) ((least.tree ∙ ap (λ (s : Subtype). Number s.first) sub) n) ((high.means.tree ∙ ap (λ (s : Subtype). Number s.last) sub) n)) ∙ sym (in_type_term (now_term p) (now_term p) e none o place a name is)) in
+          record { finds = finds_along (in_type_checks p (now_term p) e ls none o place a name is) (finds_twice first.finds (finds_twice low.finds (finds_twice high.finds last.finds))); means = last.means };
     }
 
-    pub eval_in_range : {x y z u : Draft} {i j k id : TermId} (o : MemberOp) (place : Place) (a low high : CoreExpr) → e ≡ expr.InRange o place a low high → Keeps w x → i.0 < length x.steps.terms → Checked p lefts w x a i
-        → Keeps x y → j.0 < length y.steps.terms → Checked p lefts x y low j → Keeps y z → k.0 < length z.steps.terms → Checked p lefts y z high k
-        → ((s t r : Term) → Means z i s → Means z j t → Means z k r → Gives z u (λ rest. rest) id (member_term o s t r)) → Checked p lefts w u e id
-    eval_in_range {x} {y} {z} {u} {i} {j} {k} {id} o place a low high is kx wi v ky wj v2 kz wk v3 made = record {
+    pub eval_in_range : {x y z : Draft} {terms : List Term} {i j k id : TermId} (o : MemberOp) (place : Place) (a low high : CoreExpr) → e ≡ expr.InRange o place a low high → Keeps w x → i.0 < length x.steps.terms → Checked p lefts w x a i
+        → Keeps x y → j.0 < length y.steps.terms → Checked p lefts x y low j → Keeps y z → Checked p lefts y z high k
+        → Adds z.steps.terms terms id (member_term o (tree_at z.steps.terms i) (tree_at z.steps.terms j) (tree_at z.steps.terms k)) → Checked p lefts w (with_terms z terms) e id
+    eval_in_range {x} {y} {z} {terms} {i} {j} {k} {id} o place a low high is kx wi v ky wj v2 kz v3 made = record {
       gives = λ ls ml.
           let first = v.gives ls ml in
           let second = v2.gives ls (all_kept kx are ml) in
           let third = v3.gives ls (all_kept (keeps_twice kx ky) are ml) in
-          let last = made (term_of p (now_term p) a) (term_of p (now_term p) low) (term_of p (now_term p) high) (means_kept (keeps_twice ky kz) wi first.means) (means_kept kz wj second.means) third.means in
-          record {
-            finds = finds_along (in_range_checks p (now_term p) e ls none o place a low high is) (finds_twice first.finds (finds_twice second.finds (finds_twice third.finds last.finds)));
-            means = subst (Means u id) (sym (in_range_term (now_term p) (now_term p) e none o place a low high is)) last.means;
-          };
+          let tested = means_kept (keeps_twice ky kz) wi first.means in
+          let least = means_kept kz wj second.means in
+          let last = only_gives kz.whole (term_of p (now_term p) e) made ((λ n. member_term o (tested.tree n) (least.tree n) (third.means.tree n)) ∙ sym (in_range_term (now_term p) (now_term p) e none o place a low high is)) in
+          record { finds = finds_along (in_range_checks p (now_term p) e ls none o place a low high is) (finds_twice first.finds (finds_twice second.finds (finds_twice third.finds last.finds))); means = last.means };
     }
 
 -- ---- the checks of an expression in code

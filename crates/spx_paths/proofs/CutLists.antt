@@ -75,7 +75,7 @@ cuts_both {p} {sub} {m} {n} {before} {mid} {after} {first} {last} x more y =
       trees = both_reversed (cut_tree p sub n.steps) z.more y.more ∙ (λ i. y.trees i ++ z.trees i);
     }
 
--- a list was made apart, and then put behind others
+-- a list was made apart, and then put after others
 pub cuts_put : {p : Program} {sub : Sub} {d : Draft} {apart mid after : List StepId} {ts : List Tree} → AddsCuts p sub d [] apart ts → after ≡ mid ++ apart → AddsCuts p sub d mid after ts
 cuts_put {p} {sub} {d} {apart} {mid} {after} {ts} c is = record { more = c.more; is = is ∙ ap (λ ids. mid ++ ids) c.is; within = c.within; trees = c.trees }
 

@@ -1,5 +1,5 @@
 -- What is known at the start of a body and after its cuts.
-use Rattle.std.proofs.Common.{◌≡◌, ◌+◌, ◌<◌, ◌≤◌, ℕ, Bool, cond, true, false, List, [], ◌∷◌, ◌++◌, length, take, get_or, refl, sym, ap, ◌∙◌, subst, append_assoc, append-nil}
+use Rattle.std.proofs.Common.{◌≡◌, ◌+◌, ◌<◌, ◌≤◌, ℕ, Bool, cond, true, false, List, [], ◌∷◌, ◌++◌, length, take, get_or, Option, Some, None, refl, sym, ap, ◌∙◌, subst, append_assoc, append-nil}
 use Rattle.std.specs.Prelude.{not, ◌&&◌, if◌then◌else◌}
 use Rattle.std.specs.List.{flat_map}
 use Rattle.std.proofs.lemmas.Grind.{flat_map-append}
@@ -10,6 +10,7 @@ use Rattle.spx_core.specs.declared.entity.VarId.{VarId}
 use Rattle.spx_core.specs.declared.expression.CoreExpr.{CoreExpr}
 use Rattle.spx_core.specs.declared.program.Program.{Program}
 use Rattle.spx_core.specs.declared.statement.CoreCount.{CoreCount}
+use Rattle.spx_core.specs.declared.subprogram.CorePredicate.{CorePredicate}
 use Rattle.spx_core.specs.declared.subprogram.Sub.{Sub}
 use Rattle.spx_core.specs.Dependency.{exports}
 use Rattle.spx_core.specs.Formals.{formals, locals}
@@ -17,6 +18,7 @@ use Rattle.spx_term.specs.declared.term.Name.{Name}
 use Rattle.spx_term.specs.declared.term.Term.{Term}
 use Rattle.spx_term.specs.declared.term.Term.TheVariants.{Infix, Variable}
 use Rattle.spx_term.specs.declared.term.TermOp.TheVariants as operator
+use Rattle.spx_term.specs.Conjuncts.{conjuncts}
 use Rattle.spx_term.specs.Steps.{Tree, Assign, Assume, assume_all}
 use Rattle.spx_meaning.specs.Runs.{initial_value}
 use Rattle.spx_meaning.specs.Stores.{type_of}
@@ -30,34 +32,16 @@ use Rattle.spx_steps.specs.declared.steps.Steps.{Steps}
 use Rattle.spx_steps.specs.Trees.{AddsStep, InOrder, MoreSteps, step_tree}
 use Rattle.spx_steps.proofs.Arena.{more_not, more_terms, more_twice, order_kept}
 use Rattle.spx_paths.specs.declared.draft.Draft.{Draft}
-use Rattle.spx_paths.specs.declared.entered.Interface.{Interface}
-use Rattle.spx_paths.specs.declared.entered.Entered.TheVariants.{AtEntry, OnEntry}
-use Rattle.spx_paths.specs.Added.{AddsAll}
-use Rattle.spx_paths.specs.Checks.{in_type}
-use Rattle.spx_paths.specs.Drafts.{AddsMore, AddsTerm, AddsTerms, Lays, else_known, known_at_cuts}
-use Rattle.spx_paths.specs.EntryNames.{IsInterfaceOf, entry_name, meant}
-use Rattle.spx_paths.specs.Terms.{entry, entry_term, now, now_term, term_of, term_with}
+use Rattle.spx_formula.specs.declared.entered.Interface.{Interface}
+use Rattle.spx_formula.specs.declared.entered.Entered.TheVariants.{AtEntry, OnEntry}
+use Rattle.spx_formula.specs.Added.{AddsAll}
+use Rattle.spx_formula.specs.Goals.{in_type}
+use Rattle.spx_paths.specs.Drafts.{AddsMore, AddsTerm, AddsTerms, Lays, else_known, known_at_cuts, pre_parts}
+use Rattle.spx_formula.specs.EntryNames.{IsInterfaceOf, entry_name, meant}
+use Rattle.spx_formula.specs.Terms.{entry, entry_term, now, now_term, term_of, term_with}
 use Rattle.spx_paths.specs.Walks.{count_facts, entering, entry_facts, first_facts, from_cut, high_term, import_facts, initializing, low_term, pre_facts, pre_facts_on_entry, starting_with, var_facts}
+use Rattle.spx_paths.proofs.CutLists.{assume_all-append}
 use Rattle.spx_paths.proofs.BoundLaws.{only_grows, only_term, only_twice}
-
--- ---- trees
-pub assume_all-append : (ts us : List Term) (rest : Tree) → assume_all (ts ++ us) rest ≡ assume_all ts (assume_all us rest)
-assume_all-append [] us rest = refl
-assume_all-append (t ∷ ts) us rest = ap (Assume t) (assume_all-append ts us rest)
-
--- what is known of variables after each cut stands before what else is known
-pub cut_known : (p : Program) (sub : Sub) (within : List CoreCount) (known : List Term) (rest : Tree) → from_cut p sub within known rest ≡ assume_all (known_at_cuts p sub) (assume_all (else_known p sub within known) rest)
-cut_known p sub within known rest =
-    let a = flat_map (var_facts p) (formals sub) in
-    let b = flat_map (var_facts p) (locals sub) in
-    let c = flat_map (entry_facts p sub) (formals sub) in
-    let d = flat_map (count_facts p sub) within in
-    let e = pre_facts_on_entry p sub sub.pre in
-    let f = d ++ (e ++ known) in
-    let left : (a ++ (b ++ (c ++ (d ++ e)))) ++ known ≡ a ++ (b ++ (c ++ f)) =
-    append_assoc a (b ++ (c ++ (d ++ e))) known ∙ ap (λ ts. a ++ ts) (append_assoc b (c ++ (d ++ e)) known ∙ ap (λ ts. b ++ ts) (append_assoc c (d ++ e) known ∙ ap (λ ts. c ++ ts) (append_assoc d e known))) in
-    let right : (a ++ (b ++ c)) ++ f ≡ a ++ (b ++ (c ++ f)) = append_assoc a (b ++ c) f ∙ ap (λ ts. a ++ ts) (append_assoc b c f) in
-    ap (λ ts. assume_all ts rest) (left ∙ sym right) ∙ assume_all-append (known_at_cuts p sub) f rest
 
 -- ---- terms
 pub as_terms : {a b : Draft} {ids : List TermId} {ts : List Term} → InOrder a.steps → AddsAll a.steps.terms b.steps.terms ids ts → b.steps.nodes ≡ a.steps.nodes → b.checks ≡ a.checks → AddsTerms a b ids ts
@@ -128,6 +112,14 @@ meant_on_entry p sub interface e is = λ i. term_with (now_term p) (entry_terms 
 pub meant_at_entry : (p : Program) (sub : Sub) (interface : Bor Interface) (e : CoreExpr) → IsInterfaceOf sub interface.now → meant p (AtEntry interface) e ≡ term_with (entry_term p sub) (entry_term p sub) e
 meant_at_entry p sub interface e is = λ i. term_with (entry_terms p sub interface.now is i) (entry_terms p sub interface.now is i) e
 
+pub pre_at_start : (p : Program) (sub : Sub) (interface : Bor Interface) → IsInterfaceOf sub interface.now → (pre : Option CorePredicate) → pre_parts p (OnEntry interface) pre ≡ pre_facts p sub pre
+pre_at_start p sub interface is None = refl
+pre_at_start p sub interface is (Some pre) = ap conjuncts (meant_on_entry p sub interface pre.condition is)
+
+pub pre_on_entry : (p : Program) (sub : Sub) (interface : Bor Interface) → IsInterfaceOf sub interface.now → (pre : Option CorePredicate) → pre_parts p (AtEntry interface) pre ≡ pre_facts_on_entry p sub pre
+pre_on_entry p sub interface is None = refl
+pre_on_entry p sub interface is (Some pre) = ap conjuncts (meant_at_entry p sub interface pre.condition is)
+
 -- ---- steps of the start
 pub next_initialized : {a b c : Draft} {at id : StepId} (p : Program) (v : VarId) (vs : List VarId) (rest : Tree) → Lays a b at (initializing p vs rest) → Lays b c id (starting_with (now p v) (initial_value p v) (step_tree b.steps at)) → Lays a c id (initializing p (v ∷ vs) rest)
 next_initialized p v vs rest l m = record {
@@ -160,15 +152,6 @@ given_before {a} {terms} {s} value name t next u order w grows made step is =
     }
 
 -- ---- facts on each variable
-pub facts_next : {a b c : Draft} {zs : List TermId} (xs ys : List TermId) (f : VarId → List Term) (vs items : List VarId) (i : ℕ) (v d : VarId) → items ≡ vs → i < length items → v ≡ get_or items i d
-    → AddsMore a b xs ys (flat_map f (take i vs)) → AddsMore b c ys zs (f v) → AddsMore a c xs zs (flat_map f (take (i + 1) vs))
-facts_next xs ys f vs items i v d same w at first second =
-    let here : take (i + 1) vs ≡ take i vs ++ v ∷ [] = take_more vs i d (subst (λ (us : List VarId). i < length us) same w) ∙ (λ k. take i vs ++ (ap (λ (us : List VarId). get_or us i d) (sym same) ∙ sym at) k ∷ []) in
-    more_along xs (flat_map f (take i vs) ++ f v) (flat_map f (take (i + 1) vs)) (more_twice_known {ys = ys} xs (flat_map f (take i vs)) (f v) first second)
-    (sym (ap (flat_map f) here ∙ flat_map-append f (take i vs) (v ∷ []) ∙ ap (λ ts. flat_map f (take i vs) ++ ts) (append-nil (f v))))
-
-pub facts_done : {a b : Draft} {ys : List TermId} (xs : List TermId) (f : VarId → List Term) (vs items : List VarId) (i : ℕ) → items ≡ vs → length items ≤ i → AddsMore a b xs ys (flat_map f (take i vs)) → AddsMore a b xs ys (flat_map f vs)
-facts_done xs f vs items i same all m = more_along xs (flat_map f (take i vs)) (flat_map f vs) m (ap (flat_map f) (take_all i vs (subst (λ (us : List VarId). length us ≤ i) same all)))
 
 -- ---- the start
 pub first_known : {a b c : Draft} {ys : List TermId} (none xs : List TermId) (p : Program) (sub : Sub) → none ≡ [] → AddsMore a b none xs (flat_map (import_facts p sub) (formals sub)) → AddsMore b c xs ys (pre_facts p sub sub.pre) → AddsTerms a c ys (first_facts p sub)

@@ -25,12 +25,16 @@ use Rattle.spx_steps.specs.Trees.{AreRoots, AreSteps, InOrder, IsStep, MoreSteps
 use Rattle.spx_paths.specs.declared.body.BodySteps.{BodySteps}
 use Rattle.spx_paths.specs.declared.build.Body.{Body}
 use Rattle.spx_paths.specs.declared.build.Next.{Next}
-use Rattle.spx_paths.specs.EntryNames.{IsInterfaceOf}
+use Rattle.spx_core.specs.declared.subprogram.CorePredicate.{CorePredicate}
+use Rattle.spx_term.specs.Conjuncts.{conjuncts}
+use Rattle.spx_formula.specs.declared.entered.Entered.{Entered}
+use Rattle.spx_formula.specs.EntryNames.{IsInterfaceOf, meant}
 use Rattle.spx_paths.specs.declared.draft.Check.{Check}
 use Rattle.spx_paths.specs.declared.draft.Draft.{Draft}
 use Rattle.spx_paths.specs.Checks.{checks}
-use Rattle.spx_paths.specs.Terms.{now, now_term, term_of}
-use Rattle.spx_paths.specs.Walks.{again, as_far_as_cut, count_facts, cuts, decided, entering_loop, entry_facts, high_term, loop_cut, low_term, pre_facts_on_entry, range_goal, start_term, trees_of, var_facts, walk}
+use Rattle.spx_formula.specs.Terms.{now, now_term, term_of}
+use Rattle.spx_paths.specs.Walks.{again, as_far_as_cut, count_facts, cuts, decided, entering_loop, entry_facts, high_term, loop_cut, low_term, pre_facts_on_entry, start_term, trees_of, var_facts, walk}
+use Rattle.spx_formula.specs.Goals.{range_goal}
 
 -- checks before a tree
 abbrev pub laid : List Term → List Check → Tree → Tree
@@ -68,7 +72,7 @@ pub record Evaluates (p : Program) (old new : Draft) (e : CoreExpr) (id : TermId
   pub checks : (rest : Tree) → laid new.steps.terms new.checks rest ≡ checks p (now_term p) [] e rest
   pub made : IsId new.steps.terms id (term_of p (now_term p) e)
 
--- the checks of an expression wait behind those that waited, and the id is that of its term
+-- the checks of an expression wait after those that waited, and the id is that of its term
 pub record AlsoWaits (p : Program) (old new : Draft) (e : CoreExpr) (id : TermId) : Type 0 where
   pub order : InOrder new.steps
   pub grown : MoreSteps old.steps new.steps
@@ -107,6 +111,11 @@ pub record AddsTerms (old new : Draft) (ids : List TermId) (ts : List Term) : Ty
 -- the same, after terms that were there
 abbrev pub AddsMore : (old new : Draft) (before after : List TermId) → List Term → Type 0
 AddsMore old new before after ts = AddsTerms old new after (trees_at old.steps.terms before ++ ts)
+
+-- the parts of a precondition, where names stand so
+abbrev pub pre_parts : Program → Entered → Option CorePredicate → List Term
+pre_parts p entered None = []
+pre_parts p entered (Some pre) = conjuncts (meant p entered pre.condition)
 
 -- ---- cuts
 
@@ -198,15 +207,6 @@ pub record BuildsAlternatives (p : Program) (sub : Sub) (old new : Draft) (known
   pub stands : (on out : ℕ → Tree) → Stands old rest on → Stands old leave out → (made : ℕ) → option_map (step_tree new.steps) first ≡ all_taken p sub known alternatives on out made
 
 -- ---- loops, from where they are left
-
--- the position of the first statement that is itself an `assert`
-abbrev pub OwnCut : List CoreStmt → Option ℕ → Type 0
-OwnCut stmts None = has_own_cut (commands stmts) ≡ false
-OwnCut stmts (Some at) = (at < length stmts) × (has_own_cut (commands (take at stmts)) ≡ false) × IsAssert (slice_get stmts at)
-  where
-    IsAssert : Option CoreStmt → Type 0
-    IsAssert None = ⊥
-    IsAssert (Some stmt) = is_assert (command stmt) ≡ true
 
 -- a loop was made into steps: from there on are its turns, and where it is left
 pub record BuildsLoop (p : Program) (sub : Sub) (old new : Draft) (head : Head) (turn : Command) (leave : StepId) (id : StepId) : Type 0 where

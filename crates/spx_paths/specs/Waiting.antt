@@ -10,7 +10,7 @@ use Rattle.spx_arena.specs.Sharing.{tree_at}
 use Rattle.spx_steps.specs.Trees.{InOrder, MoreSteps}
 use Rattle.spx_paths.specs.Checks.{checks}
 use Rattle.spx_paths.specs.Drafts.{AreChecks, laid}
-use Rattle.spx_paths.specs.Terms.{now_term, term_of}
+use Rattle.spx_formula.specs.Terms.{now_term, term_of}
 use Rattle.spx_paths.specs.declared.draft.Draft.{Draft}
 
 -- all ids are those of terms and steps

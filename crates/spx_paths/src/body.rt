@@ -8,10 +8,10 @@ ghost use Rattle.spx_paths.specs.Walks.{ending};
 
 use crate::build::{Body, Next};
 use crate::draft::Draft;
-use crate::entered::Interface;
 use crate::within::Within;
 use crate::{MOST_PATHS, PathFault};
 use spx_core::{Program, Sub, SubId};
+use spx_formula::Interface;
 use spx_steps::{Path, Roots, StepId, Steps, has_many, paths_from};
 use spx_term::CondKind;
 use sqlite_items::Items;

@@ -4,17 +4,16 @@ ghost use Rattle.spx_core.specs.Commands.{Counted};
 ghost use Rattle.spx_term.specs.Steps.{Assign};
 ghost use Rattle.spx_term.specs.declared.term.TermOp.TheVariants.{Add, Greater, Less, Subtract};
 ghost use Rattle.spx_steps.specs.Trees.{InOrder, step_tree};
-ghost use Rattle.spx_paths.specs.Drafts.{AddsTerm, IsBegun, Lays, Makes, Ready, between_bounds};
-ghost use Rattle.spx_paths.specs.Terms.{now};
-ghost use Rattle.spx_paths.specs.Walks.{again, bound_term, end_term, enter_range, high_term, low_term, naming, past_loop, start_term};
+ghost use Rattle.spx_paths.specs.Drafts.{AddsTerm, Lays, Makes, Ready, between_bounds};
+ghost use Rattle.spx_formula.specs.EntryNames.{IsInterfaceOf};
+ghost use Rattle.spx_formula.specs.Terms.{now};
+ghost use Rattle.spx_paths.specs.Walks.{again, bound_term, enter_range, high_term, low_term, naming, past_loop, start_term};
 
 use crate::build::Body;
 use crate::draft::Draft;
-use crate::entered::is_fixed;
-use crate::goals::range_goal;
-use crate::names::{first_name, last_name, now};
 use spx_arena::{Node, TermId};
 use spx_core::{CoreCount, CoreExpr, CoreRange};
+use spx_formula::{first_name, is_fixed, last_name, now, range_goal};
 use spx_meaning::type_of;
 use spx_steps::StepId;
 use spx_term::{CondKind, Name, TermOp};
@@ -45,7 +44,7 @@ impl Draft {
     /// The id of a bound, which has a name unless it stands for itself.
     fn bound_id(&mut self, body: &Body, name: Name, expr: &CoreExpr) -> Result<TermId, AllocError>
         requires order { InOrder self.old.steps }
-        requires begun { IsBegun self.old body.now }
+        requires interface { IsInterfaceOf body.now.sub.now body.now.interface.now }
         ensures { IfOk result (λ id. AddsTerm self.old self.new id (bound_term body.now.program.now body.now.sub.now name expr.now)) }
     {
         if is_fixed(body.interface, expr) {
@@ -57,7 +56,7 @@ impl Draft {
     /// The id of the lower bound.
     pub fn low_id(&mut self, body: &Body, count: &CoreCount) -> Result<TermId, AllocError>
         requires order { InOrder self.old.steps }
-        requires begun { IsBegun self.old body.now }
+        requires interface { IsInterfaceOf body.now.sub.now body.now.interface.now }
         ensures { IfOk result (λ id. AddsTerm self.old self.new id (low_term body.now.program.now body.now.sub.now count.now)) }
     {
         match &count.bounds {
@@ -67,8 +66,7 @@ impl Draft {
             }
             Some(range) => {
                 let low = range.get().low.get();
-                let id = self.bound_id(body, first_name(count.parameter), low)?;
-                Ok(id)
+                self.bound_id(body, first_name(count.parameter), low)
             }
         }
     }
@@ -76,7 +74,7 @@ impl Draft {
     /// The id of the upper bound.
     pub fn high_id(&mut self, body: &Body, count: &CoreCount) -> Result<TermId, AllocError>
         requires order { InOrder self.old.steps }
-        requires begun { IsBegun self.old body.now }
+        requires interface { IsInterfaceOf body.now.sub.now body.now.interface.now }
         ensures { IfOk result (λ id. AddsTerm self.old self.new id (high_term body.now.program.now body.now.sub.now count.now)) }
     {
         match &count.bounds {
@@ -86,34 +84,26 @@ impl Draft {
             }
             Some(range) => {
                 let high = range.get().high.get();
-                let id = self.bound_id(body, last_name(count.parameter), high)?;
-                Ok(id)
+                self.bound_id(body, last_name(count.parameter), high)
             }
         }
     }
 
-    /// The id of the bound at which a loop begins.
-    fn start_id(&mut self, body: &Body, count: &CoreCount) -> Result<TermId, AllocError>
+    /// The id of the upper bound, or of the lower one.
+    fn limit_id(
+        &mut self,
+        body: &Body,
+        count: &CoreCount,
+        is_upper: bool,
+    ) -> Result<TermId, AllocError>
         requires order { InOrder self.old.steps }
-        requires begun { IsBegun self.old body.now }
-        ensures { IfOk result (λ id. AddsTerm self.old self.new id (start_term body.now.program.now body.now.sub.now count.now)) }
+        requires interface { IsInterfaceOf body.now.sub.now body.now.interface.now }
+        ensures { IfOk result (λ id. AddsTerm self.old self.new id (if is_upper then high_term body.now.program.now body.now.sub.now count.now else low_term body.now.program.now body.now.sub.now count.now)) }
     {
-        if count.is_reverse {
+        if is_upper {
             return self.high_id(body, count);
         }
         self.low_id(body, count)
-    }
-
-    /// The id of the bound at which it ends.
-    fn end_id(&mut self, body: &Body, count: &CoreCount) -> Result<TermId, AllocError>
-        requires order { InOrder self.old.steps }
-        requires begun { IsBegun self.old body.now }
-        ensures { IfOk result (λ id. AddsTerm self.old self.new id (end_term body.now.program.now body.now.sub.now count.now)) }
-    {
-        if count.is_reverse {
-            return self.low_id(body, count);
-        }
-        self.high_id(body, count)
     }
 
     /// A bound that does not stand for itself takes its value under its name.
@@ -125,7 +115,7 @@ impl Draft {
         next: StepId,
     ) -> Result<StepId, AllocError>
         requires order { InOrder self.old.steps }
-        requires begun { IsBegun self.old body.now }
+        requires interface { IsInterfaceOf body.now.sub.now body.now.interface.now }
         requires within { next.0 < length self.old.steps.nodes }
         ensures { IfOk result (λ id. Lays self.old self.new id (naming body.now.program.now body.now.sub.now name expr.now (step_tree self.old.steps next))) }
     {
@@ -144,11 +134,11 @@ impl Draft {
         into: StepId,
     ) -> Result<StepId, AllocError>
         requires order { InOrder self.old.steps }
-        requires begun { IsBegun self.old body.now }
+        requires interface { IsInterfaceOf body.now.sub.now body.now.interface.now }
         requires within { into.0 < length self.old.steps.nodes }
         ensures { IfOk result (λ id. Lays self.old self.new id (Assign (now body.now.program.now count.now.parameter) (start_term body.now.program.now body.now.sub.now count.now) (step_tree self.old.steps into))) }
     {
-        let start = self.start_id(body, count)?;
+        let start = self.limit_id(body, count, count.is_reverse)?;
         self.steps
             .assign(now(body.program, count.parameter), start, into)
     }
@@ -164,7 +154,7 @@ impl Draft {
         out: StepId,
     ) -> Result<StepId, AllocError>
         requires order { InOrder self.old.steps }
-        requires begun { IsBegun self.old body.now }
+        requires interface { IsInterfaceOf body.now.sub.now body.now.interface.now }
         requires within { (into.0 < length self.old.steps.nodes) × (out.0 < length self.old.steps.nodes) }
         ensures { IfOk result (λ id. Lays self.old self.new id (between_bounds body.now.program.now body.now.sub.now count.now place (step_tree self.old.steps into) (step_tree self.old.steps out))) }
     {
@@ -193,7 +183,7 @@ impl Draft {
         out: StepId,
     ) -> Result<StepId, AllocError>
         requires ready { Ready self.old }
-        requires begun { IsBegun self.old body.now }
+        requires interface { IsInterfaceOf body.now.sub.now body.now.interface.now }
         requires within { (into.0 < length self.old.steps.nodes) × (out.0 < length self.old.steps.nodes) }
         requires range { count.now.bounds ≡ Some range.now }
         ensures { IfOk result (λ id. Makes self.old self.new id (enter_range body.now.program.now body.now.sub.now count.now (Some range.now) (λ made. step_tree self.old.steps into) (λ made. step_tree self.old.steps out) 0)) }
@@ -218,16 +208,13 @@ impl Draft {
         out: StepId,
     ) -> Result<StepId, AllocError>
         requires ready { Ready self.old }
-        requires begun { IsBegun self.old body.now }
+        requires interface { IsInterfaceOf body.now.sub.now body.now.interface.now }
         requires within { (into.0 < length self.old.steps.nodes) × (out.0 < length self.old.steps.nodes) }
         ensures { IfOk result (λ id. Makes self.old self.new id (enter_range body.now.program.now body.now.sub.now count.now count.now.bounds (λ made. step_tree self.old.steps into) (λ made. step_tree self.old.steps out) 0)) }
     {
         match &count.bounds {
             None => self.begin_count(body, count, into),
-            Some(range) => {
-                let id = self.enter_range(alloc, body, count, range.get(), into, out)?;
-                Ok(id)
-            }
+            Some(range) => self.enter_range(alloc, body, count, range.get(), into, out),
         }
     }
 
@@ -257,7 +244,7 @@ impl Draft {
         out: StepId,
     ) -> Result<StepId, AllocError>
         requires ready { Ready self.old }
-        requires begun { IsBegun self.old body.now }
+        requires interface { IsInterfaceOf body.now.sub.now body.now.interface.now }
         requires within { (into.0 < length self.old.steps.nodes) × (out.0 < length self.old.steps.nodes) }
         ensures { IfOk result (λ id. Makes self.old self.new id (again body.now.program.now body.now.sub.now (Counted count.now) (λ made. step_tree self.old.steps into) (λ made. step_tree self.old.steps out) 0)) }
     {
@@ -265,7 +252,7 @@ impl Draft {
             .steps
             .terms
             .make(Node::Variable(now(body.program, count.parameter)))?;
-        let end = self.end_id(body, count)?;
+        let end = self.limit_id(body, count, !count.is_reverse)?;
         let one = self.steps.terms.make(Node::Number(1))?;
         let next = self.steps.terms.infix(step_op(count), value, one)?;
         let before = self.steps.terms.infix(test_op(count), value, end)?;

@@ -10,24 +10,22 @@ ghost use Rattle.spx_term.specs.declared.condition.CondKind.TheVariants.{Range};
 ghost use Rattle.spx_arena.specs.Claims.{AreIds, trees_at};
 ghost use Rattle.spx_arena.specs.Sharing.{tree_at};
 ghost use Rattle.spx_steps.specs.Trees.{InOrder, MoreSteps, step_tree};
-ghost use Rattle.spx_paths.specs.Checks.{checks, in_type};
-ghost use Rattle.spx_paths.specs.Drafts.{AddsCuts, Builds, BuildsAlternatives, BuildsArms, BuildsCuts, BuildsLoop, BuildsTurnCuts, IsBegun, Lays, Leads, Makes, OwnCut, Ready, Stands, alternative_cuts, arm_cuts, before_others, decided_tree, done_otherwise};
+ghost use Rattle.spx_paths.specs.Checks.{checks};
+ghost use Rattle.spx_formula.specs.Goals.{in_type};
+ghost use Rattle.spx_paths.specs.Drafts.{AddsCuts, Builds, BuildsAlternatives, BuildsArms, BuildsCuts, BuildsLoop, BuildsTurnCuts, IsBegun, Lays, Leads, Makes, Ready, Stands, alternative_cuts, arm_cuts, before_others, decided_tree, done_otherwise};
+ghost use Rattle.spx_formula.specs.OwnCuts.{OwnCut};
 ghost use Rattle.spx_paths.specs.Enclosing.{counts};
-ghost use Rattle.spx_paths.specs.Terms.{entry_term, now_term, term_of};
+ghost use Rattle.spx_formula.specs.Terms.{entry_term, now_term, term_of};
 ghost use Rattle.spx_paths.specs.Walks.{again, asserted, assigned, entering_loop, leaving, noted, noted_cut, one_before, range_check};
 
-use crate::choices::facts_of_all;
 use crate::draft::Draft;
-use crate::entered::{Entered, Interface};
-use crate::goals::in_type;
-use crate::names::now;
-use crate::terms::negated_id;
 use crate::within::Within;
 use spx_arena::{Node, TermId};
 use spx_core::{
     Class, CoreAlternative, CoreArm, CoreExpr, CoreScheme, CoreStmt, Entity, Program, Reference,
-    Sub, Subtype, has_own_cut, variable_of,
+    Sub, Subtype, variable_of,
 };
+use spx_formula::{Interface, facts_of_all, in_type, negated_id, now, own_cut};
 use spx_meaning::type_of;
 use spx_steps::StepId;
 use spx_term::CondKind;
@@ -35,7 +33,6 @@ use spx_text::Place;
 use spx_tree::AssertionKind;
 use sqlite_items::{Boxed, Items};
 use std::alloc::{AllocError, Global};
-use std::array;
 
 /// A subprogram whose body is made into steps, its program and its interface.
 #[derive(Clone, Copy)]
@@ -66,18 +63,6 @@ fn done_otherwise(otherwise: &Option<Boxed<Items<CoreStmt>>>) -> &[CoreStmt]
         Some(stmts) => stmts.get().as_slice(),
         None => &[],
     }
-}
-
-/// The position of the first of the statements that is itself an `assert`.
-fn own_cut(stmts: &[CoreStmt]) -> Option<usize>
-    ensures { OwnCut stmts.now result }
-{
-    for (i, stmt) in stmts.iter().enumerate() {
-        if has_own_cut(array::from_ref(stmt)) {
-            return Some(i);
-        }
-    }
-    None
 }
 
 impl Draft {
@@ -370,10 +355,7 @@ impl Draft {
     {
         match scheme {
             CoreScheme::While(_, _) => Ok(rest),
-            CoreScheme::For(count) => {
-                let id = self.leave_behind(body, count.get(), rest)?;
-                Ok(id)
-            }
+            CoreScheme::For(count) => self.leave_behind(body, count.get(), rest),
             CoreScheme::Endless => Ok(rest),
         }
     }
@@ -394,13 +376,9 @@ impl Draft {
     {
         match scheme {
             CoreScheme::While(_, condition) => {
-                let id = self.decided(alloc, body.program, condition.get(), false, into, out)?;
-                Ok(id)
+                self.decided(alloc, body.program, condition.get(), false, into, out)
             }
-            CoreScheme::For(count) => {
-                let id = self.count_on(body, count.get(), into, out)?;
-                Ok(id)
-            }
+            CoreScheme::For(count) => self.count_on(body, count.get(), into, out),
             CoreScheme::Endless => Ok(into),
         }
     }
@@ -425,10 +403,7 @@ impl Draft {
         match scheme {
             CoreScheme::While(_, _) => Ok(turn),
             CoreScheme::Endless => Ok(turn),
-            CoreScheme::For(count) => {
-                let id = self.counted(alloc, body, count.get(), into, out)?;
-                Ok(id)
-            }
+            CoreScheme::For(count) => self.counted(alloc, body, count.get(), into, out),
         }
     }
 

@@ -2,17 +2,15 @@
 ghost use Rattle.std.specs.Prelude.{◌<◌, length, IfOk, OnOk};
 ghost use Rattle.spx_term.specs.Steps.{check};
 ghost use Rattle.spx_arena.specs.Claims.{AreIds, trees_at};
-ghost use Rattle.spx_paths.specs.Checks.{guarded};
+ghost use Rattle.spx_formula.specs.Goals.{guarded};
 ghost use Rattle.spx_paths.specs.Waiting.{Finds, Keeps, Whole};
 ghost use Rattle.spx_steps.specs.Trees.{InOrder, step_tree};
 ghost use Rattle.spx_paths.specs.Drafts.{AddsTerm, AlsoWaits, AreChecks, Evaluates, Makes, Ready, laid};
-ghost use Rattle.spx_paths.specs.Terms.{now_term, term_of};
+ghost use Rattle.spx_formula.specs.Terms.{now_term, term_of};
 
-use crate::entered::Entered;
-use crate::goals::guarded;
-use crate::terms::term_id;
 use spx_arena::TermId;
 use spx_core::{CoreExpr, Program};
+use spx_formula::{Entered, guarded, term_id};
 use spx_steps::{StepId, Steps};
 use spx_term::CondKind;
 use spx_text::Place;
@@ -58,7 +56,7 @@ impl Draft {
         Ok(id)
     }
 
-    /// The checks of an expression wait behind those that wait, and this is its term.
+    /// The checks of an expression wait after those that wait, and this is its term.
     pub fn also_checked(
         &mut self,
         alloc: Global,

@@ -6,12 +6,12 @@ use Rattle.spx_core.specs.declared.program.Program.{Program}
 use Rattle.spx_core.specs.Places.{place_of}
 use Rattle.spx_term.specs.declared.term.Term.TheVariants.{Number}
 use Rattle.spx_term.specs.Folding.{term_of as static_term}
-use Rattle.spx_paths.specs.Terms.{now_term}
+use Rattle.spx_formula.specs.Terms.{now_term}
 use Rattle.spx_arena.specs.declared.terms.TermId.{TermId}
 use Rattle.spx_paths.specs.declared.draft.Draft.{Draft}
 use Rattle.spx_paths.specs.Waiting.{Checked}
 use Rattle.spx_paths.proofs.CheckSteps.{eval_applied, eval_free, eval_in_range, eval_in_type, eval_infix, eval_parenthesized, eval_prefix, eval_static, id_kept, ids_kept, keeps_twice, only_gives, only_keeps, term_gives, term_keeps}
-use Rattle.spx_paths.proofs.Expressions.{attribute_free, entry_free, name_free, number_free}
+use Rattle.spx_paths.proofs.CheckLaws.{attribute_free, entry_free, name_free, number_free}
 use Rattle.spx_paths.proofs.draft.Draft.+checked_id.Goals as goal
 
 -- the part that a box holds
@@ -51,49 +51,67 @@ checked_id-returns-in_ok-code_id-in-Attribute-clause-makes t c = eval_free (term
 pub checked_id-returns-in_ok-checked_id-in-Parenthesized-clause-makes : goal.checked_id-returns-in_ok-checked_id-in-Parenthesized-clause-makes
 checked_id-returns-in_ok-checked_id-in-Parenthesized-clause-makes t c = eval_parenthesized c.in-Parenthesized.field-0 c.in-Parenthesized.inner c.in-Parenthesized.is (at_part c.get.ensures c.in_ok-checked_id-in-Parenthesized.ensures.makes)
 
+pub checked_id-check_sign-requires-clause-whole : goal.checked_id-check_sign-requires-clause-whole
+checked_id-check_sign-requires-clause-whole t c = (only_keeps c.in_ok-operand-in-Prefix.ensures.keeps.whole c.in_ok-id-in-Prefix.ensures.grown).whole
+
+pub checked_id-check_sign-requires-clause-lefts : goal.checked_id-check_sign-requires-clause-lefts
+checked_id-check_sign-requires-clause-lefts t c = let k = c.in_ok-operand-in-Prefix.ensures.keeps in ids_kept (keeps_twice k (only_keeps k.whole c.in_ok-id-in-Prefix.ensures.grown)) c.args.lefts.now c.requires.lefts
+
 pub checked_id-returns-in_ok-check_sign-in-Prefix-clause-keeps : goal.checked_id-returns-in_ok-check_sign-in-Prefix-clause-keeps
-checked_id-returns-in_ok-check_sign-in-Prefix-clause-keeps t c = keeps_twice c.in_ok-operand-in-Prefix.ensures.keeps (keeps_twice c.in_ok-id-in-Prefix.ensures.keeps c.in_ok-check_sign-in-Prefix.ensures.keeps)
+checked_id-returns-in_ok-check_sign-in-Prefix-clause-keeps t c = let k = c.in_ok-operand-in-Prefix.ensures.keeps in keeps_twice k (keeps_twice (only_keeps k.whole c.in_ok-id-in-Prefix.ensures.grown) c.in_ok-check_sign-in-Prefix.ensures.keeps)
 
 pub checked_id-returns-in_ok-check_sign-in-Prefix-clause-within : goal.checked_id-returns-in_ok-check_sign-in-Prefix-clause-within
-checked_id-returns-in_ok-check_sign-in-Prefix-clause-within t c = id_kept c.in_ok-check_sign-in-Prefix.ensures.keeps _ c.in_ok-id-in-Prefix.ensures.within
+checked_id-returns-in_ok-check_sign-in-Prefix-clause-within t c = id_kept c.in_ok-check_sign-in-Prefix.ensures.keeps _ c.in_ok-id-in-Prefix.ensures.made.within
 
 pub checked_id-returns-in_ok-check_sign-in-Prefix-clause-makes : goal.checked_id-returns-in_ok-check_sign-in-Prefix-clause-makes
 checked_id-returns-in_ok-check_sign-in-Prefix-clause-makes t c =
     eval_prefix c.in_default.ensures c.requires.lefts c.in-Prefix.op c.in-Prefix.place c.in-Prefix.operand c.in-Prefix.is
-    c.in_ok-operand-in-Prefix.ensures.keeps c.in_ok-operand-in-Prefix.ensures.within (at_part c.get-in-Prefix.ensures c.in_ok-operand-in-Prefix.ensures.makes)
-    c.in_ok-id-in-Prefix.ensures.keeps c.in_ok-id-in-Prefix.ensures.within c.in_ok-id-in-Prefix.ensures.makes
+    c.in_ok-operand-in-Prefix.ensures.keeps (at_part c.get-in-Prefix.ensures c.in_ok-operand-in-Prefix.ensures.makes) c.in_ok-id-in-Prefix.ensures
     c.in_ok-check_sign-in-Prefix.ensures.keeps c.base_of.ensures c.in_ok-check_sign-in-Prefix.ensures.walks
 
+pub checked_applied-check_mapping-requires-clause-whole : goal.checked_applied-check_mapping-requires-clause-whole
+checked_applied-check_mapping-requires-clause-whole t c = (only_keeps c.in_ok-first.ensures.keeps.whole c.in_ok-id.ensures.grown).whole
+
+pub checked_applied-check_mapping-requires-clause-lefts : goal.checked_applied-check_mapping-requires-clause-lefts
+checked_applied-check_mapping-requires-clause-lefts t c = let k = c.in_ok-first.ensures.keeps in ids_kept (keeps_twice k (only_keeps k.whole c.in_ok-id.ensures.grown)) c.args.lefts.now c.requires.lefts
+
 pub checked_applied-returns-clause-keeps : goal.checked_applied-returns-clause-keeps
-checked_applied-returns-clause-keeps t c = keeps_twice c.in_ok-first.ensures.keeps (keeps_twice c.in_ok-id.ensures.keeps c.in_ok-check_mapping.ensures.keeps)
+checked_applied-returns-clause-keeps t c = let k = c.in_ok-first.ensures.keeps in keeps_twice k (keeps_twice (only_keeps k.whole c.in_ok-id.ensures.grown) c.in_ok-check_mapping.ensures.keeps)
 
 pub checked_applied-returns-clause-within : goal.checked_applied-returns-clause-within
-checked_applied-returns-clause-within t c = id_kept c.in_ok-check_mapping.ensures.keeps _ c.in_ok-id.ensures.within
+checked_applied-returns-clause-within t c = id_kept c.in_ok-check_mapping.ensures.keeps _ c.in_ok-id.ensures.made.within
 
 pub checked_applied-returns-clause-makes : goal.checked_applied-returns-clause-makes
 checked_applied-returns-clause-makes t c =
     eval_applied c.requires.none c.requires.lefts c.in-Applied.function c.in-Applied.field-1 c.in-Applied.operand c.in-Applied.is
-    c.in_ok-first.ensures.keeps c.in_ok-first.ensures.within (at_part c.get-2.ensures c.in_ok-first.ensures.makes)
-    c.in_ok-id.ensures.keeps c.in_ok-id.ensures.within c.shift_of.ensures c.in_ok-id.ensures.makes
+    c.in_ok-first.ensures.keeps (at_part c.get-2.ensures c.in_ok-first.ensures.makes) c.shift_of.ensures c.in_ok-id.ensures
     c.in_ok-check_mapping.ensures.keeps c.application-mapping.ensures (c.place-at.ensures ∙ ap place_of c.get.ensures) c.in_ok-check_mapping.ensures.walks
 
-pub checked_applied-check_mapping-requires-clause-lefts : goal.checked_applied-check_mapping-requires-clause-lefts
-checked_applied-check_mapping-requires-clause-lefts t c = ids_kept (keeps_twice c.in_ok-first.ensures.keeps c.in_ok-id.ensures.keeps) c.args.lefts.now c.requires.lefts
+pub checked_infix-right_lefts-requires-clause-lefts : goal.checked_infix-right_lefts-requires-clause-lefts
+checked_infix-right_lefts-requires-clause-lefts t c = ids_kept c.in_ok-first.ensures.keeps c.args.lefts.now c.requires.lefts
+
+pub checked_infix-check_operation-requires-clause-whole : goal.checked_infix-check_operation-requires-clause-whole
+checked_infix-check_operation-requires-clause-whole t c = (only_keeps c.in_ok-second.ensures.keeps.whole c.in_ok-id.ensures.added.grown).whole
+
+pub checked_infix-check_operation-requires-clause-lefts : goal.checked_infix-check_operation-requires-clause-lefts
+checked_infix-check_operation-requires-clause-lefts t c =
+    let k = c.in_ok-second.ensures.keeps in
+    ids_kept (keeps_twice c.in_ok-first.ensures.keeps (keeps_twice c.in_ok-guards.ensures.keeps (keeps_twice k (only_keeps k.whole c.in_ok-id.ensures.added.grown)))) c.args.lefts.now c.requires.lefts
 
 pub checked_infix-returns-clause-keeps : goal.checked_infix-returns-clause-keeps
 checked_infix-returns-clause-keeps t c =
-    keeps_twice c.in_ok-first.ensures.keeps (keeps_twice c.in_ok-guards.ensures.keeps (keeps_twice c.in_ok-second.ensures.keeps (keeps_twice c.in_ok-id.ensures.keeps c.in_ok-check_operation.ensures.keeps)))
+    let k = c.in_ok-second.ensures.keeps in
+    keeps_twice c.in_ok-first.ensures.keeps (keeps_twice c.in_ok-guards.ensures.keeps (keeps_twice k (keeps_twice (only_keeps k.whole c.in_ok-id.ensures.added.grown) c.in_ok-check_operation.ensures.keeps)))
 
 pub checked_infix-returns-clause-within : goal.checked_infix-returns-clause-within
-checked_infix-returns-clause-within t c = id_kept c.in_ok-check_operation.ensures.keeps _ c.in_ok-id.ensures.within
+checked_infix-returns-clause-within t c = id_kept c.in_ok-check_operation.ensures.keeps _ c.in_ok-id.ensures.added.made.within
 
 pub checked_infix-returns-clause-makes : goal.checked_infix-returns-clause-makes
 checked_infix-returns-clause-makes t c =
     eval_infix c.requires.none c.requires.lefts c.in-Infix.op c.in-Infix.place c.in-Infix.left c.in-Infix.right c.in-Infix.is
     c.in_ok-first.ensures.keeps c.in_ok-first.ensures.within (at_part c.get-2.ensures c.in_ok-first.ensures.makes)
     c.in_ok-guards.ensures.keeps c.in_ok-guards.ensures.walks c.in_ok-guards.ensures.lefts c.as_slice.ensures
-    c.in_ok-second.ensures.keeps c.in_ok-second.ensures.within (at_part c.get-3.ensures c.in_ok-second.ensures.makes)
-    c.in_ok-id.ensures.keeps c.in_ok-id.ensures.within c.in_ok-id.ensures.makes
+    c.in_ok-second.ensures.keeps c.in_ok-second.ensures.within (at_part c.get-3.ensures c.in_ok-second.ensures.makes) c.term_op.ensures c.in_ok-id.ensures.added
     c.in_ok-check_operation.ensures.keeps c.base_of.ensures (c.place.ensures ∙ ap place_of c.get.ensures) c.in_ok-check_operation.ensures.walks
 
 pub checked_in_type-returns-clause-keeps : goal.checked_in_type-returns-clause-keeps
@@ -101,7 +119,7 @@ checked_in_type-returns-clause-keeps t c =
     let k = c.in_ok-tested.ensures.keeps in
     let low = only_keeps k.whole c.in_ok-low.ensures.added.grown in
     let high = only_keeps low.whole c.in_ok-high.ensures.added.grown in
-    keeps_twice k (keeps_twice low (keeps_twice high c.in_ok-id.ensures.keeps))
+    keeps_twice k (keeps_twice low (keeps_twice high (only_keeps high.whole c.in_ok-id.ensures.grown)))
 
 pub checked_in_type-returns-clause-makes : goal.checked_in_type-returns-clause-makes
 checked_in_type-returns-clause-makes t c =
@@ -110,35 +128,9 @@ checked_in_type-returns-clause-makes t c =
     let low = only_keeps k.whole c.in_ok-low.ensures.added.grown in
     let high = only_keeps low.whole c.in_ok-high.ensures.added.grown in
     eval_in_type c.requires.none c.requires.lefts c.in-InType.op c.in-InType.field-1 c.in-InType.tested c.in-InType.name c.in-InType.is c.subtype_of-subtype.ensures
-    k c.in_ok-tested.ensures.within (at_part c.get.ensures c.in_ok-tested.ensures.makes)
+    c.in_ok-tested.ensures.within (at_part c.get.ensures c.in_ok-tested.ensures.makes)
     low c.in_ok-low.ensures.added.made.within (only_gives k.whole (Number subtype.first) c.in_ok-low.ensures.added (ap Number (to_z-of_z w128 subtype.first (search rules))))
-    high c.in_ok-high.ensures.added.made.within (only_gives low.whole (Number subtype.last) c.in_ok-high.ensures.added (ap Number (to_z-of_z w128 subtype.last (search rules)))) c.in_ok-id.ensures.makes
-
-pub checked_in_type-member_id-requires-clause-whole : goal.checked_in_type-member_id-requires-clause-whole
-checked_in_type-member_id-requires-clause-whole t c =
-    let low = only_keeps c.in_ok-tested.ensures.keeps.whole c.in_ok-low.ensures.added.grown in
-    (only_keeps low.whole c.in_ok-high.ensures.added.grown).whole
-
-pub checked_id-returns-in_ok-member_id-in-InRange-clause-keeps : goal.checked_id-returns-in_ok-member_id-in-InRange-clause-keeps
-checked_id-returns-in_ok-member_id-in-InRange-clause-keeps t c =
-    keeps_twice c.in_ok-tested-in-InRange.ensures.keeps (keeps_twice c.in_ok-low-in-InRange.ensures.keeps (keeps_twice c.in_ok-high-in-InRange.ensures.keeps c.in_ok-member_id-in-InRange.ensures.keeps))
-
-pub checked_id-returns-in_ok-member_id-in-InRange-clause-makes : goal.checked_id-returns-in_ok-member_id-in-InRange-clause-makes
-checked_id-returns-in_ok-member_id-in-InRange-clause-makes t c =
-    eval_in_range c.in_default.ensures c.requires.lefts c.in-InRange.op c.in-InRange.field-1 c.in-InRange.tested c.in-InRange.low c.in-InRange.high c.in-InRange.is
-    c.in_ok-tested-in-InRange.ensures.keeps c.in_ok-tested-in-InRange.ensures.within (at_part c.get-in-InRange.ensures c.in_ok-tested-in-InRange.ensures.makes)
-    c.in_ok-low-in-InRange.ensures.keeps c.in_ok-low-in-InRange.ensures.within (at_part c.get-in-InRange-2.ensures c.in_ok-low-in-InRange.ensures.makes)
-    c.in_ok-high-in-InRange.ensures.keeps c.in_ok-high-in-InRange.ensures.within (at_part c.get-in-InRange-3.ensures c.in_ok-high-in-InRange.ensures.makes) c.in_ok-member_id-in-InRange.ensures.makes
-
-pub checked_id-check_sign-requires-clause-lefts : goal.checked_id-check_sign-requires-clause-lefts
-checked_id-check_sign-requires-clause-lefts t c = ids_kept (keeps_twice c.in_ok-operand-in-Prefix.ensures.keeps c.in_ok-id-in-Prefix.ensures.keeps) c.args.lefts.now c.requires.lefts
-
-pub checked_infix-right_lefts-requires-clause-lefts : goal.checked_infix-right_lefts-requires-clause-lefts
-checked_infix-right_lefts-requires-clause-lefts t c = ids_kept c.in_ok-first.ensures.keeps c.args.lefts.now c.requires.lefts
-
-pub checked_infix-check_operation-requires-clause-lefts : goal.checked_infix-check_operation-requires-clause-lefts
-checked_infix-check_operation-requires-clause-lefts t c =
-    ids_kept (keeps_twice c.in_ok-first.ensures.keeps (keeps_twice c.in_ok-guards.ensures.keeps (keeps_twice c.in_ok-second.ensures.keeps c.in_ok-id.ensures.keeps))) c.args.lefts.now c.requires.lefts
+    high (only_gives low.whole (Number subtype.last) c.in_ok-high.ensures.added (ap Number (to_z-of_z w128 subtype.last (search rules)))) c.in_ok-id.ensures
 
 pub checked_id-checked_id-requires-in-InRange-2 : goal.checked_id-checked_id-requires-in-InRange-2
 checked_id-checked_id-requires-in-InRange-2 t c =
@@ -149,3 +141,15 @@ pub checked_id-checked_id-requires-in-InRange-3 : goal.checked_id-checked_id-req
 checked_id-checked_id-requires-in-InRange-3 t c =
     let k = keeps_twice c.in_ok-tested-in-InRange.ensures.keeps c.in_ok-low-in-InRange.ensures.keeps in
     (search (rules, the_lemmas), (k.whole, ids_kept k c.args.lefts.now c.requires.lefts))
+
+pub checked_id-returns-in_ok-member_id-in-InRange-clause-keeps : goal.checked_id-returns-in_ok-member_id-in-InRange-clause-keeps
+checked_id-returns-in_ok-member_id-in-InRange-clause-keeps t c =
+    let k = c.in_ok-high-in-InRange.ensures.keeps in
+    keeps_twice c.in_ok-tested-in-InRange.ensures.keeps (keeps_twice c.in_ok-low-in-InRange.ensures.keeps (keeps_twice k (only_keeps k.whole c.in_ok-member_id-in-InRange.ensures.grown)))
+
+pub checked_id-returns-in_ok-member_id-in-InRange-clause-makes : goal.checked_id-returns-in_ok-member_id-in-InRange-clause-makes
+checked_id-returns-in_ok-member_id-in-InRange-clause-makes t c =
+    eval_in_range c.in_default.ensures c.requires.lefts c.in-InRange.op c.in-InRange.field-1 c.in-InRange.tested c.in-InRange.low c.in-InRange.high c.in-InRange.is
+    c.in_ok-tested-in-InRange.ensures.keeps c.in_ok-tested-in-InRange.ensures.within (at_part c.get-in-InRange.ensures c.in_ok-tested-in-InRange.ensures.makes)
+    c.in_ok-low-in-InRange.ensures.keeps c.in_ok-low-in-InRange.ensures.within (at_part c.get-in-InRange-2.ensures c.in_ok-low-in-InRange.ensures.makes)
+    c.in_ok-high-in-InRange.ensures.keeps (at_part c.get-in-InRange-3.ensures c.in_ok-high-in-InRange.ensures.makes) c.in_ok-member_id-in-InRange.ensures

@@ -9,7 +9,7 @@ use Rattle.spx_arena.specs.Sharing.{tree_at}
 use Rattle.spx_arena.proofs.Ids.{wider_ids}
 use Rattle.spx_steps.specs.Trees.{step_tree}
 use Rattle.spx_steps.proofs.Arena.{more_not, more_twice, more_terms, order_kept}
-use Rattle.spx_paths.specs.Terms.{now_term, term_of}
+use Rattle.spx_formula.specs.Terms.{now_term, term_of}
 use Rattle.spx_paths.specs.Drafts.{AddsCuts, Builds, BuildsAlternatives, BuildsArms, BuildsCuts, Stands, arm_cuts}
 use Rattle.spx_paths.specs.Enclosing.{counts}
 use Rattle.spx_paths.proofs.BuildLaws.{all_arms, alternatives_begin, as_many_facts, begun_kept, builds_as, builds_next, builds_not, builds_within, case_begins, cuts_as, cuts_of_case, cuts_of_if, decided_as, facts_known, known_within, leads_kept, more_with, next_alternative, next_alternative_cuts, next_cuts, no_arms, no_cuts, no_parts, none_selected, one_arm, one_part, ready_with, reversed_more, selected, with_terms}
@@ -331,12 +331,6 @@ loop_with_cut-returns-clause-made t c =
 -- ---- loop_without_cut
 pub loop_without_cut-from_cut-requires-clause-order : goal.loop_without_cut-from_cut-requires-clause-order
 loop_without_cut-from_cut-requires-clause-order t c = order_kept {old = c.stmts.new.self.steps} {new = record { terms = c.make.new.self; nodes = c.stmts.new.self.steps.nodes }} c.in_ok-first.ensures.made.ready.order c.in_ok-truth.ensures.grown refl
-
-pub loop_without_cut-from_cut-requires-clause-begun : goal.loop_without_cut-from_cut-requires-clause-begun
-loop_without_cut-from_cut-requires-clause-begun t c =
-    let first = c.in_ok-first.ensures.made in
-    let m = more_terms {old = c.stmts.new.self.steps} {new = record { terms = c.make.new.self; nodes = c.stmts.new.self.steps.nodes }} first.ready.order c.in_ok-truth.ensures.grown refl in
-    begun_kept {b = record { steps = record { terms = c.make.new.self; nodes = c.stmts.new.self.steps.nodes }; checks = c.stmts.new.self.checks }} c.requires.begun (more_twice c.in_ok-again.ensures.grown (more_twice first.grown m))
 
 pub loop_without_cut-from_cut-requires-clause-within : goal.loop_without_cut-from_cut-requires-clause-within
 loop_without_cut-from_cut-requires-clause-within t c =

@@ -1,22 +1,10 @@
 use Rattle.std.proofs.Common.{refl}
-use Rattle.spx_steps.proofs.Arena.{more_twice}
-use Rattle.spx_paths.proofs.BoundLaws.{only_grows, order_terms}
-use Rattle.spx_paths.proofs.BuildLaws.{begun_kept}
+use Rattle.spx_paths.proofs.BoundLaws.{order_terms}
 use Rattle.spx_paths.proofs.KnownLaws.{bounds_more}
 use Rattle.spx_paths.proofs.draft.Draft.add_count.Goals as goal
 
 pub low_id-requires-clause-order : goal.low_id-requires-clause-order
 low_id-requires-clause-order c = order_terms c.in_ok-add_value.ensures.order c.in_ok-value.ensures.grown
-
-pub low_id-requires-clause-begun : goal.low_id-requires-clause-begun
-low_id-requires-clause-begun c =
-    let only = only_grows {a = c.add_value.new.self} {b = record { steps = record { terms = c.make.new.self; nodes = c.add_value.new.self.steps.nodes }; checks = c.add_value.new.self.checks }} c.in_ok-add_value.ensures.order c.in_ok-value.ensures.grown refl refl in
-    begun_kept c.requires.begun (more_twice c.in_ok-add_value.ensures.grown only.grown)
-
-pub high_id-requires-clause-begun : goal.high_id-requires-clause-begun
-high_id-requires-clause-begun c =
-    let only = only_grows {a = c.add_value.new.self} {b = record { steps = record { terms = c.make.new.self; nodes = c.add_value.new.self.steps.nodes }; checks = c.add_value.new.self.checks }} c.in_ok-add_value.ensures.order c.in_ok-value.ensures.grown refl refl in
-    begun_kept c.requires.begun (more_twice c.in_ok-add_value.ensures.grown (more_twice only.grown c.in_ok-low.ensures.grown))
 
 pub returns : goal.returns
 returns c =

@@ -3,7 +3,7 @@ use Rattle.std.proofs.lemmas.Result.{IfOk-weaker}
 use Rattle.spx_term.specs.declared.term.Name.{Name}
 use Rattle.spx_term.specs.Steps.{Assign}
 use Rattle.spx_steps.specs.Trees.{step_tree}
-use Rattle.spx_paths.specs.Terms.{now}
+use Rattle.spx_formula.specs.Terms.{now}
 use Rattle.spx_paths.specs.Walks.{start_term}
 use Rattle.spx_paths.proofs.BoundLaws.{lays_given}
 use Rattle.spx_paths.proofs.draft.Draft.begin_count.Goals as goal

@@ -2,7 +2,7 @@ use Rattle.std.proofs.Common.{rules}
 use Rattle.std.proofs.lemmas.Int.{to_z-of_z}
 use Rattle.std.specs.Int.{w128}
 use Rattle.spx_term.specs.declared.condition.CondKind.TheVariants.{Overflow}
-use Rattle.spx_paths.specs.Checks.{in_range}
+use Rattle.spx_formula.specs.Goals.{in_range}
 use Rattle.spx_paths.proofs.CheckSteps.{check_made, ids_kept, keeps_twice, only_keeps}
 use Rattle.spx_paths.proofs.draft.Draft.check_base.Goals as goal
 

@@ -3,7 +3,8 @@ use Rattle.std.proofs.lemmas.Int.{to_z-of_z}
 use Rattle.std.specs.Int.{w128}
 use Rattle.spx_core.specs.declared.function.Span.{Span}
 use Rattle.spx_term.specs.declared.condition.CondKind.TheVariants.{Range}
-use Rattle.spx_paths.specs.Checks.{bounds_check, in_range}
+use Rattle.spx_paths.specs.Checks.{bounds_check}
+use Rattle.spx_formula.specs.Goals.{in_range}
 use Rattle.spx_paths.proofs.CheckSteps.{check_made, finds_along, finds_not, ids_kept, keeps_not, keeps_twice, only_keeps}
 use Rattle.spx_paths.proofs.draft.Draft.check_bounds.Goals as goal
 

@@ -1,15 +1,16 @@
 use Rattle.std.proofs.Common.{◌≡◌, true, ap, arith}
+use Rattle.std.proofs.lemmas.Result.{on_ok_weaker}
 use Rattle.spx_tree.specs.declared.expression.InfixOp.{InfixOp}
 use Rattle.spx_paths.specs.Checks.{operation_check}
 use Rattle.spx_paths.proofs.Operators.{is_base, is_rest, op_base, op_free, op_rest}
 use Rattle.spx_paths.proofs.CheckSteps.{all_kept, ids_kept, keeps_not, keeps_twice, means_kept, finds_along, finds_not, finds_twice}
 use Rattle.spx_paths.proofs.draft.Draft.check_operation.Goals as goal
 
-pub returns-in_ok-check_base-in-Add-clause-walks : goal.returns-in_ok-check_base-in-Add-clause-walks
-returns-in_ok-check_base-in-Add-clause-walks c = λ ls b t ml mb mt.
+pub returns-in-Add-clause-walks : goal.returns-in-Add-clause-walks
+returns-in-Add-clause-walks c =
     let o = c.args.operation in
     let is : is_base o.op ≡ true = grind (arith, c.in-Add.is) in
-    finds_along (op_base ls o.op o.base o.place o.at b t is) (c.in_ok-check_base-in-Add.ensures.walks ls t ml mt)
+    on_ok_weaker c.check_base.result (λ walks ls b t ml mb mt. finds_along (op_base ls o.op o.base o.place o.at b t is) (walks ls t ml mt)) c.check_base.ensures.walks
 
 pub returns-in_ok-check_base-in-Divide-clause-keeps : goal.returns-in_ok-check_base-in-Divide-clause-keeps
 returns-in_ok-check_base-in-Divide-clause-keeps c = keeps_twice c.in_ok-check_divisor-in-Divide.ensures.keeps c.in_ok-check_base-in-Divide.ensures.keeps
@@ -21,11 +22,11 @@ returns-in_ok-check_base-in-Divide-clause-walks c = λ ls b t ml mb mt.
     finds_along (λ rest. ap (λ (x : InfixOp). operation_check ls x o.base o.place o.at b t rest) c.in-Divide.is)
     (finds_twice (c.in_ok-check_divisor-in-Divide.ensures.walks ls b ml mb) (c.in_ok-check_base-in-Divide.ensures.walks ls t (all_kept k c.requires.lefts ml) (means_kept k c.requires.within.1 mt)))
 
-pub returns-in_ok-check_divisor-in-Mod-clause-walks : goal.returns-in_ok-check_divisor-in-Mod-clause-walks
-returns-in_ok-check_divisor-in-Mod-clause-walks c = λ ls b t ml mb mt.
+pub returns-in-Mod-clause-walks : goal.returns-in-Mod-clause-walks
+returns-in-Mod-clause-walks c =
     let o = c.args.operation in
     let is : is_rest o.op ≡ true = grind (arith, c.in-Mod.is) in
-    finds_along (op_rest ls o.op o.base o.place o.at b t is) (c.in_ok-check_divisor-in-Mod.ensures.walks ls b ml mb)
+    on_ok_weaker c.check_divisor-in-Mod.result (λ walks ls b t ml mb mt. finds_along (op_rest ls o.op o.base o.place o.at b t is) (walks ls b ml mb)) c.check_divisor-in-Mod.ensures.walks
 
 pub returns-in_ok-check_base-in-Power-clause-keeps : goal.returns-in_ok-check_base-in-Power-clause-keeps
 returns-in_ok-check_base-in-Power-clause-keeps c = keeps_twice c.in_ok-check_exponent-in-Power.ensures.keeps c.in_ok-check_base-in-Power.ensures.keeps

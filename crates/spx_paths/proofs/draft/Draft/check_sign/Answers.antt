@@ -1,4 +1,5 @@
 use Rattle.std.proofs.Common.{ap}
+use Rattle.std.proofs.lemmas.Result.{on_ok_weaker}
 use Rattle.spx_tree.specs.declared.expression.PrefixOp.{PrefixOp}
 use Rattle.spx_paths.specs.Checks.{sign_check}
 use Rattle.spx_paths.proofs.CheckSteps.{keeps_not, finds_along, finds_not}
@@ -10,11 +11,11 @@ returns-in-Plus-clause-keeps c = keeps_not c.requires.whole
 pub returns-in-Plus-clause-walks : goal.returns-in-Plus-clause-walks
 returns-in-Plus-clause-walks c = λ ls t ml m. finds_along (λ rest. ap (λ (x : PrefixOp). sign_check ls x c.args.base c.args.place t rest) c.in-Plus.is) (finds_not c.args.self.now)
 
-pub returns-in_ok-check_base-in-Minus-clause-walks : goal.returns-in_ok-check_base-in-Minus-clause-walks
-returns-in_ok-check_base-in-Minus-clause-walks c = λ ls t ml m. finds_along (λ rest. ap (λ (x : PrefixOp). sign_check ls x c.args.base c.args.place t rest) c.in-Minus.is) (c.in_ok-check_base-in-Minus.ensures.walks ls t ml m)
+pub returns-in-Minus-clause-walks : goal.returns-in-Minus-clause-walks
+returns-in-Minus-clause-walks c = on_ok_weaker c.check_base.result (λ walks ls t ml m. finds_along (λ rest. ap (λ (x : PrefixOp). sign_check ls x c.args.base c.args.place t rest) c.in-Minus.is) (walks ls t ml m)) c.check_base.ensures.walks
 
-pub returns-in_ok-check_base-in-Abs-clause-walks : goal.returns-in_ok-check_base-in-Abs-clause-walks
-returns-in_ok-check_base-in-Abs-clause-walks c = λ ls t ml m. finds_along (λ rest. ap (λ (x : PrefixOp). sign_check ls x c.args.base c.args.place t rest) c.in-Abs.is) (c.in_ok-check_base-in-Abs.ensures.walks ls t ml m)
+pub returns-in-Abs-clause-walks : goal.returns-in-Abs-clause-walks
+returns-in-Abs-clause-walks c = on_ok_weaker c.check_base-in-Abs.result (λ walks ls t ml m. finds_along (λ rest. ap (λ (x : PrefixOp). sign_check ls x c.args.base c.args.place t rest) c.in-Abs.is) (walks ls t ml m)) c.check_base-in-Abs.ensures.walks
 
 pub returns-in-Not-clause-keeps : goal.returns-in-Not-clause-keeps
 returns-in-Not-clause-keeps c = keeps_not c.requires.whole

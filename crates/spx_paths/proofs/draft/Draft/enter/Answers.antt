@@ -6,7 +6,7 @@ use Rattle.spx_term.specs.declared.term.Term.TheVariants.{Variable}
 use Rattle.spx_term.specs.Steps.{Assign}
 use Rattle.spx_steps.specs.Trees.{step_tree}
 use Rattle.spx_paths.specs.Drafts.{Lays}
-use Rattle.spx_paths.specs.Terms.{entry, now}
+use Rattle.spx_formula.specs.Terms.{entry, now}
 use Rattle.spx_paths.specs.Walks.{entering}
 use Rattle.spx_paths.proofs.BoundLaws.{order_terms}
 use Rattle.spx_paths.proofs.BuildLaws.{reversed_more}
@@ -25,7 +25,7 @@ loop-var-preserved-then-contains c =
     let rest = step_tree c.args.self.now.steps c.args.first in
     let here = step_tree c.loop-var.self.steps c.loop-var.at in
     let term = c.in_ok-value.ensures in
-    let exported = sym c.if-contains.true ∙ c.contains.ensures ∙ c.requires.begun.interface.exports v in
+    let exported = sym c.if-contains.true ∙ c.contains.ensures ∙ c.requires.interface.exports v in
     let given = Assign (now p v) (Variable (entry p v)) here in
     let is = (λ i. Assign (c.now.ensures i) (Variable (entry p v)) here) ∙ ap (λ (b : Bool). if b then given else here) exported in
     let step = given_before {a = c.loop-var.self} c.in_ok-value.value c.now.result (Variable (entry p v)) c.loop-var.at (if exports v sub then given else here) inv.order inv.made.within term.grown (term.made.tree ∙ ap Variable c.entry.ensures) c.in_ok-at.ensures is in

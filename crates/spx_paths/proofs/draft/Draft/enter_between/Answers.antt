@@ -3,10 +3,9 @@ use Rattle.spx_steps.specs.Trees.{step_tree}
 use Rattle.spx_term.specs.declared.term.Term.TheVariants.{Infix}
 use Rattle.spx_term.specs.declared.term.TermOp.TheVariants as operator
 use Rattle.spx_term.specs.Steps.{Assign}
-use Rattle.spx_paths.specs.Terms.{now}
+use Rattle.spx_formula.specs.Terms.{now}
 use Rattle.spx_paths.specs.Walks.{high_term, low_term, start_term}
 use Rattle.spx_paths.proofs.BoundLaws.{Compared, between_checked, compared, lays_ways, order_terms, stays_within}
-use Rattle.spx_paths.proofs.BuildLaws.{begun_kept}
 use Rattle.spx_paths.proofs.draft.Draft.enter_between.Goals as goal
 
 pub begin_count-requires-clause-order : goal.begin_count-requires-clause-order
@@ -17,15 +16,6 @@ begin_count-requires-clause-order c =
     let all = compared {e = record { steps = record { terms = c.infix-2.new.self; nodes = c.high_id.new.self.steps.nodes }; checks = c.high_id.new.self.checks }}
     (low_term p sub count) (high_term p sub count) c.in_ok-low.ensures c.in_ok-high.ensures c.in_ok-some.ensures.added c.in_ok-none.ensures.added refl refl in
     all.only.order
-
-pub begin_count-requires-clause-begun : goal.begin_count-requires-clause-begun
-begin_count-requires-clause-begun c =
-    let p = c.args.body.now.program.now in
-    let sub = c.args.body.now.sub.now in
-    let count = c.args.count.now in
-    let all = compared {e = record { steps = record { terms = c.infix-2.new.self; nodes = c.high_id.new.self.steps.nodes }; checks = c.high_id.new.self.checks }}
-    (low_term p sub count) (high_term p sub count) c.in_ok-low.ensures c.in_ok-high.ensures c.in_ok-some.ensures.added c.in_ok-none.ensures.added refl refl in
-    begun_kept c.requires.begun all.only.grown
 
 pub check-requires-clause-whole : goal.check-requires-clause-whole
 check-requires-clause-whole c = order_terms c.in_ok-at.ensures.whole c.in_ok-goals.ensures.grown

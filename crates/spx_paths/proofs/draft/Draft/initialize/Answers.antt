@@ -8,7 +8,7 @@ use Rattle.spx_term.specs.Steps.{Assign}
 use Rattle.spx_meaning.specs.Runs.{initial_value}
 use Rattle.spx_steps.specs.Trees.{step_tree}
 use Rattle.spx_paths.specs.Drafts.{Lays}
-use Rattle.spx_paths.specs.Terms.{now}
+use Rattle.spx_formula.specs.Terms.{now}
 use Rattle.spx_paths.specs.Walks.{initializing, starting_with}
 use Rattle.spx_paths.proofs.BoundLaws.{order_terms}
 use Rattle.spx_paths.proofs.BuildLaws.{reversed_more}

@@ -14,11 +14,11 @@ returns-in-None c =
     let is = least_is p sub c.args.count.now c.type_of-least.result _ c.in-None.is c.type_of-least.ensures (to_z-of_z w128 c.type_of-least.result.first (search rules)) in
     IfOk-weaker c.make.result _ _ (λ id made. adds_term (low_term p sub c.args.count.now) c.requires.order c.make.ensures.grown made refl refl is) c.make.ensures.made
 
-pub returns-in_ok-id-in-Some : goal.returns-in_ok-id-in-Some
-returns-in_ok-id-in-Some c =
+pub returns-in-Some : goal.returns-in-Some
+returns-in-Some c =
     let p = c.args.body.now.program.now in
     let sub = c.args.body.now.sub.now in
     let name = c.first_name.result in
-    term_along (low_term p sub c.args.count.now) c.in_ok-id-in-Some.ensures
+    IfOk-weaker c.bound_id.result _ _ (λ id m. term_along (low_term p sub c.args.count.now) m
     (ap (bound_term p sub name) (c.get-low.ensures ∙ ap (λ (range : CoreRange). range.low) c.get.ensures)
-    ∙ low_is p sub c.args.count.now name c.in-Some.range c.in-Some.is c.first_name.ensures)
+    ∙ low_is p sub c.args.count.now name c.in-Some.range c.in-Some.is c.first_name.ensures)) c.bound_id.ensures

@@ -1,0 +1,126 @@
+-- Terms of expressions, where a value is static and where none is.
+use Rattle.std.proofs.Common.{◌≡◌, Bool, ℤ, pos, List, Option, Some, None, Ok, Err, refl, sym, ap, ◌∙◌}
+use Rattle.std.specs.Prelude.{⊤, is_some}
+use Rattle.spx_text.specs.declared.place.Place.{Place}
+use Rattle.spx_tree.specs.declared.expression.Identifier.{Identifier}
+use Rattle.spx_tree.specs.declared.expression.InfixOp.{InfixOp}
+use Rattle.spx_tree.specs.declared.expression.MemberOp.{MemberOp}
+use Rattle.spx_tree.specs.declared.expression.PrefixOp.{PrefixOp}
+use Rattle.spx_core.specs.declared.entity.Object.{Object}
+use Rattle.spx_core.specs.declared.entity.VarId.{VarId}
+use Rattle.spx_core.specs.declared.name.CoreName.{CoreName}
+use Rattle.spx_core.specs.declared.name.Reference.{Reference}
+use Rattle.spx_core.specs.declared.expression.CoreExpr.{CoreExpr, CoreExpr-F}
+use Rattle.spx_core.specs.declared.expression.CoreExpr.TheVariants as expr
+use Rattle.spx_core.specs.declared.function.CoreFunction.{CoreFunction}
+use Rattle.spx_core.specs.declared.function.Mapping.{Mapping}
+use Rattle.spx_core.specs.declared.program.Program.{Program}
+use Rattle.spx_core.specs.declared.rule.ExprType.TheVariants.{Of}
+use Rattle.spx_core.specs.declared.rule.RuleName.TheVariants.{N18}
+use Rattle.spx_core.specs.Judged.{Judged, ◌>>=◌, application, expr_step, judged, keeps, named_object, typing}
+use Rattle.spx_core.specs.declared.rule.Typing.{Typing}
+use Rattle.spx_core.specs.Places.{place_of}
+use Rattle.spx_core.specs.Uses.{variable_of}
+use Rattle.spx_core.proofs.Callers.Expressions.{fold-Entry, fold-Number, fold-Parenthesized, induct}
+use Rattle.spx_term.specs.declared.term.Term.{Term}
+use Rattle.spx_term.specs.declared.term.Term.TheVariants.{Number, Infix}
+use Rattle.spx_term.specs.declared.value.Value.{Value}
+use Rattle.spx_term.specs.declared.value.Value.TheVariants as value
+use Rattle.spx_term.specs.Folding.{term_of as static_term}
+use Rattle.spx_term.specs.Steps.{Tree}
+use Rattle.spx_meaning.specs.Evaluation.{term_op}
+use Rattle.spx_meaning.specs.Literals.{base_of, literal, literal_in}
+use Rattle.spx_formula.specs.Terms.{first_term, last_term, literal_or, mapped_term, member_term, moved_term, named, signed_term, term_of, term_with, term_with-Applied, term_with-Attribute, term_with-Entry, term_with-InRange, term_with-InType, term_with-Infix, term_with-Name, term_with-Number, term_with-Parenthesized, term_with-Prefix}
+use Rattle.spx_formula.specs.Functions.{shift_in}
+
+-- ---- static expressions
+static_number : (n : ℤ) → static_term (value.Number n) ≡ Number n
+static_number n = refl
+
+or_static : (o : Option Value) (s : Value) (t : Term) → o ≡ Some s → literal_or o t ≡ static_term s
+or_static o s t e = ap (λ x. literal_or x t) e
+
+of_number : (n : ℤ) (place : Place) (s : Value) → literal (expr.Number n place) ≡ Some s → s ≡ value.Number n
+of_number n place s e =
+    let here : literal_in (expr_step (CoreExpr-F.Number n place)) ≡ Some (value.Number n) = refl in
+    let is : Some (value.Number n) ≡ Some s = sym here ∙ sym (ap literal_in (fold-Number expr_step n place)) ∙ e in
+    cc
+
+-- the value on entry is not static
+not_static : (j : Judged Object) (k : Judged ⊤) (place : Place) → literal_in (j >>= λ object. k >>= λ done. Ok (typing (Of object.subtype.base) None place)) ≡ None
+not_static (Ok object) (Ok done) place = refl
+not_static (Ok object) (Err breach) place = refl
+not_static (Err breach) k place = refl
+
+entry_literal : (name : CoreName) (allowed : Bool) → literal (expr.Entry name allowed) ≡ None
+entry_literal name allowed = ap literal_in (fold-Entry expr_step name allowed) ∙ not_static (named_object name) (keeps N18 name.name.place allowed) name.name.place
+
+of_entry : (name : CoreName) (allowed : Bool) (s : Value) (t : Term) → literal (expr.Entry name allowed) ≡ Some s → t ≡ static_term s
+of_entry name allowed s t e = let is : None ≡ Some s = sym (entry_literal name allowed) ∙ e in absurd (cc)
+
+at_place : (place : Place) (j : Judged Typing) → literal_in (j >>= λ e. Ok (typing e.of e.value place)) ≡ literal_in j
+at_place place (Ok t) = refl
+at_place place (Err breach) = refl
+
+-- parentheses change no value
+pub literal-Parenthesized : (place : Place) (a : CoreExpr) → literal (expr.Parenthesized place a) ≡ literal a
+literal-Parenthesized place a = ap literal_in (fold-Parenthesized expr_step place a) ∙ at_place place (judged a)
+
+-- a static expression has its value for its term
+pub static_is : (present entries : VarId → Term) (e : CoreExpr) (s : Value) → literal e ≡ Some s → term_with present entries e ≡ static_term s
+static_is present entries = induct (λ e. (s : Value) → literal e ≡ Some s → term_with present entries e ≡ static_term s) (record {
+  number = λ n place s is. term_with-Number present entries n place ∙ sym (static_number n) ∙ ap static_term (sym (of_number n place s is));
+  name = λ name s is. term_with-Name present entries name ∙ or_static _ s _ is;
+  entry = λ name allowed s is. of_entry name allowed s _ is;
+  attribute = λ prefix designator s is. term_with-Attribute present entries prefix designator ∙ or_static _ s _ is;
+  applied = λ function place a more s is. term_with-Applied present entries function place a ∙ or_static _ s _ is;
+  parenthesized = λ place a more s is. term_with-Parenthesized present entries place a ∙ more s (sym (literal-Parenthesized place a) ∙ is);
+  prefix = λ op place a more s is. term_with-Prefix present entries op place a ∙ or_static _ s _ is;
+  «infix» = λ op place a b first second s is. term_with-Infix present entries op place a b ∙ or_static _ s _ is;
+  in_type = λ op place a name more s is. term_with-InType present entries op place a name ∙ or_static _ s _ is;
+  in_range = λ op place a low high first second third s is. term_with-InRange present entries op place a low high ∙ or_static _ s _ is;
+})
+
+-- ---- functions
+pub mapped_is : (j : Judged Mapping) (t : Term) → mapped_term j t ≡ moved_term (shift_in j) t
+mapped_is (Ok mapping) t = refl
+mapped_is (Err breach) t = refl
+
+-- ---- where no value is static
+module _ (present entries : VarId → Term) (e : CoreExpr) where
+  abbrev meant : CoreExpr → Term
+  meant = term_with present entries
+
+  pub number_term : (n : ℤ) (place : Place) → e ≡ expr.Number n place → meant e ≡ Number n
+  number_term n place is = ap meant is ∙ term_with-Number present entries n place
+
+  pub entry_term : (name : CoreName) (allowed : Bool) → e ≡ expr.Entry name allowed → meant e ≡ named entries (variable_of name.entity)
+  entry_term name allowed is = ap meant is ∙ term_with-Entry present entries name allowed
+
+  pub parenthesized_term : (place : Place) (a : CoreExpr) → e ≡ expr.Parenthesized place a → meant e ≡ meant a
+  parenthesized_term place a is = ap meant is ∙ term_with-Parenthesized present entries place a
+
+  module _ (none : None ≡ literal e) where
+    or_else : (d : CoreExpr) (t : Term) → e ≡ d → literal_or (literal d) t ≡ t
+    or_else d t is = ap (λ o. literal_or o t) (sym (none ∙ ap literal is))
+
+    pub name_term : (name : CoreName) → e ≡ expr.Name name → meant e ≡ named present (variable_of name.entity)
+    name_term name is = ap meant is ∙ term_with-Name present entries name ∙ or_else (expr.Name name) _ is
+
+    pub attribute_term : (prefix : CoreName) (designator : Identifier) → e ≡ expr.Attribute prefix designator → meant e ≡ Number (pos 0)
+    attribute_term prefix designator is = ap meant is ∙ term_with-Attribute present entries prefix designator ∙ or_else (expr.Attribute prefix designator) _ is
+
+    pub applied_term : (function : CoreFunction) (place : Place) (a : CoreExpr) → e ≡ expr.Applied function place a → meant e ≡ moved_term (shift_in (application function)) (meant a)
+    applied_term function place a is = ap meant is ∙ term_with-Applied present entries function place a ∙ or_else (expr.Applied function place a) _ is ∙ mapped_is (application function) (meant a)
+
+    pub prefix_term : (op : PrefixOp) (place : Place) (a : CoreExpr) → e ≡ expr.Prefix op place a → meant e ≡ signed_term op (meant a)
+    prefix_term op place a is = ap meant is ∙ term_with-Prefix present entries op place a ∙ or_else (expr.Prefix op place a) _ is
+
+    pub infix_term : (op : InfixOp) (place : Place) (a b : CoreExpr) → e ≡ expr.Infix op place a b → meant e ≡ Infix (term_op op) (meant a) (meant b)
+    infix_term op place a b is = ap meant is ∙ term_with-Infix present entries op place a b ∙ or_else (expr.Infix op place a b) _ is
+
+    pub in_type_term : (op : MemberOp) (place : Place) (a : CoreExpr) (name : Reference) → e ≡ expr.InType op place a name → meant e ≡ member_term op (meant a) (first_term name) (last_term name)
+    in_type_term op place a name is = ap meant is ∙ term_with-InType present entries op place a name ∙ or_else (expr.InType op place a name) _ is
+
+    pub in_range_term : (op : MemberOp) (place : Place) (a low high : CoreExpr) → e ≡ expr.InRange op place a low high → meant e ≡ member_term op (meant a) (meant low) (meant high)
+    in_range_term op place a low high is = ap meant is ∙ term_with-InRange present entries op place a low high ∙ or_else (expr.InRange op place a low high) _ is

@@ -1,0 +1,6 @@
+pub mod Expressions
+pub mod TermLaws
+pub mod GoalSteps
+pub mod ChoiceIds
+pub mod Fixed
+pub mod OwnCuts

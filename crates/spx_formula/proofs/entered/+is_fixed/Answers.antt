@@ -1,0 +1,47 @@
+use Rattle.std.proofs.Common.{true≢false, ap, sym, ◌∙◌}
+use Rattle.std.specs.Prelude.{◌&&◌}
+use Rattle.spx_formula.specs.EntryNames.{is_fixed_by}
+use Rattle.spx_formula.proofs.Fixed.{first_moves, first_stays, fixed-InRange, fixed-Infix}
+use Rattle.spx_formula.proofs.entered.+is_fixed.Goals.{else-is_fixed-2, then-is_fixed-2}
+use Rattle.spx_formula.proofs.entered.+is_fixed.Goals as goal
+
+pub returns-then-is_fixed : goal.returns-then-is_fixed
+returns-then-is_fixed t c =
+    let i = c.args.interface.now in
+    let at = c.in-Infix in
+    let left = ap (is_fixed_by i) (sym c.get-in-Infix.ensures) ∙ sym c.is_fixed-in-Infix.ensures ∙ c.if-is_fixed.true in
+    let right = c.is_fixed-then-is_fixed.ensures ∙ ap (is_fixed_by i) c.get-then-is_fixed.ensures in
+    first_stays left right ∙ sym (ap (is_fixed_by i) at.is ∙ fixed-Infix i at.field-0 at.field-1 at.left at.right)
+
+pub returns-else-is_fixed : goal.returns-else-is_fixed
+returns-else-is_fixed t c =
+    let i = c.args.interface.now in
+    let at = c.in-Infix in
+    let left = ap (is_fixed_by i) (sym c.get-in-Infix.ensures) ∙ sym c.is_fixed-in-Infix.ensures ∙ c.if-is_fixed.false in
+    first_moves (is_fixed_by i at.right) left c.if-is_fixed.false ∙ sym (ap (is_fixed_by i) at.is ∙ fixed-Infix i at.field-0 at.field-1 at.left at.right)
+
+pub returns-then-is_fixed-3 : goal.returns-then-is_fixed-3
+returns-then-is_fixed-3 t c =
+    let i = c.args.interface.now in
+    let at = c.in-InRange in
+    let tested = ap (is_fixed_by i) (sym c.get-in-InRange.ensures) ∙ sym c.is_fixed-in-InRange.ensures in
+    let high = c.is_fixed-then-is_fixed-3.ensures ∙ ap (is_fixed_by i) c.get-then-is_fixed-3.ensures in
+    elim c.if-is_fixed-2.branch [
+      | then-is_fixed-2 w ↦
+          let low = ap (is_fixed_by i) (sym w.get-then-is_fixed-2.ensures) ∙ sym w.is_fixed-then-is_fixed-2.ensures ∙ sym w.value-is ∙ c.if-is_fixed-3.true in
+          first_stays (tested ∙ w.if-is_fixed-2.true) (first_stays low high) ∙ sym (ap (is_fixed_by i) at.is ∙ fixed-InRange i at.field-0 at.field-1 at.tested at.low at.high)
+      | else-is_fixed-2 w ↦ absurd (true≢false (sym c.if-is_fixed-3.true ∙ w.value-is ∙ w.if-is_fixed-2.false))
+    ]
+
+pub returns-else-is_fixed-3 : goal.returns-else-is_fixed-3
+returns-else-is_fixed-3 t c =
+    let i = c.args.interface.now in
+    let at = c.in-InRange in
+    let tested = ap (is_fixed_by i) (sym c.get-in-InRange.ensures) ∙ sym c.is_fixed-in-InRange.ensures in
+    let whole = sym (ap (is_fixed_by i) at.is ∙ fixed-InRange i at.field-0 at.field-1 at.tested at.low at.high) in
+    elim c.if-is_fixed-2.branch [
+      | then-is_fixed-2 w ↦
+          let low = ap (is_fixed_by i) (sym w.get-then-is_fixed-2.ensures) ∙ sym w.is_fixed-then-is_fixed-2.ensures ∙ sym w.value-is ∙ c.if-is_fixed-3.false in
+          first_stays (tested ∙ w.if-is_fixed-2.true) (first_moves (is_fixed_by i at.high) low c.if-is_fixed-3.false) ∙ whole
+      | else-is_fixed-2 w ↦ first_moves (is_fixed_by i at.low && is_fixed_by i at.high) (tested ∙ w.if-is_fixed-2.false) c.if-is_fixed-3.false ∙ whole
+    ]

@@ -1,0 +1,64 @@
+use Rattle.std.proofs.Common.{◌∙◌, pos, refl, rules, sym, ap}
+use Rattle.std.proofs.lemmas.Int.{to_z-of_z}
+use Rattle.std.specs.Int.{w128}
+use Rattle.spx_core.specs.declared.expression.CoreExpr.{CoreExpr}
+use Rattle.spx_term.specs.declared.term.Term.TheVariants.{Infix, Number}
+use Rattle.spx_core.specs.Uses.{variable_of}
+use Rattle.spx_formula.specs.declared.entered.Entered.{Entered}
+use Rattle.spx_formula.specs.EntryNames.{meant, present_term}
+use Rattle.spx_formula.specs.Terms.{member_term, moved_term, named, signed_term}
+use Rattle.spx_formula.proofs.Expressions.{applied_term, attribute_term, entry_term, in_range_term, in_type_term, infix_term, name_term, number_term, parenthesized_term, prefix_term, static_is}
+use Rattle.spx_formula.proofs.TermLaws.{made_along, made_by, made_infix, made_member, made_moved, made_signed, number_made}
+use Rattle.spx_formula.proofs.terms.+term_id.Goals as goal
+
+pub returns-in-Some : goal.returns-in-Some
+returns-in-Some t c = made_along c.literal-in-Some.result _ _ _ c.literal-in-Some.ensures.added (sym (static_is _ _ _ c.in-Some.value (sym c.in-Some.ensures)))
+
+pub returns-in-Number : goal.returns-in-Number
+returns-in-Number t c = made_by c.make.result _ c.make.ensures.grown c.make.ensures.made (ap Number (to_z-of_z w128 c.in-Number.value (search rules)) ∙ sym (number_term _ _ _ _ _ c.in-Number.is))
+
+pub returns-in-Name : goal.returns-in-Name
+returns-in-Name t c = made_along c.name_id.result _ _ _ c.name_id.ensures (sym (name_term _ _ _ c.in_default.ensures _ c.in-Name.is))
+
+pub returns-in-Entry : goal.returns-in-Entry
+returns-in-Entry t c =
+    made_along c.name_id-in-Entry.result _ _ _ c.name_id-in-Entry.ensures
+    (ap (λ (entered : Entered). named (present_term c.args.program.now entered) (variable_of c.in-Entry.name.entity)) c.at_tilde.ensures ∙ sym (entry_term _ _ _ _ _ c.in-Entry.is))
+
+pub returns-in-Attribute : goal.returns-in-Attribute
+returns-in-Attribute t c = made_by c.make-in-Attribute.result _ c.make-in-Attribute.ensures.grown c.make-in-Attribute.ensures.made (sym (attribute_term _ _ _ c.in_default.ensures _ _ c.in-Attribute.is))
+
+pub returns-in_ok-operand-in-Applied : goal.returns-in_ok-operand-in-Applied
+returns-in_ok-operand-in-Applied t c =
+    made_moved c.moved_id.result _ _ c.shift_of.result c.in_ok-operand-in-Applied.ensures c.moved_id.ensures
+    ((λ i. moved_term (c.shift_of.ensures i) (meant c.args.program.now c.args.entered.now (c.get.ensures i))) ∙ sym (applied_term _ _ _ c.in_default.ensures _ _ _ c.in-Applied.is))
+
+pub returns-in-Parenthesized : goal.returns-in-Parenthesized
+returns-in-Parenthesized t c = made_along c.term_id-in-Parenthesized.result _ _ _ c.term_id-in-Parenthesized.ensures (ap (meant c.args.program.now c.args.entered.now) c.get-in-Parenthesized.ensures ∙ sym (parenthesized_term _ _ _ _ _ c.in-Parenthesized.is))
+
+pub returns-in_ok-operand-in-Prefix : goal.returns-in_ok-operand-in-Prefix
+returns-in_ok-operand-in-Prefix t c =
+    made_signed c.signed_id.result _ _ c.in-Prefix.op c.in_ok-operand-in-Prefix.ensures c.signed_id.ensures
+    (ap (λ (a : CoreExpr). signed_term c.in-Prefix.op (meant c.args.program.now c.args.entered.now a)) c.get-in-Prefix.ensures ∙ sym (prefix_term _ _ _ c.in_default.ensures _ _ _ c.in-Prefix.is))
+
+pub returns-in_ok-right-in-Infix : goal.returns-in_ok-right-in-Infix
+returns-in_ok-right-in-Infix t c =
+    let m = meant c.args.program.now c.args.entered.now in
+    made_infix c.infix.result _ _ c.term_op.result c.in_ok-left-in-Infix.ensures c.in_ok-right-in-Infix.ensures c.infix.ensures.added
+    ((λ i. Infix (c.term_op.ensures i) (m (c.get-in-Infix.ensures i)) (m (c.get-in-Infix-2.ensures i))) ∙ sym (infix_term _ _ _ c.in_default.ensures _ _ _ _ c.in-Infix.is))
+
+pub returns-in_ok-high-in-InType : goal.returns-in_ok-high-in-InType
+returns-in_ok-high-in-InType t c =
+    let subtype = c.subtype_of-subtype.result in
+    let low = c.in_ok-low-in-InType.ensures in
+    let high = c.in_ok-high-in-InType.ensures in
+    made_member c.member_id.result _ _ c.in-InType.op c.in_ok-tested-in-InType.ensures
+    (number_made subtype.first (to_z-of_z w128 subtype.first (search rules)) low.grown low.made) (number_made subtype.last (to_z-of_z w128 subtype.last (search rules)) high.grown high.made) c.member_id.ensures
+    ((λ i. member_term c.in-InType.op (meant c.args.program.now c.args.entered.now (c.get-in-InType.ensures i)) (Number (c.subtype_of-subtype.ensures i).first) (Number (c.subtype_of-subtype.ensures i).last))
+    ∙ sym (in_type_term _ _ _ c.in_default.ensures _ _ _ _ c.in-InType.is))
+
+pub returns-in_ok-high-in-InRange : goal.returns-in_ok-high-in-InRange
+returns-in_ok-high-in-InRange t c =
+    let m = meant c.args.program.now c.args.entered.now in
+    made_member c.member_id-in-InRange.result _ _ c.in-InRange.op c.in_ok-tested-in-InRange.ensures c.in_ok-low-in-InRange.ensures c.in_ok-high-in-InRange.ensures c.member_id-in-InRange.ensures
+    ((λ i. member_term c.in-InRange.op (m (c.get-in-InRange.ensures i)) (m (c.get-in-InRange-2.ensures i)) (m (c.get-in-InRange-3.ensures i))) ∙ sym (in_range_term _ _ _ c.in_default.ensures _ _ _ _ _ c.in-InRange.is))

@@ -1,0 +1,21 @@
+//! Expressions and annotations as terms over the names of a subprogram, made by id in an arena that a layer above has.
+//!
+//! A layer above may rely on these calls. `term_id` makes the term of an expression, where its names stand for values now or on entry (`Entered`), and
+//! `is_fixed` says whether a value is the same all along. `in_range`, `in_type`, `range_goal`, `one_goal` and `guarded` make what a check asks
+//! to be shown, and `facts_of_all` what is known in each alternative of a `case`. `own_cut` finds the `assert` that cuts a loop. Each
+//! adds terms and changes none, and each gives exactly what its definition says.
+#![tactic(auto)]
+
+mod choices;
+mod cut;
+mod entered;
+mod goals;
+mod names;
+mod terms;
+
+pub use choices::facts_of_all;
+pub use cut::own_cut;
+pub use entered::{Entered, Interface, is_fixed};
+pub use goals::{guarded, in_range, in_type, one_goal, range_goal};
+pub use names::{entry, first_name, last_name, now};
+pub use terms::{member_id, moved_id, negated_id, shift_of, signed_id, term_id};

@@ -1,8 +1,0 @@
-use Rattle.std.proofs.Common.{rules}
-use Rattle.std.proofs.lemmas.Int.{to_z-of_z}
-use Rattle.std.specs.Int.{w128}
-use Rattle.spx_paths.proofs.GoalSteps.{adds_bound, all_one}
-use Rattle.spx_paths.proofs.goals.one_goal.Goals as goal
-
-pub returns : goal.returns
-returns c = all_one (adds_bound _ _ c.in_ok-goal.ensures (to_z-of_z w128 c.args.bound (search rules))) c.in_ok-goals.ensures
