@@ -27,7 +27,7 @@ use Rattle.spx_term.specs.Plain.{is_among}
 use Rattle.spx_term.specs.Steps.{Tree, Cut, Claim, check, same_name, substituted, substituted_step, claims_of, with_new, without_doubles, tidy}
 use Rattle.spx_term.proofs.Terms as terms
 use Rattle.spx_meaning.specs.Literals.{literal, literal_in}
-use Rattle.spx_paths.specs.Terms.{now_term, entry_term, literal_or, term_of, term_with-Entry, term_with-Infix, term_with-Number}
+use Rattle.spx_formula.specs.Terms.{now_term, entry_term, literal_or, term_of, term_with-Entry, term_with-Infix, term_with-Number}
 use Rattle.spx_paths.specs.Walks.{asserted, ending, start_tree, walk}
 use Rattle.spx_paths.specs.Conditions.{conditions_of}
 use Rattle.spx_examples.specs.Assertions.{entry_at, after_entry, is_kept, is_next, is_positive, promising, program_of, only_checking, checking_both, now_is_kept, now_is_positive, next_is_next, entry_is_positive, entry_is_kept, promised_conditions, check_condition, kept_condition, both_condition, kept_after_both}

@@ -29,7 +29,7 @@ use Rattle.spx_term.specs.Equality.{same_by, same_term}
 use Rattle.spx_term.specs.Steps.{Tree, Cut, Claim, assume_all, check, Assign, claims_of, substituted_step, tidy, without_doubles}
 use Rattle.spx_term.proofs.Terms as terms
 use Rattle.spx_meaning.specs.Literals.{literal, literal_in}
-use Rattle.spx_paths.specs.Terms.{entry_term, literal_or, named, term_of, term_with, term_with-Infix, term_with-Name, term_with-Number}
+use Rattle.spx_formula.specs.Terms.{entry_term, literal_or, named, term_of, term_with, term_with-Infix, term_with-Name, term_with-Number}
 use Rattle.spx_paths.specs.Walks.{arrivals, cut_arrivals, cuts, cut_facts, ending, path_count, start_tree, trees_of, walk}
 use Rattle.spx_paths.specs.Conditions.{conditions_of}
 use Rattle.spx_examples.specs.Assertions.{asserting_in_arm as sub, asserted_in_arm, entry_is_kept, entry_is_positive, is_positive, kept_at_end, kept_from_assert, kept_past_arm, lies_in_integer, now_is_kept, now_is_positive, program_of, tree_from_assert, tree_from_start, y_now}

@@ -31,7 +31,7 @@ use Rattle.spx_term.proofs.Terms as terms
 use Rattle.spx_meaning.specs.Evaluation.{term_op}
 use Rattle.spx_meaning.specs.Literals.{base_judged, literal_in}
 use Rattle.spx_paths.specs.Checks.{checks, checks-Infix, checks-Name, checks-Number, operation_check, right_lefts, unless_static}
-use Rattle.spx_paths.specs.Terms.{literal_or, named, now_term, term_of, term_with, term_with-Infix, term_with-Name, term_with-Number}
+use Rattle.spx_formula.specs.Terms.{literal_or, named, now_term, term_of, term_with, term_with-Infix, term_with-Name, term_with-Number}
 use Rattle.spx_paths.specs.Walks.{is_fixed, keeps_value}
 
 -- ---- expressions

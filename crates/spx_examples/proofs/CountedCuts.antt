@@ -14,7 +14,7 @@ use Rattle.spx_term.specs.declared.term.Term.{Term}
 use Rattle.spx_term.specs.declared.term.Term.TheVariants as term
 use Rattle.spx_term.specs.Steps.{Tree}
 use Rattle.spx_meaning.specs.Literals.{literal_in}
-use Rattle.spx_paths.specs.Terms.{first_name, last_name, literal_or, now_term, term_of, term_with-Name, term_with-Number}
+use Rattle.spx_formula.specs.Terms.{first_name, last_name, literal_or, now_term, term_of, term_with-Name, term_with-Number}
 use Rattle.spx_paths.specs.Walks.{again, high_term, is_fixed, keeps_value, low_term}
 use Rattle.spx_examples.specs.CountedLoops.{i, number_at, over, to_next, to_previous, up_to_x, up_to_y, with_parameter as p}
 use Rattle.spx_examples.specs.Flag.{flag, x_at, y_at}

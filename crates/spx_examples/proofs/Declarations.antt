@@ -45,7 +45,7 @@ use Rattle.spx_meaning.specs.Frames.{Frame, around as surrounded}
 use Rattle.spx_meaning.specs.Literals.{literal_in}
 use Rattle.spx_meaning.specs.Runs.{Ended, assign, then_do, use_value}
 use Rattle.spx_meaning.specs.Stores.{Store}
-use Rattle.spx_paths.specs.Terms.{literal_or, named as termed, now_term, term_of, term_with-Name}
+use Rattle.spx_formula.specs.Terms.{literal_or, named as termed, now_term, term_of, term_with-Name}
 use Rattle.spx_examples.specs.Declarations.{LiteralEnds, SumEnds, assigning_to, breach_at, color, declaring, denoted_in, denotes, number_in, resolved_alone, rule_breach_at, standing_for, stating, t, t_program, types_of, types_of_two, warm, warm_program}
 use Rattle.spx_examples.specs.Flag.{named}
 use Rattle.spx_examples.specs.Increment.{place, x_written}

@@ -26,7 +26,7 @@ use Rattle.spx_term.specs.declared.term.TermOp.TheVariants as sign
 use Rattle.spx_term.specs.Conjuncts.{conjuncts}
 use Rattle.spx_term.specs.Equality.{same_by, same_term}
 use Rattle.spx_term.specs.Steps.{Tree, Cut, Assume, Assign, Split, Claim, assume_all, check, claims_of, same_name, tidy}
-use Rattle.spx_paths.specs.Terms.{entry, entry_term, first_name, last_name, now, now_term, term_of, term_with}
+use Rattle.spx_formula.specs.Terms.{entry, entry_term, first_name, last_name, now, now_term, term_of, term_with}
 use Rattle.spx_paths.specs.Walks.{assigned, cuts, ending, enter_range, high_term, low_term, range_goal, start_tree, trees_of, walk}
 use Rattle.spx_paths.specs.Conditions.{conditions_of, numbered}
 use Rattle.spx_examples.specs.Doubling.{add_two, asserting, closing, compared, count, counting, double as sub, double_command, double_program as p, equals_twice, i, i_now, in_bounds, in_integer, n_at, n_now, number, one_to_n, post_after_turn, post_without_turn, required, s, s_at, s_is_twice_i, s_is_twice_n, s_now, turn, two_more}

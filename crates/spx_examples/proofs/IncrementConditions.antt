@@ -10,7 +10,7 @@ use Rattle.spx_term.specs.declared.term.Term.{Term}
 use Rattle.spx_term.specs.declared.term.Term.TheVariants as term
 use Rattle.spx_term.specs.Conjuncts.{conjuncts, conjuncts-Infix}
 use Rattle.spx_term.specs.Steps.{Tree, Cut, Assign, assume_all}
-use Rattle.spx_paths.specs.Terms.{now_term, entry_term, term_of, term_with-Attribute, literal_or}
+use Rattle.spx_formula.specs.Terms.{now_term, entry_term, term_of, term_with-Attribute, literal_or}
 use Rattle.spx_paths.specs.Walks.{ending, start_tree, walk}
 use Rattle.spx_paths.specs.Conditions.{conditions_of}
 use Rattle.spx_examples.specs.Increment.{place, word, integer_at, integer_last, below_last, step, inc, increment, entry_x, inc_conditions}

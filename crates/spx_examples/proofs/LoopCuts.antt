@@ -6,7 +6,7 @@ use Rattle.spx_term.specs.declared.term.TermOp.TheVariants as sign
 use Rattle.spx_term.specs.declared.term.Term.TheVariants as term
 use Rattle.spx_term.specs.Conjuncts.{conjuncts, conjuncts-Infix}
 use Rattle.spx_term.specs.Steps.{Tree, Cut, check}
-use Rattle.spx_paths.specs.Terms.{entry_term, term_of}
+use Rattle.spx_formula.specs.Terms.{entry_term, term_of}
 use Rattle.spx_paths.specs.Walks.{cuts, from_cut, walk}
 use Rattle.spx_examples.specs.Assertions.{is_positive, now_is_positive}
 use Rattle.spx_examples.specs.Increment.{place}

@@ -20,7 +20,7 @@ use Rattle.spx_term.specs.Intervals.{allowed, structural}
 use Rattle.spx_term.specs.Paths.{branches}
 use Rattle.spx_term.specs.Plain.{Plain}
 use Rattle.spx_term.specs.Steps.{Tree, Cut, Assume, Assign, Split, assume_all}
-use Rattle.spx_paths.specs.Terms.{now_term, term_of, term_with-Number}
+use Rattle.spx_formula.specs.Terms.{now_term, term_of, term_with-Number}
 use Rattle.spx_paths.specs.Checks.{checks, checks-Infix, checks-Name, checks-Number, unless_static}
 use Rattle.spx_paths.specs.Walks.{ending, start_tree, tested, trees_of, walk}
 use Rattle.spx_paths.specs.Conditions.{ArePlain, conditions_of, paths}

@@ -28,7 +28,7 @@ use Rattle.spx_meaning.specs.Frames.{Frame}
 use Rattle.spx_meaning.specs.Literals.{base_judged, literal_in}
 use Rattle.spx_meaning.specs.Stores.{Store}
 use Rattle.spx_paths.specs.Checks.{checks, checks-Infix, checks-Name, checks-Number, operation_check, right_lefts, unless_static}
-use Rattle.spx_paths.specs.Terms.{first_term, last_term, literal_or, member_term, now_term, signed_term, term_of, term_with-Infix, term_with-InType, term_with-Name, term_with-Number, term_with-Prefix}
+use Rattle.spx_formula.specs.Terms.{first_term, last_term, literal_or, member_term, now_term, signed_term, term_of, term_with-Infix, term_with-InType, term_with-Name, term_with-Number, term_with-Prefix}
 use Rattle.spx_examples.specs.Assertions.{of_literals}
 use Rattle.spx_examples.specs.Increment.{place}
 use Rattle.spx_examples.specs.Operators.{a, b, a_at, b_at, true_at, two, one, natural_named, in_natural, in_numbers, static, b_is_not_zero, a_over_b, above_one, guarded, number, values, Means}

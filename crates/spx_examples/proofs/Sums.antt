@@ -24,7 +24,7 @@ use Rattle.spx_term.specs.Steps.{Tree, Cut, Assign, Claim, assume_all, check, sa
 use Rattle.spx_term.proofs.Terms as terms
 use Rattle.spx_meaning.specs.Evaluation.{term_op}
 use Rattle.spx_meaning.specs.Literals.{base_judged, literal, literal_in}
-use Rattle.spx_paths.specs.Terms.{now_term, term_of, term_with-Infix, term_with-Name, term_with-Number, literal_or}
+use Rattle.spx_formula.specs.Terms.{now_term, term_of, term_with-Infix, term_with-Name, term_with-Number, literal_or}
 use Rattle.spx_paths.specs.Checks.{in_type, checks, checks-Infix, checks-Name, checks-Number, operation_check, unless_static}
 use Rattle.spx_paths.specs.Walks.{walk}
 use Rattle.spx_examples.specs.Increment.{place, x, x_at, successor, increment, entry_x, next_x, at_least_first, at_most_last, entry_below, known_entry, known_below, sum_goals}

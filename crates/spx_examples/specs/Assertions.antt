@@ -46,7 +46,7 @@ use Rattle.spx_term.specs.declared.term.Term.TheVariants as term
 use Rattle.spx_term.specs.Steps.{Tree, Cut, Assign, assume_all, check as proving}
 use Rattle.spx_meaning.specs.Annotations.{meant}
 use Rattle.spx_meaning.specs.Frames.{Frame}
-use Rattle.spx_paths.specs.Terms.{now}
+use Rattle.spx_formula.specs.Terms.{now}
 use Rattle.spx_examples.specs.Branches.{arm}
 use Rattle.spx_examples.specs.Example.{in_annotation, in_code}
 use Rattle.spx_examples.specs.Increment.{place, word, x, x_at, step, inc, increment, x_written, successor_written, entry_x, entry_below, next_x, known_entry, sum_goals, at_least_first, at_most_last}

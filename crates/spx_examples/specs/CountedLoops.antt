@@ -20,7 +20,7 @@ use Rattle.spx_term.specs.Steps.{Tree, Assign, Assume, Split}
 use Rattle.spx_meaning.specs.Frames.{around}
 use Rattle.spx_meaning.specs.Runs.{Outcome, run}
 use Rattle.spx_meaning.specs.Stores.{Store}
-use Rattle.spx_paths.specs.Terms.{now}
+use Rattle.spx_formula.specs.Terms.{now}
 use Rattle.spx_examples.specs.Flag.{flag, flag_program, named, x_at, y_at}
 use Rattle.spx_examples.specs.Increment.{place, word}
 use Rattle.spx_examples.specs.Variants.{number}

@@ -45,7 +45,7 @@ use Rattle.spx_term.specs.declared.term.TermOp.{TermOp}
 use Rattle.spx_term.specs.declared.term.TermOp.TheVariants as sign
 use Rattle.spx_term.specs.declared.term.Term.{Term}
 use Rattle.spx_term.specs.declared.term.Term.TheVariants as term
-use Rattle.spx_paths.specs.Terms.{now_term}
+use Rattle.spx_formula.specs.Terms.{now_term}
 use Rattle.spx_examples.specs.Increment.{place, word, integer_at, inc_id, increment, at_least_first, at_most_last}
 use Rattle.spx_examples.specs.Flag.{named}
 

@@ -14,7 +14,7 @@ use Rattle.spx_term.specs.declared.term.Term.TheVariants as term
 use Rattle.spx_term.specs.Steps.{Tree, Cut, Assign, assume_all, check}
 use Rattle.spx_meaning.specs.Frames.{around}
 use Rattle.spx_meaning.specs.Runs.{Outcome, run}
-use Rattle.spx_paths.specs.Terms.{now}
+use Rattle.spx_formula.specs.Terms.{now}
 use Rattle.spx_examples.specs.Assertions.{is_positive, lies_in_integer, now_is_positive}
 use Rattle.spx_examples.specs.Flag.{named}
 use Rattle.spx_examples.specs.Increment.{place, word, x, x_at, x_named, successor, known_entry}

@@ -44,7 +44,7 @@ use Rattle.spx_term.specs.declared.term.TermPrefix.TheVariants.{Not}
 use Rattle.spx_term.specs.declared.term.Term.{Term}
 use Rattle.spx_term.specs.declared.term.Term.TheVariants as term
 use Rattle.spx_term.specs.Steps.{Tree, Assume, Split}
-use Rattle.spx_paths.specs.Terms.{now, now_term}
+use Rattle.spx_formula.specs.Terms.{now, now_term}
 use Rattle.spx_examples.specs.Branches.{arm}
 use Rattle.spx_examples.specs.Increment.{place, word, x_written, successor_written, x, object, x_at, x_named, integer_at, successor, inc_id, increment, entry_x, at_least_first, at_most_last, known_below, sum_goals}
 

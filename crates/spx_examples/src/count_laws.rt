@@ -16,7 +16,7 @@ ghost use Rattle.spx_term.specs.Steps.{Tree};
 ghost use Rattle.spx_meaning.specs.declared.bad.BadKind.TheVariants.{Range};
 ghost use Rattle.spx_meaning.specs.Runs.{Bad, Ended, Later};
 ghost use Rattle.spx_paths.specs.Conditions.{conditions_of};
-ghost use Rattle.spx_paths.specs.Terms.{last_name, now_term};
+ghost use Rattle.spx_formula.specs.Terms.{last_name, now_term};
 ghost use Rattle.spx_paths.specs.Walks.{again, arrivals, high_term};
 ghost use Rattle.spx_examples.specs.CountedLoops.{after, between_numbers, each, i, only, over, runs_at, taking_i, to_next, to_previous, up_to_x, up_to_y, with_parameter};
 ghost use Rattle.spx_examples.specs.Doubling.{double, double_command, double_program, post_after_turn, post_without_turn};

@@ -20,7 +20,7 @@ ghost use Rattle.spx_meaning.specs.declared.bad.BadKind.TheVariants.{Overflow, R
 ghost use Rattle.spx_meaning.specs.Evaluation.{Gives, Fails};
 ghost use Rattle.spx_meaning.specs.Runs.{Bad, Ended};
 ghost use Rattle.spx_meaning.specs.Stores.{Store};
-ghost use Rattle.spx_paths.specs.Terms.{term_of};
+ghost use Rattle.spx_formula.specs.Terms.{term_of};
 ghost use Rattle.spx_examples.specs.Declarations.{LiteralEnds, SumEnds, breach_at, breach_of, c_written, color, color_written, constant_in, constant_of, denotes, enumeration_in, first_of, green, last_of, minus, n_written, name_in, named_number_in, narrowed_in, number_in, numbers_in, operation_in, part_of, red, row, rule_breach_at, s_written, short, signed_in, standing_for, subtype_in, t, t_written, type_in, types_of, types_of_two, u_written, variable_in, wide};
 ghost use Rattle.spx_examples.specs.Increment.{word, place};
 ghost use Rattle.spx_examples.specs.NameRules.{breach};

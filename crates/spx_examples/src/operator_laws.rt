@@ -24,7 +24,7 @@ ghost use Rattle.spx_meaning.specs.declared.bad.BadKind.TheVariants.{Division, O
 ghost use Rattle.spx_meaning.specs.Evaluation.{Gives, Fails};
 ghost use Rattle.spx_meaning.specs.Stores.{Store};
 ghost use Rattle.spx_paths.specs.Checks.{checks, in_type};
-ghost use Rattle.spx_paths.specs.Terms.{now_term, term_of};
+ghost use Rattle.spx_formula.specs.Terms.{now_term, term_of};
 ghost use Rattle.spx_examples.specs.Increment.{place};
 ghost use Rattle.spx_examples.specs.Operators.{minus, a, b, true_at, two, one, in_natural, in_numbers, static, guarded, number, truth, values, only_a, Answers, OfTwo, OfOne, HasTable, Means};
 

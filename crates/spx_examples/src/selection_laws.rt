@@ -15,7 +15,7 @@ ghost use Rattle.spx_term.specs.declared.value.Value.{Value};
 ghost use Rattle.spx_meaning.specs.declared.bad.BadKind.TheVariants.{Range};
 ghost use Rattle.spx_meaning.specs.Evaluation.{Gives, Fails};
 ghost use Rattle.spx_meaning.specs.Runs.{Ended, entry_of};
-ghost use Rattle.spx_paths.specs.Terms.{between, now};
+ghost use Rattle.spx_formula.specs.Terms.{between, now};
 ghost use Rattle.spx_paths.specs.Walks.{alternative_facts, and_these, initializing};
 ghost use Rattle.spx_examples.specs.Declarations.{attribute_in, breach_of, color, color_written, constant_in, constant_of, denotes, green, last_of, name_in, named_number_in, number_in, red, t, t_written, u_written, warm};
 ghost use Rattle.spx_examples.specs.Findings.{seven_program};

@@ -1,23 +1,20 @@
 -- Terms of choices and negations, by ids.
-use Rattle.std.proofs.Common.{◌≡◌, ℕ, ◌+◌, ◌<◌, ◌≤◌, List, [], ◌∷◌, ◌++◌, length, map, take, drop, get_or, Option, Some, None, refl, sym, ap, ◌∙◌, subst, arith, suc, add-one, append_assoc, append-nil, drop-cons}
+use Rattle.std.proofs.Common.{◌≡◌, ℕ, ◌+◌, ◌<◌, ◌≤◌, List, [], ◌∷◌, ◌++◌, length, map, take, drop, get_or, refl, sym, ap, ◌∙◌, subst, arith, suc, add-one, append_assoc, append-nil, drop-cons}
 use Rattle.std.proofs.lemmas.List.{at_drop_all, map-append, take_more}
 use Rattle.std.proofs.lemmas.List.Elements.{All-push}
 use Rattle.std.specs.Prelude.{All}
 use Rattle.spx_core.specs.declared.statement.CoreAlternative.{CoreAlternative}
-use Rattle.spx_core.specs.declared.expression.CoreExpr.{CoreExpr}
-use Rattle.spx_core.specs.declared.function.Span.{Span}
 use Rattle.spx_core.specs.declared.statement.CoreChoice.{CoreChoice}
 use Rattle.spx_term.specs.declared.term.Term.{Term}
-use Rattle.spx_term.specs.declared.term.Term.TheVariants.{Infix, Number, Prefix}
+use Rattle.spx_term.specs.declared.term.Term.TheVariants.{Infix, Prefix}
 use Rattle.spx_term.specs.declared.term.TermOp.TheVariants as operator
 use Rattle.spx_term.specs.declared.term.TermPrefix.TheVariants.{Not}
 use Rattle.spx_term.specs.Conjuncts.{conjuncts}
-use Rattle.spx_formula.specs.Terms.{between}
-use Rattle.spx_formula.specs.Choices.{alternative_facts, and_these, choice_term, choices_term, chosen_term, one_of}
+use Rattle.spx_formula.specs.Choices.{alternative_facts, and_these, choice_term, choices_term, one_of}
 use Rattle.spx_arena.specs.declared.terms.TermId.{TermId}
 use Rattle.spx_arena.specs.Claims.{AreIds, trees_at}
 use Rattle.spx_arena.specs.Sharing.{Adds, Grows, tree_at}
-use Rattle.spx_arena.proofs.Growth.{adds_along, grows_not, grows_twice}
+use Rattle.spx_arena.proofs.Growth.{adds_along, grows_twice}
 use Rattle.spx_arena.proofs.Ids.{ids_push, kept_ids, wider_ids}
 use Rattle.spx_formula.specs.Added.{AddsAll, AddsFacts, choices_of, facts_from}
 use Rattle.spx_formula.proofs.GoalSteps.{adds_pair}

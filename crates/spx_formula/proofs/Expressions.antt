@@ -1,6 +1,6 @@
 -- Terms of expressions, where a value is static and where none is.
-use Rattle.std.proofs.Common.{◌≡◌, Bool, ℤ, pos, List, Option, Some, None, Ok, Err, refl, sym, ap, ◌∙◌}
-use Rattle.std.specs.Prelude.{⊤, is_some}
+use Rattle.std.proofs.Common.{◌≡◌, Bool, ℤ, pos, Option, Some, None, Ok, Err, refl, sym, ap, ◌∙◌}
+use Rattle.std.specs.Prelude.{⊤}
 use Rattle.spx_text.specs.declared.place.Place.{Place}
 use Rattle.spx_tree.specs.declared.expression.Identifier.{Identifier}
 use Rattle.spx_tree.specs.declared.expression.InfixOp.{InfixOp}
@@ -14,12 +14,10 @@ use Rattle.spx_core.specs.declared.expression.CoreExpr.{CoreExpr, CoreExpr-F}
 use Rattle.spx_core.specs.declared.expression.CoreExpr.TheVariants as expr
 use Rattle.spx_core.specs.declared.function.CoreFunction.{CoreFunction}
 use Rattle.spx_core.specs.declared.function.Mapping.{Mapping}
-use Rattle.spx_core.specs.declared.program.Program.{Program}
 use Rattle.spx_core.specs.declared.rule.ExprType.TheVariants.{Of}
 use Rattle.spx_core.specs.declared.rule.RuleName.TheVariants.{N18}
 use Rattle.spx_core.specs.Judged.{Judged, ◌>>=◌, application, expr_step, judged, keeps, named_object, typing}
 use Rattle.spx_core.specs.declared.rule.Typing.{Typing}
-use Rattle.spx_core.specs.Places.{place_of}
 use Rattle.spx_core.specs.Uses.{variable_of}
 use Rattle.spx_core.proofs.Callers.Expressions.{fold-Entry, fold-Number, fold-Parenthesized, induct}
 use Rattle.spx_term.specs.declared.term.Term.{Term}
@@ -27,10 +25,9 @@ use Rattle.spx_term.specs.declared.term.Term.TheVariants.{Number, Infix}
 use Rattle.spx_term.specs.declared.value.Value.{Value}
 use Rattle.spx_term.specs.declared.value.Value.TheVariants as value
 use Rattle.spx_term.specs.Folding.{term_of as static_term}
-use Rattle.spx_term.specs.Steps.{Tree}
 use Rattle.spx_meaning.specs.Evaluation.{term_op}
-use Rattle.spx_meaning.specs.Literals.{base_of, literal, literal_in}
-use Rattle.spx_formula.specs.Terms.{first_term, last_term, literal_or, mapped_term, member_term, moved_term, named, signed_term, term_of, term_with, term_with-Applied, term_with-Attribute, term_with-Entry, term_with-InRange, term_with-InType, term_with-Infix, term_with-Name, term_with-Number, term_with-Parenthesized, term_with-Prefix}
+use Rattle.spx_meaning.specs.Literals.{literal, literal_in}
+use Rattle.spx_formula.specs.Terms.{first_term, last_term, literal_or, mapped_term, member_term, moved_term, named, signed_term, term_with, term_with-Applied, term_with-Attribute, term_with-Entry, term_with-InRange, term_with-InType, term_with-Infix, term_with-Name, term_with-Number, term_with-Parenthesized, term_with-Prefix}
 use Rattle.spx_formula.specs.Functions.{shift_in}
 
 -- ---- static expressions

@@ -1,6 +1,6 @@
 -- What has one value all along.
 use Rattle.std.proofs.Common.{◌≡◌, Bool, true, false, ◌++◌, List, sym, ap, ◌∙◌}
-use Rattle.std.specs.Prelude.{◌&&◌, not}
+use Rattle.std.specs.Prelude.{◌&&◌}
 use Rattle.std.specs.List.{filter_map, list_all}
 use Rattle.std.proofs.lemmas.List.Elements.{filter_map-append}
 use Rattle.std.proofs.lemmas.List.Folds.{list_all-append}
@@ -10,12 +10,11 @@ use Rattle.spx_tree.specs.declared.expression.MemberOp.{MemberOp}
 use Rattle.spx_core.specs.declared.expression.CoreExpr.{CoreExpr}
 use Rattle.spx_core.specs.declared.expression.CoreExpr.TheVariants.{Infix, InRange}
 use Rattle.spx_core.specs.declared.name.CoreName.{CoreName}
-use Rattle.spx_core.specs.declared.subprogram.Sub.{Sub}
-use Rattle.spx_core.specs.Effects.{Read, read_of, reads_of}
+use Rattle.spx_core.specs.Effects.{Read, read_of}
 use Rattle.spx_core.specs.Reads.{names_read, names_step}
 use Rattle.spx_core.proofs.Callers.Expressions.{fold-Infix, fold-InRange}
 use Rattle.spx_formula.specs.declared.entered.Interface.{Interface}
-use Rattle.spx_formula.specs.EntryNames.{IsInterfaceOf, is_fixed_by, stays}
+use Rattle.spx_formula.specs.EntryNames.{is_fixed_by, stays}
 
 module _ (i : Interface) where
   abbrev all_stay : List CoreName → Bool

@@ -51,7 +51,7 @@ use Rattle.spx_meaning.proofs.Callers.Evaluation.{meant_same}
 use Rattle.spx_meaning.proofs.Callers.Scopes.{mode_is, new_is, inner_is, inner_starts, local_is_inner, loop_parameter_is_inner, own_is}
 use Rattle.spx_meaning.proofs.Callers.Stores.{look-put_other}
 use Rattle.spx_meaning.proofs.Callers.Types.{type_is}
-use Rattle.spx_paths.specs.Terms.{now, entry, now_term, entry_term, sort_of_class, sort_of_var}
+use Rattle.spx_formula.specs.Terms.{now, entry, now_term, entry_term, sort_of_class, sort_of_var}
 use Rattle.spx_paths.specs.Checks.{in_type}
 use Rattle.spx_paths.specs.Walks.{ending, ending_with, entering, first_facts, import_facts, initializing, keeps_value, pre_facts, starting_with, walk}
 use Rattle.spx_paths.specs.Fit.{HasValidConditions, Fit}

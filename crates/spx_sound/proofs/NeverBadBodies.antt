@@ -25,7 +25,7 @@ use Rattle.spx_meaning.specs.Stores.{Store, put, type_of}
 use Rattle.spx_meaning.specs.Frames.{Frame}
 use Rattle.spx_meaning.specs.Evaluation.{eval}
 use Rattle.spx_meaning.specs.Runs.{demand, assign, run, has_value, run_for}
-use Rattle.spx_paths.specs.Terms.{now, now_term, sort_of_var, term_of}
+use Rattle.spx_formula.specs.Terms.{now, now_term, sort_of_var, term_of}
 use Rattle.spx_paths.specs.Walks.{cuts, cuts_for, alternative_facts, and_these, assigned, walk, walk_for}
 use Rattle.spx_sound.proofs.Typings.{RightSide, right_side, both_typed, arms_typed, AreTyped, last_typed, select_typed, when_typed}
 use Rattle.spx_sound.proofs.SortedTerms.{HasSortOf, now_sorted, is_sorted, right_sort, value_sorted}

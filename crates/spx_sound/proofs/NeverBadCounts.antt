@@ -44,7 +44,7 @@ use Rattle.spx_meaning.specs.Runs.{Outcome, Ended, counted, demand, end_of, in_b
 use Rattle.spx_meaning.proofs.Callers.Stores.{look-put_same}
 use Rattle.spx_meaning.proofs.Callers.Types.{type_is}
 use Rattle.spx_meaning.proofs.Callers.Types.{type_has_value}
-use Rattle.spx_paths.specs.Terms.{first_name, last_name, now, now_term, sort_of_var, term_of}
+use Rattle.spx_formula.specs.Terms.{first_name, last_name, now, now_term, sort_of_var, term_of}
 use Rattle.spx_paths.specs.Checks.{checks}
 use Rattle.spx_paths.specs.Walks.{before_end, bound_term, cuts, end_of_turn, end_term, enter_range, high_term, is_fixed, keeps_value, leaving, loop_cut, low_term, naming, next_term, range_goal, start_term}
 use Rattle.spx_sound.proofs.Typings.{IsTyped, TypedBound, bounds_typed, count_typed}

@@ -39,7 +39,7 @@ use Rattle.spx_meaning.specs.declared.bad.BadKind.TheVariants.{Assert as AssertB
 use Rattle.spx_meaning.specs.Stores.{Store, declared, first_of_class, first_value, is_in, is_within, look, reading, seen, type_of}
 use Rattle.spx_meaning.specs.Runs.{Outcome, Ended, Later, after_turn, always, demand, pre_holds, run, turns, use_value}
 use Rattle.spx_meaning.proofs.Callers.Types.{type_has_value}
-use Rattle.spx_paths.specs.Terms.{now_term, entry, entry_term, term_of}
+use Rattle.spx_formula.specs.Terms.{now_term, entry, entry_term, term_of}
 use Rattle.spx_paths.specs.Checks.{in_type}
 use Rattle.spx_paths.specs.Walks.{as_far_as_cut, count_facts, cut_facts, cuts, end_of_turn, entry_facts, from_cut, high_term, leaving, loop_cut, low_term, pre_facts_on_entry, decided, one_before, var_facts, walk}
 use Rattle.spx_paths.proofs.CutOff.{cut_off}

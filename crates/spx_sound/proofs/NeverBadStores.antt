@@ -37,7 +37,7 @@ use Rattle.spx_meaning.specs.Frames.{Frame, around}
 use Rattle.spx_meaning.specs.Annotations.{truth}
 use Rattle.spx_meaning.proofs.Callers.Evaluation.{AgreeOnUses, meant_same}
 use Rattle.spx_meaning.proofs.Callers.Stores.{look-put_either, look-put_other}
-use Rattle.spx_paths.specs.Terms.{now, now_term, entry, entry_term, first_name, last_name, sort_of_class, sort_of_var, term_of}
+use Rattle.spx_formula.specs.Terms.{now, now_term, entry, entry_term, first_name, last_name, sort_of_class, sort_of_var, term_of}
 use Rattle.spx_paths.specs.Checks.{in_class, in_range, in_type}
 use Rattle.spx_paths.specs.Walks.{asserted, bound_term, checked_in, high_term, is_fixed, keeps_value, low_term, range_check}
 use Rattle.spx_sound.proofs.SortedTerms.{integer_is}

@@ -1,4 +1,4 @@
-use Rattle.std.proofs.Common.{◌∙◌, pos, refl, rules, sym, ap}
+use Rattle.std.proofs.Common.{◌∙◌, rules, sym, ap}
 use Rattle.std.proofs.lemmas.Int.{to_z-of_z}
 use Rattle.std.specs.Int.{w128}
 use Rattle.spx_core.specs.declared.expression.CoreExpr.{CoreExpr}

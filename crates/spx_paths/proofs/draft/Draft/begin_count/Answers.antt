@@ -1,5 +1,5 @@
 use Rattle.std.proofs.Common.{ap}
-use Rattle.std.proofs.lemmas.Result.{IfOk-weaker}
+use Rattle.std.proofs.lemmas.Result.{MatchResult-weaker}
 use Rattle.spx_term.specs.declared.term.Name.{Name}
 use Rattle.spx_term.specs.Steps.{Assign}
 use Rattle.spx_steps.specs.Trees.{step_tree}
@@ -13,4 +13,4 @@ returns c =
     let p = c.args.body.now.program.now in
     let start = start_term p c.args.body.now.sub.now c.args.count.now in
     let rest = step_tree c.args.self.now.steps c.args.into in
-    IfOk-weaker c.assign.result _ _ (λ id s. lays_given start c.now.result c.args.into (Assign (now p c.args.count.now.parameter) start rest) c.requires.within c.in_ok-start.ensures s (ap (λ (n : Name). Assign n start rest) c.now.ensures)) c.assign.ensures
+    MatchResult-weaker c.assign.result c.assign.ensures (λ id s. lays_given start c.now.result c.args.into (Assign (now p c.args.count.now.parameter) start rest) c.requires.within c.in_ok-start.ensures s (ap (λ (n : Name). Assign n start rest) c.now.ensures)) (λ _ _. _)

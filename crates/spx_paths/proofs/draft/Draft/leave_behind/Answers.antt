@@ -1,6 +1,6 @@
 use Rattle.std.proofs.Common.{rules, ap, ◌∙◌}
 use Rattle.std.proofs.lemmas.Int.{to_z-of_z}
-use Rattle.std.proofs.lemmas.Result.{IfOk-weaker}
+use Rattle.std.proofs.lemmas.Result.{MatchResult-weaker}
 use Rattle.std.specs.Int.{w128}
 use Rattle.spx_core.specs.declared.entity.Subtype.{Subtype}
 use Rattle.spx_paths.proofs.BoundLaws.{order_terms, parameter_given}
@@ -12,4 +12,4 @@ assign-requires-clause-whole c = order_terms c.requires.ready.order c.in_ok-firs
 pub returns : goal.returns
 returns c =
     let is = to_z-of_z w128 c.type_of-least.result.first (search rules) ∙ ap (λ (s : Subtype). s.first) c.type_of-least.ensures in
-    IfOk-weaker c.assign.result _ _ (λ id s. parameter_given c.args.body.now.program.now c.args.count.now c.now.result c.args.next c.requires.ready c.requires.within c.in_ok-first.ensures.grown c.in_ok-first.ensures.made is c.now.ensures s) c.assign.ensures
+    MatchResult-weaker c.assign.result c.assign.ensures (λ id s. parameter_given c.args.body.now.program.now c.args.count.now c.now.result c.args.next c.requires.ready c.requires.within c.in_ok-first.ensures.grown c.in_ok-first.ensures.made is c.now.ensures s) (λ _ _. _)

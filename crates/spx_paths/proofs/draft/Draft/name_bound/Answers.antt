@@ -1,5 +1,5 @@
 use Rattle.std.proofs.Common.{sym, ◌∙◌}
-use Rattle.std.proofs.lemmas.Result.{IfOk-weaker}
+use Rattle.std.proofs.lemmas.Result.{MatchResult-weaker}
 use Rattle.spx_steps.specs.Trees.{step_tree}
 use Rattle.spx_paths.specs.Walks.{naming}
 use Rattle.spx_formula.specs.Terms.{now_term, term_of}
@@ -21,4 +21,4 @@ returns c =
     let sub = c.args.body.now.sub.now in
     let rest = step_tree c.args.self.now.steps c.args.next in
     let is = named_by p sub c.args.body.now.interface.now c.requires.interface c.args.name c.args.expr.now (sym c.is_fixed.ensures ∙ c.if-is_fixed.false) rest in
-    IfOk-weaker c.assign.result _ _ (λ id s. lays_given (term_of p (now_term p) c.args.expr.now) c.args.name c.args.next (naming p sub c.args.name c.args.expr.now rest) c.requires.within c.in_ok-value.ensures s is) c.assign.ensures
+    MatchResult-weaker c.assign.result c.assign.ensures (λ id s. lays_given (term_of p (now_term p) c.args.expr.now) c.args.name c.args.next (naming p sub c.args.name c.args.expr.now rest) c.requires.within c.in_ok-value.ensures s is) (λ _ _. _)
