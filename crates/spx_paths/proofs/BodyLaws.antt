@@ -1,5 +1,5 @@
 -- The steps of a whole body.
-use Rattle.std.proofs.Common.{◌≡◌, ◌≤◌, ℕ, Bool, List, [], ◌∷◌, ◌++◌, length, map, reverse, None, Some, refl, sym, ap, ◌∙◌, subst, arith, get_or, nat_lt}
+use Rattle.std.proofs.Common.{◌≡◌, ℕ, Bool, List, [], ◌∷◌, length, map, reverse, None, Some, refl, sym, ap, ◌∙◌, subst, get_or, nat_lt}
 use Rattle.std.specs.Prelude.{slice_get}
 use Rattle.std.specs.List.{flat_map}
 use Rattle.std.proofs.lemmas.List.{reverse-append}

@@ -1,9 +1,9 @@
 -- What is known at the start of a body and after its cuts.
-use Rattle.std.proofs.Common.{◌≡◌, ◌+◌, ◌<◌, ◌≤◌, ℕ, Bool, cond, true, false, List, [], ◌∷◌, ◌++◌, length, take, get_or, Option, Some, None, refl, sym, ap, ◌∙◌, subst, append_assoc, append-nil}
+use Rattle.std.proofs.Common.{◌≡◌, ◌<◌, ℕ, Bool, cond, true, false, List, [], ◌∷◌, ◌++◌, length, Option, Some, None, refl, sym, ap, ◌∙◌, subst, append_assoc, append-nil}
 use Rattle.std.specs.Prelude.{not, ◌&&◌, if◌then◌else◌}
 use Rattle.std.specs.List.{flat_map}
 use Rattle.std.proofs.lemmas.Grind.{flat_map-append}
-use Rattle.std.proofs.lemmas.List.{map-append, take_all, take_more}
+use Rattle.std.proofs.lemmas.List.{map-append}
 use denote.Bor.{Bor}
 use Rattle.spx_core.specs.declared.entity.Subtype.{Subtype}
 use Rattle.spx_core.specs.declared.entity.VarId.{VarId}
@@ -19,7 +19,7 @@ use Rattle.spx_term.specs.declared.term.Term.{Term}
 use Rattle.spx_term.specs.declared.term.Term.TheVariants.{Infix, Variable}
 use Rattle.spx_term.specs.declared.term.TermOp.TheVariants as operator
 use Rattle.spx_term.specs.Conjuncts.{conjuncts}
-use Rattle.spx_term.specs.Steps.{Tree, Assign, Assume, assume_all}
+use Rattle.spx_term.specs.Steps.{Tree, Assign, assume_all}
 use Rattle.spx_meaning.specs.Runs.{initial_value}
 use Rattle.spx_meaning.specs.Stores.{type_of}
 use Rattle.spx_arena.specs.declared.terms.TermId.{TermId}
@@ -39,7 +39,7 @@ use Rattle.spx_formula.specs.Goals.{in_type}
 use Rattle.spx_paths.specs.Drafts.{AddsMore, AddsTerm, AddsTerms, Lays, else_known, known_at_cuts, pre_parts}
 use Rattle.spx_formula.specs.EntryNames.{IsInterfaceOf, entry_name, meant}
 use Rattle.spx_formula.specs.Terms.{entry, entry_term, now, now_term, term_of, term_with}
-use Rattle.spx_paths.specs.Walks.{count_facts, entering, entry_facts, first_facts, from_cut, high_term, import_facts, initializing, low_term, pre_facts, pre_facts_on_entry, starting_with, var_facts}
+use Rattle.spx_paths.specs.Walks.{count_facts, entering, entry_facts, first_facts, high_term, import_facts, initializing, low_term, pre_facts, pre_facts_on_entry, starting_with, var_facts}
 use Rattle.spx_paths.proofs.CutLists.{assume_all-append}
 use Rattle.spx_paths.proofs.BoundLaws.{only_grows, only_term, only_twice}
 

@@ -1,5 +1,5 @@
 -- Steps that are made from the end of a body to its start.
-use Rattle.std.specs.Prelude.{◌≡◌, ℕ, ◌<◌, Bool, true, false, Option, Some, None, List, [], ◌∷◌, ◌++◌, flat_map, length, map, reverse, option_map, slice_get, take, IfSome}
+use Rattle.std.specs.Prelude.{◌≡◌, ℕ, ◌<◌, Bool, Option, Some, None, List, [], ◌∷◌, ◌++◌, flat_map, length, map, reverse, option_map, IfSome}
 use Rattle.spx_core.specs.declared.program.Program.{Program}
 use Rattle.spx_core.specs.declared.expression.CoreExpr.{CoreExpr}
 use Rattle.spx_core.specs.declared.subprogram.Sub.{Sub}
@@ -8,7 +8,7 @@ use Rattle.spx_core.specs.declared.statement.CoreArm.{CoreArm}
 use Rattle.spx_core.specs.declared.statement.CoreCount.{CoreCount}
 use Rattle.spx_core.specs.Formals.{formals, locals}
 use Rattle.spx_core.specs.declared.statement.CoreStmt.{CoreStmt}
-use Rattle.spx_core.specs.Commands.{Command, Head, arm_before, arms_before, command, commands, has_own_cut, is_assert}
+use Rattle.spx_core.specs.Commands.{Command, Head, arm_before, arms_before, commands, has_own_cut}
 use Rattle.spx_term.specs.declared.condition.CondKind.TheVariants as kind
 use Rattle.spx_term.specs.declared.term.Term.{Term}
 use Rattle.spx_term.specs.declared.term.Term.TheVariants as term
@@ -18,7 +18,7 @@ use Rattle.spx_meaning.specs.Stores.{type_of}
 use Rattle.spx_term.specs.Steps.{Tree, Assign, Assume, Cut, Split, assume_all, check}
 use Rattle.spx_arena.specs.declared.terms.TermId.{TermId}
 use Rattle.spx_arena.specs.Claims.{AreIds, trees_at}
-use Rattle.spx_arena.specs.Sharing.{tree_at, Grows, IsId}
+use Rattle.spx_arena.specs.Sharing.{IsId}
 use Rattle.spx_steps.specs.declared.steps.StepId.{StepId}
 use Rattle.spx_steps.specs.declared.steps.Steps.{Steps}
 use Rattle.spx_steps.specs.Trees.{AreRoots, AreSteps, InOrder, IsStep, MoreSteps, root_trees, step_tree}
