@@ -193,7 +193,7 @@ impl Draft {
         at = self.name_bound(body, last_name(count.parameter), range.high.get(), at)?;
         at = self.name_bound(body, first_name(count.parameter), range.low.get(), at)?;
         self.checked(alloc, body.program, range.low.get())?;
-        self.also_checked(alloc, body.program, range.high.get())?;
+        self.checked_id(alloc, body.program, &[], range.high.get())?;
         let id = self.lay(at)?;
         Ok(id)
     }

@@ -599,13 +599,8 @@ impl Draft {
         match stmt {
             CoreStmt::Null(_) => Ok(next.rest),
             CoreStmt::Assignment(target, value) => {
-                let id = self.assignment(
-                    alloc,
-                    body.program,
-                    target.get(),
-                    value.get(),
-                    next.rest,
-                )?;
+                let value = value.get();
+                let id = self.assignment(alloc, body.program, target.get(), value, next.rest)?;
                 Ok(id)
             }
             CoreStmt::Assertion(kind, place, condition) => {

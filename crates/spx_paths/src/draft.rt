@@ -5,7 +5,7 @@ ghost use Rattle.spx_arena.specs.Claims.{AreIds, trees_at};
 ghost use Rattle.spx_formula.specs.Goals.{guarded};
 ghost use Rattle.spx_paths.specs.Waiting.{Finds, Keeps, Whole};
 ghost use Rattle.spx_steps.specs.Trees.{InOrder, step_tree};
-ghost use Rattle.spx_paths.specs.Drafts.{AddsTerm, AlsoWaits, AreChecks, Evaluates, Makes, Ready, laid};
+ghost use Rattle.spx_paths.specs.Drafts.{AddsTerm, AreChecks, Evaluates, Makes, Ready, laid};
 ghost use Rattle.spx_formula.specs.Terms.{now_term, term_of};
 
 use spx_arena::TermId;
@@ -51,21 +51,6 @@ impl Draft {
     ) -> Result<TermId, AllocError>
         requires { Ready self.old }
         ensures { IfOk result (Evaluates program.now self.old self.new expr.now) }
-    {
-        let id = self.checked_id(alloc, program, &[], expr)?;
-        Ok(id)
-    }
-
-    /// The checks of an expression wait after those that wait, and this is its term.
-    pub fn also_checked(
-        &mut self,
-        alloc: Global,
-        program: &Program,
-        expr: &CoreExpr,
-    ) -> Result<TermId, AllocError>
-        requires order { InOrder self.old.steps }
-        requires checks { AreChecks (length self.old.steps.terms) self.old.checks }
-        ensures { IfOk result (AlsoWaits program.now self.old self.new expr.now) }
     {
         let id = self.checked_id(alloc, program, &[], expr)?;
         Ok(id)
