@@ -1,5 +1,5 @@
 -- Contents that are loaded one after another.
-use Rattle.std.proofs.Common.{sym, drop, ◌≡◌, ℕ, zero, suc, ◌<◌, true, List, [], ◌∷◌, ◌++◌, length, map, take, get_or, replicate, Option, Some, None, IfSome, unwrap_or, nat_lt, Vec, String, string_bytes, refl, ap, ap₂, subst, ◌∙◌, arith}
+use Rattle.std.proofs.Common.{sym, drop, inl, inr, ◌≡◌, ℕ, zero, suc, ◌<◌, true, List, [], ◌∷◌, ◌++◌, length, map, take, get_or, replicate, Option, Some, None, IfSome, unwrap_or, nat_lt, Vec, String, string_bytes, refl, ap, ap₂, subst, ◌∙◌, arith}
 use Rattle.std.specs.Global.{Global}
 use Rattle.std.proofs.lemmas.Bool.Decides.{nat_tests}
 use Rattle.std.proofs.lemmas.List.{length-replicate, map-append, append_assoc}
@@ -8,7 +8,7 @@ use Rattle.std.proofs.Math.Seq.{take-suc}
 use Rattle.std.specs.Prelude.{false}
 use Rattle.std.specs.List.{All}
 use Rattle.spx_text.specs.Loads.{names, Appends}
-use Rattle.spx_examiner.specs.Causes.{ForFiles, MayHold, AreKnown, contents_of, is_too_long, any_too_long, IsShort, EndedAt, named}
+use Rattle.spx_examiner.specs.Causes.{ForFiles, MayHold, AreKnown, contents_of, is_too_long, any_too_long, IsShort, EndedAt, named, AreLoaded}
 
 -- ---- what files may hold
 
@@ -131,3 +131,8 @@ ended_at known words i d before so_far now below short so last =
 pub long_here : (known : Option (List ℕ)) → IfSome known (λ given. 4194304 < length given) → IfSome known (λ given. is_too_long given ≡ true)
 long_here None long = _
 long_here (Some given) long = grind (arith, nat_tests, long)
+
+-- files are loaded, whatever the work may end by
+pub loaded_so : {P Q : Type 0} {known : List ℕ → Option (List ℕ)} {files before now : List (List ℕ)} → (P → Q) → AreLoaded P known files before now → AreLoaded Q known files before now
+loaded_so more (inl loaded) = inl loaded
+loaded_so more (inr (long, end)) = inr (long, more end)

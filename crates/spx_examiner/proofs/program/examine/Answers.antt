@@ -1,10 +1,10 @@
-use Rattle.std.proofs.Common.{rules, ◌≡◌, inl, inr, ap, sym, subst, ◌∙◌}
+use Rattle.std.proofs.Common.{rules, ◌≡◌, inl, inr, refl, ap, sym, subst, ◌∙◌}
 use Rattle.spx_text.specs.Loads.{names}
 use Rattle.spx_examiner.specs.declared.status.Status.TheVariants.{Accepted, Refused, Usage, Limit, RunFault, NotEnded}
 use Rattle.spx_examiner.specs.Causes.{named}
 use Rattle.spx_examiner.specs.Judgement.{status_of, text_of}
 use Rattle.spx_examiner.specs.Outcome.{SaysHowItRan}
-use Rattle.spx_examiner.proofs.Loading.{where_known}
+use Rattle.spx_examiner.proofs.Loading.{loaded_so, where_known}
 use Rattle.spx_examiner.proofs.Reliable.{causes, lists_conditions, reliable, runs_to}
 use Rattle.spx_examiner.proofs.program.examine.Goals as goal
 
@@ -86,3 +86,9 @@ returns-in-Ok-write_all_pieces-clause-ran g c = λ runs how.
     let (r, asks, found) = runs_to c.laws_below.ensures (names c.args.words.now) contents c.in-Ok.made.judgement judged runs told in
     let text = ap (text_of (named (names c.args.words.now))) found.2 in
     (contents, holds, (r, asks, found.0, found.1, rw (← text) (search rules)))
+
+pub returns-in-Ok-write_all_pieces-clause-loads : goal.returns-in-Ok-write_all_pieces-clause-loads
+returns-in-Ok-write_all_pieces-clause-loads g c = λ read memory. loaded_so (λ is. inl (c.status.ensures ∙ is)) c.in-Ok.ensures.loads
+
+pub returns-clause-loads : goal.returns-clause-loads
+returns-clause-loads g c = λ read memory. loaded_so (λ is. inr refl) c.in-Ok.ensures.loads
