@@ -7,7 +7,7 @@ ghost use Rattle.spx_core.specs.Erased.{Visible};
 ghost use Rattle.spx_core.specs.Effects.{sets};
 ghost use Rattle.spx_core.specs.Mirror.VarSets.{holds, positions_of};
 ghost use Rattle.spx_lower.specs.Meaning.{effect_in};
-ghost use Rattle.spx_core.specs.FlowRules.{is_wide};
+ghost use Rattle.spx_core.specs.FlowRules.{is_wide, most_variables};
 ghost use Rattle.spx_passes.specs.Positions.{exits_in};
 ghost use Rattle.spx_flow.specs.Flows.{BodyCovered, IsBackwardFlow, IsFaultOf, IsFlow};
 
@@ -59,7 +59,7 @@ fn frame_of(alloc: Global, sub: &Sub, items: &[Item]) -> Result<Frame, AllocErro
 fn backward_in(alloc: Global, sub: &Sub) -> Result<BackwardFlow, AllocError>
     requires once { IsDistinct (λ (v : VarId) (w : VarId). w.0 == v.0) sub.now.vars }
     requires covers { BodyCovered sub.now }
-    requires size { length sub.now.vars ≤ 4096 }
+    requires size { length sub.now.vars ≤ most_variables }
     ensures { IfOk result (λ back. IsBackwardFlow sub.now back.rho back.mu) }
 {
     let items = lower(alloc, sub.statements.as_slice())?;
@@ -72,7 +72,7 @@ fn backward_in(alloc: Global, sub: &Sub) -> Result<BackwardFlow, AllocError>
 fn flow_in(alloc: Global, sub: &Sub, back: BackwardFlow) -> Result<Flow, AllocError>
     requires once { IsDistinct (λ (v : VarId) (w : VarId). w.0 == v.0) sub.now.vars }
     requires covers { BodyCovered sub.now }
-    requires size { length sub.now.vars ≤ 4096 }
+    requires size { length sub.now.vars ≤ most_variables }
     requires back { IsBackwardFlow sub.now back.rho back.mu }
     ensures { IfOk result (IsFlow sub.now) }
 {

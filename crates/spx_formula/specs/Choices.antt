@@ -15,6 +15,7 @@ abbrev pub chosen_term : Term → Option CoreExpr → Span → Term
 chosen_term t None span = term.Infix operator.Equal t (term.Number span.first)
 chosen_term t (Some high) span = between t (term.Number span.first) (term.Number span.last)
 
+-- the selector has one of the values that this choice names
 abbrev pub choice_term : Term → CoreChoice → Term
 choice_term t choice = chosen_term t choice.high choice.span
 
@@ -23,6 +24,7 @@ abbrev pub one_of : Term → Term → List CoreChoice → Term
 one_of t so_far [] = so_far
 one_of t so_far (choice ∷ rest) = one_of t (term.Infix operator.Or so_far (choice_term t choice)) rest
 
+-- it has one of the values that these choices name
 abbrev pub choices_term : Term → List CoreChoice → Term
 choices_term t [] = term.Truth false
 choices_term t (choice ∷ rest) = one_of t (choice_term t choice) rest

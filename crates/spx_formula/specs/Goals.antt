@@ -18,6 +18,7 @@ in_class class.Integer first last t = in_range first last t
 in_class class.Boolean first last t = []
 in_class class.Enumeration first last t = in_range first last t
 
+-- the value lies in the range of the subtype
 abbrev pub in_type : Subtype → Term → List Term
 in_type subtype t = in_class subtype.base.class subtype.first subtype.last t
 
