@@ -1,6 +1,7 @@
 // The points between which values flow: variables before and after statements, variables where the loop around these is left,
 // and the conditions of exits from it.
 ghost use Rattle.std.specs.Prelude.{◌≡◌, ◌≤◌, ◌+◌, length};
+ghost use Rattle.spx_core.specs.FlowRules.{most_variables};
 ghost use Rattle.spx_passes.specs.Points.{size_of};
 
 use spx_core::VarSet;
@@ -16,7 +17,7 @@ pub struct Frame {
 
 /// How many points there are.
 pub(crate) fn size_of(frame: &Frame) -> usize
-    requires { length frame.now.vars ≤ 4096 }
+    requires { length frame.now.vars ≤ most_variables }
     ensures size { result ≡ size_of frame.now }
     ensures limit { result ≤ 65536 }
 {

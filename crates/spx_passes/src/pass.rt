@@ -1,5 +1,6 @@
 // One pass over statements, forward or backward.
 ghost use Rattle.std.specs.Prelude.{◌≡◌, ◌==◌, ◌↔◌, ◌≤◌, ◌++◌, ℕ, [], All, IfOk, OnOk, length, map, true};
+ghost use Rattle.spx_core.specs.FlowRules.{most_variables};
 ghost use Rattle.std.specs.List.{IsDistinct};
 ghost use Rattle.spx_text.specs.declared.place.Place.{Place};
 ghost use Rattle.spx_core.specs.declared.entity.VarId.{VarId};
@@ -385,7 +386,7 @@ pub fn forward(
     items: &[Item],
 ) -> Result<Items<Occurrence>, AllocError>
     requires covers { Covers frame.now (effect_in items.now) }
-    requires size { length frame.now.vars ≤ 4096 }
+    requires size { length frame.now.vars ≤ most_variables }
     ensures rows { IfOk result (AreRows (length frame.now.vars)) }
     ensures lambda { IfOk result (λ list. (p : Place) (a : ℕ) (x : VarId) → Stands frame.now.vars a x → Relates list p a ↔ Lambda (effect_in items.now) x p) }
 {
@@ -399,7 +400,7 @@ pub fn forward(
 /// What leads on to the variables after the items.
 pub fn backward(alloc: Global, frame: &Frame, items: &[Item]) -> Result<BackwardFlow, AllocError>
     requires covers { Covers frame.now (effect_in items.now) }
-    requires size { length frame.now.vars ≤ 4096 }
+    requires size { length frame.now.vars ≤ most_variables }
     ensures { IfOk result (λ back. LeadOn frame.now.vars (effect_in items.now) back.rho back.mu) }
 {
     let size = size_of(frame);
