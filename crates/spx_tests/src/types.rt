@@ -1,9 +1,10 @@
 // Rows of declared types.
 ghost use Rattle.std.specs.Prelude.{◌≤◌, length};
+ghost use Rattle.spx_text.specs.Limits.{most_bytes};
 
 use spx_core::{Program, TypeRow};
 use spx_lexer::lex;
-use spx_naming::{make_program, make_program};
+use spx_naming::make_program;
 use spx_parse_unit::parse_units;
 use spx_typing::type_row;
 use sqlite_items::Boxed;
@@ -15,7 +16,7 @@ const TEXT: &[u8] =
 
 /// The program of a text.
 pub fn program(alloc: Global, text: &[u8]) -> Result<Boxed<Program>, AllocError>
-    requires { length text.now ≤ 4194304 }
+    requires { length text.now ≤ most_bytes }
 {
     let Ok(tokens) = lex(alloc, 0, text) else {
         return Err(AllocError);
