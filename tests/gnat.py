@@ -8,7 +8,8 @@ it says so and compares nothing.
 
     tests/gnat.py SEED COUNT                   compares so many random texts; a seed always gives the same ones
     tests/gnat.py SEED COUNT --typed           so many short texts, each with types and few expressions over them
-    tests/gnat.py SEED COUNT --program PATH    asks a program, spx_table or spx_cli, in place of the second reading
+    tests/gnat.py --table                      the texts of tests/table.py
+    tests/gnat.py SEED COUNT --program PATH    also asks a program, spx_table or spx_cli, which must agree with the second reading
     tests/gnat.py SEED COUNT --reasons         also prints how often each reason was used
 
 It prints each difference with its text, and ends with 1 where there is one.
@@ -120,11 +121,16 @@ class Typed(Writer):
         mark = self.random.choice(self.declared.of_base(base) or [PREDEFINED[0]]).name
         other = self.a_type()
         operand = self.of_base(other.base, variables, depth)
-        exponent = self.random.choice(('0', '1', '2', '3', '31', '(-1)', f'({self.of_base("Integer", variables, depth)})'))
+        exponent = self.random.choice(self.exponents(variables))
         return self.random.choice((f'{left} {self.random.choice("+-")} {right}', f'{left} {self.random.choice("+-")} {right}',
                                    f'{left} {self.random.choice(PRODUCTS)} {right}', f'{left} ** {exponent}',
                                    f'{self.random.choice(("2", "2", "10", "1"))} ** {exponent}', f'-{left}', f'abs {left}', f"{mark}'{left}", f'{mark} {left}',
                                    f"{mark} ({operand})", f"{other.name}'Pos ({operand})"))
+
+    def exponents(self, variables):
+        """Small exponents, and variables: a huge static one takes a compiler long."""
+        constants = tuple(name for name, base, value in self.declared.constants if base in (None, 'Integer') and abs(value) < 100)
+        return ('0', '1', '2', '3', '31', '(-1)') + constants + self.over('Integer', self.numbers, variables) * 2
 
     def of_literals(self, base, variables, depth):
         """A function whose result is a literal."""
