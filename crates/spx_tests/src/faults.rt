@@ -14,6 +14,7 @@ const CHECK: &str = "check inc.adb";
 const RUN: &str = "run --entry Inc --inputs inc.txt inc.adb";
 
 /// What fails, and what comes of it.
+#[derive(Drop)]
 struct Case {
     words: &'static str,
     /// The load that fails, from 0.
@@ -29,7 +30,7 @@ struct Case {
     asked: usize,
 }
 
-const fn load_fails(words: &'static str, load: u64, asked: usize) -> Case {
+fn load_fails(words: &'static str, load: u64, asked: usize) -> Case {
     Case {
         words,
         load: Some(load),
@@ -41,7 +42,7 @@ const fn load_fails(words: &'static str, load: u64, asked: usize) -> Case {
     }
 }
 
-const fn write_fails(most: usize, write: Option<u64>, taken: usize) -> Case {
+fn write_fails(most: usize, write: Option<u64>, taken: usize) -> Case {
     Case {
         words: CHECK,
         load: None,
@@ -54,16 +55,18 @@ const fn write_fails(most: usize, write: Option<u64>, taken: usize) -> Case {
 }
 
 /// The report takes four writes of at most 16 bytes.
-const CASES: [Case; 8] = [
-    load_fails(CHECK, 0, 1),
-    load_fails(RUN, 0, 1),
-    load_fails(RUN, 1, 2),
-    write_fails(16, Some(0), 0),
-    write_fails(16, Some(1), 16),
-    write_fails(16, Some(2), 32),
-    write_fails(16, Some(3), 48),
-    write_fails(0, None, 0),
-];
+fn cases(alloc: Global) -> Result<Vec<Case>, AllocError> {
+    vec![in alloc;
+        load_fails(CHECK, 0, 1),
+        load_fails(RUN, 0, 1),
+        load_fails(RUN, 1, 2),
+        write_fails(16, Some(0), 0),
+        write_fails(16, Some(1), 16),
+        write_fails(16, Some(2), 32),
+        write_fails(16, Some(3), 48),
+        write_fails(0, None, 0),
+    ]
+}
 
 fn held(alloc: Global, name: &str, text: &[u8]) -> Result<HeldFile, AllocError> {
     Ok(HeldFile {
@@ -107,7 +110,8 @@ fn is_as_said(alloc: Global, case: &Case) -> Result<bool, AllocError> {
 #[test]
 fn a_fault_ends_the_work_where_it_comes(rt: HostRuntime) -> Result<(), Fail> {
     let alloc = rt.alloc();
-    for case in &CASES {
+    let cases = cases(alloc)?;
+    for case in cases.as_slice() {
         assert!(rt; is_as_said(alloc, case)?, "{}", case.words);
     }
     Ok(())
