@@ -56,7 +56,7 @@ fn write_fails(most: usize, write: Option<u64>, taken: usize) -> Case {
 
 /// The report takes four writes of at most 16 bytes.
 fn cases(alloc: Global) -> Result<Vec<Case>, AllocError> {
-    vec![in alloc;
+    let cases = vec![in alloc;
         load_fails(CHECK, 0, 1),
         load_fails(RUN, 0, 1),
         load_fails(RUN, 1, 2),
@@ -65,7 +65,8 @@ fn cases(alloc: Global) -> Result<Vec<Case>, AllocError> {
         write_fails(16, Some(2), 32),
         write_fails(16, Some(3), 48),
         write_fails(0, None, 0),
-    ]
+    ]?;
+    Ok(cases)
 }
 
 fn held(alloc: Global, name: &str, text: &[u8]) -> Result<HeldFile, AllocError> {
