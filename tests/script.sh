@@ -844,11 +844,11 @@ steps() {
     is "$(grep -c '^refused' "$room/out")" 3
     is "$(sed -n 's/^::add-matcher:://p' "$room/out")" "$tree/docs/problem-matcher.json"
     what='README.md: the blocks for editors'
-    for program in vim elisp json yaml; do
-        if awk -v kind="$program" '$0 == "```" kind { inside = 1; next } /^```/ { inside = 0 } inside' "$top/README.md" | grep -qE 'SPX'; then
+    for language in vim elisp json yaml; do
+        if awk -v kind="$language" '$0 == "```" kind { inside = 1; next } /^```/ { inside = 0 } inside' "$top/README.md" | grep -qE 'SPX'; then
             pass
         else
-            fail "$program calls spx by another path than SPX"
+            fail "$language calls spx by another path than SPX"
         fi
     done
 }
