@@ -35,8 +35,9 @@ pub trait Files {
         // No call changes what is known.
         ensures known { (n : List ℕ) → known self.new n ≡ known self.old n }
 
-        // The name is one that was asked for, whatever the answer, unless memory runs out.
+        // The name is one that was asked for, whatever the answer. Where memory runs out, it may not be.
         ensures asked { (IsErrOf result LoadFault.Memory → ⊥) → asked self.new ≡ asked self.old ++ name.now ∷ [] }
+        ensures grown { (asked self.new ≡ asked self.old) ⊎ (asked self.new ≡ asked self.old ++ name.now ∷ []) }
 
         // It is one whose load failed exactly where the answer is `Failed`.
         ensures failed { failed self.new ≡ failed self.old ++ failed_by result name.now }

@@ -72,6 +72,7 @@ impl Files for MemFiles {
     fn load(&mut self, name: &str, into: &mut Vec<u8>, most: usize) -> Result<(), LoadFault>
         ensures known { (n : List ℕ) → bytes_held self.new.held.items n ≡ bytes_held self.old.held.items n }
         ensures asked { (IsErrOf result LoadFault.Memory → ⊥) → names self.new.asked.items ≡ names self.old.asked.items ++ name.now ∷ [] }
+        ensures grown { (names self.new.asked.items ≡ names self.old.asked.items) ⊎ (names self.new.asked.items ≡ names self.old.asked.items ++ name.now ∷ []) }
         ensures failed { names self.new.failed.items ≡ names self.old.failed.items ++ failed_by result name.now }
         ensures kept { OnOk result (take (length into.old.items) into.new.items ≡ into.old.items) }
         ensures loaded { OnOk result (IfSome (bytes_held self.old.held.items name.now) (Appends most into.old.items into.new.items)) }
