@@ -1,50 +1,50 @@
 -- Values that are not too wide, and how a numeral and an exponent make them greater.
-use Rattle.std.proofs.Common.{◌≡◌, ◌≢◌, inl, inr, ℕ, zero, suc, min, ◌+◌, ◌-◌, ◌*◌, ◌/◌, ◌≤◌, ◌<◌, ◌^◌, Bool, true, false, cond, List, [], ◌∷◌, take, drop, get_or, length, not, nat_lt, IfSome, ◌&&◌, Option, Some, None, refl, sym, ap, ◌∙◌, arith, ltb, eqb}
+use Rattle.std.proofs.Common.{◌≡◌, ◌≢◌, inl, inr, ℕ, zero, suc, min, ◌+◌, ◌-◌, ◌*◌, ◌/◌, ◌≤◌, ◌<◌, ◌^◌, Bool, true, false, cond, List, [], ◌∷◌, take, drop, get_or, length, not, nat_lt, IfSome, ◌&&◌, Option, Some, None, refl, sym, ap, ◌∙◌, arith, leb, eqb}
 use Rattle.std.specs.List.{filter}
 use Rattle.std.specs.Char.{digit_value}
 use Rattle.std.specs.Str.Parse.{digits_value_after}
 use Rattle.std.proofs.Math.Nat.{div-lt_iff_lt-mul, mul_assoc, mul_comm, zero-mul, mul-le-mul_left, pow-le-pow_left, pow-le-pow_right, one-le-pow}
 use Rattle.std.proofs.lemmas.Grind.{pow_more}
-use Rattle.std.proofs.lemmas.Bool.{le-ltb, lt-ltb, ltb-true, ltb-false, ne_eqb, cases_lt}
+use Rattle.std.proofs.lemmas.Bool.{le-leb, lt-leb, leb-true, leb-false, ne_eqb, cases_lt}
 use Rattle.spx_tree.specs.Numbers.{is_no_underscore, numeral_value}
 use Rattle.spx_lexer.specs.declared.lexer.numbers.Digits.{Digits}
 use Rattle.spx_lexer.specs.Pieces.{numeral_len, fitting, base_of, begins_with_hash, digits, closed_digits, based_digits, digits_by, digits_at, scaled}
 
-pub fitting-wide : (n : ℕ) → 2 ^ 127 ≤ n → None ≡ fitting n
+pub fitting-wide : (n : ℕ) → 2 ^ 127 < n → None ≡ fitting n
 unfolding fitting
-fitting-wide n h = ap (λ (t : Bool). cond t (Some n) None) (sym (le-ltb n (2 ^ 127) h))
+fitting-wide n h = ap (λ (t : Bool). cond t (Some n) None) (sym (lt-leb n (2 ^ 127) h))
 
-pub fitting-small : (n : ℕ) → n < 2 ^ 127 → Some n ≡ fitting n
+pub fitting-small : (n : ℕ) → n ≤ 2 ^ 127 → Some n ≡ fitting n
 unfolding fitting
-fitting-small n h = ap (λ (t : Bool). cond t (Some n) None) (sym (lt-ltb n (2 ^ 127) h))
+fitting-small n h = ap (λ (t : Bool). cond t (Some n) None) (sym (le-leb n (2 ^ 127) h))
 
-some_by : (n v : ℕ) (t : Bool) → ltb n (2 ^ 127) ≡ t → Some v ≡ cond t (Some n) None → (v ≡ n) × (v < 2 ^ 127)
-some_by n v true e f = let same : v ≡ n = cc in (same, omega (arith, ltb-true n (2 ^ 127) e))
+some_by : (n v : ℕ) (t : Bool) → leb n (2 ^ 127) ≡ t → Some v ≡ cond t (Some n) None → (v ≡ n) × (v ≤ 2 ^ 127)
+some_by n v true e f = let same : v ≡ n = cc in (same, omega (arith, leb-true n (2 ^ 127) e))
 some_by n v false e f = absurd cc
 
-pub fitting-some : (n v : ℕ) → Some v ≡ fitting n → (v ≡ n) × (v < 2 ^ 127)
+pub fitting-some : (n v : ℕ) → Some v ≡ fitting n → (v ≡ n) × (v ≤ 2 ^ 127)
 unfolding fitting
-fitting-some n v e = some_by n v (ltb n (2 ^ 127)) refl e
+fitting-some n v e = some_by n v (leb n (2 ^ 127)) refl e
 
-none_by : (n : ℕ) (t : Bool) → ltb n (2 ^ 127) ≡ t → None ≡ cond t (Some n) None → 2 ^ 127 ≤ n
+none_by : (n : ℕ) (t : Bool) → leb n (2 ^ 127) ≡ t → None ≡ cond t (Some n) None → 2 ^ 127 < n
 none_by n true e f = absurd cc
-none_by n false e f = ltb-false n (2 ^ 127) e
+none_by n false e f = leb-false n (2 ^ 127) e
 
-pub fitting-none : (n : ℕ) → None ≡ fitting n → 2 ^ 127 ≤ n
+pub fitting-none : (n : ℕ) → None ≡ fitting n → 2 ^ 127 < n
 unfolding fitting
-fitting-none n e = none_by n (ltb n (2 ^ 127)) refl e
+fitting-none n e = none_by n (leb n (2 ^ 127)) refl e
 
 -- ---- the value of digits is not too wide
 
 abbrev Fits : Option ℕ → Type 0
-Fits o = IfSome o (λ n. n < 2 ^ 127)
+Fits o = IfSome o (λ n. n ≤ 2 ^ 127)
 
 fitting_fits : (n : ℕ) → Fits (fitting n)
 unfolding fitting
-fitting_fits n = fits_by (ltb n (2 ^ 127)) refl
+fitting_fits n = fits_by (leb n (2 ^ 127)) refl
   where
-    fits_by : (t : Bool) → ltb n (2 ^ 127) ≡ t → Fits (cond t (Some n) None)
-    fits_by true e = ltb-true n (2 ^ 127) e
+    fits_by : (t : Bool) → leb n (2 ^ 127) ≡ t → Fits (cond t (Some n) None)
+    fits_by true e = leb-true n (2 ^ 127) e
     fits_by false e = tt
 
 closed_fits : (base : ℕ) (bytes : List ℕ) → IfSome (closed_digits base bytes) (λ d. Fits d.value)
@@ -128,7 +128,7 @@ factor_wide v b i e some below none =
 -- ---- the whole exponent
 
 -- an exponent past 128 makes every number but 0 too wide
-past_most : (v base e : ℕ) → 2 ≤ base → 128 ≤ e → 1 ≤ v → 2 ^ 127 ≤ v * base ^ e
+past_most : (v base e : ℕ) → 2 ≤ base → 128 ≤ e → 1 ≤ v → 2 ^ 127 < v * base ^ e
 past_most v base e two most some =
     let least : 2 ^ 128 ≤ base ^ 128 = pow-le-pow_left two 128 in
     let more : base ^ 128 ≤ base ^ e = pow-le-pow_right (omega arith) most in
@@ -147,15 +147,15 @@ same_or_cut v base e two = elim (cases_lt e 128) [
 ]
 
 -- digits that are too wide are so with every exponent
-wide_scaled : (v base e : ℕ) → 2 ≤ base → 2 ^ 127 ≤ v → None ≡ fitting (v * base ^ e)
+wide_scaled : (v base e : ℕ) → 2 ≤ base → 2 ^ 127 < v → None ≡ fitting (v * base ^ e)
 wide_scaled v base e two wide =
     let least : v * 1 ≤ v * base ^ e = mul-le-mul_left v (one-le-pow e base (omega arith)) in
     fitting-wide (v * base ^ e) (omega arith)
 
-scaled_by : (v base e : ℕ) (t : Bool) → 2 ≤ base → ltb v (2 ^ 127) ≡ t → scaled (cond t (Some v) None) base (min e 128) ≡ fitting (v * base ^ e)
+scaled_by : (v base e : ℕ) (t : Bool) → 2 ≤ base → leb v (2 ^ 127) ≡ t → scaled (cond t (Some v) None) base (min e 128) ≡ fitting (v * base ^ e)
 scaled_by v base e true two h = same_or_cut v base e two
-scaled_by v base e false two h = wide_scaled v base e two (ltb-false v (2 ^ 127) h)
+scaled_by v base e false two h = wide_scaled v base e two (leb-false v (2 ^ 127) h)
 
 pub scaled_fitting : (v base e : ℕ) → 2 ≤ base → scaled (fitting v) base (min e 128) ≡ fitting (v * base ^ e)
 unfolding fitting
-scaled_fitting v base e two = scaled_by v base e (ltb v (2 ^ 127)) two refl
+scaled_fitting v base e two = scaled_by v base e (leb v (2 ^ 127)) two refl

@@ -13,5 +13,8 @@ mod Gaps
 mod Finds
 mod Reading
 mod TokenCount
+mod Least
 mod Within
 mod SomeSpelling
+mod SomeLeast
+mod LongWords

@@ -3,7 +3,7 @@ use Rattle.std.proofs.Common.{◌≡◌, ◌⊎◌, inl, inr, ℕ, ◌+◌, ◌*
 use Rattle.std.proofs.lemmas.List.{drop_at}
 use Rattle.spx_tree.specs.Numbers.{IsNumeral, numeral_value, IsExponent, none, some, IsNumber, decimal, based}
 use Rattle.spx_lexer.specs.declared.lexer.numbers.Number.{Number}
-use Rattle.spx_lexer.specs.Pieces.{numeral_len, fitting, digits_at, exponent_at, scaled, as_integer, number_by, number_in}
+use Rattle.spx_lexer.specs.Pieces.{numeral_len, fitting, digits_at, exponent_at, scaled, number_by, number_in}
 use Rattle.spx_lexer.proofs.Fitting.{scaled_fitting}
 use Rattle.spx_lexer.proofs.Numerals.{Numeral}
 use Rattle.spx_lexer.proofs.Exponents.{exponent_at-found, exponent_at-ge}
@@ -18,7 +18,7 @@ pub record HasNumber (bytes : List ℕ) (found : Number) : Type 0 where
   pub parts : bytes ≡ front ++ rest
   pub len : length front ≡ found.len
   pub is : IsNumber front n
-  pub fits : found.value ≡ as_integer (fitting n)
+  pub fits : found.value ≡ fitting n
 
 pub number_in-found : (bytes : List ℕ) → Numeral 10 bytes (numeral_len 10 bytes) → HasNumber bytes (number_in bytes)
 unfolding number_in
@@ -38,8 +38,8 @@ number_in-found bytes r =
       len = omega (arith, length-append d.front x.front, d.len, x.len);
       is = number_from d.front x.front found.base d.value x.e d.are x.is;
       fits =
-          ap (λ (k : ℕ). as_integer (scaled found.value found.base k)) x.value
-          ∙ ap as_integer (ap (λ (o : Option ℕ). scaled o found.base (min x.e 128)) d.fits ∙ scaled_fitting d.value found.base x.e (two_at_least d.front found.base d.value d.are));
+          ap (λ (k : ℕ). scaled found.value found.base k) x.value
+          ∙ (ap (λ (o : Option ℕ). scaled o found.base (min x.e 128)) d.fits ∙ scaled_fitting d.value found.base x.e (two_at_least d.front found.base d.value d.are));
     }
     )
 

@@ -1,8 +1,8 @@
 -- A number that is found, or is spoiled or too wide.
-use Rattle.std.proofs.Common.{◌≡◌, inl, inr, ℕ, suc, ◌≤◌, ◌<◌, ◌^◌, Bool, true, false, cond, List, [], ◌∷◌, ◌++◌, drop, get_or, length, Option, Some, None, Result, Ok, Err, refl, sym, ap, subst, ◌∙◌, arith, append_assoc, ℤ, pos, ltb}
+use Rattle.std.proofs.Common.{◌≡◌, inl, inr, ℕ, suc, ◌≤◌, ◌<◌, ◌^◌, Bool, true, false, cond, List, [], ◌∷◌, ◌++◌, drop, get_or, length, Option, Some, None, Result, Ok, Err, refl, sym, ap, subst, ◌∙◌, arith, append_assoc, ℤ, pos, ltb, leb}
 use Rattle.std.specs.Prelude.{◌<ℤ◌, ◌≤ℤ◌, IfOk}
 use Rattle.std.specs.Char.{is_ascii_digit, digit_value}
-use Rattle.std.proofs.lemmas.Bool.{both_ways, ltb-true, ltb-false, and_parts, leb-true, lt-ltb}
+use Rattle.std.proofs.lemmas.Bool.{both_ways, ltb-true, ltb-false, and_parts, leb-true, leb-false, lt-ltb, le-ltb}
 use Rattle.std.proofs.lemmas.Int.{ints}
 use Rattle.std.proofs.lemmas.List.{drop_at}
 use Rattle.std.proofs.lemmas.Str.{digit_value_digit}
@@ -26,7 +26,7 @@ digit_passes : (b : ℕ) → is_ascii_digit b ≡ true → is_digit 10 b ≡ tru
 unfolding is_digit
 digit_passes b e = let h = and_parts _ _ e in lt-ltb (digit_value b) 10 (omega (arith, leb-true 48 b h.0, leb-true b 57 h.1, digit_value_digit b (leb-true 48 b h.0, leb-true b 57 h.1)))
 
-numeral_at : (b : ℕ) (bs : List ℕ) → is_ascii_digit b ≡ true → Numeral 10 (b ∷ bs) (numeral_len 10 (b ∷ bs))
+pub numeral_at : (b : ℕ) (bs : List ℕ) → is_ascii_digit b ≡ true → Numeral 10 (b ∷ bs) (numeral_len 10 (b ∷ bs))
 numeral_at b bs dg =
     let len : numeral_len 10 (b ∷ bs) ≡ suc (numeral_rest_len 10 bs) = ap (λ (t : Bool). cond t (suc (numeral_rest_len 10 bs)) 0) (digit_passes b dg) in
     elim (longest.numeral 10 (b ∷ bs)) [ inl none ↦ absurd (omega arith) | inr r ↦ r ]
@@ -59,7 +59,7 @@ no_lone_hyphen : (bytes rest : List ℕ) (n : ℕ) → IsNumber bytes n → byte
 no_lone_hyphen [] rest n d e f = absurd cc
 no_lone_hyphen (b ∷ bs) rest n d e f = not_hyphen b bs rest (digit_plain b (number_digit b bs n d)).no_hyphen e f
 
-number_stands : (m : Bool) (bytes : List ℕ) (h : HasNumber bytes (number_in bytes)) → Stands m (lexeme kind.Number (pos h.n)) h.front h.rest
+pub number_stands : (m : Bool) (bytes : List ℕ) (h : HasNumber bytes (number_in bytes)) → Stands m (lexeme kind.Number (pos h.n)) h.front h.rest
 number_stands m bytes h =
     (numeral h.n h.is refl refl, number_maximal m h.front h.rest h.n h.is (h.len ∙ ap (λ (x : List ℕ). (number_in x).len) h.parts), no_lone_hyphen h.front h.rest h.n h.is)
 
@@ -69,21 +69,30 @@ below_wide n h = omega (arith, ints)
 wide : (n : ℕ) → 2 ^ 127 ≤ n → pos (2 ^ 127) ≤ℤ pos n
 wide n h = omega (arith, ints)
 
+-- a value that is not too wide is one that is at most 2**127 and is not 2**127
+as_integer-fitting : (n : ℕ) → as_integer (fitting n) ≡ cond (ltb n (2 ^ 127)) (Some (pos n)) None
+unfolding fitting
+as_integer-fitting n = by_order (leb n (2 ^ 127)) refl
+  where
+    by_order : (t : Bool) → leb n (2 ^ 127) ≡ t → as_integer (cond t (Some n) None) ≡ cond (ltb n (2 ^ 127)) (Some (pos n)) None
+    by_order true e = refl
+    by_order false e = ap (λ (t : Bool). cond t (Some (pos n)) None) (sym (le-ltb n (2 ^ 127) (omega (arith, leb-false n (2 ^ 127) e))))
+
 -- what is found, by the two tests
 number_finds : (m : Bool) (bytes : List ℕ) (h : HasNumber bytes (number_in bytes)) (spoiled fits : Bool) → spoils_number h.rest ≡ spoiled → ltb h.n (2 ^ 127) ≡ fits
-    → Finds m bytes (cond spoiled (Err cause.BadNumber) (number_of (as_integer (cond fits (Some h.n) None)) (number_in bytes).len))
+    → Finds m bytes (cond spoiled (Err cause.BadNumber) (number_of (cond fits (Some (pos h.n)) None) (number_in bytes).len))
 number_finds m bytes h true fits e f = (pos h.n, h.front, h.rest, h.parts, number_stands m bytes h, e)
 number_finds m bytes h false false e f = (pos h.n, h.front, h.rest, h.parts, number_stands m bytes h, e, wide h.n (ltb-false h.n (2 ^ 127) f))
 number_finds m bytes h false true e f =
     record { front = h.front; rest = h.rest; parts = h.parts; len = h.len; stands = number_stands m bytes h; sound = λ g. (e, below_wide h.n (ltb-true h.n (2 ^ 127) f)) }
 
 pub number_found : (m : Bool) (b : ℕ) (bs : List ℕ) → is_ascii_digit b ≡ true → Finds m (b ∷ bs) (number_at (b ∷ bs))
-unfolding number_at fitting
+unfolding number_at
 number_found m b bs dg =
     let bytes = b ∷ bs in
     let h = number_in-found bytes (numeral_at b bs dg) in
     let found = number_in bytes in
     let rest : drop found.len bytes ≡ h.rest = ap (drop found.len) h.parts ∙ drop_at h.front h.rest found.len h.len in
-    subst (λ (o : Option ℤ). Finds m bytes (cond (spoils_number (drop found.len bytes)) (Err cause.BadNumber) (number_of o found.len))) (sym h.fits)
-    (subst (λ (x : List ℕ). Finds m bytes (cond (spoils_number x) (Err cause.BadNumber) (number_of (as_integer (fitting h.n)) found.len))) (sym rest)
+    subst (λ (o : Option ℤ). Finds m bytes (cond (spoils_number (drop found.len bytes)) (Err cause.BadNumber) (number_of o found.len))) (sym (ap as_integer h.fits ∙ as_integer-fitting h.n))
+    (subst (λ (x : List ℕ). Finds m bytes (cond (spoils_number x) (Err cause.BadNumber) (number_of (cond (ltb h.n (2 ^ 127)) (Some (pos h.n)) None) found.len))) (sym rest)
     (number_finds m bytes h (spoils_number h.rest) (ltb h.n (2 ^ 127)) refl refl))

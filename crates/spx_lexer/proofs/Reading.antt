@@ -1,5 +1,5 @@
 -- A text read up to a place.
-use Rattle.std.proofs.Common.{◌≡◌, ℕ, ◌+◌, ◌≤◌, ◌<◌, Bool, false, List, [], ◌∷◌, ◌++◌, drop, length, refl, sym, ap, subst, ◌∙◌, append_assoc, length-append, arith, Ok, Err}
+use Rattle.std.proofs.Common.{◌≡◌, ◌⊎◌, inl, inr, ℕ, ◌+◌, ◌≤◌, ◌<◌, Bool, false, List, [], ◌∷◌, ◌++◌, drop, length, refl, sym, ap, subst, ◌∙◌, append_assoc, length-append, arith, Ok, Err}
 use Rattle.std.proofs.Math.Path.{ap₂}
 use Rattle.std.proofs.lemmas.List.{append-nil, drop_at}
 use Rattle.spx_text.specs.declared.place.Place.{Place}
@@ -14,8 +14,12 @@ use Rattle.spx_lexer.specs.declared.lexer.pieces.Piece.{Piece}
 use Rattle.spx_lexer.specs.declared.lexer.positions.Position.{Position}
 use Rattle.spx_lexer.specs.declared.lexer.pieces.Cause.{Cause}
 use Rattle.spx_lexer.specs.Pieces.{piece_at}
+use Rattle.spx_lexer.specs.declared.lexer.LexFault.{LexFault}
+use Rattle.spx_lexer.specs.declared.lexer.LexFault.TheVariants as fault
 use Rattle.spx_lexer.specs.Faults.{reason_of, fault_of, IsFaultOf}
-use Rattle.spx_tree.specs.Stops.{HasMoreTokens}
+use Rattle.spx_tree.proofs.OneSpelling.{stops_unspelled, one_stop}
+use Rattle.spx_tree.specs.Stops.{HasMoreTokens, most_tokens}
+use Rattle.spx_lexer.specs.Reading.{position, HasRead}
 use Rattle.spx_lexer.specs.Positions.{place_after, marked_after, after, tokens_by, tokens_at}
 use Rattle.spx_lexer.proofs.Found.{role_of, Found, Finds}
 use Rattle.spx_lexer.proofs.Finds.{piece_at-finds}
@@ -47,10 +51,6 @@ tokens_of-push file front m (p ∷ parts) part =
     ∙ ap (λ (x : List ℕ). tokens_of file front m (p ∷ parts) ++ tokens_of_role file x (marked_along (marked_following p.role m) parts) part.role part.bytes) (append_assoc front p.bytes (bytes_of parts))
 
 -- ---- positions
-
--- the position after these bytes of a file
-abbrev pub position : ℕ → List ℕ → Bool → Position
-position file front m = record { offset = length front; place = place_after_bytes file front; marked = m }
 
 tokens_same : (file : ℕ) (front bytes : List ℕ) (m : Bool) (w : What) (len : ℕ) → length bytes ≡ len → tokens_by w (position file front m) len ≡ tokens_of_role file front m (role_of w) bytes
 tokens_same file front bytes m what.LineEnd len e = refl
@@ -86,13 +86,6 @@ after_same file front bytes rest m p len s =
     ∙ ap₂ (position_of (length (front ++ bytes))) place (marked_same p.what m)
 
 -- ---- a text read up to a place
-
-pub record HasRead (file : ℕ) (source : List ℕ) (tokens : List Token) (at : Position) (rest : List ℕ) : Type 0 where
-  pub parts : List Part
-  pub whole : bytes_of parts ++ rest ≡ source
-  pub stand : AllStand false parts rest
-  pub are : tokens ≡ tokens_of file [] false parts
-  pub place : at ≡ position file (bytes_of parts) (marked_along false parts)
 
 pub read_none : (file : ℕ) (source : List ℕ) (tokens : List Token) → tokens ≡ [] → HasRead file source tokens (record { offset = 0; place = record { file = file; line = 1; column = 1 }; marked = false }) source
 unfolding place_after_bytes
@@ -139,6 +132,10 @@ read_all file source tokens at rest h none =
     let e = no_rest rest none in
     record { parts = h.parts; whole = all_read file source tokens at rest h e; stand = subst (AllStand false h.parts) e h.stand; are = h.are }
 
+-- a text that tokens spell is read to its end
+pub spelled_read : (file : ℕ) (source : List ℕ) (tokens : List Token) (s : Spells file source tokens) → HasRead file source tokens (position file (bytes_of s.parts) (marked_along false s.parts)) []
+spelled_read file source tokens s = record { parts = s.parts; whole = append-nil (bytes_of s.parts) ∙ s.whole; stand = s.stand; are = s.are; place = refl }
+
 pub read_end : (file : ℕ) (source : List ℕ) (tokens : List Token) (at : Position) (rest : List ℕ) → HasRead file source tokens at rest → length rest ≤ 0 → at.place ≡ place_after_bytes file source
 read_end file source tokens at rest h none = ap (λ (x : Position). x.place) h.place ∙ ap (place_after_bytes file) (all_read file source tokens at rest h (no_rest rest none))
 
@@ -154,7 +151,28 @@ read_stop file source tokens at bytes c h some e =
       stopped = subst (λ (x : Position). IsStopped (reason_of c) x.marked bytes) h.place stopped;
     }
 
-pub is_fault : (file : ℕ) (source : List ℕ) (r : Reason) (place : Place) → StopsAt file source r place → ¬ HasMoreTokens 1000000 file source → IsFaultOf file source (fault_of r place)
+pub is_fault : (file : ℕ) (source : List ℕ) (r : Reason) (place : Place) → StopsAt file source r place → ¬ HasMoreTokens most_tokens file source → IsFaultOf file source (fault_of r place)
 is_fault file source bad_byte place s few = (s, few)
 is_fault file source bad_number place s few = (s, few)
 is_fault file source too_wide place s few = (s, few)
+
+-- what follows from what a fault says
+pub record Refuses (file : ℕ) (source : List ℕ) (why : LexFault) : Type 0 where
+  pub spelled : (tokens : List Token) → Spells file source tokens → ¬ HasMoreTokens most_tokens file source → why ≡ fault.Memory
+  pub stopped : (r : Reason) (place : Place) → StopsAt file source r place → ¬ HasMoreTokens most_tokens file source → (why ≡ fault_of r place) ⊎ (why ≡ fault.Memory)
+  pub crowded : HasMoreTokens most_tokens file source → (why ≡ fault.TooMany) ⊎ (why ≡ fault.Memory)
+
+stop_refuses : (file : ℕ) (source : List ℕ) (r : Reason) (place : Place) → StopsAt file source r place → ¬ HasMoreTokens most_tokens file source → Refuses file source (fault_of r place)
+stop_refuses file source r place s few =
+    record {
+      spelled = λ tokens t _. absurd (stops_unspelled file source r place tokens s t);
+      stopped = λ q p t _. let one = one_stop file source r q place p s t in inl (ap₂ fault_of one.cause one.place);
+      crowded = λ many. absurd (few many);
+    }
+
+pub refuses : (file : ℕ) (source : List ℕ) (why : LexFault) → IsFaultOf file source why → Refuses file source why
+refuses file source (fault.BadByte place) h = stop_refuses file source bad_byte place h.0 h.1
+refuses file source (fault.BadNumber place) h = stop_refuses file source bad_number place h.0 h.1
+refuses file source (fault.TooWide place) h = stop_refuses file source too_wide place h.0 h.1
+refuses file source fault.TooMany h = record { spelled = λ tokens t few. absurd (few h); stopped = λ q p t few. absurd (few h); crowded = λ _. inl refl }
+refuses file source fault.Memory h = record { spelled = λ tokens t few. refl; stopped = λ q p t few. inr refl; crowded = λ _. inr refl }

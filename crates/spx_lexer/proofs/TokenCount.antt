@@ -1,5 +1,5 @@
 -- How many tokens stand before a place of a text.
-use Rattle.std.proofs.Common.{◌≡◌, inl, inr, ℕ, ◌+◌, ◌≤◌, ◌<◌, ◌^◌, Bool, false, List, [], ◌∷◌, ◌++◌, length, refl, sym, ap, subst, ◌∙◌, append_assoc, length-append, arith, Ok, Err, ℤ, pos}
+use Rattle.std.proofs.Common.{◌≡◌, inl, inr, ℕ, ◌+◌, ◌≤◌, ◌<◌, ◌^◌, Bool, false, List, [], ◌∷◌, ◌++◌, length, refl, sym, ap, subst, ◌∙◌, append_assoc, length-append, arith, Ok, Err, Option, Some, None, ℤ, pos}
 use Rattle.std.proofs.lemmas.Bool.{both_ways}
 use Rattle.std.proofs.lemmas.Int.{ints}
 use Rattle.std.proofs.lemmas.List.{append-nil}
@@ -7,7 +7,7 @@ use Rattle.std.specs.Prelude.{◌<ℤ◌, ◌≤ℤ◌, IsFalse}
 use Rattle.spx_tree.specs.declared.token.Kind.TheVariants as kind
 use Rattle.spx_tree.specs.declared.token.Token.{Token}
 use Rattle.spx_tree.specs.Lexemes.{spoils_number}
-use Rattle.spx_tree.specs.Spells.{Role, lexeme, Stands, IsSound, Part, bytes_of, marked_following, marked_along, AllStand, tokens_by as tokens_of_role, tokens_of}
+use Rattle.spx_tree.specs.Spells.{Role, lexeme, Stands, IsSound, Part, bytes_of, marked_following, marked_along, AllStand, tokens_by as tokens_of_role, tokens_of, Spells}
 use Rattle.spx_tree.specs.Stops.{Cause as Reason, bad_byte, bad_number, too_wide, IsStopped}
 use Rattle.spx_tree.proofs.Shapes.{stands_some}
 use Rattle.spx_tree.proofs.OnePart.{one_part}
@@ -23,11 +23,12 @@ use Rattle.spx_lexer.specs.Pieces.{piece_at}
 use Rattle.spx_lexer.specs.Positions.{tokens_by, tokens_at, count_of}
 use Rattle.spx_lexer.proofs.Found.{Found, Finds}
 use Rattle.spx_lexer.proofs.Finds.{piece_at-finds}
-use Rattle.spx_lexer.proofs.Reading.{HasRead, read_more}
+use Rattle.spx_lexer.specs.Reading.{position, HasRead, IsEnd}
+use Rattle.spx_lexer.proofs.Reading.{read_more, spelled_read}
 
 -- ---- places where nothing stands
 
-abbrev NothingStands : Bool → List ℕ → Type 0
+abbrev pub NothingStands : Bool → List ℕ → Type 0
 NothingStands m rest = (role : Role) (bytes following : List ℕ) → rest ≡ bytes ++ following → Stands m role bytes following → IsSound role following → ⊥
 
 nothing_at_end : (m : Bool) (rest : List ℕ) → length rest ≤ 0 → NothingStands m rest
@@ -44,12 +45,12 @@ sound_number m v rest front after e p role bytes following f q s =
 not_wide : (v w : ℤ) → v <ℤ w → w ≤ℤ v → ⊥
 not_wide v w a b = omega (arith, ints)
 
-stopped_nothing : (r : Reason) (m : Bool) (rest : List ℕ) → IsStopped r m rest → NothingStands m rest
+pub stopped_nothing : (r : Reason) (m : Bool) (rest : List ℕ) → IsStopped r m rest → NothingStands m rest
 stopped_nothing bad_byte m rest h role bytes following e p s = h.1 role bytes following e p
 stopped_nothing bad_number m rest h role bytes following e p s = both_ways _ (sound_number m h.0 rest h.1 h.2 h.3 h.4 role bytes following e p s).0 h.5
 stopped_nothing too_wide m rest h role bytes following e p s = not_wide h.0 (pos (2 ^ 127)) (sound_number m h.0 rest h.1 h.2 h.3 h.4 role bytes following e p s).1 h.6
 
-no_more : (m : Bool) (rest : List ℕ) (more : List Part) (d : List ℕ) → NothingStands m rest → rest ≡ bytes_of more ++ d → AllStand m more d → more ≡ []
+pub no_more : (m : Bool) (rest : List ℕ) (more : List Part) (d : List ℕ) → NothingStands m rest → rest ≡ bytes_of more ++ d → AllStand m more d → more ≡ []
 no_more m rest [] d none e s = refl
 no_more m rest (p ∷ more) d none e s = absurd (none p.role p.bytes (bytes_of more ++ d) (e ∙ append_assoc p.bytes (bytes_of more) d) s.0 s.1)
 
@@ -81,6 +82,15 @@ pub few_at_stop : (most file : ℕ) (source : List ℕ) (tokens : List Token) (a
 few_at_stop most file source tokens at bytes c h few some e =
     let stopped : IsStopped (reason_of c) at.marked bytes = subst (Finds at.marked bytes) (sym e) (piece_at-finds at.marked bytes some) in
     few_tokens most file source tokens at bytes h few (stopped_nothing (reason_of c) at.marked bytes stopped)
+
+-- nothing stands where the text ends or is stopped
+pub nothing_after : (stop : Option Cause) (m : Bool) (rest : List ℕ) → IsEnd stop m rest → NothingStands m rest
+nothing_after None m rest h = nothing_at_end m rest h
+nothing_after (Some c) m rest h = stopped_nothing (reason_of c) m rest (subst (Finds m rest) (sym h.1) (piece_at-finds m rest h.0))
+
+-- a text without tokens has none too many
+pub none_few : (most file : ℕ) (source : List ℕ) → Spells file source [] → ¬ HasMoreTokens most file source
+none_few most file source s = few_at_end most file source [] (position file (bytes_of s.parts) (marked_along false s.parts)) [] (spelled_read file source [] s) (omega arith) (omega arith)
 
 length-tokens_by : (w : What) (at : Position) (len : ℕ) → length (tokens_by w at len) ≡ count_of w
 length-tokens_by what.LineEnd at len = refl

@@ -6,6 +6,7 @@ use Rattle.spx_tree.specs.declared.token.Token.{Token}
 use Rattle.spx_tree.specs.Places.{place_after_bytes}
 use Rattle.spx_tree.specs.Spells.{Role, lexeme, Part, bytes_of, marked_following, tokens_by, tokens_of, Spells}
 use Rattle.spx_tree.specs.Mirror.{IsWithin}
+use Rattle.spx_lexer.specs.Least.{EndsInLeast}
 
 part_within : (file : ℕ) (front : List ℕ) (m : Bool) (role : Role) (bytes : List ℕ) (len : ℕ) → length front + length bytes ≤ len → All (IsWithin len) (tokens_by file front m role bytes)
 part_within file front m (lexeme what number) bytes len h =
@@ -18,6 +19,10 @@ all_within file front m (p ∷ parts) len h =
     let e = length-append p.bytes (bytes_of parts) in
     All-append (IsWithin len) (tokens_by file front m p.role p.bytes) (tokens_of file (front ++ p.bytes) (marked_following p.role m) parts) (part_within file front m p.role p.bytes len (omega arith))
     (all_within file (front ++ p.bytes) (marked_following p.role m) parts len (omega (arith, length-append front p.bytes)))
+
+pub least_within : (file : ℕ) (bytes : List ℕ) (tokens : List Token) → EndsInLeast file bytes tokens → All (IsWithin (length bytes)) tokens
+least_within file bytes tokens e =
+    subst (All (IsWithin (length bytes))) (sym e.are) (all_within file [] false e.parts (length bytes) (omega (arith, ap length e.whole, length-append (bytes_of e.parts) (e.number ++ e.following))))
 
 pub spelled_within : (file : ℕ) (bytes : List ℕ) (tokens : List Token) → Spells file bytes tokens → All (IsWithin (length bytes)) tokens
 spelled_within file bytes tokens s = subst (All (IsWithin (length bytes))) (sym s.are) (all_within file [] false s.parts (length bytes) (omega (arith, ap length s.whole)))

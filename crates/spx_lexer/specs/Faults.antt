@@ -25,3 +25,9 @@ IsFaultOf file bytes (fault.BadNumber place) = StopsAt file bytes bad_number pla
 IsFaultOf file bytes (fault.TooWide place) = StopsAt file bytes too_wide place × (¬ HasMoreTokens most_tokens file bytes)
 IsFaultOf file bytes fault.TooMany = HasMoreTokens most_tokens file bytes
 IsFaultOf file bytes fault.Memory = Unit {0}
+
+-- the fault is that the text of a file has a token too many, or that memory ran out, which says nothing of the text
+abbrev pub IsLimitOf : ℕ → List ℕ → LexFault → Type 0
+IsLimitOf file bytes fault.TooMany = HasMoreTokens most_tokens file bytes
+IsLimitOf file bytes fault.Memory = Unit {0}
+IsLimitOf file bytes _ = ⊥

@@ -1,3 +1,5 @@
 pub mod Pieces
 pub mod Positions
 pub mod Faults
+pub mod Reading
+pub mod Least

@@ -46,9 +46,9 @@ abbrev pub numeral_len : ℕ → List ℕ → ℕ
 numeral_len base [] = 0
 numeral_len base (b ∷ bs) = if is_digit base b then suc (numeral_rest_len base bs) else 0
 
--- a value that is not too wide
+-- a value that is at most 2**127: after `-` this is the least value of 128 bits, and elsewhere it is too wide
 unfoldable pub fitting : ℕ → Option ℕ
-fitting n = if nat_lt n (2 ^ 127) then Some n else None
+fitting n = if nat_le n (2 ^ 127) then Some n else None
 
 -- the base that a numeral of this value writes
 unfoldable pub base_of : Option ℕ → Option ℕ
@@ -103,18 +103,32 @@ abbrev pub scaled : Option ℕ → ℕ → ℕ → Option ℕ
 scaled None base exponent = None
 scaled (Some value) base exponent = fitting (value * base ^ exponent)
 
-abbrev pub as_integer : Option ℕ → Option ℤ
-as_integer None = None
-as_integer (Some value) = Some (pos value)
-
-abbrev pub value_of : Digits → ℕ → Option ℤ
-value_of found exponent = as_integer (scaled found.value found.base exponent)
+abbrev pub value_of : Digits → ℕ → Option ℕ
+value_of found exponent = scaled found.value found.base exponent
 
 abbrev pub number_by : Digits → Exponent → Number
 number_by found exponent = record { len = found.len + exponent.len; value = value_of found exponent.value }
 
 unfoldable pub number_in : List ℕ → Number
 number_in bytes = let found = digits_at bytes in number_by found (exponent_at (drop found.len bytes))
+
+-- a value that a text may have, as a number with a sign
+abbrev pub as_integer : Option ℕ → Option ℤ
+as_integer None = None
+as_integer (Some value) = if nat_lt value (2 ^ 127) then Some (pos value) else None
+
+abbrev pub least_by : ℕ → Option ℕ → Option ℕ
+least_by len None = None
+least_by len (Some value) = if value == 2 ^ 127 then Some len else None
+
+-- how many bytes the number at the front has, if it is 2**127
+unfoldable pub least_len : List ℕ → Option ℕ
+least_len bytes = let number = number_in bytes in least_by number.len number.value
+
+-- how many bytes the number 2**127 has by which a text is stopped before these bytes, outside of annotation text
+abbrev pub least_at : Option Cause → Bool → List ℕ → Option ℕ
+least_at (Some cause.TooWide) false bytes = least_len bytes
+least_at stop marked bytes = None
 
 -- ---- delimiters
 
@@ -189,7 +203,7 @@ number_of None len = Err cause.TooWide
 number_of (Some value) len = Ok (lexeme kind.Number value len)
 
 unfoldable pub number_at : List ℕ → Result Piece Cause
-number_at bytes = let number = number_in bytes in if spoils_number (drop number.len bytes) then Err cause.BadNumber else number_of number.value number.len
+number_at bytes = let number = number_in bytes in if spoils_number (drop number.len bytes) then Err cause.BadNumber else number_of (as_integer number.value) number.len
 
 abbrev pub mark_by : Option (Kind × ℕ) → Result Piece Cause
 mark_by None = Err cause.BadByte

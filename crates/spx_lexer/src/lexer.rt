@@ -1,5 +1,5 @@
 // From bytes to tokens.
-ghost use Rattle.std.specs.Prelude.{◌≡◌, ◌⊎◌, ◌≤◌, ◌<◌, ◌+◌, ◌++◌, ◌^◌, nat_lt, List, length, OnOk, IfOk, IfErr, IsErrAnd, MatchResult};
+ghost use Rattle.std.specs.Prelude.{◌≡◌, ◌⊎◌, ◌≤◌, List, [], length, IfOk, IfErr, IfSome, IsErrAnd, MatchBool, MatchOption, MatchResult};
 ghost use Rattle.std.specs.List.{All};
 ghost use Rattle.spx_text.specs.Limits.{most_bytes};
 ghost use Rattle.spx_text.specs.declared.place.Place.{Place};
@@ -10,18 +10,21 @@ ghost use Rattle.spx_tree.specs.Mirror.{IsWithin};
 ghost use Rattle.spx_tree.specs.Stops.{Cause as Reason, StopsAt};
 ghost use Rattle.spx_lexer.specs.declared.lexer.LexFault.TheVariants.{TooMany, Memory};
 ghost use Rattle.spx_lexer.specs.Faults as faults;
-ghost use Rattle.spx_lexer.specs.Faults.{IsFaultOf};
+ghost use Rattle.spx_lexer.specs.Faults.{IsFaultOf, IsLimitOf};
 ghost use Rattle.spx_tree.specs.Stops.{HasMoreTokens, most_tokens};
-ghost use Rattle.spx_lexer.specs.Positions as spec;
+ghost use Rattle.spx_lexer.specs.Least.{EndsInLeast};
+ghost use Rattle.spx_lexer.specs.Pieces as pieces;
 
 mod delimiters;
 mod numbers;
 mod pieces;
 mod positions;
+mod reading;
 mod words;
 
-use crate::lexer::pieces::{Cause, Piece, What, piece_at};
-use crate::lexer::positions::{Position, after};
+use crate::lexer::numbers::least_len;
+use crate::lexer::pieces::Cause;
+use crate::lexer::reading::read_tokens;
 use spx_text::Place;
 use spx_tree::Token;
 use std::alloc::{AllocError, Global};
@@ -76,38 +79,6 @@ fn fault_of(cause: Cause, place: Place) -> LexFault
     }
 }
 
-// Whether a piece is a token, and one too many after `count` others.
-fn is_too_many(count: usize, piece: Piece) -> bool
-    requires { count ≤ most_tokens }
-    ensures { result ≡ nat_lt most_tokens (count + spec.count_of piece.what) }
-{
-    match piece.what {
-        What::Lexeme(..) => count >= MOST_TOKENS,
-        _ => false,
-    }
-}
-
-// Adds the token that a piece is, if it is one.
-fn add(tokens: &mut Vec<Token>, at: Position, piece: Piece) -> Result<(), AllocError>
-    requires { at.offset + piece.len < 2 ^ 64 }
-    ensures { OnOk result (tokens.new.items ≡ tokens.old.items ++ spec.tokens_at at piece) }
-{
-    match piece.what {
-        What::Lexeme(kind, number) => {
-            tokens.push(Token {
-                kind,
-                number,
-                first: at.offset,
-                after: at.offset + piece.len,
-                place: at.place,
-                marked: at.marked,
-            })?;
-            Ok(())
-        }
-        _ => Ok(()),
-    }
-}
-
 /// The tokens that spell the text of a file.
 pub fn lex(alloc: Global, file: u32, source: &[u8]) -> Result<Tokens<'_>, LexFault>
     requires { length source.now ≤ most_bytes }
@@ -127,33 +98,61 @@ pub fn lex(alloc: Global, file: u32, source: &[u8]) -> Result<Tokens<'_>, LexFau
     ensures stopped { (reason : Reason) (place : Place) → StopsAt file source.now reason place → ¬ HasMoreTokens most_tokens file source.now → IsErrAnd result (λ fault. (fault ≡ faults.fault_of reason place) ⊎ (fault ≡ Memory)) }
     ensures crowded { HasMoreTokens most_tokens file source.now → IsErrAnd result (λ fault. (fault ≡ TooMany) ⊎ (fault ≡ Memory)) }
 {
-    let mut list = Vec::with_capacity(alloc, source.len().min(MOST_TOKENS))?;
-    let mut at = Position {
-        offset: 0,
-        place: Place {
-            file,
-            line: 1,
-            column: 1,
-        },
-        marked: false,
-    };
-    let mut rest = source;
-    while let [_, ..] = rest {
-        let piece = match piece_at(at.marked, rest) {
-            Ok(piece) => piece,
-            Err(cause) => return Err(fault_of(cause, at.place)),
-        };
-        if is_too_many(list.len(), piece) {
-            return Err(LexFault::TooMany);
-        }
-        add(&mut list, at, piece)?;
-        at = after(at, piece);
-        let (_, following) = rest.split_at(piece.len);
-        rest = following;
+    let reading = read_tokens(alloc, file, source)?;
+    match reading.stop {
+        Some(cause) => Err(fault_of(cause, reading.at.place)),
+        None => Ok(Tokens {
+            source,
+            list: reading.list,
+            end: reading.at.place,
+        }),
     }
-    Ok(Tokens {
-        source,
-        list,
-        end: at.place,
-    })
+}
+
+// How many bytes the number `2**127` has with which the rest of a text begins, if it stops the text outside of annotation text.
+fn least_at(stop: Option<Cause>, marked: bool, rest: &[u8]) -> Option<usize>
+    ensures value { result ≡ pieces.least_at stop marked rest.now }
+    ensures within { IfSome result (λ len. len ≤ length rest.now) }
+{
+    match stop {
+        Some(Cause::TooWide) if !marked => least_len(rest),
+        _ => None,
+    }
+}
+
+// Whether a text has no tokens.
+fn is_blank(alloc: Global, file: u32, source: &[u8]) -> Result<bool, AllocError>
+    requires { length source.now ≤ most_bytes }
+    ensures { IfOk result (λ blank. MatchBool blank (Spells file source.now []) (¬ Spells file source.now [])) }
+{
+    match lex(alloc, file, source) {
+        Ok(tokens) => Ok(tokens.list.is_empty()),
+        Err(LexFault::BadByte(_)) => Ok(false),
+        Err(LexFault::BadNumber(_)) => Ok(false),
+        Err(LexFault::TooWide(_)) => Ok(false),
+        Err(LexFault::TooMany) => Ok(false),
+        Err(LexFault::Memory) => Err(AllocError),
+    }
+}
+
+/// The tokens before the number `2**127` in which the text of a file ends, if it ends in this number.
+pub fn lex_least(alloc: Global, file: u32, source: &[u8]) -> Result<Option<Vec<Token>>, LexFault>
+    requires { length source.now ≤ most_bytes }
+    ensures least { IfOk result (λ found. MatchOption found ((tokens : List Token) → ¬ EndsInLeast file source.now tokens) (λ list. EndsInLeast file source.now list.items)) }
+    ensures within { IfOk result (λ found. IfSome found (λ list. All (IsWithin (length source.now)) list.items)) }
+
+    // A fault says that too many tokens come before the place where the text ends or is stopped, and such a text gives that fault.
+    ensures refused { IfErr result (IsLimitOf file source.now) }
+    ensures crowded { HasMoreTokens most_tokens file source.now → IsErrAnd result (λ fault. (fault ≡ TooMany) ⊎ (fault ≡ Memory)) }
+{
+    let reading = read_tokens(alloc, file, source)?;
+    let Some(len) = least_at(reading.stop, reading.at.marked, reading.rest) else {
+        return Ok(None);
+    };
+    let (_, following) = reading.rest.split_at(len);
+    if is_blank(alloc, file, following)? {
+        Ok(Some(reading.list))
+    } else {
+        Ok(None)
+    }
 }

@@ -5,8 +5,8 @@ ghost use Rattle.spx_tree.specs.Lexemes as lexemes;
 ghost use Rattle.spx_tree.specs.Numbers as numbers;
 ghost use Rattle.spx_lexer.specs.Pieces as spec;
 
-// The greatest value of a number.
-const MAX: u128 = i128::MAX as u128;
+// The greatest value that is kept, one more than a text may have. After a minus sign it is the least value of 128 bits.
+const MOST: u128 = 1 << 127;
 
 // With this exponent, and with each greater one, 0 is the only number that is not too wide: a base is 2 at least.
 const MOST_EXPONENT: u8 = 128;
@@ -32,7 +32,7 @@ struct Exponent {
 pub(super) struct Number {
     pub len: usize,
     /// Its value, where it is not too wide.
-    pub value: Option<i128>,
+    pub value: Option<u128>,
 }
 
 // The value of a digit or a letter, and 36 of any other byte.
@@ -89,7 +89,7 @@ fn step(value: u128, base: u8, digit: u8) -> Option<u128>
 {
     let base = u128::from(base);
     let digit = u128::from(digit);
-    if value > (MAX - digit) / base {
+    if value > (MOST - digit) / base {
         return None;
     }
     Some(value * base + digit)
@@ -227,7 +227,7 @@ fn exponent_at(bytes: &[u8]) -> Exponent
 // `value * base ** exponent`, where it is not too wide.
 fn scaled(value: u128, base: u8, exponent: u8) -> Option<u128>
     requires base { 1 ≤ base }
-    requires value { value < 2 ^ 127 }
+    requires value { value ≤ 2 ^ 127 }
     ensures { result ≡ spec.fitting (value * base ^ exponent) }
 {
     let mut product = value;
@@ -238,13 +238,12 @@ fn scaled(value: u128, base: u8, exponent: u8) -> Option<u128>
 }
 
 // The value of a number of these digits, where it is not too wide.
-fn value_of(digits: Digits, exponent: u8) -> Option<i128>
+fn value_of(digits: Digits, exponent: u8) -> Option<u128>
     requires base { 1 ≤ digits.base }
-    requires value { IfSome digits.value (λ value. value < 2 ^ 127) }
+    requires value { IfSome digits.value (λ value. value ≤ 2 ^ 127) }
     ensures { result ≡ spec.value_of digits exponent }
 {
-    let value = scaled(digits.value?, digits.base, exponent)?;
-    Some(value as i128)
+    scaled(digits.value?, digits.base, exponent)
 }
 
 // The longest number with which these bytes begin.
@@ -259,6 +258,29 @@ pub(super) fn number_in(bytes: &[u8]) -> Number
     Number {
         len: digits.len + exponent.len,
         value: value_of(digits, exponent.value),
+    }
+}
+
+// The value as a number with a sign, where a text may have it.
+pub(super) fn as_integer(value: Option<u128>) -> Option<i128>
+    ensures { result ≡ spec.as_integer value }
+{
+    match value {
+        Some(value) if value < MOST => Some(value as i128),
+        _ => None,
+    }
+}
+
+// How many bytes the number has with which these bytes begin, if it is `MOST`.
+#[tactic(auto, unfolding(crate::specs::Pieces::least_len))]
+pub(super) fn least_len(bytes: &[u8]) -> Option<usize>
+    ensures value { result ≡ spec.least_len bytes.now }
+    ensures within { IfSome result (λ len. len ≤ length bytes.now) }
+{
+    let number = number_in(bytes);
+    match number.value {
+        Some(MOST) => Some(number.len),
+        _ => None,
     }
 }
 

@@ -3,7 +3,7 @@ ghost use Rattle.std.specs.Prelude.{◌≡◌, ◌≤◌, ◌+◌, length, IfOk}
 ghost use Rattle.spx_lexer.specs.Pieces as spec;
 
 use crate::lexer::delimiters::delimiter_at;
-use crate::lexer::numbers::{number_in, spoils_number};
+use crate::lexer::numbers::{as_integer, number_in, spoils_number};
 use crate::lexer::words::{kind_of_word, word_rest_len};
 use spx_tree::Kind;
 
@@ -88,7 +88,7 @@ fn number_at(bytes: &[u8]) -> Result<Piece, Cause>
     if spoils_number(rest) {
         return Err(Cause::BadNumber);
     }
-    match number.value {
+    match as_integer(number.value) {
         Some(value) => Ok(Piece {
             what: What::Lexeme(Kind::Number, value),
             len: number.len,

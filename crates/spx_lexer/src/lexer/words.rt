@@ -6,6 +6,9 @@ ghost use Rattle.spx_lexer.specs.Pieces as spec;
 
 use spx_tree::{ANNOTATION_WORDS, Kind, RESERVED_WORDS};
 
+// How many bytes the longest reserved word has, which is `main_program`.
+const MOST_RESERVED_LEN: usize = 12;
+
 // How many bytes go on with a word: letters and digits, with single underscores between them.
 pub(super) fn word_rest_len(bytes: &[u8]) -> usize
     ensures value { result ≡ spec.word_rest_len bytes.now }
@@ -54,5 +57,8 @@ fn unreserved(marked: bool, word: &[u8]) -> Kind
 pub(super) fn kind_of_word(marked: bool, word: &[u8]) -> Kind
     ensures { result ≡ lexemes.kind_of_word marked word.now }
 {
+    if word.len() > MOST_RESERVED_LEN {
+        return Kind::Identifier;
+    }
     kind_among(&RESERVED_WORDS, word, unreserved(marked, word))
 }

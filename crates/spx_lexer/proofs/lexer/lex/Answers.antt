@@ -1,100 +1,56 @@
-use Rattle.std.proofs.Common.{rules, ◌+◌, ◌≤◌, ◌<◌, length, refl, sym, ap, subst, ◌∙◌, inl, arith, length-drop}
-use Rattle.std.proofs.Math.Path.{ap₂}
-use Rattle.std.proofs.lemmas.Bool.{ltb-true, ltb-false}
-use Rattle.spx_tree.proofs.OneSpelling.{one_spelling, stops_unspelled, one_stop}
+use Rattle.std.proofs.Common.{◌≡◌, ℕ, ◌≤◌, Bool, List, length, Option, Some, None, sym, subst}
+use Rattle.spx_tree.specs.declared.token.Token.{Token}
+use Rattle.spx_tree.specs.Stops.{HasMoreTokens, most_tokens}
+use Rattle.spx_tree.proofs.OneSpelling.{one_spelling, stops_unspelled}
+use Rattle.spx_lexer.specs.declared.lexer.LexFault.{LexFault}
+use Rattle.spx_lexer.specs.declared.lexer.pieces.Cause.{Cause}
+use Rattle.spx_lexer.specs.declared.lexer.positions.Position.{Position}
 use Rattle.spx_lexer.specs.Faults.{reason_of, fault_of, IsFaultOf}
-use Rattle.spx_lexer.specs.Positions.{count_of}
-use Rattle.spx_lexer.proofs.Reading.{read_none, turn, read_all, read_end, read_stop, is_fault}
-use Rattle.spx_lexer.proofs.TokenCount.{few_at_end, few_at_stop, count_more, more_tokens}
+use Rattle.spx_lexer.specs.Reading.{HasRead, IsEnd}
+use Rattle.spx_lexer.proofs.Reading.{read_all, read_stop, is_fault, refuses}
 use Rattle.spx_lexer.proofs.Within.{spelled_within}
 use Rattle.spx_lexer.proofs.lexer.lex.Goals as goal
 
-pub loop-rest-init : goal.loop-rest-init
-loop-rest-init c =
-    record { read = read_none c.args.file c.args.source.now _ c.in_ok-list.ensures.items; few = omega (arith, ap length c.in_ok-list.ensures.items); offset = omega arith; line = omega arith; column = omega arith }
-
-pub loop-rest-preserved : goal.loop-rest-preserved
-loop-rest-preserved c =
-    let at = c.loop-rest in
-    let some : 0 < length at.rest.now = omega arith in
-    let within = c.in-Ok.ensures.within in
-    let back = c.split_at.ensures.back in
-    record {
-      read =
-          turn c.args.file c.args.source.now at.list.items _ at.at _ at.rest.now _ c.in-Ok.piece at.invariant.read some (sym c.in-Ok.is ∙ c.piece_at.ensures.value) c.in_ok-add.ensures
-          c.after-at.ensures.value back;
-      few =
-          omega (
-            arith,
-            count_more at.list.items _ at.at c.in-Ok.piece c.in_ok-add.ensures,
-            ltb-false 1000000 (c.len.result + count_of c.in-Ok.piece.what) (sym c.is_too_many.ensures ∙ c.if-is_too_many.false),
-          );
-      offset = omega (arith, ap length back, length-drop c.in-Ok.piece.len at.rest.now);
-      line = omega arith;
-      column = omega arith;
-    }
-
 -- where the text is stopped
-pub returns-in-Err : goal.returns-in-Err
-returns-in-Err c =
-    let file = c.args.file in
-    let source = c.args.source.now in
-    let at = c.loop-rest in
-    let reason = reason_of c.in-Err.cause in
-    let place = at.at.place in
-    let some : 0 < length at.rest.now = omega arith in
-    let none = sym c.in-Err.is ∙ c.piece_at.ensures.value in
-    let stop = read_stop file source at.list.items at.at at.rest.now c.in-Err.cause at.invariant.read some none in
-    let few = few_at_stop 1000000 file source at.list.items at.at at.rest.now c.in-Err.cause at.invariant.read at.invariant.few some none in
-    record {
-      source = search rules;
-      tokens = search rules;
-      within = search rules;
-      few = search rules;
-      end = search rules;
-      spelled = λ tokens s _. absurd (stops_unspelled file source reason place tokens stop s);
-      refused = subst (IsFaultOf file source) (sym c.fault_of.ensures) (is_fault file source reason place stop few);
-      stopped = λ r p s _. let one = one_stop file source reason r place p stop s in inl (c.fault_of.ensures ∙ ap₂ fault_of one.cause one.place);
-      crowded = λ many. absurd (few many);
-    }
+stop_fault : (file : ℕ) (source : List ℕ) (tokens : List Token) (at : Position) (rest : List ℕ) (stop : Option Cause) (cause : Cause) (why : LexFault) → HasRead file source tokens at rest → IsEnd stop at.marked rest → stop ≡ Some cause
+    → why ≡ fault_of (reason_of cause) at.place → ¬ HasMoreTokens most_tokens file source → IsFaultOf file source why
+stop_fault file source tokens at rest stop cause why h end is said few =
+    let here : IsEnd (Some cause) at.marked rest = subst (λ (o : Option Cause). IsEnd o at.marked rest) is end in
+    subst (IsFaultOf file source) (sym said) (is_fault file source (reason_of cause) at.place (read_stop file source tokens at rest cause h here.0 here.1) few)
 
--- where it has a token too many
-pub returns-then-is_too_many : goal.returns-then-is_too_many
-returns-then-is_too_many c =
-    let at = c.loop-rest in
-    let some : 0 < length at.rest.now = omega arith in
-    let many : 1000000 < length at.list.items + count_of c.in-Ok.piece.what =
-    omega (arith, ltb-true 1000000 (c.len.result + count_of c.in-Ok.piece.what) (sym c.is_too_many.ensures ∙ c.if-is_too_many.true)) in
-    let more = more_tokens 1000000 c.args.file c.args.source.now at.list.items at.at at.rest.now c.in-Ok.piece at.invariant.read some (sym c.in-Ok.is ∙ c.piece_at.ensures.value) many in
-    record {
-      source = tt;
-      tokens = tt;
-      within = tt;
-      few = tt;
-      end = tt;
-      spelled = λ tokens s few. absurd (few more);
-      refused = more;
-      stopped = λ r p s few. absurd (few more);
-      crowded = λ _. inl refl;
-    }
+pub returns-in-Some-clause-refused : goal.returns-in-Some-clause-refused
+returns-in-Some-clause-refused c =
+    let r = c.in_ok-reading.reading in
+    let known = c.in_ok-reading.ensures in
+    stop_fault c.args.file c.args.source.now r.list.items r.at r.rest.now r.stop c.in-Some.cause c.fault_of.result known.read known.end c.in-Some.is c.fault_of.ensures known.few
+
+pub returns-in-Some-clause-spelled : goal.returns-in-Some-clause-spelled
+returns-in-Some-clause-spelled c = (refuses c.args.file c.args.source.now c.fault_of.result (returns-in-Some-clause-refused c)).spelled
+
+pub returns-in-Some-clause-stopped : goal.returns-in-Some-clause-stopped
+returns-in-Some-clause-stopped c = (refuses c.args.file c.args.source.now c.fault_of.result (returns-in-Some-clause-refused c)).stopped
 
 -- where it is read to its end
-pub returns : goal.returns
-returns c =
-    let file = c.args.file in
-    let source = c.args.source.now in
-    let at = c.loop-rest in
-    let none : length at.rest.now ≤ 0 = omega arith in
-    let spelled = read_all file source at.list.items at.at at.rest.now at.invariant.read none in
-    let few = few_at_end 1000000 file source at.list.items at.at at.rest.now at.invariant.read at.invariant.few none in
-    record {
-      source = search rules;
-      tokens = spelled;
-      within = spelled_within file source at.list.items spelled;
-      few = few;
-      end = read_end file source at.list.items at.at at.rest.now at.invariant.read none;
-      spelled = λ tokens s _. one_spelling file source at.list.items tokens spelled s;
-      refused = search rules;
-      stopped = λ r p s _. stops_unspelled file source r p at.list.items s spelled;
-      crowded = few;
-    }
+none_left : (stop : Option Cause) (m : Bool) (rest : List ℕ) → IsEnd stop m rest → stop ≡ None → length rest ≤ 0
+none_left stop m rest end is = subst (λ (o : Option Cause). IsEnd o m rest) is end
+
+pub returns-clause-within : goal.returns-clause-within
+returns-clause-within c =
+    let r = c.in_ok-reading.reading in
+    let known = c.in_ok-reading.ensures in
+    let spelled = read_all c.args.file c.args.source.now r.list.items r.at r.rest.now known.read (none_left r.stop r.at.marked r.rest.now known.end c.in-None.is) in
+    spelled_within c.args.file c.args.source.now r.list.items spelled
+
+pub returns-clause-spelled : goal.returns-clause-spelled
+returns-clause-spelled c =
+    let r = c.in_ok-reading.reading in
+    let known = c.in_ok-reading.ensures in
+    let spelled = read_all c.args.file c.args.source.now r.list.items r.at r.rest.now known.read (none_left r.stop r.at.marked r.rest.now known.end c.in-None.is) in
+    λ tokens s _. one_spelling c.args.file c.args.source.now r.list.items tokens spelled s
+
+pub returns-clause-stopped : goal.returns-clause-stopped
+returns-clause-stopped c =
+    let r = c.in_ok-reading.reading in
+    let known = c.in_ok-reading.ensures in
+    let spelled = read_all c.args.file c.args.source.now r.list.items r.at r.rest.now known.read (none_left r.stop r.at.marked r.rest.now known.end c.in-None.is) in
+    λ reason place s _. stops_unspelled c.args.file c.args.source.now reason place r.list.items s spelled

@@ -8,7 +8,7 @@ returns-then-value-digit c =
     let base = c.from-base.result in
     let digit = c.from-digit.result in
     let same : c.args.value * base + digit ≡ c.args.value * c.args.base + c.args.digit = cc in
-    let over = step_over 170141183460469231731687303715884105727 digit base c.args.value (omega arith) (omega arith) c.if-value-digit.true in
+    let over = step_over 170141183460469231731687303715884105728 digit base c.args.value (omega arith) (omega arith) c.if-value-digit.true in
     fitting-wide (c.args.value * base + digit) (omega arith) ∙ ap fitting same
 
 pub returns : goal.returns
@@ -16,5 +16,5 @@ returns c =
     let base = c.from-base.result in
     let digit = c.from-digit.result in
     let same : c.args.value * base + digit ≡ c.args.value * c.args.base + c.args.digit = cc in
-    let fits = step_fits 170141183460469231731687303715884105727 digit base c.args.value (omega arith) (omega arith) c.if-value-digit.false in
+    let fits = step_fits 170141183460469231731687303715884105728 digit base c.args.value (omega arith) (omega arith) c.if-value-digit.false in
     fitting-small (c.args.value * base + digit) (omega arith) ∙ ap fitting same
