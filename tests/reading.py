@@ -153,7 +153,7 @@ SPOILING = re.compile(rb'[A-Za-z0-9_#]|\.[0-9]')
 def value_in(base, digits):
     """The value of digits with underscores between them. What has more than 128 digits is wider than all that counts."""
     digits = digits.replace(b'_', b'').lstrip(b'0') or b'0'
-    return int(digits, base) if len(digits) <= 128 else WIDE
+    return int(digits, base) if len(digits) <= 128 else WIDE + 1
 
 
 def number_value(spelled):
@@ -178,10 +178,11 @@ class Token:
 
 
 class Scanner:
-    """Goes through a text once, and collects its tokens."""
+    """Goes through a text once, and collects its tokens. Its numbers are below WIDE, unless a greatest one is given."""
 
-    def __init__(self, text):
+    def __init__(self, text, greatest=WIDE - 1):
         self.text = text
+        self.greatest = greatest
         self.at = 0
         self.line = 1
         self.line_start = 0
@@ -270,7 +271,7 @@ class Scanner:
         end = (exponent or based or whole).end()
         if SPOILING.match(self.text, end):
             self.stop('L2')
-        if number_value(self.text[self.at:end].decode('ascii')) >= WIDE:
+        if number_value(self.text[self.at:end].decode('ascii')) > self.greatest:
             self.stop('L3')
         return self.keep('number', end - self.at)
 
@@ -3072,7 +3073,7 @@ def inputs_of(name, text):
 def input_line(number, text):
     """A line of inputs, in the lexemes of the language, if it is one. None of its tokens is in annotation text."""
     try:
-        tokens = Scanner(text).run()
+        tokens = Scanner(text, WIDE).run()
     except (Refused, TooManyTokens):
         return None
     is_formed = [token.kind for token in tokens[:2]] == ['identifier', '='] and not any(token.marked for token in tokens)
@@ -3081,11 +3082,12 @@ def input_line(number, text):
 
 
 def input_value(tokens):
-    """A number, a number after `-`, or a word that is not reserved."""
+    """A number, a number after `-`, or a word that is not reserved. What a number comes to has at most 128 bits."""
     kinds = [token.kind for token in tokens]
     if kinds in (['number'], ['-', 'number']):
-        value = number_value(tokens[-1].text)
-        return value if len(tokens) == 1 else -value
+        number = number_value(tokens[-1].text)
+        value = number if len(tokens) == 1 else -number
+        return value if fits(value) else None
     return tokens[0].text if kinds == ['identifier'] else None
 
 

@@ -6460,7 +6460,9 @@ def bad_lines():
             'two_values': 'A = 1 2', 'semicolon': 'A = 1;', 'two_on_a_line': 'A = 1, B = 0', 'twice_equal': 'A = B = 1', 'plus': 'A = +1', 'two_signs': 'A = - -1', 'comment_for_a_sign': 'A = --1',
             'sum': 'A = 1 + 1', 'parentheses': 'A = (1)', 'sign_of_a_word': 'P = -True', 'not': 'P = not True', 'attribute': "A = Integer'Last", 'number_for_a_name': '1 = A',
             'reserved_name': 'begin = 1', 'reserved_value': 'P = null', 'point': 'A = 1.5', 'bad_number': 'A = 1_', 'bad_base': 'A = 17#1#', 'negative_exponent': 'A = 1E-1', 'number_and_letters': 'A = 1A',
-            'bad_byte': 'A = "1"', 'underscores': 'A__B = 1', 'too_wide': f'A = {TOO_WIDE}', 'too_wide_with_a_sign': f'A = -{TOO_WIDE}', 'dotted_name': 'Inc.A = 1', 'entry_value': 'X~ = 1',
+            'bad_byte': 'A = "1"', 'underscores': 'A__B = 1', 'too_wide': f'A = {TOO_WIDE}', 'too_wide_with_a_sign': f'A = -{TOO_WIDE[:-1]}9',
+            'too_wide_after_plus': f'A = +{TOO_WIDE}', 'too_wide_in_a_sum': f'A = -1 - {TOO_WIDE}', 'more_after_the_least_number': f'A = -{TOO_WIDE} 1', 'bad_least_number': f'A = -{TOO_WIDE}_',
+            'least_number_in_annotation': f'A = - --# {TOO_WIDE}', 'least_number_for_a_name': f'-{TOO_WIDE} = 1', 'annotation_after_the_least_number': f'A = -{TOO_WIDE} --# B', 'dotted_name': 'Inc.A = 1', 'entry_value': 'X~ = 1',
             'annotation': '--# A = 1', 'annotated_value': 'A = --# 1', 'annotation_after_it': 'A = 1 --# B', 'null_byte': 'A = 1\0', 'not_equal': 'A /= 1', 'mark_of_bytes': '\ufeffA = 1'}.items():
         yield input_refused(f'{label}_in_inputs.adb', SEVERAL, line + '\n', (1, I1))
     yield input_refused('bad_second_line.adb', SEVERAL, FIVE.replace('B = 0', ''), (2, I1))
@@ -6486,7 +6488,9 @@ def imports_of_inputs():
     # An input that is given twice, as in the examples of the sources of these rules.
     yield Case('inc_twice.adb', INC_BYTES, 'i.txt:2:1: I2 no such import, or twice\nrefused: 1\n', 1, run_words('inc_twice.adb', 'Inc', None, 'i.txt'), ('i.txt', b'X = 1\nX = 2\n'))
     for label, line in {'word_for_an_integer': 'A = True', 'other_word_for_an_integer': 'A = B', 'negative_natural': 'B = -1', 'natural_past_the_end': 'B = 2147483648', 'zero_for_a_positive': 'C = 0',
-                        'integer_past_the_end': 'A = 2147483648', 'integer_before_the_first': 'A = -2147483649', 'widest_number': f'A = {WIDEST}', 'number_for_a_boolean': 'P = 1', 'zero_for_a_boolean': 'P = 0',
+                        'integer_past_the_end': 'A = 2147483648', 'integer_before_the_first': 'A = -2147483649', 'widest_number': f'A = {WIDEST}', 'least_number': f'A = -{TOO_WIDE}',
+                        'least_number_apart': f'A = - \t{TOO_WIDE} -- {TOO_WIDE} --#', 'least_number_of_base_2': 'A = -2#1#E127', 'least_number_of_base_16': 'B = - 16#8_0#E+30', 'least_number_before_a_head': f'C = -0_0{TOO_WIDE}--#',
+                        'number_for_a_boolean': 'P = 1', 'zero_for_a_boolean': 'P = 0',
                         'other_word_for_a_boolean': 'P = Yes', 'name_for_a_boolean': 'P = P', 'part_of_a_word': 'P = Tru'}.items():
         number = 'ABCP'.index(line[0]) + 1
         inputs = [line if at == number else other for at, other in enumerate(FIVE.splitlines(), 1)]

@@ -1,11 +1,12 @@
 -- What an inputs file says: a line `NAME = VALUE` for each import, in the lexemes of the language.
-use Rattle.std.specs.Prelude.{◌≡◌, ⊤, ◌⊎◌, ℕ, suc, pos, ◌-ℤ◌, false, List, [], ◌∷◌, Result, Ok, Err}
+use Rattle.std.specs.Prelude.{◌≡◌, ⊤, ◌⊎◌, ℕ, suc, ◌^◌, pos, ◌-ℤ◌, false, List, [], ◌∷◌, Result, Ok, Err}
 use Rattle.spx_tree.specs.declared.token.Kind.{Kind}
 use Rattle.spx_tree.specs.declared.token.Kind.TheVariants as kind
 use Rattle.spx_tree.specs.declared.token.Token.{Token}
 use Rattle.spx_tree.specs.Form.{spelling}
 use Rattle.spx_tree.specs.Spells.{Spells}
 use Rattle.spx_tree.specs.Stops.{HasMoreTokens, most_tokens}
+use Rattle.spx_lexer.specs.Least.{EndsInLeast}
 use Rattle.spx_run.specs.declared.inputs.InputValue.{InputValue}
 use Rattle.spx_run.specs.declared.inputs.InputValue.TheVariants.{Number, Word}
 use Rattle.spx_run.specs.declared.inputs.InputLine.{InputLine}
@@ -23,7 +24,7 @@ pub data IsValue (source : List ℕ) (tokens : List Token) (value : InputValue) 
   word : (t : Token) → IsToken kind.Identifier t → tokens ≡ t ∷ [] → value ≡ Word (spelling source t) → IsValue source tokens value
 
 -- The bytes of a line spell `NAME = VALUE`, within the tokens that a text may have.
-pub record IsLine (bytes : List ℕ) (line : InputLine) : Type 0 where
+pub record IsSpelled (bytes : List ℕ) (line : InputLine) : Type 0 where
   pub name : Token
   pub equal : Token
   pub value : List Token
@@ -33,6 +34,24 @@ pub record IsLine (bytes : List ℕ) (line : InputLine) : Type 0 where
   pub is_equal : IsToken kind.Equal equal
   pub named : line.name ≡ spelling bytes name
   pub valued : IsValue bytes value line.value
+
+-- The bytes of a line are `NAME = - N`, where N is 2**127. No text spells this number, but its negative has 128 bits.
+pub record IsLeast (bytes : List ℕ) (line : InputLine) : Type 0 where
+  pub name : Token
+  pub equal : Token
+  pub minus : Token
+  pub ends : EndsInLeast 0 bytes (name ∷ equal ∷ minus ∷ [])
+  pub few : ¬ HasMoreTokens most_tokens 0 bytes
+  pub is_name : IsToken kind.Identifier name
+  pub is_equal : IsToken kind.Equal equal
+  pub is_minus : IsToken kind.Minus minus
+  pub named : line.name ≡ spelling bytes name
+  pub valued : line.value ≡ Number (pos 0 -ℤ pos (2 ^ 127))
+
+-- these bytes are this line
+pub data IsLine (bytes : List ℕ) (line : InputLine) : Type 0 where
+  spelled : IsSpelled bytes line → IsLine bytes line
+  least : IsLeast bytes line → IsLine bytes line
 
 -- the lines are these, numbered from this number on
 abbrev pub AreLines : ℕ → List (List ℕ) → List InputLine → Type 0

@@ -1,5 +1,5 @@
 -- What only the code needs, in terms of the definitions. No claim on runs rests on these.
-use Rattle.std.specs.Prelude.{◌≡◌, ◌<◌, ℕ, ◌==◌, pos, ◌-ℤ◌, Bool, true, false, not, ◌&&◌, if◌then◌else◌, List, [], ◌∷◌, ◌++◌, length, codes, Option, Some, None, option_map}
+use Rattle.std.specs.Prelude.{◌≡◌, ◌<◌, ℕ, ◌==◌, ◌^◌, pos, ◌-ℤ◌, Bool, true, false, not, ◌&&◌, if◌then◌else◌, List, [], ◌∷◌, ◌++◌, length, codes, Option, Some, None, option_map}
 use Rattle.std.specs.List.{All, position_or_len}
 use denote.Enum.Bare.{sameb}
 use Rattle.spx_text.specs.declared.place.Place.{Place}
@@ -67,6 +67,16 @@ line_in n source [] = None
 line_in n source (name ∷ []) = None
 line_in n source (name ∷ equal ∷ value) =
     if is_token kind.Identifier name && is_token kind.Equal equal then named_value n (spelling source name) (value_in source value) else None
+
+-- the line of this number that tokens before the number 2**127 are
+abbrev pub least_line : ℕ → List ℕ → List Token → Option InputLine
+least_line n source [] = None
+least_line n source (name ∷ []) = None
+least_line n source (name ∷ equal ∷ []) = None
+least_line n source (name ∷ equal ∷ minus ∷ []) =
+    if is_token kind.Identifier name && is_token kind.Equal equal && is_token kind.Minus minus
+    then Some (record { line = n; name = spelling source name; value = Number (pos 0 -ℤ pos (2 ^ 127)) }) else None
+least_line n source (name ∷ equal ∷ minus ∷ t ∷ more) = None
 
 -- the line of this number that bytes are, or that they are none
 abbrev pub IsReadAs : ℕ → List ℕ → Option InputLine → Type 0
