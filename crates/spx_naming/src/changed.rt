@@ -1,5 +1,5 @@
 // The variables of which an annotation may name the value on entry (Barnes, `~`).
-ghost use Rattle.std.specs.Prelude.{◌≡◌, IfOk};
+ghost use Rattle.std.specs.Prelude.{◌≡◌, [], IfOk};
 ghost use Rattle.spx_core.specs.Dependency.{items_of};
 ghost use Rattle.spx_core.specs.Resolved.{is_changed_by};
 
@@ -7,24 +7,30 @@ use spx_core::{CoreDerives, CoreDerivesItem, CoreName, VarSet, variable_of};
 use std::alloc::{AllocError, Global};
 use std::marker::Model;
 
-/// The items of a dependency relation with the sets of their imports and exports. Contracts see the items.
+/// The imports and the exports of the items of a dependency relation.
+#[derive(Drop)]
+struct Ends {
+    imports: VarSet,
+    exports: VarSet,
+}
+
+/// The items of a dependency relation with the sets of their imports and exports, if there are any. Contracts see the items.
 #[derive(Drop)]
 pub struct Changed<'a> {
     items: &'a [CoreDerivesItem],
-    imports: VarSet,
-    exports: VarSet,
+    ends: Option<Ends>,
 }
 
 impl<'a> Model for Changed<'a> {
     ghost use Rattle.std.specs.Prelude.{List};
     ghost use Rattle.spx_core.specs.declared.dependency.CoreDerivesItem.{CoreDerivesItem};
-    ghost use Rattle.spx_naming.specs.Ends.{AreEndsOf};
+    ghost use Rattle.spx_naming.specs.Ends.{AreKnown};
 
     ghost Value = { List CoreDerivesItem };
 
     ghost view = { λ c. c.items.now };
 
-    ghost invariant = { λ c. AreEndsOf c.items.now c.imports c.exports };
+    ghost invariant = { λ c. AreKnown c.items.now c.ends };
 }
 
 /// The items of a relation, if there is one.
@@ -38,33 +44,35 @@ fn items_of(derives: &Option<CoreDerives>) -> &[CoreDerivesItem]
 }
 
 impl<'a> Changed<'a> {
-    /// What these items change.
-    pub fn by_items(alloc: Global, items: &'a [CoreDerivesItem]) -> Result<Changed<'a>, AllocError>
-        ensures { IfOk result (λ changed. changed ≡ items.now) }
+    /// Without items nothing is changed.
+    pub fn nothing() -> Changed<'a>
+        ensures { result ≡ [] }
     {
-        let imports = VarSet::imported_by(alloc, items)?;
-        let exports = VarSet::exported_by(alloc, items)?;
-        Ok(Changed {
-            items,
-            imports,
-            exports,
-        })
+        Changed {
+            items: &[],
+            ends: None,
+        }
     }
 
     /// What a relation changes.
     pub fn by(alloc: Global, derives: &'a Option<CoreDerives>) -> Result<Changed<'a>, AllocError>
         ensures { IfOk result (λ changed. changed ≡ items_of derives.now) }
     {
-        Changed::by_items(alloc, items_of(derives))
+        let items = items_of(derives);
+        let imports = VarSet::imported_by(alloc, items)?;
+        let exports = VarSet::exported_by(alloc, items)?;
+        let ends = Some(Ends { imports, exports });
+        Ok(Changed { items, ends })
     }
 
     /// Whether the name denotes a variable that is both imported and exported.
     pub fn has(&self, name: &CoreName) -> bool
         ensures { result ≡ is_changed_by self.now name.now }
     {
-        match variable_of(name.entity) {
-            Some(var) => self.imports.contains(var) && self.exports.contains(var),
-            None => false,
+        match (variable_of(name.entity), &self.ends) {
+            (Some(var), Some(ends)) => ends.imports.contains(var) && ends.exports.contains(var),
+            (Some(_), None) => false,
+            (None, _) => false,
         }
     }
 }

@@ -193,8 +193,7 @@ pub fn resolve_expr(
 ) -> Result<Boxed<CoreExpr>, AllocError>
     ensures { IfOk result (λ r. r ≡ resolved_expr (seen scope.now) expr.now) }
 {
-    let changed = Changed::by_items(alloc, &[])?;
-    resolve_in(alloc, expr, &changed, scope)
+    resolve_in(alloc, expr, &Changed::nothing(), scope)
 }
 
 /// An expression of code inside a region.

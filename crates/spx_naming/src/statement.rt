@@ -348,6 +348,5 @@ pub fn resolve_precondition(
 ) -> Result<Option<CorePredicate>, AllocError>
     ensures { IfOk result (λ r. r ≡ option_map (resolved_predicate [] (seen scope.now)) pre.now) }
 {
-    let changed = Changed::by_items(alloc, &[])?;
-    resolve_predicate(alloc, pre, &changed, scope)
+    resolve_predicate(alloc, pre, &Changed::nothing(), scope)
 }
