@@ -2,13 +2,14 @@
 use Rattle.std.proofs.Common.{sym, drop, inl, inr, ◌≡◌, ℕ, zero, suc, ◌<◌, true, List, [], ◌∷◌, ◌++◌, length, map, take, get_or, replicate, Option, Some, None, IfSome, unwrap_or, nat_lt, Vec, String, string_bytes, refl, ap, ap₂, subst, ◌∙◌, arith}
 use Rattle.std.specs.Global.{Global}
 use Rattle.std.proofs.lemmas.Bool.Decides.{nat_tests}
-use Rattle.std.proofs.lemmas.List.{length-replicate, map-append, append_assoc}
+use Rattle.std.proofs.lemmas.List.{append-nil, append_assoc, length-replicate, map-append, take-append-drop}
 use Rattle.std.proofs.lemmas.List.Elements.{All-push}
 use Rattle.std.proofs.Math.Seq.{take-suc}
 use Rattle.std.specs.Prelude.{false}
 use Rattle.std.specs.List.{All}
+use Rattle.spx_text.specs.Limits.{most_bytes}
 use Rattle.spx_text.specs.Loads.{names, Appends}
-use Rattle.spx_examiner.specs.Causes.{ForFiles, MayHold, AreKnown, contents_of, is_too_long, any_too_long, IsShort, EndedAt, named, AreLoaded}
+use Rattle.spx_examiner.specs.Causes.{ForFiles, MayHold, AreKnown, contents_of, is_too_long, any_too_long, IsShort, EndsAt, AskedForFirst, named, AreLoaded}
 
 -- ---- what files may hold
 
@@ -65,11 +66,11 @@ guess_holds : (known : List ℕ → Option (List ℕ)) (bytes : List ℕ) (files
 guess_holds known bytes [] = refl
 guess_holds known bytes (file ∷ files) = (guess_is (known file) bytes, guess_holds known bytes files)
 
-guess_too_long : (known : Option (List ℕ)) (bytes : List ℕ) → is_too_long bytes ≡ true → IfSome known (λ given. 4194304 < length given) → is_too_long (unwrap_or known bytes) ≡ true
+guess_too_long : (known : Option (List ℕ)) (bytes : List ℕ) → is_too_long bytes ≡ true → IfSome known (λ given. most_bytes < length given) → is_too_long (unwrap_or known bytes) ≡ true
 guess_too_long None bytes long passes = long
 guess_too_long (Some given) bytes long passes = grind (arith, nat_tests)
 
-guesses_too_long : (known : List ℕ → Option (List ℕ)) (bytes : List ℕ) (words : List (String Global)) (i : ℕ) (d : String Global) → is_too_long bytes ≡ true → i < length words → IfSome (known (string_bytes (get_or words i d))) (λ given. 4194304 < length given) → any_too_long (guessed known bytes (names words)) ≡ true
+guesses_too_long : (known : List ℕ → Option (List ℕ)) (bytes : List ℕ) (words : List (String Global)) (i : ℕ) (d : String Global) → is_too_long bytes ≡ true → i < length words → IfSome (known (string_bytes (get_or words i d))) (λ given. most_bytes < length given) → any_too_long (guessed known bytes (names words)) ≡ true
 guesses_too_long known bytes [] i d long below passes = absurd (omega arith)
 guesses_too_long known bytes (word ∷ words) zero d long below passes = let here = guess_too_long (known (string_bytes word)) bytes long passes in rw here
 guesses_too_long known bytes (word ∷ words) (suc i) d long below passes =
@@ -77,15 +78,15 @@ guesses_too_long known bytes (word ∷ words) (suc i) d long below passes =
     grind (arith, nat_tests, rest)
 
 -- bytes of this number are too many, where it is too great
-too_many : (n : ℕ) → nat_lt 4194304 n ≡ true → is_too_long (replicate {A = ℕ} n 0) ≡ true
-too_many n great = ap (nat_lt 4194304) (length-replicate {A = ℕ} n 0) ∙ great
+too_many : (n : ℕ) → nat_lt most_bytes n ≡ true → is_too_long (replicate {A = ℕ} n 0) ≡ true
+too_many n great = ap (nat_lt most_bytes) (length-replicate {A = ℕ} n 0) ∙ great
 
 -- some file is too long
 long_file : (bytes : List ℕ) × (is_too_long bytes ≡ true)
-long_file = (replicate 4194305 0, too_many 4194305 refl)
+long_file = (replicate (suc most_bytes) 0, too_many (suc most_bytes) refl)
 
 -- where the load of one of them passes the limit, the files may hold contents that are too long
-pub too_long_at : (known : List ℕ → Option (List ℕ)) (words : List (String Global)) (i : ℕ) (d : String Global) → i < length words → IfSome (known (string_bytes (get_or words i d))) (λ given. 4194304 < length given) → (contents : List (List ℕ)) × MayHold known (names words) contents × (any_too_long contents ≡ true)
+pub too_long_at : (known : List ℕ → Option (List ℕ)) (words : List (String Global)) (i : ℕ) (d : String Global) → i < length words → IfSome (known (string_bytes (get_or words i d))) (λ given. most_bytes < length given) → (contents : List (List ℕ)) × MayHold known (names words) contents × (any_too_long contents ≡ true)
 too_long_at known words i d below passes =
     (guessed known long_file.0 (names words), guess_holds known long_file.0 (names words), guesses_too_long known long_file.0 words i d long_file.1 below passes)
 
@@ -108,7 +109,7 @@ order_at (word ∷ words) zero d below = refl
 order_at (word ∷ words) (suc i) d below = ap (λ l. string_bytes word ∷ l) (order_at words i d (omega arith))
 
 -- no more bytes than a file may have
-pub short_of : (known : Option (List ℕ)) (old new : List ℕ) → IfSome known (Appends 4194304 old new) → IfSome known (λ given. is_too_long given ≡ false)
+pub short_of : (known : Option (List ℕ)) (old new : List ℕ) → IfSome known (Appends most_bytes old new) → IfSome known (λ given. is_too_long given ≡ false)
 short_of None old new all = _
 short_of (Some given) old new all = let within = all.within in grind (arith, nat_tests, within)
 
@@ -118,7 +119,7 @@ short_more known words i d below before here =
     subst (All (IsShort known)) (sym (asked_more words i d below)) (All-push (IsShort known) (names (take i words)) (string_bytes (get_or words i d)) before here)
 
 -- where the work ends
-pub ended_at : (known : List ℕ → Option (List ℕ)) (words : List (String Global)) (i : ℕ) (d : String Global) (before so_far now : List (List ℕ)) → i < length words → All (IsShort known) (names (take i words)) → so_far ≡ before ++ names (take i words) → now ≡ so_far ++ string_bytes (get_or words i d) ∷ [] → EndedAt known (names words) before now (string_bytes (get_or words i d))
+pub ended_at : (known : List ℕ → Option (List ℕ)) (words : List (String Global)) (i : ℕ) (d : String Global) (before so_far now : List (List ℕ)) → i < length words → All (IsShort known) (names (take i words)) → so_far ≡ before ++ names (take i words) → now ≡ so_far ++ string_bytes (get_or words i d) ∷ [] → EndsAt known (names words) before now (string_bytes (get_or words i d))
 ended_at known words i d before so_far now below short so last =
     record {
       earlier = names (take i words);
@@ -128,7 +129,7 @@ ended_at known words i d before so_far now below short so last =
       short = short;
     }
 
-pub long_here : (known : Option (List ℕ)) → IfSome known (λ given. 4194304 < length given) → IfSome known (λ given. is_too_long given ≡ true)
+pub long_here : (known : Option (List ℕ)) → IfSome known (λ given. most_bytes < length given) → IfSome known (λ given. is_too_long given ≡ true)
 long_here None long = _
 long_here (Some given) long = grind (arith, nat_tests, long)
 
@@ -136,3 +137,28 @@ long_here (Some given) long = grind (arith, nat_tests, long)
 pub loaded_so : {P Q : Type 0} {known : List ℕ → Option (List ℕ)} {files before now : List (List ℕ)} → (P → Q) → AreLoaded P known files before now → AreLoaded Q known files before now
 loaded_so more (inl loaded) = inl loaded
 loaded_so more (inr (long, end)) = inr (long, more end)
+
+-- ---- what was asked for where memory ran out
+
+-- the first of them are those before this one
+pub first_before : (words : List (String Global)) (i : ℕ) (before now : List (List ℕ)) → now ≡ before ++ names (take i words) → AskedForFirst (names words) before now
+first_before words i before now so =
+    record {
+      first = names (take i words);
+      later = names (drop i words);
+      order = ap names (sym (take-append-drop i words)) ∙ map-append (λ (s : String Global). string_bytes s) (take i words) (drop i words);
+      asked = so;
+    }
+
+-- all of them, or those up to one that is too long
+pub first_of_loaded : {P : Type 0} {known : List ℕ → Option (List ℕ)} {files before now : List (List ℕ)} → AreLoaded P known files before now → AskedForFirst files before now
+first_of_loaded {P} {known} {files} (inl all) = record { first = files; later = []; order = sym (append-nil files); asked = all.asked }
+first_of_loaded (inr ((name, at, long), end)) = record { first = at.earlier ++ name ∷ []; later = at.later; order = at.order ∙ sym (append_assoc at.earlier (name ∷ []) at.later); asked = at.asked }
+
+-- none of them
+pub first_of_none : (files before : List (List ℕ)) → AskedForFirst files before before
+first_of_none files before = record { first = []; later = files; order = refl; asked = sym (append-nil before) }
+
+-- the same of other files that are these
+pub first_as : {files others before now : List (List ℕ)} → files ≡ others → AskedForFirst files before now → AskedForFirst others before now
+first_as {files} {others} {before} {now} same first = subst (λ those. AskedForFirst those before now) same first

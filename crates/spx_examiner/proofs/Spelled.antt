@@ -7,13 +7,12 @@ use Rattle.spx_tree.specs.declared.token.Token.{Token}
 use Rattle.spx_tree.specs.declared.subprogram.Unit.{Unit}
 use Rattle.spx_tree.specs.Places.{place_after_bytes}
 use Rattle.spx_tree.specs.Spells.{Spells}
-use Rattle.spx_tree.specs.Stops.{Cause, StopsAt}
+use Rattle.spx_tree.specs.Stops.{Cause, StopsAt, HasMoreTokens, most_tokens}
 use Rattle.spx_tree.specs.Form.{Form, forms_of}
 use Rattle.spx_tree.specs.Written.{written}
 use Rattle.spx_tree.specs.Grammar.{IsFile}
 use Rattle.spx_tree.specs.Goes as goes
 use Rattle.spx_tree.specs.Goes.{Fault, Expected, TooDeep, Begins, Ends, Answers, place_with}
-use Rattle.spx_tree.specs.Stops.{HasMoreTokens}
 use Rattle.spx_core.specs.declared.program.Program.{Program}
 use Rattle.spx_core.specs.Erased.{erased}
 use Rattle.spx_report.specs.declared.report.Finding.{Finding}
@@ -120,8 +119,8 @@ parsed_is_not_stopped stop bytes s c p at b = stop.unspelled 0 bytes c p b.token
 
 -- a text has too many tokens, or it is stopped, or it is parsed
 data Phase (bytes : List ℕ) (reading : Reading) : Type 0 where
-  overflows : HasMoreTokens 1000000 0 bytes → reading ≡ TooManyTokens → Phase bytes reading
-  stops : (cause : Cause) (place : Place) → StopsAt 0 bytes cause place → ¬ HasMoreTokens 1000000 0 bytes → reading ≡ Broken (stopped_at cause place) → Phase bytes reading
+  overflows : HasMoreTokens most_tokens 0 bytes → reading ≡ TooManyTokens → Phase bytes reading
+  stops : (cause : Cause) (place : Place) → StopsAt 0 bytes cause place → ¬ HasMoreTokens most_tokens 0 bytes → reading ≡ Broken (stopped_at cause place) → Phase bytes reading
   parses : IsParsed bytes reading → Phase bytes reading
 
 phase_of : (bytes : List ℕ) (reading : Reading) → IsRead bytes reading → Phase bytes reading

@@ -66,8 +66,9 @@ pub record AllLoaded (known : List ℕ → Option (List ℕ)) (names before now 
   pub asked : now ≡ before ++ names
   pub short : All (IsShort known) names
 
--- The work ended at the load of this one of them: those before it were asked for, in their order, none of which is too long, and none after it was.
-pub record EndedAt (known : List ℕ → Option (List ℕ)) (names before now : List (List ℕ)) (name : List ℕ) : Type 0 where
+-- The work ended at the load of this one of them. Those before it were asked for, in their order, and none of them is too long; none
+-- after it was asked for.
+pub record EndsAt (known : List ℕ → Option (List ℕ)) (names before now : List (List ℕ)) (name : List ℕ) : Type 0 where
   pub earlier : List (List ℕ)
   pub later : List (List ℕ)
   pub order : names ≡ earlier ++ name ∷ later
@@ -75,13 +76,20 @@ pub record EndedAt (known : List ℕ → Option (List ℕ)) (names before now : 
   pub short : All (IsShort known) earlier
 
 -- the work ended at a file that is too long
-abbrev pub LongEnded : (List ℕ → Option (List ℕ)) → List (List ℕ) → List (List ℕ) → List (List ℕ) → Type 0
-LongEnded known names before now = (name : List ℕ) × EndedAt known names before now name × IfSome (known name) (λ bytes. is_too_long bytes ≡ true)
+abbrev pub EndsAtLongFile : (List ℕ → Option (List ℕ)) → List (List ℕ) → List (List ℕ) → List (List ℕ) → Type 0
+EndsAtLongFile known names before now = (name : List ℕ) × EndsAt known names before now name × IfSome (known name) (λ bytes. is_too_long bytes ≡ true)
 
 -- all of these were loaded, or one is too long, where the work may end so
 abbrev pub AreLoaded : Type 0 → (List ℕ → Option (List ℕ)) → List (List ℕ) → List (List ℕ) → List (List ℕ) → Type 0
-AreLoaded may_end known names before now = AllLoaded known names before now ⊎ (LongEnded known names before now × may_end)
+AreLoaded may_end known names before now = AllLoaded known names before now ⊎ (EndsAtLongFile known names before now × may_end)
 
 -- The work ended at a load that failed, and no other load failed.
-abbrev pub FailedEnded : (List ℕ → Option (List ℕ)) → List (List ℕ) → List (List ℕ) → List (List ℕ) → List (List ℕ) → List (List ℕ) → Type 0
-FailedEnded known names asked asked_now failed failed_now = (name : List ℕ) × EndedAt known names asked asked_now name × (failed_now ≡ failed ++ name ∷ [])
+abbrev pub EndsAtFailure : (List ℕ → Option (List ℕ)) → List (List ℕ) → List (List ℕ) → List (List ℕ) → List (List ℕ) → List (List ℕ) → Type 0
+EndsAtFailure known names asked asked_now failed failed_now = (name : List ℕ) × EndsAt known names asked asked_now name × (failed_now ≡ failed ++ name ∷ [])
+
+-- The work ended before the load of one of them, at it, or later: those that were asked for are the first of them, in their order.
+pub record AskedForFirst (names before now : List (List ℕ)) : Type 0 where
+  pub first : List (List ℕ)
+  pub later : List (List ℕ)
+  pub order : names ≡ first ++ later
+  pub asked : now ≡ before ++ first

@@ -68,6 +68,15 @@ fn obeyed(alloc: Global, units: &[Unit]) -> Result<Program, ResolveFault>
     }
 }
 
+/// The program that units are, where they break no rule. The units are given up.
+fn made_of(alloc: Global, units: Items<Unit>) -> Result<Program, ResolveFault>
+    ensures made { IfOk result (IsMadeFrom units) }
+    ensures obeys { IfOk result Obeys }
+    ensures broken { (breach : Breach) → IsErrOf result (ResolveFault.Breach breach) → IsFirstBreach units breach }
+{
+    obeyed(alloc, units.as_slice())
+}
+
 /// What there is to report before the conditions of a program: that a subprogram has too many variables, or else all flow findings.
 fn before_conditions(alloc: Global, program: &Program) -> Result<Option<Judgement>, AllocError>
     requires { Visible program.now }
@@ -153,11 +162,11 @@ fn on_units(
     alloc: Global,
     command: &CommandWords<'_>,
     inputs: &[InputLine],
-    units: &[Unit],
+    units: Items<Unit>,
 ) -> Result<Judgement, AllocError>
-    ensures { (given : List (List ℕ)) → AreInputsIn given (Ok inputs.now) → IfOk result (IsReportOnUnits (request_of command.now) given units.now) }
+    ensures { (given : List (List ℕ)) → AreInputsIn given (Ok inputs.now) → IfOk result (IsReportOnUnits (request_of command.now) given units) }
 {
-    match obeyed(alloc, units) {
+    match made_of(alloc, units) {
         Ok(program) => on_program(alloc, command, inputs, program),
         Err(ResolveFault::Breach(breach)) => refused_by(alloc, breach),
         Err(ResolveFault::Memory) => Err(AllocError),
@@ -192,10 +201,10 @@ fn examined(
     alloc: Global,
     command: &CommandWords<'_>,
     given: &[Vec<u8>],
-    units: &[Unit],
+    units: Items<Unit>,
 ) -> Result<Judgement, AllocError>
     requires { any_too_long (contents_of given.now) ≡ false }
-    ensures { IfOk result (IsReportOnUnits (request_of command.now) (contents_of given.now) units.now) }
+    ensures { IfOk result (IsReportOnUnits (request_of command.now) (contents_of given.now) units) }
 {
     match inputs_in(alloc, given) {
         Ok(inputs) => on_units(alloc, command, inputs.lines.as_slice(), units),
@@ -216,7 +225,7 @@ pub fn judge(
     ensures { IfOk result (IsReportOn (request_of command.now) (source.now ∷ contents_of given.now)) }
 {
     match read(alloc, source)? {
-        Reading::Units(units) => examined(alloc, command, given, units.as_slice()),
+        Reading::Units(units) => examined(alloc, command, given, units),
         Reading::Broken(finding) => refused(alloc, finding),
         Reading::TooManyTokens => Ok(Judgement::Limit(LimitName::Tokens)),
         Reading::TooNested => Ok(Judgement::Limit(LimitName::Nesting)),

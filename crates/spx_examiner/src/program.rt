@@ -7,7 +7,7 @@ ghost use Rattle.spx_examiner.specs.Words.{AsksForCheck, AsksForConditions, Asks
 ghost use Rattle.spx_words.specs.Words.{request_of};
 ghost use Rattle.spx_examiner.specs.Judgement.{status_of, text_of};
 ghost use Rattle.spx_examiner.specs.Causes as causes;
-ghost use Rattle.spx_examiner.specs.Causes.{AreLoaded, Concludes, Exactly, FailedEnded, ForFiles, MayHold, WhereKnown, contents_of, named};
+ghost use Rattle.spx_examiner.specs.Causes.{AreLoaded, AskedForFirst, Concludes, Exactly, EndsAtFailure, ForFiles, MayHold, WhereKnown, contents_of, named};
 ghost use Rattle.spx_paths.specs.Fit.{Clean, Fit};
 ghost use Rattle.spx_meaning.specs.Laws.{NeverBad, TwoRuns};
 ghost use Rattle.spx_examiner.specs.Outcome.{AreAcceptable, AreFit, AreListed, AreRefusable, AreReliable, EndsAs, EndsBadly, HasNotEnded, HasRunTo, IsAssured, IsCutShortAs, IsJudgedOn, IsJudgement, PassLimit, SaysHowItRan, Stand};
@@ -78,7 +78,7 @@ fn examined(
 }
 
 /// What there is to report on the files of these names.
-#[tactic(auto, using(crate::proofs::Endings::endings))]
+#[tactic(auto, using(crate::proofs::Endings::endings, crate::proofs::Loading::first_of_loaded))]
 fn judged<F: Files>(
     alloc: Global,
     command: &CommandWords<'_>,
@@ -89,8 +89,9 @@ fn judged<F: Files>(
     ensures judged { IfOk result (λ judgement. (contents : List (List ℕ)) × MayHold (F.known files.old) (names named.now) contents × IsJudgedOn (request_of command.now) contents judgement) }
     ensures known { (name : List ℕ) → F.known files.new name ≡ F.known files.old name }
     ensures loads { IfOk result (λ judgement. AreLoaded (status_of judgement ≡ Status.Limit) (F.known files.old) (names named.now) (F.asked files.old) (F.asked files.new)) }
-    ensures failed { IsErrOf result Stop.ReadFault → FailedEnded (F.known files.old) (names named.now) (F.asked files.old) (F.asked files.new) (F.failed files.old) (F.failed files.new) }
+    ensures failed { IsErrOf result Stop.ReadFault → EndsAtFailure (F.known files.old) (names named.now) (F.asked files.old) (F.asked files.new) (F.failed files.old) (F.failed files.new) }
     ensures none_failed { (IsErrOf result Stop.ReadFault → ⊥) → F.failed files.new ≡ F.failed files.old }
+    ensures first { IsErrOf result Stop.NoMemory → AskedForFirst (names named.now) (F.asked files.old) (F.asked files.new) }
 {
     match load_all(alloc, named, files) {
         Ok(loaded) => Ok(examined(alloc, command, loaded.as_slice())?),
@@ -133,14 +134,15 @@ fn assure(judgement: &Judgement)
 }
 
 /// All the work but the writing.
-#[tactic(auto, using(crate::proofs::Endings::some_named))]
+#[tactic(auto, using(crate::proofs::Endings::some_named, crate::proofs::Loading::first_of_loaded, crate::proofs::Loading::first_of_none))]
 fn prepare<F: Files>(alloc: Global, words: &[String], files: &mut F) -> Result<Report, Stop>
     ensures text { IfOk result (λ made. made.text.items ≡ text_of (named (names words.now)) made.judgement) }
     ensures judged { IfOk result (λ made. ForFiles (F.known files.old) (names words.now) (λ contents. IsJudgement (names words.now) contents made.judgement)) }
     ensures known { (name : List ℕ) → F.known files.new name ≡ F.known files.old name }
     ensures loads { IfOk result (λ made. AreLoaded (status_of made.judgement ≡ Status.Limit) (F.known files.old) (named (names words.now)) (F.asked files.old) (F.asked files.new)) }
-    ensures failed { IsErrOf result Stop.ReadFault → FailedEnded (F.known files.old) (named (names words.now)) (F.asked files.old) (F.asked files.new) (F.failed files.old) (F.failed files.new) }
+    ensures failed { IsErrOf result Stop.ReadFault → EndsAtFailure (F.known files.old) (named (names words.now)) (F.asked files.old) (F.asked files.new) (F.failed files.old) (F.failed files.new) }
     ensures none_failed { (IsErrOf result Stop.ReadFault → ⊥) → F.failed files.new ≡ F.failed files.old }
+    ensures first { IsErrOf result Stop.NoMemory → AskedForFirst (named (names words.now)) (F.asked files.old) (F.asked files.new) }
 {
     let Some(command) = asked(alloc, words)? else {
         return Ok(reported(alloc, &[], Judgement::Usage)?);
@@ -202,12 +204,15 @@ pub fn examine<F: Files, S: Sink>(
         Exactly Status.NotEnded (Stand HasNotEnded (names words.now) contents) result) }
 
     // A read fault comes exactly where a load failed, of a file that the words name. Those before it were loaded, and no other was asked for.
-    ensures read_fault { result ≡ Status.ReadFault → FailedEnded (F.known files.old) (named (names words.now)) (F.asked files.old) (F.asked files.new) (F.failed files.old) (F.failed files.new) }
+    ensures read_fault { result ≡ Status.ReadFault → EndsAtFailure (F.known files.old) (named (names words.now)) (F.asked files.old) (F.asked files.new) (F.failed files.old) (F.failed files.new) }
     ensures no_read_fault { result ≢ Status.ReadFault → F.failed files.new ≡ F.failed files.old }
 
     // Else all files that the words name were loaded, in their order, or one is too long, and none after it was asked for.
     ensures loads { result ≢ Status.ReadFault → result ≢ Status.NoMemory
         → AreLoaded ((result ≡ Status.Limit) ⊎ (result ≡ Status.WriteFault)) (F.known files.old) (named (names words.now)) (F.asked files.old) (F.asked files.new) }
+
+    // Where memory runs out, the files that were asked for are the first of those, in their order.
+    ensures no_memory { result ≡ Status.NoMemory → AskedForFirst (named (names words.now)) (F.asked files.old) (F.asked files.new) }
 
     // A write fault comes only where the sink counted one, and then a part of the report's text was taken.
     ensures write_fault { result ≡ Status.WriteFault → Rose (S.faults sink.old) (S.faults sink.new) }

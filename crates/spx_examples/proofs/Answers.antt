@@ -3,7 +3,7 @@ use Rattle.std.proofs.Common.{◌≡◌, ℕ, zero, suc, true, false, List, [], 
 use Rattle.std.specs.Prelude.{⊤, ◌↔◌}
 use Rattle.std.specs.List.{All}
 use Rattle.spx_examiner.specs.declared.status.Status.TheVariants.{Accepted, Refused}
-use Rattle.spx_examiner.specs.Causes.{AllLoaded, AreLoaded, Concludes, EndedAt, Exactly, FailedEnded, IsShort, LongEnded, is_too_long}
+use Rattle.spx_examiner.specs.Causes.{AllLoaded, AreLoaded, Concludes, EndsAt, Exactly, EndsAtFailure, IsShort, EndsAtLongFile, is_too_long}
 use Rattle.spx_examples.specs.Answers.{both_files, inputs_file, nothing_known, program_file}
 
 -- neither answer is a fault

@@ -12,4 +12,4 @@ pub returns-in-Err-BadLine : goal.returns-in-Err-BadLine
 returns-in-Err-BadLine c =
     let place = c.in-Err-BadLine.place in
     let bad = c.in-Err-BadLine.ensures.bad place (ap (λ (fault : InputFault). Err fault) c.in-Err-BadLine.field-0-is) in
-    if_ok c.refused_at.result _ _ (λ j is. of_line place.line bad.0 (is ∙ ap (λ (p : Place). Ran (Refused (BadLine p ∷ []))) bad.1)) c.refused_at.ensures
+    if_ok c.refused_at.result _ _ (λ j is. of_line place.line bad.0 (is ∙ ap (λ (p : Place). Ran (Refused (BadLine p ∷ []))) (c.in-Err-BadLine.place-is ∙ bad.1))) c.refused_at.ensures

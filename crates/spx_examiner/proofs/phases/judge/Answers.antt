@@ -1,8 +1,5 @@
 use Rattle.std.proofs.Common.{subst}
-use Rattle.spx_words.specs.Words.{request_of}
 use Rattle.spx_examiner.specs.declared.reading.Reading.TheVariants.{Units, Broken}
-use Rattle.spx_examiner.specs.Causes.{contents_of}
-use Rattle.spx_examiner.specs.Outcome.{IsReportOnUnits}
 use Rattle.spx_examiner.specs.Reading.{IsRead}
 use Rattle.spx_examiner.proofs.Spelled.{if_ok}
 use Rattle.spx_examiner.proofs.phases.judge.Goals as goal
@@ -10,7 +7,7 @@ use Rattle.spx_examiner.proofs.phases.judge.Goals as goal
 pub returns-in-Units : goal.returns-in-Units
 returns-in-Units c =
     if_ok c.examined.result _ _
-    (λ j report. (Units c.in-Units.units, subst (IsRead c.args.source.now) c.in-Units.is c.in_ok-units.ensures, subst (λ us. IsReportOnUnits (request_of c.args.command.now) (contents_of c.args.given.now) us j) c.as_slice.ensures report))
+    (λ j report. (Units c.in-Units.units, subst (IsRead c.args.source.now) c.in-Units.is c.in_ok-units.ensures, report))
     c.examined.ensures
 
 pub returns-in-Broken : goal.returns-in-Broken

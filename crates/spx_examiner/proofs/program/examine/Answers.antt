@@ -92,3 +92,9 @@ returns-in-Ok-write_all_pieces-clause-loads g c = λ read memory. loaded_so (λ 
 
 pub returns-clause-loads : goal.returns-clause-loads
 returns-clause-loads g c = λ read memory. loaded_so (λ is. inr refl) c.in-Ok.ensures.loads
+
+pub returns-in-Ok-write_all_pieces-clause-no_memory : goal.returns-in-Ok-write_all_pieces-clause-no_memory
+returns-in-Ok-write_all_pieces-clause-no_memory g c = λ is.
+    let (contents, holds, judged) = c.in-Ok.ensures.judged in
+    let own = (causes c.laws_below.ensures (names c.args.words.now) contents c.in-Ok.made.judgement judged).no_fault in
+    absurd (own.1 (sym c.status.ensures ∙ is))
