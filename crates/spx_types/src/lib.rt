@@ -1,9 +1,10 @@
 //! The static rules on names and expressions: what an expression is, or the first rule that is broken in it, from left
 //! to right (Ada 95 RM 3, 4, 8.3).
 //!
-//! Each function mirrors the definition that its contract cites: `Ok` says what a node is, `Err` which rule is broken
-//! first in it. A layer above says with the same words what declarations and statements ask of their expressions: the
-//! tests on types and values are those of `Types`, the rules those of `Judged`. Nothing allocates.
+//! A layer above may rely on this: `judge` answers what an expression is, or the first rule that is broken in it
+//! (`judged` of `spx_core`), and `application`, `named_type`, `referred_type` and their kin do so for a function or a name.
+//! Each function mirrors the definition that its contract cites, and declarations and statements are judged with the same
+//! words: the tests on types and values are those of `Types`, the rules those of `Judged`. Nothing allocates.
 #![tactic(auto)]
 
 mod attributes;

@@ -1,9 +1,10 @@
 //! The static rules on declarations, annotations and statements: the first rule on names and types that is broken in
 //! one, in the order of the text (Ada 95 RM 3, 5, 6, 8.3).
 //!
-//! Each function mirrors the definition that its contract cites: `Ok` says that no rule is broken in a part, `Err` which
-//! is broken first. A layer above may go over the parts of a program in any order, since each part is judged by itself.
-//! Only `type_row` allocates.
+//! A layer above may rely on these calls. `judge_param`, `judge_item`, `judge_predicate`, `judge_decl` and `judge_stmts` answer `Ok`
+//! where no rule is broken in a part, and else which is broken first, exactly as the definitions of `spx_core` say. Each part is
+//! judged by itself, so parts can be judged in any order. `type_row` gives what the table of types says of a type. Only it
+//! allocates.
 #![tactic(auto)]
 
 mod choices;

@@ -1,6 +1,6 @@
 use Rattle.std.proofs.Common.{◌≡◌, ◌∙◌, ap, arith, false, get_or, length, subst, sym}
 use Rattle.std.proofs.lemmas.Bool.{le-ltb}
-use Rattle.spx_core.specs.FlowRules.{is_wide}
+use Rattle.spx_core.specs.FlowRules.{is_wide, most_variables}
 use Rattle.spx_core.specs.Scopes.{Scoped}
 use Rattle.spx_flow.specs.Flows.{IsBackwardFlow}
 use Rattle.spx_flow.proofs.FlowLaws.{covers_body, the_sub}
@@ -23,4 +23,4 @@ returns-clause-narrow c sub at =
     let first = c.index-as_slice-id.result in
     let same = the_sub c.args.program.now.subs c.as_slice.result.now c.args.id.0 first sub c.as_slice.ensures c.index-as_slice-id.is at in
     let few = rw c.len-count.ensures at c.if-count-gt-MOST_VARIABLES.false in
-    subst (λ s. is_wide s ≡ false) same (le-ltb 4096 (length first.vars) (omega (arith, few)))
+    subst (λ s. is_wide s ≡ false) same (le-ltb most_variables (length first.vars) (omega (arith, few)))
