@@ -1,9 +1,9 @@
 -- Answers without their cause, and files that are loaded out of order.
-use Rattle.std.proofs.Common.{◌≡◌, ℕ, zero, suc, true, false, List, [], ◌∷◌, ◌++◌, get_or, Option, Some, None, IfSome, refl, ap, subst, sym, ◌∙◌, inl, inr, arith}
-use Rattle.std.specs.Prelude.{⊤, ◌↔◌}
+use Rattle.std.proofs.Common.{◌≡◌, ℕ, true, false, List, [], ◌∷◌, ◌++◌, get_or, Option, Some, IfSome, refl, ap, subst, sym, ◌∙◌, inl, inr, arith}
+use Rattle.std.specs.Prelude.{⊤}
 use Rattle.std.specs.List.{All}
 use Rattle.spx_examiner.specs.declared.status.Status.TheVariants.{Accepted, Refused}
-use Rattle.spx_examiner.specs.Causes.{AllLoaded, AreLoaded, Concludes, EndsAt, Exactly, EndsAtFailure, IsShort, EndsAtLongFile, is_too_long}
+use Rattle.spx_examiner.specs.Causes.{AreLoaded, AskedForFirst, Concludes, Exactly, IsShort, is_too_long}
 use Rattle.spx_examples.specs.Answers.{both_files, inputs_file, nothing_known, program_file}
 
 -- neither answer is a fault
@@ -59,3 +59,13 @@ not_short_first known bytes name (x ∷ earlier) is long asked short =
 pub not_loaded : (known : Known) (bytes : List ℕ) → known program_file ≡ Some bytes → is_too_long bytes ≡ true → ¬ AreLoaded ⊤ known both_files [] both_files
 not_loaded known bytes is long (inl loaded) = not_short (known program_file) bytes is long (loaded.short 0 [] (omega arith))
 not_loaded known bytes is long (inr ((name, ended, passes), end)) = not_short_first known bytes name ended.earlier is long ended.asked ended.short
+
+-- the inputs are not the first of both
+pub not_asked_later : ¬ AskedForFirst both_files [] (inputs_file ∷ [])
+not_asked_later first = names_differ (head_is program_file inputs_file (inputs_file ∷ []) first.later (subst (λ those. both_files ≡ those ++ first.later) (sym first.asked) first.order))
+
+-- the inputs are none of one
+pub not_asked_other : ¬ AskedForFirst (program_file ∷ []) [] (program_file ∷ inputs_file ∷ [])
+not_asked_other first =
+    let order : program_file ∷ [] ≡ program_file ∷ inputs_file ∷ first.later = subst (λ those. program_file ∷ [] ≡ those ++ first.later) (sym first.asked) first.order in
+    absurd (cc)

@@ -1,7 +1,7 @@
 // What the clauses on answers and on loads say, and weaker ones would not. Each law is the contract of a function that does nothing.
 ghost use Rattle.std.specs.Prelude.{◌≡◌, ⊤, ℕ, true, List, [], ◌∷◌, Option, Some};
 ghost use Rattle.spx_examiner.specs.declared.status.Status.TheVariants.{Accepted, Refused};
-ghost use Rattle.spx_examiner.specs.Causes.{AreLoaded, Exactly, EndsAtFailure, is_too_long};
+ghost use Rattle.spx_examiner.specs.Causes.{AreLoaded, AskedForFirst, Exactly, EndsAtFailure, is_too_long};
 ghost use Rattle.spx_examples.specs.Answers.{both_files, inputs_file, nothing_known, program_file};
 
 /// An answer is not given exactly where its cause holds, if it is given without it, or not given with it. One direction of the two would allow one of these.
@@ -30,4 +30,10 @@ pub fn a_load_that_failed_is_the_last()
 pub fn a_file_that_is_too_long_is_the_last()
     ensures failed { (known : List ℕ → Option (List ℕ)) (bytes : List ℕ) → known program_file ≡ Some bytes → is_too_long bytes ≡ true → ¬ EndsAtFailure known both_files [] both_files [] (inputs_file ∷ []) }
     ensures loaded { (known : List ℕ → Option (List ℕ)) (bytes : List ℕ) → known program_file ≡ Some bytes → is_too_long bytes ≡ true → ¬ AreLoaded ⊤ known both_files [] both_files }
+{}
+
+/// Where memory runs out, no file was asked for before one that the words name earlier, and none that they do not name.
+pub fn what_was_asked_for_comes_first()
+    ensures later { ¬ AskedForFirst both_files [] (inputs_file ∷ []) }
+    ensures other { ¬ AskedForFirst (program_file ∷ []) [] (program_file ∷ inputs_file ∷ []) }
 {}
