@@ -41,7 +41,8 @@ use Rattle.spx_core.specs.declared.program.Var.{Var}
 use Rattle.spx_core.specs.declared.program.Program.{Program}
 use Rattle.spx_core.specs.Formals.{stands_in}
 use Rattle.spx_core.specs.Regions.{Region, Regions}
-use Rattle.spx_core.specs.Resolved.{around_formals, around_names, bounded, constant_of, counted, Counts, declared_by, declared_by_decls, declared_by_params, declared_by_scheme, declaring, declaring_all, defining, defining_all, enumeration_type, id_at, integer_type, local_kind, meant_at, mode_of, narrowed, object_of, params_of, positions, resolved_decl, resolved_decls, resolved_expr, resolved_formal_part, resolved_param, resolved_params, resolved_range, resolved_reference, resolved_scheme, resolved_type, rows_by, rows_by_decls, standard_types, static_value, subtype_of, var_in, var_of, variable_at, variables_by, variables_by_decls}
+use Rattle.spx_core.specs.Resolved.{around_formals, around_names, bounded, constant_of, counted, Counts, declared_by, declared_by_decls, declared_by_params, declared_by_scheme, declaring, declaring_all, defining, defining_all, enumeration_type, id_at, integer_type, local_kind, meant_at, mode_of, narrowed, object_of, params_of, positions, resolved_decl, resolved_decls, resolved_expr, resolved_formal_part, resolved_param, resolved_params, resolved_range, resolved_reference, resolved_scheme, resolved_type, rows_by, rows_by_decls, standard_types, static_value, subtype_of, var_in, var_of, variable_at, variables_by, variables_by_decls, resolved_static}
+use Rattle.spx_core.specs.declared.rule.ExprType.TheVariants.{Universal}
 use Rattle.spx_core.specs.Scopes.{object_declared, object_in}
 use Rattle.spx_core.proofs.RegionLaws.{AllHold, HasRow, Holds, HoldsIn, row_at, declaring_all_holds, hidden_holds, root_holds, predefined_have_rows, standard_holds, subtype_holds}
 use Rattle.spx_core.proofs.Callers.ListTests.{each_append, each_split}
@@ -180,7 +181,7 @@ module _ (more : List TypeRow) where
     type_known : (region : Region) (before : Counts) (name : Identifier) (d : TypeDef) (front back : List TypeRow) → Stands before front (rows_by (resolved_type outer region before name d)) back
         → Known before.vars (variables_by (resolved_type outer region before name d)) (declared_by (resolved_type outer region before name d))
     type_known region before name (definition.Integer range) front back stands =
-        let r = resolved_range (around_names outer region (name ∷ [])) range in
+        let r = resolved_range Universal (around_names outer region (name ∷ [])) range in
         record { consecutive = tt; holds = λ P h. (new_has_row front back before.types name.text _ stands.0 stands.1 (integer_is_new before.types (static_value r.low) (static_value r.high)), tt) }
     type_known region before name (definition.Enumeration place literals) front back stands =
         record { consecutive = tt; holds = λ P h. (new_has_row front back before.types name.text _ stands.0 stands.1 (inl refl), meanings_hold (HasRow more) P _ (meaning.Literals (enumeration_type before.types (length literals))) 0 literals (λ k. tt)) }
@@ -189,14 +190,14 @@ module _ (more : List TypeRow) where
         → Known before.vars (variables_by (resolved_decl outer region before d)) (declared_by (resolved_decl outer region before d))
     decl_known region before (decl.Variables names type_name value) front back own stands =
         let around = around_names outer region names in
-        let kind = local_kind (option_map (resolved_expr around) value) in
-        record { consecutive = defining_consecutive (IsLocal more) region (object_of kind (resolved_reference around type_name)) before.vars names (kind_is_local (option_map (resolved_expr around) value), type_has_row region names type_name own); holds = λ P h. h }
+        let kind = local_kind (option_map (resolved_static around) value) in
+        record { consecutive = defining_consecutive (IsLocal more) region (object_of kind (resolved_reference around type_name)) before.vars names (kind_is_local (option_map (resolved_static around) value), type_has_row region names type_name own); holds = λ P h. h }
     decl_known region before (decl.Constants names type_name value) front back own stands =
-        record { consecutive = tt; holds = λ P h. meanings_hold (HasRow more) P region _ 0 names (λ k. constants_hold (HasRow more) P (option_map (resolved_reference (around_names outer region names)) type_name) (static_value (resolved_expr (around_names outer region names) value))) }
+        record { consecutive = tt; holds = λ P h. meanings_hold (HasRow more) P region _ 0 names (λ k. constants_hold (HasRow more) P (option_map (resolved_reference (around_names outer region names)) type_name) (static_value (resolved_static (around_names outer region names) value))) }
     decl_known region before (decl.FullType name d) front back own stands = type_known region before name d front back stands
     decl_known region before (decl.Subtype name parent range) front back own stands =
         let around = around_names outer region (name ∷ []) in
-        record { consecutive = tt; holds = λ P h. (new_has_row front back before.types name.text _ stands.0 stands.1 (narrowed_is_new before.types (subtype_of (resolved_reference around parent).root.entity) (option_map (resolved_range around) range)), tt) }
+        record { consecutive = tt; holds = λ P h. (new_has_row front back before.types name.text _ stands.0 stands.1 (narrowed_is_new before.types (subtype_of (resolved_reference around parent).root.entity) (option_map (resolved_range Universal around) range)), tt) }
 
     pub decls_known : (region : Region) (before : Counts) (ds : List Decl) (front back : List TypeRow) → HoldsIn (HasRow more) Any region → Stands before front (rows_by_decls (resolved_decls outer region before ds)) back
         → Known before.vars (variables_by_decls (resolved_decls outer region before ds)) (declared_by_decls (resolved_decls outer region before ds))

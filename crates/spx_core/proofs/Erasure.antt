@@ -39,13 +39,17 @@ use Rattle.spx_core.specs.declared.dependency.CoreDerivesItem.{CoreDerivesItem}
 use Rattle.spx_core.specs.declared.program.Program.{Program}
 use Rattle.spx_core.specs.Regions.{Region, Regions, hidden}
 use Rattle.spx_core.specs.Erased.{Visible, erased, erased_alternative, erased_alternative_step, erased_arm, erased_arm_step, erased_choice, erased_count, erased_decl, erased_range, erased_defining, erased_derives, erased_exports, erased_expr, erased_formal_part, erased_item, erased_param, erased_predicate, erased_reference, erased_scheme, erased_step, erased_stmt, erased_stmt_step, erased_sub, unit_of}
+use Rattle.spx_core.specs.declared.rule.ExprType.{ExprType}
+use Rattle.spx_core.specs.declared.rule.ExprType.TheVariants.{Universal, Of}
+use Rattle.spx_core.specs.declared.entity.TheConstants.{INTEGER}
 use Rattle.spx_core.specs.Judged.{breach_in}
 use Rattle.spx_core.specs.Statements.{Typed, first_name_breach, judged_program}
 use Rattle.spx_core.proofs.Callers.Bodies.{all_are_units}
 use Rattle.spx_core.proofs.Judgements.{unbroken}
 use Rattle.spx_core.proofs.ResolvedParts.{IsStmt, null, assignment, if_then, if_else, case_of, loop, assertion, exit, IsArm, arm, IsAlternative, alternative, AreStmts, no_stmts, more_stmts, AreArms, no_arms, more_arms, AreAlternatives, no_alternatives, more_alternatives, stmts_are}
 use Rattle.spx_core.specs.Resolved as resolved
-use Rattle.spx_core.specs.Resolved.{after_formals, around_body, around_formals, around_names, at_start, counted, counted_sub, Counts, declared_by, declaring, declaring_all, defining, defining_all, exported_names, formal_names, is_changed_by, items_for, meant_at, place_of_null, resolved_choice, resolved_decl, resolved_decls, resolved_derives, resolved_expr, resolved_formal_part, resolved_function, resolved_in, resolved_item, resolved_name, resolved_param, resolved_params, resolved_predicate, resolved_range, resolved_reference, resolved_scheme, resolved_sub, resolved_subs, resolved_type, unit_name, own_region, declared_before, resolved_count}
+use Rattle.spx_core.specs.Resolved.{after_formals, around_body, around_formals, around_names, at_start, counted, counted_sub, Counts, declared_by, declaring, declaring_all, defining, defining_all, exported_names, formal_names, is_changed_by, items_for, meant_at, place_of_null, resolved_choice, resolved_decl, resolved_decls, resolved_derives, resolved_expr, resolved_formal_part, resolved_function, resolved_in, resolved_item, resolved_name, resolved_param, resolved_params, resolved_predicate, resolved_range, resolved_reference, resolved_scheme, resolved_sub, resolved_subs, resolved_type, unit_name, own_region, declared_before, resolved_count, resolved_condition, resolved_static, type_named}
+use Rattle.spx_core.proofs.ContextLaws.{erased_in_context}
 
 -- ---- names and expressions
 
@@ -87,8 +91,11 @@ module _ (items : List CoreDerivesItem) (regions : Regions) where
   kept_in : (e : Expr) → Kept e
   kept_in = ind-Expr Kept (λ x y is. subst (λ z. Kept (roll-Expr z)) is (layer y))
 
-kept_expr : (regions : Regions) (e : Expr) → erased_expr (resolved_expr regions e) ≡ e
-kept_expr regions e = kept_in [] regions e
+kept_expr : (type : ExprType) (regions : Regions) (e : Expr) → erased_expr (resolved_expr type regions e) ≡ e
+kept_expr type regions e = erased_in_context type (resolved_in [] regions e) ∙ kept_in [] regions e
+
+kept_condition : (items : List CoreDerivesItem) (regions : Regions) (e : Expr) → erased_expr (resolved_condition items regions e) ≡ e
+kept_condition items regions e = erased_in_context (Of INTEGER.base) (resolved_in items regions e) ∙ kept_in items regions e
 
 -- ---- lists and optional parts
 
@@ -113,7 +120,7 @@ erased_stmt_at y = fold-roll-CoreStmt Stmt Alternative Arm erased_stmt_step eras
 module _ (regions : Regions) where
   kept_choice : (choice : Choice) → erased_choice (resolved_choice regions choice) ≡ choice
   kept_choice choice =
-      ap₂ (λ (low : Expr) (high : Option Expr). let x : Choice = record { low = low; high = high } in x) (kept_expr regions choice.low) (kept_if_there erased_expr (resolved_expr regions) (kept_expr regions) choice.high)
+      ap₂ (λ (low : Expr) (high : Option Expr). let x : Choice = record { low = low; high = high } in x) (kept_expr Universal regions choice.low) (kept_if_there erased_expr (resolved_static regions) (kept_expr Universal regions) choice.high)
 
   kept_choices : (choices : Option (List Choice)) → option_map (map erased_choice) (option_map (map (resolved_choice regions)) choices) ≡ choices
   kept_choices choices = kept_if_there (map erased_choice) (map (resolved_choice regions)) (kept_each erased_choice (resolved_choice regions) kept_choice) choices
@@ -133,22 +140,22 @@ module _ (regions : Regions) where
       ap (λ (items : List DerivesItem). let x : Derives = record { place = derives.place; items = items } in x) (kept_each erased_item (resolved_item regions) kept_item derives.items)
 
 kept_predicate : (items : List CoreDerivesItem) (regions : Regions) (predicate : Predicate) → erased_predicate (resolved_predicate items regions predicate) ≡ predicate
-kept_predicate items regions predicate = ap (λ (e : Expr). let x : Predicate = record { place = predicate.place; condition = e } in x) (kept_in items regions predicate.condition)
+kept_predicate items regions predicate = ap (λ (e : Expr). let x : Predicate = record { place = predicate.place; condition = e } in x) (kept_condition items regions predicate.condition)
 
 -- ---- statements
 
-kept_range : (regions : Regions) (range : Range) → erased_range (resolved_range regions range) ≡ range
-kept_range regions range = ap₂ (λ (low high : Expr). let x : Range = record { low = low; high = high } in x) (kept_expr regions range.low) (kept_expr regions range.high)
+kept_range : (type : ExprType) (regions : Regions) (range : Range) → erased_range (resolved_range type regions range) ≡ range
+kept_range type regions range = ap₂ (λ (low high : Expr). let x : Range = record { low = low; high = high } in x) (kept_expr type regions range.low) (kept_expr type regions range.high)
 
 module _ (outer : Regions) where
   kept_count : (region : Region) (position : ℕ) (c : Count) → erased_count (resolved_count outer region position c) ≡ c
   kept_count region position c =
       let around = around_names outer region (c.name ∷ []) in
       ap₂ (λ (n : Name) (b : Option Range). let x : Count = record { place = c.place; name = c.name; word = c.word; is_reverse = c.is_reverse; type_name = n; bounds = b } in x) (kept_reference around c.type_name)
-      (kept_if_there erased_range (resolved_range around) (kept_range around) c.bounds)
+      (kept_if_there erased_range (resolved_range (type_named around c.type_name) around) (kept_range (type_named around c.type_name) around) c.bounds)
 
   kept_scheme : (region : Region) (position : ℕ) (written : Scheme) → erased_scheme (resolved_scheme outer region position written) ≡ written
-  kept_scheme region position (scheme.While place condition) = ap (scheme.While place) (kept_expr (region ∷ outer) condition)
+  kept_scheme region position (scheme.While place condition) = ap (scheme.While place) (kept_condition [] (region ∷ outer) condition)
   kept_scheme region position (scheme.For c) = ap scheme.For (kept_count region position c)
   kept_scheme region position scheme.Endless = refl
 
@@ -159,23 +166,24 @@ module _ (items : List CoreDerivesItem) (outer : Regions) where
     kept_stmt : {region : Region} {position : ℕ} {s : Stmt} {c : CoreStmt} {ds : List Defining} → IsStmt items outer region position s c ds → erased_stmt c ≡ s
     kept_stmt (null region position place) = erased_stmt_at (CoreStmt-F.Null place)
     kept_stmt (assignment region position target value) =
-        erased_stmt_at (CoreStmt-F.Assignment (resolved_reference (region ∷ outer) target) (resolved_expr (region ∷ outer) value)) ∙ ap₂ stmt.Assignment (kept_reference (region ∷ outer) target) (kept_expr (region ∷ outer) value)
+        erased_stmt_at (CoreStmt-F.Assignment (resolved_reference (region ∷ outer) target) (resolved_expr (type_named (region ∷ outer) target) (region ∷ outer) value))
+        ∙ ap₂ stmt.Assignment (kept_reference (region ∷ outer) target) (kept_expr (type_named (region ∷ outer) target) (region ∷ outer) value)
     kept_stmt (if_then region position arms closing cores ds are) = erased_stmt_at (CoreStmt-F.If cores None closing) ∙ ap (λ (a : List Arm). stmt.If a None closing) (kept_arms are)
     kept_stmt (if_else region position arms stmts closing cores body ds es are others) =
         erased_stmt_at (CoreStmt-F.If cores (Some body) closing) ∙ ap₂ (λ (a : List Arm) (o : List Stmt). stmt.If a (Some o) closing) (kept_arms are) (kept_stmts others)
     kept_stmt (case_of region position place selector alternatives closing cores ds are) =
-        erased_stmt_at (CoreStmt-F.Case place (resolved_expr (region ∷ outer) selector) cores closing) ∙ ap₂ (λ (e : Expr) (a : List Alternative). stmt.Case place e a closing) (kept_expr (region ∷ outer) selector) (kept_alternatives are)
+        erased_stmt_at (CoreStmt-F.Case place (resolved_condition [] (region ∷ outer) selector) cores closing) ∙ ap₂ (λ (e : Expr) (a : List Alternative). stmt.Case place e a closing) (kept_condition [] (region ∷ outer) selector) (kept_alternatives are)
     kept_stmt (loop region position scheme word stmts closing body ds are) =
         erased_stmt_at (CoreStmt-F.Loop (resolved_scheme outer region position scheme) word body closing) ∙ ap₂ (λ (x : Scheme) (b : List Stmt). stmt.Loop x word b closing) (kept_scheme outer region position scheme) (kept_stmts are)
     kept_stmt (assertion region position kind place condition) =
-        erased_stmt_at (CoreStmt-F.Assertion kind place (resolved_in items (region ∷ outer) condition)) ∙ ap (stmt.Assertion kind place) (kept_in items (region ∷ outer) condition)
+        erased_stmt_at (CoreStmt-F.Assertion kind place (resolved_condition items (region ∷ outer) condition)) ∙ ap (stmt.Assertion kind place) (kept_condition items (region ∷ outer) condition)
     kept_stmt (exit region position place condition) =
-        erased_stmt_at (CoreStmt-F.Exit place (option_map (resolved_expr (region ∷ outer)) condition)) ∙ ap (stmt.Exit place) (kept_if_there erased_expr (resolved_expr (region ∷ outer)) (kept_expr (region ∷ outer)) condition)
+        erased_stmt_at (CoreStmt-F.Exit place (option_map (resolved_condition [] (region ∷ outer)) condition)) ∙ ap (stmt.Exit place) (kept_if_there erased_expr (resolved_condition [] (region ∷ outer)) (kept_condition [] (region ∷ outer)) condition)
 
     kept_arm : {region : Region} {position : ℕ} {a : Arm} {c : CoreArm} {ds : List Defining} → IsArm items outer region position a c ds → erased_arm c ≡ a
     kept_arm (arm region position place condition stmts body ds are) =
         fold-roll-CoreArm Stmt Alternative Arm erased_stmt_step erased_alternative_step erased_arm_step _
-        ∙ ap₂ (λ (c : Expr) (ss : List Stmt). let x : Arm = record { place = place; condition = c; body = ss } in x) (kept_expr (region ∷ outer) condition) (kept_stmts are)
+        ∙ ap₂ (λ (c : Expr) (ss : List Stmt). let x : Arm = record { place = place; condition = c; body = ss } in x) (kept_condition [] (region ∷ outer) condition) (kept_stmts are)
 
     kept_alternative : {region : Region} {position : ℕ} {a : Alternative} {c : CoreAlternative} {ds : List Defining} → IsAlternative items outer region position a c ds → erased_alternative c ≡ a
     kept_alternative (alternative region position choices stmts body ds are) =
@@ -208,22 +216,22 @@ module _ (outer : Regions) where
   kept_params region position (p ∷ ps) = ap₂ (λ (x : Param) (xs : List Param). x ∷ xs) (kept_param region position p) (kept_params (declaring_all region (resolved_param outer region position p).names) (position + length (resolved_param outer region position p).names) ps)
 
   kept_type : (region : Region) (before : Counts) (name : Identifier) (d : TypeDef) → erased_decl (resolved_type outer region before name d) ≡ decl.FullType name d
-  kept_type region before name (definition.Integer range) = ap (λ (r : Range). decl.FullType name (definition.Integer r)) (kept_range (around_names outer region (name ∷ [])) range)
+  kept_type region before name (definition.Integer range) = ap (λ (r : Range). decl.FullType name (definition.Integer r)) (kept_range Universal (around_names outer region (name ∷ [])) range)
   kept_type region before name (definition.Enumeration place literals) = ap (λ (names : List Identifier). decl.FullType name (definition.Enumeration place names)) (kept_names _ _ 0 literals)
 
   kept_decl : (region : Region) (before : Counts) (d : Decl) → erased_decl (resolved_decl outer region before d) ≡ d
   kept_decl region before (decl.Variables names type_name value) =
       let around = around_names outer region names in
-      ap (λ (ns : List Identifier). decl.Variables ns (erased_reference (resolved_reference around type_name)) (option_map erased_expr (option_map (resolved_expr around) value))) (kept_names region _ before.vars names)
-      ∙ ap₂ (decl.Variables names) (kept_reference around type_name) (kept_if_there erased_expr (resolved_expr around) (kept_expr around) value)
+      ap (λ (ns : List Identifier). decl.Variables ns (erased_reference (resolved_reference around type_name)) (option_map erased_expr (option_map (resolved_static around) value))) (kept_names region _ before.vars names)
+      ∙ ap₂ (decl.Variables names) (kept_reference around type_name) (kept_if_there erased_expr (resolved_static around) (kept_expr Universal around) value)
   kept_decl region before (decl.Constants names type_name value) =
       let around = around_names outer region names in
-      ap (λ (ns : List Identifier). decl.Constants ns (option_map erased_reference (option_map (resolved_reference around) type_name)) (erased_expr (resolved_expr around value))) (kept_names region _ 0 names)
-      ∙ ap₂ (decl.Constants names) (kept_if_there erased_reference (resolved_reference around) (kept_reference around) type_name) (kept_expr around value)
+      ap (λ (ns : List Identifier). decl.Constants ns (option_map erased_reference (option_map (resolved_reference around) type_name)) (erased_expr (resolved_static around value))) (kept_names region _ 0 names)
+      ∙ ap₂ (decl.Constants names) (kept_if_there erased_reference (resolved_reference around) (kept_reference around) type_name) (kept_expr Universal around value)
   kept_decl region before (decl.FullType name definition) = kept_type region before name definition
   kept_decl region before (decl.Subtype name parent range) =
       let around = around_names outer region (name ∷ []) in
-      ap₂ (decl.Subtype name) (kept_reference around parent) (kept_if_there erased_range (resolved_range around) (kept_range around) range)
+      ap₂ (decl.Subtype name) (kept_reference around parent) (kept_if_there erased_range (resolved_range Universal around) (kept_range Universal around) range)
 
   kept_decls : (region : Region) (before : Counts) (ds : List Decl) → map erased_decl (resolved_decls outer region before ds) ≡ ds
   kept_decls region before [] = refl

@@ -31,7 +31,7 @@ use Rattle.spx_core.specs.declared.rule.RuleName.TheVariants.{N1, N3, N10, N12, 
 use Rattle.spx_core.specs.declared.rule.ExprType.TheVariants.{Of}
 use Rattle.spx_core.specs.declared.rule.Typing.{Typing}
 use Rattle.spx_core.specs.HasType.{HasType}
-use Rattle.spx_core.specs.Judged.{Judged, ◌>>=◌, application, applied_form, attribute, attribute_function, condition, entry_value, expr_step, function_at, has_attribute, ordered_type, is_attribute, is_first, is_function, is_whole, is_word, judged, keeps, mapped, member_of_range, member_of_type, named_object, named_target, named_type, named_value, object_at, operation, referred_object, referred_target, referred_type, sign, target_at, type_at, value_at, whole}
+use Rattle.spx_core.specs.Judged.{Judged, ◌>>=◌, application, applied_form, attribute, attribute_function, condition, entry_value, expr_step, function_at, has_attribute, implicit, ordered_type, is_attribute, is_first, is_function, is_whole, is_word, judged, keeps, mapped, member_of_range, member_of_type, named_object, named_target, named_type, named_value, object_at, operation, referred_object, referred_target, referred_type, sign, target_at, type_at, value_at, whole}
 use Rattle.spx_core.specs.NameBreaches as broken
 use Rattle.spx_core.specs.NameBreaches.{BreaksCondition, BreaksExpr, BreaksName, BreaksProgram, BreaksReference, BreaksSub, IsObject, IsTarget, IsType, IsValue, assigned_type}
 use Rattle.spx_core.specs.Statements.{test}
@@ -39,7 +39,7 @@ use Rattle.spx_core.specs.Types.{both_held, has_literals, has_numbers, is_boolea
 use Rattle.spx_core.proofs.Elements.{in_first, in_none}
 use Rattle.spx_core.proofs.Judgements.{bound, by_part, by_test, joined, kept, ok_is}
 use Rattle.spx_core.proofs.TypedLaws.{complete, sound}
-use Rattle.spx_core.proofs.Callers.Expressions.{Cases, induct, fold-Number, fold-Name, fold-Entry, fold-Attribute, fold-Applied, fold-Parenthesized, fold-Prefix, fold-Infix, fold-InType, fold-InRange}
+use Rattle.spx_core.proofs.Callers.Expressions.{Cases, induct, fold-Number, fold-Name, fold-Entry, fold-Attribute, fold-Applied, fold-Parenthesized, fold-Implicit, fold-Prefix, fold-Infix, fold-InType, fold-InRange}
 
 -- ---- names
 
@@ -277,9 +277,15 @@ sign_found op at a o d b h =
     by_part (keeps N12 at held) _ b h (λ e. by_test Breaks N12 at held b e (λ out. broken.sign_out_of_range op at a o d (and_left held lies out))) (λ _ _ h.
     by_part (keeps N12 at lies) _ b h (λ e. by_test Breaks N12 at lies b e (λ out. broken.sign_out_of_range op at a o d (and_right held lies out))) (λ _ _ h. absurd cc)))
 
+implicit_found : (base : BaseType) (at : Place) (a : CoreExpr) (o : Typing) → HasType a o → (b : Breach) → implicit base at o ≡ Err b → At (BreaksExpr (expr.Implicit base at a)) b
+implicit_found base at a o d b h =
+    let Breaks = BreaksExpr (expr.Implicit base at a) in
+    by_part (keeps N10 at (is_of base o.of)) _ b h (λ e. by_test Breaks N10 at (is_of base o.of) b e (broken.cannot_take base at a o d)) (λ _ _ h.
+    by_part (keeps N12 at (lies_in (Of base) o.value)) _ b h (λ e. by_test Breaks N12 at (lies_in (Of base) o.value) b e (broken.outside_type_taken base at a o d)) (λ _ _ h. absurd cc))
+
 operation_found : (op : InfixOp) (at : Place) (a c : CoreExpr) (l r : Typing) → HasType a l → HasType c r → (b : Breach) → operation op at l r ≡ Err b → At (BreaksExpr (expr.Infix op at a c)) b
 operation_found op at a c l r d f b h =
-    let left = left_type op l.of r.of r.value in
+    let left = left_type op l.of r.of in
     let right = right_type op l.of r.of in
     let value = result_of op l.value r.value in
     let held = both_held l.value r.value value in
@@ -325,6 +331,8 @@ found_cases = record {
       by_part (application f) _ b (sym (fold-Applied expr_step f at a) ∙ h) (application_found f at a b) (λ mapping is h.
       by_part (judged a) _ b h (λ e. broken.argument f at a b.rule b.place (p b e)) (λ o has e. mapped_found f at a b mapping o is (sound a o has) e));
   parenthesized = λ at a p b h. by_part (judged a) _ b (sym (fold-Parenthesized expr_step at a) ∙ h) (λ e. broken.inner at a b.rule b.place (p b e)) (λ o is e. absurd cc);
+  implicit = λ base at a p b h.
+      by_part (judged a) _ b (sym (fold-Implicit expr_step base at a) ∙ h) (λ e. broken.converted base at a b.rule b.place (p b e)) (λ o is e. implicit_found base at a o (sound a o is) b e);
   prefix = λ op at a p b h.
       by_part (judged a) _ b (sym (fold-Prefix expr_step op at a) ∙ h) (λ e. broken.operand op at a b.rule b.place (p b e)) (λ o is e. sign_found op at a o (sound a o is) b e);
   «infix» = λ op at a c p q b h.
@@ -429,16 +437,23 @@ sign_passes op at o t h =
     let c = bound (keeps N12 at (lies_in o.of (signed_result op o.value))) _ t b.2 in
     (kept N10 at _ a.1, and_from _ _ (kept N12 at _ b.1) (kept N12 at _ c.1))
 
+-- what an implicit conversion passes that gives something
+implicit_passes : (base : BaseType) (at : Place) (o t : Typing) → implicit base at o ≡ Ok t → (is_of base o.of ≡ true) × (lies_in (Of base) o.value ≡ true)
+implicit_passes base at o t h =
+    let a = bound (keeps N10 at (is_of base o.of)) _ t h in
+    let b = bound (keeps N12 at (lies_in (Of base) o.value)) _ t a.2 in
+    (kept N10 at _ a.1, kept N12 at _ b.1)
+
 -- an operation
 record Passes (op : InfixOp) (l r : Typing) : Type 0 where
   fit : operands_fit op l.of r.of ≡ true
-  left_lies : lies_in (left_type op l.of r.of r.value) l.value ≡ true
+  left_lies : lies_in (left_type op l.of r.of) l.value ≡ true
   right_lies : lies_in (right_type op l.of r.of) r.value ≡ true
-  result_lies : (both_held l.value r.value (result_of op l.value r.value) && lies_in (result_type op (left_type op l.of r.of r.value)) (result_of op l.value r.value)) ≡ true
+  result_lies : (both_held l.value r.value (result_of op l.value r.value) && lies_in (result_type op (left_type op l.of r.of)) (result_of op l.value r.value)) ≡ true
 
 operation_passes : (op : InfixOp) (at : Place) (l r t : Typing) → operation op at l r ≡ Ok t → Passes op l r
 operation_passes op at l r t h =
-    let left = left_type op l.of r.of r.value in
+    let left = left_type op l.of r.of in
     let value = result_of op l.value r.value in
     let a = bound (keeps N10 at (operands_fit op l.of r.of)) _ t h in
     let b = bound (keeps N12 l.place (lies_in left l.value)) _ t a.2 in
@@ -492,6 +507,9 @@ each_of_three o l u t passes is =
 signed_passes : (op : PrefixOp) (at : Place) (a : CoreExpr) (o t : Typing) → HasType a o → judged (expr.Prefix op at a) ≡ Ok t
     → (operand_fits op o.of ≡ true) × ((is_held o.value (signed_result op o.value) && lies_in o.of (signed_result op o.value)) ≡ true)
 signed_passes op at a o t d h = sign_passes op at o t (sym (joined (sign op at) (complete a o d)) ∙ sym (fold-Prefix expr_step op at a) ∙ h)
+
+converted_passes : (base : BaseType) (at : Place) (a : CoreExpr) (o t : Typing) → HasType a o → judged (expr.Implicit base at a) ≡ Ok t → (is_of base o.of ≡ true) × (lies_in (Of base) o.value ≡ true)
+converted_passes base at a o t d h = implicit_passes base at o t (sym (joined (implicit base at) (complete a o d)) ∙ sym (fold-Implicit expr_step base at a) ∙ h)
 
 -- the function that is applied in what has a type
 application_is : (f : CoreFunction) (at : Place) (a : CoreExpr) (t : Typing) → judged (expr.Applied f at a) ≡ Ok t → (mapping : Mapping) × (application f ≡ Ok mapping)
@@ -557,6 +575,7 @@ no_expr _ _ _ (broken.argument f at a rule place h) t ok =
     let o = bound (judged a) _ t m.2 in
     no_expr a rule place h o.0 o.1
 no_expr _ _ _ (broken.inner at a rule place h) t ok = let b = bound (judged a) _ t (sym (fold-Parenthesized expr_step at a) ∙ ok) in no_expr a rule place h b.0 b.1
+no_expr _ _ _ (broken.converted base at a rule place h) t ok = let b = bound (judged a) _ t (sym (fold-Implicit expr_step base at a) ∙ ok) in no_expr a rule place h b.0 b.1
 no_expr _ _ _ (broken.operand op at a rule place h) t ok = let b = bound (judged a) _ t (sym (fold-Prefix expr_step op at a) ∙ ok) in no_expr a rule place h b.0 b.1
 no_expr _ _ _ (broken.left op at a c rule place h) t ok = let b = bound (judged a) _ t (sym (fold-Infix expr_step op at a c) ∙ ok) in no_expr a rule place h b.0 b.1
 no_expr _ _ _ (broken.right op at a c rule place h) t ok =
@@ -578,6 +597,8 @@ no_expr _ _ _ (broken.high_bound op at a low high rule place h) t ok =
     let l = bound (judged low) _ t o.2 in
     let u = bound (judged high) _ t l.2 in
     no_expr high rule place h u.0 u.1
+no_expr _ _ _ (broken.cannot_take base at a o d fails) t ok = both_ways _ fails (converted_passes base at a o t d ok).0
+no_expr _ _ _ (broken.outside_type_taken base at a o d fails) t ok = both_ways _ fails (converted_passes base at a o t d ok).1
 no_expr _ _ _ (broken.no_operand op at a o d fails) t ok = both_ways _ fails (signed_passes op at a o t d ok).0
 no_expr _ _ _ (broken.sign_out_of_range op at a o d fails) t ok = both_ways _ fails (signed_passes op at a o t d ok).1
 no_expr _ _ _ (broken.no_operands op at a c l r d f fails) t ok = both_ways _ fails (operated_passes op at a c l r t d f ok).fit

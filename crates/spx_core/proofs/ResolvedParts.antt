@@ -21,7 +21,7 @@ use Rattle.spx_core.specs.declared.statement.CoreArm.{CoreArm}
 use Rattle.spx_core.specs.declared.statement.CoreAlternative.{CoreAlternative}
 use Rattle.spx_core.specs.Regions.{Region, Regions}
 use Rattle.spx_core.specs.Resolved as resolved
-use Rattle.spx_core.specs.Resolved.{Part, declared_by_scheme, declaring_all, in_order, parameters_by, parameters_by_alternative, parameters_by_arm, parameters_by_stmts, resolved_alternative, resolved_arm, resolved_choice, resolved_expr, resolved_in, resolved_reference, resolved_scheme, resolved_stmt, resolved_stmts}
+use Rattle.spx_core.specs.Resolved.{Part, declared_by_scheme, declaring_all, in_order, parameters_by, parameters_by_alternative, parameters_by_arm, parameters_by_stmts, resolved_alternative, resolved_arm, resolved_choice, resolved_expr, resolved_in, resolved_reference, resolved_scheme, resolved_stmt, resolved_stmts, resolved_condition, type_named}
 use Rattle.spx_core.proofs.Callers.LoopParameters.{parameters-Null, parameters-Assignment, parameters-If, parameters-If-else, parameters-Case, parameters-Loop, parameters-Assertion, parameters-Exit, parameters-arm, parameters-alternative}
 
 -- In this innermost region and from this position on, the written part is resolved to the other, and its loops have these parameters.
@@ -29,24 +29,24 @@ mutual
   pub data IsStmt (items : List CoreDerivesItem) (outer : Regions) : Region → ℕ → Stmt → CoreStmt → List Defining → Type 0 where
     null : (region : Region) (position : ℕ) (place : Place) → IsStmt items outer region position (written.Null place) (stmt.Null place) []
     assignment : (region : Region) (position : ℕ) (target : Name) (value : Expr)
-        → IsStmt items outer region position (written.Assignment target value) (stmt.Assignment (resolved_reference (region ∷ outer) target) (resolved_expr (region ∷ outer) value)) []
+        → IsStmt items outer region position (written.Assignment target value) (stmt.Assignment (resolved_reference (region ∷ outer) target) (resolved_expr (type_named (region ∷ outer) target) (region ∷ outer) value)) []
     if_then : (region : Region) (position : ℕ) (arms : List Arm) (closing : Closing) (cores : List CoreArm) (ds : List Defining) → AreArms items outer region position arms cores ds
         → IsStmt items outer region position (written.If arms None closing) (stmt.If cores None closing) ds
     if_else : (region : Region) (position : ℕ) (arms : List Arm) (stmts : List Stmt) (closing : Closing) (cores : List CoreArm) (body : List CoreStmt) (ds es : List Defining) → AreArms items outer region position arms cores ds
         → AreStmts items outer region (position + length ds) stmts body es → IsStmt items outer region position (written.If arms (Some stmts) closing) (stmt.If cores (Some body) closing) (ds ++ es)
     case_of : (region : Region) (position : ℕ) (place : Place) (selector : Expr) (alternatives : List Alternative) (closing : Closing) (cores : List CoreAlternative) (ds : List Defining)
-        → AreAlternatives items outer region position alternatives cores ds → IsStmt items outer region position (written.Case place selector alternatives closing) (stmt.Case place (resolved_expr (region ∷ outer) selector) cores closing) ds
+        → AreAlternatives items outer region position alternatives cores ds → IsStmt items outer region position (written.Case place selector alternatives closing) (stmt.Case place (resolved_condition [] (region ∷ outer) selector) cores closing) ds
     loop : (region : Region) (position : ℕ) (scheme : Scheme) (word : Place) (stmts : List Stmt) (closing : Closing) (body : List CoreStmt) (ds : List Defining)
         → AreStmts items outer (declaring_all region (declared_by_scheme (resolved_scheme outer region position scheme))) (position + length (declared_by_scheme (resolved_scheme outer region position scheme))) stmts body ds
         → IsStmt items outer region position (written.Loop scheme word stmts closing) (stmt.Loop (resolved_scheme outer region position scheme) word body closing) (declared_by_scheme (resolved_scheme outer region position scheme) ++ ds)
     assertion : (region : Region) (position : ℕ) (kind : AssertionKind) (place : Place) (condition : Expr)
-        → IsStmt items outer region position (written.Assertion kind place condition) (stmt.Assertion kind place (resolved_in items (region ∷ outer) condition)) []
+        → IsStmt items outer region position (written.Assertion kind place condition) (stmt.Assertion kind place (resolved_condition items (region ∷ outer) condition)) []
     exit : (region : Region) (position : ℕ) (place : Place) (condition : Option Expr)
-        → IsStmt items outer region position (written.Exit place condition) (stmt.Exit place (option_map (resolved_expr (region ∷ outer)) condition)) []
+        → IsStmt items outer region position (written.Exit place condition) (stmt.Exit place (option_map (resolved_condition [] (region ∷ outer)) condition)) []
 
   pub data IsArm (items : List CoreDerivesItem) (outer : Regions) : Region → ℕ → Arm → CoreArm → List Defining → Type 0 where
     arm : (region : Region) (position : ℕ) (place : Place) (condition : Expr) (stmts : List Stmt) (body : List CoreStmt) (ds : List Defining) → AreStmts items outer region position stmts body ds
-        → IsArm items outer region position (record { place = place; condition = condition; body = stmts }) (record { place = place; condition = resolved_expr (region ∷ outer) condition; body = body }) ds
+        → IsArm items outer region position (record { place = place; condition = condition; body = stmts }) (record { place = place; condition = resolved_condition [] (region ∷ outer) condition; body = body }) ds
 
   pub data IsAlternative (items : List CoreDerivesItem) (outer : Regions) : Region → ℕ → Alternative → CoreAlternative → List Defining → Type 0 where
     alternative : (region : Region) (position : ℕ) (choices : Option (List Choice)) (stmts : List Stmt) (body : List CoreStmt) (ds : List Defining) → AreStmts items outer region position stmts body ds

@@ -54,7 +54,12 @@ use Rattle.spx_core.specs.Formals.{is_formal, is_local, mode_in, mode_of, stands
 use Rattle.spx_core.specs.Effects.{Effect, Read, chosen, counts, effect, effect_among, is_read, reads, reads_of, sets, assigns, reads_in, reads_of_range}
 use Rattle.spx_core.specs.Obeyed.{mode_denoted}
 use Rattle.spx_core.specs.Regions.{Region, Regions}
-use Rattle.spx_core.specs.Resolved.{after_formals, around_body, at_start, counted_sub, Counts, declaring, declaring_all, exported_names, formal_names, items_for, local_names, local_variables, own_types, own_vars, resolved_derives, resolved_expr, resolved_in, resolved_item, resolved_predicate, resolved_reference, resolved_sub, resolved_subs, standard_types, unit_name, var_of, around_names, declared_by_count, loop_names, object_of, positions, resolved_choice, resolved_count, resolved_range}
+use Rattle.spx_core.specs.Resolved.{after_formals, around_body, at_start, counted_sub, Counts, declaring, declaring_all, exported_names, formal_names, items_for, local_names, local_variables, own_types, own_vars, resolved_derives, resolved_expr, resolved_in, resolved_item, resolved_predicate, resolved_reference, resolved_sub, resolved_subs, standard_types, unit_name, var_of, around_names, declared_by_count, loop_names, object_of, positions, resolved_choice, resolved_count, resolved_range, resolved_condition, type_named}
+use Rattle.spx_core.proofs.ContextLaws.{reads_in_context}
+use Rattle.spx_core.specs.Contexts.{in_context}
+use Rattle.spx_core.specs.declared.rule.ExprType.{ExprType}
+use Rattle.spx_core.specs.declared.rule.ExprType.TheVariants.{Of}
+use Rattle.spx_core.specs.declared.entity.TheConstants.{INTEGER}
 use Rattle.spx_core.specs.Resolved as resolved
 use Rattle.spx_core.specs.Erased.{Visible, erased}
 use Rattle.spx_core.specs.Scopes.{AllAreAsDeclared, AllHaveTheirModes, AreAsDeclared, HasItsMode, HaveTheirModes, IsAsDeclared, Scoped, TargetsHaveTheirModes, kind_of, object_declared, object_in, IsInnerKind, LoopsDiffer, names_in_bounds}
@@ -95,9 +100,9 @@ module _ (T : Subtype → Type 0) (P : VarId → Object → Type 0) where
   abbrev IsTarget : Reference → Type 0
   IsTarget target = (regions : Regions) × (name : Name) × AllByRecursion (HoldsIn T P) regions × (target ≡ resolved_reference regions name)
 
-  -- a value is what some expression is there, whichever items say of what values on entry may be named
+  -- a value is what some expression is there, whatever type it meets and whichever items say of what values on entry may be named
   abbrev IsValue : CoreExpr → Type 0
-  IsValue value = (regions : Regions) × (items : List CoreDerivesItem) × (e : Expr) × AllByRecursion (HoldsIn T P) regions × (value ≡ resolved_in items regions e)
+  IsValue value = (type : ExprType) × (regions : Regions) × (items : List CoreDerivesItem) × (e : Expr) × AllByRecursion (HoldsIn T P) regions × (value ≡ in_context type (resolved_in items regions e))
 
   abbrev AreValues : Option CoreRange → Type 0
   AreValues None = ⊤
@@ -122,21 +127,22 @@ module _ (T : Subtype → Type 0) (P : VarId → Object → Type 0) where
     AllResolve low (Last choices a) = Resolves low a
     AllResolve low (When choices a rest) = Resolves low a × AllResolve low rest
 
-  bounds_are_values : (regions : Regions) → AllByRecursion (HoldsIn T P) regions → (bounds : Option Range) → AreValues (option_map (resolved_range regions) bounds)
-  bounds_are_values regions all None = tt
-  bounds_are_values regions all (Some range) = ((regions, [], range.low, all, refl), (regions, [], range.high, all, refl))
+  bounds_are_values : (type : ExprType) (regions : Regions) → AllByRecursion (HoldsIn T P) regions → (bounds : Option Range) → AreValues (option_map (resolved_range type regions) bounds)
+  bounds_are_values type regions all None = tt
+  bounds_are_values type regions all (Some range) = ((type, regions, [], range.low, all, refl), (type, regions, [], range.high, all, refl))
 
   -- ---- so it is with the commands of resolved statements
 
   module _ (items : List CoreDerivesItem) (outer : Regions) (known : AllByRecursion (HoldsIn T P) outer) where
-    abbrev value_in : (region : Region) → HoldsIn T P region → (e : Expr) → IsValue (resolved_expr (region ∷ outer) e)
-    value_in region own e = (region ∷ outer, [], e, (own, known), refl)
+    abbrev condition_in : (region : Region) → HoldsIn T P region → (e : Expr) → IsValue (resolved_condition [] (region ∷ outer) e)
+    condition_in region own e = (Of INTEGER.base, region ∷ outer, [], e, (own, known), refl)
 
     mutual
       stmt_resolves : (low : ℕ) {region : Region} {position : ℕ} {s : Stmt} {c : CoreStmt} {ds : List Defining} → IsStmt items outer region position s c ds → low ≤ position → HoldsIn T P region → AllHold T P ds → Resolves low (command c)
       stmt_resolves low (null region position place) at own all = subst (Resolves low) (sym (command-Null place)) tt
       stmt_resolves low (assignment region position target value) at own all =
-          subst (Resolves low) (sym (command-Assignment (resolved_reference (region ∷ outer) target) (resolved_expr (region ∷ outer) value))) ((region ∷ outer, target, (own, known), refl), value_in region own value)
+          subst (Resolves low) (sym (command-Assignment (resolved_reference (region ∷ outer) target) (resolved_expr (type_named (region ∷ outer) target) (region ∷ outer) value)))
+          ((region ∷ outer, target, (own, known), refl), (type_named (region ∷ outer) target, region ∷ outer, [], value, (own, known), refl))
       stmt_resolves low (if_then region position arms closing cores ds are) at own all =
           subst (Resolves low) (sym (command-If (stmt.If cores None closing) cores None closing refl refl)) (arms_resolve low are at own all Skip tt)
       stmt_resolves low (if_else region position arms stmts closing cores body ds es are others) at own all =
@@ -144,32 +150,32 @@ module _ (T : Subtype → Type 0) (P : VarId → Object → Type 0) where
           subst (Resolves low) (sym (command-If-else (stmt.If cores (Some body) closing) cores (Some body) body closing refl refl))
           (arms_resolve low are at own parts.0 (commands body) (stmts_resolve low others (omega (arith, at)) own parts.1))
       stmt_resolves low (case_of region position place selector alternatives closing cores ds are) at own all =
-          let value = resolved_expr (region ∷ outer) selector in
-          subst (Resolves low) (sym (command-Case (stmt.Case place value cores closing) place value cores closing refl)) (select_resolves low place value (value_in region own selector) are at own all)
+          let value = resolved_condition [] (region ∷ outer) selector in
+          subst (Resolves low) (sym (command-Case (stmt.Case place value cores closing) place value cores closing refl)) (select_resolves low place value (condition_in region own selector) are at own all)
       stmt_resolves low (loop region position (scheme.While place condition) word stmts closing body ds are) at own all =
-          let value = resolved_expr (region ∷ outer) condition in
+          let value = resolved_condition [] (region ∷ outer) condition in
           let x = core_scheme.While place value in
-          subst (Resolves low) (sym (command-While (stmt.Loop x word body closing) x word body closing place value refl refl)) (value_in region own condition, stmts_resolve low are (omega (arith, at)) own all)
+          subst (Resolves low) (sym (command-While (stmt.Loop x word body closing) x word body closing place value refl refl)) (condition_in region own condition, stmts_resolve low are (omega (arith, at)) own all)
       stmt_resolves low (loop region position (scheme.For written) word stmts closing body ds are) at own all =
           let c = resolved_count outer region position written in
           let x = core_scheme.For c in
           let d = declared_by_count c in
           let around = around_names outer region (written.name ∷ []) in
           let inside = declaring_all_holds T P region (d ∷ []) own (all.0, tt) in
-          let bounds = bounds_are_values around (hidden_holds T P (written.name ∷ []), (own, known)) written.bounds in
+          let bounds = bounds_are_values (type_named around written.type_name) around (hidden_holds T P (written.name ∷ []), (own, known)) written.bounds in
           subst (Resolves low) (sym (command-For (stmt.Loop x word body closing) x word body closing c refl refl)) (at, all.0, bounds, stmts_resolve (position + 1) are (omega arith) inside all.1)
       stmt_resolves low (loop region position scheme.Endless word stmts closing body ds are) at own all =
           subst (Resolves low) (sym (command-Endless (stmt.Loop core_scheme.Endless word body closing) core_scheme.Endless word body closing refl refl)) (stmts_resolve low are (omega (arith, at)) own all)
       stmt_resolves low (exit region position place None) at own all = subst (Resolves low) (sym (command-Exit place None)) tt
       stmt_resolves low (exit region position place (Some condition)) at own all =
-          subst (Resolves low) (sym (command-Exit place (Some (resolved_expr (region ∷ outer) condition)))) (value_in region own condition, tt, tt)
+          subst (Resolves low) (sym (command-Exit place (Some (resolved_condition [] (region ∷ outer) condition)))) (condition_in region own condition, tt, tt)
       stmt_resolves low (assertion region position kind place condition) at own all =
-          subst (Resolves low) (sym (command-Assertion kind place (resolved_in items (region ∷ outer) condition))) (region ∷ outer, items, condition, (own, known), refl)
+          subst (Resolves low) (sym (command-Assertion kind place (resolved_condition items (region ∷ outer) condition))) (Of INTEGER.base, region ∷ outer, items, condition, (own, known), refl)
 
       arm_resolves : (low : ℕ) {region : Region} {position : ℕ} {a : Arm} {c : CoreArm} {ds : List Defining} → IsArm items outer region position a c ds → low ≤ position → HoldsIn T P region → AllHold T P ds
           → (otherwise : Command) → Resolves low otherwise → Resolves low (arm_before c otherwise)
       arm_resolves low (arm region position place condition stmts body ds are) at own all otherwise rest =
-          subst (Resolves low) (sym (command_arm (record { place = place; condition = resolved_expr (region ∷ outer) condition; body = body }) otherwise)) (value_in region own condition, stmts_resolve low are at own all, rest)
+          subst (Resolves low) (sym (command_arm (record { place = place; condition = resolved_condition [] (region ∷ outer) condition; body = body }) otherwise)) (condition_in region own condition, stmts_resolve low are at own all, rest)
 
       alternative_resolves : (low : ℕ) {region : Region} {position : ℕ} {a : Alternative} {c : CoreAlternative} {ds : List Defining} → IsAlternative items outer region position a c ds → low ≤ position → HoldsIn T P region → AllHold T P ds
           → Resolves low (commands_of.alternative c).1
@@ -222,7 +228,9 @@ module _ (T : Subtype → Type 0) (P : VarId → Object → Type 0) where
 
   module _ (v : VarId) where
     value_variable : (value : CoreExpr) → IsValue value → is_read v (reads_of value) ≡ true → (object : Object) × P v object
-    value_variable value written h = used_variable T P written.0 written.3 written.1 v written.2 (ap (uses v) (sym written.4) ∙ sym (reads_uses v value) ∙ h)
+    value_variable value written h =
+        let reads = ap (list_any (denotes v)) (reads_in_context written.0 (resolved_in written.2 written.1 written.3)) in
+        used_variable T P written.1 written.4 written.2 v written.3 (sym reads ∙ ap (uses v) (sym written.5) ∙ sym (reads_uses v value) ∙ h)
 
     bounds_variable : (bounds : Option CoreRange) → AreValues bounds → is_read v (reads_in (option_map reads_of_range bounds)) ≡ true → (object : Object) × P v object
     bounds_variable None written h = absurd cc
@@ -381,8 +389,9 @@ module _ (p : Program) (T : Subtype → Type 0) (P : VarId → Object → Type 0
 
   read_as_declared : (value : CoreExpr) → IsValue T P value → All (IsAsDeclared p) (names_read value)
   read_as_declared value written =
-      subst (λ e. All (IsAsDeclared p) (names_read e)) (sym written.4)
-      (All-from_recursion (IsAsDeclared p) _ (all_as_declared (names_read (resolved_in written.1 written.0 written.2)) (read_known T P written.0 written.3 written.1 written.2)))
+      let named = resolved_in written.2 written.1 written.3 in
+      subst (λ e. All (IsAsDeclared p) (names_read e)) (sym written.5)
+      (subst (λ names. All (IsAsDeclared p) names) (sym (reads_in_context written.0 named)) (All-from_recursion (IsAsDeclared p) _ (all_as_declared (names_read named) (read_known T P written.1 written.4 written.2 written.3))))
 
   bounds_as_declared : (bounds : Option CoreRange) → AreValues T P bounds → All (IsAsDeclared p) (names_in_bounds bounds)
   bounds_as_declared None written = All-from_recursion (IsAsDeclared p) [] tt
@@ -413,7 +422,7 @@ module _ (p : Program) (T : Subtype → Type 0) (P : VarId → Object → Type 0
       → option_map (resolved_predicate items regions) written ≡ Some predicate → All (IsAsDeclared p) (names_read predicate.condition)
   predicate_as_declared regions all items None predicate is = absurd cc
   predicate_as_declared regions all items (Some w) predicate is =
-      read_as_declared predicate.condition (regions, items, w.condition, all, ap (λ (x : CorePredicate). x.condition) (let e : predicate ≡ resolved_predicate items regions w = cc in e))
+      read_as_declared predicate.condition (Of INTEGER.base, regions, items, w.condition, all, ap (λ (x : CorePredicate). x.condition) (let e : predicate ≡ resolved_predicate items regions w = cc in e))
 
 -- ---- what is declared in a body
 

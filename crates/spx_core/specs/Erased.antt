@@ -80,7 +80,7 @@ erased_defining d = d.name
 abbrev pub erased_function : CoreFunction → Function
 erased_function function = record { name = function.name.name; form = function.form }
 
--- one level, whose parts are erased
+-- one level, whose parts are erased; an implicit conversion is not written
 abbrev pub erased_step : CoreExpr-F Expr → Expr
 erased_step (CoreExpr-F.Number value place) = expr.Number value place
 erased_step (CoreExpr-F.Name name) = expr.Name (Simple name.name)
@@ -88,6 +88,7 @@ erased_step (CoreExpr-F.Entry name allowed) = expr.Entry name.name
 erased_step (CoreExpr-F.Attribute prefix designator) = expr.Name (Attribute prefix.name designator)
 erased_step (CoreExpr-F.Applied function place operand) = expr.Applied (erased_function function) place operand
 erased_step (CoreExpr-F.Parenthesized place inner) = expr.Parenthesized place inner
+erased_step (CoreExpr-F.Implicit base place operand) = operand
 erased_step (CoreExpr-F.Prefix op place operand) = expr.Prefix op place operand
 erased_step (CoreExpr-F.Infix op place left right) = expr.Infix op place left right
 erased_step (CoreExpr-F.InType op place tested type_name) = expr.InType op place tested (erased_reference type_name)

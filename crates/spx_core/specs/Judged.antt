@@ -218,11 +218,11 @@ sign op place operand = do
 abbrev pub operation : InfixOp → Place → Typing → Typing → Judged Typing
 operation op place left right = do
   _ ← keeps N10 place (operands_fit op left.of right.of)
-  _ ← keeps N12 left.place (lies_in (left_type op left.of right.of right.value) left.value)
+  _ ← keeps N12 left.place (lies_in (left_type op left.of right.of) left.value)
   _ ← keeps N12 right.place (lies_in (right_type op left.of right.of) right.value)
   _ ← keeps N12 place (both_held left.value right.value (result_of op left.value right.value))
-  _ ← keeps N12 place (lies_in (result_type op (left_type op left.of right.of right.value)) (result_of op left.value right.value))
-  Ok (typing (result_type op (left_type op left.of right.of right.value)) (result_of op left.value right.value) place)
+  _ ← keeps N12 place (lies_in (result_type op (left_type op left.of right.of)) (result_of op left.value right.value))
+  Ok (typing (result_type op (left_type op left.of right.of)) (result_of op left.value right.value) place)
 
 -- a type that has an order is needed
 abbrev pub ordered_type : Reference → Judged Subtype
@@ -287,6 +287,13 @@ mapped place mapping operand = do
   _ ← keeps N12 place (lies_within mapping.bounds (shifted_value mapping.shift operand.value))
   Ok (typing (Of mapping.result) (shifted_value mapping.shift operand.value) place)
 
+-- what an implicit conversion is judged to be: a universal number takes an integer type, and is one of its values (Ada 95 RM 3.4.1)
+abbrev pub implicit : BaseType → Place → Typing → Judged Typing
+implicit base place operand = do
+  _ ← keeps N10 place (is_of base operand.of)
+  _ ← keeps N12 place (lies_in (Of base) operand.value)
+  Ok (typing (Of base) operand.value place)
+
 -- one level, of whose parts it is known
 abbrev pub expr_step : CoreExpr-F (Judged Typing) → Judged Typing
 expr_step (CoreExpr-F.Number n place) = Ok (typing Universal (Some n) place)
@@ -295,6 +302,7 @@ expr_step (CoreExpr-F.Entry name allowed) = entry_value name allowed
 expr_step (CoreExpr-F.Attribute prefix designator) = attribute prefix designator
 expr_step (CoreExpr-F.Applied function place operand) = application function >>= λ mapping. operand >>= λ o. mapped function.name.name.place mapping o
 expr_step (CoreExpr-F.Parenthesized place inner) = inner >>= λ e. Ok (typing e.of e.value place)
+expr_step (CoreExpr-F.Implicit base place operand) = operand >>= λ e. implicit base place e
 expr_step (CoreExpr-F.Prefix op place operand) = operand >>= λ e. sign op place e
 expr_step (CoreExpr-F.Infix op place left right) = left >>= λ l. right >>= λ r. operation op place l r
 expr_step (CoreExpr-F.InType op place tested type_name) = tested >>= λ t. ordered_type type_name >>= λ subtype. member_of_type op place t subtype

@@ -12,11 +12,12 @@ pub mod Marks
 pub mod Ways
 pub mod FlowRules
 pub mod Regions
+pub mod Types
+pub mod Judged
+pub mod Contexts
 pub mod Resolved
 pub mod Erased
 pub mod Bodies
-pub mod Types
-pub mod Judged
 pub mod HasType
 pub mod Extents
 pub mod Statements

@@ -120,6 +120,7 @@ pub data BreaksExpr : CoreExpr → RuleName → Place → Type 0 where
   -- a part of it breaks a rule
   argument : (f : CoreFunction) (at : Place) (a : CoreExpr) (rule : RuleName) (place : Place) → BreaksExpr a rule place → BreaksExpr (expr.Applied f at a) rule place
   inner : (at : Place) (a : CoreExpr) (rule : RuleName) (place : Place) → BreaksExpr a rule place → BreaksExpr (expr.Parenthesized at a) rule place
+  converted : (base : BaseType) (at : Place) (a : CoreExpr) (rule : RuleName) (place : Place) → BreaksExpr a rule place → BreaksExpr (expr.Implicit base at a) rule place
   operand : (op : PrefixOp) (at : Place) (a : CoreExpr) (rule : RuleName) (place : Place) → BreaksExpr a rule place → BreaksExpr (expr.Prefix op at a) rule place
   left : (op : InfixOp) (at : Place) (a b : CoreExpr) (rule : RuleName) (place : Place) → BreaksExpr a rule place → BreaksExpr (expr.Infix op at a b) rule place
   right : (op : InfixOp) (at : Place) (a b : CoreExpr) (rule : RuleName) (place : Place) → BreaksExpr b rule place → BreaksExpr (expr.Infix op at a b) rule place
@@ -128,17 +129,20 @@ pub data BreaksExpr : CoreExpr → RuleName → Place → Type 0 where
   tested_in_range : (op : MemberOp) (at : Place) (a low high : CoreExpr) (rule : RuleName) (place : Place) → BreaksExpr a rule place → BreaksExpr (expr.InRange op at a low high) rule place
   low_bound : (op : MemberOp) (at : Place) (a low high : CoreExpr) (rule : RuleName) (place : Place) → BreaksExpr low rule place → BreaksExpr (expr.InRange op at a low high) rule place
   high_bound : (op : MemberOp) (at : Place) (a low high : CoreExpr) (rule : RuleName) (place : Place) → BreaksExpr high rule place → BreaksExpr (expr.InRange op at a low high) rule place
+  -- what takes a type is of another type, or universal and outside of it
+  cannot_take : (base : BaseType) (at : Place) (a : CoreExpr) (o : Typing) → HasType a o → is_of base o.of ≡ false → BreaksExpr (expr.Implicit base at a) N10 at
+  outside_type_taken : (base : BaseType) (at : Place) (a : CoreExpr) (o : Typing) → HasType a o → lies_in (Of base) o.value ≡ false → BreaksExpr (expr.Implicit base at a) N12 at
   -- an operator is applied to what is no number, or `not` to what is no truth value; or it gives a static value that lies outside the type, or in no 128 bits
   no_operand : (op : PrefixOp) (at : Place) (a : CoreExpr) (o : Typing) → HasType a o → operand_fits op o.of ≡ false → BreaksExpr (expr.Prefix op at a) N10 at
   sign_out_of_range : (op : PrefixOp) (at : Place) (a : CoreExpr) (o : Typing) → HasType a o → (is_held o.value (signed_result op o.value) && lies_in o.of (signed_result op o.value)) ≡ false → BreaksExpr (expr.Prefix op at a) N12 at
   -- two operands are not of the types that the operator takes
   no_operands : (op : InfixOp) (at : Place) (a b : CoreExpr) (l r : Typing) → HasType a l → HasType b r → operands_fit op l.of r.of ≡ false → BreaksExpr (expr.Infix op at a b) N10 at
   -- a universal operand lies outside the type that it meets
-  left_out_of_range : (op : InfixOp) (at : Place) (a b : CoreExpr) (l r : Typing) → HasType a l → HasType b r → lies_in (left_type op l.of r.of r.value) l.value ≡ false → BreaksExpr (expr.Infix op at a b) N12 l.place
+  left_out_of_range : (op : InfixOp) (at : Place) (a b : CoreExpr) (l r : Typing) → HasType a l → HasType b r → lies_in (left_type op l.of r.of) l.value ≡ false → BreaksExpr (expr.Infix op at a b) N12 l.place
   right_out_of_range : (op : InfixOp) (at : Place) (a b : CoreExpr) (l r : Typing) → HasType a l → HasType b r → lies_in (right_type op l.of r.of) r.value ≡ false → BreaksExpr (expr.Infix op at a b) N12 r.place
   -- there is no static result, since a divisor is 0, an exponent is negative or 128 bits do not hold it, or it lies outside its type
   result_out_of_range : (op : InfixOp) (at : Place) (a b : CoreExpr) (l r : Typing) → HasType a l → HasType b r
-      → (both_held l.value r.value (result_of op l.value r.value) && lies_in (result_type op (left_type op l.of r.of r.value)) (result_of op l.value r.value)) ≡ false → BreaksExpr (expr.Infix op at a b) N12 at
+      → (both_held l.value r.value (result_of op l.value r.value) && lies_in (result_type op (left_type op l.of r.of)) (result_of op l.value r.value)) ≡ false → BreaksExpr (expr.Infix op at a b) N12 at
   -- the type of a membership test has no order, or what is tested is of another type, or lies outside its base type
   no_integer_type : (op : MemberOp) (at : Place) (a : CoreExpr) (name : Reference) (subtype : Subtype) → name.root.entity ≡ Some (entity.TypeName subtype) → has_numbers subtype.base.class ≡ false → BreaksExpr (expr.InType op at a name) N10 name.root.name.place
   tested_of_another_type : (op : MemberOp) (at : Place) (a : CoreExpr) (name : Reference) (subtype : Subtype) (o : Typing) → name.root.entity ≡ Some (entity.TypeName subtype) → HasType a o → is_of subtype.base o.of ≡ false → BreaksExpr (expr.InType op at a name) N10 at

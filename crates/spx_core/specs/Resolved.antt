@@ -82,8 +82,11 @@ use Rattle.spx_core.specs.declared.program.CoreUnit.TheVariants as core_unit
 use Rattle.spx_core.specs.declared.program.TypeRow.{TypeRow}
 use Rattle.spx_core.specs.declared.program.Var.{Var}
 use Rattle.spx_core.specs.declared.program.Program.{Program}
+use Rattle.spx_core.specs.declared.rule.ExprType.{ExprType}
+use Rattle.spx_core.specs.declared.rule.ExprType.TheVariants.{Universal, Of}
 use Rattle.spx_core.specs.declared.rule.Typing.{Typing}
 use Rattle.spx_core.specs.Judged.{Judged, judged}
+use Rattle.spx_core.specs.Contexts.{in_context, type_given}
 use Rattle.spx_core.specs.Types.{is_between}
 use Rattle.spx_core.specs.Regions.{Region, Regions, denoted, hidden, is_declared, standard, with_declaration}
 
@@ -131,13 +134,21 @@ expr_step items regions (Expr-F.InRange op place tested low high) = expr.InRange
 abbrev pub resolved_in : List CoreDerivesItem → Regions → Expr → CoreExpr
 resolved_in items regions = fold-Expr CoreExpr (expr_step items regions)
 
--- in code and in a precondition no value on entry may be named
-abbrev pub resolved_expr : Regions → Expr → CoreExpr
-resolved_expr regions = resolved_in [] regions
+-- an expression of code, where it meets this type; no value on entry may be named
+abbrev pub resolved_expr : ExprType → Regions → Expr → CoreExpr
+resolved_expr type regions e = in_context type (resolved_in [] regions e)
 
--- a range, each name with what it denotes
-abbrev pub resolved_range : Regions → Range → CoreRange
-resolved_range regions range = record { low = resolved_expr regions range.low; high = resolved_expr regions range.high }
+-- a condition, a selector or a predicate: it meets no type, and what takes one is an `Integer`
+abbrev pub resolved_condition : List CoreDerivesItem → Regions → Expr → CoreExpr
+resolved_condition items regions e = in_context (Of INTEGER.base) (resolved_in items regions e)
+
+-- what has to be static takes no type
+abbrev pub resolved_static : Regions → Expr → CoreExpr
+resolved_static regions e = resolved_expr Universal regions e
+
+-- a range whose bounds meet this type, each name with what it denotes
+abbrev pub resolved_range : ExprType → Regions → Range → CoreRange
+resolved_range type regions range = record { low = resolved_expr type regions range.low; high = resolved_expr type regions range.high }
 
 -- ---- static values (Ada 95 RM 4.9)
 
@@ -216,7 +227,7 @@ choice_of low high = record { low = low; high = high; span = chosen_by low high 
 
 -- a choice, each name with what it denotes
 abbrev pub resolved_choice : Regions → Choice → CoreChoice
-resolved_choice regions choice = choice_of (resolved_expr regions choice.low) (option_map (resolved_expr regions) choice.high)
+resolved_choice regions choice = choice_of (resolved_static regions choice.low) (option_map (resolved_static regions) choice.high)
 
 -- ---- the parameters of loops (Ada 95 RM 5.5)
 
@@ -233,10 +244,18 @@ count_of region position c type_name bounds = record {
   bounds = bounds;
 }
 
+-- the type that a name of a type, or of a target, denotes
+abbrev pub type_named : Regions → Name → ExprType
+type_named regions name = type_given (resolved_reference regions name).root.entity
+
+-- the bounds of a parameter, which meet its type
+abbrev pub resolved_bounds : Regions → Count → Option CoreRange
+resolved_bounds regions c = option_map (resolved_range (type_named regions c.type_name) regions) c.bounds
+
 -- at this position; its name is hidden in what is said of it
 abbrev pub resolved_count : Regions → Region → ℕ → Count → CoreCount
 resolved_count outer region position c =
-    count_of region position c (resolved_reference (around_names outer region (c.name ∷ [])) c.type_name) (option_map (resolved_range (around_names outer region (c.name ∷ []))) c.bounds)
+    count_of region position c (resolved_reference (around_names outer region (c.name ∷ [])) c.type_name) (resolved_bounds (around_names outer region (c.name ∷ [])) c)
 
 -- the parameter that a loop declares, a variable of the type that is named
 abbrev pub declared_by_count : CoreCount → Defining
@@ -250,7 +269,7 @@ declared_by_scheme core_scheme.Endless = []
 
 -- the head of a loop, each name with what it denotes
 abbrev pub resolved_scheme : Regions → Region → ℕ → Scheme → CoreScheme
-resolved_scheme outer region position (scheme.While place condition) = core_scheme.While place (resolved_expr (region ∷ outer) condition)
+resolved_scheme outer region position (scheme.While place condition) = core_scheme.While place (resolved_condition [] (region ∷ outer) condition)
 resolved_scheme outer region position (scheme.For c) = core_scheme.For (resolved_count outer region position c)
 resolved_scheme outer region position scheme.Endless = core_scheme.Endless
 
@@ -292,19 +311,19 @@ alternative_step outer alternative =
 
 -- one level of an arm: its condition sees what is declared around it
 abbrev pub arm_step : Regions → Arm-F (Part CoreStmt) (Part CoreAlternative) (Part CoreArm) → Part CoreArm
-arm_step outer arm = made_of (λ region stmts. record { place = arm.place; condition = resolved_expr (region ∷ outer) arm.condition; body = stmts }) (in_order arm.body)
+arm_step outer arm = made_of (λ region stmts. record { place = arm.place; condition = resolved_condition [] (region ∷ outer) arm.condition; body = stmts }) (in_order arm.body)
 
 -- one level of a statement; only an assertion may name values on entry
 abbrev pub stmt_step : List CoreDerivesItem → Regions → Stmt-F (Part CoreStmt) (Part CoreAlternative) (Part CoreArm) → Part CoreStmt
 stmt_step items outer (Stmt-F.Null place) = plain (λ region. stmt.Null place)
-stmt_step items outer (Stmt-F.Assignment target value) = plain (λ region. stmt.Assignment (resolved_reference (region ∷ outer) target) (resolved_expr (region ∷ outer) value))
+stmt_step items outer (Stmt-F.Assignment target value) = plain (λ region. stmt.Assignment (resolved_reference (region ∷ outer) target) (resolved_expr (type_named (region ∷ outer) target) (region ∷ outer) value))
 stmt_step items outer (Stmt-F.If arms None closing) = made_of (λ region xs. stmt.If xs None closing) (in_order arms)
 stmt_step items outer (Stmt-F.If arms (Some stmts) closing) = made_of_both (λ xs ys. stmt.If xs (Some ys) closing) (in_order arms) (in_order stmts)
 stmt_step items outer (Stmt-F.Case place selector alternatives closing) =
-    made_of (λ region xs. stmt.Case place (resolved_expr (region ∷ outer) selector) xs closing) (in_order alternatives)
+    made_of (λ region xs. stmt.Case place (resolved_condition [] (region ∷ outer) selector) xs closing) (in_order alternatives)
 stmt_step items outer (Stmt-F.Loop scheme word body closing) = λ region position. loop_with word closing (in_order body) (resolved_scheme outer region position scheme) region position
-stmt_step items outer (Stmt-F.Assertion kind place condition) = plain (λ region. stmt.Assertion kind place (resolved_in items (region ∷ outer) condition))
-stmt_step items outer (Stmt-F.Exit place condition) = plain (λ region. stmt.Exit place (option_map (resolved_expr (region ∷ outer)) condition))
+stmt_step items outer (Stmt-F.Assertion kind place condition) = plain (λ region. stmt.Assertion kind place (resolved_condition items (region ∷ outer) condition))
+stmt_step items outer (Stmt-F.Exit place condition) = plain (λ region. stmt.Exit place (option_map (resolved_condition [] (region ∷ outer)) condition))
 
 -- a statement, each name with what it denotes
 abbrev pub resolved_stmt : List CoreDerivesItem → Regions → Stmt → Part CoreStmt
@@ -390,7 +409,7 @@ resolved_derives regions derives = record { place = derives.place; items = map (
 
 -- a precondition or a postcondition, each name with what it denotes
 abbrev pub resolved_predicate : List CoreDerivesItem → Regions → Predicate → CorePredicate
-resolved_predicate items regions predicate = record { place = predicate.place; condition = resolved_in items regions predicate.condition }
+resolved_predicate items regions predicate = record { place = predicate.place; condition = resolved_condition items regions predicate.condition }
 
 -- ---- declared types and values (Ada 95 RM 3.2.2, 3.3, 3.5)
 
@@ -536,18 +555,18 @@ module _ (outer : Regions) where
 
   -- the declaration of a type, whose own name is hidden in its definition
   abbrev pub resolved_type : Region → Counts → Identifier → TypeDef → CoreDecl
-  resolved_type region before name (written_definition.Integer range) = integer_decl region before.types name (resolved_range (around_names outer region (name ∷ [])) range)
+  resolved_type region before name (written_definition.Integer range) = integer_decl region before.types name (resolved_range Universal (around_names outer region (name ∷ [])) range)
   resolved_type region before name (written_definition.Enumeration place literals) = enumeration_decl region before.types name place literals
 
   -- a declaration, each name with what it denotes
   abbrev pub resolved_decl : Region → Counts → Decl → CoreDecl
   resolved_decl region before (written_decl.Variables names type_name value) =
-      variables_of region before.vars names (resolved_reference (around_names outer region names) type_name) (option_map (resolved_expr (around_names outer region names)) value)
+      variables_of region before.vars names (resolved_reference (around_names outer region names) type_name) (option_map (resolved_static (around_names outer region names)) value)
   resolved_decl region before (written_decl.Constants names type_name value) =
-      constants_of region names (option_map (resolved_reference (around_names outer region names)) type_name) (resolved_expr (around_names outer region names) value)
+      constants_of region names (option_map (resolved_reference (around_names outer region names)) type_name) (resolved_static (around_names outer region names) value)
   resolved_decl region before (written_decl.FullType name definition) = resolved_type region before name definition
   resolved_decl region before (written_decl.Subtype name parent range) =
-      subtype_decl region before.types name (resolved_reference (around_names outer region (name ∷ [])) parent) (option_map (resolved_range (around_names outer region (name ∷ []))) range)
+      subtype_decl region before.types name (resolved_reference (around_names outer region (name ∷ [])) parent) (option_map (resolved_range Universal (around_names outer region (name ∷ []))) range)
 
   -- declarations in their order
   abbrev pub resolved_decls : Region → Counts → List Decl → List CoreDecl

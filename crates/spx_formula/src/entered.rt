@@ -98,6 +98,7 @@ pub fn is_fixed(interface: &Interface, expr: &CoreExpr) -> bool
         CoreExpr::Attribute(_, _) => true,
         CoreExpr::Applied(_, _, operand) => is_fixed(interface, operand.get()),
         CoreExpr::Parenthesized(_, inner) => is_fixed(interface, inner.get()),
+        CoreExpr::Implicit(_, _, operand) => is_fixed(interface, operand.get()),
         CoreExpr::Prefix(_, _, operand) => is_fixed(interface, operand.get()),
         CoreExpr::Infix(_, _, left, right) => {
             is_fixed(interface, left.get()) && is_fixed(interface, right.get())

@@ -147,6 +147,7 @@ pub fn term_id(
             moved_id(terms, shift_of(function), operand)
         }
         CoreExpr::Parenthesized(_, inner) => term_id(program, entered, terms, inner.get()),
+        CoreExpr::Implicit(_, _, operand) => term_id(program, entered, terms, operand.get()),
         CoreExpr::Prefix(op, _, operand) => {
             let operand = term_id(program, entered, terms, operand.get())?;
             signed_id(terms, *op, operand)

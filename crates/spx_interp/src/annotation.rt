@@ -58,6 +58,7 @@ fn computed(body: &Body, store: &[Option<Value>], expr: &CoreExpr) -> Option<Val
             mapped(function, value)
         }
         CoreExpr::Parenthesized(_, inner) => computed(body, store, inner.get()),
+        CoreExpr::Implicit(_, _, operand) => computed(body, store, operand.get()),
         CoreExpr::Prefix(op, _, operand) => {
             let value = computed(body, store, operand.get())?;
             signed(*op, value)

@@ -222,6 +222,7 @@ pub(crate) fn eval(
             mapping_checked(function, operand.get().place(), value)
         }
         CoreExpr::Parenthesized(_, inner) => eval(body, turns, store, inner.get()),
+        CoreExpr::Implicit(_, _, operand) => eval(body, turns, store, operand.get()),
         CoreExpr::Prefix(op, place, operand) => {
             let value = eval(body, turns, store, operand.get())?;
             sign_checked(*op, base_of(expr), *place, value)

@@ -34,6 +34,7 @@ fn add_reads(value: &CoreExpr, found: &mut Items<Read>) -> Result<(), AllocError
         CoreExpr::Entry(name, _) => add_name(name, found),
         CoreExpr::Applied(_, _, operand) => add_reads(operand.get(), found),
         CoreExpr::Parenthesized(_, inner) => add_reads(inner.get(), found),
+        CoreExpr::Implicit(_, _, operand) => add_reads(operand.get(), found),
         CoreExpr::Prefix(_, _, operand) => add_reads(operand.get(), found),
         CoreExpr::Infix(_, _, left, right) => {
             add_reads(left.get(), found)?;

@@ -23,7 +23,7 @@ use Rattle.spx_core.specs.declared.statement.CoreScheme.TheVariants as core_sche
 use Rattle.spx_core.specs.declared.statement.CoreStmt.{CoreStmt}
 use Rattle.spx_core.specs.declared.statement.CoreStmt.TheVariants as stmt
 use Rattle.spx_core.specs.Regions.{Declaration, Region, Regions, declared_in, with_declaration}
-use Rattle.spx_core.specs.Resolved.{Part, alternative_step, arm_step, declared_by_scheme, declaring_all, in_order, loop_with, parameters_by, parameters_by_alternative, parameters_by_arm, parameters_by_stmts, resolved_alternative, resolved_arm, resolved_choice, resolved_expr, resolved_scheme, resolved_stmt, resolved_stmts, stmt_step, var_of}
+use Rattle.spx_core.specs.Resolved.{Part, alternative_step, arm_step, declared_by_scheme, declaring_all, in_order, loop_with, parameters_by, parameters_by_alternative, parameters_by_arm, parameters_by_stmts, resolved_alternative, resolved_arm, resolved_choice, resolved_condition, resolved_scheme, resolved_stmt, resolved_stmts, stmt_step, var_of}
 use Rattle.spx_core.proofs.Callers.LoopParameters.{parameters-If, parameters-If-else, parameters-Case, parameters-Loop, parameters-arm, parameters-alternative}
 use Rattle.spx_naming.proofs.Declared.{length_after}
 use Rattle.spx_naming.proofs.InOrder.{Made}
@@ -68,7 +68,7 @@ module _ (items : List CoreDerivesItem) (outer : Regions) where
 
   module _ (region : Region) (vars : List Var) where
     module _ (region' : Region) (vars' : List Var) where
-      pub made_arm : (arm : Arm) (given : List Stmt) (condition : CoreExpr) (body : List CoreStmt) → condition ≡ resolved_expr (region ∷ outer) (out-Arm arm).condition → given ≡ (out-Arm arm).body
+      pub made_arm : (arm : Arm) (given : List Stmt) (condition : CoreExpr) (body : List CoreStmt) → condition ≡ resolved_condition [] (region ∷ outer) (out-Arm arm).condition → given ≡ (out-Arm arm).body
           → Made (resolved_stmts items outer given) parameters_by_stmts region vars region' vars' body
           → Made (resolved_arm items outer arm) parameters_by_arm region vars region' vars' (arm_of (out-Arm arm).place condition body)
       made_arm arm given condition body is_condition is_given (made, same, are_vars) = (
@@ -102,7 +102,7 @@ module _ (items : List CoreDerivesItem) (outer : Regions) where
       )
 
       pub made-Case : (s : Stmt) (place : Place) (selector : Expr) (alternatives given : List Alternative) (closing : Closing) (chosen : CoreExpr) (xs : List CoreAlternative)
-          → s ≡ Case place selector alternatives closing → chosen ≡ resolved_expr (region ∷ outer) selector → given ≡ alternatives
+          → s ≡ Case place selector alternatives closing → chosen ≡ resolved_condition [] (region ∷ outer) selector → given ≡ alternatives
           → Made (in_order (map (resolved_alternative items outer) given)) (flat_map parameters_by_alternative) region vars region' vars' xs
           → Made (resolved_stmt items outer s) parameters_by region vars region' vars' (stmt.Case place chosen xs closing)
       made-Case s place selector alternatives given closing chosen xs is is_chosen is_given (made, same, are_vars) = (

@@ -1,9 +1,9 @@
 // The choices of a `case` (Ada 95 RM 5.4).
 ghost use Rattle.std.specs.Prelude.{◌≡◌, IfOk, map, option_map};
-ghost use Rattle.spx_core.specs.Resolved.{resolved_choice, resolved_expr};
+ghost use Rattle.spx_core.specs.Resolved.{resolved_choice, resolved_static};
 ghost use Rattle.spx_scope.specs.Seen.{seen};
 
-use crate::expression::resolve_expr;
+use crate::expression::resolve_static;
 use crate::meaning::chosen_by;
 use spx_core::{CoreChoice, CoreExpr};
 use spx_scope::Scope;
@@ -17,10 +17,10 @@ fn resolve_upper(
     high: &Option<Boxed<Expr>>,
     scope: &Scope<'_>,
 ) -> Result<Option<Boxed<CoreExpr>>, AllocError>
-    ensures { IfOk result (λ r. r ≡ option_map (resolved_expr (seen scope.now)) high.now) }
+    ensures { IfOk result (λ r. r ≡ option_map (resolved_static (seen scope.now)) high.now) }
 {
     match high {
-        Some(high) => Ok(Some(resolve_expr(alloc, high.get(), scope)?)),
+        Some(high) => Ok(Some(resolve_static(alloc, high.get(), scope)?)),
         None => Ok(None),
     }
 }
@@ -33,7 +33,7 @@ fn resolve_choice(
 ) -> Result<CoreChoice, AllocError>
     ensures { IfOk result (λ r. r ≡ resolved_choice (seen scope.now) choice.now) }
 {
-    let low = resolve_expr(alloc, choice.low.get(), scope)?;
+    let low = resolve_static(alloc, choice.low.get(), scope)?;
     let high = resolve_upper(alloc, &choice.high, scope)?;
     let span = chosen_by(low.get(), &high);
     Ok(CoreChoice { low, high, span })

@@ -2,11 +2,12 @@
 ghost use Rattle.std.specs.Prelude.{◌≡◌, [], ◌∷◌, IfOk, map};
 ghost use Rattle.spx_core.specs.declared.expression.CoreExpr.TheVariants as expr;
 ghost use Rattle.spx_core.specs.declared.name.Step.TheVariants as step;
-ghost use Rattle.spx_core.specs.Resolved.{entry_of, resolved_expr, resolved_function, resolved_in, resolved_name, resolved_reference, resolved_value};
+ghost use Rattle.spx_core.specs.Resolved.{entry_of, resolved_condition, resolved_expr, resolved_function, resolved_in, resolved_name, resolved_reference, resolved_static, resolved_value};
 ghost use Rattle.spx_scope.specs.Seen.{seen};
 
 use crate::changed::Changed;
-use spx_core::{CoreExpr, CoreFunction, CoreName, Reference, Step};
+use spx_context::in_context;
+use spx_core::{CoreExpr, CoreFunction, CoreName, ExprType, INTEGER, Reference, Step};
 use spx_scope::{Region, Scope};
 use spx_text::Place;
 use spx_tree::{Expr, Function, Identifier, MemberOp, Name};
@@ -142,8 +143,8 @@ fn resolve_in_type(
     Boxed::new(alloc, CoreExpr::InType(op, place, tested, name))
 }
 
-/// An expression of an annotation, in which the values on entry of what is changed may be named.
-pub fn resolve_in(
+/// An expression with what its names denote. The values on entry of what is changed may be named.
+fn resolve_in(
     alloc: Global,
     expr: &Expr,
     changed: &Changed<'_>,
@@ -185,25 +186,51 @@ pub fn resolve_in(
     }
 }
 
-/// An expression of code, in which no value on entry may be named.
+/// An expression of code, where it meets this type. No value on entry may be named.
 pub fn resolve_expr(
+    alloc: Global,
+    of: ExprType,
+    expr: &Expr,
+    scope: &Scope<'_>,
+) -> Result<Boxed<CoreExpr>, AllocError>
+    ensures { IfOk result (λ r. r ≡ resolved_expr of (seen scope.now) expr.now) }
+{
+    let named = resolve_in(alloc, expr, &Changed::nothing(), scope)?;
+    in_context(alloc, of, named)
+}
+
+/// An expression that has to be static.
+pub fn resolve_static(
     alloc: Global,
     expr: &Expr,
     scope: &Scope<'_>,
 ) -> Result<Boxed<CoreExpr>, AllocError>
-    ensures { IfOk result (λ r. r ≡ resolved_expr (seen scope.now) expr.now) }
+    ensures { IfOk result (λ r. r ≡ resolved_static (seen scope.now) expr.now) }
 {
-    resolve_in(alloc, expr, &Changed::nothing(), scope)
+    resolve_expr(alloc, ExprType::Universal, expr, scope)
 }
 
-/// An expression of code inside a region.
+/// A condition, a selector or a predicate, in which the values on entry of what is changed may be named.
+pub fn resolve_condition(
+    alloc: Global,
+    expr: &Expr,
+    changed: &Changed<'_>,
+    scope: &Scope<'_>,
+) -> Result<Boxed<CoreExpr>, AllocError>
+    ensures { IfOk result (λ r. r ≡ resolved_condition changed.now (seen scope.now) expr.now) }
+{
+    let named = resolve_in(alloc, expr, changed, scope)?;
+    in_context(alloc, ExprType::Of(INTEGER.base), named)
+}
+
+/// A condition or a selector of code inside a region.
 pub fn resolve_inside(
     alloc: Global,
     expr: &Expr,
     region: &Region,
     outer: &Scope<'_>,
 ) -> Result<Boxed<CoreExpr>, AllocError>
-    ensures { IfOk result (λ r. r ≡ resolved_expr (region.now ∷ seen outer.now) expr.now) }
+    ensures { IfOk result (λ r. r ≡ resolved_condition [] (region.now ∷ seen outer.now) expr.now) }
 {
-    resolve_expr(alloc, expr, &Scope::inside(region, outer))
+    resolve_condition(alloc, expr, &Changed::nothing(), &Scope::inside(region, outer))
 }

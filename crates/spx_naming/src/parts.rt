@@ -1,10 +1,10 @@
 // Parts of a declaration: in each, the names that it declares are hidden (Ada 95 RM 8.3).
 ghost use Rattle.std.specs.Prelude.{◌≡◌, IfOk, option_map};
-ghost use Rattle.spx_core.specs.Resolved.{around_names, resolved_expr, resolved_range, resolved_reference};
+ghost use Rattle.spx_core.specs.Resolved.{around_names, resolved_expr, resolved_range, resolved_reference, resolved_static};
 ghost use Rattle.spx_scope.specs.Seen.{seen};
 
 use crate::expression::{resolve_expr, resolve_reference};
-use spx_core::{CoreExpr, CoreRange, Reference};
+use spx_core::{CoreExpr, CoreRange, ExprType, Reference};
 use spx_scope::{Region, Scope};
 use spx_tree::{Expr, Identifier, Name, Range};
 use sqlite_items::Boxed;
@@ -41,18 +41,19 @@ pub fn resolve_type_mark(
     }
 }
 
-/// The value of constants, an initial value, or a bound.
+/// The value of constants, an initial value, or a bound, where it meets this type.
 pub fn resolve_value(
     alloc: Global,
+    of: ExprType,
     region: &Region,
     outer: &Scope<'_>,
     names: &[Identifier],
     value: &Expr,
 ) -> Result<Boxed<CoreExpr>, AllocError>
-    ensures { IfOk result (λ r. r ≡ resolved_expr (around_names (seen outer.now) region.now names.now) value.now) }
+    ensures { IfOk result (λ r. r ≡ resolved_expr of (around_names (seen outer.now) region.now names.now) value.now) }
 {
     let scope = Scope::inside(region, outer);
-    resolve_expr(alloc, value, &Scope::hiding(names, &scope))
+    resolve_expr(alloc, of, value, &Scope::hiding(names, &scope))
 }
 
 /// The initial value of variables, if they have one.
@@ -63,42 +64,47 @@ pub fn resolve_initial(
     names: &[Identifier],
     value: &Option<Boxed<Expr>>,
 ) -> Result<Option<Boxed<CoreExpr>>, AllocError>
-    ensures { IfOk result (λ r. r ≡ option_map (resolved_expr (around_names (seen outer.now) region.now names.now)) value.now) }
+    ensures { IfOk result (λ r. r ≡ option_map (resolved_static (around_names (seen outer.now) region.now names.now)) value.now) }
 {
     match value {
-        Some(value) => Ok(Some(resolve_value(alloc, region, outer, names, value.get())?)),
+        Some(value) => {
+            let of = ExprType::Universal;
+            Ok(Some(resolve_value(alloc, of, region, outer, names, value.get())?))
+        }
         None => Ok(None),
     }
 }
 
-/// The range of a type.
+/// The range of a type, whose bounds meet this type.
 pub fn resolve_range(
     alloc: Global,
+    of: ExprType,
     region: &Region,
     outer: &Scope<'_>,
     names: &[Identifier],
     range: &Range,
 ) -> Result<CoreRange, AllocError>
-    ensures { IfOk result (λ r. r ≡ resolved_range (around_names (seen outer.now) region.now names.now) range.now) }
+    ensures { IfOk result (λ r. r ≡ resolved_range of (around_names (seen outer.now) region.now names.now) range.now) }
 {
-    let low = resolve_value(alloc, region, outer, names, range.low.get())?;
-    let high = resolve_value(alloc, region, outer, names, range.high.get())?;
+    let low = resolve_value(alloc, of, region, outer, names, range.low.get())?;
+    let high = resolve_value(alloc, of, region, outer, names, range.high.get())?;
     Ok(CoreRange { low, high })
 }
 
-/// The range of a subtype, if it has one.
+/// The range of a subtype or of a parameter, if it has one. Its bounds meet this type.
 pub fn resolve_constraint(
     alloc: Global,
+    of: ExprType,
     region: &Region,
     outer: &Scope<'_>,
     names: &[Identifier],
     range: &Option<Boxed<Range>>,
 ) -> Result<Option<Boxed<CoreRange>>, AllocError>
-    ensures { IfOk result (λ r. r ≡ option_map (resolved_range (around_names (seen outer.now) region.now names.now)) range.now) }
+    ensures { IfOk result (λ r. r ≡ option_map (resolved_range of (around_names (seen outer.now) region.now names.now)) range.now) }
 {
     match range {
         Some(range) => {
-            let resolved = resolve_range(alloc, region, outer, names, range.get())?;
+            let resolved = resolve_range(alloc, of, region, outer, names, range.get())?;
             Ok(Some(Boxed::new(alloc, resolved)?))
         }
         None => Ok(None),

@@ -8,6 +8,7 @@ use crate::expression::resolve_inside;
 use crate::meaning::object_of;
 use crate::names::declare;
 use crate::parts::{resolve_constraint, resolve_type_name};
+use spx_context::type_given;
 use crate::tables::add_variables;
 use spx_core::{CoreCount, CoreScheme, Defining, Entity, Reference, Var, VarId, VarKind};
 use spx_scope::{Region, Scope};
@@ -47,7 +48,8 @@ fn resolve_count(
     let parameter = VarId(vars.len());
     let hidden = slice::from_ref(&count.name);
     let type_name = resolve_type_name(alloc, region, outer, hidden, &count.type_name)?;
-    let bounds = resolve_constraint(alloc, region, outer, hidden, &count.bounds)?;
+    let of = type_given(type_name.get().root.entity);
+    let bounds = resolve_constraint(alloc, of, region, outer, hidden, &count.bounds)?;
     let defined = declare_parameter(alloc, region, vars, outer, type_name.get(), &count.name)?;
     Boxed::new(
         alloc,

@@ -2,15 +2,16 @@
 ghost use Rattle.std.specs.Prelude.{◌≡◌, ◌∷◌, ◌++◌, [], IfOk, length, map, option_map};
 ghost use Rattle.std.specs.List.{flat_map};
 ghost use Rattle.spx_core.specs.declared.statement.CoreStmt.TheVariants as stmt;
-ghost use Rattle.spx_core.specs.Resolved.{exported_names, in_order, parameters_by, parameters_by_alternative, parameters_by_arm, parameters_by_stmts, place_of_null, resolved_alternative, resolved_arm, resolved_choice, resolved_derives, resolved_expr, resolved_in, resolved_item, resolved_predicate, resolved_reference, resolved_stmt, resolved_stmts, var_of};
+ghost use Rattle.spx_core.specs.Resolved.{exported_names, in_order, parameters_by, parameters_by_alternative, parameters_by_arm, parameters_by_stmts, place_of_null, resolved_alternative, resolved_arm, resolved_choice, resolved_condition, resolved_derives, resolved_expr, resolved_item, resolved_predicate, resolved_reference, resolved_stmt, resolved_stmts, type_named, var_of};
 ghost use Rattle.spx_scope.specs.Seen.{seen};
 
 use crate::changed::Changed;
 use crate::choices::resolve_listed;
 use crate::expression::{
-    resolve_expr, resolve_in, resolve_inside, resolve_reference, resolve_references,
+    resolve_condition, resolve_expr, resolve_inside, resolve_reference, resolve_references,
 };
 use crate::schemes::resolve_scheme;
+use spx_context::type_given;
 use spx_core::{
     CoreAlternative, CoreArm, CoreChoice, CoreDerives, CoreDerivesItem, CoreExpr, CorePredicate,
     CoreScheme, CoreStmt, Reference, Var,
@@ -113,12 +114,13 @@ fn resolve_assignment(
     region: &Region,
     outer: &Scope<'_>,
 ) -> Result<CoreStmt, AllocError>
-    ensures { IfOk result (λ r. r ≡ stmt.Assignment (resolved_reference (region.now ∷ seen outer.now) target.now) (resolved_expr (region.now ∷ seen outer.now) value.now)) }
+    ensures { IfOk result (λ r. r ≡ stmt.Assignment (resolved_reference (region.now ∷ seen outer.now) target.now) (resolved_expr (type_named (region.now ∷ seen outer.now) target.now) (region.now ∷ seen outer.now) value.now)) }
 {
     let scope = Scope::inside(region, outer);
     let target = resolve_reference(alloc, target, &scope)?;
+    let of = type_given(target.root.entity);
     let target = Boxed::new(alloc, target)?;
-    let value = resolve_expr(alloc, value, &scope)?;
+    let value = resolve_expr(alloc, of, value, &scope)?;
     Ok(CoreStmt::Assignment(target, value))
 }
 
@@ -131,10 +133,10 @@ fn resolve_assertion(
     region: &Region,
     outer: &Scope<'_>,
 ) -> Result<CoreStmt, AllocError>
-    ensures { IfOk result (λ r. r ≡ stmt.Assertion kind place (resolved_in changed.now (region.now ∷ seen outer.now) condition.now)) }
+    ensures { IfOk result (λ r. r ≡ stmt.Assertion kind place (resolved_condition changed.now (region.now ∷ seen outer.now) condition.now)) }
 {
     let scope = Scope::inside(region, outer);
-    let condition = resolve_in(alloc, condition, changed, &scope)?;
+    let condition = resolve_condition(alloc, condition, changed, &scope)?;
     Ok(CoreStmt::Assertion(kind, place, condition))
 }
 
@@ -145,7 +147,7 @@ fn resolve_exit(
     region: &Region,
     outer: &Scope<'_>,
 ) -> Result<CoreStmt, AllocError>
-    ensures { IfOk result (λ r. r ≡ stmt.Exit place (option_map (resolved_expr (region.now ∷ seen outer.now)) condition.now)) }
+    ensures { IfOk result (λ r. r ≡ stmt.Exit place (option_map (resolved_condition [] (region.now ∷ seen outer.now)) condition.now)) }
 {
     match condition {
         Some(condition) => {
@@ -334,7 +336,7 @@ pub fn resolve_predicate(
     match predicate {
         Some(predicate) => Ok(Some(CorePredicate {
             place: predicate.place,
-            condition: resolve_in(alloc, predicate.condition.get(), changed, scope)?,
+            condition: resolve_condition(alloc, predicate.condition.get(), changed, scope)?,
         })),
         None => Ok(None),
     }

@@ -1,7 +1,8 @@
 // Declarations of types, subtypes and constants: none sees itself (Ada 95 RM 3.2, 3.3, 3.5).
 ghost use Rattle.std.specs.Prelude.{◌≡◌, ◌∷◌, ◌++◌, [], IfOk, length, option_map};
 ghost use Rattle.spx_core.specs.declared.entity.Entity.TheVariants as entity;
-ghost use Rattle.spx_core.specs.Resolved.{around_names, constants_of, declared_by, declaring, declaring_all, defining, enumeration_decl, integer_decl, resolved_expr, resolved_range, resolved_reference, row_of, rows_by, subtype_decl};
+ghost use Rattle.spx_core.specs.declared.rule.ExprType.TheVariants.{Universal};
+ghost use Rattle.spx_core.specs.Resolved.{around_names, constants_of, declared_by, declaring, declaring_all, defining, enumeration_decl, integer_decl, resolved_range, resolved_reference, resolved_static, row_of, rows_by, subtype_decl};
 ghost use Rattle.spx_scope.specs.Seen.{seen};
 
 use crate::meaning::{
@@ -12,7 +13,9 @@ use crate::parts::{
     resolve_constraint, resolve_range, resolve_type_mark, resolve_type_name, resolve_value,
 };
 use crate::tables::add_row;
-use spx_core::{CoreDecl, CoreRange, CoreTypeDef, Defining, Entity, Meaning, Subtype, TypeRow};
+use spx_core::{
+    CoreDecl, CoreRange, CoreTypeDef, Defining, Entity, ExprType, Meaning, Subtype, TypeRow,
+};
 use spx_scope::{Region, Scope};
 use spx_text::Place;
 use spx_tree::{Expr, Identifier, Name, Range};
@@ -62,9 +65,9 @@ pub fn resolve_integer(
     name: &Identifier,
     range: &Range,
 ) -> Result<CoreDecl, AllocError>
-    ensures { IfOk result (λ d. (d ≡ integer_decl region.old (length types.old) name.now (resolved_range (around_names (seen outer.now) region.old (name.now ∷ [])) range.now)) × (region.new ≡ declaring_all region.old (declared_by d)) × (types.new ≡ types.old ++ rows_by d)) }
+    ensures { IfOk result (λ d. (d ≡ integer_decl region.old (length types.old) name.now (resolved_range Universal (around_names (seen outer.now) region.old (name.now ∷ [])) range.now)) × (region.new ≡ declaring_all region.old (declared_by d)) × (types.new ≡ types.old ++ rows_by d)) }
 {
-    let range = resolve_range(alloc, region, outer, slice::from_ref(name), range)?;
+    let range = resolve_range(alloc, ExprType::Universal, region, outer, slice::from_ref(name), range)?;
     Ok(declare_integer(alloc, region, types, outer, name, range)?)
 }
 
@@ -98,11 +101,11 @@ pub fn resolve_subtype(
     parent: &Name,
     range: &Option<Boxed<Range>>,
 ) -> Result<CoreDecl, AllocError>
-    ensures { IfOk result (λ d. (d ≡ subtype_decl region.old (length types.old) name.now (resolved_reference (around_names (seen outer.now) region.old (name.now ∷ [])) parent.now) (option_map (resolved_range (around_names (seen outer.now) region.old (name.now ∷ []))) range.now)) × (region.new ≡ declaring_all region.old (declared_by d)) × (types.new ≡ types.old ++ rows_by d)) }
+    ensures { IfOk result (λ d. (d ≡ subtype_decl region.old (length types.old) name.now (resolved_reference (around_names (seen outer.now) region.old (name.now ∷ [])) parent.now) (option_map (resolved_range Universal (around_names (seen outer.now) region.old (name.now ∷ []))) range.now)) × (region.new ≡ declaring_all region.old (declared_by d)) × (types.new ≡ types.old ++ rows_by d)) }
 {
     let hidden = slice::from_ref(name);
     let parent = resolve_type_name(alloc, region, outer, hidden, parent)?;
-    let range = resolve_constraint(alloc, region, outer, hidden, range)?;
+    let range = resolve_constraint(alloc, ExprType::Universal, region, outer, hidden, range)?;
     let subtype = narrowed(types.len(), subtype_of(parent.get().root.entity), &range);
     let name = declare_type(alloc, region, types, outer, subtype, name)?;
     Ok(CoreDecl::Subtype(name, parent, range))
@@ -117,10 +120,10 @@ pub fn resolve_constants(
     type_name: &Option<Boxed<Name>>,
     value: &Expr,
 ) -> Result<CoreDecl, AllocError>
-    ensures { IfOk result (λ d. (d ≡ constants_of region.old names.now (option_map (resolved_reference (around_names (seen outer.now) region.old names.now)) type_name.now) (resolved_expr (around_names (seen outer.now) region.old names.now) value.now)) × (region.new ≡ declaring_all region.old (declared_by d))) }
+    ensures { IfOk result (λ d. (d ≡ constants_of region.old names.now (option_map (resolved_reference (around_names (seen outer.now) region.old names.now)) type_name.now) (resolved_static (around_names (seen outer.now) region.old names.now) value.now)) × (region.new ≡ declaring_all region.old (declared_by d))) }
 {
     let type_name = resolve_type_mark(alloc, region, outer, names, type_name)?;
-    let value = resolve_value(alloc, region, outer, names, value)?;
+    let value = resolve_value(alloc, ExprType::Universal, region, outer, names, value)?;
     let meaning = Meaning::Each(constant_of(&type_name, static_value(value.get())));
     let names = declare_all(alloc, region, outer, meaning, 0, names)?;
     let names = Boxed::new(alloc, names)?;

@@ -42,6 +42,7 @@ fn read_allowed(tables: &Tables, allowed: Allowed, expr: &CoreExpr) -> Result<()
         CoreExpr::Attribute(_, _) => Ok(()),
         CoreExpr::Applied(_, _, operand) => read_allowed(tables, allowed, operand.get()),
         CoreExpr::Parenthesized(_, inner) => read_allowed(tables, allowed, inner.get()),
+        CoreExpr::Implicit(_, _, operand) => read_allowed(tables, allowed, operand.get()),
         CoreExpr::Prefix(_, _, operand) => read_allowed(tables, allowed, operand.get()),
         CoreExpr::Infix(_, _, left, right) => {
             read_allowed(tables, allowed, left.get())?;

@@ -12,7 +12,7 @@ use crate::types::{
     is_boolean, is_of, left_type, operand_fits, operands_fit, result_type, right_type,
 };
 use crate::values::{both_held, is_held, lies_in, result_of, signed_result};
-use spx_core::{Breach, CoreExpr, ExprType, Program, RuleName, Subtype, TypeId, Typing, UNIVERSAL};
+use spx_core::{BaseType, Breach, CoreExpr, ExprType, Program, RuleName, Subtype, TypeId, Typing, UNIVERSAL};
 use spx_text::Place;
 use spx_tree::{InfixOp, PrefixOp};
 
@@ -46,6 +46,17 @@ pub fn static_at(place: Place, value: Option<i128>) -> Result<i128, Breach>
     })
 }
 
+/// A universal number takes this type, and is one of its values.
+fn implicit(base: BaseType, place: Place, operand: Typing) -> Result<Typing, Breach>
+    ensures { result ≡ rules.implicit base place operand }
+{
+    let of = ExprType::Of(base);
+    let value = operand.value;
+    keeps(RuleName::N10, place, is_of(base, operand.of))?;
+    keeps(RuleName::N12, place, lies_in(of, value))?;
+    Ok(Typing { of, value, place })
+}
+
 fn sign(op: PrefixOp, place: Place, operand: Typing) -> Result<Typing, Breach>
     ensures { result ≡ rules.sign op place operand }
 {
@@ -60,7 +71,7 @@ fn sign(op: PrefixOp, place: Place, operand: Typing) -> Result<Typing, Breach>
 fn operation(op: InfixOp, place: Place, left: Typing, right: Typing) -> Result<Typing, Breach>
     ensures { result ≡ rules.operation op place left right }
 {
-    let left_of = left_type(op, left.of, right.of, right.value);
+    let left_of = left_type(op, left.of, right.of);
     let right_of = right_type(op, left.of, right.of);
     let of = result_type(op, left_of);
     let value = result_of(op, left.value, right.value);
@@ -98,6 +109,7 @@ pub fn judge(expr: &CoreExpr) -> Result<Typing, Breach>
                 ..inner
             })
         }
+        CoreExpr::Implicit(base, place, operand) => implicit(*base, *place, judge(operand.get())?),
         CoreExpr::Prefix(op, place, operand) => sign(*op, *place, judge(operand.get())?),
         CoreExpr::Infix(op, place, left, right) => {
             let left = judge(left.get())?;

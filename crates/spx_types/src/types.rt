@@ -129,23 +129,12 @@ pub fn operands_fit(op: InfixOp, left: ExprType, right: ExprType) -> bool
     }
 }
 
-/// The type of what is raised to a power: a universal number is of `Integer` where the power is not static.
-fn raised_type(of: ExprType, exponent: Option<i128>) -> ExprType
-    ensures { result ≡ is.raised_type of exponent }
-{
-    match (of, exponent) {
-        (ExprType::Universal, None) => ExprType::Of(INTEGER.base),
-        (ExprType::Universal, Some(_)) => ExprType::Universal,
-        (ExprType::Of(base), _) => ExprType::Of(base),
-    }
-}
-
-/// The type that the left operand has, where the right one has this value, if it is static.
-pub fn left_type(op: InfixOp, left: ExprType, right: ExprType, value: Option<i128>) -> ExprType
-    ensures { result ≡ is.left_type op left right value }
+/// The type that the left operand has.
+pub fn left_type(op: InfixOp, left: ExprType, right: ExprType) -> ExprType
+    ensures { result ≡ is.left_type op left right }
 {
     match op {
-        InfixOp::Power => raised_type(left, value),
+        InfixOp::Power => left,
         _ => met(left, right),
     }
 }

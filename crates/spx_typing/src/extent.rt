@@ -129,6 +129,7 @@ pub fn extent(expr: &CoreExpr) -> Span
             with_operand(function, own, extent(operand.get()))
         }
         CoreExpr::Parenthesized(_, inner) => hull(own, extent(inner.get())),
+        CoreExpr::Implicit(_, _, operand) => hull(own, extent(operand.get())),
         CoreExpr::Prefix(op, _, operand) => with_signed(*op, own, extent(operand.get())),
         CoreExpr::Infix(op, _, left, right) => {
             let first = operand_extent(left.get(), extent(left.get()));
