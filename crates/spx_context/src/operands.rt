@@ -1,10 +1,12 @@
 // Which type an operand meets, and which one it takes (Ada 95 RM 3.4.1, 4.5, 4.6).
 ghost use Rattle.std.specs.Prelude.{◌≡◌};
 ghost use Rattle.spx_core.specs.Contexts as rules;
+ghost use Rattle.spx_core.specs.Judged.{judged};
 ghost use Rattle.spx_core.specs.Types as is;
 
-use spx_core::{BaseType, Breach, Class, Entity, ExprType, INTEGER, Typing};
+use spx_core::{BaseType, Breach, Class, CoreExpr, Entity, ExprType, INTEGER, Typing};
 use spx_tree::{FunctionForm, InfixOp};
+use spx_types::judge;
 
 /// What an expression is judged to be.
 type Judged = Result<Typing, Breach>;
@@ -102,8 +104,7 @@ fn met_by(op: InfixOp, left: Judged, right: Judged) -> ExprType
     }
 }
 
-/// The type that the operands of a test for a range meet.
-pub fn met_in_range(tested: Judged, low: Judged, high: Judged) -> ExprType
+fn met_in_range(tested: Judged, low: Judged, high: Judged) -> ExprType
     ensures { result ≡ rules.met_in_range tested low high }
 {
     match (tested, low, high) {
@@ -134,8 +135,7 @@ pub fn met_by_operand(form: &FunctionForm, denoted: Option<Entity>) -> ExprType
     }
 }
 
-/// The type that the left operand takes in an operation that takes this type.
-pub fn left_takes(given: Option<BaseType>, op: InfixOp, left: Judged, right: Judged) -> Option<BaseType>
+fn left_takes(given: Option<BaseType>, op: InfixOp, left: Judged, right: Judged) -> Option<BaseType>
     ensures { result ≡ rules.left_takes given op left right }
 {
     match (given, op) {
@@ -145,8 +145,7 @@ pub fn left_takes(given: Option<BaseType>, op: InfixOp, left: Judged, right: Jud
     }
 }
 
-/// The type that the right operand takes in an operation that takes this type.
-pub fn right_takes(given: Option<BaseType>, op: InfixOp, left: Judged, right: Judged) -> Option<BaseType>
+fn right_takes(given: Option<BaseType>, op: InfixOp, left: Judged, right: Judged) -> Option<BaseType>
     ensures { result ≡ rules.right_takes given op left right }
 {
     match (given, op) {
@@ -154,4 +153,24 @@ pub fn right_takes(given: Option<BaseType>, op: InfixOp, left: Judged, right: Ju
         (Some(base), _) => Some(base),
         (None, _) => taken(met_by(op, left, right), right),
     }
+}
+
+/// The types that both operands take in an operation that takes this type.
+pub fn operands_take(
+    given: Option<BaseType>,
+    op: InfixOp,
+    left: &CoreExpr,
+    right: &CoreExpr,
+) -> (Option<BaseType>, Option<BaseType>)
+    ensures { result ≡ (rules.left_takes given op (judged left.now) (judged right.now), rules.right_takes given op (judged left.now) (judged right.now)) }
+{
+    let (left, right) = (judge(left), judge(right));
+    (left_takes(given, op, left, right), right_takes(given, op, left, right))
+}
+
+/// The type that the operands of a test for a range meet.
+pub fn range_meets(tested: &CoreExpr, low: &CoreExpr, high: &CoreExpr) -> ExprType
+    ensures { result ≡ rules.met_in_range (judged tested.now) (judged low.now) (judged high.now) }
+{
+    met_in_range(judge(tested), judge(low), judge(high))
 }

@@ -10,3 +10,4 @@ pub mod Flows
 pub mod Entries
 pub mod Scopes
 pub mod Annotations
+pub mod Literals
