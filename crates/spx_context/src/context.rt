@@ -1,10 +1,14 @@
 // An expression where it meets a type.
-ghost use Rattle.std.specs.Prelude.{◌≡◌, IfOk};
-ghost use Rattle.spx_core.specs.Contexts.{in_context, taking};
+ghost use Rattle.std.specs.Prelude.{◌≡◌, IfOk, false};
+ghost use Rattle.spx_core.specs.declared.expression.CoreExpr.TheVariants.{Applied, InType};
+ghost use Rattle.spx_core.specs.Contexts.{in_context, met_by_operand, taking, type_given};
+ghost use Rattle.spx_context.specs.Converted.{is_converted};
 
 use crate::operands::{is_static, met_by_operand, operands_take, range_meets, taken, type_given};
 use crate::powers::has_power;
-use spx_core::{BaseType, CoreExpr, ExprType};
+use spx_core::{BaseType, CoreExpr, CoreFunction, ExprType, Reference};
+use spx_text::Place;
+use spx_tree::MemberOp;
 use spx_types::judge;
 use sqlite_items::Boxed;
 use std::alloc::{AllocError, Global};
@@ -18,10 +22,19 @@ pub fn in_context(
     ensures { IfOk result (λ r. r ≡ in_context of expr) }
 {
     if has_power(expr.get()) {
-        taking_where(alloc, of, expr)
+        part(alloc, of, expr)
     } else {
         Ok(expr)
     }
+}
+
+/// A part that meets this type.
+#[cycle(taking)]
+fn part(alloc: Global, of: ExprType, expr: Boxed<CoreExpr>) -> Result<Boxed<CoreExpr>, AllocError>
+    ensures { IfOk result (λ r. r ≡ in_context of expr) }
+{
+    let given = taken(of, judge(expr.get()));
+    taking(alloc, given, expr)
 }
 
 /// An expression that takes this type, if any.
@@ -34,21 +47,38 @@ fn taking(
 ) -> Result<Boxed<CoreExpr>, AllocError>
     ensures { IfOk result (λ r. r ≡ taking given expr) }
 {
-    if let Some(base) = given {
-        if is_static(judge(expr.get())) {
+    match given {
+        Some(base) if is_static(judge(expr.get())) => {
             let place = expr.get().place();
-            return Boxed::new(alloc, CoreExpr::Implicit(base, place, expr));
+            Boxed::new(alloc, CoreExpr::Implicit(base, place, expr))
         }
+        given => with_parts(alloc, given, expr),
     }
+}
+
+/// An expression that is not converted as a whole.
+#[tactic(auto, using(spx_core::specs::Contexts::taking_forms))]
+#[cycle(taking)]
+fn with_parts(
+    alloc: Global,
+    given: Option<BaseType>,
+    expr: Boxed<CoreExpr>,
+) -> Result<Boxed<CoreExpr>, AllocError>
+    requires { is_converted given expr ≡ false }
+    ensures { IfOk result (λ r. r ≡ taking given expr) }
+{
     match expr.into_inner() {
-        CoreExpr::Applied(function, place, operand) => {
-            let of = met_by_operand(&function.form, function.name.entity);
-            let operand = taking_where(alloc, of, operand)?;
-            Boxed::new(alloc, CoreExpr::Applied(function, place, operand))
-        }
+        CoreExpr::Number(n, place) => Boxed::new(alloc, CoreExpr::Number(n, place)),
+        CoreExpr::Name(name) => Boxed::new(alloc, CoreExpr::Name(name)),
+        CoreExpr::Entry(name, allowed) => Boxed::new(alloc, CoreExpr::Entry(name, allowed)),
+        CoreExpr::Attribute(prefix, word) => Boxed::new(alloc, CoreExpr::Attribute(prefix, word)),
+        CoreExpr::Applied(function, place, operand) => in_applied(alloc, function, place, operand),
         CoreExpr::Parenthesized(place, inner) => {
             let inner = taking(alloc, given, inner)?;
             Boxed::new(alloc, CoreExpr::Parenthesized(place, inner))
+        }
+        CoreExpr::Implicit(base, place, operand) => {
+            Boxed::new(alloc, CoreExpr::Implicit(base, place, operand))
         }
         CoreExpr::Prefix(op, place, operand) => {
             let operand = taking(alloc, given, operand)?;
@@ -60,30 +90,43 @@ fn taking(
             let right = taking(alloc, second, right)?;
             Boxed::new(alloc, CoreExpr::Infix(op, place, left, right))
         }
-        CoreExpr::InType(op, place, tested, name) => {
-            let tested = taking_where(alloc, type_given(name.root.entity), tested)?;
-            Boxed::new(alloc, CoreExpr::InType(op, place, tested, name))
-        }
+        CoreExpr::InType(op, place, tested, name) => in_type(alloc, op, place, tested, name),
         CoreExpr::InRange(op, place, tested, low, high) => {
             let of = range_meets(tested.get(), low.get(), high.get());
-            let tested = taking_where(alloc, of, tested)?;
-            let low = taking_where(alloc, of, low)?;
-            let high = taking_where(alloc, of, high)?;
+            let tested = part(alloc, of, tested)?;
+            let low = part(alloc, of, low)?;
+            let high = part(alloc, of, high)?;
             Boxed::new(alloc, CoreExpr::InRange(op, place, tested, low, high))
         }
-        leaf => Boxed::new(alloc, leaf),
     }
 }
 
-/// A part that meets this type.
+/// A function and its operand.
 #[cycle(taking)]
-fn taking_where(
+fn in_applied(
     alloc: Global,
-    of: ExprType,
-    expr: Boxed<CoreExpr>,
+    function: CoreFunction,
+    place: Place,
+    operand: Boxed<CoreExpr>,
 ) -> Result<Boxed<CoreExpr>, AllocError>
-    ensures { IfOk result (λ r. r ≡ in_context of expr) }
+    ensures { IfOk result (λ r. r ≡ Applied function place (in_context (met_by_operand function.form function.name.entity) operand)) }
 {
-    let given = taken(of, judge(expr.get()));
-    taking(alloc, given, expr)
+    let of = met_by_operand(&function.form, function.name.entity);
+    let operand = part(alloc, of, operand)?;
+    Boxed::new(alloc, CoreExpr::Applied(function, place, operand))
+}
+
+/// A test for a type.
+#[cycle(taking)]
+fn in_type(
+    alloc: Global,
+    op: MemberOp,
+    place: Place,
+    tested: Boxed<CoreExpr>,
+    name: Reference,
+) -> Result<Boxed<CoreExpr>, AllocError>
+    ensures { IfOk result (λ r. r ≡ InType op place (in_context (type_given name.root.entity) tested) name) }
+{
+    let tested = part(alloc, type_given(name.root.entity), tested)?;
+    Boxed::new(alloc, CoreExpr::InType(op, place, tested, name))
 }

@@ -145,7 +145,12 @@ fn left_takes(given: Option<BaseType>, op: InfixOp, left: Judged, right: Judged)
     }
 }
 
-fn right_takes(given: Option<BaseType>, op: InfixOp, left: Judged, right: Judged) -> Option<BaseType>
+fn right_takes(
+    given: Option<BaseType>,
+    op: InfixOp,
+    left: Judged,
+    right: Judged,
+) -> Option<BaseType>
     ensures { result ≡ rules.right_takes given op left right }
 {
     match (given, op) {
@@ -165,7 +170,10 @@ pub fn operands_take(
     ensures { result ≡ (rules.left_takes given op (judged left.now) (judged right.now), rules.right_takes given op (judged left.now) (judged right.now)) }
 {
     let (left, right) = (judge(left), judge(right));
-    (left_takes(given, op, left, right), right_takes(given, op, left, right))
+    (
+        left_takes(given, op, left, right),
+        right_takes(given, op, left, right),
+    )
 }
 
 /// The type that the operands of a test for a range meet.

@@ -232,5 +232,10 @@ pub fn resolve_inside(
 ) -> Result<Boxed<CoreExpr>, AllocError>
     ensures { IfOk result (λ r. r ≡ resolved_condition [] (region.now ∷ seen outer.now) expr.now) }
 {
-    resolve_condition(alloc, expr, &Changed::nothing(), &Scope::inside(region, outer))
+    resolve_condition(
+        alloc,
+        expr,
+        &Changed::nothing(),
+        &Scope::inside(region, outer),
+    )
 }

@@ -67,7 +67,14 @@ pub fn resolve_integer(
 ) -> Result<CoreDecl, AllocError>
     ensures { IfOk result (λ d. (d ≡ integer_decl region.old (length types.old) name.now (resolved_range Universal (around_names (seen outer.now) region.old (name.now ∷ [])) range.now)) × (region.new ≡ declaring_all region.old (declared_by d)) × (types.new ≡ types.old ++ rows_by d)) }
 {
-    let range = resolve_range(alloc, ExprType::Universal, region, outer, slice::from_ref(name), range)?;
+    let range = resolve_range(
+        alloc,
+        ExprType::Universal,
+        region,
+        outer,
+        slice::from_ref(name),
+        range,
+    )?;
     Ok(declare_integer(alloc, region, types, outer, name, range)?)
 }
 
