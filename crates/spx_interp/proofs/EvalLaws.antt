@@ -13,11 +13,12 @@ use Rattle.spx_core.specs.declared.rule.RuleName.TheVariants.{N18}
 use Rattle.spx_core.proofs.Callers.Expressions.{induct, fold-Number, fold-Entry, fold-Parenthesized}
 use Rattle.spx_term.specs.declared.value.Value.{Value}
 use Rattle.spx_term.specs.declared.value.Value.TheVariants as value
-use Rattle.spx_meaning.specs.Evaluation.{Gives, eval, eval_forms, eval-Number, eval-Name, eval-Entry, eval-Attribute, eval-Applied, eval-Parenthesized, eval-Prefix, eval-Infix, eval-InType, eval-InRange}
+use Rattle.spx_meaning.specs.Evaluation.{Gives, eval, eval_forms, eval-Number, eval-Name, eval-Entry, eval-Attribute, eval-Applied, eval-Parenthesized, eval-Implicit, eval-Prefix, eval-Infix, eval-InType, eval-InRange}
 use Rattle.spx_meaning.specs.Frames.{Frame}
 use Rattle.spx_meaning.specs.Literals.{literal, literal_in}
 use Rattle.spx_meaning.specs.Stores.{Store}
 use Rattle.spx_meaning.proofs.Callers.Annotations.{same_value}
+use Rattle.spx_meaning.proofs.Callers.Literals.{implicit_literal}
 
 at_place : (place : Place) (j : Judged Typing) → literal_in (j >>= λ e. Ok (typing e.of e.value place)) ≡ literal_in j
 at_place place (Ok t) = refl
@@ -48,6 +49,7 @@ eval_static f n s = induct (λ e. (x : Value) → literal e ≡ Some x → eval 
   attribute = λ prefix designator x is. rw (eval-Attribute f n s prefix designator, is);
   applied = λ function place a first x is. rw (eval-Applied f n s function place a, is);
   parenthesized = λ place a first x is. rw (eval-Parenthesized f n s place a) (first x (sym (literal-Parenthesized place a) ∙ is));
+  implicit = λ base place a first x is. rw (eval-Implicit f n s base place a) (first x (implicit_literal base place a x is));
   prefix = λ op place a first x is. rw (eval-Prefix f n s op place a, is);
   «infix» = λ op place a b first second x is. rw (eval-Infix f n s op place a b, is);
   in_type = λ op place a name first x is. rw (eval-InType f n s op place a name, is);
