@@ -1,6 +1,5 @@
 -- An expression without a power is static or has a type of its own.
 use Rattle.std.proofs.Common.{◌≡◌, ℤ, Bool, true, false, not, ◌&&◌, ◌||◌, is_some, Option, Some, None, Ok, Err, refl, sym, ap, ◌∙◌}
-use Rattle.std.specs.Prelude.{⊤}
 use Rattle.std.proofs.lemmas.Bool.{and_left, and_right, or_parts}
 use Rattle.spx_text.specs.declared.place.Place.{Place}
 use Rattle.spx_tree.specs.declared.expression.InfixOp.{InfixOp}
@@ -11,14 +10,13 @@ use Rattle.spx_core.specs.declared.entity.Entity.{Entity}
 use Rattle.spx_core.specs.declared.entity.Entity.TheVariants as entity
 use Rattle.spx_core.specs.declared.expression.CoreExpr.{CoreExpr}
 use Rattle.spx_core.specs.declared.function.Mapping.{Mapping}
-use Rattle.spx_core.specs.declared.name.CoreName.{CoreName}
 use Rattle.spx_core.specs.declared.rule.ExprType.{ExprType}
 use Rattle.spx_core.specs.declared.rule.ExprType.TheVariants.{Universal, Of}
 use Rattle.spx_core.specs.declared.rule.RuleName.{RuleName}
 use Rattle.spx_core.specs.declared.rule.RuleName.TheVariants.{N3, N10, N12, N14, N18}
 use Rattle.spx_core.specs.declared.rule.Typing.{Typing}
 use Rattle.spx_core.specs.Contexts.{is_open, is_universal}
-use Rattle.spx_core.specs.Judged.{Judged, ◌>>=◌, application, expr_step, has_attribute, is_attribute, judged, keeps, mapped, member_of_range, member_of_type, named_object, named_type, operation, ordered_type, sign, typing, value_at}
+use Rattle.spx_core.specs.Judged.{Judged, ◌>>=◌, application, expr_step, has_attribute, is_attribute, judged, keeps, mapped, member_of_range, named_object, named_type, operation, ordered_type, sign, value_at}
 use Rattle.spx_core.specs.Types.{both_held, is_held, is_of, is_taken, left_type, lies_in, lies_in_operand, lies_within, met, operand_fits, operands_fit, result_of, result_type, right_type, shifted_value, signed_result, three_fit}
 use Rattle.spx_core.proofs.Callers.Expressions.{Cases, induct, fold-Number, fold-Name, fold-Entry, fold-Attribute, fold-Applied, fold-Parenthesized, fold-Implicit, fold-Prefix, fold-Infix, fold-InType, fold-InRange}
 use Rattle.spx_context.specs.Powers.{has_power, is_power, power_step}

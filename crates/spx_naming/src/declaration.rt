@@ -1,7 +1,7 @@
 // Formals and declarations: each sees those before it, and not itself.
 ghost use Rattle.std.specs.Prelude.{◌≡◌, ◌++◌, IfOk, length, map, option_map};
 ghost use Rattle.spx_core.specs.declared.entity.Meaning.TheVariants as meaning;
-ghost use Rattle.spx_core.specs.Resolved.{around_names, declared_by, declared_by_decls, declared_by_params, declaring_all, defining_all, resolved_decl, resolved_decls, resolved_expr, resolved_param, resolved_params, resolved_reference, resolved_type, rows_by, rows_by_decls, var_of, variables_by, variables_by_decls, variables_of};
+ghost use Rattle.spx_core.specs.Resolved.{around_names, declared_by, declared_by_decls, declared_by_params, declaring_all, defining_all, resolved_decl, resolved_decls, resolved_param, resolved_params, resolved_reference, resolved_static, resolved_type, rows_by, rows_by_decls, var_of, variables_by, variables_by_decls, variables_of};
 ghost use Rattle.spx_scope.specs.Seen.{seen};
 ghost use Rattle.spx_naming.specs.Counting.{counts_of};
 
@@ -81,7 +81,7 @@ fn resolve_variables(
     type_name: &Name,
     value: &Option<Boxed<Expr>>,
 ) -> Result<CoreDecl, AllocError>
-    ensures { IfOk result (λ d. (d ≡ variables_of region.old (length vars.old) names.now (resolved_reference (around_names (seen outer.now) region.old names.now) type_name.now) (option_map (resolved_expr (around_names (seen outer.now) region.old names.now)) value.now)) × (region.new ≡ declaring_all region.old (declared_by d)) × (vars.new ≡ vars.old ++ map var_of (variables_by d))) }
+    ensures { IfOk result (λ d. (d ≡ variables_of region.old (length vars.old) names.now (resolved_reference (around_names (seen outer.now) region.old names.now) type_name.now) (option_map (resolved_static (around_names (seen outer.now) region.old names.now)) value.now)) × (region.new ≡ declaring_all region.old (declared_by d)) × (vars.new ≡ vars.old ++ map var_of (variables_by d))) }
 {
     let type_name = resolve_type_name(alloc, region, outer, names, type_name)?;
     let value = resolve_initial(alloc, region, outer, names, value)?;

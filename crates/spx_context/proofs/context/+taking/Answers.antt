@@ -1,4 +1,4 @@
-use Rattle.std.proofs.Common.{rules, ◌≡◌, ap, sym, ◌∙◌, subst, IfOk}
+use Rattle.std.proofs.Common.{rules, ap, sym, ◌∙◌}
 use Rattle.spx_core.specs.Contexts.{is_static, taking}
 use Rattle.spx_core.specs.Judged.{judged}
 use Rattle.spx_context.proofs.Conversions.{whole}

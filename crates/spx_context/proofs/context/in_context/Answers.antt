@@ -1,4 +1,4 @@
-use Rattle.std.proofs.Common.{rules, ◌≡◌, ap, sym, ◌∙◌}
+use Rattle.std.proofs.Common.{rules, ap, sym, ◌∙◌}
 use Rattle.spx_context.specs.Powers.{has_power}
 use Rattle.spx_context.proofs.Unchanged.{unchanged}
 use Rattle.spx_context.proofs.context.in_context.Goals as goal
