@@ -21,7 +21,7 @@ use Rattle.spx_core.specs.Judged.{Judged, application}
 use Rattle.spx_core.proofs.Callers.Expressions.{Cases, induct}
 use Rattle.spx_core.proofs.Callers.FlowLaws.{reads_uses}
 use Rattle.spx_core.proofs.Callers.ListTests.{found}
-use Rattle.spx_core.proofs.Callers.ReadsLaws.{uses_high, uses_left, uses_low, uses_right, uses_tested, uses-InType, uses-Name, uses-Entry, uses-Parenthesized, uses-Prefix, uses-Applied}
+use Rattle.spx_core.proofs.Callers.ReadsLaws.{uses_high, uses_left, uses_low, uses_right, uses_tested, uses-InType, uses-Name, uses-Entry, uses-Parenthesized, uses-Implicit, uses-Prefix, uses-Applied}
 use Rattle.spx_core.proofs.Callers.Variables.{same_var}
 use Rattle.spx_term.specs.declared.value.Value.{Value}
 use Rattle.spx_term.specs.declared.value.Value.TheVariants as value
@@ -30,7 +30,7 @@ use Rattle.spx_meaning.specs.declared.bad.BadKind.TheVariants.{Division, Overflo
 use Rattle.spx_meaning.specs.Stores.{Store, look, is_within}
 use Rattle.spx_meaning.specs.Frames.{Frame}
 use Rattle.spx_meaning.specs.Literals.{base_of, literal}
-use Rattle.spx_meaning.specs.Evaluation.{Answer, Gives, Fails, with_value, applied, applied_sign, decided, first_in, in_base, last_in, checked, member, signed, read, read_at, static_or, unless_negative, unless_zero, eval, eval-Number, eval-Name, eval-Entry, eval-Attribute, eval-Parenthesized, eval-Prefix, eval-Infix, eval-InType, eval-InRange, eval-Applied, mapping_checked, moved, within_bounds}
+use Rattle.spx_meaning.specs.Evaluation.{Answer, Gives, Fails, with_value, applied, applied_sign, decided, first_in, in_base, last_in, checked, member, signed, read, read_at, static_or, unless_negative, unless_zero, eval, eval-Number, eval-Name, eval-Entry, eval-Attribute, eval-Parenthesized, eval-Implicit, eval-Prefix, eval-Infix, eval-InType, eval-InRange, eval-Applied, mapping_checked, moved, within_bounds}
 use Rattle.spx_sound.proofs.NeverBadRuns.{IsOther, HasGoodKind, kind_with}
 
 -- what an expression uses is set
@@ -108,6 +108,8 @@ module _ (f : Frame) (n : ℕ) (s : Store) where
         (kind_with IsOther (eval f n s a) go (p (λ v h. set v (uses-Applied v function place a ∙ h))) (λ x. mapping_kind (application function) (place_of a) x)));
     parenthesized = λ place a p set.
         subst (HasGoodKind IsOther) (sym (eval-Parenthesized f n s place a)) (p (λ v h. set v (uses-Parenthesized v place a ∙ h)));
+    implicit = λ base place a p set.
+        subst (HasGoodKind IsOther) (sym (eval-Implicit f n s base place a)) (p (λ v h. set v (uses-Implicit v base place a ∙ h)));
     prefix = λ o place a p set.
         let e = Prefix o place a in
         let go : Value → Answer = λ x. signed o (base_of e) place x in
