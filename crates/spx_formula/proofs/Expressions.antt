@@ -6,6 +6,7 @@ use Rattle.spx_tree.specs.declared.expression.Identifier.{Identifier}
 use Rattle.spx_tree.specs.declared.expression.InfixOp.{InfixOp}
 use Rattle.spx_tree.specs.declared.expression.MemberOp.{MemberOp}
 use Rattle.spx_tree.specs.declared.expression.PrefixOp.{PrefixOp}
+use Rattle.spx_core.specs.declared.entity.BaseType.{BaseType}
 use Rattle.spx_core.specs.declared.entity.Object.{Object}
 use Rattle.spx_core.specs.declared.entity.VarId.{VarId}
 use Rattle.spx_core.specs.declared.name.CoreName.{CoreName}
@@ -27,7 +28,8 @@ use Rattle.spx_term.specs.declared.value.Value.TheVariants as value
 use Rattle.spx_term.specs.Folding.{term_of as static_term}
 use Rattle.spx_meaning.specs.Evaluation.{term_op}
 use Rattle.spx_meaning.specs.Literals.{literal, literal_in}
-use Rattle.spx_formula.specs.Terms.{first_term, last_term, literal_or, mapped_term, member_term, moved_term, named, signed_term, term_with, term_with-Applied, term_with-Attribute, term_with-Entry, term_with-InRange, term_with-InType, term_with-Infix, term_with-Name, term_with-Number, term_with-Parenthesized, term_with-Prefix}
+use Rattle.spx_meaning.proofs.Callers.Literals.{implicit_literal}
+use Rattle.spx_formula.specs.Terms.{first_term, last_term, literal_or, mapped_term, member_term, moved_term, named, signed_term, term_with, term_with-Applied, term_with-Attribute, term_with-Entry, term_with-Implicit, term_with-InRange, term_with-InType, term_with-Infix, term_with-Name, term_with-Number, term_with-Parenthesized, term_with-Prefix}
 use Rattle.spx_formula.specs.Functions.{shift_in}
 
 -- ---- static expressions
@@ -72,6 +74,7 @@ static_is present entries = induct (λ e. (s : Value) → literal e ≡ Some s �
   attribute = λ prefix designator s is. term_with-Attribute present entries prefix designator ∙ or_static _ s _ is;
   applied = λ function place a more s is. term_with-Applied present entries function place a ∙ or_static _ s _ is;
   parenthesized = λ place a more s is. term_with-Parenthesized present entries place a ∙ more s (sym (literal-Parenthesized place a) ∙ is);
+  implicit = λ base place a more s is. term_with-Implicit present entries base place a ∙ more s (implicit_literal base place a s is);
   prefix = λ op place a more s is. term_with-Prefix present entries op place a ∙ or_static _ s _ is;
   «infix» = λ op place a b first second s is. term_with-Infix present entries op place a b ∙ or_static _ s _ is;
   in_type = λ op place a name more s is. term_with-InType present entries op place a name ∙ or_static _ s _ is;
@@ -96,6 +99,9 @@ module _ (present entries : VarId → Term) (e : CoreExpr) where
 
   pub parenthesized_term : (place : Place) (a : CoreExpr) → e ≡ expr.Parenthesized place a → meant e ≡ meant a
   parenthesized_term place a is = ap meant is ∙ term_with-Parenthesized present entries place a
+
+  pub implicit_term : (base : BaseType) (place : Place) (a : CoreExpr) → e ≡ expr.Implicit base place a → meant e ≡ meant a
+  implicit_term base place a is = ap meant is ∙ term_with-Implicit present entries base place a
 
   module _ (none : None ≡ literal e) where
     or_else : (d : CoreExpr) (t : Term) → e ≡ d → literal_or (literal d) t ≡ t

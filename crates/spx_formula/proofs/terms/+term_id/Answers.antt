@@ -7,7 +7,7 @@ use Rattle.spx_core.specs.Uses.{variable_of}
 use Rattle.spx_formula.specs.declared.entered.Entered.{Entered}
 use Rattle.spx_formula.specs.EntryNames.{meant, present_term}
 use Rattle.spx_formula.specs.Terms.{member_term, moved_term, named, signed_term}
-use Rattle.spx_formula.proofs.Expressions.{applied_term, attribute_term, entry_term, in_range_term, in_type_term, infix_term, name_term, number_term, parenthesized_term, prefix_term, static_is}
+use Rattle.spx_formula.proofs.Expressions.{applied_term, attribute_term, entry_term, implicit_term, in_range_term, in_type_term, infix_term, name_term, number_term, parenthesized_term, prefix_term, static_is}
 use Rattle.spx_formula.proofs.TermLaws.{made_along, made_by, made_infix, made_member, made_moved, made_signed, number_made}
 use Rattle.spx_formula.proofs.terms.+term_id.Goals as goal
 
@@ -35,6 +35,9 @@ returns-in_ok-operand-in-Applied t c =
 
 pub returns-in-Parenthesized : goal.returns-in-Parenthesized
 returns-in-Parenthesized t c = made_along c.term_id-in-Parenthesized.result _ _ _ c.term_id-in-Parenthesized.ensures (ap (meant c.args.program.now c.args.entered.now) c.get-in-Parenthesized.ensures ∙ sym (parenthesized_term _ _ _ _ _ c.in-Parenthesized.is))
+
+pub returns-in-Implicit : goal.returns-in-Implicit
+returns-in-Implicit t c = made_along c.term_id-in-Implicit.result _ _ _ c.term_id-in-Implicit.ensures (ap (meant c.args.program.now c.args.entered.now) c.get-in-Implicit.ensures ∙ sym (implicit_term _ _ _ _ _ _ c.in-Implicit.is))
 
 pub returns-in_ok-operand-in-Prefix : goal.returns-in_ok-operand-in-Prefix
 returns-in_ok-operand-in-Prefix t c =
