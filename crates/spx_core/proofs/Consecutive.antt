@@ -41,7 +41,7 @@ use Rattle.spx_core.specs.declared.program.Var.{Var}
 use Rattle.spx_core.specs.declared.program.Program.{Program}
 use Rattle.spx_core.specs.Formals.{stands_in}
 use Rattle.spx_core.specs.Regions.{Region, Regions}
-use Rattle.spx_core.specs.Resolved.{around_formals, around_names, bounded, constant_of, counted, Counts, declared_by, declared_by_decls, declared_by_params, declared_by_scheme, declaring, declaring_all, defining, defining_all, enumeration_type, id_at, integer_type, local_kind, meant_at, mode_of, narrowed, object_of, params_of, positions, resolved_decl, resolved_decls, resolved_expr, resolved_formal_part, resolved_param, resolved_params, resolved_range, resolved_reference, resolved_scheme, resolved_type, rows_by, rows_by_decls, standard_types, static_value, subtype_of, var_in, var_of, variable_at, variables_by, variables_by_decls, resolved_static}
+use Rattle.spx_core.specs.Resolved.{around_formals, around_names, bounded, constant_of, counted, Counts, declared_by, declared_by_decls, declared_by_params, declared_by_scheme, declaring, declaring_all, defining, defining_all, enumeration_type, id_at, integer_type, local_kind, meant_at, mode_of, narrowed, object_of, params_of, positions, resolved_decl, resolved_decls, resolved_formal_part, resolved_param, resolved_params, resolved_range, resolved_reference, resolved_scheme, resolved_type, rows_by, rows_by_decls, standard_types, static_value, subtype_of, var_in, var_of, variable_at, variables_by, variables_by_decls, resolved_static}
 use Rattle.spx_core.specs.declared.rule.ExprType.TheVariants.{Universal}
 use Rattle.spx_core.specs.Scopes.{object_declared, object_in}
 use Rattle.spx_core.proofs.RegionLaws.{AllHold, HasRow, Holds, HoldsIn, row_at, declaring_all_holds, hidden_holds, root_holds, predefined_have_rows, standard_holds, subtype_holds}

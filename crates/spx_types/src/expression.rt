@@ -12,7 +12,9 @@ use crate::types::{
     is_boolean, is_of, left_type, operand_fits, operands_fit, result_type, right_type,
 };
 use crate::values::{both_held, is_held, lies_in, result_of, signed_result};
-use spx_core::{BaseType, Breach, CoreExpr, ExprType, Program, RuleName, Subtype, TypeId, Typing, UNIVERSAL};
+use spx_core::{
+    BaseType, Breach, CoreExpr, ExprType, Program, RuleName, Subtype, TypeId, Typing, UNIVERSAL,
+};
 use spx_text::Place;
 use spx_tree::{InfixOp, PrefixOp};
 
